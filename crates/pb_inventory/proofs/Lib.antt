@@ -1,0 +1,3 @@
+pub mod Mentions
+pub mod Once
+pub mod Texts

@@ -1,0 +1,65 @@
+-- Names that are read one by one, each kept where it is new, are the first mentions.
+use Rattle.std.proofs.Common.{◌≡◌, ℕ, Bool, true, false, List, [], ◌∷◌, ◌++◌, cond, refl, ap, sym, ◌∙◌, append_assoc}
+use Rattle.std.specs.Prelude.{not, filter, ◌&&◌, ◌||◌}
+use Rattle.std.specs.List.{list_any}
+use Rattle.std.specs.Str.{bytes_eq}
+use Rattle.std.proofs.lemmas.Slice.Eq.{bytes_eq-Decides}
+use Rattle.std.proofs.lemmas.Bool.Decides.{same_from_decides, Decides-like}
+use Rattle.std.proofs.lemmas.List.Folds.{list_any-append}
+use Rattle.pb_inventory.specs.Names.{once, with_name}
+
+-- those of the names that aren't known
+abbrev pub is_new : List (List ℕ) → List ℕ → Bool
+is_new known name = not (list_any (bytes_eq name) known)
+
+-- the known names, and then the first mentions of new ones
+abbrev pub joined : List (List ℕ) → List (List ℕ) → List (List ℕ)
+joined known names = known ++ filter (is_new known) (once names)
+
+filter-step : (q : List ℕ → Bool) (x : List ℕ) (some all : List (List ℕ)) (a b c : Bool) → q x ≡ b → c ≡ (a && b) → filter q some ≡ all → filter q (cond a (x ∷ some) some) ≡ cond c (x ∷ all) all
+filter-step q x some all true true c e s i = rw (e, s, i)
+filter-step q x some all true false c e s i = rw (e, s, i)
+filter-step q x some all false b c e s i = rw (s, i)
+
+filter-both : (p q r : List ℕ → Bool) → ((x : List ℕ) → r x ≡ (p x && q x)) → (xs : List (List ℕ)) → filter q (filter p xs) ≡ filter r xs
+filter-both p q r h [] = refl
+filter-both p q r h (x ∷ xs) = filter-step q x (filter p xs) (filter r xs) (p x) (q x) (r x) refl (h x) (filter-both p q r h xs)
+
+filter-all : (xs : List (List ℕ)) → filter (is_new []) xs ≡ xs
+filter-all [] = refl
+filter-all (x ∷ xs) = ap (λ t. x ∷ t) (filter-all xs)
+
+pub joined-none : (names : List (List ℕ)) → joined [] names ≡ once names
+joined-none names = filter-all (once names)
+
+bytes_eq-sym : (x y : List ℕ) → bytes_eq x y ≡ bytes_eq y x
+bytes_eq-sym x y = same_from_decides _ _ (bytes_eq-Decides x y) (Decides-like _ (λ e. sym e) (λ e. sym e) (bytes_eq-Decides y x))
+
+-- a name that is known already adds nothing
+known_cases : (known : List (List ℕ)) (name x : List ℕ) (b : Bool) → bytes_eq name x ≡ b → list_any (bytes_eq name) known ≡ true → is_new known x ≡ (not b && is_new known x)
+known_cases known name x false e k = refl
+known_cases known name x true e k = rw (← (bytes_eq-Decides name x).0 e, k)
+
+known_adds_none : (known : List (List ℕ)) (name : List ℕ) → list_any (bytes_eq name) known ≡ true → (x : List ℕ) → is_new known x ≡ (not (bytes_eq name x) && is_new known x)
+known_adds_none known name k x = known_cases known name x (bytes_eq name x) refl k
+
+not-or : (a b : Bool) → not (a || (b || false)) ≡ (not b && not a)
+not-or true true = refl
+not-or true false = refl
+not-or false true = refl
+not-or false false = refl
+
+new_adds_it : (known : List (List ℕ)) (name x : List ℕ) → is_new (known ++ name ∷ []) x ≡ (not (bytes_eq name x) && is_new known x)
+new_adds_it known name x = rw (list_any-append (bytes_eq x) known (name ∷ []), bytes_eq-sym x name) (not-or (list_any (bytes_eq x) known) (bytes_eq name x))
+
+joined_cases : (known : List (List ℕ)) (name : List ℕ) (names : List (List ℕ)) (b : Bool) → list_any (bytes_eq name) known ≡ b
+    → known ++ cond (not b) (name ∷ filter (is_new known) (filter (λ other. not (bytes_eq name other)) (once names))) (filter (is_new known) (filter (λ other. not (bytes_eq name other)) (once names)))
+    ≡ joined (cond b known (known ++ name ∷ [])) names
+joined_cases known name names true e = ap (λ t. known ++ t) (filter-both _ (is_new known) (is_new known) (known_adds_none known name e) (once names))
+joined_cases known name names false e =
+    ap (λ t. known ++ name ∷ t) (filter-both _ (is_new known) (is_new (known ++ name ∷ [])) (new_adds_it known name) (once names))
+    ∙ sym (append_assoc known (name ∷ []) _)
+
+-- the first name is taken in, and the others follow
+pub joined-step : (known : List (List ℕ)) (name : List ℕ) (names : List (List ℕ)) → joined known (name ∷ names) ≡ joined (with_name name known) names
+joined-step known name names = joined_cases known name names (list_any (bytes_eq name) known) refl

@@ -1,0 +1,3 @@
+pub mod InventoryOf
+pub mod Names
+pub mod Reading

@@ -1,0 +1,67 @@
+ghost use Rattle.std.specs.Prelude.{◌≡◌, [], length, position, slice_get, string_bytes, OnOk, OnErr};
+ghost use Rattle.std.specs.Option.{option_map};
+ghost use Rattle.std.specs.Str.{bytes_eq};
+ghost use Rattle.pb_inventory.specs.Names.{with_name};
+
+use indexmap::IndexSet;
+use std::alloc::{AllocError, Global};
+use std::marker::Model;
+
+/// Names in the order of their first mention, each once. A name is found without a look at the
+/// others.
+#[derive(Drop)]
+pub struct HostNames {
+    set: IndexSet<String>,
+}
+
+impl Model for HostNames {
+    ghost use Rattle.std.specs.Prelude.{ℕ, List};
+    ghost use Rattle.pb_inventory.specs.Names.{texts};
+
+    ghost Value = { List (List ℕ) };
+
+    ghost view = { λ n. texts n.set.keys };
+}
+
+impl HostNames {
+    pub fn new(alloc: Global) -> HostNames
+        ensures { result ≡ [] }
+    {
+        HostNames {
+            set: IndexSet::new(alloc),
+        }
+    }
+
+    /// The number of names.
+    pub fn len(&self) -> usize
+        ensures { result ≡ length self.now }
+    {
+        self.set.len()
+    }
+
+    /// The name of a number.
+    pub fn get(&self, at: usize) -> Option<&str>
+        ensures { option_map (λ s. s.now) result ≡ slice_get self.now at }
+    {
+        match self.set.get_index(at) {
+            Some(name) => Some(name.as_str()),
+            None => None,
+        }
+    }
+
+    /// The number of a name.
+    pub fn number(&self, name: &str) -> Option<usize>
+        ensures { result ≡ position (bytes_eq name.now) self.now }
+    {
+        self.set.get_index_of(name)
+    }
+
+    /// Gives a new name the next number.
+    pub fn insert(&mut self, name: String) -> Result<(), AllocError>
+        ensures ok { OnOk result (self.new ≡ with_name (string_bytes name) self.old) }
+        ensures err { OnErr result (self.new ≡ self.old) }
+    {
+        self.set.insert(name)?;
+        Ok(())
+    }
+}
