@@ -1,0 +1,7 @@
+pub mod Faults
+pub mod Marks
+pub mod Modules
+pub mod Playbooks
+pub mod Plays
+pub mod Simple
+pub mod Tasks

@@ -1,0 +1,34 @@
+-- The playbook that bytes spell, or the first fault in them.
+-- See Ansible's documentation, "Ansible playbooks"; the file is JSON (RFC 8259) in place of YAML.
+use Rattle.std.specs.Prelude.{ℕ, ◌+◌, List, [], Result, Ok, Err, Option, Some, None, nat_lt, if◌then◌else◌}
+use Rattle.serde_json.specs.Data as json
+use Rattle.pb_value.specs.Bytes.{json_in}
+use Rattle.pb_value.specs.Reading.{and_then}
+use Rattle.pb_play.specs.Faults.{each}
+use Rattle.pb_play.specs.Plays.{play}
+use Rattle.pb_play.specs.declared.fault.LoadFault.{LoadFault}
+use Rattle.pb_play.specs.declared.fault.LoadFault.TheVariants.{NotJson, WrongShape, TooLarge}
+use Rattle.pb_play.specs.declared.fault.Limit.TheVariants.{Plays}
+use Rattle.pb_play.specs.declared.play.Play.{Play}
+use Rattle.pb_play.specs.declared.playbook.Playbook.{Playbook}
+
+-- how many members a list has
+abbrev pub count : json.Items → ℕ
+count json.no_items = 0
+count (json.item d ds) = count ds + 1
+
+-- a playbook is a list of at most 256 plays
+abbrev pub max_plays : ℕ
+max_plays = 256
+
+abbrev pub plays : json.Data → Result (List Play) LoadFault
+plays (json.array ds) = if nat_lt max_plays (count ds) then Err (TooLarge Plays) else each play [] 0 ds
+plays d = Err (WrongShape [])
+
+abbrev pub of_json : Option json.Data → Result Playbook LoadFault
+of_json None = Err NotJson
+of_json (Some d) = and_then (plays d) (λ ps. Ok (record { plays = ps }))
+
+-- the playbook that the bytes spell, or the first fault in them
+unfoldable pub playbook_of : List ℕ → Result Playbook LoadFault
+playbook_of bytes = of_json (json_in bytes)

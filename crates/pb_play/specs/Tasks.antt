@@ -1,0 +1,60 @@
+-- The tasks of a play. See Ansible's documentation, "Playbook Keywords", Task.
+use Rattle.std.specs.Prelude.{ℕ, ◌||◌, List, Result, Ok, Err, Some, None, codes, unwrap_or, if◌then◌else◌}
+use Rattle.std.specs.Str.{bytes_eq}
+use Rattle.serde_json.specs.Data as json
+use Rattle.pb_value.specs.Reading.{and_then, below}
+use Rattle.pb_play.specs.Faults.{each}
+use Rattle.pb_play.specs.Simple.{text}
+use Rattle.pb_play.specs.Modules.{debug, module_name}
+use Rattle.pb_play.specs.declared.fault.LoadFault.{LoadFault}
+use Rattle.pb_play.specs.declared.fault.LoadFault.TheVariants.{WrongShape, NotInProfile, NoModule, TwoModules}
+use Rattle.pb_play.specs.declared.modules.Module.{Module}
+use Rattle.pb_play.specs.declared.task.Task.{Task}
+use Rattle.pb_play.specs.declared.task.TaskKey.{TaskKey}
+use Rattle.pb_play.specs.declared.task.TaskKey.TheVariants.{Name, Debug, Other}
+use Rattle.pb_play.specs.declared.task.TaskDraft.{TaskDraft}
+use Rattle.pb_play.specs.declared.task.Modules.{Modules}
+use Rattle.pb_play.specs.declared.task.Modules.TheVariants.{Nothing, One, Several}
+
+-- the keys of a task
+abbrev pub task_key : List ℕ → TaskKey
+task_key k =
+    if bytes_eq k (codes "name") then Name
+    else (if bytes_eq k (codes "debug") || bytes_eq k (codes "ansible.builtin.debug") then Debug else Other)
+
+-- one module more
+abbrev pub one_more : Modules → Module → Modules
+one_more Nothing m = One m
+one_more (One _) m = Several
+one_more Several m = Several
+
+-- what the keys of a task have told, with what the key k at this path tells
+abbrev pub with_task_key : TaskKey → List ℕ → List ℕ → json.Data → TaskDraft → Result TaskDraft LoadFault
+with_task_key Name path k d draft = and_then (text path d) (λ s. Ok (record draft { name = Some s }))
+with_task_key Debug path k d draft = and_then (debug path d) (λ m. Ok (record draft { modules = one_more draft.modules m }))
+with_task_key Other path k d draft = Err (NotInProfile k)
+
+abbrev pub task_keys : List ℕ → json.Members → TaskDraft → Result TaskDraft LoadFault
+task_keys path json.no_members draft = Ok draft
+task_keys path (json.member k d ms) draft = and_then (with_task_key (task_key k) (below path k) k d draft) (task_keys path ms)
+
+-- a task has one module
+abbrev pub the_module : Modules → Result Module LoadFault
+the_module Nothing = Err NoModule
+the_module (One m) = Ok m
+the_module Several = Err TwoModules
+
+-- the task that its keys make; a task without a name has its module's
+abbrev pub finished_task : TaskDraft → Result Task LoadFault
+finished_task draft = and_then (the_module draft.modules) (λ m. Ok (record { name = unwrap_or draft.name (module_name m); «module» = m }))
+
+abbrev pub new_task : TaskDraft
+new_task = record { name = None; modules = Nothing }
+
+abbrev pub task : List ℕ → json.Data → Result Task LoadFault
+task path (json.object ms) = and_then (task_keys path ms new_task) finished_task
+task path d = Err (WrongShape path)
+
+abbrev pub tasks : List ℕ → json.Data → Result (List Task) LoadFault
+tasks path (json.array ds) = each task path 0 ds
+tasks path d = Err (WrongShape path)

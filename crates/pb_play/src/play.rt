@@ -1,0 +1,147 @@
+ghost use Rattle.std.specs.Prelude.{◌≡◌, ◌≢◌, IfOk, IfErr, Ok, Err};
+ghost use Rattle.serde_json.specs.View.{view};
+ghost use Rattle.pb_play.specs.Plays.{play_key, with_play_key, new_play, finished_play, play};
+
+use crate::fault::{LoadFault, not_in_profile, wrong_shape};
+use crate::simple::{read_gathering, read_pattern, read_text};
+use crate::task::{Task, read_tasks};
+use pb_value::items::Items;
+use pb_value::path::child;
+use pb_value::text::Text;
+use serde_json::Value;
+use std::alloc::Global;
+
+/// A play of a playbook.
+#[derive(Drop)]
+pub struct Play {
+    /// Its name as it is written, or its pattern's text.
+    pub name: Text,
+    /// What it does, in this order.
+    pub tasks: Items<Task>,
+}
+
+/// A key of a play.
+#[derive(Clone, Copy, Debug, PartialEq, Eq)]
+enum PlayKey {
+    GatherFacts,
+    Hosts,
+    Name,
+    Tasks,
+    Other,
+}
+
+/// What the keys of a play have told.
+#[derive(Drop)]
+struct PlayDraft {
+    name: Option<Text>,
+    hosts: Option<Text>,
+    gather_facts: Option<bool>,
+    tasks: Option<Items<Task>>,
+}
+
+impl PlayKey {
+    fn of(key: &str) -> PlayKey
+        ensures { result ≡ play_key key.now }
+    {
+        if key == "gather_facts" {
+            PlayKey::GatherFacts
+        } else if key == "hosts" {
+            PlayKey::Hosts
+        } else if key == "name" {
+            PlayKey::Name
+        } else if key == "tasks" {
+            PlayKey::Tasks
+        } else {
+            PlayKey::Other
+        }
+    }
+}
+
+impl PlayDraft {
+    fn new() -> PlayDraft
+        ensures { result ≡ new_play }
+    {
+        PlayDraft {
+            name: None,
+            hosts: None,
+            gather_facts: None,
+            tasks: None,
+        }
+    }
+
+    fn with_key(
+        self,
+        alloc: Global,
+        path: &Text,
+        key: &str,
+        json: &Value,
+    ) -> Result<PlayDraft, LoadFault>
+        ensures value { IfOk result
+            (λ draft. with_play_key (play_key key.now) path.now key.now (view json.now) self ≡ Ok draft) }
+        ensures fault { IfErr result
+            (λ e. e ≢ LoadFault.Memory → with_play_key (play_key key.now) path.now key.now (view json.now) self ≡ Err e) }
+    {
+        match PlayKey::of(key) {
+            PlayKey::GatherFacts => {
+                let gather_facts = Some(read_gathering(alloc, path, json)?);
+                Ok(PlayDraft {
+                    gather_facts,
+                    ..self
+                })
+            }
+            PlayKey::Hosts => {
+                let hosts = Some(read_pattern(alloc, path, json)?);
+                Ok(PlayDraft { hosts, ..self })
+            }
+            PlayKey::Name => {
+                let name = Some(read_text(alloc, path, json)?);
+                Ok(PlayDraft { name, ..self })
+            }
+            PlayKey::Tasks => {
+                let tasks = Some(read_tasks(alloc, path, json)?);
+                Ok(PlayDraft { tasks, ..self })
+            }
+            PlayKey::Other => Err(not_in_profile(alloc, key)),
+        }
+    }
+
+    fn finish(self, alloc: Global, path: &Text) -> Result<Play, LoadFault>
+        ensures value { IfOk result (λ p. finished_play path.now self ≡ Ok p) }
+        ensures fault { IfErr result (λ e. e ≢ LoadFault.Memory → finished_play path.now self ≡ Err e) }
+    {
+        let PlayDraft {
+            name,
+            hosts,
+            gather_facts,
+            tasks,
+        } = self;
+        let Some(hosts) = hosts else {
+            return Err(wrong_shape(path));
+        };
+        if gather_facts.is_none() {
+            return Err(not_in_profile(alloc, "gather_facts"));
+        }
+        Ok(Play {
+            name: name.unwrap_or(hosts),
+            tasks: tasks.unwrap_or(Items::new(alloc)),
+        })
+    }
+}
+
+/// A play, as an object spells it.
+pub(crate) fn read_play(alloc: Global, path: &Text, json: &Value) -> Result<Play, LoadFault>
+    ensures value { IfOk result (λ p. play path.now (view json.now) ≡ Ok p) }
+    ensures fault { IfErr result (λ e. e ≢ LoadFault.Memory → play path.now (view json.now) ≡ Err e) }
+{
+    match json {
+        Value::Object(members) => {
+            let mut draft = PlayDraft::new();
+            for (key, member) in members.iter() {
+                let here = child(alloc, path, key.as_str())?;
+                draft = draft.with_key(alloc, &here, key.as_str(), member)?;
+            }
+            draft.finish(alloc, path)
+        }
+        _ => Err(wrong_shape(path)),
+    }
+}

@@ -1,0 +1,78 @@
+ghost use Rattle.std.specs.Prelude.{◌≡◌, ◌≢◌, IfOk, IfErr, Ok, Err, nat_lt};
+ghost use Rattle.serde_json.specs.View.{view, items_view};
+ghost use Rattle.pb_play.specs.Faults.{each};
+ghost use Rattle.pb_play.specs.Plays.{play};
+ghost use Rattle.pb_play.specs.Playbooks.{count, max_plays, plays, playbook_of};
+
+use crate::fault::{Limit, LoadFault, wrong_shape};
+use crate::play::{Play, read_play};
+use pb_value::items::Items;
+use pb_value::path::child_at;
+use pb_value::read_json::{JsonFault, read_json};
+use pb_value::text::Text;
+use serde_json::Value;
+use std::alloc::Global;
+
+/// How many plays a playbook may have.
+const MAX_PLAYS: usize = 256;
+
+/// A playbook: its plays are run in this order.
+#[derive(Drop)]
+pub struct Playbook {
+    pub plays: Items<Play>,
+}
+
+impl Playbook {
+    /// The playbook that the bytes spell, or the first fault in them.
+    /// See Ansible's documentation, "Playbook Keywords"; the file is JSON in place of YAML.
+    pub fn read(alloc: Global, bytes: &[u8]) -> Result<Playbook, LoadFault>
+        ensures value { IfOk result (λ playbook. playbook_of bytes.now ≡ Ok playbook) }
+        ensures fault { IfErr result (λ e. e ≢ LoadFault.Memory → playbook_of bytes.now ≡ Err e) }
+    {
+        match read_json(alloc, bytes) {
+            Ok(json) => {
+                let plays = read_plays(alloc, &json)?;
+                Ok(Playbook { plays })
+            }
+            Err(JsonFault::NotJson) => Err(LoadFault::NotJson),
+            Err(JsonFault::Memory) => Err(LoadFault::Memory),
+        }
+    }
+}
+
+#[tactic(auto, using(crate::proofs::Counts::count_items))]
+fn are_too_many(items: &[Value]) -> bool
+    ensures { result ≡ nat_lt max_plays (count (items_view items.now)) }
+{
+    items.len() > MAX_PLAYS
+}
+
+fn read_plays(alloc: Global, json: &Value) -> Result<Items<Play>, LoadFault>
+    ensures value { IfOk result (λ ps. plays (view json.now) ≡ Ok ps) }
+    ensures fault { IfErr result (λ e. e ≢ LoadFault.Memory → plays (view json.now) ≡ Err e) }
+{
+    let path = Text::from_str(alloc, "")?;
+    match json {
+        Value::Array(items) => {
+            if are_too_many(items.as_slice()) {
+                return Err(LoadFault::TooLarge {
+                    which: Limit::Plays,
+                });
+            }
+            read_each(alloc, &path, items.as_slice())
+        }
+        _ => Err(wrong_shape(&path)),
+    }
+}
+
+fn read_each(alloc: Global, path: &Text, items: &[Value]) -> Result<Items<Play>, LoadFault>
+    ensures value { IfOk result (λ ps. each play path.now 0 (items_view items.now) ≡ Ok ps) }
+    ensures fault { IfErr result (λ e. e ≢ LoadFault.Memory → each play path.now 0 (items_view items.now) ≡ Err e) }
+{
+    let mut read = Vec::with_capacity(alloc, items.len())?;
+    for (i, item) in items.iter().enumerate() {
+        let here = child_at(alloc, path, i)?;
+        read.push(read_play(alloc, &here, item)?)?;
+    }
+    Ok(Items::from_vec(read))
+}
