@@ -1,0 +1,7 @@
+pub mod Answer
+pub mod Tree
+pub mod Code
+pub mod View
+pub mod Walk
+pub mod Plain
+pub mod Rows
