@@ -5,12 +5,14 @@ use crate::text::Text;
 use crate::val::{Dict, Node, Val, ValList};
 
 impl Val {
+    /// The value null.
     pub fn null() -> Val
         ensures { result ≡ null }
     {
         Val { node: Node::Null }
     }
 
+    /// True or false.
     pub fn boolean(truth: bool) -> Val
         ensures { result ≡ boolean truth }
     {
@@ -19,6 +21,7 @@ impl Val {
         }
     }
 
+    /// A whole number.
     pub fn int(number: i64) -> Val
         ensures { result ≡ int number }
     {
@@ -27,6 +30,7 @@ impl Val {
         }
     }
 
+    /// A text.
     pub fn text(words: Text) -> Val
         ensures { result ≡ text words }
     {
@@ -35,6 +39,7 @@ impl Val {
         }
     }
 
+    /// The list of these values.
     pub fn list(items: ValList) -> Val
         ensures { result ≡ list (items_of items) }
     {
@@ -43,6 +48,7 @@ impl Val {
         }
     }
 
+    /// The dict of these names and values.
     pub fn dict(members: Dict) -> Val
         ensures { result ≡ dict (members_of members) }
     {

@@ -1,0 +1,13 @@
+use Rattle.std.proofs.Common.{◌≡◌, drop}
+use Rattle.std.specs.Prelude.{nat_le}
+use Rattle.pb_value.specs.Datum.{items_of, members_of, named}
+use Rattle.pb_value.specs.Depth.{items_depth, members_depth}
+use Rattle.pb_value.proofs.val.+is_within.Given as goal
+
+abbrev pub invariant-Dict::is_within-loop-key : goal.invariant-Dict::is_within-loop-key
+invariant-Dict::is_within-loop-key l =
+    nat_le (members_depth (members_of l.self)) l.levels ≡ nat_le (members_depth (members_of (named l._key-iterator))) l.levels
+
+abbrev pub invariant-ValList::is_within-loop-item : goal.invariant-ValList::is_within-loop-item
+invariant-ValList::is_within-loop-item l =
+    nat_le (items_depth (items_of l.self)) l.levels ≡ nat_le (items_depth (items_of (drop l.item-index l.item-items))) l.levels
