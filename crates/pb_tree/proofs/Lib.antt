@@ -1,3 +1,5 @@
+pub mod Last
 pub mod Nodes
 pub mod Paths
 pub mod PlainWalk
+pub mod Split

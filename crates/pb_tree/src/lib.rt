@@ -11,6 +11,8 @@ pub mod answer;
 mod places;
 mod plain;
 pub mod tree;
+mod walk;
+mod walker;
 
 pub use answer::{Answer, Kind};
 pub use tree::{Ending, Node, PlayTree, Reach, Status};

@@ -1,10 +1,14 @@
 ghost use Rattle.std.specs.Prelude.{◌≡◌, IfOk, slice_get, option_copied, true};
 ghost use Rattle.pb_tree.specs.Tree.{size_of, paths, path_at};
 ghost use Rattle.pb_tree.specs.View.{tree_of};
-ghost use Rattle.pb_tree.specs.Walk.{reach, status_of};
+ghost use Rattle.pb_tree.specs.Walk.{reach, marks_of, status_of, is_halted};
+ghost use Rattle.std.specs.List.{list_any};
+ghost use Rattle.pb_tree.specs.Gives.{passage_of, whole_of};
 ghost use Rattle.pb_tree.specs.Plain.{is_plain, is_plain_list, IsPlain, all_good};
 
 use crate::answer::Answer;
+use crate::walk::walk_play;
+use crate::walker::{Walked, Walker};
 use crate::{places, plain};
 use pb_ids::Place;
 use std::alloc::{AllocError, Global};
@@ -128,4 +132,54 @@ impl PlayTree {
             Reach::Done(Ending::Good)
         }
     }
+
+    /// Where a host is after these answers: at the next place, or done.
+    pub fn next(&self, alloc: Global, answers: &[Answer]) -> Result<Reach, AllocError>
+        ensures { IfOk result (λ reached. reached ≡ reach self.now answers.now) }
+    {
+        let mut walker = Walker::start(alloc, answers, self.handlers)?;
+        let walked = self.walk(&mut walker);
+        Ok(walked.reach())
+    }
+
+    /// For each handler whether it is pending after these answers: notified, and not run since.
+    pub fn pending(&self, alloc: Global, answers: &[Answer]) -> Result<Vec<bool>, AllocError>
+        ensures { IfOk result (λ marks. marks.items ≡ marks_of self.now answers.now) }
+    {
+        let mut walker = Walker::start(alloc, answers, self.handlers)?;
+        self.walk(&mut walker);
+        Ok(Vec::from_slice(alloc, walker.marks())?)
+    }
+
+    /// What a host with these answers is for the plays that follow.
+    pub fn status(&self, alloc: Global, answers: &[Answer]) -> Result<Status, AllocError>
+        ensures { IfOk result (λ status. status ≡ status_of self.now answers.now) }
+    {
+        let mut walker = Walker::start(alloc, answers, self.handlers)?;
+        let walked = self.walk(&mut walker);
+        Ok(walked.status(has_halted(answers)))
+    }
+
+    fn walk(&self, walker: &mut Walker<'_>) -> Walked
+        ensures { passage_of result walker.new ≡ whole_of self.now.handlers self.now.force_handlers self.now.nodes walker.old }
+    {
+        walk_play(
+            self.nodes.as_slice(),
+            self.handlers,
+            self.force_handlers,
+            walker,
+        )
+    }
+}
+
+/// Whether some answer is halted.
+fn has_halted(answers: &[Answer]) -> bool
+    ensures { result ≡ list_any (λ a. is_halted a.kind) answers.now }
+{
+    for answer in answers {
+        if answer.kind().is_halted() {
+            return true;
+        }
+    }
+    false
 }
