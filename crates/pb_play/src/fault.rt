@@ -1,5 +1,5 @@
 ghost use Rattle.pb_play.specs.declared.fault.LoadFault.TheVariants.{Memory};
-ghost use Rattle.std.specs.Prelude.{◌≡◌, ◌≢◌, Some};
+ghost use Rattle.std.specs.Prelude.{◌≡◌, ◌≢◌};
 
 use pb_value::text::Text;
 use std::alloc::{AllocError, AllocFailed, Global};
@@ -14,6 +14,11 @@ pub enum Limit {
 }
 
 impl fmt::Display for Limit {
+    ghost use Rattle.std.specs.Prelude.{Some};
+    ghost use Rattle.pb_play.specs.Faults.{limit_name};
+
+    ghost output = { λ l. Some (limit_name l) };
+
     fn fmt<W: fmt::Write>(&self, f: &mut fmt::Formatter<W>) -> fmt::Result {
         match self {
             Limit::Plays => f.write_str("plays"),

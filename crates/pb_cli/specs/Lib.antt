@@ -1,0 +1,4 @@
+pub mod CommandLine
+pub mod Files
+pub mod Messages
+pub mod Rows

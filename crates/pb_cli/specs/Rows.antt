@@ -1,0 +1,35 @@
+-- Worked command lines.
+use Rattle.std.specs.Prelude.{◌≡◌, ⊤, [], ◌∷◌, codes, refl}
+use Rattle.clap.proofs.OnLiterals.{clap_on_literals}
+use Rattle.clap.specs.declared.error.kind.ErrorKind.TheVariants.{DisplayHelp, MissingRequiredArgument, UnknownArgument}
+use Rattle.pb_cli.specs.CommandLine.{errors_in, value_in, Asks}
+
+-- what computes a row from its words
+unfoldable on_literals : ⊤
+unfolding errors_in value_in clap_on_literals
+on_literals = tt
+
+asked : Asks (codes "pb-play" ∷ codes "-i" ∷ codes "hosts.json" ∷ codes "site.json" ∷ []) (record { inventory = codes "hosts.json"; playbook = codes "site.json" })
+unfolding on_literals
+asked = (refl, refl, refl)
+
+-- the inventory may come last, and stand in its option's word
+asked_last : Asks (codes "pb-play" ∷ codes "site.json" ∷ codes "-ihosts.json" ∷ []) (record { inventory = codes "hosts.json"; playbook = codes "site.json" })
+unfolding on_literals
+asked_last = (refl, refl, refl)
+
+help : errors_in (codes "pb-play" ∷ codes "--help" ∷ []) ≡ DisplayHelp ∷ []
+unfolding on_literals
+help = refl
+
+no_playbook : errors_in (codes "pb-play" ∷ codes "-i" ∷ codes "hosts.json" ∷ []) ≡ MissingRequiredArgument ∷ []
+unfolding on_literals
+no_playbook = refl
+
+no_inventory : errors_in (codes "pb-play" ∷ codes "site.json" ∷ []) ≡ MissingRequiredArgument ∷ []
+unfolding on_literals
+no_inventory = refl
+
+unknown : errors_in (codes "pb-play" ∷ codes "--bad" ∷ []) ≡ UnknownArgument ∷ []
+unfolding on_literals
+unknown = refl
