@@ -20,9 +20,9 @@ pub struct Request {
 /// Why the words ask for no play.
 #[derive(Drop)]
 pub enum WordsFault {
-    /// Help was asked for: this text.
+    /// Help was asked for: this text, for standard output.
     Help { text: Text },
-    /// The words aren't the program's: a text that says why.
+    /// The words aren't the program's: a text that says why, for standard error, with no line end after it.
     Wrong { text: Text },
     /// Memory was wanting.
     Memory,
@@ -42,9 +42,11 @@ fn command<'a>(alloc: Global) -> Result<Command<'a>, AllocError>
     let inventory = Arg::new(alloc, "inventory")
         .short('i')
         .value_name("FILE")
+        .help("The inventory, a JSON file")
         .required(true);
     let playbook = Arg::new(alloc, "playbook")
         .value_name("PLAYBOOK")
+        .help("The playbook, a JSON file")
         .required(true);
     Command::new(alloc, "pb-play").arg(inventory)?.arg(playbook)
 }
@@ -55,11 +57,15 @@ fn fault(alloc: Global, error: &Error) -> WordsFault
     let Ok(shown) = format!(in alloc; "{error}") else {
         return WordsFault::Memory;
     };
-    let text = Text::from_string(shown);
     match error.kind() {
         ErrorKind::OutOfMemory => WordsFault::Memory,
-        ErrorKind::DisplayHelp => WordsFault::Help { text },
-        _ => WordsFault::Wrong { text },
+        ErrorKind::DisplayHelp => WordsFault::Help {
+            text: Text::from_string(shown),
+        },
+        _ => match Text::from_str(alloc, shown.as_str().trim_end()) {
+            Ok(text) => WordsFault::Wrong { text },
+            Err(_) => WordsFault::Memory,
+        },
     }
 }
 
