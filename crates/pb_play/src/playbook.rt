@@ -1,4 +1,4 @@
-ghost use Rattle.std.specs.Prelude.{◌≡◌, ◌≢◌, IfOk, IfErr, Ok, Err, nat_lt};
+ghost use Rattle.std.specs.Prelude.{◌≡◌, ◌≢◌, ◌≤◌, length, IfOk, IfErr, Ok, Err, nat_lt};
 ghost use Rattle.serde_json.specs.View.{view, items_view};
 ghost use Rattle.pb_play.specs.Faults.{each};
 ghost use Rattle.pb_play.specs.Plays.{play};
@@ -27,6 +27,7 @@ impl Playbook {
     /// See Ansible's documentation, "Playbook Keywords"; the file is JSON in place of YAML.
     pub fn read(alloc: Global, bytes: &[u8]) -> Result<Playbook, LoadFault>
         ensures value { IfOk result (λ playbook. playbook_of bytes.now ≡ Ok playbook) }
+        ensures limit { IfOk result (λ playbook. length playbook.plays ≤ max_plays) }
         ensures fault { IfErr result (λ e. e ≢ LoadFault.Memory → playbook_of bytes.now ≡ Err e) }
     {
         match read_json(alloc, bytes) {
@@ -42,13 +43,15 @@ impl Playbook {
 
 #[tactic(auto, using(crate::proofs::Counts::count_items))]
 fn are_too_many(items: &[Value]) -> bool
-    ensures { result ≡ nat_lt max_plays (count (items_view items.now)) }
+    ensures count { result ≡ nat_lt max_plays (count (items_view items.now)) }
+    ensures length { result ≡ nat_lt max_plays (length items.now) }
 {
     items.len() > MAX_PLAYS
 }
 
 fn read_plays(alloc: Global, json: &Value) -> Result<Items<Play>, LoadFault>
     ensures value { IfOk result (λ ps. plays (view json.now) ≡ Ok ps) }
+    ensures limit { IfOk result (λ ps. length ps ≤ max_plays) }
     ensures fault { IfErr result (λ e. e ≢ LoadFault.Memory → plays (view json.now) ≡ Err e) }
 {
     let path = Text::from_str(alloc, "")?;
@@ -67,6 +70,7 @@ fn read_plays(alloc: Global, json: &Value) -> Result<Items<Play>, LoadFault>
 
 fn read_each(alloc: Global, path: &Text, items: &[Value]) -> Result<Items<Play>, LoadFault>
     ensures value { IfOk result (λ ps. each play path.now 0 (items_view items.now) ≡ Ok ps) }
+    ensures length { IfOk result (λ ps. length ps ≡ length items.now) }
     ensures fault { IfErr result (λ e. e ≢ LoadFault.Memory → each play path.now 0 (items_view items.now) ≡ Err e) }
 {
     let mut read = Vec::with_capacity(alloc, items.len())?;
