@@ -96,6 +96,27 @@ impl PlayTree {
         })
     }
 
+    /// The nodes, in the order of the play.
+    pub fn nodes(&self) -> &[Node]
+        ensures { tree_of result.now ≡ self.now.nodes }
+    {
+        self.nodes.as_slice()
+    }
+
+    /// How many handlers the play has: each Flush has a place for each of them.
+    pub fn handlers(&self) -> u32
+        ensures { result ≡ self.now.handlers }
+    {
+        self.handlers
+    }
+
+    /// Whether the last Flush runs its handlers after a failure too.
+    pub fn force_handlers(&self) -> bool
+        ensures { result ≡ self.now.force_handlers }
+    {
+        self.force_handlers
+    }
+
     /// How many places the tree has.
     #[tactic(auto, using(crate::proofs::Paths::length_paths))]
     pub fn places(&self) -> usize
