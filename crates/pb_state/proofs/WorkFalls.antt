@@ -1,0 +1,216 @@
+-- Each event leaves less to do.
+use Rattle.std.proofs.Common.{◌≡◌, ℕ, zero, suc, ◌+◌, ◌-◌, ◌*◌, ◌<◌, ◌≤◌, Bool, true, false, ◌&&◌, not, List, [], ◌∷◌, length, map, drop, get_or, refl, sym, ◌∙◌, ap, arith, ◌⊎◌, inl, inr, suc-mul}
+use Rattle.std.specs.Prelude.{Option, Some, None, slice_get, sum_by, is_some, nat_lt, nat_le, min, if◌then◌else◌, ◌||◌}
+use Rattle.std.specs.List.{list_any}
+use Rattle.std.specs.Option.{option_map_or}
+use Rattle.std.proofs.lemmas.List.{drop_more, length-map}
+use Rattle.std.proofs.lemmas.List.Sums.{sum_by-cons}
+use Rattle.std.proofs.lemmas.Option.{slice_get_within, get_or_from_slice_get, slice_get_cases}
+use Rattle.std.proofs.lemmas.Bool.{ltb-true, lt-ltb, leb-true, leb-false, eq-eqb}
+use Rattle.pb_tree.specs.Tree.{TreeOf, size_of}
+use Rattle.pb_tree.specs.Walk.{one_halted}
+use Rattle.pb_state.specs.declared.event.Event.{Event}
+use Rattle.pb_state.specs.declared.event.Event.TheVariants.{Open, Start, Turn, Close}
+use Rattle.pb_state.specs.Plan.{PlayOf, PlanOf}
+use Rattle.pb_state.specs.Row.{HostRow, joined, left, finished}
+use Rattle.pb_state.specs.State.{State}
+use Rattle.pb_state.specs.Machine.{possible, after, change, at_row, open_play, next_place, least_place, lesser, same_place, stands_at, has_room, may_open, may_start_in, may_turn_in, may_close_in, some_may_start, opened_in, started_in, start_at, turned_in, closed}
+use Rattle.pb_state.specs.Work.{place_work, row_work, later_work, turn_work, is_place, work_in, work}
+use Rattle.pb_state.proofs.Steps.{length-change}
+use Rattle.pb_state.proofs.Walked.{stands_below, one_halted_good, same_is}
+
+and_left : (a b : Bool) → (a && b) ≡ true → a ≡ true
+and_left true b e = refl
+and_left false b e = cc
+
+and_right : (a b : Bool) → (a && b) ≡ true → b ≡ true
+and_right true b e = e
+and_right false b e = cc
+
+not_false : (b : Bool) → not b ≡ true → b ≡ false
+not_false true e = cc
+not_false false e = refl
+
+-- a host that starts gives one answer more
+place_less : (tree : TreeOf) (row : HostRow) (p : ℕ) (next : Option ℕ) → length (one_halted row.answers) < size_of tree → place_work tree (finished tree p row) next < size_of tree - length (one_halted row.answers)
+place_less tree row p None below = omega arith
+place_less tree row p (Some q) below = omega (arith, one_halted_good row.answers)
+
+start_less : (tree : TreeOf) (place : Option ℕ) (p : ℕ) (row : HostRow) → stands_at tree place row ≡ true → row_work tree (finished tree p row) < row_work tree row
+start_less tree place p row e =
+    let stood = same_is (next_place tree row) place e in
+    let below = stands_below tree place row e in
+    let now : row_work tree row ≡ size_of tree - length (one_halted row.answers) = ap (place_work tree row) stood.1 in
+    let less = place_less tree row p (next_place tree (finished tree p row)) below in
+    omega (arith, now, less)
+
+-- one row changed
+change_on : (row : HostRow) (rows : List HostRow) (h : ℕ) (f : HostRow → HostRow) (found : Option HostRow) → slice_get rows h ≡ found → change (row ∷ rows) (suc h) f ≡ row ∷ change rows h f
+change_on row rows h f None e = rw e refl
+change_on row rows h f (Some r) e = rw e refl
+
+change_less : (w : HostRow → ℕ) (f : HostRow → HostRow) (test : HostRow → Bool) → ((row : HostRow) → test row ≡ true → w (f row) < w row) → (rows : List HostRow) (h : ℕ) → at_row test rows h ≡ true → sum_by w (change rows h f) < sum_by w rows
+change_less w f test less [] h e = cc
+change_less w f test less (row ∷ rows) zero e = let one = less row e in omega (arith, one, sum_by-cons w (f row) rows, sum_by-cons w row rows)
+change_less w f test less (row ∷ rows) (suc h) e =
+    let rest = change_less w f test less rows h e in
+    rw (change_on row rows h f (slice_get rows h) refl) (omega (arith, rest, sum_by-cons w row (change rows h f), sum_by-cons w row rows))
+
+turn_work_at_most : (p q : Option ℕ) → turn_work p q ≤ 1
+turn_work_at_most p q = at_most (is_place p q)
+  where
+    at_most : (b : Bool) → (if b then 0 else 1) ≤ 1
+    at_most true = omega arith
+    at_most false = omega arith
+
+place_same : (p : Option ℕ) → is_place p p ≡ true
+place_same None = refl
+place_same (Some p) = eq-eqb p p refl
+
+no_turn : (p : Option ℕ) → turn_work p p ≡ 0
+no_turn p = rw (place_same p) refl
+
+-- a start
+none_same : (a : Option ℕ) → same_place a None ≡ false
+none_same (Some p) = refl
+none_same None = refl
+
+none_at : (tree : TreeOf) (rows : List HostRow) (h : ℕ) → at_row (stands_at tree None) rows h ≡ true → ⊥
+none_at tree [] h e = cc
+none_at tree (row ∷ rows) zero e = let no = none_same (next_place tree row) in cc
+none_at tree (row ∷ rows) (suc h) e = none_at tree rows h e
+
+start_at_less : (plan : PlanOf) (s : State) (h : ℕ) (play : PlayOf) (place : Option ℕ) → at_row (stands_at play.tree place) s.rows h ≡ true → work_in plan (option_map_or (start_at s h play) place s) (Some play) < work_in plan s (Some play)
+start_at_less plan s h play None e = absurd (none_at play.tree s.rows h e)
+start_at_less plan s h play (Some p) e =
+    let rows = change_less (row_work play.tree) (finished play.tree p) (stands_at play.tree (Some p)) (start_less play.tree (Some p) p) s.rows h e in
+    let turn = turn_work_at_most s.place (least_place play.tree (change s.rows h (finished play.tree p))) in
+    let same : later_work (length (change s.rows h (finished play.tree p))) (drop (s.play + 1) plan.plays) ≡ later_work (length s.rows) (drop (s.play + 1) plan.plays) = rw (length-change s.rows h (finished play.tree p)) refl in
+    omega (arith, rows, turn, same)
+
+start_open : (plan : PlanOf) (s : State) (h : ℕ) (play : PlayOf) (place : Option ℕ) → open_play plan (option_map_or (start_at s h play) place s) ≡ open_play plan s
+start_open plan s h play None = refl
+start_open plan s h play (Some p) = refl
+
+start_in_less : (plan : PlanOf) (s : State) (h : ℕ) (found : Option PlayOf) → open_play plan s ≡ found → option_map_or (may_start_in s h) found false ≡ true → work plan (option_map_or (started_in s h) found s) < work plan s
+start_in_less plan s h None o e = cc
+start_in_less plan s h (Some play) o e =
+    let less = start_at_less plan s h play s.place (and_right (has_room s) _ e) in
+    let old : work plan s ≡ work_in plan s (Some play) = ap (work_in plan s) o in
+    let new : work plan (started_in s h play) ≡ work_in plan (started_in s h play) (Some play) = ap (work_in plan (started_in s h play)) (start_open plan s h play s.place ∙ o) in
+    omega (arith, less, old, new)
+
+-- a turn
+min_is : (a b : ℕ) (t : Bool) → nat_le a b ≡ t → (min a b ≡ a) ⊎ (min a b ≡ b)
+min_is a b true t = inl (omega (arith, leb-true a b t))
+min_is a b false t = inr (omega (arith, leb-false a b t))
+
+lesser_is : (a b : Option ℕ) (p : ℕ) → lesser a b ≡ Some p → (a ≡ Some p) ⊎ (b ≡ Some p)
+lesser_is None q p e = inr e
+lesser_is (Some a) None p e = inl e
+lesser_is (Some a) (Some b) p e = elim (min_is a b (nat_le a b) refl) [ inl m ↦ inl (cc) | inr m ↦ inr (cc) ]
+
+same_some : (a : Option ℕ) (p : ℕ) → a ≡ Some p → same_place a (Some p) ≡ true
+same_some a p e = rw e (eq-eqb p p refl)
+
+or_left : (a b : Bool) → (a || b) ≡ false → a ≡ false
+or_left true b e = e
+or_left false b e = refl
+
+or_right : (a b : Bool) → (a || b) ≡ false → b ≡ false
+or_right true b e = cc
+or_right false b e = e
+
+-- where none stands at a place, it isn't the least
+least_stands : (tree : TreeOf) (p : ℕ) (rows : List HostRow) → list_any (stands_at tree (Some p)) rows ≡ false → least_place tree rows ≡ Some p → ⊥
+least_stands tree p [] n e = cc
+least_stands tree p (row ∷ rows) n e =
+    elim (lesser_is (next_place tree row) (least_place tree rows) p e) [
+      | inl here ↦ (let no : stands_at tree (Some p) row ≡ false = or_left (stands_at tree (Some p) row) _ n in
+          let yes : stands_at tree (Some p) row ≡ true = same_some (next_place tree row) p here in cc)
+      | inr there ↦ least_stands tree p rows (or_right (stands_at tree (Some p) row) _ n) there
+    ]
+
+is_place_some : (p q : Option ℕ) (r : ℕ) → p ≡ Some r → is_place p q ≡ true → q ≡ Some r
+is_place_some (Some p) q r e s = let same = same_is (Some p) q s in same.2 ∙ (sym same.1 ∙ e)
+is_place_some None q r e s = cc
+
+is_some_some : (p : Option ℕ) → is_some p ≡ true → (r : ℕ) × (p ≡ Some r)
+is_some_some (Some r) e = (r, refl)
+is_some_some None e = cc
+
+none_stands : (room : Bool) (b : Bool) → room ≡ true → (room && b) ≡ false → b ≡ false
+none_stands true b r e = e
+none_stands false b r e = cc
+
+turn_due : (s : State) (play : PlayOf) (b : Bool) → 0 < s.forks → may_turn_in s play ≡ true → is_place s.place (least_place play.tree s.rows) ≡ b → turn_work s.place (least_place play.tree s.rows) ≡ 1
+turn_due s play false f e t = rw t refl
+turn_due s play true f e t =
+    let at = is_some_some s.place (and_left (is_some s.place) _ e) in
+    let none = none_stands (has_room s) (list_any (stands_at play.tree s.place) s.rows) (lt-ltb 0 s.forks f) (not_false (some_may_start s play) (and_right (is_some s.place) _ e)) in
+    let stands : list_any (stands_at play.tree (Some at.0)) s.rows ≡ false = rw (← at.1) none in
+    absurd (least_stands play.tree at.0 s.rows stands (is_place_some s.place _ at.0 at.1 t))
+
+turn_in_less : (plan : PlanOf) (s : State) (found : Option PlayOf) → 0 < s.forks → open_play plan s ≡ found → option_map_or (may_turn_in s) found false ≡ true → work plan (option_map_or (turned_in s) found s) < work plan s
+turn_in_less plan s None f o e = cc
+turn_in_less plan s (Some play) f o e =
+    let due = turn_due s play (is_place s.place (least_place play.tree s.rows)) f e refl in
+    let old : work plan s ≡ work_in plan s (Some play) = ap (work_in plan s) o in
+    let new : work plan (turned_in s play) ≡ work_in plan (turned_in s play) (Some play) = ap (work_in plan (turned_in s play)) o in
+    omega (arith, due, no_turn (least_place play.tree s.rows), old, new)
+
+-- a close
+open_is : (plan : PlanOf) (s : State) (play : PlayOf) (b : Bool) → s.is_open ≡ b → open_play plan s ≡ Some play → b ≡ true
+open_is plan s play true t e = refl
+open_is plan s play false t e = let no : open_play plan s ≡ None = rw t refl in cc
+
+close_in_less : (plan : PlanOf) (s : State) (found : Option PlayOf) → open_play plan s ≡ found → option_map_or (may_close_in s) found false ≡ true → work plan (closed s) < work plan s
+close_in_less plan s None o e = cc
+close_in_less plan s (Some play) o e =
+    let same : later_work (length (map left s.rows)) (drop (s.play + 1) plan.plays) ≡ later_work (length s.rows) (drop (s.play + 1) plan.plays) = rw (length-map s.rows left) refl in
+    let old : work plan s ≡ work_in plan s (Some play) = ap (work_in plan s) o in
+    omega (arith, same, old)
+
+-- an open
+fresh : (tree : TreeOf) (row : HostRow) → row_work tree (joined row) ≤ size_of tree
+fresh tree row = most (next_place tree (joined row))
+  where
+    most : (next : Option ℕ) → place_work tree (joined row) next ≤ size_of tree
+    most None = omega arith
+    most (Some p) = omega arith
+
+fresh_all : (tree : TreeOf) (rows : List HostRow) → sum_by (row_work tree) (map joined rows) ≤ length rows * size_of tree
+fresh_all tree [] = omega arith
+fresh_all tree (row ∷ rows) =
+    let one = fresh tree row in
+    let rest = fresh_all tree rows in
+    omega (arith, sum_by-cons (row_work tree) (joined row) (map joined rows), one, rest, suc-mul (length rows) (size_of tree))
+
+later_at : (n : ℕ) (plays : List PlayOf) (i : ℕ) (play : PlayOf) → slice_get plays i ≡ Some play → later_work n (drop i plays) ≡ 3 + 2 * (n * size_of play.tree) + later_work n (drop (i + 1) plays)
+later_at n plays i play e =
+    let here : get_or plays i play ≡ play = get_or_from_slice_get plays i play play e in
+    let cut : drop i plays ≡ get_or plays i play ∷ drop (i + 1) plays = drop_more plays i play (slice_get_within plays i play e) in
+    ap (later_work n) cut ∙ ap (λ (p : PlayOf). 3 + 2 * (n * size_of p.tree) + later_work n (drop (i + 1) plays)) here
+
+open_in_less : (plan : PlanOf) (s : State) (found : Option PlayOf) → s.is_open ≡ false → s.play < length plan.plays → slice_get plan.plays s.play ≡ found → work plan (option_map_or (opened_in s (map joined s.rows)) found s) < work plan s
+open_in_less plan s None o b e = absurd (elim (slice_get_cases plan.plays s.play).1 [ inl there ↦ (let x = there.2 in cc) | inr past ↦ omega (arith, past.0) ])
+open_in_less plan s (Some play) o b e =
+    let old : work plan s ≡ work_in plan s None = ap (λ (v : Bool). work_in plan s (if v then slice_get plan.plays s.play else None)) o in
+    let new : work plan (opened_in s (map joined s.rows) play) ≡ work_in plan (opened_in s (map joined s.rows) play) (Some play) = ap (work_in plan (opened_in s (map joined s.rows) play)) e in
+    let same : later_work (length (map joined s.rows)) (drop (s.play + 1) plan.plays) ≡ later_work (length s.rows) (drop (s.play + 1) plan.plays) = rw (length-map s.rows joined) refl in
+    omega (arith, old, new, same, fresh_all play.tree s.rows, later_at (length s.rows) plan.plays s.play play e, no_turn (least_place play.tree (map joined s.rows)))
+
+open_less : (plan : PlanOf) (s : State) → may_open plan s ≡ true → work plan (after plan s Open) < work plan s
+open_less plan s e =
+    let three = and_left (not s.is_open && not s.ended && nat_lt s.play (length plan.plays)) _ e in
+    let two = and_left (not s.is_open && not s.ended) _ three in
+    open_in_less plan s (slice_get plan.plays s.play) (not_false s.is_open (and_left (not s.is_open) _ two)) (ltb-true s.play (length plan.plays) (and_right (not s.is_open && not s.ended) _ three)) refl
+
+falls : (plan : PlanOf) (s : State) (e : Event) → 0 < s.forks → possible plan s e ≡ true → work plan (after plan s e) < work plan s
+falls plan s Open f p = open_less plan s p
+falls plan s (Start h) f p = start_in_less plan s h.0 (open_play plan s) refl p
+falls plan s Turn f p = turn_in_less plan s (open_play plan s) f refl p
+falls plan s Close f p = close_in_less plan s (open_play plan s) refl p
+
+pub falls_if : (plan : PlanOf) (s : State) (e : Event) → possible plan s e ≡ true → 0 < s.forks → work plan (after plan s e) < work plan s
+falls_if plan s e p f = falls plan s e f p

@@ -1,0 +1,9 @@
+pub mod Plan
+pub mod Row
+pub mod State
+pub mod Results
+pub mod Machine
+pub mod Run
+pub mod Work
+pub mod Bounds
+pub mod Bundle

@@ -1,0 +1,18 @@
+-- The state of a run.
+use Rattle.std.specs.Prelude.{ℕ, Bool, List, Option}
+use Rattle.pb_state.specs.declared.state.Decided.{Decided}
+use Rattle.pb_state.specs.Row.{HostRow}
+
+pub record State : Type 0 where
+  pub rows : List HostRow
+  -- the play whose batch is open, or the next one
+  pub play : ℕ
+  pub is_open : Bool
+  -- the place at which the hosts of the batch are, by its position in the play's tree
+  pub place : Option ℕ
+  pub forks : ℕ
+  pub pool : ℕ
+  -- a batch closed with no active host in it
+  pub ended : Bool
+  -- what the last step decided
+  pub decided : Option Decided

@@ -1,0 +1,38 @@
+-- How much is left to be done: a number that falls at each event.
+use Rattle.std.specs.Prelude.{ℕ, ◌+◌, ◌-◌, ◌*◌, Bool, true, false, List, [], ◌∷◌, length, drop, Option, Some, None, sum_by, if◌then◌else◌}
+use Rattle.pb_tree.specs.Tree.{TreeOf, size_of}
+use Rattle.pb_tree.specs.Walk.{one_halted}
+use Rattle.pb_state.specs.Plan.{PlayOf, PlanOf}
+use Rattle.pb_state.specs.Row.{HostRow}
+use Rattle.pb_state.specs.State.{State}
+use Rattle.pb_state.specs.Machine.{open_play, next_place, least_place, same_place}
+
+-- of one host: an answer at most for each place of the tree
+abbrev pub place_work : TreeOf → HostRow → Option ℕ → ℕ
+place_work tree row None = 0
+place_work tree row (Some p) = size_of tree - length (one_halted row.answers)
+
+abbrev pub row_work : TreeOf → HostRow → ℕ
+row_work tree row = place_work tree row (next_place tree row)
+
+-- of plays that haven't opened, for n hosts
+abbrev pub later_work : ℕ → List PlayOf → ℕ
+later_work n [] = 0
+later_work n (play ∷ plays) = 3 + 2 * (n * size_of play.tree) + later_work n plays
+
+-- a turn is due where the current place isn't the least
+abbrev pub is_place : Option ℕ → Option ℕ → Bool
+is_place None None = true
+is_place None (Some q) = false
+is_place (Some p) q = same_place (Some p) q
+
+abbrev pub turn_work : Option ℕ → Option ℕ → ℕ
+turn_work place least = if is_place place least then 0 else 1
+
+abbrev pub work_in : PlanOf → State → Option PlayOf → ℕ
+work_in plan s None = later_work (length s.rows) (drop s.play plan.plays)
+work_in plan s (Some play) =
+    2 * sum_by (row_work play.tree) s.rows + 1 + turn_work s.place (least_place play.tree s.rows) + later_work (length s.rows) (drop (s.play + 1) plan.plays)
+
+abbrev pub work : PlanOf → State → ℕ
+work plan s = work_in plan s (open_play plan s)

@@ -1,0 +1,152 @@
+//! What the machine reads of a bundle.
+
+ghost use Rattle.std.specs.Prelude.{◌≡◌, ◌≤◌, length, slice_get, Some};
+ghost use Rattle.std.specs.Option.{option_copied};
+ghost use Rattle.pb_tree.specs.Plain.{IsPlain};
+ghost use Rattle.pb_tree.specs.Tree.{size_of};
+
+use pb_ids::HostNo;
+use pb_inventory::inventory::Inventory;
+use pb_play::task::Task;
+use pb_tree::PlayTree;
+use pb_value::items::Items;
+use pb_value::text::Text;
+use std::marker::Model;
+
+/// A play: its name, its tree, and the task at each place of the tree, in the order of places.
+#[derive(Drop)]
+pub struct PlanPlay {
+    name: Text,
+    tree: PlayTree,
+    tasks: Items<Task>,
+}
+
+impl Model for PlanPlay {
+    ghost use Rattle.pb_state.specs.Plan.{PlayOf};
+    ghost use Rattle.pb_value.specs.contracts.val.Val as val;
+    ghost use Rattle.pb_tree.specs.contracts.tree.PlayTree as play_tree;
+    ghost use Rattle.std.specs.Coded.{codes};
+
+    ghost Value = { PlayOf };
+
+    ghost coded = { Prim.hlevel (codes, val.the_row.coded, play_tree.the_row.coded) };
+
+    ghost view = { λ p. record { name = p.name; tree = p.tree; tasks = p.tasks } };
+
+    ghost use Rattle.std.specs.Prelude.{◌≡◌, ◌≤◌, length};
+    ghost use Rattle.pb_tree.specs.Plain.{IsPlain};
+    ghost use Rattle.pb_tree.specs.Tree.{size_of};
+
+    ghost invariant = { λ p. IsPlain p.tree × (size_of p.tree ≤ 16384) × (length p.tasks ≡ size_of p.tree) };
+}
+
+impl PlanPlay {
+    /// A play of these parts.
+    pub(crate) fn of(name: Text, tree: PlayTree, tasks: Items<Task>) -> PlanPlay
+        requires plain { IsPlain tree }
+        requires bound { size_of tree ≤ 16384 }
+        requires places { length tasks ≡ size_of tree }
+        ensures { result ≡ record { name = name; tree = tree; tasks = tasks } }
+    {
+        PlanPlay { name, tree, tasks }
+    }
+
+    /// The play's name, as it is printed.
+    pub fn name(&self) -> &Text
+        ensures { result.now ≡ self.now.name }
+    {
+        &self.name
+    }
+
+    /// The play's tree.
+    pub fn tree(&self) -> &PlayTree
+        ensures value { result.now ≡ self.now.tree }
+        ensures plain { IsPlain self.now.tree }
+        ensures bound { size_of self.now.tree ≤ 16384 }
+    {
+        &self.tree
+    }
+
+    /// The task at a place, by the place's position in the tree.
+    pub fn task(&self, place: usize) -> Option<&Task>
+        ensures { option_copied result ≡ slice_get self.now.tasks place }
+    {
+        self.tasks.get(place)
+    }
+}
+
+/// The hosts by their numbers, the plays in order, and how many hosts may run at once.
+#[derive(Drop)]
+pub struct Plan {
+    inventory: Inventory,
+    plays: Items<PlanPlay>,
+    forks: u32,
+}
+
+impl Model for Plan {
+    ghost use Rattle.pb_state.specs.Plan.{PlanOf};
+    ghost use Rattle.pb_value.specs.contracts.val.Val as val;
+    ghost use Rattle.pb_tree.specs.contracts.tree.PlayTree as play_tree;
+    ghost use Rattle.std.specs.Coded.{codes};
+
+    ghost Value = { PlanOf };
+
+    ghost coded = { Prim.hlevel (codes, val.the_row.coded, play_tree.the_row.coded) };
+
+    ghost view = { λ p. record { hosts = p.inventory.hosts; plays = p.plays; forks = p.forks } };
+
+    ghost use Rattle.std.specs.Prelude.{◌<◌, ◌≤◌, length};
+
+    ghost invariant = { λ p. (length p.plays ≤ 256) × (0 < p.forks) × (p.forks ≤ 256) };
+}
+
+impl Plan {
+    ghost use Rattle.std.specs.Prelude.{◌<◌};
+
+    /// A plan of these parts.
+    pub(crate) fn from_parts(inventory: Inventory, plays: Items<PlanPlay>, forks: u32) -> Plan
+        requires plays { length plays ≤ 256 }
+        requires some { 0 < forks }
+        requires bound { forks ≤ 256 }
+        ensures { result ≡ record { hosts = inventory.hosts; plays = plays; forks = forks } }
+    {
+        Plan {
+            inventory,
+            plays,
+            forks,
+        }
+    }
+
+    /// How many hosts there are: at most 65,536.
+    pub fn hosts(&self) -> u32
+        ensures value { result ≡ length self.now.hosts }
+        ensures bound { length self.now.hosts ≤ 65536 }
+    {
+        self.inventory.hosts()
+    }
+
+    /// The name of a host.
+    pub fn host_name(&self, host: HostNo) -> &str
+        requires { host.0 < length self.now.hosts }
+        ensures { slice_get self.now.hosts host.0 ≡ Some result.now }
+    {
+        self.inventory.name(host)
+    }
+
+    /// The plays, in order.
+    pub fn plays(&self) -> &[PlanPlay]
+        ensures value { result.now ≡ self.now.plays }
+        ensures bound { length self.now.plays ≤ 256 }
+    {
+        self.plays.as_slice()
+    }
+
+    /// How many hosts may run at once: 1 to 256.
+    pub fn forks(&self) -> u32
+        ensures value { result ≡ self.now.forks }
+        ensures some { 0 < self.now.forks }
+        ensures bound { self.now.forks ≤ 256 }
+    {
+        self.forks
+    }
+}
