@@ -1,0 +1,4 @@
+pub mod Members
+pub mod Quiet
+pub mod Runs
+pub mod Stuck

@@ -1,0 +1,4 @@
+pub mod EngineOf
+pub mod Holds
+pub mod Over
+pub mod Choice

@@ -1,0 +1,194 @@
+//! The engine.
+
+ghost use Rattle.std.specs.Prelude.{◌≡◌, ◌≢◌, ◌≤◌, ◌<◌, ◌++◌, ◌∷◌, [], length, true, IfOk, OnOk, OnErr, IfErr, Ok, Err};
+ghost use Rattle.std.specs.Prelude.{◌-◌, slice_get};
+ghost use Rattle.std.specs.Option.{option_copied};
+ghost use Rattle.pb_state.specs.Machine.{possible, after};
+ghost use Rattle.pb_state.specs.Run.{IsRun};
+ghost use Rattle.pb_state.specs.Work.{work};
+ghost use Rattle.pb_engine.specs.EngineOf.{EngineOf, Takes, LessWork, IsSound, engine_of};
+ghost use Rattle.pb_engine.specs.Choice.{NextIs};
+
+use crate::choice::{Choice, choose};
+use crate::fault::EngineFault;
+use crate::picker::Picker;
+use pb_planes::HostSet;
+use pb_state::{EngineState, Event, Plan, StepFault};
+use std::alloc::{AllocError, Global};
+use std::marker::Model;
+
+/// What a call of `next` did.
+#[derive(Clone, Copy, Debug, PartialEq, Eq)]
+pub enum Next {
+    /// One event was taken.
+    Moved,
+    /// Nothing is possible any more.
+    Finished,
+}
+
+/// A plan, the state of its run, and the trail of events that led to it.
+#[derive(Drop)]
+pub struct Engine {
+    plan: Plan,
+    pool: u32,
+    state: EngineState,
+    trail: Vec<Event>,
+    ready: HostSet,
+}
+
+impl Model for Engine {
+    ghost use Rattle.pb_engine.specs.EngineOf.{EngineOf};
+    ghost use Rattle.pb_state.specs.contracts.plan.Plan as the_plan;
+    ghost use Rattle.pb_state.specs.contracts.state.EngineState as the_state;
+    ghost use Rattle.std.specs.Coded.{codes};
+
+    ghost Value = { EngineOf };
+
+    ghost coded = { Prim.hlevel (codes, the_plan.the_row.coded, the_state.the_row.coded) };
+
+    ghost view = { λ e. record { plan = e.plan; pool = e.pool; state = e.state; trail = e.trail.items } };
+
+    ghost use Rattle.pb_engine.specs.Holds.{Holds};
+
+    ghost invariant = { Holds };
+}
+
+impl Engine {
+    /// An engine in the first state of a plan, whose pool has this many workers: at most 256.
+    ///
+    /// # Errors
+    /// `PoolTooSmall` where the plan's forks are more than the pool has workers, `Memory` where memory was refused. The
+    /// plan is dropped then.
+    pub fn new(alloc: Global, plan: Plan, pool_size: u32) -> Result<Engine, EngineFault>
+        requires { pool_size ≤ 256 }
+        ensures value { IfOk result (λ engine. engine_of plan pool_size ≡ Ok engine) }
+        ensures fault { IfErr result (λ e. e ≢ EngineFault.Memory → engine_of plan pool_size ≡ Err e) }
+
+        // Nothing else is reported of a pool that is too small.
+        ensures small { pool_size < plan.forks → result ≡ Err EngineFault.PoolTooSmall }
+        ensures run { IfOk result IsSound }
+    {
+        let forks = plan.forks();
+        if forks > pool_size {
+            return Err(EngineFault::PoolTooSmall);
+        }
+        let ready = HostSet::empty(alloc, plan.hosts())?;
+        let state = EngineState::first(alloc, &plan, forks, pool_size)?;
+        Ok(Engine {
+            plan,
+            pool: pool_size,
+            state,
+            trail: Vec::new(alloc),
+            ready,
+        })
+    }
+
+    /// Takes what the machine does by itself: one event, if one is possible. A host that is ready starts, and the picker
+    /// chooses which; it is asked only where one is ready, and sees exactly those that are.
+    ///
+    /// # Errors
+    /// `Memory` where memory was refused: the engine is unchanged then.
+    pub fn next<P: Picker>(&mut self, picker: &mut P) -> Result<Next, EngineFault>
+        ensures value { IfOk result (NextIs P.picks picker.old picker.new self.old self.new) }
+        ensures fault { IfErr result (λ e. e ≡ EngineFault.Memory) }
+        ensures err { OnErr result (self.new ≡ self.old) }
+        ensures run { IsSound self.new }
+    {
+        match self.choose(picker) {
+            Choice::Finished => Ok(Next::Finished),
+            Choice::Take(event) => {
+                self.take(event)?;
+                Ok(Next::Moved)
+            }
+        }
+    }
+
+    /// The plan.
+    pub fn plan(&self) -> &Plan
+        ensures { result.now ≡ self.now.plan }
+    {
+        &self.plan
+    }
+
+    /// The state to which the trail leads.
+    pub fn state(&self) -> &EngineState
+        ensures value { result.now ≡ self.now.state }
+        ensures run { IsSound self.now }
+    {
+        &self.state
+    }
+
+    /// The events so far, in order.
+    pub fn trail(&self) -> &[Event]
+        ensures value { result.now ≡ self.now.trail }
+        ensures run { IsSound self.now }
+    {
+        self.trail.as_slice()
+    }
+
+    /// The last event.
+    pub fn last(&self) -> Option<&Event>
+        ensures { option_copied result ≡ slice_get self.now.trail (length self.now.trail - 1) }
+    {
+        self.trail.last()
+    }
+
+    /// The events, of an engine that is needed no more. It takes no memory.
+    pub fn into_trail(self) -> Vec<Event>
+        ensures value { result.items ≡ self.trail }
+        ensures run { IsSound self }
+    {
+        self.trail
+    }
+}
+
+impl Engine {
+    ghost use Rattle.pb_engine.specs.Choice.{IsChoice};
+
+    /// What to take next.
+    #[tactic(auto, using(crate::proofs::Stuck::placed_run))]
+    fn choose<P: Picker>(&mut self, picker: &mut P) -> Choice
+        ensures choice { IsChoice self.old.plan self.old.state P.picks picker.old picker.new result }
+        ensures same { self.new ≡ self.old }
+        ensures run { IsSound self.new }
+    {
+        choose(&self.plan, &self.state, &mut self.ready, picker)
+    }
+
+    /// Takes one event that is possible.
+    fn take(&mut self, event: Event) -> Result<(), AllocError>
+        requires { possible self.old.plan self.old.state event ≡ true }
+        ensures ok { OnOk result (Takes self.old self.new event) }
+        ensures err { OnErr result (self.new ≡ self.old) }
+        ensures work { OnOk result (LessWork self.old self.new) }
+        ensures run { IsSound self.new }
+    {
+        record(&self.plan, &mut self.state, &mut self.trail, event)
+    }
+}
+
+/// Takes a step, and writes the event down.
+fn record(
+    plan: &Plan,
+    state: &mut EngineState,
+    trail: &mut Vec<Event>,
+    event: Event,
+) -> Result<(), AllocError>
+    requires possible { possible plan.now state.old event ≡ true }
+    ensures ok { OnOk result ((state.new ≡ after plan.now state.old event) × (trail.new.items ≡ trail.old.items ++ event ∷ [])) }
+    ensures err { OnErr result ((state.new ≡ state.old) × (trail.new.items ≡ trail.old.items)) }
+    ensures hosts { length state.new.rows ≡ length state.old.rows }
+    ensures work { OnOk result (0 < state.old.forks → work plan.now state.new < work plan.now state.old) }
+    ensures forks { state.new.forks ≡ state.old.forks }
+{
+    trail.reserve(1)?;
+    match state.step(plan, &event) {
+        Ok(()) => {}
+        Err(StepFault::Memory) => return Err(AllocError),
+        Err(StepFault::Illegal) => unreachable!(),
+    }
+    match trail.push(event) {
+        Ok(()) => Ok(()),
+        Err(_) => unreachable!(),
+    }
+}
