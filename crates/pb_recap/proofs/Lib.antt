@@ -1,0 +1,3 @@
+pub mod Hosts
+pub mod NoFloat
+pub mod Counted

@@ -1,0 +1,31 @@
+-- The counts of a host by their kinds, and the exit status.
+use Rattle.std.specs.Prelude.{ℕ, nat_lt, Bool, ◌||◌, List, slice_get, if◌then◌else◌}
+use Rattle.std.specs.List.{list_any}
+use Rattle.std.specs.Option.{option_map_or}
+use Rattle.pb_state.specs.declared.row.Counts.{Counts}
+use Rattle.pb_recap.specs.declared.kind.CountKind.{CountKind}
+use Rattle.pb_recap.specs.declared.kind.CountKind.TheVariants.{Okay, Changed, Unreachable, Failed, Skipped, Rescued, Ignored}
+
+abbrev pub count_of : CountKind → Counts → ℕ
+count_of Okay counts = counts.ok
+count_of Changed counts = counts.changed
+count_of Unreachable counts = counts.unreachable
+count_of Failed counts = counts.failed
+count_of Skipped counts = counts.skipped
+count_of Rescued counts = counts.rescued
+count_of Ignored counts = counts.ignored
+
+-- of the host with a number
+abbrev pub count_at : CountKind → List Counts → ℕ → ℕ
+count_at kind counts h = option_map_or (count_of kind) (slice_get counts h) 0
+
+abbrev pub has : CountKind → Counts → Bool
+has kind counts = nat_lt 0 (count_of kind counts)
+
+abbrev pub has_count : Counts → Bool
+has_count counts =
+    has Okay counts || has Changed counts || has Unreachable counts || has Failed counts || has Skipped counts || has Rescued counts || has Ignored counts
+
+-- 2 where some task failed, 4 where none failed and some host could not be reached, else 0
+abbrev pub status_of : List Counts → ℕ
+status_of counts = if list_any (has Failed) counts then 2 else (if list_any (has Unreachable) counts then 4 else 0)

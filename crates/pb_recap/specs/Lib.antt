@@ -1,0 +1,5 @@
+pub mod Kinds
+pub mod Recap
+pub mod Hosts
+pub mod Text
+pub mod Stats

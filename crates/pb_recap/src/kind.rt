@@ -1,0 +1,64 @@
+//! The kinds under which tasks count.
+
+ghost use Rattle.std.specs.Prelude.{◌≡◌, slice_get};
+ghost use Rattle.std.specs.Option.{option_copied};
+ghost use Rattle.pb_recap.specs.Kinds.{count_of, has_count};
+
+use pb_ids::HostNo;
+use pb_state::Counts;
+
+/// What a finished task counts as (Ansible's documentation, "Return Values" and "Error handling in playbooks").
+#[derive(Clone, Copy, Debug, PartialEq, Eq)]
+pub enum CountKind {
+    /// It went well.
+    Okay,
+    /// It changed something.
+    Changed,
+    /// Its host could not be reached.
+    Unreachable,
+    /// It failed, and nothing caught that.
+    Failed,
+    /// Its condition was false.
+    Skipped,
+    /// It failed, and a rescue caught that.
+    Rescued,
+    /// It failed, and was told to ignore that.
+    Ignored,
+}
+
+impl CountKind {
+    /// The count of this kind.
+    pub fn of(self, counts: &Counts) -> u64
+        ensures { result ≡ count_of self counts.now }
+    {
+        match self {
+            CountKind::Okay => counts.ok,
+            CountKind::Changed => counts.changed,
+            CountKind::Unreachable => counts.unreachable,
+            CountKind::Failed => counts.failed,
+            CountKind::Skipped => counts.skipped,
+            CountKind::Rescued => counts.rescued,
+            CountKind::Ignored => counts.ignored,
+        }
+    }
+}
+
+/// Whether some count isn't 0.
+pub(crate) fn has_count(counts: &Counts) -> bool
+    ensures { result ≡ has_count counts.now }
+{
+    counts.ok > 0
+        || counts.changed > 0
+        || counts.unreachable > 0
+        || counts.failed > 0
+        || counts.skipped > 0
+        || counts.rescued > 0
+        || counts.ignored > 0
+}
+
+/// The counts of a host.
+pub(crate) fn counts_at(counts: &[Counts], host: HostNo) -> Option<&Counts>
+    ensures { option_copied result ≡ slice_get counts.now host.0 }
+{
+    counts.get(host.0 as usize)
+}

@@ -1,0 +1,115 @@
+//! The recap itself.
+
+ghost use Rattle.std.specs.Prelude.{◌≡◌, ◌<◌, ℕ, List, length, map, sum_by, IfOk, string_bytes};
+ghost use Rattle.pb_state.specs.Plan.{PlanOf};
+ghost use Rattle.pb_state.specs.Row.{HostRow};
+ghost use Rattle.pb_state.specs.Run.{IsRun};
+ghost use Rattle.pb_state.specs.declared.event.Event.{Event};
+ghost use Rattle.pb_recap.specs.Kinds.{count_of, count_at, has, status_of};
+ghost use Rattle.std.specs.List.{list_any};
+ghost use Rattle.pb_recap.specs.Recap.{recap};
+ghost use Rattle.pb_recap.specs.Text.{recap_text};
+ghost use Rattle.pb_recap.specs.Stats.{stats_line};
+
+use crate::kind::CountKind;
+use crate::{stats, text};
+use pb_ids::HostNo;
+use pb_state::{Counts, EngineState, Plan, Row};
+use std::alloc::{AllocError, Global};
+use std::marker::Model;
+
+/// The counts of each host, by the hosts' numbers.
+#[derive(Debug, Drop)]
+pub struct Recap {
+    counts: Vec<Counts>,
+}
+
+impl Model for Recap {
+    ghost use Rattle.std.specs.Prelude.{List};
+    ghost use Rattle.pb_state.specs.declared.row.Counts.{Counts};
+
+    ghost Value = { List Counts };
+
+    ghost view = { λ r. r.counts.items };
+}
+
+impl Recap {
+    /// The recap of a state. Of the state at the end of a run it is the count, from scratch, of the tasks that the
+    /// run's events finished.
+    #[tactic(auto, using(crate::proofs::Counted::recap_of_run))]
+    pub fn of(alloc: Global, state: &EngineState) -> Result<Recap, AllocError>
+        ensures counts { IfOk result (λ r. r ≡ map (λ (row : HostRow). row.counts) state.now.rows) }
+        ensures scratch { IfOk result (λ r. (plan : PlanOf) (pool : ℕ) (trail : List Event) → IsRun plan pool trail state.now → r ≡ recap plan pool trail) }
+    {
+        Ok(Recap {
+            counts: counts_of(alloc, state.rows())?,
+        })
+    }
+
+    /// How many finished tasks of a host count under a kind.
+    pub fn get(&self, host: HostNo, kind: CountKind) -> u64
+        requires { host.0 < length self.now }
+        ensures { result ≡ count_at kind self.now host.0 }
+    {
+        kind.of(&self.counts[host.0 as usize])
+    }
+
+    /// How many finished tasks of all hosts count under a kind.
+    pub fn total(&self, kind: CountKind) -> u128
+        ensures { result ≡ sum_by (count_of kind) self.now }
+    {
+        total(&self.counts, kind)
+    }
+
+    /// The exit status of a run with this recap: 2 if a task failed, else 4 if a host could not be reached, else 0.
+    pub fn status(&self) -> u8
+        ensures { result ≡ status_of self.now }
+    {
+        if some_has(&self.counts, CountKind::Failed) {
+            2
+        } else if some_has(&self.counts, CountKind::Unreachable) {
+            4
+        } else {
+            0
+        }
+    }
+
+    /// The text of the recap: a heading, and a line for each host with a count, in the order of hosts.
+    pub fn text(&self, alloc: Global, plan: &Plan) -> Result<String, AllocError>
+        ensures { IfOk result (λ s. string_bytes s ≡ recap_text plan.now.hosts self.now) }
+    {
+        text::text_of(alloc, plan, &self.counts)
+    }
+
+    /// The line of statistics, which names the hosts that have a count.
+    pub fn stats_line(&self, alloc: Global, plan: &Plan) -> Result<String, AllocError>
+        ensures { IfOk result (λ s. string_bytes s ≡ stats_line plan.now.hosts self.now) }
+    {
+        stats::line_of(alloc, plan, &self.counts)
+    }
+}
+
+/// The counts of each row.
+fn counts_of(alloc: Global, rows: &[Row]) -> Result<Vec<Counts>, AllocError>
+    ensures { IfOk result (λ counts. counts.items ≡ map (λ (row : HostRow). row.counts) rows.now) }
+{
+    rows.iter().map(|row| row.counts()).collect(alloc)
+}
+
+/// Whether some host has a count of a kind.
+fn some_has(counts: &[Counts], kind: CountKind) -> bool
+    ensures { result ≡ list_any (has kind) counts.now }
+{
+    counts.iter().any(|host| kind.of(host) > 0)
+}
+
+/// The sum of the counts of a kind.
+fn total(counts: &[Counts], kind: CountKind) -> u128
+    ensures { result ≡ sum_by (count_of kind) counts.now }
+{
+    let mut total = 0;
+    for host in counts {
+        total += u128::from(kind.of(host));
+    }
+    total
+}
