@@ -1,0 +1,254 @@
+//! The lines of events.
+
+ghost use Rattle.std.specs.Prelude.{◌≡◌, ◌<◌, ◌^◌, ◌∷◌, ◌++◌, [], IfOk, IfSome, codes, pos, slice_get, if◌then◌else◌};
+ghost use Rattle.std.specs.Option.{option_copied, option_map_or};
+ghost use Rattle.pb_value.specs.Datum.{text, int};
+ghost use Rattle.pb_ids.specs.Dotted.{dotted};
+ghost use Rattle.pb_events.specs.Lines.{start_line, play_start, task_start, host_ok, task_text, at_task, for_host, in_play, started_in, opened_in, lines_of};
+
+use crate::batch::batch_names;
+use crate::line::{at_host, at_place, line, put_text, put_value};
+use pb_ids::HostNo;
+use pb_play::task::Task;
+use pb_state::{Decided, EngineState, Event, Plan, PlanPlay};
+use pb_value::val::{Dict, Val, ValList};
+use std::alloc::{AllocError, Global};
+
+/// The line before all others, which tells how many plays there are.
+pub fn start_line(alloc: Global, plays: u32) -> Result<Vec<u8>, AllocError>
+    ensures { IfOk result (λ bytes. bytes.items ≡ start_line plays) }
+{
+    let members = start_members(alloc, plays)?;
+    line(alloc, members)
+}
+
+fn start_members(alloc: Global, plays: u32) -> Result<Dict, AllocError>
+    ensures { IfOk result (λ members. members ≡ (codes "event", text (codes "playbook_on_start")) ∷ (codes "plays", int (pos plays)) ∷ []) }
+{
+    let mut members = Dict::new(alloc);
+    put_text(alloc, &mut members, "event", "playbook_on_start")?;
+    put_value(alloc, &mut members, "plays", Val::int(i64::from(plays)))?;
+    Ok(members)
+}
+
+/// The lines of an event that led to a state: where a batch opens, the play and the hosts; where a host starts a task, the
+/// task, if the host is the first to start there, the host's start, and the task's result. Other events have none.
+pub fn lines_of(
+    alloc: Global,
+    plan: &Plan,
+    state: &EngineState,
+    event: &Event,
+) -> Result<Vec<u8>, AllocError>
+    ensures { IfOk result (λ bytes. bytes.items ≡ lines_of plan.now state.now event.now) }
+{
+    match event {
+        Event::Open => opened(alloc, plan, state),
+        Event::Start(host) => started(alloc, plan, state, *host),
+        Event::Turn | Event::Close => Ok(Vec::new(alloc)),
+    }
+}
+
+/// The play with a number.
+#[tactic(auto, using(crate::proofs::Plays::below))]
+fn play_at(plan: &Plan, number: usize) -> Option<&PlanPlay>
+    ensures value { option_copied result ≡ slice_get plan.now.plays number }
+    ensures below { IfSome result (λ _. number < 256) }
+{
+    plan.plays().get(number)
+}
+
+/// The line of a batch that opened.
+fn opened(alloc: Global, plan: &Plan, state: &EngineState) -> Result<Vec<u8>, AllocError>
+    ensures { IfOk result (λ bytes. bytes.items ≡ option_map_or (opened_in plan.now state.now) (slice_get plan.now.plays state.now.play) []) }
+{
+    match play_at(plan, state.play()) {
+        Some(play) => {
+            let hosts = batch_names(alloc, plan, state.rows())?;
+            play_start(alloc, state.play() as u32, play.name().as_str(), hosts)
+        }
+        None => Ok(Vec::new(alloc)),
+    }
+}
+
+/// The line of a play that starts.
+fn play_start(alloc: Global, play: u32, name: &str, hosts: ValList) -> Result<Vec<u8>, AllocError>
+    ensures { IfOk result (λ bytes. bytes.items ≡ play_start play name.now hosts) }
+{
+    let mut members = Dict::new(alloc);
+    put_value(alloc, &mut members, "batch", Val::int(0))?;
+    put_text(alloc, &mut members, "event", "playbook_on_play_start")?;
+    put_value(alloc, &mut members, "hosts", Val::list(hosts))?;
+    put_text(alloc, &mut members, "name", name)?;
+    put_value(alloc, &mut members, "play", Val::int(i64::from(play)))?;
+    line(alloc, members)
+}
+
+/// The lines of a host that started a task.
+fn started(
+    alloc: Global,
+    plan: &Plan,
+    state: &EngineState,
+    host: HostNo,
+) -> Result<Vec<u8>, AllocError>
+    ensures { IfOk result (λ bytes. bytes.items ≡ option_map_or (started_in plan.now state.now host.0) (slice_get plan.now.plays state.now.play) []) }
+{
+    match play_at(plan, state.play()) {
+        Some(play) => started_in(alloc, plan, state, host, play),
+        None => Ok(Vec::new(alloc)),
+    }
+}
+
+fn started_in(
+    alloc: Global,
+    plan: &Plan,
+    state: &EngineState,
+    host: HostNo,
+    play: &PlanPlay,
+) -> Result<Vec<u8>, AllocError>
+    requires { state.now.play < 256 }
+    ensures { IfOk result (λ bytes. bytes.items ≡ started_in plan.now state.now host.0 play.now) }
+{
+    match state.decided() {
+        Some(decided) => in_play(alloc, plan, state, host, play, decided),
+        None => Ok(Vec::new(alloc)),
+    }
+}
+
+fn in_play(
+    alloc: Global,
+    plan: &Plan,
+    state: &EngineState,
+    host: HostNo,
+    play: &PlanPlay,
+    decided: &Decided,
+) -> Result<Vec<u8>, AllocError>
+    requires { state.now.play < 256 }
+    ensures { IfOk result (λ bytes. bytes.items ≡ in_play plan.now state.now host.0 play.now decided.now) }
+{
+    match name_of(plan, host) {
+        Some(name) => for_host(alloc, play, state.play() as u32, decided, name),
+        None => Ok(Vec::new(alloc)),
+    }
+}
+
+/// The name of a host, if there is one with this number.
+#[tactic(auto, using(crate::proofs::Plays::past))]
+fn name_of(plan: &Plan, host: HostNo) -> Option<&str>
+    ensures { option_copied result ≡ slice_get plan.now.hosts host.0 }
+{
+    if host.0 < plan.hosts() {
+        Some(plan.host_name(host))
+    } else {
+        None
+    }
+}
+
+fn for_host(
+    alloc: Global,
+    play: &PlanPlay,
+    number: u32,
+    decided: &Decided,
+    host: &str,
+) -> Result<Vec<u8>, AllocError>
+    ensures { IfOk result (λ bytes. bytes.items ≡ for_host play.now number decided.now host.now) }
+{
+    match play.task(decided.place) {
+        Some(task) => at_task(alloc, play, number, decided, host, task),
+        None => Ok(Vec::new(alloc)),
+    }
+}
+
+fn at_task(
+    alloc: Global,
+    play: &PlanPlay,
+    number: u32,
+    decided: &Decided,
+    host: &str,
+    task: &Task,
+) -> Result<Vec<u8>, AllocError>
+    ensures { IfOk result (λ bytes. bytes.items ≡ at_task play.now number decided.now host.now task.now) }
+{
+    match play.tree().place(decided.place) {
+        Some(place) => {
+            let path = place.text(alloc)?;
+            task_lines(
+                alloc,
+                number,
+                decided,
+                host,
+                task.name.as_str(),
+                path.as_str(),
+            )
+        }
+        None => Ok(Vec::new(alloc)),
+    }
+}
+
+/// The lines of a task that a host started: the task's line, if the host is the first to start there, its start, and its end.
+fn task_lines(
+    alloc: Global,
+    play: u32,
+    decided: &Decided,
+    host: &str,
+    name: &str,
+    place: &str,
+) -> Result<Vec<u8>, AllocError>
+    ensures { IfOk result (λ bytes. bytes.items ≡ task_text play decided.now host.now name.now place.now) }
+{
+    let mut lines = task_if_new(alloc, decided.is_new, name, place, play)?;
+    let members = at_host(alloc, "runner_on_start", host, place, play)?;
+    lines.extend_from_slice(line(alloc, members)?.as_slice())?;
+    let end = host_ok(alloc, host, place, play, &decided.result)?;
+    lines.extend_from_slice(end.as_slice())?;
+    Ok(lines)
+}
+
+/// The line of a task that no host had started.
+fn task_if_new(
+    alloc: Global,
+    is_new: bool,
+    name: &str,
+    place: &str,
+    play: u32,
+) -> Result<Vec<u8>, AllocError>
+    ensures { IfOk result (λ bytes. bytes.items ≡ (if is_new then task_start name.now place.now play else [])) }
+{
+    if is_new {
+        task_start(alloc, name, place, play)
+    } else {
+        Ok(Vec::new(alloc))
+    }
+}
+
+/// The line of a task.
+fn task_start(alloc: Global, name: &str, place: &str, play: u32) -> Result<Vec<u8>, AllocError>
+    ensures { IfOk result (λ bytes. bytes.items ≡ task_start name.now place.now play) }
+{
+    let members = task_members(alloc, name, place, play)?;
+    line(alloc, members)
+}
+
+fn task_members(alloc: Global, name: &str, place: &str, play: u32) -> Result<Dict, AllocError>
+    ensures { IfOk result (λ members. members
+        ≡ (codes "event", text (codes "playbook_on_task_start")) ∷ (codes "name", text name.now) ∷ (codes "place", text place.now)
+        ∷ (codes "play", int (pos play)) ∷ []) }
+{
+    let mut members = at_place(alloc, "playbook_on_task_start", place, play)?;
+    put_text(alloc, &mut members, "name", name)?;
+    Ok(members)
+}
+
+/// The line of a host whose task ended well.
+fn host_ok(
+    alloc: Global,
+    host: &str,
+    place: &str,
+    play: u32,
+    end: &Val,
+) -> Result<Vec<u8>, AllocError>
+    ensures { IfOk result (λ bytes. bytes.items ≡ host_ok host.now place.now play end.now) }
+{
+    let mut members = at_host(alloc, "runner_on_ok", host, place, play)?;
+    put_value(alloc, &mut members, "result", end.try_clone(alloc)?)?;
+    line(alloc, members)
+}
