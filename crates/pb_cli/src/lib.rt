@@ -6,4 +6,5 @@
 
 pub mod files;
 pub mod messages;
+pub mod program;
 pub mod words;

@@ -46,22 +46,22 @@ pub enum RoleFault {
 #[derive(Debug, Drop, Error)]
 pub enum BundleFault {
     /// A fault of the inventory.
-    #[error("inventory: {0}")]
+    #[error("1 Inventory {0}")]
     Inventory(InvFault),
     /// A fault of the playbook.
-    #[error("playbook: {0}")]
+    #[error("2 Playbook {0}")]
     Playbook(LoadFault),
     /// A fault of the plays' trees.
-    #[error("roles: {0}")]
+    #[error("3 Roles {0}")]
     Roles(RoleFault),
     /// The number of forks isn't 1 to 256.
-    #[error("bundle: 6 BadForks")]
+    #[error("6 BadForks")]
     BadForks,
     /// The bundle has more than 64 MiB.
-    #[error("bundle: 7 TooLarge")]
+    #[error("7 TooLarge")]
     TooLarge,
     /// Memory was refused.
-    #[error("bundle: 8 Memory")]
+    #[error("8 Memory")]
     Memory,
 }
 

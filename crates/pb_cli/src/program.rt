@@ -1,0 +1,124 @@
+//! The program, but for its words' and its streams' making.
+
+ghost use Rattle.std.specs.Prelude.{◌≡◌, ◌≢◌, ◌⊎◌, IfOk, IfErr, Err};
+ghost use Rattle.pb_state.specs.Bundle.{plan_of};
+ghost use Rattle.pb_driver.specs.Taken.{with_more};
+ghost use Rattle.pb_cli.specs.Played.{IsPlayed};
+
+use crate::files::read_file;
+use crate::messages::{Part, message};
+use crate::words::{Request, WordsFault, read_words};
+use pb_driver::{LineOut, RunFault, put_all, run_plain};
+use pb_engine::Lowest;
+use pb_state::{Bundle, BundleFault, MAX_BYTES, Plan};
+use pb_value::items::Items;
+use std::alloc::Global;
+use std::fmt::Display;
+use std::fs::Files;
+use std::io;
+
+/// How many hosts may run at once, where the words don't say.
+const FORKS: u32 = 5;
+
+/// Why a bundle wasn't played to its end.
+#[derive(Drop)]
+pub enum PlayFault {
+    /// The bundle has no plan.
+    Bundle(BundleFault),
+    /// The run stopped early.
+    Run(RunFault),
+}
+
+/// Plays a bundle, with its lines on a writer, and answers the exit status.
+///
+/// # Errors
+/// `Bundle` with the bundle's first fault, where it has no plan: nothing is written then. `Run` where memory was refused or the
+/// writer failed in the run.
+pub fn play_bundle<O: LineOut>(alloc: Global, bundle: &Bundle, out: &mut O) -> Result<u8, PlayFault>
+    ensures played { IfOk result (IsPlayed bundle.now (O.taken out.old) (O.taken out.new)) }
+    ensures refused { (e : BundleFault) → result ≡ Err (PlayFault.Bundle e) → (O.taken out.new ≡ O.taken out.old) × (e ≢ BundleFault.Memory → plan_of bundle.now ≡ Err e) }
+{
+    let plan = match Plan::of(alloc, bundle) {
+        Ok(plan) => plan,
+        Err(fault) => return Err(PlayFault::Bundle(fault)),
+    };
+    match run_plain(alloc, plan, &mut Lowest, out) {
+        Ok(ended) => Ok(ended.status),
+        Err((fault, _)) => Err(PlayFault::Run(fault)),
+    }
+}
+
+/// The program `pb-play`: what its words ask for, with its output on `out` and its faults on `err`. It answers the exit status:
+/// that of the run's recap, 0 where help was asked for, and 1 at a fault.
+pub fn play<R: Files + AllocGlobal, O: LineOut, E: LineOut>(
+    rt: &R,
+    words: &[String],
+    out: &mut O,
+    err: &mut E,
+) -> u8 {
+    let alloc = rt.alloc();
+    match read_words(alloc, words) {
+        Ok(request) => play_request(rt, &request, out, err),
+        Err(WordsFault::Help { text }) => match put_all(out, text.as_str().as_bytes()) {
+            Ok(()) => 0,
+            Err(_) => told(alloc, err, Part::Run, &RunFault::Write),
+        },
+        Err(WordsFault::Wrong { text }) => told(alloc, err, Part::Words, &text),
+        Err(WordsFault::Memory) => told(alloc, err, Part::Words, &"out of memory"),
+    }
+}
+
+/// Reads the files that were asked for, and plays them.
+fn play_request<R: Files + AllocGlobal, O: LineOut, E: LineOut>(
+    rt: &R,
+    request: &Request,
+    out: &mut O,
+    err: &mut E,
+) -> u8 {
+    let alloc = rt.alloc();
+    let bundle = match read_bundle(rt, request) {
+        Ok(bundle) => bundle,
+        Err(error) => return told(alloc, err, Part::File, &error),
+    };
+    match play_bundle(alloc, &bundle, out) {
+        Ok(status) => status,
+        Err(PlayFault::Run(fault)) => told(alloc, err, Part::Run, &fault),
+        Err(PlayFault::Bundle(fault)) => told_bundle(alloc, err, &fault),
+    }
+}
+
+/// The files' bytes: of each as many as the bundle has room for, and one more where there are more.
+fn read_bundle<R: Files + AllocGlobal>(rt: &R, request: &Request) -> io::Result<Bundle> {
+    let inventory = read_file(rt, request.inventory.as_str(), MAX_BYTES)?;
+    let left = MAX_BYTES.saturating_sub(inventory.len());
+    let playbook = read_file(rt, request.playbook.as_str(), left)?;
+    Ok(Bundle {
+        inventory: Items::from_vec(inventory),
+        playbook: Items::from_vec(playbook),
+        forks: FORKS,
+    })
+}
+
+/// Tells a bundle's fault, by its part.
+fn told_bundle<E: LineOut>(alloc: Global, err: &mut E, fault: &BundleFault) -> u8
+    ensures { result ≡ 1 }
+{
+    match fault {
+        BundleFault::Inventory(fault) => told(alloc, err, Part::Inventory, fault),
+        BundleFault::Playbook(fault) => told(alloc, err, Part::Playbook, fault),
+        BundleFault::Roles(fault) => told(alloc, err, Part::Roles, fault),
+        BundleFault::BadForks | BundleFault::TooLarge | BundleFault::Memory => {
+            told(alloc, err, Part::Bundle, fault)
+        }
+    }
+}
+
+/// Tells a fault of a part. That standard error fails changes nothing: the status is 1.
+fn told<E: LineOut, F: Display>(alloc: Global, err: &mut E, part: Part, fault: &F) -> u8
+    ensures { result ≡ 1 }
+{
+    if let Ok(text) = message(alloc, part, fault) {
+        let _ = put_all(err, text.as_bytes());
+    }
+    1
+}

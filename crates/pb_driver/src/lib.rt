@@ -1,0 +1,12 @@
+//! Runs a plan to its end, and writes the lines of its run.
+//!
+//! For the layer above: `run_plain` answers Ok only with a legal, eager trail that ends in a finished state; what the writer
+//! took is that trail's output and nothing else, and the recap and the exit status are those of that trail.
+//! `LineOut` is where lines go.
+#![tactic(auto)]
+
+mod driver;
+mod line_out;
+
+pub use driver::{Ended, RunFault, run_plain};
+pub use line_out::{Failed, LineOut, Printed, put_all};
