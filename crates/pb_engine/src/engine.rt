@@ -6,6 +6,7 @@ ghost use Rattle.std.specs.Option.{option_copied};
 ghost use Rattle.pb_state.specs.Machine.{possible, after};
 ghost use Rattle.pb_state.specs.Run.{IsRun};
 ghost use Rattle.pb_state.specs.Work.{work};
+ghost use Rattle.pb_recap.specs.Recap.{recap};
 ghost use Rattle.pb_engine.specs.EngineOf.{EngineOf, Takes, LessWork, IsSound, engine_of};
 ghost use Rattle.pb_engine.specs.Choice.{NextIs};
 
@@ -13,6 +14,7 @@ use crate::choice::{Choice, choose};
 use crate::fault::EngineFault;
 use crate::picker::Picker;
 use pb_planes::HostSet;
+use pb_recap::Recap;
 use pb_state::{EngineState, Event, Plan, StepFault};
 use std::alloc::{AllocError, Global};
 use std::marker::Model;
@@ -131,6 +133,16 @@ impl Engine {
         ensures { option_copied result ≡ slice_get self.now.trail (length self.now.trail - 1) }
     {
         self.trail.last()
+    }
+
+    /// How the tasks that the events so far finished count, counted over the events from the first one on.
+    ///
+    /// # Errors
+    /// `AllocError` where memory was refused.
+    pub fn recap(&self, alloc: Global) -> Result<Recap, AllocError>
+        ensures { IfOk result (λ r. r ≡ recap self.now.plan self.now.pool self.now.trail) }
+    {
+        Recap::of(alloc, &self.state)
     }
 
     /// The events, of an engine that is needed no more. It takes no memory.
