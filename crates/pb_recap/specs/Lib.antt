@@ -3,3 +3,4 @@ pub mod Recap
 pub mod Hosts
 pub mod Text
 pub mod Stats
+pub mod Rows
