@@ -40,7 +40,7 @@ host_ok host place play result =
     ((codes "event", text (codes "runner_on_ok")) ∷ (codes "host", text host) ∷ (codes "place", text place) ∷ (codes "play", int (pos play))
     ∷ (codes "result", result) ∷ [])
 
--- of a task with this name at this place, which a host started
+-- of a task with this name at this place, which a host started: the task's own line comes with the first host alone
 abbrev pub task_text : ℕ → Decided → List ℕ → List ℕ → List ℕ → List ℕ
 task_text play decided host name place =
     (if decided.is_new then task_start name place play else []) ++ host_start host place play ++ host_ok host place play decided.result
@@ -48,12 +48,15 @@ task_text play decided host name place =
 abbrev pub task_lines : ℕ → Decided → List ℕ → List ℕ → List ℕ → List ℕ
 task_lines play decided host name path = task_text play decided host name (dotted path)
 
+-- of this task: its place is printed by its path in the play's tree
 abbrev pub at_task : PlayOf → ℕ → Decided → List ℕ → Task → List ℕ
 at_task play number decided host task = option_map_or (task_lines number decided host task.name) (path_at play.tree decided.place) []
 
+-- of a host with this name
 abbrev pub for_host : PlayOf → ℕ → Decided → List ℕ → List ℕ
 for_host play number decided host = option_map_or (at_task play number decided host) (slice_get play.tasks decided.place) []
 
+-- of the host with this number, in a play, and of what was decided for it
 abbrev pub in_play : PlanOf → State → ℕ → PlayOf → Decided → List ℕ
 in_play plan s h play decided = option_map_or (for_host play s.play decided) (slice_get plan.hosts h) []
 
@@ -63,6 +66,7 @@ started_in plan s h play = option_map_or (in_play plan s h play) s.decided []
 abbrev pub opened_in : PlanOf → State → PlayOf → List ℕ
 opened_in plan s play = play_start s.play play.name (map text (batch_names plan.hosts s.rows))
 
+-- other events have no lines
 abbrev pub lines_of : PlanOf → State → Event → List ℕ
 lines_of plan s Open = option_map_or (opened_in plan s) (slice_get plan.plays s.play) []
 lines_of plan s (Start h) = option_map_or (started_in plan s h.0) (slice_get plan.plays s.play) []

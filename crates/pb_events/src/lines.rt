@@ -22,6 +22,7 @@ pub fn start_line(alloc: Global, plays: u32) -> Result<Vec<u8>, AllocError>
     line(alloc, members)
 }
 
+/// What the first line has.
 fn start_members(alloc: Global, plays: u32) -> Result<Dict, AllocError>
     ensures { IfOk result (λ members. members ≡ (codes "event", text (codes "playbook_on_start")) ∷ (codes "plays", int (pos plays)) ∷ []) }
 {
@@ -98,6 +99,7 @@ fn started(
     }
 }
 
+/// The lines of a host that started a task of a play: those of what the step decided.
 fn started_in(
     alloc: Global,
     plan: &Plan,
@@ -114,6 +116,7 @@ fn started_in(
     }
 }
 
+/// The lines of what was decided for a host of the plan.
 fn in_play(
     alloc: Global,
     plan: &Plan,
@@ -143,6 +146,7 @@ fn name_of(plan: &Plan, host: HostNo) -> Option<&str>
     }
 }
 
+/// The lines of a host with this name.
 fn for_host(
     alloc: Global,
     play: &PlanPlay,
@@ -158,6 +162,7 @@ fn for_host(
     }
 }
 
+/// The lines of the host's task.
 fn at_task(
     alloc: Global,
     play: &PlanPlay,
@@ -228,6 +233,7 @@ fn task_start(alloc: Global, name: &str, place: &str, play: u32) -> Result<Vec<u
     line(alloc, members)
 }
 
+/// What a task's line has.
 fn task_members(alloc: Global, name: &str, place: &str, play: u32) -> Result<Dict, AllocError>
     ensures { IfOk result (λ members. members
         ≡ (codes "event", text (codes "playbook_on_task_start")) ∷ (codes "name", text name.now) ∷ (codes "place", text place.now)
