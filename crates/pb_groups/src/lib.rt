@@ -1,0 +1,17 @@
+//! Groups of hosts, and which hosts belong to them.
+//!
+//! `Groups` knows each group's own hosts and which groups are children of which. To the crates above it
+//! answers a group's members, which are the hosts that some way from parent to child leads to, and its
+//! depth, which is the length of the longest way that ends there. A link that would let ways go on without
+//! end is refused as a cycle. (Ansible's documentation, "How to build your inventory".)
+#![tactic(auto)]
+
+mod depths;
+pub mod fault;
+pub mod groups;
+pub mod links;
+mod planes;
+
+pub use fault::GroupFault;
+pub use groups::Groups;
+pub use links::{ChildLink, OwnHost};
