@@ -1,0 +1,198 @@
+-- Which tokens begin and follow each rule, and the test that the tables are right.
+use Rattle.std.proofs.Common.{◌≡◌, ℕ, suc, ◌&&◌, ◌||◌, nat_eq, Bool, true, false, List, [], ◌∷◌, Option, Some, None, refl}
+use Rattle.pb_expr_syntax.specs.declared.grammar.Kind.{Kind}
+use Rattle.pb_expr_syntax.specs.declared.grammar.Kind.TheVariants as kind
+use Rattle.pb_expr_syntax.specs.declared.grammar.Rule.{Rule}
+use Rattle.pb_expr_syntax.specs.declared.grammar.Rule.TheVariants as rule
+use Rattle.pb_expr_syntax.specs.declared.grammar.Symbol.{Symbol}
+use Rattle.pb_expr_syntax.specs.declared.grammar.Symbol.TheVariants.{Take, Go, Do}
+use Rattle.pb_expr_syntax.specs.Grammar.{rules}
+use Rattle.pb_expr_syntax.specs.Choice.{choice}
+
+-- a kind or the end as a number
+abbrev pub look_code : Option Kind → ℕ
+look_code None = 0
+look_code (Some kind.Digits) = 1
+look_code (Some kind.Text) = 2
+look_code (Some kind.Name) = 3
+look_code (Some kind.And) = 4
+look_code (Some kind.Or) = 5
+look_code (Some kind.Not) = 6
+look_code (Some kind.In) = 7
+look_code (Some kind.Is) = 8
+look_code (Some kind.True) = 9
+look_code (Some kind.False) = 10
+look_code (Some kind.Null) = 11
+look_code (Some kind.Equal) = 12
+look_code (Some kind.NotEqual) = 13
+look_code (Some kind.Less) = 14
+look_code (Some kind.AtMost) = 15
+look_code (Some kind.Greater) = 16
+look_code (Some kind.AtLeast) = 17
+look_code (Some kind.Plus) = 18
+look_code (Some kind.Minus) = 19
+look_code (Some kind.Tilde) = 20
+look_code (Some kind.Bar) = 21
+look_code (Some kind.Dot) = 22
+look_code (Some kind.Comma) = 23
+look_code (Some kind.Open) = 24
+look_code (Some kind.Close) = 25
+look_code (Some kind.ListOpen) = 26
+look_code (Some kind.ListClose) = 27
+
+-- all of them
+abbrev pub looks : List (Option Kind)
+looks = None ∷ Some kind.Digits ∷ Some kind.Text ∷ Some kind.Name ∷ Some kind.And ∷ Some kind.Or ∷ Some kind.Not ∷ Some kind.In ∷ Some kind.Is ∷ Some kind.True ∷ Some kind.False ∷ Some kind.Null ∷ Some kind.Equal ∷ Some kind.NotEqual ∷ Some kind.Less ∷ Some kind.AtMost ∷ Some kind.Greater ∷ Some kind.AtLeast ∷ Some kind.Plus ∷ Some kind.Minus ∷ Some kind.Tilde ∷ Some kind.Bar ∷ Some kind.Dot ∷ Some kind.Comma ∷ Some kind.Open ∷ Some kind.Close ∷ Some kind.ListOpen ∷ Some kind.ListClose ∷ []
+
+abbrev pub member : ℕ → List ℕ → Bool
+member n [] = false
+member n (x ∷ xs) = nat_eq n x || member n xs
+
+-- the rules that may read nothing
+abbrev pub nullable : Rule → Bool
+nullable rule.Expr = false
+nullable rule.Or = false
+nullable rule.Ors = true
+nullable rule.And = false
+nullable rule.Ands = true
+nullable rule.Not = false
+nullable rule.Cmp = false
+nullable rule.Compared = true
+nullable rule.Sum = false
+nullable rule.Sums = true
+nullable rule.Cat = false
+nullable rule.Cats = true
+nullable rule.Unary = false
+nullable rule.Signed = false
+nullable rule.Filters = true
+nullable rule.Presence = false
+nullable rule.Args = true
+nullable rule.Items = true
+nullable rule.More = true
+nullable rule.Post = false
+nullable rule.Tails = true
+nullable rule.Word = false
+nullable rule.Atom = false
+
+abbrev pub first : Rule → List ℕ
+first rule.Expr = 1 ∷ 2 ∷ 3 ∷ 6 ∷ 9 ∷ 10 ∷ 11 ∷ 19 ∷ 24 ∷ 26 ∷ []
+first rule.Or = 1 ∷ 2 ∷ 3 ∷ 6 ∷ 9 ∷ 10 ∷ 11 ∷ 19 ∷ 24 ∷ 26 ∷ []
+first rule.Ors = 5 ∷ []
+first rule.And = 1 ∷ 2 ∷ 3 ∷ 6 ∷ 9 ∷ 10 ∷ 11 ∷ 19 ∷ 24 ∷ 26 ∷ []
+first rule.Ands = 4 ∷ []
+first rule.Not = 1 ∷ 2 ∷ 3 ∷ 6 ∷ 9 ∷ 10 ∷ 11 ∷ 19 ∷ 24 ∷ 26 ∷ []
+first rule.Cmp = 1 ∷ 2 ∷ 3 ∷ 9 ∷ 10 ∷ 11 ∷ 19 ∷ 24 ∷ 26 ∷ []
+first rule.Compared = 6 ∷ 7 ∷ 12 ∷ 13 ∷ 14 ∷ 15 ∷ 16 ∷ 17 ∷ []
+first rule.Sum = 1 ∷ 2 ∷ 3 ∷ 9 ∷ 10 ∷ 11 ∷ 19 ∷ 24 ∷ 26 ∷ []
+first rule.Sums = 18 ∷ 19 ∷ []
+first rule.Cat = 1 ∷ 2 ∷ 3 ∷ 9 ∷ 10 ∷ 11 ∷ 19 ∷ 24 ∷ 26 ∷ []
+first rule.Cats = 20 ∷ []
+first rule.Unary = 1 ∷ 2 ∷ 3 ∷ 9 ∷ 10 ∷ 11 ∷ 19 ∷ 24 ∷ 26 ∷ []
+first rule.Signed = 1 ∷ 2 ∷ 3 ∷ 9 ∷ 10 ∷ 11 ∷ 19 ∷ 24 ∷ 26 ∷ []
+first rule.Filters = 8 ∷ 21 ∷ []
+first rule.Presence = 3 ∷ 6 ∷ []
+first rule.Args = 24 ∷ []
+first rule.Items = 1 ∷ 2 ∷ 3 ∷ 6 ∷ 9 ∷ 10 ∷ 11 ∷ 19 ∷ 24 ∷ 26 ∷ []
+first rule.More = 23 ∷ []
+first rule.Post = 1 ∷ 2 ∷ 3 ∷ 9 ∷ 10 ∷ 11 ∷ 24 ∷ 26 ∷ []
+first rule.Tails = 22 ∷ 26 ∷ []
+first rule.Word = 3 ∷ 4 ∷ 5 ∷ 6 ∷ 7 ∷ 8 ∷ 9 ∷ 10 ∷ 11 ∷ []
+first rule.Atom = 1 ∷ 2 ∷ 3 ∷ 9 ∷ 10 ∷ 11 ∷ 24 ∷ 26 ∷ []
+
+abbrev pub follow : Rule → List ℕ
+follow rule.Expr = 0 ∷ 23 ∷ 25 ∷ 27 ∷ []
+follow rule.Or = 0 ∷ 23 ∷ 25 ∷ 27 ∷ []
+follow rule.Ors = 0 ∷ 23 ∷ 25 ∷ 27 ∷ []
+follow rule.And = 0 ∷ 5 ∷ 23 ∷ 25 ∷ 27 ∷ []
+follow rule.Ands = 0 ∷ 5 ∷ 23 ∷ 25 ∷ 27 ∷ []
+follow rule.Not = 0 ∷ 4 ∷ 5 ∷ 23 ∷ 25 ∷ 27 ∷ []
+follow rule.Cmp = 0 ∷ 4 ∷ 5 ∷ 23 ∷ 25 ∷ 27 ∷ []
+follow rule.Compared = 0 ∷ 4 ∷ 5 ∷ 23 ∷ 25 ∷ 27 ∷ []
+follow rule.Sum = 0 ∷ 4 ∷ 5 ∷ 6 ∷ 7 ∷ 12 ∷ 13 ∷ 14 ∷ 15 ∷ 16 ∷ 17 ∷ 23 ∷ 25 ∷ 27 ∷ []
+follow rule.Sums = 0 ∷ 4 ∷ 5 ∷ 6 ∷ 7 ∷ 12 ∷ 13 ∷ 14 ∷ 15 ∷ 16 ∷ 17 ∷ 23 ∷ 25 ∷ 27 ∷ []
+follow rule.Cat = 0 ∷ 4 ∷ 5 ∷ 6 ∷ 7 ∷ 12 ∷ 13 ∷ 14 ∷ 15 ∷ 16 ∷ 17 ∷ 18 ∷ 19 ∷ 23 ∷ 25 ∷ 27 ∷ []
+follow rule.Cats = 0 ∷ 4 ∷ 5 ∷ 6 ∷ 7 ∷ 12 ∷ 13 ∷ 14 ∷ 15 ∷ 16 ∷ 17 ∷ 18 ∷ 19 ∷ 23 ∷ 25 ∷ 27 ∷ []
+follow rule.Unary = 0 ∷ 4 ∷ 5 ∷ 6 ∷ 7 ∷ 12 ∷ 13 ∷ 14 ∷ 15 ∷ 16 ∷ 17 ∷ 18 ∷ 19 ∷ 20 ∷ 23 ∷ 25 ∷ 27 ∷ []
+follow rule.Signed = 0 ∷ 4 ∷ 5 ∷ 6 ∷ 7 ∷ 8 ∷ 12 ∷ 13 ∷ 14 ∷ 15 ∷ 16 ∷ 17 ∷ 18 ∷ 19 ∷ 20 ∷ 21 ∷ 23 ∷ 25 ∷ 27 ∷ []
+follow rule.Filters = 0 ∷ 4 ∷ 5 ∷ 6 ∷ 7 ∷ 12 ∷ 13 ∷ 14 ∷ 15 ∷ 16 ∷ 17 ∷ 18 ∷ 19 ∷ 20 ∷ 23 ∷ 25 ∷ 27 ∷ []
+follow rule.Presence = 0 ∷ 4 ∷ 5 ∷ 6 ∷ 7 ∷ 8 ∷ 12 ∷ 13 ∷ 14 ∷ 15 ∷ 16 ∷ 17 ∷ 18 ∷ 19 ∷ 20 ∷ 21 ∷ 23 ∷ 25 ∷ 27 ∷ []
+follow rule.Args = 0 ∷ 4 ∷ 5 ∷ 6 ∷ 7 ∷ 8 ∷ 12 ∷ 13 ∷ 14 ∷ 15 ∷ 16 ∷ 17 ∷ 18 ∷ 19 ∷ 20 ∷ 21 ∷ 23 ∷ 25 ∷ 27 ∷ []
+follow rule.Items = 25 ∷ 27 ∷ []
+follow rule.More = 25 ∷ 27 ∷ []
+follow rule.Post = 0 ∷ 4 ∷ 5 ∷ 6 ∷ 7 ∷ 8 ∷ 12 ∷ 13 ∷ 14 ∷ 15 ∷ 16 ∷ 17 ∷ 18 ∷ 19 ∷ 20 ∷ 21 ∷ 23 ∷ 25 ∷ 27 ∷ []
+follow rule.Tails = 0 ∷ 4 ∷ 5 ∷ 6 ∷ 7 ∷ 8 ∷ 12 ∷ 13 ∷ 14 ∷ 15 ∷ 16 ∷ 17 ∷ 18 ∷ 19 ∷ 20 ∷ 21 ∷ 23 ∷ 25 ∷ 27 ∷ []
+follow rule.Word = 0 ∷ 4 ∷ 5 ∷ 6 ∷ 7 ∷ 8 ∷ 12 ∷ 13 ∷ 14 ∷ 15 ∷ 16 ∷ 17 ∷ 18 ∷ 19 ∷ 20 ∷ 21 ∷ 22 ∷ 23 ∷ 25 ∷ 26 ∷ 27 ∷ []
+follow rule.Atom = 0 ∷ 4 ∷ 5 ∷ 6 ∷ 7 ∷ 8 ∷ 12 ∷ 13 ∷ 14 ∷ 15 ∷ 16 ∷ 17 ∷ 18 ∷ 19 ∷ 20 ∷ 21 ∷ 22 ∷ 23 ∷ 25 ∷ 26 ∷ 27 ∷ []
+
+abbrev pub every : {A : Type 0} → (A → Bool) → List A → Bool
+every p [] = true
+every p (x ∷ xs) = p x && every p xs
+
+abbrev pub implies : Bool → Bool → Bool
+implies true b = b
+implies false b = true
+
+-- whether symbols may begin with a token
+abbrev pub firsts : List Symbol → Option Kind → Bool
+firsts [] h = false
+firsts (Take k how ∷ ss) h = nat_eq (look_code h) (look_code (Some k))
+firsts (Do m ∷ ss) h = firsts ss h
+firsts (Go r ∷ ss) h = member (look_code h) (first r) || (nullable r && firsts ss h)
+
+abbrev pub empties : List Symbol → Bool
+empties [] = true
+empties (Take k how ∷ ss) = false
+empties (Do m ∷ ss) = empties ss
+empties (Go r ∷ ss) = nullable r && empties ss
+
+abbrev pub follows : Rule → Option Kind → Bool
+follows r h = member (look_code h) (follow r)
+
+-- whether the alternative may be taken before the token
+abbrev pub asks : Rule → List Symbol → Option Kind → Bool
+asks r alternative h = firsts alternative h || (empties alternative && follows r h)
+
+-- in the alternative, each rule's followers are known
+abbrev pub keeps : Rule → List Symbol → Bool
+keeps r [] = true
+keeps r (Take k how ∷ ss) = keeps r ss
+keeps r (Do m ∷ ss) = keeps r ss
+keeps r (Go q ∷ ss) = every (λ h. implies (asks r ss h) (follows q h)) looks && keeps r ss
+
+abbrev pub is_right : Rule → List Symbol → Bool
+is_right r alternative =
+    every (λ h. implies (firsts alternative h) (member (look_code h) (first r))) looks
+    && (implies (empties alternative) (nullable r) && keeps r alternative)
+
+-- the choice is the one alternative that the token asks for
+abbrev pub picks : Rule → ℕ → List (List Symbol) → Option Kind → Bool
+picks r place [] h = true
+picks r place (a ∷ as') h = implies (asks r a h) (nat_eq (choice r h) place) && picks r (suc place) as' h
+
+abbrev pub is_right_rule : Rule → Bool
+is_right_rule r = every (is_right r) (rules r) && every (picks r 0 (rules r)) looks
+
+pub all_right : (r : Rule) → is_right_rule r ≡ true
+all_right rule.Expr = refl
+all_right rule.Or = refl
+all_right rule.Ors = refl
+all_right rule.And = refl
+all_right rule.Ands = refl
+all_right rule.Not = refl
+all_right rule.Cmp = refl
+all_right rule.Compared = refl
+all_right rule.Sum = refl
+all_right rule.Sums = refl
+all_right rule.Cat = refl
+all_right rule.Cats = refl
+all_right rule.Unary = refl
+all_right rule.Signed = refl
+all_right rule.Filters = refl
+all_right rule.Presence = refl
+all_right rule.Args = refl
+all_right rule.Items = refl
+all_right rule.More = refl
+all_right rule.Post = refl
+all_right rule.Tails = refl
+all_right rule.Word = refl
+all_right rule.Atom = refl

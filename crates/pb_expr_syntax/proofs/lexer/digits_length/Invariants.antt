@@ -1,0 +1,10 @@
+use Rattle.std.proofs.Common.{◌≡◌, ◌+◌, ◌-◌, ◌≤◌, drop, length}
+use Rattle.std.specs.List.{prefix_len}
+use Rattle.std.specs.Char.{is_ascii_digit}
+use Rattle.pb_expr_syntax.proofs.lexer.digits_length.Given as goal
+
+abbrev pub invariant-loop-n : goal.invariant-loop-n
+invariant-loop-n l = (prefix_len is_ascii_digit l.bytes ≡ l.n + prefix_len is_ascii_digit (drop l.n l.bytes)) × (l.n ≤ length l.bytes)
+
+abbrev pub decreases-loop-n : goal.decreases-loop-n
+decreases-loop-n l = length l.bytes - l.n

@@ -1,0 +1,12 @@
+pub mod Tree
+pub mod View
+pub mod Code
+pub mod Size
+pub mod FormSize
+pub mod Depth
+pub mod Grammar
+pub mod Choice
+pub mod Machine
+pub mod Views
+pub mod Tokens
+pub mod Spelling
