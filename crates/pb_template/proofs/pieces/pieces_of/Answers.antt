@@ -1,0 +1,12 @@
+use Rattle.std.proofs.Common.{◌≡◌, ◌<◌, ◌-◌, length, length-drop, drop, sym, arith}
+use Rattle.pb_template.proofs.Cutting.{step_good, nonempty}
+use Rattle.pb_template.proofs.pieces.pieces_of.Goals as goal
+
+pub loop-rest-preserved : goal.loop-rest-preserved
+loop-rest-preserved c =
+    let rest = c.loop-rest.rest.now in
+    let size = c.in-Ok.front.size in
+    let some : 0 < length rest = nonempty rest (sym c.loop-rest-test.ensures) in
+    let step = step_good c.args.text.now rest c.loop-rest.pieces.items c.in-Ok.front some c.loop-rest.invariant.1 c.in-Ok.ensures.cut.0 c.in-Ok.ensures.value c.loop-rest.invariant.0 in
+    let left : length (drop size rest) ≡ length rest - size = length-drop size rest in
+    (rw (c.in_ok-push-in-Ok.ensures.items, c.range_from-rest.ensures.value) step, rw c.range_from-rest.ensures.value (omega (arith, left, c.loop-rest.invariant.1)), c.range_from-rest.utf8)

@@ -1,0 +1,14 @@
+use Rattle.pb_template.proofs.Matching.{none_at, bad_at, parts_at, only_at}
+use Rattle.pb_template.proofs.template.parts_of.Goals as goal
+
+pub returns-in-Err-clause-none : goal.returns-in-Err-clause-none
+returns-in-Err-clause-none c other qs h = none_at c.args.pieces.now c.loop-piece.piece-index c.piece-item.result c.loop-piece-test.true c.piece-item.is (c.in-Err.ensures.none other) qs h
+
+pub returns-in-Err-clause-fault : goal.returns-in-Err-clause-fault
+returns-in-Err-clause-fault c other = bad_at c.args.pieces.now c.loop-piece.piece-index c.piece-item.result c.loop-piece.parts.items c.in-Err.fault c.loop-piece-test.true c.piece-item.is c.loop-piece.invariant.0 (c.in-Err.ensures.fault other)
+
+pub loop-piece-preserved : goal.loop-piece-preserved
+loop-piece-preserved c = rw c.in_ok-push-in-Ok.ensures.items (
+  parts_at c.args.pieces.now c.loop-piece.piece-index c.piece-item.result c.loop-piece.parts.items c.in-Ok.part c.loop-piece-test.true c.piece-item.is c.loop-piece.invariant.0 c.in-Ok.ensures.part,
+  only_at c.args.pieces.now c.loop-piece.piece-index c.piece-item.result c.loop-piece.parts.items c.in-Ok.part c.loop-piece-test.true c.piece-item.is c.loop-piece.invariant.1 c.in-Ok.ensures.only,
+)

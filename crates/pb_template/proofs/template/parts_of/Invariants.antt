@@ -1,0 +1,8 @@
+use Rattle.std.proofs.Common.{◌≡◌, List, take}
+use Rattle.pb_template.specs.Parts.{AreParts}
+use Rattle.pb_template.specs.declared.template.Part.{Part}
+use Rattle.pb_template.proofs.template.parts_of.Given as goal
+
+abbrev pub invariant-loop-piece : goal.invariant-loop-piece
+invariant-loop-piece l =
+    AreParts (take l.piece-index l.pieces) l.parts.items × ((qs : List Part) → AreParts (take l.piece-index l.pieces) qs → qs ≡ l.parts.items)

@@ -1,0 +1,95 @@
+//! Templates and their parts.
+ghost use Rattle.std.specs.Prelude.{◌≡◌, ◌≢◌, List, IfOk, IfErr};
+ghost use Rattle.std.specs.Option.{option_copied};
+ghost use Rattle.pb_expr_syntax.specs.declared.fault.ExprFault.TheVariants as fault;
+ghost use Rattle.pb_template.specs.declared.template.Part.{Part};
+ghost use Rattle.pb_template.specs.Parts.{IsPart, AreParts, IsBad, HasBad, IsTemplate, FirstBad, single_of};
+
+use crate::pieces::{Piece, pieces_of};
+use pb_expr_syntax::fault::ExprFault;
+use pb_expr_syntax::tree::Expr;
+use pb_value::items::Items;
+use pb_value::text::Text;
+use std::alloc::Global;
+
+/// A part of a template.
+#[derive(Drop)]
+pub enum Part {
+    /// Bytes that stand for themselves.
+    Plain(Text),
+    /// An expression, which stands for its value.
+    Code(Expr),
+}
+
+/// A text in which expressions may stand: its parts in their order.
+#[derive(Drop)]
+pub struct Template {
+    pub parts: Items<Part>,
+}
+
+fn part_of(alloc: Global, piece: &Piece) -> Result<Part, ExprFault>
+    ensures part { IfOk result (λ p. IsPart piece.now p) }
+    ensures only { IfOk result (λ p. (q : Part) → IsPart piece.now q → q ≡ p) }
+    ensures none { IfErr result (λ e. e ≢ fault.Memory → (q : Part) → IsPart piece.now q → ⊥) }
+    ensures fault { IfErr result (λ e. e ≢ fault.Memory → IsBad piece.now e) }
+{
+    match piece {
+        Piece::Plain(text) => Ok(Part::Plain(text.try_clone()?)),
+        Piece::Code(text) => match Expr::parse(alloc, text.as_str()) {
+            Ok(expr) => Ok(Part::Code(expr)),
+            Err(fault) => Err(fault),
+        },
+    }
+}
+
+impl Template {
+    /// The parts of a text, or its first fault: one of its pieces (`{{-`, `{%`, `{#` or `-}}` in
+    /// a plain part is Unexpected at its byte, and an expression without `}}` is End), else that of
+    /// the first expression which has one, counted from behind its `{{`. The `}}` that ends an
+    /// expression is the first outside of the expression's texts. The meaning of the braces is
+    /// Jinja's, as in "Templating (Jinja2)" of Ansible's documentation.
+    pub fn parse(alloc: Global, text: &str) -> Result<Template, ExprFault>
+        ensures parts { IfOk result (λ t. IsTemplate text.now t.parts) }
+        ensures only { IfOk result (λ t. (parts : List Part) → IsTemplate text.now parts → parts ≡ t.parts) }
+        ensures none { IfErr result (λ e. e ≢ fault.Memory → (parts : List Part) → IsTemplate text.now parts → ⊥) }
+        ensures fault { IfErr result (λ e. e ≢ fault.Memory → FirstBad text.now e) }
+    {
+        let pieces = match pieces_of(alloc, text) {
+            Ok(pieces) => pieces,
+            Err(fault) => return Err(fault),
+        };
+        let parts = match parts_of(alloc, pieces.as_slice()) {
+            Ok(parts) => parts,
+            Err(fault) => return Err(fault),
+        };
+        Ok(Template {
+            parts: Items::from_vec(parts),
+        })
+    }
+
+    /// The expression of a text that is just one, whose value such a template gives.
+    pub fn single(&self) -> Option<&Expr>
+        ensures { option_copied result ≡ single_of self.now.parts }
+    {
+        match self.parts.as_slice() {
+            [Part::Code(expr)] => Some(expr),
+            _ => None,
+        }
+    }
+}
+
+fn parts_of(alloc: Global, pieces: &[Piece]) -> Result<Vec<Part>, ExprFault>
+    ensures parts { IfOk result (λ ps. AreParts pieces.now ps.items) }
+    ensures only { IfOk result (λ ps. (qs : List Part) → AreParts pieces.now qs → qs ≡ ps.items) }
+    ensures none { IfErr result (λ e. e ≢ fault.Memory → (qs : List Part) → AreParts pieces.now qs → ⊥) }
+    ensures fault { IfErr result (λ e. e ≢ fault.Memory → HasBad pieces.now e) }
+{
+    let mut parts = Vec::new(alloc);
+    for piece in pieces {
+        match part_of(alloc, piece) {
+            Ok(part) => parts.push(part)?,
+            Err(fault) => return Err(fault),
+        }
+    }
+    Ok(parts)
+}
