@@ -1,0 +1,6 @@
+pub mod Causes
+pub mod Code
+pub mod Gathered
+pub mod Limits
+pub mod Reading
+pub mod Writing
