@@ -1,0 +1,153 @@
+ghost use Rattle.std.specs.Prelude.{◌≡◌};
+ghost use Rattle.std.specs.List.{list_any, list_all};
+ghost use Rattle.pb_outcome.specs.Gathered.{is_unreachable, is_failed, is_faulty, is_skipped, is_changed, gathered};
+
+use pb_value::val::Val;
+
+/// How one item of a task ended.
+#[derive(Clone, Copy, Debug, PartialEq, Eq)]
+pub enum Ending {
+    /// Its condition didn't hold.
+    Skipped,
+    /// A template or condition of it can't be read.
+    Faulty,
+    /// Its target can't be reached.
+    Unreachable,
+    /// No answer of its module came: this is a failure that the task's own conditions don't see.
+    NotStarted,
+    /// Its module ran.
+    Ran { changed: bool, failed: bool },
+}
+
+/// One item of a task: how it ended, and its result as the playbook sees it.
+#[derive(Drop)]
+pub struct ItemResult {
+    pub ending: Ending,
+    pub result: Val,
+}
+
+/// How a task ended on a host: unreachable, else failed, else skipped, else well.
+#[derive(Clone, Copy, Debug, PartialEq, Eq)]
+pub struct TaskResult {
+    pub unreachable: bool,
+    pub failed: bool,
+    pub skipped: bool,
+    /// Whether some item changed something.
+    pub changed: bool,
+    /// Whether the failure is ignored: the task says so, and no item of it is faulty.
+    pub ignored: bool,
+}
+
+impl Ending {
+    pub fn is_unreachable(self) -> bool
+        ensures { result ≡ is_unreachable self }
+    {
+        matches!(self, Ending::Unreachable)
+    }
+
+    /// Whether the item failed or is faulty.
+    pub fn is_failed(self) -> bool
+        ensures { result ≡ is_failed self }
+    {
+        match self {
+            Ending::Faulty | Ending::NotStarted => true,
+            Ending::Ran { changed: _, failed } => failed,
+            Ending::Skipped | Ending::Unreachable => false,
+        }
+    }
+
+    pub fn is_faulty(self) -> bool
+        ensures { result ≡ is_faulty self }
+    {
+        matches!(self, Ending::Faulty)
+    }
+
+    pub fn is_skipped(self) -> bool
+        ensures { result ≡ is_skipped self }
+    {
+        matches!(self, Ending::Skipped)
+    }
+
+    pub fn is_changed(self) -> bool
+        ensures { result ≡ is_changed self }
+    {
+        match self {
+            Ending::Ran { changed, failed: _ } => changed,
+            _ => false,
+        }
+    }
+}
+
+fn has_unreachable(items: &[ItemResult]) -> bool
+    ensures { result ≡ list_any (λ item. is_unreachable item.ending) items.now }
+{
+    for item in items {
+        if item.ending.is_unreachable() {
+            return true;
+        }
+    }
+    false
+}
+
+fn has_failed(items: &[ItemResult]) -> bool
+    ensures { result ≡ list_any (λ item. is_failed item.ending) items.now }
+{
+    for item in items {
+        if item.ending.is_failed() {
+            return true;
+        }
+    }
+    false
+}
+
+fn has_faulty(items: &[ItemResult]) -> bool
+    ensures { result ≡ list_any (λ item. is_faulty item.ending) items.now }
+{
+    for item in items {
+        if item.ending.is_faulty() {
+            return true;
+        }
+    }
+    false
+}
+
+fn has_changed(items: &[ItemResult]) -> bool
+    ensures { result ≡ list_any (λ item. is_changed item.ending) items.now }
+{
+    for item in items {
+        if item.ending.is_changed() {
+            return true;
+        }
+    }
+    false
+}
+
+fn are_skipped(items: &[ItemResult]) -> bool
+    ensures { result ≡ list_all (λ item. is_skipped item.ending) items.now }
+{
+    for item in items {
+        if !item.ending.is_skipped() {
+            return false;
+        }
+    }
+    true
+}
+
+/// The task's result from those of its items. A task of no items, as a loop over an empty list, is skipped. See
+/// Ansible's documentation, "Error handling in playbooks".
+pub fn gather(items: &[ItemResult], ignore_errors: bool) -> TaskResult
+    ensures { result ≡ gathered ignore_errors items.now }
+{
+    let unreachable = has_unreachable(items);
+    let failed = !unreachable && has_failed(items);
+    let skipped = !unreachable && !failed && are_skipped(items);
+    let changed = has_changed(items);
+    let ignored = failed && ignore_errors && !has_faulty(items);
+    TaskResult {
+        unreachable,
+        failed,
+        skipped,
+        changed,
+        ignored,
+    }
+}

@@ -1,0 +1,52 @@
+ghost use Rattle.std.specs.Prelude.{◌≡◌, IfOk};
+ghost use Rattle.serde_json.specs.Data.{string, object, member, no_members};
+ghost use Rattle.serde_json.specs.View.{view};
+ghost use Rattle.pb_outcome.specs.declared.outcome.Form.TheVariants.{Ran};
+ghost use Rattle.pb_outcome.specs.Writing.{outcome_json};
+
+use crate::outcome::{Form, Outcome};
+use pb_value::text::Text;
+use serde_json::{Map, Value, put};
+use std::alloc::{AllocError, Global};
+
+impl Outcome {
+    /// The outcome as JSON: an object with the keys of its form.
+    pub fn to_json(&self, alloc: Global) -> Result<Value, AllocError>
+        ensures { IfOk result (λ j. view j ≡ outcome_json self.now) }
+    {
+        match &self.form {
+            Form::Ran { rc, out, err } => ran_json(alloc, *rc, out, err),
+            Form::Module(value) => one_member(alloc, "facts", value.to_json(alloc)?),
+            Form::Unreachable { msg } => one_member(alloc, "unreachable", text_json(alloc, msg)?),
+            Form::NotStarted { cause } => {
+                one_member(alloc, "not_started", Value::from(cause.number()))
+            }
+        }
+    }
+}
+
+fn text_json(alloc: Global, text: &Text) -> Result<Value, AllocError>
+    ensures { IfOk result (λ j. view j ≡ string text.now) }
+{
+    Value::try_from_str(alloc, text.as_str())
+}
+
+/// The object with a key alone.
+fn one_member(alloc: Global, key: &str, value: Value) -> Result<Value, AllocError>
+    ensures { IfOk result (λ j. view j ≡ object (member key.now (view value) no_members)) }
+{
+    let mut members = Map::new(alloc);
+    put(&mut members, alloc, key, value)?;
+    Ok(Value::Object(members))
+}
+
+/// A program's end as JSON.
+fn ran_json(alloc: Global, rc: i64, out: &Text, err: &Text) -> Result<Value, AllocError>
+    ensures { IfOk result (λ j. view j ≡ outcome_json (Ran rc out.now err.now)) }
+{
+    let mut members = Map::new(alloc);
+    put(&mut members, alloc, "err", text_json(alloc, err)?)?;
+    put(&mut members, alloc, "out", text_json(alloc, out)?)?;
+    put(&mut members, alloc, "rc", Value::from(rc))?;
+    Ok(Value::Object(members))
+}
