@@ -11,10 +11,10 @@ use pb_value::val::{Dict, Node, Val};
 use std::alloc::{AllocError, Global};
 
 /// What a module gives: `debug` shows its message, fails never and changes nothing.
-pub fn module_result(alloc: Global, module: &Module) -> Result<Val, AllocError>
-    ensures { IfOk result (λ v. v ≡ module_result module.now) }
+pub fn module_result(alloc: Global, called: &Module) -> Result<Val, AllocError>
+    ensures { IfOk result (λ v. v ≡ module_result called.now) }
 {
-    match module {
+    match called {
         Module::Debug { msg } => {
             let mut members = Dict::new(alloc);
             members.insert(

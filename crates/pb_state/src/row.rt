@@ -7,22 +7,31 @@ use pb_tree::{Answer, Kind, PlayTree, Reach, Status};
 use std::alloc::{AllocError, Global};
 use std::marker::Model;
 
-/// How a host's finished tasks count in the recap.
+/// How a host's finished tasks count in the recap (Ansible's documentation, "Return Values").
 #[derive(Clone, Copy, Debug, PartialEq, Eq)]
 pub struct Counts {
+    /// Tasks that were neither failed, skipped nor unreachable, and failed ones that were ignored.
     pub ok: u64,
+    /// Those of the former that changed something.
     pub changed: u64,
+    /// Tasks whose host could not be reached.
     pub unreachable: u64,
+    /// Tasks that failed, where nothing caught or ignored that.
     pub failed: u64,
+    /// Tasks that were left out.
     pub skipped: u64,
+    /// Failed tasks that a block rescued.
     pub rescued: u64,
+    /// Failed tasks that were ignored.
     pub ignored: u64,
 }
 
 /// A finished task: its place, by position, and what the host answered there.
 #[derive(Clone, Copy, Debug, PartialEq, Eq)]
 pub struct Finish {
+    /// The place's position in the play's tree.
     pub place: usize,
+    /// What the host answered there.
     pub kind: Kind,
 }
 

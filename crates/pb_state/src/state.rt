@@ -42,11 +42,14 @@ impl From<AllocError> for StepFault {
     }
 }
 
-/// What a step decided: the place of the task that started, whether no host of the batch had started there before, and the task's result.
+/// What a step decided of the task that started.
 #[derive(Drop)]
 pub struct Decided {
+    /// The place's position in the play's tree.
     pub place: usize,
+    /// Whether no host of the batch had started there before.
     pub is_new: bool,
+    /// The task's result.
     pub result: Val,
 }
 
