@@ -1,6 +1,7 @@
 pub mod Faults
 pub mod Marks
 pub mod Modules
+pub mod NoEffect
 pub mod Playbooks
 pub mod Plays
 pub mod Rows

@@ -4,13 +4,14 @@ use Rattle.std.specs.Str.{bytes_eq}
 use Rattle.serde_json.specs.Data as json
 use Rattle.pb_value.specs.Reading.{and_then, below}
 use Rattle.pb_play.specs.Faults.{required}
+use Rattle.pb_play.specs.NoEffect.{without_effect}
 use Rattle.pb_play.specs.Simple.{text, gathering, pattern}
 use Rattle.pb_play.specs.Tasks.{tasks}
 use Rattle.pb_play.specs.declared.fault.LoadFault.{LoadFault}
 use Rattle.pb_play.specs.declared.fault.LoadFault.TheVariants.{WrongShape, NotInProfile}
 use Rattle.pb_play.specs.declared.play.Play.{Play}
 use Rattle.pb_play.specs.declared.play.PlayKey.{PlayKey}
-use Rattle.pb_play.specs.declared.play.PlayKey.TheVariants.{GatherFacts, Hosts, Name, Tasks, Other}
+use Rattle.pb_play.specs.declared.play.PlayKey.TheVariants.{GatherFacts, Hosts, Name, PostTasks, PreTasks, Tasks, Other}
 use Rattle.pb_play.specs.declared.play.PlayDraft.{PlayDraft}
 
 -- the keys of a play
@@ -19,15 +20,19 @@ play_key k =
     if bytes_eq k (codes "gather_facts") then GatherFacts
     else (if bytes_eq k (codes "hosts") then Hosts
     else (if bytes_eq k (codes "name") then Name
-    else (if bytes_eq k (codes "tasks") then Tasks else Other)))
+    else (if bytes_eq k (codes "post_tasks") then PostTasks
+    else (if bytes_eq k (codes "pre_tasks") then PreTasks
+    else (if bytes_eq k (codes "tasks") then Tasks else Other)))))
 
 -- what the keys of a play have told, with what the key k at this path tells
 abbrev pub with_play_key : PlayKey → List ℕ → List ℕ → json.Data → PlayDraft → Result PlayDraft LoadFault
 with_play_key GatherFacts path k d draft = and_then (gathering path d) (λ b. Ok (record draft { gather_facts = Some b }))
 with_play_key Hosts path k d draft = and_then (pattern path d) (λ s. Ok (record draft { hosts = Some s }))
 with_play_key Name path k d draft = and_then (text path d) (λ s. Ok (record draft { name = Some s }))
+with_play_key PostTasks path k d draft = and_then (tasks path d) (λ ts. Ok (record draft { post_tasks = Some ts }))
+with_play_key PreTasks path k d draft = and_then (tasks path d) (λ ts. Ok (record draft { pre_tasks = Some ts }))
 with_play_key Tasks path k d draft = and_then (tasks path d) (λ ts. Ok (record draft { tasks = Some ts }))
-with_play_key Other path k d draft = Err (NotInProfile k)
+with_play_key Other path k d draft = and_then (without_effect k d) (λ _. Ok draft)
 
 abbrev pub play_keys : List ℕ → json.Members → PlayDraft → Result PlayDraft LoadFault
 play_keys path json.no_members draft = Ok draft
@@ -42,11 +47,11 @@ written_off None = Err (NotInProfile (codes "gather_facts"))
 abbrev pub finished_play : List ℕ → PlayDraft → Result Play LoadFault
 finished_play path draft =
     and_then (required path draft.hosts) (λ hosts. and_then (written_off draft.gather_facts) (λ b.
-    Ok (record { name = unwrap_or draft.name hosts; tasks = unwrap_or draft.tasks [] })))
+    Ok (record { name = unwrap_or draft.name hosts; pre_tasks = unwrap_or draft.pre_tasks []; tasks = unwrap_or draft.tasks []; post_tasks = unwrap_or draft.post_tasks [] })))
 
 abbrev pub new_play : PlayDraft
-new_play = record { name = None; hosts = None; gather_facts = None; tasks = None }
+new_play = record { name = None; hosts = None; gather_facts = None; pre_tasks = None; tasks = None; post_tasks = None }
 
-abbrev pub play : List ℕ → json.Data → Result Play LoadFault
+unfoldable pub play : List ℕ → json.Data → Result Play LoadFault
 play path (json.object ms) = and_then (play_keys path ms new_play) (finished_play path)
 play path d = Err (WrongShape path)

@@ -8,22 +8,23 @@ use Rattle.pb_value.specs.Bytes.{json_in}
 use Rattle.pb_value.specs.Datum.{text}
 use Rattle.pb_value.specs.FromJson.{value_of}
 use Rattle.pb_play.specs.Playbooks.{playbook_of}
+use Rattle.pb_play.specs.Plays.{play}
 use Rattle.pb_play.specs.declared.fault.LoadFault.TheVariants.{NotJson, WrongShape, NotInProfile, NoModule, TwoModules, BadExpression, BadPattern}
 use Rattle.pb_play.specs.declared.modules.Module.TheVariants.{Debug}
 
 -- what computes a row from its text
 unfoldable on_literals : ⊤
-unfolding playbook_of json_in utf8_valid_len is_utf8 chars digits value_of serde_json_on_literals
+unfolding playbook_of play json_in utf8_valid_len is_utf8 chars digits value_of serde_json_on_literals
 on_literals = tt
 
 hello : playbook_of (codes "[{\"hosts\":\"all\",\"gather_facts\":false,\"tasks\":[{\"name\":\"hi\",\"debug\":{\"msg\":\"hello\"}}]}]")
-    ≡ Ok (record { plays = record { name = codes "all"; tasks = record { name = codes "hi"; «module» = Debug (text (codes "hello")) } ∷ [] } ∷ [] })
+    ≡ Ok (record { plays = record { name = codes "all"; pre_tasks = []; tasks = record { name = codes "hi"; «module» = Debug (text (codes "hello")) } ∷ []; post_tasks = [] } ∷ [] })
 unfolding on_literals
 hello = refl
 
 -- a task without a name has its module's, without the prefix; `debug` shows `Hello world!` where nothing is said
 nothing_said : playbook_of (codes "[{\"hosts\":\"all\",\"name\":\"p\",\"gather_facts\":\"No\",\"tasks\":[{\"ansible.builtin.debug\":{}}]}]")
-    ≡ Ok (record { plays = record { name = codes "p"; tasks = record { name = codes "debug"; «module» = Debug (text (codes "Hello world!")) } ∷ [] } ∷ [] })
+    ≡ Ok (record { plays = record { name = codes "p"; pre_tasks = []; tasks = record { name = codes "debug"; «module» = Debug (text (codes "Hello world!")) } ∷ []; post_tasks = [] } ∷ [] })
 unfolding on_literals
 nothing_said = refl
 
@@ -73,3 +74,47 @@ other_hosts = refl
 no_list : playbook_of (codes "{}") ≡ Err (WrongShape [])
 unfolding on_literals
 no_list = refl
+
+-- tasks may stand in three lists, each with its own path
+three_lists : playbook_of (codes "[{\"hosts\":\"all\",\"gather_facts\":false,\"post_tasks\":[{\"debug\":{}}],\"pre_tasks\":[{\"name\":\"a\",\"debug\":{}}]}]")
+    ≡ Ok (record {
+      plays = record {
+        name = codes "all";
+        pre_tasks = record { name = codes "a"; «module» = Debug (text (codes "Hello world!")) } ∷ [];
+        tasks = [];
+        post_tasks = record { name = codes "debug"; «module» = Debug (text (codes "Hello world!")) } ∷ [];
+      } ∷ [];
+    })
+unfolding on_literals
+three_lists = refl
+
+no_pre_task : playbook_of (codes "[{\"hosts\":\"all\",\"gather_facts\":false,\"pre_tasks\":[{\"debug\":{}},1]}]") ≡ Err (WrongShape (codes "0/pre_tasks/1"))
+unfolding on_literals
+no_pre_task = refl
+
+-- keys without effect aren't read as values
+without_effect_on_plays : playbook_of (codes "[{\"hosts\":\"all\",\"gather_facts\":false,\"connection\":\"local\",\"gather_subset\":1.5,\"no_log\":\"Off\",\"remote_user\":1.5,\"tags\":\"nevermore,always\"}]")
+    ≡ Ok (record { plays = record { name = codes "all"; pre_tasks = []; tasks = []; post_tasks = [] } ∷ [] })
+unfolding on_literals
+without_effect_on_plays = refl
+
+without_effect_on_tasks : playbook_of (codes "[{\"hosts\":\"all\",\"gather_facts\":false,\"tasks\":[{\"debug\":{},\"connection\":\"local\",\"gather_subset\":1.5,\"no_log\":false,\"remote_user\":1.5,\"tags\":[1.5,\"a\"]}]}]")
+    ≡ Ok (record { plays = record { name = codes "all"; pre_tasks = []; tasks = record { name = codes "debug"; «module» = Debug (text (codes "Hello world!")) } ∷ []; post_tasks = [] } ∷ [] })
+unfolding on_literals
+without_effect_on_tasks = refl
+
+tag_never : playbook_of (codes "[{\"hosts\":\"all\",\"gather_facts\":false,\"tags\":\"a, never\"}]") ≡ Err (NotInProfile (codes "never"))
+unfolding on_literals
+tag_never = refl
+
+tags_never : playbook_of (codes "[{\"hosts\":\"all\",\"gather_facts\":false,\"tasks\":[{\"debug\":{},\"tags\":[\"a\",\"never ,b\"]}]}]") ≡ Err (NotInProfile (codes "never"))
+unfolding on_literals
+tags_never = refl
+
+other_connection : playbook_of (codes "[{\"hosts\":\"all\",\"connection\":\"ssh\"}]") ≡ Err (NotInProfile (codes "connection"))
+unfolding on_literals
+other_connection = refl
+
+no_switch : playbook_of (codes "[{\"hosts\":\"all\",\"no_log\":5}]") ≡ Err (NotInProfile (codes "no_log"))
+unfolding on_literals
+no_switch = refl

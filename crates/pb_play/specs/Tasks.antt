@@ -4,10 +4,11 @@ use Rattle.std.specs.Str.{bytes_eq}
 use Rattle.serde_json.specs.Data as json
 use Rattle.pb_value.specs.Reading.{and_then, below}
 use Rattle.pb_play.specs.Faults.{each}
+use Rattle.pb_play.specs.NoEffect.{without_effect}
 use Rattle.pb_play.specs.Simple.{text}
 use Rattle.pb_play.specs.Modules.{debug, module_name}
 use Rattle.pb_play.specs.declared.fault.LoadFault.{LoadFault}
-use Rattle.pb_play.specs.declared.fault.LoadFault.TheVariants.{WrongShape, NotInProfile, NoModule, TwoModules}
+use Rattle.pb_play.specs.declared.fault.LoadFault.TheVariants.{WrongShape, NoModule, TwoModules}
 use Rattle.pb_play.specs.declared.modules.Module.{Module}
 use Rattle.pb_play.specs.declared.task.Task.{Task}
 use Rattle.pb_play.specs.declared.task.TaskKey.{TaskKey}
@@ -32,7 +33,7 @@ one_more Several m = Several
 abbrev pub with_task_key : TaskKey → List ℕ → List ℕ → json.Data → TaskDraft → Result TaskDraft LoadFault
 with_task_key Name path k d draft = and_then (text path d) (λ s. Ok (record draft { name = Some s }))
 with_task_key Debug path k d draft = and_then (debug path d) (λ m. Ok (record draft { modules = one_more draft.modules m }))
-with_task_key Other path k d draft = Err (NotInProfile k)
+with_task_key Other path k d draft = and_then (without_effect k d) (λ _. Ok draft)
 
 abbrev pub task_keys : List ℕ → json.Members → TaskDraft → Result TaskDraft LoadFault
 task_keys path json.no_members draft = Ok draft

@@ -3,12 +3,13 @@
 //! For the layer above: `Playbook::read` gives the plays of a playbook's bytes, or the first fault in them.
 //! What it answers is `playbook_of` of `specs/Playbooks.antt`, exactly: objects are looked at with their keys in byte order
 //! and lists from the front, the first fault met counts, and the rules over several keys of an object come after its keys.
-//! Any key that isn't read here is refused by its name. Want of memory may come at any point, in place of that answer.
+//! Some keys are allowed without effect, and any other key that isn't read here is refused by its name. Want of memory may come at any point, in place of that answer.
 #![tactic(auto)]
 
 pub mod fault;
 mod marks;
 pub mod modules;
+mod no_effect;
 pub mod play;
 pub mod playbook;
 mod simple;

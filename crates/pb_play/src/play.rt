@@ -3,6 +3,7 @@ ghost use Rattle.serde_json.specs.View.{view};
 ghost use Rattle.pb_play.specs.Plays.{play_key, with_play_key, new_play, finished_play, play};
 
 use crate::fault::{LoadFault, not_in_profile, wrong_shape};
+use crate::no_effect::check_without_effect;
 use crate::simple::{read_gathering, read_pattern, read_text};
 use crate::task::{Task, read_tasks};
 use pb_value::items::Items;
@@ -16,8 +17,12 @@ use std::alloc::Global;
 pub struct Play {
     /// Its name as it is written, or its pattern's text.
     pub name: Text,
+    /// What it does before its tasks, in this order.
+    pub pre_tasks: Items<Task>,
     /// What it does, in this order.
     pub tasks: Items<Task>,
+    /// What it does after its tasks, in this order.
+    pub post_tasks: Items<Task>,
 }
 
 /// A key of a play.
@@ -26,6 +31,8 @@ enum PlayKey {
     GatherFacts,
     Hosts,
     Name,
+    PostTasks,
+    PreTasks,
     Tasks,
     Other,
 }
@@ -36,7 +43,9 @@ struct PlayDraft {
     name: Option<Text>,
     hosts: Option<Text>,
     gather_facts: Option<bool>,
+    pre_tasks: Option<Items<Task>>,
     tasks: Option<Items<Task>>,
+    post_tasks: Option<Items<Task>>,
 }
 
 impl PlayKey {
@@ -49,6 +58,10 @@ impl PlayKey {
             PlayKey::Hosts
         } else if key == "name" {
             PlayKey::Name
+        } else if key == "post_tasks" {
+            PlayKey::PostTasks
+        } else if key == "pre_tasks" {
+            PlayKey::PreTasks
         } else if key == "tasks" {
             PlayKey::Tasks
         } else {
@@ -65,7 +78,9 @@ impl PlayDraft {
             name: None,
             hosts: None,
             gather_facts: None,
+            pre_tasks: None,
             tasks: None,
+            post_tasks: None,
         }
     }
 
@@ -97,11 +112,22 @@ impl PlayDraft {
                 let name = Some(read_text(alloc, path, json)?);
                 Ok(PlayDraft { name, ..self })
             }
+            PlayKey::PostTasks => {
+                let post_tasks = Some(read_tasks(alloc, path, json)?);
+                Ok(PlayDraft { post_tasks, ..self })
+            }
+            PlayKey::PreTasks => {
+                let pre_tasks = Some(read_tasks(alloc, path, json)?);
+                Ok(PlayDraft { pre_tasks, ..self })
+            }
             PlayKey::Tasks => {
                 let tasks = Some(read_tasks(alloc, path, json)?);
                 Ok(PlayDraft { tasks, ..self })
             }
-            PlayKey::Other => Err(not_in_profile(alloc, key)),
+            PlayKey::Other => {
+                check_without_effect(alloc, key, json)?;
+                Ok(self)
+            }
         }
     }
 
@@ -113,7 +139,9 @@ impl PlayDraft {
             name,
             hosts,
             gather_facts,
+            pre_tasks,
             tasks,
+            post_tasks,
         } = self;
         let Some(hosts) = hosts else {
             return Err(wrong_shape(path));
@@ -123,12 +151,15 @@ impl PlayDraft {
         }
         Ok(Play {
             name: name.unwrap_or(hosts),
+            pre_tasks: pre_tasks.unwrap_or(Items::new(alloc)),
             tasks: tasks.unwrap_or(Items::new(alloc)),
+            post_tasks: post_tasks.unwrap_or(Items::new(alloc)),
         })
     }
 }
 
 /// A play, as an object spells it.
+#[tactic(auto, unfolding(crate::specs::Plays::play))]
 pub(crate) fn read_play(alloc: Global, path: &Text, json: &Value) -> Result<Play, LoadFault>
     ensures value { IfOk result (λ p. play path.now (view json.now) ≡ Ok p) }
     ensures fault { IfErr result (λ e. e ≢ LoadFault.Memory → play path.now (view json.now) ≡ Err e) }

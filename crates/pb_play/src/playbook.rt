@@ -1,5 +1,6 @@
-ghost use Rattle.std.specs.Prelude.{◌≡◌, ◌≢◌, ◌≤◌, length, IfOk, IfErr, Ok, Err, nat_lt};
+ghost use Rattle.std.specs.Prelude.{◌≡◌, ◌≢◌, ◌≤◌, length, IfOk, IfErr, Ok, Err, nat_lt, decimal};
 ghost use Rattle.serde_json.specs.View.{view, items_view};
+ghost use Rattle.pb_value.specs.Reading.{below};
 ghost use Rattle.pb_play.specs.Faults.{each};
 ghost use Rattle.pb_play.specs.Plays.{play};
 ghost use Rattle.pb_play.specs.Playbooks.{count, max_plays, plays, playbook_of};
@@ -49,6 +50,7 @@ fn are_too_many(items: &[Value]) -> bool
     items.len() > MAX_PLAYS
 }
 
+#[tactic(auto, using(crate::proofs::Counts::each_length))]
 fn read_plays(alloc: Global, json: &Value) -> Result<Items<Play>, LoadFault>
     ensures value { IfOk result (λ ps. plays (view json.now) ≡ Ok ps) }
     ensures limit { IfOk result (λ ps. length ps ≤ max_plays) }
@@ -68,15 +70,22 @@ fn read_plays(alloc: Global, json: &Value) -> Result<Items<Play>, LoadFault>
     }
 }
 
+/// The play with this number in the list at the path.
+fn read_at(alloc: Global, path: &Text, i: usize, json: &Value) -> Result<Play, LoadFault>
+    ensures value { IfOk result (λ p. play (below path.now (decimal i)) (view json.now) ≡ Ok p) }
+    ensures fault { IfErr result (λ e. e ≢ LoadFault.Memory → play (below path.now (decimal i)) (view json.now) ≡ Err e) }
+{
+    let here = child_at(alloc, path, i)?;
+    read_play(alloc, &here, json)
+}
+
 fn read_each(alloc: Global, path: &Text, items: &[Value]) -> Result<Items<Play>, LoadFault>
     ensures value { IfOk result (λ ps. each play path.now 0 (items_view items.now) ≡ Ok ps) }
-    ensures length { IfOk result (λ ps. length ps ≡ length items.now) }
     ensures fault { IfErr result (λ e. e ≢ LoadFault.Memory → each play path.now 0 (items_view items.now) ≡ Err e) }
 {
     let mut read = Vec::with_capacity(alloc, items.len())?;
     for (i, item) in items.iter().enumerate() {
-        let here = child_at(alloc, path, i)?;
-        read.push(read_play(alloc, &here, item)?)?;
+        read.push(read_at(alloc, path, i, item)?)?;
     }
     Ok(Items::from_vec(read))
 }

@@ -2,8 +2,9 @@ ghost use Rattle.std.specs.Prelude.{◌≡◌, ◌≢◌, IfOk, IfErr, Ok, Err};
 ghost use Rattle.serde_json.specs.View.{view};
 ghost use Rattle.pb_play.specs.Tasks.{task_key, one_more, with_task_key, new_task, finished_task, task, tasks};
 
-use crate::fault::{LoadFault, not_in_profile, wrong_shape};
+use crate::fault::{LoadFault, wrong_shape};
 use crate::modules::{Module, read_debug};
+use crate::no_effect::check_without_effect;
 use crate::simple::read_text;
 use pb_value::items::Items;
 use pb_value::path::{child, child_at};
@@ -103,7 +104,10 @@ impl TaskDraft {
                     modules,
                 })
             }
-            TaskKey::Other => Err(not_in_profile(alloc, key)),
+            TaskKey::Other => {
+                check_without_effect(alloc, key, json)?;
+                Ok(self)
+            }
         }
     }
 

@@ -24,7 +24,7 @@ abbrev two_hosts : PlanOf
 two_hosts =
     record {
       hosts = codes "b" ∷ codes "a" ∷ [];
-      plays = record { name = codes "all"; tree = tree_for 1; tasks = record { name = codes "hi"; «module» = Debug (text (codes "hello")) } ∷ [] } ∷ [];
+      plays = record { name = codes "all"; tree = tree_for 0 1 0; tasks = record { name = codes "hi"; «module» = Debug (text (codes "hello")) } ∷ [] } ∷ [];
       forks = 5;
     }
 

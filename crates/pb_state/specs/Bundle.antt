@@ -1,9 +1,10 @@
 -- The plan of a bundle, or its first fault.
-use Rattle.std.specs.Prelude.{ℕ, zero, suc, ◌+◌, Bool, false, ◌||◌, List, [], ◌∷◌, length, nat_lt, nat_eq, Result, Ok, Err, if◌then◌else◌}
+use Rattle.std.specs.Prelude.{ℕ, zero, suc, ◌+◌, Bool, false, ◌||◌, List, [], ◌∷◌, ◌++◌, length, nat_lt, nat_eq, Result, Ok, Err, if◌then◌else◌}
 use Rattle.pb_value.specs.Reading.{and_then}
 use Rattle.pb_inventory.specs.InventoryOf.{InventoryOf}
 use Rattle.pb_inventory.specs.Reading.{inventory_of}
 use Rattle.pb_play.specs.declared.play.Play.{Play}
+use Rattle.pb_play.specs.declared.task.Task.{Task as OneTask}
 use Rattle.pb_play.specs.declared.playbook.Playbook.{Playbook}
 use Rattle.pb_play.specs.Playbooks.{playbook_of}
 use Rattle.pb_tree.specs.Tree.{Nodes, Nothing, Task, Flush, TreeOf, size_of}
@@ -23,13 +24,20 @@ abbrev pub tasks_then : ℕ → Nodes → Nodes
 tasks_then zero rest = rest
 tasks_then (suc n) rest = Task (tasks_then n rest)
 
--- a play's handlers run before its tasks (behind its pre_tasks), behind its tasks, and at its end (behind its post_tasks)
+-- a play has three lists of tasks: its pre_tasks, its tasks and its post_tasks; behind each its handlers run
 -- (Ansible's documentation, "Handlers: running operations on change")
-abbrev pub play_nodes : ℕ → Nodes
-play_nodes tasks = Flush (tasks_then tasks (Flush (Flush Nothing)))
+abbrev pub play_nodes : ℕ → ℕ → ℕ → Nodes
+play_nodes pre tasks post = tasks_then pre (Flush (tasks_then tasks (Flush (tasks_then post (Flush Nothing)))))
 
-abbrev pub tree_for : ℕ → TreeOf
-tree_for tasks = record { nodes = play_nodes tasks; handlers = 0; force_handlers = false }
+abbrev pub tree_for : ℕ → ℕ → ℕ → TreeOf
+tree_for pre tasks post = record { nodes = play_nodes pre tasks post; handlers = 0; force_handlers = false }
+
+abbrev pub play_tree : Play → TreeOf
+play_tree play = tree_for (length play.pre_tasks) (length play.tasks) (length play.post_tasks)
+
+-- the tasks of a play, in the order of their places
+abbrev pub all_tasks : Play → List OneTask
+all_tasks play = play.pre_tasks ++ play.tasks ++ play.post_tasks
 
 -- a play has at most so many places
 abbrev pub max_places : ℕ
@@ -37,8 +45,8 @@ max_places = 16384
 
 abbrev pub play_of : Play → Result PlayOf BundleFault
 play_of play =
-    if nat_lt max_places (size_of (tree_for (length play.tasks))) then Err (Roles TooManyPlaces)
-    else Ok (record { name = play.name; tree = tree_for (length play.tasks); tasks = play.tasks })
+    if nat_lt max_places (size_of (play_tree play)) then Err (Roles TooManyPlaces)
+    else Ok (record { name = play.name; tree = play_tree play; tasks = all_tasks play })
 
 abbrev pub plays_of : List Play → Result (List PlayOf) BundleFault
 plays_of [] = Ok []

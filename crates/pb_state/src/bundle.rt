@@ -1,6 +1,6 @@
 //! What a run is made of, and its plan.
 
-ghost use Rattle.std.specs.Prelude.{◌≡◌, ◌≢◌, ◌<◌, ◌≤◌, length, nat_lt, IfOk, IfErr, Ok, Err};
+ghost use Rattle.std.specs.Prelude.{◌≡◌, ◌≢◌, ◌<◌, ◌≤◌, [], ◌∷◌, ◌++◌, length, replicate, nat_lt, IfOk, IfErr, Ok, Err};
 ghost use Rattle.pb_inventory.specs.Reading.{inventory_of};
 ghost use Rattle.pb_play.specs.Playbooks.{playbook_of};
 ghost use Rattle.pb_tree.specs.View.{tree_of};
@@ -12,6 +12,7 @@ use pb_inventory::inventory::Inventory;
 use pb_play::fault::LoadFault;
 use pb_play::play::Play;
 use pb_play::playbook::Playbook;
+use pb_play::task::Task;
 use pb_tree::{Node, PlayTree};
 use pb_value::items::Items;
 use std::alloc::{AllocError, AllocFailed, Global};
@@ -87,40 +88,88 @@ impl<T: Drop> From<AllocFailed<T>> for BundleFault {
     }
 }
 
-/// The nodes of a play with this many tasks.
-#[tactic(auto, using(crate::proofs::Trees::nodes_are))]
-fn nodes_for(alloc: Global, tasks: usize) -> Result<Vec<Node>, AllocError>
-    ensures { IfOk result (λ nodes. tree_of nodes.items ≡ play_nodes tasks) }
+/// The nodes, and behind them this many tasks and a flush.
+fn with_tasks(nodes: Vec<Node>, tasks: usize) -> Result<Vec<Node>, AllocError>
+    ensures { IfOk result (λ after. after.items ≡ nodes.items ++ replicate tasks Node.Task ++ Node.Flush ∷ []) }
 {
-    let mut nodes = Vec::new(alloc);
-    nodes.push(Node::Flush)?;
+    let mut after = nodes;
     for _ in 0..tasks {
-        nodes.push(Node::Task)?;
+        after.push(Node::Task)?;
     }
-    nodes.push(Node::Flush)?;
-    nodes.push(Node::Flush)?;
-    Ok(nodes)
+    after.push(Node::Flush)?;
+    Ok(after)
 }
 
-/// The tree of a play with this many tasks.
-fn tree_for(alloc: Global, tasks: usize) -> Result<PlayTree, AllocError>
-    ensures { IfOk result (λ tree. tree ≡ tree_for tasks) }
+/// The nodes of a play with this many tasks in each of its three lists.
+fn nodes_for(
+    alloc: Global,
+    pre_tasks: usize,
+    tasks: usize,
+    post_tasks: usize,
+) -> Result<Vec<Node>, AllocError>
+    ensures { IfOk result (λ nodes. tree_of nodes.items ≡ play_nodes pre_tasks tasks post_tasks) }
 {
-    let nodes = nodes_for(alloc, tasks)?;
+    let before = with_tasks(Vec::new(alloc), pre_tasks)?;
+    let between = with_tasks(before, tasks)?;
+    let after = with_tasks(between, post_tasks)?;
+    Ok(after)
+}
+
+/// The tree of a play with this many tasks in each of its three lists.
+fn tree_for(
+    alloc: Global,
+    pre_tasks: usize,
+    tasks: usize,
+    post_tasks: usize,
+) -> Result<PlayTree, AllocError>
+    ensures { IfOk result (λ tree. tree ≡ tree_for pre_tasks tasks post_tasks) }
+{
+    let nodes = nodes_for(alloc, pre_tasks, tasks, post_tasks)?;
     Ok(PlayTree::of(alloc, nodes, 0, false)?)
 }
 
+/// The tasks of both lists, those of the first in front.
+fn joined(first: Items<Task>, second: Items<Task>) -> Result<Items<Task>, BundleFault>
+    ensures value { IfOk result (λ all. all ≡ first ++ second) }
+    ensures fault { IfErr result (λ e. e ≡ BundleFault.Memory) }
+{
+    let mut all = first.into_vec();
+    for task in second.into_vec() {
+        all.push(task)?;
+    }
+    Ok(Items::from_vec(all))
+}
+
+/// The tasks of the three lists of a play, in the order of their places.
+fn all_tasks(
+    pre_tasks: Items<Task>,
+    tasks: Items<Task>,
+    post_tasks: Items<Task>,
+) -> Result<Items<Task>, BundleFault>
+    ensures value { IfOk result (λ all. all ≡ pre_tasks ++ tasks ++ post_tasks) }
+    ensures fault { IfErr result (λ e. e ≡ BundleFault.Memory) }
+{
+    let later = joined(tasks, post_tasks)?;
+    joined(pre_tasks, later)
+}
+
 /// A play with its tree.
-#[tactic(auto, using(crate::proofs::Trees::plain_tree, crate::proofs::Trees::size_tree))]
+#[tactic(auto, using(crate::proofs::Trees::plain_tree))]
 fn play_of(alloc: Global, play: Play) -> Result<PlanPlay, BundleFault>
     ensures value { IfOk result (λ p. play_of play ≡ Ok p) }
     ensures fault { IfErr result (λ e. e ≢ BundleFault.Memory → play_of play ≡ Err e) }
 {
-    let tree = tree_for(alloc, play.tasks.len())?;
+    let tree = tree_for(
+        alloc,
+        play.pre_tasks.len(),
+        play.tasks.len(),
+        play.post_tasks.len(),
+    )?;
     if tree.places() > MAX_PLACES {
         return Err(BundleFault::Roles(RoleFault::TooLarge));
     }
-    Ok(PlanPlay::of(play.name, tree, play.tasks))
+    let tasks = all_tasks(play.pre_tasks, play.tasks, play.post_tasks)?;
+    Ok(PlanPlay::of(play.name, tree, tasks))
 }
 
 /// The plays with their trees, in order.
