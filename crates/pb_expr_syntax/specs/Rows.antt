@@ -5,7 +5,7 @@ use Rattle.pb_expr_syntax.specs.declared.grammar.Kind.{Kind}
 use Rattle.pb_expr_syntax.specs.declared.grammar.Kind.TheVariants as kind
 use Rattle.pb_expr_syntax.specs.declared.token.Token.{Token}
 use Rattle.pb_expr_syntax.specs.declared.tree.Op.TheVariants as op
-use Rattle.pb_expr_syntax.specs.Tree.{Int, Name, Not, Binary, ListOf, no_trees}
+use Rattle.pb_expr_syntax.specs.Tree.{Name, Not, Binary, ListOf, no_trees}
 use Rattle.pb_expr_syntax.specs.Depth.{depth}
 use Rattle.pb_expr_syntax.specs.Tokens.{tokens_of}
 
