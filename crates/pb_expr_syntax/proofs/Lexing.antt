@@ -1,25 +1,23 @@
 -- What is read of a text before its rest.
-use Rattle.std.proofs.Common.{◌≡◌, ℕ, zero, suc, ◌+◌, ◌-◌, ◌*◌, ◌<◌, ◌≤◌, ◌||◌, ◌==◌, nat_le, pos, Bool, true, false, cond, List, [], ◌∷◌, ◌++◌, Option, Some, None, Result, Ok, Err, refl, sym, ◌∙◌, ap, subst, length, drop, get_or, arith, append_assoc, length-drop, append-nil, tests, lit<}
+use Rattle.std.proofs.Common.{◌≡◌, ℕ, zero, suc, ◌+◌, ◌-◌, ◌*◌, ◌<◌, ◌≤◌, ◌||◌, ◌==◌, nat_le, Bool, true, false, cond, List, [], ◌∷◌, ◌++◌, Option, Some, None, Result, Ok, Err, refl, sym, ◌∙◌, ap, subst, length, drop, get_or, arith, append_assoc, length-drop, append-nil, tests, lit<}
 use Rattle.std.specs.Char.{is_ascii_digit}
 use Rattle.std.specs.Int.{is_in_range}
 use Rattle.std.specs.List.{prefix_len, take_while}
-use Rattle.std.specs.Str.{IsAscii, IsUtf8, is_utf8}
+use Rattle.std.specs.Str.{IsAscii}
 use Rattle.std.proofs.lemmas.List.{drop-drop}
 use Rattle.std.proofs.Math.Seq.{drop-cons}
 use Rattle.std.proofs.lemmas.Bool.{lt-leb}
-use Rattle.std.proofs.lemmas.Str.{is_utf8-from_IsUtf8, IsUtf8-from_is_utf8}
 use Rattle.std.proofs.lemmas.List.Sums.{take_while-cons, prefix_len-le-length}
 use Rattle.pb_value.specs.Reading.{and_then, map_ok}
 use Rattle.pb_value.specs.Words.{begins_name, continues_name}
 use Rattle.pb_expr_syntax.specs.declared.fault.ExprFault.{ExprFault}
 use Rattle.pb_expr_syntax.specs.declared.fault.ExprFault.TheVariants as fault
 use Rattle.pb_expr_syntax.specs.declared.grammar.Kind.{Kind}
-use Rattle.pb_expr_syntax.specs.declared.grammar.Kind.TheVariants as kind
 use Rattle.pb_expr_syntax.specs.declared.lexer.Class.{Class}
 use Rattle.pb_expr_syntax.specs.declared.lexer.Class.TheVariants as class
 use Rattle.pb_expr_syntax.specs.declared.lexer.Lexeme.{Lexeme}
 use Rattle.pb_expr_syntax.specs.declared.token.Token.{Token}
-use Rattle.pb_expr_syntax.specs.Tokens.{tokens_from, text_from, longer, begins_space, lexeme_at, number_after, word_at, class_of, double_sign, single_sign, sign_of, sign_at, lexeme_by, begins_equal, quoted, escaped, escape_at, front_at, lexeme}
+use Rattle.pb_expr_syntax.specs.Tokens.{tokens_from, text_from, longer, begins_space, lexeme_at, number_after, word_at, class_of, double_sign, single_sign, sign_of, sign_at, lexeme_by, begins_equal, quoted, escaped, escape_at, front_at}
 
 -- a content that follows these bytes, of which n were taken
 abbrev pub behind : List ℕ → ℕ → Result (List ℕ × ℕ) ExprFault → Result (List ℕ × ℕ) ExprFault
@@ -155,11 +153,11 @@ text_size at quote is_escape [] c h = cc
 text_size at quote true (b ∷ bs) c h = escape_size at (length bs) (escaped b) (text_from at quote false bs) c (text_size at quote false bs) h
 text_size at quote false (b ∷ bs) c h = plain_size (length bs) (b == quote) (cond (b == 92) [] (b ∷ [])) (text_from at quote (b == 92) bs) c (text_size at quote (b == 92) bs) h
 
-quoted_size : (at n : ℕ) (r : Result (List ℕ × ℕ) ExprFault) (l : Lexeme) → ((c : List ℕ × ℕ) → r ≡ Ok c → c.1 ≤ n) → and_then r (quoted at) ≡ Ok l → (0 < l.size) × (l.size ≤ suc n)
+quoted_size : (at n : ℕ) (r : Result (List ℕ × ℕ) ExprFault) (l : Lexeme) → ((c : List ℕ × ℕ) → r ≡ Ok c → c.1 ≤ n) → map_ok (quoted at) r ≡ Ok l → (0 < l.size) × (l.size ≤ suc n)
 quoted_size at n (Err e) l below h = cc
 quoted_size at n (Ok c) l below h =
-    let s = ok_of (is_utf8 c.0) _ l (fault.Unexpected at) h in
-    let at : c.1 + 1 ≡ l.size = ap (λ (q : Lexeme). q.size) s in
+    let s : quoted at c ≡ l = cc in
+    let size : c.1 + 1 ≡ l.size = ap (λ (q : Lexeme). q.size) s in
     (omega arith, omega (arith, below c refl))
 
 sign_size : (at : ℕ) (bs : List ℕ) (is_equal : Bool) (double single : Option Kind) (l : Lexeme) → begins_equal bs ≡ is_equal → sign_at at (sign_of is_equal double single) ≡ Ok l → (0 < l.size) × (l.size ≤ suc (length bs))
@@ -188,14 +186,3 @@ class_size at b bs class.Sign l e h = sign_size at bs (begins_equal bs) (double_
 pub lexeme_size : (at : ℕ) (bs : List ℕ) (l : Lexeme) → lexeme_at at bs ≡ Ok l → (0 < l.size) × (l.size ≤ length bs)
 lexeme_size at [] l h = cc
 lexeme_size at (b ∷ bs) l h = class_size at b bs (class_of b) l refl h
-
--- what is between quotes
-pub quoted_good : (at : ℕ) (r : Result (List ℕ × ℕ) ExprFault) (bytes : List ℕ) (size : ℕ) → r ≡ Ok (bytes, size) → IsUtf8 bytes → and_then r (quoted at) ≡ Ok (lexeme kind.Text at bytes (pos 0) (size + 1))
-quoted_good at r bytes size e u = ap (λ (q : Result (List ℕ × ℕ) ExprFault). and_then q (quoted at)) e ∙ ap (λ t. cond t (Ok (lexeme kind.Text at bytes (pos 0) (size + 1))) (Err (fault.Unexpected at))) (is_utf8-from_IsUtf8 bytes u)
-
-not_utf8 : (bytes : List ℕ) (t : Bool) → is_utf8 bytes ≡ t → (IsUtf8 bytes → ⊥) → t ≡ false
-not_utf8 bytes true e h = absurd (h (IsUtf8-from_is_utf8 bytes e))
-not_utf8 bytes false e h = refl
-
-pub quoted_bad : (at : ℕ) (r : Result (List ℕ × ℕ) ExprFault) (bytes : List ℕ) (size : ℕ) → r ≡ Ok (bytes, size) → (IsUtf8 bytes → ⊥) → and_then r (quoted at) ≡ Err (fault.Unexpected at)
-quoted_bad at r bytes size e u = ap (λ (q : Result (List ℕ × ℕ) ExprFault). and_then q (quoted at)) e ∙ ap (λ t. cond t (Ok (lexeme kind.Text at bytes (pos 0) (size + 1))) (Err (fault.Unexpected at))) (not_utf8 bytes (is_utf8 bytes) refl u)

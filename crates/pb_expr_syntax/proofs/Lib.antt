@@ -6,3 +6,4 @@ pub mod Fuel
 pub mod Parsed
 pub mod Fits
 pub mod Lexing
+pub mod Contents

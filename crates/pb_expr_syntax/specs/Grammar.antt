@@ -1,4 +1,5 @@
--- The grammar of expressions, and what a list of tokens spells.
+-- The grammar of expressions, and what a list of tokens spells. It is the part of Jinja's expressions ("Template Designer
+-- Documentation", section "Expressions") that conditions and templates have here.
 use Rattle.std.specs.Prelude.{◌≡◌, ◌+◌, ℕ, zero, suc, ◌++◌, ◌==◌, ◌&&◌, ◌||◌, nat_eq, Bool, true, false, if◌then◌else◌, cond, List, [], ◌∷◌, Option, Some, None, option_map, codes, nat_le, length, drop}
 use Rattle.std.specs.Prelude as list
 use Rattle.std.specs.Str.{bytes_eq}

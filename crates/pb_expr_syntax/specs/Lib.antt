@@ -10,3 +10,4 @@ pub mod Machine
 pub mod Views
 pub mod Tokens
 pub mod Spelling
+pub mod Rows

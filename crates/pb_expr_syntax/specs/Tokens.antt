@@ -2,7 +2,7 @@
 use Rattle.std.specs.Prelude.{ℕ, zero, suc, ◌+◌, ◌-◌, ◌*◌, ℤ, pos, Bool, true, false, ◌==◌, ◌||◌, nat_le, List, [], ◌∷◌, ◌++◌, Option, Some, None, Result, Ok, Err, codes, if◌then◌else◌}
 use Rattle.std.specs.Char.{is_ascii_digit}
 use Rattle.std.specs.List.{prefix_len, take_while}
-use Rattle.std.specs.Str.{bytes_eq, is_utf8}
+use Rattle.std.specs.Str.{bytes_eq}
 use Rattle.pb_value.specs.Reading.{and_then, map_ok}
 use Rattle.pb_value.specs.Words.{begins_name, continues_name}
 use Rattle.pb_expr_syntax.specs.declared.fault.ExprFault.{ExprFault}
@@ -70,9 +70,8 @@ text_from at quote is_escape [] = Err End
 text_from at quote true (b ∷ bs) = and_then (escape_at at (escaped b)) (λ c. map_ok (longer (c ∷ [])) (text_from at quote false bs))
 text_from at quote false (b ∷ bs) = if b == quote then Ok ([], 1) else map_ok (longer (if b == 92 then [] else b ∷ [])) (text_from at quote (b == 92) bs)
 
--- The bytes between quotes are a text where they are UTF-8, as they are in any text.
-abbrev pub quoted : ℕ → List ℕ × ℕ → Result Lexeme ExprFault
-quoted at c = if is_utf8 c.0 then Ok (lexeme kind.Text at c.0 (pos 0) (c.1 + 1)) else Err (Unexpected at)
+abbrev pub quoted : ℕ → List ℕ × ℕ → Lexeme
+quoted at c = lexeme kind.Text at c.0 (pos 0) (c.1 + 1)
 
 -- the sign that a byte makes with `=` behind it, and the one that it makes alone
 abbrev pub double_sign : ℕ → Option Kind
@@ -122,7 +121,7 @@ class_of b = if begins_name b then class.Word else if is_ascii_digit b then clas
 abbrev pub lexeme_by : Class → ℕ → ℕ → List ℕ → Result Lexeme ExprFault
 lexeme_by class.Word at b bs = Ok (word_at at (b ∷ bs))
 lexeme_by class.Number at b bs = number_at at (b ∷ bs)
-lexeme_by class.Quoted at b bs = and_then (text_from at b false bs) (quoted at)
+lexeme_by class.Quoted at b bs = map_ok (quoted at) (text_from at b false bs)
 lexeme_by class.Sign at b bs = sign_at at (sign b (begins_equal bs))
 
 abbrev pub lexeme_at : ℕ → List ℕ → Result Lexeme ExprFault

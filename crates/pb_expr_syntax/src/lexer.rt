@@ -1,8 +1,8 @@
 //! Cuts a text into tokens.
-ghost use Rattle.std.specs.Prelude.{◌≡◌, ◌≢◌, ◌^◌, ◌≤◌, ◌<◌, ◌++◌, ◌∷◌, [], pos, false, nat_le, if◌then◌else◌, Ok, Err, Some, None, IfOk, IfErr, length, drop, string_bytes};
+ghost use Rattle.std.specs.Prelude.{◌≡◌, ◌≢◌, ◌^◌, ◌+◌, ◌≤◌, ◌<◌, ◌++◌, ◌∷◌, [], pos, false, nat_le, if◌then◌else◌, Ok, Err, Some, None, IfOk, IfErr, length, drop, get_or, string_bytes};
 ghost use Rattle.std.specs.Char.{is_ascii_digit};
 ghost use Rattle.std.specs.List.{prefix_len};
-ghost use Rattle.pb_value.specs.Reading.{and_then};
+ghost use Rattle.pb_value.specs.Reading.{map_ok};
 ghost use Rattle.pb_value.specs.Words.{begins_name, continues_name};
 ghost use Rattle.pb_expr_syntax.specs.Tokens.{is_space, word_kind, word_at, number_after, number_at, escaped, text_from, quoted, double_sign, single_sign, sign, begins_equal, sign_at, begins_space, class_of, lexeme_at, tokens_of};
 
@@ -190,22 +190,27 @@ fn content(alloc: Global, at: usize, quote: u8, bytes: &[u8]) -> Result<Inside, 
     Err(ExprFault::End)
 }
 
-fn text_at(alloc: Global, at: usize, quote: u8, after: &[u8]) -> Result<Lexeme, ExprFault>
-    requires { length after.now < 2 ^ 63 }
-    ensures value { IfOk result (λ l. and_then (text_from at quote false after.now) (quoted at) ≡ Ok l) }
-    ensures fault { IfErr result (λ e. e ≢ ExprFault.Memory → and_then (text_from at quote false after.now) (quoted at) ≡ Err e) }
+/// The text that begins with a quote at this byte.
+fn text_at(alloc: Global, text: &str, at: usize, quote: u8) -> Result<Lexeme, ExprFault>
+    requires inside { at < length text.now }
+    requires front { get_or text.now at 0 ≡ quote }
+    requires ascii { quote < 128 }
+    requires room { length text.now < 2 ^ 63 }
+    ensures value { IfOk result (λ l. map_ok (quoted at) (text_from at quote false (drop (at + 1) text.now)) ≡ Ok l) }
+    ensures fault { IfErr result (λ e. e ≢ ExprFault.Memory → map_ok (quoted at) (text_from at quote false (drop (at + 1) text.now)) ≡ Err e) }
 {
-    let Inside { bytes, size } = match content(alloc, at, quote, after) {
+    let after = &text[at + 1..];
+    let Inside { bytes, size } = match content(alloc, at, quote, after.as_bytes()) {
         Ok(content) => content,
         Err(fault) => return Err(fault),
     };
-    let Ok(text) = String::from_utf8(bytes) else {
-        return Err(ExprFault::Unexpected { at });
+    let Ok(content) = String::from_utf8(bytes) else {
+        return Err(ExprFault::End);
     };
     let token = Token {
         kind: Kind::Text,
         at,
-        text: Text::from_string(text),
+        text: Text::from_string(content),
         number: 0,
     };
     Ok(Lexeme {
@@ -303,18 +308,28 @@ fn class_of(byte: u8) -> Class
     }
 }
 
-/// The token at the front of bytes, which begin at this byte of the whole.
-fn lexeme_at(alloc: Global, at: usize, bytes: &[u8]) -> Result<Lexeme, ExprFault>
-    requires { length bytes.now < 2 ^ 63 }
-    ensures value { IfOk result (λ l. lexeme_at at bytes.now ≡ Ok l) }
-    ensures fault { IfErr result (λ e. e ≢ ExprFault.Memory → lexeme_at at bytes.now ≡ Err e) }
+/// The bytes of a text from this one on.
+fn rest_from(text: &str, at: usize) -> &[u8]
+    requires { at < length text.now }
+    ensures { result.now ≡ drop at text.now }
 {
-    match bytes {
+    &text.as_bytes()[at..]
+}
+
+/// The token that begins at this byte of a text.
+fn lexeme_at(alloc: Global, text: &str, at: usize) -> Result<Lexeme, ExprFault>
+    requires inside { at < length text.now }
+    requires room { length text.now < 2 ^ 63 }
+    ensures value { IfOk result (λ l. lexeme_at at (drop at text.now) ≡ Ok l) }
+    ensures fault { IfErr result (λ e. e ≢ ExprFault.Memory → lexeme_at at (drop at text.now) ≡ Err e) }
+{
+    let rest = rest_from(text, at);
+    match rest {
         [] => Err(ExprFault::End),
         [first, after @ ..] => match class_of(*first) {
-            Class::Word => word_at(alloc, at, bytes),
-            Class::Number => number_at(alloc, at, bytes),
-            Class::Quoted => text_at(alloc, at, *first, after),
+            Class::Word => word_at(alloc, at, rest),
+            Class::Number => number_at(alloc, at, rest),
+            Class::Quoted => text_at(alloc, text, at, *first),
             Class::Sign => sign_at(alloc, at, *first, begins_equal(after)),
         },
     }
@@ -329,26 +344,20 @@ fn begins_space(bytes: &[u8]) -> bool
     }
 }
 
-fn rest_from(bytes: &[u8], at: usize) -> &[u8]
-    requires { at < length bytes.now }
-    ensures { result.now ≡ drop at bytes.now }
-{
-    &bytes[at..]
-}
-
-fn tokens_in(alloc: Global, bytes: &[u8]) -> Result<Vec<Token>, ExprFault>
-    requires { length bytes.now < 2 ^ 63 }
-    ensures value { IfOk result (λ ts. tokens_of bytes.now ≡ Ok ts.items) }
-    ensures fault { IfErr result (λ e. e ≢ ExprFault.Memory → tokens_of bytes.now ≡ Err e) }
+/// The tokens of a text, or the fault of the first that is bad.
+pub fn tokens_of(alloc: Global, text: &str) -> Result<Vec<Token>, ExprFault>
+    requires { length text.now < 2 ^ 63 }
+    ensures value { IfOk result (λ ts. tokens_of text.now ≡ Ok ts.items) }
+    ensures fault { IfErr result (λ e. e ≢ ExprFault.Memory → tokens_of text.now ≡ Err e) }
 {
     let mut tokens = Vec::new(alloc);
     let mut at = 0;
-    while at < bytes.len() {
-        let rest = rest_from(bytes, at);
+    while at < text.len() {
+        let rest = rest_from(text, at);
         if begins_space(rest) {
             at += 1;
         } else {
-            match lexeme_at(alloc, at, rest) {
+            match lexeme_at(alloc, text, at) {
                 Ok(lexeme) => {
                     tokens.push(lexeme.token)?;
                     at += lexeme.size;
@@ -358,13 +367,4 @@ fn tokens_in(alloc: Global, bytes: &[u8]) -> Result<Vec<Token>, ExprFault>
         }
     }
     Ok(tokens)
-}
-
-/// The tokens of a text, or the fault of the first that is bad.
-pub fn tokens_of(alloc: Global, text: &str) -> Result<Vec<Token>, ExprFault>
-    requires { length text.now < 2 ^ 63 }
-    ensures value { IfOk result (λ ts. tokens_of text.now ≡ Ok ts.items) }
-    ensures fault { IfErr result (λ e. e ≢ ExprFault.Memory → tokens_of text.now ≡ Err e) }
-{
-    tokens_in(alloc, text.as_bytes())
 }
