@@ -5,4 +5,5 @@ pub mod Limits
 pub mod Output
 pub mod Reading
 pub mod Results
+pub mod Whole
 pub mod Writing

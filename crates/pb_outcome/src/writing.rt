@@ -1,7 +1,9 @@
-ghost use Rattle.std.specs.Prelude.{◌≡◌, IfOk};
+ghost use Rattle.std.specs.Prelude.{◌≡◌, ℕ, List, true, IfOk, Ok};
 ghost use Rattle.serde_json.specs.Data.{string, object, member, no_members};
 ghost use Rattle.serde_json.specs.View.{view};
 ghost use Rattle.pb_outcome.specs.declared.outcome.Form.TheVariants.{Ran};
+ghost use Rattle.pb_outcome.specs.Reading.{outcome_of};
+ghost use Rattle.pb_outcome.specs.Whole.{is_whole};
 ghost use Rattle.pb_outcome.specs.Writing.{outcome_json};
 
 use crate::outcome::{Form, Outcome};
@@ -10,17 +12,27 @@ use serde_json::{Map, Value, put};
 use std::alloc::{AllocError, Global};
 
 impl Outcome {
-    /// The outcome as JSON: an object with the keys of its form.
+    /// The outcome as JSON: an object with the keys of its form. `Outcome::read` reads it as the same outcome.
     pub fn to_json(&self, alloc: Global) -> Result<Value, AllocError>
-        ensures { IfOk result (λ j. view j ≡ outcome_json self.now) }
+        ensures json { IfOk result (λ j. view j ≡ outcome_json self.now) }
+        ensures reads_back { IfOk result
+            (λ j. is_whole self.now ≡ true → (path : List ℕ) → outcome_of path (view j) ≡ Ok self.now) }
     {
-        match &self.form {
-            Form::Ran { rc, out, err } => ran_json(alloc, *rc, out, err),
-            Form::Module(value) => one_member(alloc, "facts", value.to_json(alloc)?),
-            Form::Unreachable { msg } => one_member(alloc, "unreachable", text_json(alloc, msg)?),
-            Form::NotStarted { cause } => {
-                one_member(alloc, "not_started", Value::from(cause.number()))
-            }
+        let form = self.form();
+        let json = form_json(alloc, form)?;
+        Ok(json)
+    }
+}
+
+fn form_json(alloc: Global, form: &Form) -> Result<Value, AllocError>
+    ensures { IfOk result (λ j. view j ≡ outcome_json form.now) }
+{
+    match form {
+        Form::Ran { rc, out, err } => ran_json(alloc, *rc, out, err),
+        Form::Module(value) => one_member(alloc, "facts", value.to_json(alloc)?),
+        Form::Unreachable { msg } => one_member(alloc, "unreachable", text_json(alloc, msg)?),
+        Form::NotStarted { cause } => {
+            one_member(alloc, "not_started", Value::from(cause.number()))
         }
     }
 }
