@@ -1,3 +1,4 @@
+pub mod Graph
 pub mod InventoryOf
 pub mod Names
 pub mod Reading
