@@ -1,3 +1,6 @@
-pub mod Mentions
+pub mod Bounds
+pub mod Cycles
 pub mod Once
+pub mod Ranges
 pub mod Texts
+pub mod Whole

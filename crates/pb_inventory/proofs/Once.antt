@@ -1,12 +1,12 @@
 -- Names that are read one by one, each kept where it is new, are the first mentions.
-use Rattle.std.proofs.Common.{◌≡◌, ℕ, Bool, true, false, List, [], ◌∷◌, ◌++◌, cond, refl, ap, sym, ◌∙◌, append_assoc}
+use Rattle.std.proofs.Common.{◌≡◌, ℕ, Bool, true, false, List, [], ◌∷◌, ◌++◌, cond, codes, refl, ap, sym, ◌∙◌, append_assoc, append-nil}
 use Rattle.std.specs.Prelude.{not, filter, ◌&&◌, ◌||◌}
 use Rattle.std.specs.List.{list_any}
 use Rattle.std.specs.Str.{bytes_eq}
 use Rattle.std.proofs.lemmas.Slice.Eq.{bytes_eq-Decides}
 use Rattle.std.proofs.lemmas.Bool.Decides.{same_from_decides, Decides-like}
 use Rattle.std.proofs.lemmas.List.Folds.{list_any-append}
-use Rattle.pb_inventory.specs.Names.{once, with_name}
+use Rattle.pb_inventory.specs.Names.{once, with_name, with_names}
 
 -- those of the names that aren't known
 abbrev pub is_new : List (List ℕ) → List ℕ → Bool
@@ -63,3 +63,18 @@ joined_cases known name names false e =
 -- the first name is taken in, and the others follow
 pub joined-step : (known : List (List ℕ)) (name : List ℕ) (names : List (List ℕ)) → joined known (name ∷ names) ≡ joined (with_name name known) names
 joined-step known name names = joined_cases known name names (list_any (bytes_eq name) known) refl
+
+-- the names one after another
+pub with_names-once : (names known : List (List ℕ)) → with_names names known ≡ joined known names
+with_names-once [] known = sym (append-nil known)
+with_names-once (name ∷ names) known = with_names-once names (with_name name known) ∙ sym (joined-step known name names)
+
+pub with_names-none : (names : List (List ℕ)) → with_names names [] ≡ once names
+with_names-none names = with_names-once names [] ∙ joined-none names
+
+pub with_names-append : (names more known : List (List ℕ)) → with_names (names ++ more) known ≡ with_names more (with_names names known)
+with_names-append [] more known = refl
+with_names-append (name ∷ names) more known = with_names-append names more (with_name name known)
+
+pub group_names_begun : (rest names : List (List ℕ)) → names ≡ with_name (codes "ungrouped") (with_name (codes "all") []) → with_names rest names ≡ once (codes "all" ∷ codes "ungrouped" ∷ rest)
+group_names_begun rest names is = ap (with_names rest) is ∙ with_names-none (codes "all" ∷ codes "ungrouped" ∷ rest)

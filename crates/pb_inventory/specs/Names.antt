@@ -15,3 +15,8 @@ once (name ∷ names) = name ∷ filter (λ other. not (bytes_eq name other)) (o
 -- a name that is among the known ones keeps its place, and a new one goes last
 abbrev pub with_name : List ℕ → List (List ℕ) → List (List ℕ)
 with_name name known = if list_any (bytes_eq name) known then known else known ++ name ∷ []
+
+-- each of these names in turn
+abbrev pub with_names : List (List ℕ) → List (List ℕ) → List (List ℕ)
+with_names [] known = known
+with_names (name ∷ names) known = with_names names (with_name name known)

@@ -1,55 +1,92 @@
-ghost use Rattle.std.specs.Prelude.{◌≡◌, ◌≢◌, ◌<◌, ◌≤◌, IfOk, IfErr, Ok, Err, Some, length, position, slice_get};
+ghost use Rattle.std.specs.Prelude.{◌≡◌, ◌≢◌, ◌<◌, ◌≤◌, ◌↔◌, ℕ, IfOk, IfErr, Ok, Err, Some, true, length, position, slice_get};
 ghost use Rattle.std.specs.Option.{option_map};
 ghost use Rattle.std.specs.Str.{bytes_eq};
-ghost use Rattle.pb_inventory.specs.Reading.{inventory_of, max_hosts};
+ghost use Rattle.pb_planes.specs.Set.{is_in};
+ghost use Rattle.pb_groups.specs.Members.{IsMember};
+ghost use Rattle.pb_inventory.specs.Graph.{max_groups};
+ghost use Rattle.pb_inventory.specs.Reading.{inventory_of, max_hosts, limited};
 
 use crate::fault::InvFault;
-use crate::names::HostNames;
+use crate::listed::Listed;
+use crate::names::NameList;
+use crate::numbering::{group_names_of, host_names_of, links_of, own_of};
 use crate::reading::read_groups;
-use pb_ids::numbers::HostNo;
+use pb_groups::{GroupFault, Groups, OwnHost};
+use pb_ids::{GroupNo, HostNo};
+use pb_planes::HostSet;
 use pb_value::read_json::{JsonFault, read_json};
-use pb_value::text::Text;
 use std::alloc::Global;
 use std::marker::Model;
 
 const MAX_HOSTS: usize = 65536;
 
-/// The hosts, by their numbers: the host that is mentioned first has number 0.
+const MAX_GROUPS: usize = 4096;
+
+/// The hosts and the groups, by their numbers: what is mentioned first has number 0. The group
+/// `all` has number 0, and `ungrouped` 1.
 #[derive(Drop)]
 pub struct Inventory {
-    hosts: HostNames,
+    hosts: NameList,
+    names: NameList,
+    own: Vec<OwnHost>,
+    groups: Groups,
 }
 
 impl Model for Inventory {
-    ghost use Rattle.std.specs.Prelude.{◌≤◌, length};
+    ghost use Rattle.std.specs.Prelude.{◌≡◌, ◌≤◌, length};
     ghost use Rattle.pb_inventory.specs.InventoryOf.{InventoryOf};
 
     ghost Value = { InventoryOf };
 
-    ghost view = { λ i. record { hosts = i.hosts } };
+    ghost view = { λ i. record { hosts = i.hosts; groups = i.names; own = i.own.items; links = i.groups.links } };
 
-    ghost invariant = { λ i. length i.hosts ≤ 65536 };
+    ghost invariant = { λ i. (length i.hosts ≤ 65536) × (length i.names ≤ 4096)
+        × (i.groups ≡ record { hosts = length i.hosts; groups = length i.names; own = i.own.items; links = i.groups.links }) };
 }
 
 impl Inventory {
     /// The inventory that the bytes of a file spell, or the first fault in them. The file is a
-    /// JSON object whose only key is `all`, an object whose only key is `hosts`, a list of
-    /// names; a list in place of the object `all` is refused so far. There are at most 65,536
-    /// hosts.
+    /// JSON object whose keys are groups: lists of hosts, or objects with `hosts` and
+    /// `children`. There are at most 65,536 hosts and 4,096 groups.
     pub fn read(alloc: Global, bytes: &[u8]) -> Result<Inventory, InvFault>
         ensures value { IfOk result (λ inventory. inventory_of bytes.now ≡ Ok inventory) }
         ensures fault { IfErr result (λ e. e ≢ InvFault.Memory → inventory_of bytes.now ≡ Err e) }
     {
         match read_json(alloc, bytes) {
             Ok(json) => {
-                let hosts = read_groups(alloc, &Text::new(alloc), &json)?;
-                if hosts.len() > MAX_HOSTS {
-                    return Err(InvFault::TooManyHosts);
-                }
-                Ok(Inventory { hosts })
+                let listed = read_groups(alloc, &json)?;
+                Inventory::of(alloc, listed.as_slice())
             }
             Err(JsonFault::NotJson) => Err(InvFault::NotJson),
             Err(JsonFault::Memory) => Err(InvFault::Memory),
+        }
+    }
+
+    fn of(alloc: Global, listed: &[Listed]) -> Result<Inventory, InvFault>
+        ensures value { IfOk result (λ inventory. limited listed.now ≡ Ok inventory) }
+        ensures fault { IfErr result (λ e. e ≢ InvFault.Memory → limited listed.now ≡ Err e) }
+    {
+        let names = group_names_of(alloc, listed)?;
+        if names.len() > MAX_GROUPS {
+            return Err(InvFault::TooManyGroups);
+        }
+        let hosts = host_names_of(alloc, listed)?;
+        if hosts.len() > MAX_HOSTS {
+            return Err(InvFault::TooManyHosts);
+        }
+        let own = own_of(alloc, &names, &hosts, listed)?;
+        let links = links_of(alloc, &names, listed)?;
+        let kept = Vec::from_slice(alloc, own.as_slice())?;
+        match Groups::new(alloc, hosts.len() as u32, names.len() as u32, kept, links) {
+            Ok(groups) => Ok(Inventory {
+                hosts,
+                names,
+                own,
+                groups,
+            }),
+            Err(GroupFault::Memory) => Err(InvFault::Memory),
+            Err(GroupFault::Cycle) => Err(InvFault::Cycle),
+            Err(GroupFault::TooMany) => Err(InvFault::TooManyGroups),
         }
     }
 
@@ -80,5 +117,50 @@ impl Inventory {
             Some(number) => Some(HostNo(number as u32)),
             None => None,
         }
+    }
+
+    /// The number of groups.
+    pub fn groups(&self) -> u32
+        ensures count { result ≡ length self.now.groups }
+        ensures limit { length self.now.groups ≤ max_groups }
+    {
+        self.names.len() as u32
+    }
+
+    /// The name of a group.
+    pub fn group_name(&self, group: GroupNo) -> &str
+        requires { group.0 < length self.now.groups }
+        ensures { slice_get self.now.groups group.0 ≡ Some result.now }
+    {
+        match self.names.get(group.0 as usize) {
+            Some(name) => name,
+            None => "",
+        }
+    }
+
+    /// The group of a name.
+    pub fn group(&self, name: &str) -> Option<GroupNo>
+        ensures { option_map (λ g. g.0) result ≡ position (bytes_eq name.now) self.now.groups }
+    {
+        match self.names.number(name) {
+            Some(number) => Some(GroupNo(number as u32)),
+            None => None,
+        }
+    }
+
+    /// The own hosts of all groups, those of one group in the order of its list.
+    pub fn own(&self) -> &[OwnHost]
+        ensures { result.now ≡ self.now.own }
+    {
+        self.own.as_slice()
+    }
+
+    /// The hosts that belong to a group.
+    pub fn members(&self, group: GroupNo) -> &HostSet
+        requires { group.0 < length self.now.groups }
+        ensures width { length result.now ≡ length self.now.hosts }
+        ensures members { (host : ℕ) → (is_in result.now host ≡ true) ↔ IsMember self.now.links self.now.own group.0 host }
+    {
+        self.groups.members(group)
     }
 }

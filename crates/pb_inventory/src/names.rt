@@ -10,11 +10,11 @@ use std::marker::Model;
 /// Names in the order of their first mention, each once. A name is found without a look at the
 /// others.
 #[derive(Drop)]
-pub struct HostNames {
+pub struct NameList {
     set: IndexSet<String>,
 }
 
-impl Model for HostNames {
+impl Model for NameList {
     ghost use Rattle.std.specs.Prelude.{ℕ, List};
     ghost use Rattle.pb_inventory.specs.Names.{texts};
 
@@ -23,11 +23,11 @@ impl Model for HostNames {
     ghost view = { λ n. texts n.set.keys };
 }
 
-impl HostNames {
-    pub fn new(alloc: Global) -> HostNames
+impl NameList {
+    pub fn new(alloc: Global) -> NameList
         ensures { result ≡ [] }
     {
-        HostNames {
+        NameList {
             set: IndexSet::new(alloc),
         }
     }

@@ -1,20 +1,19 @@
 use Rattle.std.proofs.Common.{arith}
-use Rattle.std.proofs.lemmas.Bool.Decides.{nat_tests}
 use Rattle.std.proofs.lemmas.Grind.{common_steps}
 use Rattle.pb_inventory.specs.Reading.{inventory_of}
 use Rattle.pb_inventory.proofs.inventory.Inventory.read.Goals as goal
 
-pub returns-in_err-hosts-in-Ok-clause-fault : goal.returns-in_err-hosts-in-Ok-clause-fault
+pub returns-in_err-listed-in-Ok-clause-fault : goal.returns-in_err-listed-in-Ok-clause-fault
 unfolding inventory_of
-returns-in_err-hosts-in-Ok-clause-fault c = grind (arith, common_steps)
+returns-in_err-listed-in-Ok-clause-fault c = grind (arith, common_steps)
 
-pub returns-then-len-gt-MAX_HOSTS-clause-fault : goal.returns-then-len-gt-MAX_HOSTS-clause-fault
+pub returns-in_ok-listed-in-Ok-clause-value : goal.returns-in_ok-listed-in-Ok-clause-value
 unfolding inventory_of
-returns-then-len-gt-MAX_HOSTS-clause-fault c = grind (arith, common_steps, nat_tests)
+returns-in_ok-listed-in-Ok-clause-value c = grind (arith, common_steps)
 
-pub returns-else-len-gt-MAX_HOSTS-clause-value : goal.returns-else-len-gt-MAX_HOSTS-clause-value
+pub returns-in_ok-listed-in-Ok-clause-fault : goal.returns-in_ok-listed-in-Ok-clause-fault
 unfolding inventory_of
-returns-else-len-gt-MAX_HOSTS-clause-value c = grind (arith, common_steps, nat_tests)
+returns-in_ok-listed-in-Ok-clause-fault c = grind (arith, common_steps)
 
 pub returns-in-Err-NotJson-clause-fault : goal.returns-in-Err-NotJson-clause-fault
 unfolding inventory_of

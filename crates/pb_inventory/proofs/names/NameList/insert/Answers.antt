@@ -1,7 +1,7 @@
 use Rattle.std.proofs.Common.{◌∙◌, ap}
 use Rattle.pb_inventory.specs.Names.{texts}
 use Rattle.pb_inventory.proofs.Texts.{texts-insert_key}
-use Rattle.pb_inventory.proofs.names.HostNames.insert.Goals as goal
+use Rattle.pb_inventory.proofs.names.NameList.insert.Goals as goal
 
 pub returns-clause-ok : goal.returns-clause-ok
 returns-clause-ok c =
