@@ -64,11 +64,12 @@ pub enum Form {
     IsDefined(Box<Expr>, bool),
 }
 
-/// Expressions in a row, which contracts see as their list.
+/// Expressions in a row, which contracts see as their list. Like one level of an expression they are
+/// open, so that a recursion over a tree in another crate can go over `&list.items`.
 #[cycle(expr)]
 #[derive(Drop)]
 pub struct ExprList {
-    pub(crate) items: Vec<Expr>,
+    pub items: Vec<Expr>,
 }
 
 impl Model for Expr {
