@@ -5,5 +5,6 @@ pub mod Limits
 pub mod Output
 pub mod Reading
 pub mod Results
+pub mod Rows
 pub mod Whole
 pub mod Writing
