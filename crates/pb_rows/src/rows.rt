@@ -222,7 +222,7 @@ fn writers_that_fail(rt: HostRuntime) -> Result<(), Fail> {
             assert_eq!(rt; seen.out.len(), HELLO_OUT.len());
             break;
         }
-        failed += 1;
+        failed = call;
         assert_eq!(rt; seen.status, 1);
         assert_eq!(rt; seen.err.as_slice(), b"pb-play: run: 2 Write\n".as_slice());
     }
@@ -238,22 +238,33 @@ fn writers_that_fail(rt: HostRuntime) -> Result<(), Fail> {
     Ok(())
 }
 
-#[test]
-fn words(rt: HostRuntime) -> Result<(), Fail> {
+/// Plays these words, behind the program's name.
+fn play_words(rt: &HostRuntime, texts: &[&str]) -> Result<Seen, Fail> {
     let alloc = rt.alloc();
     let mut out = Kept::new(alloc);
     let mut err = Kept::new(alloc);
-    let mut asked = Vec::new(alloc);
-    for word in ["pb-play", "--help"] {
-        asked.push(String::from_str(alloc, word)?)?;
+    let mut words = Vec::new(alloc);
+    words.push(String::from_str(alloc, "pb-play")?)?;
+    for text in texts {
+        words.push(String::from_str(alloc, *text)?)?;
     }
-    assert_eq!(rt; play(&rt, asked.as_slice(), &mut out, &mut err), 0);
-    assert!(rt; !out.bytes.is_empty() && err.bytes.is_empty());
-    asked.push(String::from_str(alloc, "--no-such-word")?)?;
-    asked.remove(1);
-    let mut out = Kept::new(alloc);
-    assert_eq!(rt; play(&rt, asked.as_slice(), &mut out, &mut err), 1);
-    assert!(rt; out.bytes.is_empty());
-    assert!(rt; err.bytes.starts_with(b"pb-play: words: "));
+    let status = play(rt, words.as_slice(), &mut out, &mut err);
+    Ok(Seen {
+        status,
+        out: out.bytes,
+        err: err.bytes,
+    })
+}
+
+#[test]
+fn words(rt: HostRuntime) -> Result<(), Fail> {
+    let seen = play_words(&rt, ["--help"].as_slice())?;
+    assert_eq!(rt; seen.status, 0);
+    assert!(rt; !seen.out.is_empty());
+    assert!(rt; seen.err.is_empty());
+    let seen = play_words(&rt, ["--no-such-word"].as_slice())?;
+    assert_eq!(rt; seen.status, 1);
+    assert!(rt; seen.out.is_empty());
+    assert!(rt; seen.err.starts_with(b"pb-play: words: "));
     Ok(())
 }

@@ -38,13 +38,13 @@ returns-in_err-inventory-clause-fault c = grind (arith, common_steps)
 pub returns-in_err-playbook-clause-fault : goal.returns-in_err-playbook-clause-fault
 returns-in_err-playbook-clause-fault c =
     let left = after_inventory c.args.bundle.now c.in_ok-inventory.inventory (sym c.is_too_large.ensures ∙ c.if-is_too_large.false)
-        (good_forks _ c.if-forks-eq0.false c.if-forks-gt256.false) c.in_ok-inventory.ensures.value in
+    (good_forks _ c.if-forks-eq0.false c.if-forks-gt256.false) c.in_ok-inventory.ensures.value in
     rw left (search rules)
 
 pub returns-clause-value : goal.returns-clause-value
 returns-clause-value c =
     let left = after_inventory c.args.bundle.now c.in_ok-inventory.inventory (sym c.is_too_large.ensures ∙ c.if-is_too_large.false)
-        (good_forks _ c.if-forks-eq0.false c.if-forks-gt256.false) c.in_ok-inventory.ensures.value in
+    (good_forks _ c.if-forks-eq0.false c.if-forks-gt256.false) c.in_ok-inventory.ensures.value in
     rw (left, c.in_ok-playbook.ensures.value) c.plan_in.ensures.value
 
 pub returns-clause-fault : goal.returns-clause-fault
