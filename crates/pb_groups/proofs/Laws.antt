@@ -31,7 +31,7 @@ not_endless links limit depths falls endless = omega (arith, way_down links limi
 pub longest_way : (links : List ChildLink) (limit : ℕ) (depths : List ℕ) → AreDepths links limit depths → (to steps from : ℕ) → Way links steps from to → steps ≤ slice_index depths to
 longest_way links limit depths falls to steps from way = omega (arith, way_down links limit depths falls steps from to way)
 
-way_below : (links : List ChildLink) (groups : ℕ) → AreLinksBelow links groups → (steps from to : ℕ) → to < groups → Way links steps from to → from < groups
+pub way_below : (links : List ChildLink) (groups : ℕ) → AreLinksBelow links groups → (steps from to : ℕ) → to < groups → Way links steps from to → from < groups
 way_below links groups within zero from to w way = omega (arith, w, way)
 way_below links groups within (suc steps) from to w way =
     way_below links groups within steps from way.0 (omega (arith, (within way.2.0 way.2.1).0, way.2.2)) way.1

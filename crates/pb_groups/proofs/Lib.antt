@@ -1,6 +1,9 @@
 pub mod Filling
+pub mod Found
 pub mod Inserting
 pub mod Laws
 pub mod Levels
+pub mod Ordered
+pub mod MemberLaws
 pub mod Raising
 pub mod Sets

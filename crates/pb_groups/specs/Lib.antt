@@ -1,7 +1,11 @@
 pub mod Depths
 pub mod GroupsOf
 pub mod Kept
+pub mod Keys
+pub mod MemberSets
 pub mod Members
+pub mod Merging
 pub mod Planes
 pub mod Refused
+pub mod Rows
 pub mod Ways

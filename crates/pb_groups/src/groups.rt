@@ -4,15 +4,19 @@ ghost use Rattle.pb_groups.specs.GroupsOf.{GroupsOf, max_groups};
 ghost use Rattle.pb_groups.specs.Ways.{Way, IsChild, AreLinksBelow, link};
 ghost use Rattle.pb_groups.specs.Depths.{IsEndless};
 ghost use Rattle.pb_groups.specs.Members.{AreOwnBelow, IsMember};
+ghost use Rattle.pb_groups.specs.Merging.{has_member, in_order, with_host, merge_order, IsInOrder, AreGroupsOf};
+ghost use Rattle.pb_groups.specs.MemberSets.{members_of};
 ghost use Rattle.pb_groups.specs.Refused.{IsRefused};
+ghost use Rattle.std.specs.List.{All};
 
 use crate::depths::depths_of;
 use crate::fault::GroupFault;
 use crate::links::{ChildLink, OwnHost};
+use crate::merging::{groups_of, has, having, keys_of};
 use crate::planes::members_of;
 use pb_ids::{GroupNo, HostNo};
 use pb_planes::HostSet;
-use std::alloc::Global;
+use std::alloc::{AllocError, Global};
 use std::marker::Model;
 
 const MAX_GROUPS: u32 = 4096;
@@ -124,6 +128,7 @@ impl Groups {
         requires { group.0 < self.now.groups }
         ensures width { length result.now ≡ self.now.hosts }
         ensures members { (host : ℕ) → (is_in result.now host ≡ true) ↔ IsMember self.now.links self.now.own group.0 host }
+        ensures set { result.now ≡ members_of self.now group.0 }
     {
         &self.members[group.0 as usize]
     }
@@ -136,5 +141,59 @@ impl Groups {
         ensures from_top { (top : ℕ) → ((g : ℕ) → g < self.now.groups → g ≢ top → (parent : ℕ) × IsChild self.now.links parent g) → Way self.now.links result top group.0 }
     {
         self.depths[group.0 as usize]
+    }
+
+    /// Whether the host belongs to the group.
+    pub fn has(&self, group: GroupNo, host: HostNo) -> bool
+        requires group { group.0 < self.now.groups }
+        requires host { host.0 < self.now.hosts }
+        ensures { result ≡ has_member self.now group.0 host.0 }
+    {
+        has(self.members.as_slice(), group, host)
+    }
+
+    /// All groups in the order in which their variables merge: by depth, then by priority, then by
+    /// number. There is a priority for each group.
+    pub fn in_order(&self, alloc: Global, priorities: &[i64]) -> Result<Vec<GroupNo>, AllocError>
+        requires { length priorities.now ≡ self.now.groups }
+        ensures value { IfOk result (λ order. order.items ≡ in_order self.now priorities.now) }
+        ensures rising { IfOk result (λ order. IsInOrder self.now priorities.now order.items) }
+        ensures below { IfOk result (λ order. All (λ g. g.0 < self.now.groups) order.items) }
+    {
+        let keys = keys_of(alloc, self.depths.as_slice(), priorities)?;
+        Ok(groups_of(alloc, &keys)?)
+    }
+
+    /// Those of the groups, in their order, that have the host among their members.
+    pub fn with_host(
+        &self,
+        alloc: Global,
+        order: &[GroupNo],
+        host: HostNo,
+    ) -> Result<Vec<GroupNo>, AllocError>
+        requires groups { All (λ g. g.0 < self.now.groups) order.now }
+        requires host { host.0 < self.now.hosts }
+        ensures { IfOk result (λ groups. groups.items ≡ with_host self.now host.0 order.now) }
+    {
+        Ok(having(alloc, self.members.as_slice(), order, host)?)
+    }
+
+    /// The groups that have the host among their members, in the order in which their variables
+    /// merge.
+    pub fn merge_order(
+        &self,
+        alloc: Global,
+        priorities: &[i64],
+        host: HostNo,
+    ) -> Result<Vec<GroupNo>, AllocError>
+        requires priorities { length priorities.now ≡ self.now.groups }
+        requires host { host.0 < self.now.hosts }
+        ensures value { IfOk result (λ order. order.items ≡ merge_order self.now priorities.now host.0) }
+        ensures rising { IfOk result (λ order. IsInOrder self.now priorities.now order.items) }
+        ensures groups { IfOk result (λ order. AreGroupsOf self.now host.0 order.items) }
+    {
+        let _ = &self.own;
+        let order = self.in_order(alloc, priorities)?;
+        Ok(self.with_host(alloc, order.as_slice(), host)?)
     }
 }
