@@ -1,6 +1,6 @@
 -- The numbers of own hosts and links are numbers of hosts and groups.
 use Rattle.std.proofs.Common.{◌≡◌, ◌<◌, ◌≤◌, ℕ, zero, suc, Bool, true, false, cond, List, [], ◌∷◌, map, length, arith, refl}
-use Rattle.std.specs.Prelude.{Option, Some, None, position, nat_le, nat_lt}
+use Rattle.std.specs.Prelude.{Option, Some, None, position, nat_lt}
 use Rattle.std.specs.List.{All, range_with_len, position_or_len}
 use Rattle.std.specs.Str.{bytes_eq}
 use Rattle.std.proofs.lemmas.Bool.Decides.{nat_tests}
@@ -11,7 +11,7 @@ use Rattle.pb_groups.specs.declared.links.OwnHost.{OwnHost}
 use Rattle.pb_groups.specs.Ways.{link, AreLinksBelow}
 use Rattle.pb_groups.specs.Members.{own_of as own, AreOwnBelow}
 use Rattle.pb_inventory.specs.declared.listed.Listed.{Listed}
-use Rattle.pb_inventory.specs.Graph.{numbers_of, number_first, own_under, own_listed, own_with, links_under, links_listed, links_with, missing}
+use Rattle.pb_inventory.specs.Graph.{all, ungrouped, group_number, listed_hosts, numbers_of, number_first, own_under, own_listed, own_with, links_under, links_listed, links_with, missing}
 
 abbrev pub Below : ℕ → List ℕ → Type 0
 Below n xs = All (λ x. x < n) xs
@@ -53,29 +53,28 @@ numbers_below known (name ∷ names) = first_below (length known) (position (byt
 owns_below : (groups hosts g : ℕ) (ns : List ℕ) → g < groups → Below hosts ns → OwnBelow groups hosts (map (own g) ns)
 owns_below groups hosts g ns w ws = All-map (λ o. (o.group.0 < groups) × (o.host.0 < hosts)) (own g) ns (λ k d v. (w, ws k d v))
 
-either_below : (b : Bool) (groups hosts : ℕ) (xs : List OwnHost) → OwnBelow groups hosts xs → OwnBelow groups hosts (cond b xs [])
-either_below true groups hosts xs ws = ws
-either_below false groups hosts xs ws = none_below _
-
 under_below : (groups hosts : ℕ) (o : Option ℕ) (ns : List ℕ) → ((n : ℕ) → o ≡ Some n → n < groups) → Below hosts ns → OwnBelow groups hosts (own_under o ns)
 under_below groups hosts None ns w ws = none_below _
-under_below groups hosts (Some g) ns w ws = either_below (nat_le 2 g) groups hosts (map (own g) ns) (owns_below groups hosts g ns (w g refl) ws)
+under_below groups hosts (Some g) ns w ws = owns_below groups hosts g ns (w g refl) ws
 
 listed_below : (groups hosts : List (List ℕ)) (listed : List Listed) → OwnBelow (length groups) (length hosts) (own_listed groups hosts listed)
 listed_below groups hosts [] = none_below _
 listed_below groups hosts (l ∷ ls) =
-    All-append (λ o. (o.group.0 < length groups) × (o.host.0 < length hosts)) _ _ (under_below (length groups) (length hosts) (position (bytes_eq l.name) groups) _ (position_below _ groups) (numbers_below hosts l.hosts)) (listed_below groups hosts ls)
+    All-append (λ o. (o.group.0 < length groups) × (o.host.0 < length hosts)) _ _ (under_below (length groups) (length hosts) (group_number groups l.name) _ (position_below _ groups) (numbers_below hosts (listed_hosts l))) (listed_below groups hosts ls)
 
 missing_below : (numbers : List ℕ) (limit : ℕ) → Below limit (missing numbers limit)
 missing_below numbers limit = All-filter _ (λ x. x < limit) (range_with_len 0 limit) (range_below limit)
 
-pub own_below : (groups hosts : List (List ℕ)) (listed : List Listed) → 2 ≤ length groups → AreOwnBelow (own_with (length hosts) (own_listed groups hosts listed)) (length groups) (length hosts)
-own_below groups hosts listed two =
-    let ends : OwnBelow (length groups) (length hosts) (own_with (length hosts) (own_listed groups hosts listed)) =
+named_below : (groups hosts : List (List ℕ)) (name : List ℕ) (ns : List ℕ) → Below (length hosts) ns → OwnBelow (length groups) (length hosts) (own_under (group_number groups name) ns)
+named_below groups hosts name ns ws = under_below (length groups) (length hosts) (group_number groups name) ns (position_below (bytes_eq name) groups) ws
+
+pub own_below : (groups hosts : List (List ℕ)) (listed : List Listed) → AreOwnBelow (own_with groups (length hosts) (own_listed groups hosts listed)) (length groups) (length hosts)
+own_below groups hosts listed =
+    let ends : OwnBelow (length groups) (length hosts) (own_with groups (length hosts) (own_listed groups hosts listed)) =
     All-append (λ o. (o.group.0 < length groups) × (o.host.0 < length hosts)) _ _
     (All-append (λ o. (o.group.0 < length groups) × (o.host.0 < length hosts)) _ _ (listed_below groups hosts listed)
-    (owns_below (length groups) (length hosts) 0 _ (omega (arith, two)) (range_below (length hosts))))
-    (owns_below (length groups) (length hosts) 1 _ (omega (arith, two)) (missing_below (map (λ o. o.host.0) (own_listed groups hosts listed)) (length hosts))) in
+    (named_below groups hosts all _ (range_below (length hosts))))
+    (named_below groups hosts ungrouped _ (missing_below (map (λ o. o.host.0) (own_listed groups hosts listed)) (length hosts))) in
     λ k w. ends k (own 0 0) w
 
 child_links_below : (groups g : ℕ) (ns : List ℕ) → g < groups → Below groups ns → LinksBelow groups (map (link g) ns)
@@ -88,9 +87,11 @@ links_under_below groups (Some g) ns w ws = child_links_below groups g ns (w g r
 links_listed_below : (groups : List (List ℕ)) (listed : List Listed) → LinksBelow (length groups) (links_listed groups listed)
 links_listed_below groups [] = none_below _
 links_listed_below groups (l ∷ ls) =
-    All-append (λ l. (l.parent.0 < length groups) × (l.child.0 < length groups)) _ _ (links_under_below (length groups) (position (bytes_eq l.name) groups) _ (position_below _ groups) (numbers_below groups l.children)) (links_listed_below groups ls)
+    All-append (λ l. (l.parent.0 < length groups) × (l.child.0 < length groups)) _ _ (links_under_below (length groups) (group_number groups l.name) _ (position_below _ groups) (numbers_below groups l.children)) (links_listed_below groups ls)
 
-pub links_below : (groups : List (List ℕ)) (listed : List Listed) → 2 ≤ length groups → AreLinksBelow (links_with (length groups) (links_listed groups listed)) (length groups)
-links_below groups listed two =
-    let all = All-append (λ l. (l.parent.0 < length groups) × (l.child.0 < length groups)) _ _ (links_listed_below groups listed) (child_links_below (length groups) 0 _ (omega (arith, two)) (missing_below (0 ∷ map (λ l. l.child.0) (links_listed groups listed)) (length groups))) in
-    λ k w. all k (link 0 0) w
+pub links_below : (groups : List (List ℕ)) (listed : List Listed) → AreLinksBelow (links_with groups (links_listed groups listed)) (length groups)
+links_below groups listed =
+    let ends =
+    All-append (λ l. (l.parent.0 < length groups) × (l.child.0 < length groups)) _ _ (links_listed_below groups listed)
+    (links_under_below (length groups) (group_number groups all) _ (position_below (bytes_eq all) groups) (missing_below (number_first (group_number groups all) (map (λ l. l.child.0) (links_listed groups listed))) (length groups))) in
+    λ k w. ends k (link 0 0) w

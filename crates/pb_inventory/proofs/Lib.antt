@@ -1,5 +1,8 @@
 pub mod Bounds
 pub mod Cycles
+pub mod Entries
+pub mod Kept
+pub mod Lasts
 pub mod Once
 pub mod Ranges
 pub mod Texts

@@ -1,12 +1,18 @@
 -- Names that are read one by one, each kept where it is new, are the first mentions.
-use Rattle.std.proofs.Common.{◌≡◌, ℕ, Bool, true, false, List, [], ◌∷◌, ◌++◌, cond, codes, refl, ap, sym, ◌∙◌, append_assoc, append-nil}
+use Rattle.std.proofs.Common.{◌≡◌, ◌<◌, ℕ, Bool, true, false, List, [], ◌∷◌, ◌++◌, length, cond, String, Global, string_bytes, string_cmp, Ordering, Less, Equal, Greater, nat_cmp, arith, refl, ap, sym, ◌∙◌, append_assoc, append-nil}
 use Rattle.std.specs.Prelude.{not, filter, ◌&&◌, ◌||◌}
-use Rattle.std.specs.List.{list_any}
+use Rattle.std.specs.List.{list_any, AllByRecursion}
+use Rattle.std.specs.List.Sorted.{IsStrictlySortedBy}
+use Rattle.std.specs.Ordering.{is_eq, match_ordering}
+use Rattle.std.specs.Cmp.Lexicographic.{slice_cmp}
+use Rattle.std.proofs.lemmas.Map.Text.{is_eq-slice_cmp}
 use Rattle.std.specs.Str.{bytes_eq}
 use Rattle.std.proofs.lemmas.Slice.Eq.{bytes_eq-Decides}
 use Rattle.std.proofs.lemmas.Bool.Decides.{same_from_decides, Decides-like}
 use Rattle.std.proofs.lemmas.List.Folds.{list_any-append}
-use Rattle.pb_inventory.specs.Names.{once, with_name, with_names}
+use Rattle.pb_inventory.specs.Names.{texts, once, with_name, with_names, in_place, all_in_place, in_byte_order}
+use Rattle.pb_inventory.specs.Graph.{all, ungrouped, mentioned_groups, group_names}
+use Rattle.pb_inventory.specs.declared.listed.Listed.{Listed}
 
 -- those of the names that aren't known
 abbrev pub is_new : List (List ℕ) → List ℕ → Bool
@@ -76,5 +82,39 @@ pub with_names-append : (names more known : List (List ℕ)) → with_names (nam
 with_names-append [] more known = refl
 with_names-append (name ∷ names) more known = with_names-append names more (with_name name known)
 
-pub group_names_begun : (rest names : List (List ℕ)) → names ≡ with_name (codes "ungrouped") (with_name (codes "all") []) → with_names rest names ≡ once (codes "all" ∷ codes "ungrouped" ∷ rest)
-group_names_begun rest names is = ap (with_names rest) is ∙ with_names-none (codes "all" ∷ codes "ungrouped" ∷ rest)
+pub all_in_place-append : (names more known : List (List ℕ)) → all_in_place (names ++ more) known ≡ all_in_place more (all_in_place names known)
+all_in_place-append [] more known = refl
+all_in_place-append (name ∷ names) more known = all_in_place-append names more (in_place name known)
+
+pub group_names_begun : (rest names : List (List ℕ)) → names ≡ in_place ungrouped (in_place all []) → all_in_place rest names ≡ in_byte_order (all ∷ ungrouped ∷ rest)
+group_names_begun rest names is = ap (all_in_place rest) is
+
+-- names that rise are there once
+apart : (a b : List ℕ) → slice_cmp nat_cmp a b ≡ Less → not (bytes_eq a b) ≡ true
+apart a b e = ap not (sym (is_eq-slice_cmp a b) ∙ ap is_eq e)
+
+all_apart : (k : String Global) (ks : List (String Global)) → AllByRecursion (λ y. string_cmp k y ≡ Less) ks → filter (λ other. not (bytes_eq (string_bytes k) other)) (texts ks) ≡ texts ks
+all_apart k [] h = refl
+all_apart k (x ∷ xs) h = rw (apart (string_bytes k) (string_bytes x) h.0, all_apart k xs h.1)
+
+pub once-sorted : (ks : List (String Global)) → IsStrictlySortedBy string_cmp ks → once (texts ks) ≡ texts ks
+unfolding IsStrictlySortedBy
+once-sorted [] h = refl
+once-sorted (k ∷ ks) h = ap (λ t. string_bytes k ∷ filter (λ other. not (bytes_eq (string_bytes k) other)) t) (once-sorted ks h.1) ∙ ap (λ t. string_bytes k ∷ t) (all_apart k ks h.0)
+
+-- some name is there
+some_matched : (name x : List ℕ) (xs ys : List (List ℕ)) (o : Ordering) → 0 < length (match_ordering o (name ∷ x ∷ xs) (x ∷ xs) (x ∷ ys))
+some_matched name x xs ys Less = omega arith
+some_matched name x xs ys Equal = omega arith
+some_matched name x xs ys Greater = omega arith
+
+some_inserted : (name : List ℕ) (names : List (List ℕ)) → 0 < length (in_place name names)
+some_inserted name [] = omega arith
+some_inserted name (x ∷ xs) = some_matched name x xs (in_place name xs) (slice_cmp nat_cmp name x)
+
+some_left : (names known : List (List ℕ)) → 0 < length known → 0 < length (all_in_place names known)
+some_left [] known w = w
+some_left (name ∷ names) known w = some_left names (in_place name known) (some_inserted name known)
+
+pub some_group : (listed : List Listed) → 0 < length (group_names listed)
+some_group listed = some_left (ungrouped ∷ mentioned_groups listed) (in_place all []) (some_inserted all [])

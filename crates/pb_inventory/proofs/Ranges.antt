@@ -1,8 +1,8 @@
 -- The numbers below a limit, one after another.
-use Rattle.std.proofs.Common.{◌≡◌, ◌+◌, ◌<◌, ◌≤◌, ℕ, zero, suc, Bool, false, cond, length, take, List, [], ◌∷◌, ◌++◌, arith, refl, ap, ◌∙◌}
+use Rattle.std.proofs.Common.{◌≡◌, ◌+◌, ◌<◌, ◌≤◌, ℕ, zero, suc, Bool, true, false, cond, map, length, take, List, [], ◌∷◌, ◌++◌, arith, refl, ap, ◌∙◌}
 use Rattle.std.specs.Prelude.{filter, not, ◌==◌, slice_index_or}
 use Rattle.pb_inventory.specs.Graph.{is_unmarked, missing}
-use Rattle.std.proofs.lemmas.List.{take_all}
+use Rattle.std.proofs.lemmas.List.{take_all, map-append}
 use Rattle.std.specs.List.{range_with_len, list_any}
 use Rattle.std.proofs.lemmas.List.Elements.{filter-append}
 
@@ -27,3 +27,11 @@ pub missing_is : (numbers : List ℕ) (limit i : ℕ) (marks : List Bool) → le
 missing_is numbers limit i marks all size marked =
     ap (λ n. filter (is_unmarked marks) (range_with_len 0 n)) size
     ∙ filter_same (is_unmarked marks) _ 0 limit (λ k low high. ap not (marked k (omega (arith, high)) ∙ ap (list_any (λ m. m == k)) (take_all i numbers all)))
+
+map_one : {X : Type 0} (f : ℕ → X) (n : ℕ) (b : Bool) → map f (cond b (n ∷ []) []) ≡ cond b (f n ∷ []) []
+map_one f n true = refl
+map_one f n false = refl
+
+-- a filter of these numbers, and what stands for each
+pub map_next : {X : Type 0} (f : ℕ → X) (p : ℕ → Bool) (n m : ℕ) → m ≡ n + 1 → map f (filter p (range_with_len 0 m)) ≡ map f (filter p (range_with_len 0 n)) ++ cond (p n) (f n ∷ []) []
+map_next f p n m is = ap (map f) (filter_next p n m is) ∙ map-append f (filter p (range_with_len 0 n)) (cond (p n) (n ∷ []) []) ∙ ap (λ t. map f (filter p (range_with_len 0 n)) ++ t) (map_one f n (p n))

@@ -1,9 +1,11 @@
 -- Names as text beside the same names as bytes.
-use Rattle.std.proofs.Common.{◌≡◌, ℕ, suc, Bool, true, false, List, [], ◌∷◌, ◌++◌, length, String, Global, string_bytes, cond, refl, ap, ◌∙◌}
+use Rattle.std.proofs.Common.{◌≡◌, ℕ, suc, Bool, true, false, List, [], ◌∷◌, ◌++◌, length, String, Global, string_bytes, string_cmp, Ordering, Less, Equal, Greater, cond, refl, ap, ◌∙◌}
 use Rattle.std.specs.Prelude.{position}
 use Rattle.std.specs.List.{list_any, position_or_len}
 use Rattle.std.specs.Str.{bytes_eq}
-use Rattle.pb_inventory.specs.Names.{texts, with_name}
+use Rattle.std.specs.BTreeSet as sorted
+use Rattle.std.specs.Ordering.{match_ordering}
+use Rattle.pb_inventory.specs.Names.{texts, with_name, in_place}
 use Rattle.indexmap.specs.IndexSet.{insert_key}
 
 pub length-texts : (names : List (String Global)) → length (texts names) ≡ length names
@@ -32,3 +34,12 @@ texts-cond false x y = refl
 pub texts-insert_key : (names : List (String Global)) (n : String Global) → texts (insert_key (λ a b. bytes_eq (string_bytes a) (string_bytes b)) names n) ≡ with_name (string_bytes n) (texts names)
 texts-insert_key names n =
     texts-cond (list_any (λ k. bytes_eq (string_bytes n) (string_bytes k)) names) names (names ++ n ∷ []) ∙ rw (any-texts (bytes_eq (string_bytes n)) names, texts-push names n)
+
+texts-match_ordering : (o : Ordering) (a b c : List (String Global)) → texts (match_ordering o a b c) ≡ match_ordering o (texts a) (texts b) (texts c)
+texts-match_ordering Less a b c = refl
+texts-match_ordering Equal a b c = refl
+texts-match_ordering Greater a b c = refl
+
+pub texts-in_place : (names : List (String Global)) (n : String Global) → texts (sorted.insert_key string_cmp names n) ≡ in_place (string_bytes n) (texts names)
+texts-in_place [] n = refl
+texts-in_place (m ∷ ms) n = texts-match_ordering (string_cmp n m) _ _ _ ∙ rw (texts-in_place ms n)

@@ -1,5 +1,9 @@
 pub mod Graph
+pub mod GraphOf
 pub mod InventoryOf
+pub mod Named
+pub mod MemberSets
 pub mod Names
 pub mod Reading
 pub mod Rows
+pub mod Vars

@@ -1,8 +1,11 @@
--- Names, each once, in the order of their first mention.
+-- Names, each once, in the order of their first mention or in byte order.
 use Rattle.std.specs.Prelude.{ℕ, List, [], ◌∷◌, ◌++◌, map, filter, not, String, string_bytes, if◌then◌else◌}
 use Rattle.std.specs.declared.alloc.Global.{Global}
 use Rattle.std.specs.List.{list_any}
 use Rattle.std.specs.Str.{bytes_eq}
+use Rattle.std.specs.BTreeSet.{insert_key}
+use Rattle.std.specs.Cmp.Lexicographic.{slice_cmp}
+use Rattle.std.specs.Ordering.{nat_cmp}
 
 abbrev pub texts : List (String Global) → List (List ℕ)
 texts names = map string_bytes names
@@ -20,3 +23,16 @@ with_name name known = if list_any (bytes_eq name) known then known else known +
 abbrev pub with_names : List (List ℕ) → List (List ℕ) → List (List ℕ)
 with_names [] known = known
 with_names (name ∷ names) known = with_names names (with_name name known)
+
+-- a name at its place among names in byte order; one that is there stays alone
+abbrev pub in_place : List ℕ → List (List ℕ) → List (List ℕ)
+in_place name names = insert_key (slice_cmp nat_cmp) names name
+
+-- each of these names in turn at its place among those in byte order
+abbrev pub all_in_place : List (List ℕ) → List (List ℕ) → List (List ℕ)
+all_in_place [] known = known
+all_in_place (name ∷ names) known = all_in_place names (in_place name known)
+
+-- the names, each once, in byte order
+abbrev pub in_byte_order : List (List ℕ) → List (List ℕ)
+in_byte_order names = all_in_place names []

@@ -1,13 +1,22 @@
 -- Worked inventories.
-use Rattle.std.specs.Prelude.{◌≡◌, refl, List, [], ◌∷◌, Ok, Err, codes}
-use Rattle.pb_inventory.specs.declared.listed.Listed.{Listed}
-use Rattle.pb_inventory.specs.declared.fault.InvFault.TheVariants.{Cycle}
+use Rattle.std.specs.Prelude.{◌≡◌, refl, ℕ, ℤ, pos, List, [], ◌∷◌, Ok, Err, codes}
+use Rattle.serde_json.specs.Data as json
+use Rattle.pb_value.specs.Datum.{int, text}
+use Rattle.pb_value.specs.FromJson.{value_of}
 use Rattle.pb_groups.specs.Ways.{link}
 use Rattle.pb_groups.specs.Members.{own_of as own}
-use Rattle.pb_inventory.specs.Reading.{limited}
+use Rattle.pb_inventory.specs.declared.listed.Listed.{Listed}
+use Rattle.pb_inventory.specs.declared.vars.GroupVars.{GroupVars}
+use Rattle.pb_inventory.specs.declared.fault.InvFault.TheVariants.{Cycle, WrongShape}
+use Rattle.pb_inventory.specs.InventoryOf.{InventoryOf}
+use Rattle.pb_inventory.specs.Reading.{graph_in, file_in}
+use Rattle.pb_inventory.specs.Vars.{vars_from_groups, vars_of_host, strangers, names_of_groups}
+
+abbrev pub group : List ℕ → List (List ℕ) → List (List ℕ) → Listed
+group name hosts children = record { name = name; hosts = hosts; children = children }
 
 -- {"ungrouped":["b"],"web":["a","b"]}: b is host 0 and a host 1, and `ungrouped` is empty
-pub listed_again : limited (record { name = codes "ungrouped"; hosts = codes "b" ∷ []; children = [] } ∷ record { name = codes "web"; hosts = codes "a" ∷ codes "b" ∷ []; children = [] } ∷ [])
+pub listed_again : graph_in (group (codes "ungrouped") (codes "b" ∷ []) [] ∷ group (codes "web") (codes "a" ∷ codes "b" ∷ []) [] ∷ [])
     ≡ Ok (record {
       hosts = codes "b" ∷ codes "a" ∷ [];
       groups = codes "all" ∷ codes "ungrouped" ∷ codes "web" ∷ [];
@@ -17,19 +26,80 @@ pub listed_again : limited (record { name = codes "ungrouped"; hosts = codes "b"
 listed_again = refl
 
 -- {"a":{"children":["b"]},"b":{"children":["a"]}}
-pub round : limited (record { name = codes "a"; hosts = []; children = codes "b" ∷ [] } ∷ record { name = codes "b"; hosts = []; children = codes "a" ∷ [] } ∷ []) ≡ Err Cycle
+pub round : graph_in (group (codes "a") [] (codes "b" ∷ []) ∷ group (codes "b") [] (codes "a" ∷ []) ∷ []) ≡ Err Cycle
 round = refl
 
 -- {"web":{"children":["all"]}}: `all` is nobody's child
-pub all_as_child : limited (record { name = codes "web"; hosts = []; children = codes "all" ∷ [] } ∷ []) ≡ Err Cycle
+pub all_as_child : graph_in (group (codes "web") [] (codes "all" ∷ []) ∷ []) ≡ Err Cycle
 all_as_child = refl
 
--- {"all":{"hosts":["c"]},"x":{"children":["y"]},"y":["a"]}: c is ungrouped, and x alone is a child of `all`
-pub nested : limited (record { name = codes "all"; hosts = codes "c" ∷ []; children = [] } ∷ record { name = codes "x"; hosts = []; children = codes "y" ∷ [] } ∷ record { name = codes "y"; hosts = codes "a" ∷ []; children = [] } ∷ [])
+-- {"X":{"children":["y"]},"all":{"hosts":["c"]},"y":["a"]}: groups are numbered in byte order, c is ungrouped, and X alone is a child of `all`
+pub nested : graph_in (group (codes "X") [] (codes "y" ∷ []) ∷ group (codes "all") (codes "c" ∷ []) [] ∷ group (codes "y") (codes "a" ∷ []) [] ∷ [])
     ≡ Ok (record {
       hosts = codes "c" ∷ codes "a" ∷ [];
-      groups = codes "all" ∷ codes "ungrouped" ∷ codes "x" ∷ codes "y" ∷ [];
-      own = own 3 1 ∷ own 0 0 ∷ own 0 1 ∷ own 1 0 ∷ [];
-      links = link 2 3 ∷ link 0 1 ∷ link 0 2 ∷ [];
+      groups = codes "X" ∷ codes "all" ∷ codes "ungrouped" ∷ codes "y" ∷ [];
+      own = own 3 1 ∷ own 1 0 ∷ own 1 1 ∷ own 2 0 ∷ [];
+      links = link 0 3 ∷ link 1 0 ∷ link 1 2 ∷ [];
     })
 nested = refl
+
+-- host a in `all` (x 1), `db` (x 9) and `web` (x 2), with a priority of `db`
+abbrev pub x_is : ℤ → ℤ → GroupVars
+x_is priority x = record { priority = priority; vars = record { name = codes "x"; value = int x } ∷ [] }
+
+abbrev pub with_priority : ℤ → InventoryOf
+with_priority priority = record {
+  hosts = codes "a" ∷ [];
+  groups = codes "all" ∷ codes "db" ∷ codes "ungrouped" ∷ codes "web" ∷ [];
+  own = own 1 0 ∷ own 3 0 ∷ own 0 0 ∷ [];
+  links = link 0 1 ∷ link 0 2 ∷ link 0 3 ∷ [];
+  group_vars = (codes "all", x_is (pos 1) (pos 1)) ∷ (codes "db", x_is priority (pos 9)) ∷ (codes "web", x_is (pos 1) (pos 2)) ∷ [];
+  host_vars = (codes "a", (codes "x", int (pos 3)) ∷ []) ∷ (codes "b", []) ∷ [];
+}
+
+-- of equal depth and priority the later name overrides
+pub later_name : vars_from_groups (with_priority (pos 1)) 0 ≡ (codes "x", int (pos 2)) ∷ []
+later_name = refl
+
+-- the priority decides before the name
+pub higher_priority : vars_from_groups (with_priority (pos 10)) 0 ≡ (codes "x", int (pos 9)) ∷ []
+higher_priority = refl
+
+-- the host's own variable stands apart, in its own layer
+pub of_host : vars_of_host (with_priority (pos 10)) 0 ≡ (codes "x", int (pos 3)) ∷ []
+of_host = refl
+
+-- b has variables and is no host
+pub no_host : strangers (with_priority (pos 1)) ≡ codes "b" ∷ []
+no_host = refl
+
+pub group_names : names_of_groups (with_priority (pos 1)) 0 ≡ codes "db" ∷ codes "web" ∷ []
+group_names = refl
+
+abbrev pub one : json.Data
+one = json.string (codes "1")
+
+abbrev pub object : List ℕ → json.Data → json.Data
+object key d = json.object (json.member key d json.no_members)
+
+-- {"_meta":{"hostvars":{"b":{"y":"1"}},"x":5},"db":{"vars":{"ansible_group_priority":"1","x":"1"}}}: a priority that is no number is 1, and it
+-- is no variable; what stands beside `hostvars` doesn't count
+pub read_vars : file_in (json.object (json.member (codes "_meta") (json.object (json.member (codes "hostvars") (object (codes "b") (object (codes "y") one)) (json.member (codes "x") json.null json.no_members)))
+    (json.member (codes "db") (object (codes "vars") (json.object (json.member (codes "ansible_group_priority") one (json.member (codes "x") one json.no_members)))) json.no_members)))
+    ≡ Ok (record {
+      groups = group (codes "db") [] [] ∷ [];
+      group_vars = (codes "db", record { priority = pos 1; vars = record { name = codes "x"; value = text (codes "1") } ∷ [] }) ∷ [];
+      host_vars = (codes "b", (codes "y", text (codes "1")) ∷ []) ∷ [];
+    })
+unfolding value_of
+read_vars = refl
+
+-- {"_meta":{"hostvars":5}}, {"_meta":{"hostvars":{"a":5}}}, {"web":{"vars":5}}
+pub no_object : file_in (object (codes "_meta") (object (codes "hostvars") json.null)) ≡ Err (WrongShape (codes "_meta/hostvars"))
+no_object = refl
+
+pub no_vars_object : file_in (object (codes "_meta") (object (codes "hostvars") (object (codes "a") json.null))) ≡ Err (WrongShape (codes "_meta/hostvars/a"))
+no_vars_object = refl
+
+pub no_group_object : file_in (object (codes "web") (object (codes "vars") json.null)) ≡ Err (WrongShape (codes "web/vars"))
+no_group_object = refl

@@ -4,90 +4,111 @@ ghost use Rattle.std.specs.Str.{bytes_eq};
 ghost use Rattle.pb_planes.specs.Set.{is_in};
 ghost use Rattle.pb_groups.specs.Members.{IsMember};
 ghost use Rattle.pb_inventory.specs.Graph.{max_groups};
-ghost use Rattle.pb_inventory.specs.Reading.{inventory_of, max_hosts, limited};
+ghost use Rattle.pb_inventory.specs.Reading.{inventory_of, max_hosts, limited, with_vars};
+ghost use Rattle.pb_inventory.specs.MemberSets.{members_in};
 
 use crate::fault::InvFault;
-use crate::listed::Listed;
-use crate::names::NameList;
-use crate::numbering::{group_names_of, host_names_of, links_of, own_of};
-use crate::reading::read_groups;
-use pb_groups::{GroupFault, Groups, OwnHost};
+use crate::graph::Graph;
+use crate::listed::FileEntries;
+use crate::named::Named;
+use crate::reading::read_file;
+use crate::vars::GroupVars;
+use pb_groups::OwnHost;
 use pb_ids::{GroupNo, HostNo};
 use pb_planes::HostSet;
 use pb_value::read_json::{JsonFault, read_json};
-use std::alloc::Global;
+use pb_value::val::Dict;
+use std::alloc::{AllocError, Global};
 use std::marker::Model;
 
-const MAX_HOSTS: usize = 65536;
-
-const MAX_GROUPS: usize = 4096;
-
-/// The hosts and the groups, by their numbers: what is mentioned first has number 0. The group
-/// `all` has number 0, and `ungrouped` 1.
+/// The hosts and the groups, by their numbers: hosts are numbered by first mention, groups in byte
+/// order of their names; and the variables that both have.
 #[derive(Drop)]
 pub struct Inventory {
-    hosts: NameList,
-    names: NameList,
-    own: Vec<OwnHost>,
-    groups: Groups,
+    pub(crate) graph: Box<Graph>,
+    pub(crate) vars: Box<AllVars>,
+}
+
+/// The variables of an inventory.
+#[derive(Drop)]
+pub struct AllVars {
+    pub group_vars: Named<GroupVars>,
+    pub host_vars: Named<Dict>,
+    /// All groups in the order in which their variables merge.
+    pub order: Vec<GroupNo>,
+    /// What is lent for a host without variables.
+    pub no_vars: Dict,
 }
 
 impl Model for Inventory {
-    ghost use Rattle.std.specs.Prelude.{◌≡◌, ◌≤◌, length};
+    ghost use Rattle.std.specs.Prelude.{◌≡◌, ◌<◌, [], length};
+    ghost use Rattle.std.specs.List.{All};
+    ghost use Rattle.std.specs.Coded.{codes};
+    ghost use Rattle.pb_value.specs.contracts.val.Val as val;
+    ghost use Rattle.pb_groups.specs.Merging.{in_order};
+    ghost use Rattle.pb_inventory.specs.GraphOf.{numbered};
     ghost use Rattle.pb_inventory.specs.InventoryOf.{InventoryOf};
+    ghost use Rattle.pb_inventory.specs.Vars.{priorities_in};
 
     ghost Value = { InventoryOf };
 
-    ghost view = { λ i. record { hosts = i.hosts; groups = i.names; own = i.own.items; links = i.groups.links } };
+    ghost coded = { Prim.hlevel (codes, val.the_row.coded) };
 
-    ghost invariant = { λ i. (length i.hosts ≤ 65536) × (length i.names ≤ 4096)
-        × (i.groups ≡ record { hosts = length i.hosts; groups = length i.names; own = i.own.items; links = i.groups.links }) };
+    ghost view = { λ i. record { hosts = i.graph.value.hosts; groups = i.graph.value.groups; own = i.graph.value.own; links = i.graph.value.links; group_vars = i.vars.value.group_vars; host_vars = i.vars.value.host_vars } };
+
+    ghost invariant = { λ i. (i.vars.value.order.items ≡ in_order (numbered i.graph.value) (priorities_in i.vars.value.group_vars i.graph.value.groups))
+        × All (λ g. g.0 < length i.graph.value.groups) i.vars.value.order.items
+        × (i.vars.value.no_vars ≡ []) };
 }
 
 impl Inventory {
     /// The inventory that the bytes of a file spell, or the first fault in them. The file is a
-    /// JSON object whose keys are groups: lists of hosts, or objects with `hosts` and
-    /// `children`. There are at most 65,536 hosts and 4,096 groups.
+    /// JSON object whose keys are groups: lists of hosts, or objects with `hosts`, `vars` and
+    /// `children`. The key `_meta` is no group: its `hostvars` has the variables of hosts. There
+    /// are at most 65,536 hosts and 4,096 groups.
     pub fn read(alloc: Global, bytes: &[u8]) -> Result<Inventory, InvFault>
         ensures value { IfOk result (λ inventory. inventory_of bytes.now ≡ Ok inventory) }
         ensures fault { IfErr result (λ e. e ≢ InvFault.Memory → inventory_of bytes.now ≡ Err e) }
     {
         match read_json(alloc, bytes) {
             Ok(json) => {
-                let listed = read_groups(alloc, &json)?;
-                Inventory::of(alloc, listed.as_slice())
+                let file = read_file(alloc, &json)?;
+                Inventory::of(alloc, file)
             }
             Err(JsonFault::NotJson) => Err(InvFault::NotJson),
             Err(JsonFault::Memory) => Err(InvFault::Memory),
         }
     }
 
-    fn of(alloc: Global, listed: &[Listed]) -> Result<Inventory, InvFault>
-        ensures value { IfOk result (λ inventory. limited listed.now ≡ Ok inventory) }
-        ensures fault { IfErr result (λ e. e ≢ InvFault.Memory → limited listed.now ≡ Err e) }
+    fn of(alloc: Global, file: FileEntries) -> Result<Inventory, InvFault>
+        ensures value { IfOk result (λ inventory. limited file ≡ Ok inventory) }
+        ensures fault { IfErr result (λ e. e ≢ InvFault.Memory → limited file ≡ Err e) }
     {
-        let names = group_names_of(alloc, listed)?;
-        if names.len() > MAX_GROUPS {
-            return Err(InvFault::TooManyGroups);
-        }
-        let hosts = host_names_of(alloc, listed)?;
-        if hosts.len() > MAX_HOSTS {
-            return Err(InvFault::TooManyHosts);
-        }
-        let own = own_of(alloc, &names, &hosts, listed)?;
-        let links = links_of(alloc, &names, listed)?;
-        let kept = Vec::from_slice(alloc, own.as_slice())?;
-        match Groups::new(alloc, hosts.len() as u32, names.len() as u32, kept, links) {
-            Ok(groups) => Ok(Inventory {
-                hosts,
-                names,
-                own,
-                groups,
-            }),
-            Err(GroupFault::Memory) => Err(InvFault::Memory),
-            Err(GroupFault::Cycle) => Err(InvFault::Cycle),
-            Err(GroupFault::TooMany) => Err(InvFault::TooManyGroups),
-        }
+        let graph = Graph::of(alloc, file.groups.as_slice())?;
+        Ok(Inventory::with_vars(alloc, graph, file)?)
+    }
+
+    fn with_vars(alloc: Global, graph: Graph, file: FileEntries) -> Result<Inventory, AllocError>
+        ensures { IfOk result (λ inventory. inventory ≡ with_vars graph file.group_vars file.host_vars) }
+    {
+        let priorities = graph.priorities(alloc, &file.group_vars)?;
+        let order = graph.in_order(alloc, priorities.as_slice())?;
+        let FileEntries {
+            groups,
+            group_vars,
+            host_vars,
+        } = file;
+        drop(groups);
+        let vars = AllVars {
+            group_vars,
+            host_vars,
+            order,
+            no_vars: Dict::new(alloc),
+        };
+        Ok(Inventory {
+            graph: Box::new(alloc, graph)?,
+            vars: Box::new(alloc, vars)?,
+        })
     }
 
     /// The number of hosts.
@@ -95,7 +116,7 @@ impl Inventory {
         ensures count { result ≡ length self.now.hosts }
         ensures limit { length self.now.hosts ≤ max_hosts }
     {
-        self.hosts.len() as u32
+        self.graph.hosts()
     }
 
     /// The name of a host.
@@ -103,20 +124,14 @@ impl Inventory {
         requires { host.0 < length self.now.hosts }
         ensures { slice_get self.now.hosts host.0 ≡ Some result.now }
     {
-        match self.hosts.get(host.0 as usize) {
-            Some(name) => name,
-            None => "",
-        }
+        self.graph.name(host)
     }
 
     /// The host of a name.
     pub fn number(&self, name: &str) -> Option<HostNo>
         ensures { option_map (λ h. h.0) result ≡ position (bytes_eq name.now) self.now.hosts }
     {
-        match self.hosts.number(name) {
-            Some(number) => Some(HostNo(number as u32)),
-            None => None,
-        }
+        self.graph.number(name)
     }
 
     /// The number of groups.
@@ -124,7 +139,7 @@ impl Inventory {
         ensures count { result ≡ length self.now.groups }
         ensures limit { length self.now.groups ≤ max_groups }
     {
-        self.names.len() as u32
+        self.graph.groups()
     }
 
     /// The name of a group.
@@ -132,27 +147,21 @@ impl Inventory {
         requires { group.0 < length self.now.groups }
         ensures { slice_get self.now.groups group.0 ≡ Some result.now }
     {
-        match self.names.get(group.0 as usize) {
-            Some(name) => name,
-            None => "",
-        }
+        self.graph.group_name(group)
     }
 
     /// The group of a name.
     pub fn group(&self, name: &str) -> Option<GroupNo>
         ensures { option_map (λ g. g.0) result ≡ position (bytes_eq name.now) self.now.groups }
     {
-        match self.names.number(name) {
-            Some(number) => Some(GroupNo(number as u32)),
-            None => None,
-        }
+        self.graph.group(name)
     }
 
     /// The own hosts of all groups, those of one group in the order of its list.
     pub fn own(&self) -> &[OwnHost]
         ensures { result.now ≡ self.now.own }
     {
-        self.own.as_slice()
+        self.graph.own()
     }
 
     /// The hosts that belong to a group.
@@ -160,7 +169,8 @@ impl Inventory {
         requires { group.0 < length self.now.groups }
         ensures width { length result.now ≡ length self.now.hosts }
         ensures members { (host : ℕ) → (is_in result.now host ≡ true) ↔ IsMember self.now.links self.now.own group.0 host }
+        ensures set { result.now ≡ members_in self.now group.0 }
     {
-        self.groups.members(group)
+        self.graph.members(group)
     }
 }

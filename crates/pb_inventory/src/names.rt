@@ -1,8 +1,11 @@
-ghost use Rattle.std.specs.Prelude.{◌≡◌, [], length, position, slice_get, string_bytes, OnOk, OnErr};
+ghost use Rattle.std.specs.Prelude.{◌≡◌, [], length, position, slice_get, string_bytes, IfOk, OnOk, OnErr};
 ghost use Rattle.std.specs.Option.{option_map};
 ghost use Rattle.std.specs.Str.{bytes_eq};
-ghost use Rattle.pb_inventory.specs.Names.{with_name};
+ghost use Rattle.pb_inventory.specs.Names.{with_name, texts};
+ghost use Rattle.pb_inventory.specs.Vars.{priorities_in, vars_under};
 
+use crate::named::Named;
+use crate::vars::GroupVars;
 use indexmap::IndexSet;
 use std::alloc::{AllocError, Global};
 use std::marker::Model;
@@ -63,5 +66,35 @@ impl NameList {
     {
         self.set.insert(name)?;
         Ok(())
+    }
+
+    /// The priorities of groups of these names.
+    pub fn priorities(&self, alloc: Global, vars: &Named<GroupVars>) -> Result<Vec<i64>, AllocError>
+        ensures { IfOk result (λ v. v.items ≡ priorities_in vars.now self.now) }
+    {
+        priorities_of(alloc, &self.set, vars)
+    }
+}
+
+fn priorities_of(
+    alloc: Global,
+    names: &IndexSet<String>,
+    vars: &Named<GroupVars>,
+) -> Result<Vec<i64>, AllocError>
+    ensures { IfOk result (λ v. v.items ≡ priorities_in vars.now (texts names.now.keys)) }
+{
+    let mut priorities = Vec::new(alloc);
+    for name in names.iter() {
+        priorities.push(priority_under(vars, name.as_str()))?;
+    }
+    Ok(priorities)
+}
+
+fn priority_under(vars: &Named<GroupVars>, name: &str) -> i64
+    ensures { result ≡ (vars_under name.now vars.now).priority }
+{
+    match vars.get(name) {
+        Some(of) => of.priority,
+        None => 1,
     }
 }

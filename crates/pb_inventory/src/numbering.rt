@@ -2,11 +2,12 @@ ghost use Rattle.std.specs.Prelude.{◌≡◌, [], ◌∷◌, codes, ◌<◌, �
 ghost use Rattle.std.specs.List.{range_with_len};
 ghost use Rattle.pb_groups.specs.Ways.{link};
 ghost use Rattle.pb_groups.specs.Members.{own_of as own};
-ghost use Rattle.pb_inventory.specs.Names.{with_name, with_names};
-ghost use Rattle.pb_inventory.specs.Graph.{host_names, group_names, numbers_of, own_listed, links_listed, missing, is_unmarked, own_of, links_of, all};
+ghost use Rattle.pb_inventory.specs.Names.{with_name, with_names, in_place};
+ghost use Rattle.pb_inventory.specs.Graph.{host_names, group_names, numbers_of, own_listed, links_listed, listed_hosts, own_under, links_under, group_number, number_first, missing, is_unmarked, own_of, links_of, all, ungrouped};
 
 use crate::listed::Listed;
 use crate::names::NameList;
+use crate::sorted::SortedNames;
 use pb_groups::{ChildLink, OwnHost};
 use pb_ids::{GroupNo, HostNo};
 use pb_value::text::Text;
@@ -32,22 +33,23 @@ pub fn host_names_of(alloc: Global, listed: &[Listed]) -> Result<NameList, Alloc
     Ok(names)
 }
 
-/// The groups `all` and `ungrouped`, and those that are listed or are children, each once.
+/// The groups `all` and `ungrouped`, and those that are listed or are children, each once, in byte
+/// order.
 pub fn group_names_of(alloc: Global, listed: &[Listed]) -> Result<NameList, AllocError>
     ensures { IfOk result (λ names. names ≡ group_names listed.now) }
 {
     let mut names = first_groups(alloc)?;
     for group in listed {
         names.insert(String::from_str(alloc, group.name.as_str())?)?;
-        add_names(alloc, &mut names, group.children.as_slice())?;
+        names.insert_all(alloc, group.children.as_slice())?;
     }
-    Ok(names)
+    names.to_list(alloc)
 }
 
-fn first_groups(alloc: Global) -> Result<NameList, AllocError>
-    ensures { IfOk result (λ names. names ≡ with_name (codes "ungrouped") (with_name (codes "all") [])) }
+fn first_groups(alloc: Global) -> Result<SortedNames, AllocError>
+    ensures { IfOk result (λ names. names ≡ in_place ungrouped (in_place all [])) }
 {
-    let mut names = NameList::new(alloc);
+    let mut names = SortedNames::new(alloc);
     names.insert(String::from_str(alloc, "all")?)?;
     names.insert(String::from_str(alloc, "ungrouped")?)?;
     Ok(names)
@@ -80,14 +82,38 @@ fn own_listed_of(
 {
     let mut own = Vec::new(alloc);
     for group in listed {
-        let numbers = numbers_in(alloc, hosts, group.hosts.as_slice())?;
-        if let Some(number) = groups.number(group.name.as_str()) {
-            if number >= 2 {
-                push_own(&mut own, number as u32, numbers.as_slice())?;
-            }
-        }
+        let numbers = numbers_in(alloc, hosts, own_list(group))?;
+        push_own_of(&mut own, groups, group.name.as_str(), numbers.as_slice())?;
     }
     Ok(own)
+}
+
+/// The hosts that are listed under a group other than `all` and `ungrouped`.
+fn own_list(group: &Listed) -> &[Text]
+    ensures { result.now ≡ listed_hosts group.now }
+{
+    let name = group.name.as_str();
+    if name != "all" && name != "ungrouped" {
+        group.hosts.as_slice()
+    } else {
+        &[]
+    }
+}
+
+/// Adds hosts as own hosts of the group of a name.
+fn push_own_of(
+    to: &mut Vec<OwnHost>,
+    groups: &NameList,
+    name: &str,
+    hosts: &[u32],
+) -> Result<(), AllocError>
+    requires { length groups.now < 2 ^ 32 }
+    ensures { OnOk result (to.new.items ≡ to.old.items ++ own_under (group_number groups.now name.now) hosts.now) }
+{
+    if let Some(group) = groups.number(name) {
+        push_own(to, group as u32, hosts)?;
+    }
+    Ok(())
 }
 
 fn push_own(to: &mut Vec<OwnHost>, group: u32, hosts: &[u32]) -> Result<(), AllocError>
@@ -114,11 +140,25 @@ fn links_listed_of(
     let mut links = Vec::new(alloc);
     for group in listed {
         let numbers = numbers_in(alloc, groups, group.children.as_slice())?;
-        if let Some(number) = groups.number(group.name.as_str()) {
-            push_links(&mut links, number as u32, numbers.as_slice())?;
-        }
+        push_links_of(&mut links, groups, group.name.as_str(), numbers.as_slice())?;
     }
     Ok(links)
+}
+
+/// Adds groups as children of the group of a name.
+fn push_links_of(
+    to: &mut Vec<ChildLink>,
+    groups: &NameList,
+    name: &str,
+    children: &[u32],
+) -> Result<(), AllocError>
+    requires { length groups.now < 2 ^ 32 }
+    ensures { OnOk result (to.new.items ≡ to.old.items ++ links_under (group_number groups.now name.now) children.now) }
+{
+    if let Some(parent) = groups.number(name) {
+        push_links(to, parent as u32, children)?;
+    }
+    Ok(())
 }
 
 fn push_links(to: &mut Vec<ChildLink>, parent: u32, children: &[u32]) -> Result<(), AllocError>
@@ -175,8 +215,8 @@ pub fn own_of(
     let grouped = hosts_of(alloc, own.as_slice())?;
     let ungrouped = missing_of(alloc, grouped.as_slice(), hosts.len() as u32)?;
     let all = numbers_below(alloc, hosts.len() as u32)?;
-    push_own(&mut own, 0, all.as_slice())?;
-    push_own(&mut own, 1, ungrouped.as_slice())?;
+    push_own_of(&mut own, groups, "all", all.as_slice())?;
+    push_own_of(&mut own, groups, "ungrouped", ungrouped.as_slice())?;
     Ok(own)
 }
 
@@ -200,19 +240,36 @@ pub fn links_of(
     ensures { IfOk result (λ v. v.items ≡ links_of groups.now listed.now) }
 {
     let mut links = links_listed_of(alloc, groups, listed)?;
-    let children = children_of(alloc, links.as_slice())?;
+    let children = children_of(alloc, groups, links.as_slice())?;
     let tops = missing_of(alloc, children.as_slice(), groups.len() as u32)?;
-    push_links(&mut links, 0, tops.as_slice())?;
+    push_links_of(&mut links, groups, "all", tops.as_slice())?;
     Ok(links)
 }
 
 /// The group `all` and the children of the links.
-fn children_of(alloc: Global, links: &[ChildLink]) -> Result<Vec<u32>, AllocError>
-    ensures { IfOk result (λ v. v.items ≡ all ∷ map (λ l. l.child.0) links.now) }
+fn children_of(
+    alloc: Global,
+    groups: &NameList,
+    links: &[ChildLink],
+) -> Result<Vec<u32>, AllocError>
+    requires { length groups.now < 2 ^ 32 }
+    ensures { IfOk result (λ v. v.items ≡ number_first (group_number groups.now all) (map (λ l. l.child.0) links.now)) }
 {
-    let mut children = vec![in alloc; 0]?;
+    let mut children = first_child(alloc, groups)?;
     for link in links {
         children.push(link.child.0)?;
+    }
+    Ok(children)
+}
+
+/// The number of the group `all`.
+fn first_child(alloc: Global, groups: &NameList) -> Result<Vec<u32>, AllocError>
+    requires { length groups.now < 2 ^ 32 }
+    ensures { IfOk result (λ v. v.items ≡ number_first (group_number groups.now all) []) }
+{
+    let mut children = Vec::new(alloc);
+    if let Some(number) = groups.number("all") {
+        children.push(number as u32)?;
     }
     Ok(children)
 }

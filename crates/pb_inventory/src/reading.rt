@@ -1,27 +1,30 @@
-ghost use Rattle.std.specs.Prelude.{◌≡◌, ◌≢◌, [], IfOk, IfErr, Ok, Err, map};
+ghost use Rattle.std.specs.Prelude.{◌≡◌, ◌≢◌, [], IfOk, IfErr, OnOk, Ok, Err, map};
 ghost use Rattle.serde_json.specs.View.{view, items_view, members_view};
-ghost use Rattle.pb_inventory.specs.Reading.{name_in, host_list, mentions, may_have, child_in, child_list, children, group_in, is_group, entry_in, listed_in};
+ghost use Rattle.pb_inventory.specs.Reading.{name_in, host_list, mentions, may_have, child_in, child_list, children, parts, group_in, nothing_of, is_empty, entry_in, entries_in, file_in, no_entries, with_group};
 
 use crate::fault::{InvFault, wrong_shape};
-use crate::listed::Listed;
+use crate::listed::{FileEntries, GroupEntry, Listed};
+use crate::meta::read_meta;
+use crate::named::Named;
+use crate::vars::{GroupVars, read_group_vars};
 use pb_value::items::Items;
 use pb_value::path::{child, child_at};
 use pb_value::text::Text;
-use serde_json::Value;
-use std::alloc::Global;
+use serde_json::{Map, Value};
+use std::alloc::{AllocError, Global};
 
-/// The groups that a file lists.
-pub fn read_groups(alloc: Global, json: &Value) -> Result<Items<Listed>, InvFault>
-    ensures value { IfOk result (λ groups. listed_in (view json.now) ≡ Ok groups) }
-    ensures fault { IfErr result (λ e. e ≢ InvFault.Memory → listed_in (view json.now) ≡ Err e) }
+/// All that a file says.
+pub fn read_file(alloc: Global, json: &Value) -> Result<FileEntries, InvFault>
+    ensures value { IfOk result (λ file. file_in (view json.now) ≡ Ok file) }
+    ensures fault { IfErr result (λ e. e ≢ InvFault.Memory → file_in (view json.now) ≡ Err e) }
 {
     match json {
         Value::Object(members) => {
-            let mut groups = Items::new(alloc);
-            for (key, member) in members.iter() {
-                groups.push(read_entry(alloc, key.as_str(), member)?)?;
+            let mut known = no_entries(alloc);
+            match read_entries(alloc, members, &mut known) {
+                Ok(()) => Ok(known),
+                Err(fault) => Err(fault),
             }
-            Ok(groups)
         }
         _ => Err(InvFault::WrongShape {
             path: Text::new(alloc),
@@ -29,57 +32,124 @@ pub fn read_groups(alloc: Global, json: &Value) -> Result<Items<Listed>, InvFaul
     }
 }
 
-fn read_entry(alloc: Global, name: &str, json: &Value) -> Result<Listed, InvFault>
+/// Takes in what the keys of a file say, one after another.
+fn read_entries(
+    alloc: Global,
+    members: &Map<String, Value>,
+    known: &mut FileEntries,
+) -> Result<(), InvFault>
+    ensures value { OnOk result (entries_in (members_view members.now.entries) known.old ≡ Ok known.new) }
+    ensures fault { IfErr result (λ e. e ≢ InvFault.Memory → entries_in (members_view members.now.entries) known.old ≡ Err e) }
+{
+    for (key, member) in members.iter() {
+        if key.as_str() == "_meta" {
+            let path = Text::from_str(alloc, key.as_str())?;
+            known.host_vars = read_meta(alloc, &path, member)?;
+        } else {
+            let entry = read_entry(alloc, key.as_str(), member)?;
+            add_group(alloc, known, entry)?;
+        }
+    }
+    Ok(())
+}
+
+fn no_entries(alloc: Global) -> FileEntries
+    ensures { result ≡ no_entries }
+{
+    FileEntries {
+        groups: Items::new(alloc),
+        group_vars: Named::new(alloc),
+        host_vars: Named::new(alloc),
+    }
+}
+
+fn add_group(alloc: Global, known: &mut FileEntries, entry: GroupEntry) -> Result<(), AllocError>
+    ensures { OnOk result (known.new ≡ with_group entry known.old) }
+{
+    let GroupEntry { listed, vars } = entry;
+    let name = String::from_str(alloc, listed.name.as_str())?;
+    known.group_vars.insert(name, vars)?;
+    known.groups.push(listed)?;
+    Ok(())
+}
+
+fn read_entry(alloc: Global, name: &str, json: &Value) -> Result<GroupEntry, InvFault>
     ensures value { IfOk result (λ group. entry_in name.now (view json.now) ≡ Ok group) }
     ensures fault { IfErr result (λ e. e ≢ InvFault.Memory → entry_in name.now (view json.now) ≡ Err e) }
 {
     let group = Text::from_str(alloc, name)?;
-    if !is_group(name) {
+    if is_empty(name) {
         return Err(InvFault::WrongShape { path: group });
     }
     read_group(alloc, group, json)
 }
 
-fn is_group(name: &str) -> bool
-    ensures { result ≡ is_group name.now }
+pub fn is_empty(name: &str) -> bool
+    ensures { result ≡ is_empty name.now }
 {
-    name != "" && name != "_meta"
+    name == ""
 }
 
-fn read_group(alloc: Global, name: Text, json: &Value) -> Result<Listed, InvFault>
+fn nothing_of(alloc: Global, name: Text) -> GroupEntry
+    ensures { result ≡ nothing_of name }
+{
+    GroupEntry {
+        listed: Listed {
+            name,
+            hosts: Items::new(alloc),
+            children: Items::new(alloc),
+        },
+        vars: GroupVars::none(alloc),
+    }
+}
+
+fn read_group(alloc: Global, name: Text, json: &Value) -> Result<GroupEntry, InvFault>
     ensures value { IfOk result (λ group. group_in name (view json.now) ≡ Ok group) }
     ensures fault { IfErr result (λ e. e ≢ InvFault.Memory → group_in name (view json.now) ≡ Err e) }
 {
     match json {
         Value::Array(items) => {
             let hosts = read_mentions(alloc, &name, items.as_slice())?;
-            Ok(Listed {
-                name,
-                hosts,
-                children: Items::new(alloc),
-            })
+            let mut known = nothing_of(alloc, name);
+            known.listed.hosts = hosts;
+            Ok(known)
         }
         Value::Object(members) => {
             let path = name.try_clone()?;
-            let mut known = Listed {
-                name,
-                hosts: Items::new(alloc),
-                children: Items::new(alloc),
-            };
-            for (key, member) in members.iter() {
-                let here = child(alloc, &path, key.as_str())?;
-                if key.as_str() == "children" {
-                    known.children = read_child_list(alloc, &known.name, &here, member)?;
-                } else if key.as_str() == "hosts" {
-                    known.hosts = read_host_list(alloc, &here, member)?;
-                } else {
-                    return Err(InvFault::WrongShape { path: here });
-                }
+            let mut known = nothing_of(alloc, name);
+            match read_parts(alloc, &path, members, &mut known) {
+                Ok(()) => Ok(known),
+                Err(fault) => Err(fault),
             }
-            Ok(known)
         }
         _ => Err(InvFault::WrongShape { path: name }),
     }
+}
+
+/// Takes in what the members of a group's object say.
+fn read_parts(
+    alloc: Global,
+    path: &Text,
+    members: &Map<String, Value>,
+    known: &mut GroupEntry,
+) -> Result<(), InvFault>
+    ensures value { OnOk result (parts path.now (members_view members.now.entries) known.old ≡ Ok known.new) }
+    ensures fault { IfErr result (λ e. e ≢ InvFault.Memory → parts path.now (members_view members.now.entries) known.old ≡ Err e) }
+{
+    for (key, member) in members.iter() {
+        let here = child(alloc, path, key.as_str())?;
+        if key.as_str() == "children" {
+            let names = read_child_list(alloc, &known.listed.name, &here, member)?;
+            known.listed.children = names;
+        } else if key.as_str() == "hosts" {
+            known.listed.hosts = read_host_list(alloc, &here, member)?;
+        } else if key.as_str() == "vars" {
+            known.vars = read_group_vars(alloc, &here, member)?;
+        } else {
+            return Err(InvFault::WrongShape { path: here });
+        }
+    }
+    Ok(())
 }
 
 fn read_host_list(alloc: Global, path: &Text, json: &Value) -> Result<Items<Text>, InvFault>

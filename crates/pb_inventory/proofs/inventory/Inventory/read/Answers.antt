@@ -3,17 +3,17 @@ use Rattle.std.proofs.lemmas.Grind.{common_steps}
 use Rattle.pb_inventory.specs.Reading.{inventory_of}
 use Rattle.pb_inventory.proofs.inventory.Inventory.read.Goals as goal
 
-pub returns-in_err-listed-in-Ok-clause-fault : goal.returns-in_err-listed-in-Ok-clause-fault
+pub returns-in_err-file-in-Ok-clause-fault : goal.returns-in_err-file-in-Ok-clause-fault
 unfolding inventory_of
-returns-in_err-listed-in-Ok-clause-fault c = grind (arith, common_steps)
+returns-in_err-file-in-Ok-clause-fault c = grind (arith, common_steps)
 
-pub returns-in_ok-listed-in-Ok-clause-value : goal.returns-in_ok-listed-in-Ok-clause-value
+pub returns-in_ok-file-in-Ok-clause-value : goal.returns-in_ok-file-in-Ok-clause-value
 unfolding inventory_of
-returns-in_ok-listed-in-Ok-clause-value c = grind (arith, common_steps)
+returns-in_ok-file-in-Ok-clause-value c = grind (arith, common_steps)
 
-pub returns-in_ok-listed-in-Ok-clause-fault : goal.returns-in_ok-listed-in-Ok-clause-fault
+pub returns-in_ok-file-in-Ok-clause-fault : goal.returns-in_ok-file-in-Ok-clause-fault
 unfolding inventory_of
-returns-in_ok-listed-in-Ok-clause-fault c = grind (arith, common_steps)
+returns-in_ok-file-in-Ok-clause-fault c = grind (arith, common_steps)
 
 pub returns-in-Err-NotJson-clause-fault : goal.returns-in-Err-NotJson-clause-fault
 unfolding inventory_of
