@@ -1,0 +1,7 @@
+pub mod Chosen
+pub mod Faults
+pub mod Meant
+pub mod Orders
+pub mod Rows
+pub mod SetLaws
+pub mod Trimming

@@ -1,0 +1,11 @@
+pub mod Choosing
+pub mod Built
+pub mod Cutting
+pub mod Fitting
+pub mod Globs
+pub mod Reading
+pub mod Rows
+pub mod Selection
+pub mod Sets
+pub mod Spelling
+pub mod Subscripts

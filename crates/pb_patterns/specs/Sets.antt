@@ -1,0 +1,95 @@
+-- The hosts that an element means in an inventory.
+use Rattle.std.specs.Prelude.{◌≡◌, ℕ, ◌+◌, ◌-◌, Bool, false, ◌&&◌, ◌||◌, ◌==◌, not, nat_le, List, [], ◌∷◌, ◌++◌, map, filter, take, drop, length, slice_index_or, Option, Some, None, position, codes, if◌then◌else◌}
+use Rattle.std.specs.List.{list_any, range_with_len}
+use Rattle.std.specs.Str.{bytes_eq}
+use Rattle.regex.specs.Patterns.{Re, Match, find_str}
+use Rattle.regex.specs.Strings.{regex_pattern}
+use Rattle.regex.specs.declared.string.regex.Regex.{Regex}
+use Rattle.pb_planes.specs.Set.{is_in}
+use Rattle.pb_groups.specs.declared.links.OwnHost.{OwnHost}
+use Rattle.pb_inventory.specs.InventoryOf.{InventoryOf}
+use Rattle.pb_inventory.specs.MemberSets.{members_in}
+use Rattle.pb_patterns.specs.declared.element.Subscript.{Subscript}
+use Rattle.pb_patterns.specs.declared.element.Subscript.TheVariants.{At, FromEnd, Between, From}
+use Rattle.pb_patterns.specs.declared.element.What.{What}
+use Rattle.pb_patterns.specs.declared.element.What.TheVariants as what
+use Rattle.pb_patterns.specs.Built.{IsRegexOf}
+use Rattle.pb_patterns.specs.Globs.{glob, is_wild}
+
+-- of each host whether f holds of its number
+abbrev pub each_host : ℕ → (ℕ → Bool) → List Bool
+each_host hosts f = map f (range_with_len 0 hosts)
+
+-- the hosts whose names pass a test, and the members of the groups whose names pass it
+abbrev pub is_meant : InventoryOf → (List ℕ → Bool) → ℕ → Bool
+is_meant inventory test host =
+    test (slice_index_or inventory.hosts host [])
+    || list_any (λ g. test (slice_index_or inventory.groups g []) && is_in (members_in inventory g) host) (range_with_len 0 (length inventory.groups))
+
+abbrev pub meant : InventoryOf → (List ℕ → Bool) → List Bool
+meant inventory test = each_host (length inventory.hosts) (is_meant inventory test)
+
+-- a name is that of a group, else of a host
+abbrev pub one_host : ℕ → Option ℕ → List Bool
+one_host hosts (Some h) = each_host hosts (λ k. k == h)
+one_host hosts None = each_host hosts (λ k. false)
+
+abbrev pub group_else : InventoryOf → List ℕ → Option ℕ → List Bool
+group_else inventory name (Some g) = members_in inventory g
+group_else inventory name None = one_host (length inventory.hosts) (position (bytes_eq name) inventory.hosts)
+
+abbrev pub named : InventoryOf → List ℕ → List Bool
+named inventory name = group_else inventory name (position (bytes_eq name) inventory.groups)
+
+-- a term with `*` or `?` means all the groups and hosts whose names fit it; another term means the group or host of that name
+abbrev pub term_set : InventoryOf → List ℕ → List Bool
+term_set inventory term = if is_wild term then meant inventory (glob term) else named inventory term
+
+-- A subscript counts the hosts of a group's own list first, in their order there and each once, and then the other hosts in their order.
+abbrev pub contains : List ℕ → ℕ → Bool
+contains hosts host = list_any (λ h. h == host) hosts
+
+abbrev pub once : List ℕ → List ℕ
+once [] = []
+once (h ∷ hs) = h ∷ filter (λ other. not (other == h)) (once hs)
+
+abbrev pub in_order : List ℕ → List Bool → List ℕ
+in_order first set = once first ++ filter (λ h. is_in set h && not (contains first h)) (range_with_len 0 (length set))
+
+abbrev pub own_hosts : List OwnHost → ℕ → List ℕ
+own_hosts own group = map (λ o. o.host.0) (filter (λ o. o.group.0 == group) own)
+
+-- the group whose own list counts first: neither `all` nor `ungrouped`, nor one among several
+abbrev pub listing : InventoryOf → List ℕ → Option ℕ
+listing inventory term = if is_wild term || (bytes_eq term (codes "all") || bytes_eq term (codes "ungrouped")) then None else position (bytes_eq term) inventory.groups
+
+abbrev pub listed : InventoryOf → Option ℕ → List ℕ
+listed inventory None = []
+listed inventory (Some group) = own_hosts inventory.own group
+
+-- the part of a list that a subscript means: both ends of a range are in it, and what is out of range is left out
+abbrev pub picked : Subscript → List ℕ → List ℕ
+picked (At i) hosts = take 1 (drop i hosts)
+picked (FromEnd i) hosts = if nat_le 1 i && nat_le i (length hosts) then take 1 (drop (length hosts - i) hosts) else []
+picked (Between i j) hosts = take (j + 1 - i) (drop i hosts)
+picked (From i) hosts = drop i hosts
+
+abbrev pub ordered : InventoryOf → List ℕ → List ℕ
+ordered inventory term = in_order (listed inventory (listing inventory term)) (term_set inventory term)
+
+abbrev pub set_of : InventoryOf → List ℕ → Option Subscript → List Bool
+set_of inventory term None = term_set inventory term
+set_of inventory term (Some subscript) = each_host (length inventory.hosts) (contains (picked subscript (ordered inventory term)))
+
+-- a regular expression means what it matches from the first character of a name on: the first match in the name begins there
+abbrev pub begins_at_first : Option Match → Bool
+begins_at_first None = false
+begins_at_first (Some m) = m.start == 0
+
+abbrev pub starts : Re → List ℕ → Bool
+starts pattern name = begins_at_first (find_str pattern name 0)
+
+-- the hosts that an element means; for a regular expression they are told by the pattern that was built for it
+abbrev pub IsSetOf : InventoryOf → What → List Bool → Type 0
+IsSetOf inventory (what.Term term subscript) set = set ≡ set_of inventory term subscript
+IsSetOf inventory (what.Regex source) set = (regex : Regex) × IsRegexOf source regex × (set ≡ meant inventory (starts (regex_pattern regex)))

@@ -1,0 +1,87 @@
+ghost use Rattle.std.specs.Prelude.{◌≡◌, IfOk, map};
+ghost use Rattle.std.specs.Str.{chars};
+ghost use Rattle.regex.specs.Patterns.{find_str};
+ghost use Rattle.regex.specs.Strings.{regex_pattern, matcher_pattern};
+ghost use Rattle.pb_patterns.specs.Globs.{fits};
+ghost use Rattle.pb_patterns.specs.Sets.{starts};
+
+use crate::glob::{chars_of, fits};
+use pb_ids::{GroupNo, HostNo};
+use pb_inventory::inventory::Inventory;
+use regex::{Matcher, Regex};
+use std::alloc::{AllocError, Global};
+
+/// Of each host whether its name fits.
+pub fn hosts_that_fit(
+    alloc: Global,
+    inventory: &Inventory,
+    term: &[char],
+) -> Result<Vec<bool>, AllocError>
+    ensures { IfOk result (λ hits. hits.items ≡ map (λ name. fits term.now (chars name)) inventory.now.hosts) }
+{
+    let mut hits = Vec::new(alloc);
+    for host in 0..inventory.hosts() {
+        let name = chars_of(alloc, inventory.name(HostNo(host)))?;
+        hits.push(fits(alloc, term, name.as_slice())?)?;
+    }
+    Ok(hits)
+}
+
+/// Of each group whether its name fits.
+pub fn groups_that_fit(
+    alloc: Global,
+    inventory: &Inventory,
+    term: &[char],
+) -> Result<Vec<bool>, AllocError>
+    ensures { IfOk result (λ hits. hits.items ≡ map (λ name. fits term.now (chars name)) inventory.now.groups) }
+{
+    let mut hits = Vec::new(alloc);
+    for group in 0..inventory.groups() {
+        let name = chars_of(alloc, inventory.group_name(GroupNo(group)))?;
+        hits.push(fits(alloc, term, name.as_slice())?)?;
+    }
+    Ok(hits)
+}
+
+/// Whether the first match in the name begins at its first character.
+fn starts(matcher: &mut Matcher<'_>, name: &str) -> bool
+    ensures value { result ≡ starts (matcher_pattern matcher.old) name.now }
+    ensures same { matcher_pattern matcher.new ≡ matcher_pattern matcher.old }
+{
+    match matcher.find(name) {
+        Some(found) => found.start() == 0,
+        None => false,
+    }
+}
+
+/// Of each host whether the expression matches from the first character of its name on.
+pub fn hosts_that_match(
+    alloc: Global,
+    inventory: &Inventory,
+    regex: &Regex,
+) -> Result<Vec<bool>, AllocError>
+    ensures { IfOk result (λ hits. hits.items ≡ map (starts (regex_pattern regex.now)) inventory.now.hosts) }
+{
+    let mut matcher = regex.matcher(alloc)?;
+    let mut hits = Vec::new(alloc);
+    for host in 0..inventory.hosts() {
+        hits.push(starts(&mut matcher, inventory.name(HostNo(host))))?;
+    }
+    Ok(hits)
+}
+
+/// Of each group whether the expression matches from the first character of its name on.
+pub fn groups_that_match(
+    alloc: Global,
+    inventory: &Inventory,
+    regex: &Regex,
+) -> Result<Vec<bool>, AllocError>
+    ensures { IfOk result (λ hits. hits.items ≡ map (starts (regex_pattern regex.now)) inventory.now.groups) }
+{
+    let mut matcher = regex.matcher(alloc)?;
+    let mut hits = Vec::new(alloc);
+    for group in 0..inventory.groups() {
+        hits.push(starts(&mut matcher, inventory.group_name(GroupNo(group))))?;
+    }
+    Ok(hits)
+}
