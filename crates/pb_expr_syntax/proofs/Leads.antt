@@ -13,7 +13,8 @@ use Rattle.pb_expr_syntax.specs.Tree as tree
 use Rattle.pb_expr_syntax.specs.declared.grammar.Make.TheVariants as make
 use Rattle.pb_expr_syntax.specs.Tree.{Tree, trees_of}
 use Rattle.pb_expr_syntax.specs.Choice.{choice}
-use Rattle.pb_expr_syntax.proofs.Tables.{look_code, looks, member, nullable, first, every, implies, firsts, empties, follows, asks, keeps, is_right, picks, all_right}
+use Rattle.pb_expr_syntax.specs.Looks.{look_code, looks}
+use Rattle.pb_expr_syntax.proofs.Tables.{member, nullable, first, every, implies, firsts, empties, follows, asks, keeps, is_right, picks, all_right}
 use Rattle.pb_expr_syntax.specs.Machine.{head_of, State, StepsTo, TakesTo, CannotTake}
 use Rattle.pb_expr_syntax.proofs.Starts.{and_left, and_right, implies_of, every_nth, every_look, starts, starts-append, starts_as_read}
 

@@ -7,3 +7,4 @@ pub mod Parsed
 pub mod Fits
 pub mod Lexing
 pub mod Contents
+pub mod Computed

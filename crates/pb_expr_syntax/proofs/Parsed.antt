@@ -109,10 +109,10 @@ refused_end tokens next vs Memory r f = tt
 refused_end tokens next vs End r f = (next, begins tokens next [] vs r, more_soon tokens next vs End r f)
 refused_end tokens next vs (Unexpected at) r f = (next, begins tokens next [] vs r, inl (more_soon tokens next vs (Unexpected at) r f))
 
-nothing_spelt : (tokens : List Tok) (next : ℕ) → NoneGoesOn false tokens next → (t : Tree) → Spells tokens t → ⊥
+pub nothing_spelt : (tokens : List Tok) (next : ℕ) → NoneGoesOn false tokens next → (t : Tree) → Spells tokens t → ⊥
 nothing_spelt tokens next none t reads = none (drop next tokens) t refl (subst (λ ts. Spells ts t) (sym (take-append-drop next tokens)) reads)
 
-dead_strict : (tokens : List Tok) (symbol : Symbol) (old : State) → Running tokens old.next (symbol ∷ old.symbols) old.parts → Stops tokens symbol old → (t : Tree) → Spells tokens t → ⊥
+pub dead_strict : (tokens : List Tok) (symbol : Symbol) (old : State) → Running tokens old.next (symbol ∷ old.symbols) old.parts → Stops tokens symbol old → (t : Tree) → Spells tokens t → ⊥
 dead_strict tokens (Go q) old r s = nothing_spelt tokens old.next (none_goes_on false tokens old.next (dead_go false tokens old.next q old.symbols old.parts r.strict s))
 dead_strict tokens (Take k how) old r s = nothing_spelt tokens old.next (none_goes_on false tokens old.next (dead_take_any false tokens k how old r.strict s))
 dead_strict tokens (Do m) old r s = nothing_spelt tokens old.next (none_goes_on false tokens old.next (dead_make false tokens old.next m old.symbols old.parts r.strict s))
@@ -132,7 +132,7 @@ none_step tokens symbol old Memory r s = tt
 none_step tokens symbol old End r s = dead_strict tokens symbol old r (stops_of tokens symbol old End s)
 none_step tokens symbol old (Unexpected at) r s = dead_strict tokens symbol old r (stops_of tokens symbol old (Unexpected at) s)
 
-dead_at_end : (tokens : List Tok) (next : ℕ) (vs : List Part) (e : Refusal) → Running tokens next [] vs → StopsAtEnd e (drop next tokens) vs → NoneGoesOn false tokens next
+pub dead_at_end : (tokens : List Tok) (next : ℕ) (vs : List Part) (e : Refusal) → Running tokens next [] vs → StopsAtEnd e (drop next tokens) vs → NoneGoesOn false tokens next
 dead_at_end tokens next vs e r stop = by_rest (drop next tokens) refl stop
   where
     by_rest : (rest : List Tok) → drop next tokens ≡ rest → StopsAtEnd e rest vs → NoneGoesOn false tokens next

@@ -6,7 +6,8 @@ use Rattle.pb_expr_syntax.specs.declared.grammar.Symbol.{Symbol}
 use Rattle.pb_expr_syntax.specs.declared.grammar.Symbol.TheVariants.{Take, Go, Do}
 use Rattle.pb_expr_syntax.specs.Grammar.{Tok, Part, rules, nth, Reads, done, take, go, do_make}
 use Rattle.pb_expr_syntax.specs.Machine.{head_of}
-use Rattle.pb_expr_syntax.proofs.Tables.{look_code, looks, member, nullable, first, every, implies, firsts, empties, keeps, is_right, picks, all_right}
+use Rattle.pb_expr_syntax.specs.Looks.{look_code, looks}
+use Rattle.pb_expr_syntax.proofs.Tables.{member, nullable, first, every, implies, firsts, empties, keeps, is_right, picks, all_right}
 
 pub and_left : (a b : Bool) → (a && b) ≡ true → a ≡ true
 and_left true b h = refl
@@ -26,7 +27,7 @@ every_nth p [] place x e h = cc
 every_nth p (y ∷ ys) zero x e h = let same : y ≡ x = cc in subst (λ z. p z ≡ true) same (and_left (p y) (every p ys) e)
 every_nth p (y ∷ ys) (suc place) x e h = every_nth p ys place x (and_right (p y) (every p ys) e) h
 
-look_at : (h : Option Kind) → nth looks (look_code h) ≡ Some h
+pub look_at : (h : Option Kind) → nth looks (look_code h) ≡ Some h
 look_at None = refl
 look_at (Some kind.Digits) = refl
 look_at (Some kind.Text) = refl

@@ -7,6 +7,8 @@ pub mod Depth
 pub mod Grammar
 pub mod Choice
 pub mod Machine
+pub mod Looks
+pub mod Computed
 pub mod Views
 pub mod Tokens
 pub mod Spelling

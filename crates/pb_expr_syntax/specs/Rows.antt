@@ -1,11 +1,12 @@
 -- Worked examples: each is proved by computing both sides.
-use Rattle.std.specs.Prelude.{◌≡◌, ℕ, ℤ, pos, List, [], ◌∷◌, Ok, Err, codes, refl}
+use Rattle.std.specs.Prelude.{◌≡◌, ℕ, ℤ, pos, List, [], ◌∷◌, Ok, Err, Some, None, codes, refl}
+use Rattle.pb_expr_syntax.specs.Computed.{tree_of, tree_of_tokens}
 use Rattle.pb_expr_syntax.specs.declared.fault.ExprFault.TheVariants.{Unexpected, End, NumberTooLarge}
 use Rattle.pb_expr_syntax.specs.declared.grammar.Kind.{Kind}
 use Rattle.pb_expr_syntax.specs.declared.grammar.Kind.TheVariants as kind
 use Rattle.pb_expr_syntax.specs.declared.token.Token.{Token}
 use Rattle.pb_expr_syntax.specs.declared.tree.Op.TheVariants as op
-use Rattle.pb_expr_syntax.specs.Tree.{Name, Not, Binary, ListOf, no_trees}
+use Rattle.pb_expr_syntax.specs.Tree.{Int, Name, Not, Binary, ListOf, no_trees}
 use Rattle.pb_expr_syntax.specs.Depth.{depth}
 use Rattle.pb_expr_syntax.specs.Tokens.{tokens_of}
 
@@ -49,3 +50,12 @@ depth_of_empty_list = refl
 
 depth_of_not_in : depth (Not (Binary op.NotIn (Name (codes "a")) (ListOf no_trees))) ≡ 3
 depth_of_not_in = refl
+
+-- the tree that is computed for a text; a comparison isn't chained
+sum_of_text : tree_of (codes "a + 10") ≡ Some (Binary op.Plus (Name (codes "a")) (Int (pos 10)))
+unfolding tree_of tree_of_tokens
+sum_of_text = refl
+
+chained : tree_of (codes "1 < 2 < 3") ≡ None
+unfolding tree_of tree_of_tokens
+chained = refl

@@ -1,5 +1,6 @@
 //! Reads a text as an expression.
-ghost use Rattle.std.specs.Prelude.{◌≡◌, ◌≢◌, ◌≤◌, IfOk, IfErr, Ok, length};
+ghost use Rattle.std.specs.Prelude.{◌≡◌, ◌≢◌, ◌≤◌, IfOk, IfErr, Ok, Some, None, length};
+ghost use Rattle.pb_expr_syntax.specs.Computed.{tree_of};
 ghost use Rattle.pb_expr_syntax.specs.Tree.{Tree};
 ghost use Rattle.pb_expr_syntax.specs.Spelling.{spells, fault_of, FirstFault};
 
@@ -30,11 +31,16 @@ impl Expr {
     /// 4,096 bytes; the first bad token; the first token that can't go on, or a text that stops
     /// short; a tree deeper than 64. The grammar follows "Using filters to manipulate data" and
     /// "Tests" of Ansible's documentation and Jinja's template designer documentation.
+    ///
+    /// `tree_of` computes the same tree, for what is said of texts in the crates above.
+    #[tactic(auto, using(crate::proofs::Computed::tree_is, crate::proofs::Computed::tree_is_none))]
     pub fn parse(alloc: Global, text: &str) -> Result<Expr, ExprFault>
         ensures spelt { IfOk result (λ x. spells text.now x) }
         ensures only { IfOk result (λ x. (t : Tree) → spells text.now t → t ≡ x) }
         ensures none { IfErr result (λ e. e ≢ ExprFault.Memory → (t : Tree) → spells text.now t → ⊥) }
         ensures fault { IfErr result (λ e. e ≢ ExprFault.Memory → FirstFault text.now e) }
+        ensures computed { IfOk result (λ x. tree_of text.now ≡ Some x) }
+        ensures not_computed { IfErr result (λ e. e ≢ ExprFault.Memory → tree_of text.now ≡ None) }
     {
         if text.len() > MAX_BYTES {
             return Err(ExprFault::TooDeep);

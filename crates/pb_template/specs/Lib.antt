@@ -1,2 +1,4 @@
 pub mod Pieces
 pub mod Parts
+pub mod Computed
+pub mod Rows

@@ -1,5 +1,6 @@
 //! Templates and their parts.
-ghost use Rattle.std.specs.Prelude.{◌≡◌, ◌≢◌, List, IfOk, IfErr};
+ghost use Rattle.std.specs.Prelude.{◌≡◌, ◌≢◌, List, IfOk, IfErr, Some, None};
+ghost use Rattle.pb_template.specs.Computed.{part_in, parts_in, template_of};
 ghost use Rattle.std.specs.Option.{option_copied};
 ghost use Rattle.pb_expr_syntax.specs.declared.fault.ExprFault.TheVariants as fault;
 ghost use Rattle.pb_template.specs.declared.template.Part.{Part};
@@ -32,6 +33,8 @@ fn part_of(alloc: Global, piece: &Piece) -> Result<Part, ExprFault>
     ensures only { IfOk result (λ p. (q : Part) → IsPart piece.now q → q ≡ p) }
     ensures none { IfErr result (λ e. e ≢ fault.Memory → (q : Part) → IsPart piece.now q → ⊥) }
     ensures fault { IfErr result (λ e. e ≢ fault.Memory → IsBad piece.now e) }
+    ensures computed { IfOk result (λ p. part_in piece.now ≡ Some p) }
+    ensures not_computed { IfErr result (λ e. e ≢ fault.Memory → part_in piece.now ≡ None) }
 {
     match piece {
         Piece::Plain(text) => Ok(Part::Plain(text.try_clone()?)),
@@ -48,11 +51,16 @@ impl Template {
     /// the first expression which has one, counted from behind its `{{`. The `}}` that ends an
     /// expression is the first outside of the expression's texts. The meaning of the braces is
     /// Jinja's, as in "Templating (Jinja2)" of Ansible's documentation.
+    ///
+    /// `template_of` computes the same parts, for what is said of texts in the crates above.
+    #[tactic(auto, unfolding(crate::specs::Computed::template_of))]
     pub fn parse(alloc: Global, text: &str) -> Result<Template, ExprFault>
         ensures parts { IfOk result (λ t. IsTemplate text.now t.parts) }
         ensures only { IfOk result (λ t. (parts : List Part) → IsTemplate text.now parts → parts ≡ t.parts) }
         ensures none { IfErr result (λ e. e ≢ fault.Memory → (parts : List Part) → IsTemplate text.now parts → ⊥) }
         ensures fault { IfErr result (λ e. e ≢ fault.Memory → FirstBad text.now e) }
+        ensures computed { IfOk result (λ t. template_of text.now ≡ Some t.parts) }
+        ensures not_computed { IfErr result (λ e. e ≢ fault.Memory → template_of text.now ≡ None) }
     {
         let pieces = match pieces_of(alloc, text) {
             Ok(pieces) => pieces,
@@ -83,6 +91,8 @@ fn parts_of(alloc: Global, pieces: &[Piece]) -> Result<Vec<Part>, ExprFault>
     ensures only { IfOk result (λ ps. (qs : List Part) → AreParts pieces.now qs → qs ≡ ps.items) }
     ensures none { IfErr result (λ e. e ≢ fault.Memory → (qs : List Part) → AreParts pieces.now qs → ⊥) }
     ensures fault { IfErr result (λ e. e ≢ fault.Memory → HasBad pieces.now e) }
+    ensures computed { IfOk result (λ ps. parts_in pieces.now ≡ Some ps.items) }
+    ensures not_computed { IfErr result (λ e. e ≢ fault.Memory → parts_in pieces.now ≡ None) }
 {
     let mut parts = Vec::new(alloc);
     for piece in pieces {

@@ -1,0 +1,144 @@
+-- The tree that is computed is the one that is spelt.
+use Rattle.std.proofs.Common.{◌≡◌, ℕ, zero, suc, ◌+◌, ◌*◌, ◌<◌, ◌≤◌, nat_le, nat_eq, Bool, true, false, List, [], ◌∷◌, Option, Some, None, refl, sym, ◌∙◌, ap, subst, drop, length, arith}
+use Rattle.std.proofs.lemmas.Bool.Decides.{nat_tests}
+use Rattle.std.specs.Prelude.{Result, Ok, Err, if◌then◌else◌}
+use Rattle.std.specs.Option.{option_map}
+use Rattle.pb_expr_syntax.specs.declared.fault.ExprFault.{ExprFault}
+use Rattle.pb_expr_syntax.specs.declared.grammar.Make.{Make}
+use Rattle.pb_expr_syntax.specs.declared.grammar.Rule.{Rule}
+use Rattle.pb_expr_syntax.specs.Views.{StopsAtEnd}
+use Rattle.pb_expr_syntax.specs.declared.grammar.How.{How}
+use Rattle.pb_expr_syntax.specs.declared.grammar.Kind.{Kind}
+use Rattle.pb_expr_syntax.specs.declared.grammar.Symbol.{Symbol}
+use Rattle.pb_expr_syntax.specs.declared.grammar.Symbol.TheVariants.{Take, Go, Do}
+use Rattle.pb_expr_syntax.specs.declared.parser.Refusal.TheVariants.{Unexpected}
+use Rattle.pb_expr_syntax.specs.Choice.{choice}
+use Rattle.pb_expr_syntax.specs.Computed.{taken_from, stepped, sole, behind, goes, first_with, run, tree_of_tokens, not_deeper, tree_of_result, tree_of}
+use Rattle.pb_expr_syntax.specs.Depth.{depth}
+use Rattle.pb_expr_syntax.specs.Grammar.{Tok, Part, One, Spells, begin, rules, nth, taken, made}
+use Rattle.pb_expr_syntax.specs.Looks.{is_kind, look_code, looks}
+use Rattle.pb_expr_syntax.specs.Machine.{State, head_of, StepsTo, Stops, TakesTo, CannotTake, went, took, built}
+use Rattle.pb_expr_syntax.specs.Spelling.{spells}
+use Rattle.pb_expr_syntax.specs.Tokens.{tokens_of}
+use Rattle.pb_expr_syntax.specs.Tree.{Tree}
+use Rattle.pb_expr_syntax.proofs.Fuel.{fuel, fuel_step, left_of}
+use Rattle.pb_expr_syntax.proofs.Parsed.{Running, running_begin, running_step, dead_strict, dead_at_end, nothing_spelt, spelt, spelt_only}
+use Rattle.pb_expr_syntax.proofs.Fits.{single}
+use Rattle.pb_expr_syntax.proofs.Starts.{look_at}
+
+same_kind : (a b : Kind) → is_kind a b ≡ true → a ≡ b
+same_kind a b e =
+    let n : look_code (Some a) ≡ look_code (Some b) = grind (arith, nat_tests) in
+    let s : Some (Some a) ≡ Some (Some b) = sym (look_at (Some a)) ∙ ap (nth looks) n ∙ look_at (Some b) in
+    cc
+
+kind_self : (a b : Kind) → a ≡ b → is_kind a b ≡ true
+kind_self a b e =
+    let n : look_code (Some a) ≡ look_code (Some b) = ap (λ k. look_code (Some k)) e in
+    grind (arith, nat_tests)
+
+-- a step that is computed is a step, and where none is computed there is none
+abbrev Leads : List Tok → Symbol → State → Option State → Type 0
+Leads tokens x old None = Stops tokens x old
+Leads tokens x old (Some new) = StepsTo tokens x old new
+
+abbrev TakeLeads : List Tok → Kind → How → State → Option State → Type 0
+TakeLeads rest k how old None = CannotTake rest k how old
+TakeLeads rest k how old (Some new) = TakesTo rest k how old new
+
+take_parts : (t : Tok) (ts : List Tok) (k : Kind) (how : How) (old : State) (o : Option (List Part)) → t.kind ≡ k → taken how t old.parts ≡ o → TakeLeads (t ∷ ts) k how old (option_map (took old) o)
+take_parts t ts k how old None same e = λ _. e
+take_parts t ts k how old (Some ws) same e = (same, ws, e, refl)
+
+take_kind : (t : Tok) (ts : List Tok) (k : Kind) (how : How) (old : State) (b : Bool) → is_kind t.kind k ≡ b → TakeLeads (t ∷ ts) k how old (if b then option_map (took old) (taken how t old.parts) else None)
+take_kind t ts k how old true e = take_parts t ts k how old (taken how t old.parts) (same_kind t.kind k e) refl
+take_kind t ts k how old false e = λ same. let yes_it_is : is_kind t.kind k ≡ true = kind_self t.kind k same in cc
+
+take_is : (rest : List Tok) (k : Kind) (how : How) (old : State) → TakeLeads rest k how old (taken_from k how old rest)
+take_is [] k how old = tt
+take_is (t ∷ ts) k how old = take_kind t ts k how old (is_kind t.kind k) refl
+
+take_leads : (tokens : List Tok) (k : Kind) (how : How) (old : State) (o : Option State) → TakeLeads (drop old.next tokens) k how old o → Leads tokens (Take k how) old o
+take_leads tokens k how old None h = h
+take_leads tokens k how old (Some new) h = h
+
+go_is : (tokens : List Tok) (r : Rule) (old : State) (o : Option (List Symbol)) → nth (rules r) (choice r (head_of (drop old.next tokens))) ≡ o → Leads tokens (Go r) old (option_map (λ a. went a old) o)
+go_is tokens r old None e = e
+go_is tokens r old (Some a) e = (a, e, refl)
+
+do_is : (tokens : List Tok) (m : Make) (old : State) (o : Option (List Part)) → made m old.parts ≡ o → Leads tokens (Do m) old (option_map (built old) o)
+do_is tokens m old None e = e
+do_is tokens m old (Some ws) e = (ws, e, refl)
+
+stepped_is : (tokens : List Tok) (x : Symbol) (old : State) → Leads tokens x old (stepped tokens x old)
+stepped_is tokens (Go r) old = go_is tokens r old (nth (rules r) (choice r (head_of (drop old.next tokens)))) refl
+stepped_is tokens (Take k how) old = take_leads tokens k how old (taken_from k how old (drop old.next tokens)) (take_is (drop old.next tokens) k how old)
+stepped_is tokens (Do m) old = do_is tokens m old (made m old.parts) refl
+
+-- the one tree that the tokens spell, or that they spell none
+abbrev Tells : List Tok → Option Tree → Type 0
+Tells tokens None = (t : Tree) → Spells tokens t → ⊥
+Tells tokens (Some u) = Spells tokens u × ((t : Tree) → Spells tokens t → t ≡ u)
+
+tells_end : (tokens : List Tok) (next : ℕ) (vs : List Part) → Running tokens next [] vs → Tells tokens (sole (drop next tokens) vs)
+tells_end tokens next vs r = by_rest (drop next tokens) refl
+  where
+    by_rest : (rest : List Tok) → drop next tokens ≡ rest → Tells tokens (sole rest vs)
+    by_rest [] at =
+        let one = single vs r.fits in
+        subst (λ us. Tells tokens (sole [] us)) (sym one.1) (spelt tokens next vs one.0 r at one.1, λ t h. spelt_only tokens next vs one.0 t r at one.1 h)
+    by_rest (t ∷ ts) at = nothing_spelt tokens next (dead_at_end tokens next vs (Unexpected t.at) r (subst (λ us. StopsAtEnd (Unexpected t.at) us vs) (sym at) refl))
+
+-- of the states behind one more step
+abbrev Later : ℕ → List Tok → Type 0
+Later n tokens = (new : State) → Running tokens new.next new.symbols new.parts → fuel new.symbols (left_of tokens new) < n → Tells tokens (run n tokens new)
+
+tells_step : (n : ℕ) (tokens : List Tok) (x : Symbol) (old : State) (o : Option State) → Later n tokens → Running tokens old.next (x ∷ old.symbols) old.parts → fuel (x ∷ old.symbols) (left_of tokens old) < suc n → Leads tokens x old o → Tells tokens (goes (run n tokens) o)
+tells_step n tokens x old None later r lt h = dead_strict tokens x old r h
+tells_step n tokens x old (Some new) later r lt h = later new (running_step tokens x old new r h) (let e = fuel_step tokens x old new h in omega arith)
+
+tells_first : (n : ℕ) (tokens : List Tok) (s : State) (all : List Symbol) → Later n tokens → Running tokens s.next all s.parts → fuel all (left_of tokens s) < suc n → Tells tokens (first_with (run n tokens) tokens s all)
+tells_first n tokens s [] later r lt = tells_end tokens s.next s.parts r
+tells_first n tokens s (x ∷ ss) later r lt = tells_step n tokens x (behind s ss) (stepped tokens x (behind s ss)) later r lt (stepped_is tokens x (behind s ss))
+
+tells : (n : ℕ) (tokens : List Tok) → Later n tokens
+tells zero tokens s r lt = absurd (omega arith)
+tells (suc n) tokens s r lt = tells_first n tokens s s.symbols (tells n tokens) r lt
+
+tells_tokens : (tokens : List Tok) → Tells tokens (tree_of_tokens tokens)
+unfolding tree_of_tokens
+tells_tokens tokens = tells (32 * length tokens + 32) tokens (record { next = 0; symbols = begin; parts = [] }) (running_begin tokens) (omega arith)
+
+told : (tokens : List Tok) (o : Option Tree) (t : Tree) → Tells tokens o → Spells tokens t → o ≡ Some t
+told tokens None t h s = absurd (h t s)
+told tokens (Some u) t h s = ap Some (sym (h.1 t s))
+
+-- the tree that a text spells is the one that is computed
+pub tree_is : (text : List ℕ) (t : Tree) → spells text t → tree_of text ≡ Some t
+unfolding tree_of
+tree_is text t s =
+    let le : nat_le (length text) 4096 ≡ true = let h = s.0 in grind (arith, nat_tests) in
+    let deep : nat_le (depth t) 64 ≡ true = let h = s.4 in grind (arith, nat_tests) in
+    let e : tree_of_tokens s.1 ≡ Some t = told s.1 (tree_of_tokens s.1) t (tells_tokens s.1) s.3 in
+    rw (le, s.2, e, deep)
+
+untold : (text : List ℕ) (tokens : List Tok) (o : Option Tree) → ((t : Tree) → spells text t → ⊥) → length text ≤ 4096 → tokens_of text ≡ Ok tokens → Tells tokens o → not_deeper o ≡ None
+untold text tokens None none le e h = refl
+untold text tokens (Some u) none le e h = by_depth (nat_le (depth u) 64) refl
+  where
+    by_depth : (b : Bool) → nat_le (depth u) 64 ≡ b → (if b then Some u else None) ≡ None
+    by_depth true d = let within : depth u ≤ 64 = grind (arith, nat_tests) in absurd (none u (le, tokens, e, h.0, within))
+    by_depth false d = refl
+
+-- and where it spells none, none is computed
+pub tree_is_none : (text : List ℕ) → ((t : Tree) → spells text t → ⊥) → tree_of text ≡ None
+unfolding tree_of
+tree_is_none text none = by_length (nat_le (length text) 4096) refl
+  where
+    by_tokens : (r : Result (List Tok) ExprFault) → length text ≤ 4096 → tokens_of text ≡ r → tree_of_result r ≡ None
+    by_tokens (Err f) le e = refl
+    by_tokens (Ok tokens) le e = untold text tokens (tree_of_tokens tokens) none le e (tells_tokens tokens)
+
+    by_length : (b : Bool) → nat_le (length text) 4096 ≡ b → (if b then tree_of_result (tokens_of text) else None) ≡ None
+    by_length true le = by_tokens (tokens_of text) (grind (arith, nat_tests)) refl
+    by_length false le = refl
