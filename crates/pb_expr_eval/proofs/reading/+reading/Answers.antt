@@ -1,0 +1,104 @@
+use Rattle.std.proofs.Common.{◌≡◌, ◌+◌, ◌*◌, ◌-◌, ◌<◌, ◌≤◌, ℕ, true, List, [], ◌∷◌, ◌++◌, Some, string_bytes, sym, ap, ◌∙◌, subst, append_assoc, string_cmp, map, arith}
+use Rattle.std.proofs.lemmas.Result.{IfOk-weaker, IfErr-weaker}
+use Rattle.std.specs.List.Sorted.{IsStrictlySortedBy}
+use Rattle.std.specs.Map.{keys_of}
+use Rattle.pb_value.specs.Datum.{Datum, named, items_of, members_of}
+use Rattle.pb_value.specs.Reading.{map_ok}
+use Rattle.pb_value.proofs.Named.{named-insert_entry}
+use Rattle.pb_expr_syntax.specs.Tree.{nodes}
+use Rattle.pb_layers.specs.Scope.{found, has_templates}
+use Rattle.pb_expr_eval.specs.Rendering.{rendered_members}
+use Rattle.pb_expr_eval.specs.Scoped.{names_in}
+use Rattle.pb_expr_eval.proofs.Members.{Entry, map_ok-none, put_after, rendered_members-step, keys_join}
+use Rattle.pb_expr_eval.proofs.Steps.{rendered_name}
+use Rattle.pb_expr_eval.proofs.Weights.{spent, part_weight, weight, items_weight, members_weight, nodes_at, weight_at, part_weight_at, member_weight, found_weight, look_up_spends}
+use Rattle.pb_expr_eval.proofs.reading.+reading.Goals as goal
+
+pub values-value-requires : goal.values-value-requires
+values-value-requires t c =
+    let w = nodes_at c.args.items.now c.loop-item.item-index c.item-item.result c.loop-item-test.true c.item-item.is in
+    let h : spent c.args.scope.now c.args.levels + 4 * nodes c.item-item.result < t = omega (arith, w) in
+    (h, tt)
+
+pub shown-text_in-requires : goal.shown-text_in-requires
+shown-text_in-requires t c =
+    let w = part_weight_at c.args.parts.now c.loop-part.part-index c.part-item.result c.loop-part-test.true c.part-item.is in
+    let h : spent c.args.scope.now c.args.levels + (4 * part_weight c.part-item.result + 1) < t = omega (arith, w) in
+    (h, tt)
+
+pub rendered_items-rendered-requires : goal.rendered_items-rendered-requires
+rendered_items-rendered-requires t c =
+    let w = weight_at c.as_slice-item-items.result.now c.loop-item.item-index c.item-item.result c.loop-item-test.true c.item-item.is in
+    let v : weight c.item-item.result ≤ items_weight (items_of c.args.stored.now) = subst (λ ds. weight c.item-item.result ≤ items_weight (items_of ds)) c.as_slice-item-items.ensures w in
+    let h : spent c.args.scope.now c.args.levels + (4 * weight c.item-item.result + 2) < t = omega (arith, v) in
+    (h, tt)
+
+pub rendered_members-rendered-requires : goal.rendered_members-rendered-requires
+rendered_members-rendered-requires t c =
+    let l = c.loop-key in
+    let done = l.invariant.0 in
+    let e : Entry = (c.in-Some.key.now, c.in-Some.member.now) in
+    let left = c.next.new.self in
+    let all : c.args.stored.now.entries ≡ done ++ e ∷ left = l.invariant.1 ∙ ap (λ es. done ++ es) c.in-Some.ensures.steps in
+    let v : weight e.1 ≤ members_weight (members_of (named c.args.stored.now.entries)) = subst (λ es. weight e.1 ≤ members_weight (members_of (named es))) (sym all) (member_weight done e left) in
+    let h : spent c.args.scope.now c.args.levels + (4 * weight c.in-Some.member.now + 2) < t = omega (arith, v) in
+    (h, tt)
+
+pub rendered_members-loop-key-preserved : goal.rendered_members-loop-key-preserved
+rendered_members-loop-key-preserved t c =
+    let l = c.loop-key in
+    let done = l.invariant.0 in
+    let e : Entry = (c.in-Some.key.now, c.in-Some.member.now) in
+    let left = c.next.new.self in
+    let x : Datum = c.in_ok-value.value in
+    let k : List ℕ = string_bytes e.0 in
+    let named_so : string_bytes c.in_ok-clone.field-0 ≡ k = c.in_ok-clone.ensures.cases in
+    let step : done ++ l.key-iterator ≡ (done ++ e ∷ []) ++ left = ap (λ es. done ++ es) c.in-Some.ensures.steps ∙ sym (append_assoc done (e ∷ []) left) in
+    let sorted : IsStrictlySortedBy string_cmp (keys_of (done ++ e ∷ left)) = subst (λ es. IsStrictlySortedBy string_cmp (keys_of (done ++ es))) c.in-Some.ensures.steps l.invariant.2 in
+    let last : named c.insert.new.self.entries ≡ named l.map.entries ++ (k, x) ∷ [] =
+    ap named c.in_ok-insert.ensures.entries ∙ named-insert_entry l.map.entries c.in_ok-clone.field-0 x
+    ∙ rw named_so (put_after done (named l.map.entries) e left x l.invariant.3 sorted) in (
+      done ++ e ∷ [],
+      l.invariant.1 ∙ step,
+      subst (λ es. IsStrictlySortedBy string_cmp (keys_of es)) step l.invariant.2,
+      ap (map (λ (m : List ℕ × Datum). m.0)) last ∙ keys_join done (named l.map.entries) e x l.invariant.3,
+      l.invariant.4 ∙ ap (λ es. map_ok (λ xs. named l.map.entries ++ xs) (rendered_members (names_in c.args.scope.now c.args.levels) (members_of (named es)))) c.in-Some.ensures.steps
+          ∙ rendered_members-step (names_in c.args.scope.now c.args.levels) e left (named l.map.entries) x c.in_ok-value.ensures.value
+          ∙ ap (λ out. map_ok (λ xs. out ++ xs) (rendered_members (names_in c.args.scope.now c.args.levels) (members_of (named left)))) (sym last),
+    )
+
+pub read-rendered-requires : goal.read-rendered-requires
+read-rendered-requires t c =
+    let f : found c.args.name.now c.args.scope.now ≡ Some (c.in-Some.found.layer, c.in-Some.found.value.now) = sym c.in-Some.ensures in
+    let w = look_up_spends c.args.scope.now c.args.levels (weight c.in-Some.found.value.now) (omega arith) (found_weight c.args.name.now c.args.scope.now (c.in-Some.found.layer, c.in-Some.found.value.now) f) in
+    let h : spent c.args.scope.now (c.args.levels - 1) + (4 * weight c.in-Some.found.value.now + 2) < t = omega (arith, w) in
+    (h, tt)
+
+pub read-returns-then-has_templates-clause-value : goal.read-returns-then-has_templates-clause-value
+read-returns-then-has_templates-clause-value t c =
+    let f : found c.args.name.now c.args.scope.now ≡ Some (c.in-Some.found.layer, c.in-Some.found.value.now) = sym c.in-Some.ensures in
+    let true_so : has_templates c.in-Some.found.layer ≡ true = cc in
+    let step = rendered_name c.args.scope.now c.args.levels c.args.name.now (c.in-Some.found.layer, c.in-Some.found.value.now) (omega arith) f true_so in
+    IfOk-weaker c.rendered.result _ _ (λ v h. step ∙ h) c.rendered.ensures.value
+
+pub read-returns-then-has_templates-clause-fault : goal.read-returns-then-has_templates-clause-fault
+read-returns-then-has_templates-clause-fault t c =
+    let f : found c.args.name.now c.args.scope.now ≡ Some (c.in-Some.found.layer, c.in-Some.found.value.now) = sym c.in-Some.ensures in
+    let true_so : has_templates c.in-Some.found.layer ≡ true = cc in
+    let step = rendered_name c.args.scope.now c.args.levels c.args.name.now (c.in-Some.found.layer, c.in-Some.found.value.now) (omega arith) f true_so in
+    IfErr-weaker c.rendered.result _ _ (λ e h other. step ∙ h other) c.rendered.ensures.fault
+
+pub rendered_members-loop-key-init : goal.rendered_members-loop-key-init
+rendered_members-loop-key-init t c =
+    let names = names_in c.args.scope.now c.args.levels in
+    let all = rendered_members names (members_of (named c.args.stored.now.entries)) in
+    let same : c.into_iter-key-iterator.result ≡ c.args.stored.now.entries = cc (c.into_iter-key-iterator.ensures.into_iter_gives, c.iter-key-items.ensures.rest) in
+    let none : c.new-map.result.entries ≡ [] = c.new-map.ensures.empty in
+    let sorted : IsStrictlySortedBy string_cmp (keys_of c.into_iter-key-iterator.result) = subst (λ es. IsStrictlySortedBy string_cmp (keys_of es)) (sym same) c.iter-key-items.ensures.ordered in (
+      [],
+      sym same,
+      sorted,
+      ap (λ (es : List Entry). map (λ (m : List ℕ × Datum). m.0) (named es)) none,
+      sym (map_ok-none all) ∙ ap (λ (es : List Entry). map_ok (λ xs. named es ++ xs) all) (sym none)
+          ∙ ap (λ (es : List Entry). map_ok (λ xs. named c.new-map.result.entries ++ xs) (rendered_members names (members_of (named es)))) (sym same),
+    )

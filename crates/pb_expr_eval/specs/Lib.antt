@@ -1,0 +1,4 @@
+pub mod Value
+pub mod Rendering
+pub mod Scoped
+pub mod Rows

@@ -1,0 +1,53 @@
+-- What templates give, where it is told what names stand for.
+use Rattle.std.specs.Prelude.{ℕ, List, [], ◌∷◌, ◌++◌, Option, Some, None, Result, Ok, Err, length, nat_le, if◌then◌else◌}
+use Rattle.pb_value.specs.Datum.{Datum, text, list, dict, items_of, members_of, Items, no_items, item, Members, no_members, member}
+use Rattle.pb_value.specs.Reading.{and_then, map_ok}
+use Rattle.pb_value.specs.ToJson.{text_of}
+use Rattle.pb_template.specs.Computed.{template_of}
+use Rattle.pb_template.specs.declared.template.Part.{Part}
+use Rattle.pb_template.specs.declared.template.Part.TheVariants.{Plain, Code}
+use Rattle.pb_operators.specs.declared.fault.EvalFault.{EvalFault}
+use Rattle.pb_operators.specs.declared.fault.EvalFault.TheVariants.{TooLarge, BadTemplate}
+use Rattle.pb_operators.specs.Values.{Value, max_text}
+use Rattle.pb_expr_eval.specs.Value.{Names, value}
+
+-- the text of a part
+abbrev pub text_in : Names → Part → Result (List ℕ) EvalFault
+text_in names (Plain s) = Ok s
+text_in names (Code t) = map_ok text_of (value names t)
+
+-- two texts in one of at most 1 MiB
+abbrev pub joined_within : List ℕ → List ℕ → Result (List ℕ) EvalFault
+joined_within s t = if nat_le (length (s ++ t)) max_text then Ok (s ++ t) else Err TooLarge
+
+-- a text with those of the parts behind it, one after the other
+abbrev pub shown : Names → List ℕ → List Part → Result (List ℕ) EvalFault
+shown names front [] = Ok front
+shown names front (p ∷ ps) = and_then (text_in names p) (λ s. and_then (joined_within front s) (λ t. shown names t ps))
+
+-- What a template gives: the value itself of a single expression, else the texts of the parts joined.
+abbrev pub render : Names → List Part → Value
+render names [] = Ok (text [])
+render names (Code t ∷ []) = value names t
+render names (p ∷ ps) = map_ok (λ s. text s) (and_then (text_in names p) (λ s. shown names s ps))
+
+-- what a text gives, if it is a template
+abbrev pub templated : Names → Option (List Part) → Value
+templated names (Some parts) = render names parts
+templated names None = Err BadTemplate
+
+-- a value with its texts rendered, in lists and dicts too
+abbrev mutual
+  pub rendered : Names → Datum → Value
+  rendered names (text s) = templated names (template_of s)
+  rendered names (list ds) = map_ok (λ es. list (items_of es)) (rendered_items names ds)
+  rendered names (dict ms) = map_ok (λ es. dict (members_of es)) (rendered_members names ms)
+  rendered names d = Ok d
+
+  pub rendered_items : Names → Items → Result (List Datum) EvalFault
+  rendered_items names no_items = Ok []
+  rendered_items names (item d ds) = and_then (rendered names d) (λ e. map_ok (λ es. e ∷ es) (rendered_items names ds))
+
+  pub rendered_members : Names → Members → Result (List (List ℕ × Datum)) EvalFault
+  rendered_members names no_members = Ok []
+  rendered_members names (member k d ms) = and_then (rendered names d) (λ e. map_ok (λ es. (k, e) ∷ es) (rendered_members names ms))

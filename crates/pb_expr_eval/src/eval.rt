@@ -1,0 +1,43 @@
+//! The public calls.
+ghost use Rattle.std.specs.Prelude.{◌≡◌, ◌≢◌, IfOk, IfErr, Ok, Err};
+ghost use Rattle.pb_operators.specs.declared.fault.EvalFault.TheVariants as fault;
+ghost use Rattle.pb_expr_eval.specs.Scoped.{eval_of, render_of};
+
+use crate::reading::{rendered_parts, value};
+use pb_expr_syntax::tree::Expr;
+use pb_layers::scope::Scope;
+use pb_operators::fault::EvalFault;
+use pb_operators::operators::finished;
+use pb_template::template::Template;
+use pb_value::val::Val;
+use std::alloc::Global;
+
+/// The most look-ups inside one another.
+pub const MAX_LOOK_UPS: u32 = 16;
+
+/// The value of an expression in a scope, or its first fault: operands are read from left to right,
+/// and what isn't needed isn't read. The value nests at most 64 levels, and is a text of at most
+/// 1 MiB ("Using variables" and "Templating (Jinja2)" of Ansible's documentation).
+#[tactic(auto, unfolding(crate::specs::Scoped::eval_of))]
+pub fn eval(alloc: Global, expr: &Expr, scope: &Scope) -> Result<Val, EvalFault>
+    ensures value { IfOk result (λ v. eval_of scope.now expr.now ≡ Ok v) }
+    ensures fault { IfErr result (λ e. e ≢ fault.Memory → eval_of scope.now expr.now ≡ Err e) }
+{
+    match value(alloc, scope, MAX_LOOK_UPS, expr) {
+        Ok(value) => finished(value),
+        Err(fault) => Err(fault),
+    }
+}
+
+/// What a template gives in a scope, or its first fault: the value itself of a single expression,
+/// else the texts of its parts joined, with the limits of `eval`.
+#[tactic(auto, unfolding(crate::specs::Scoped::render_of))]
+pub fn render(alloc: Global, template: &Template, scope: &Scope) -> Result<Val, EvalFault>
+    ensures value { IfOk result (λ v. render_of scope.now template.now.parts ≡ Ok v) }
+    ensures fault { IfErr result (λ e. e ≢ fault.Memory → render_of scope.now template.now.parts ≡ Err e) }
+{
+    match rendered_parts(alloc, scope, MAX_LOOK_UPS, template.parts.as_slice()) {
+        Ok(value) => finished(value),
+        Err(fault) => Err(fault),
+    }
+}

@@ -1,0 +1,78 @@
+//! The forms of expressions that ask of their operands no more than their values.
+ghost use Rattle.std.specs.Prelude.{◌≡◌, ◌≢◌, ◌++◌, IfOk, IfErr, Ok, Err, string_bytes};
+ghost use Rattle.pb_operators.specs.declared.fault.EvalFault.TheVariants as fault;
+ghost use Rattle.pb_value.specs.Reading.{map_ok};
+ghost use Rattle.pb_value.specs.ToJson.{text_of};
+ghost use Rattle.pb_expr_eval.specs.Value.{decides, apply, is_defined};
+ghost use Rattle.pb_expr_eval.specs.Rendering.{joined_within};
+
+use pb_expr_syntax::tree::{Filter, Op};
+use pb_operators::convert::{length, to_bool, to_int};
+use pb_operators::fault::EvalFault;
+use pb_operators::join::join;
+use pb_operators::operators::MAX_TEXT;
+use pb_value::text::Text;
+use pb_value::val::Val;
+use std::alloc::Global;
+
+/// Whether an operator's first operand alone is its value.
+pub(crate) fn decides(op: Op, x: &Val) -> bool
+    ensures { result ≡ decides op x.now }
+{
+    match op {
+        Op::And => !x.truthy(),
+        Op::Or => x.truthy(),
+        _ => false,
+    }
+}
+
+/// What a filter but `default` gives for a value and its arguments.
+pub(crate) fn apply(alloc: Global, filter: Filter, x: &Val, args: &[Val]) -> Result<Val, EvalFault>
+    ensures value { IfOk result (λ v. apply filter x.now args.now ≡ Ok v) }
+    ensures fault { IfErr result (λ e. e ≢ fault.Memory → apply filter x.now args.now ≡ Err e) }
+{
+    match (filter, args) {
+        (Filter::Length, []) => length(x),
+        (Filter::Bool, []) => Ok(Val::boolean(to_bool(x))),
+        (Filter::Int, []) => Ok(Val::int(to_int(x))),
+        (Filter::Join, []) => join(alloc, x, &Val::text(Text::new(alloc))),
+        (Filter::Join, [between]) => join(alloc, x, between),
+        _ => Err(EvalFault::WrongKind),
+    }
+}
+
+/// Whether what was read is there, or isn't; another fault than that of a name stays.
+pub(crate) fn is_defined(outcome: Result<Val, EvalFault>, present: bool) -> Result<Val, EvalFault>
+    ensures value { IfOk result (λ v. is_defined outcome present ≡ Ok v) }
+    ensures fault { IfErr result (λ e. is_defined outcome present ≡ Err e) }
+{
+    match outcome {
+        Ok(_) => Ok(Val::boolean(present)),
+        Err(EvalFault::Undefined { name: _ }) => Ok(Val::boolean(!present)),
+        Err(fault) => Err(fault),
+    }
+}
+
+/// Two texts in one of at most 1 MiB.
+pub(crate) fn joined_within(front: String, back: &str) -> Result<String, EvalFault>
+    ensures value { IfOk result (λ s. joined_within (string_bytes front) back.now ≡ Ok (string_bytes s)) }
+    ensures fault { IfErr result (λ e. e ≢ fault.Memory → joined_within (string_bytes front) back.now ≡ Err e) }
+{
+    let mut text = front;
+    if text.len() > MAX_TEXT || back.len() > MAX_TEXT - text.len() {
+        return Err(EvalFault::TooLarge);
+    }
+    text.push_str(back)?;
+    Ok(text)
+}
+
+/// The text of what was read, or its fault.
+pub(crate) fn text_of(alloc: Global, outcome: Result<Val, EvalFault>) -> Result<String, EvalFault>
+    ensures value { IfOk result (λ s. map_ok text_of outcome ≡ Ok (string_bytes s)) }
+    ensures fault { IfErr result (λ e. e ≢ fault.Memory → map_ok text_of outcome ≡ Err e) }
+{
+    match outcome {
+        Ok(value) => Ok(value.text_of(alloc)?),
+        Err(fault) => Err(fault),
+    }
+}

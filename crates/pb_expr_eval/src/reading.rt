@@ -1,0 +1,315 @@
+//! Reads expressions and templates in a scope, with a number of look-ups left.
+ghost use Rattle.std.specs.Prelude.{◌≡◌, ◌≢◌, IfOk, IfErr, Ok, Err, string_bytes};
+ghost use Rattle.pb_value.specs.Datum.{items_of, members_of, named};
+ghost use Rattle.pb_value.specs.Reading.{and_then};
+ghost use Rattle.pb_expr_syntax.specs.Tree as tree;
+ghost use Rattle.pb_expr_syntax.specs.Tree.{trees_of};
+ghost use Rattle.pb_operators.specs.declared.fault.EvalFault.TheVariants as fault;
+ghost use Rattle.pb_expr_eval.specs.Value.{value, values, each, defaulted, apply};
+ghost use Rattle.pb_template.specs.Computed.{template_of};
+ghost use Rattle.pb_expr_eval.specs.Rendering.{templated, text_in, shown, render, rendered, rendered_items, rendered_members};
+ghost use Rattle.pb_expr_eval.specs.Scoped.{names_in};
+
+use crate::forms::{apply, decides, is_defined, joined_within, text_of};
+use pb_expr_syntax::fault::ExprFault;
+use pb_expr_syntax::tree::{Expr, Filter, Form, Op};
+use pb_layers::scope::{Scope, has_templates};
+use pb_operators::fault::EvalFault;
+use pb_operators::operators::{binary, negate};
+use pb_operators::parts::{index, member, undefined};
+use pb_template::template::{Part, Template};
+use pb_value::text::Text;
+use pb_value::val::{Dict, Node, Val, ValList};
+use std::alloc::Global;
+use std::collections::BTreeMap;
+
+/// The value of an expression.
+#[cycle(reading)]
+#[inline(never)]
+pub(crate) fn value(
+    alloc: Global,
+    scope: &Scope,
+    levels: u32,
+    expr: &Expr,
+) -> Result<Val, EvalFault>
+    ensures value { IfOk result (λ v. value (names_in scope.now levels) expr.now ≡ Ok v) }
+    ensures fault { IfErr result (λ e. e ≢ fault.Memory → value (names_in scope.now levels) expr.now ≡ Err e) }
+{
+    match &expr.form {
+        Form::Int(number) => Ok(Val::int(*number)),
+        Form::Text(text) => Ok(Val::text(text.try_clone()?)),
+        Form::Name(name) => read(alloc, scope, levels, name.as_str()),
+        Form::Truth(truth) => Ok(Val::boolean(*truth)),
+        Form::Null => Ok(Val::null()),
+        Form::List(items) => Ok(Val::list(values(alloc, scope, levels, items.as_slice())?)),
+        Form::Member(x, name) => {
+            let x = value(alloc, scope, levels, x)?;
+            member(alloc, &x, name.as_str())
+        }
+        Form::Index(x, y) => indexed(alloc, scope, levels, x, y),
+        Form::Not(x) => {
+            let x = value(alloc, scope, levels, x)?;
+            Ok(Val::boolean(!x.truthy()))
+        }
+        Form::Negate(x) => {
+            let x = value(alloc, scope, levels, x)?;
+            negate(&x)
+        }
+        Form::Binary(op, x, y) => operated(alloc, scope, levels, *op, x, y),
+        Form::Apply(Filter::Default, x, args) => {
+            defaulted(alloc, scope, levels, x, args.as_slice())
+        }
+        Form::Apply(filter, x, args) => filtered(alloc, scope, levels, *filter, x, args.as_slice()),
+        Form::IsDefined(x, present) => is_defined(value(alloc, scope, levels, x), *present),
+    }
+}
+
+/// An operator between two operands; the second is read where the first doesn't decide.
+#[cycle(reading)]
+#[inline(never)]
+fn operated(
+    alloc: Global,
+    scope: &Scope,
+    levels: u32,
+    op: Op,
+    x: &Expr,
+    y: &Expr,
+) -> Result<Val, EvalFault>
+    ensures value { IfOk result (λ v. value (names_in scope.now levels) (tree.Binary op x.now y.now) ≡ Ok v) }
+    ensures fault { IfErr result (λ e. e ≢ fault.Memory → value (names_in scope.now levels) (tree.Binary op x.now y.now) ≡ Err e) }
+{
+    let x = value(alloc, scope, levels, x)?;
+    if decides(op, &x) {
+        return Ok(x);
+    }
+    let y = value(alloc, scope, levels, y)?;
+    binary(alloc, op, &x, &y)
+}
+
+/// The member under a key that is read.
+#[cycle(reading)]
+#[inline(never)]
+fn indexed(alloc: Global, scope: &Scope, levels: u32, x: &Expr, y: &Expr) -> Result<Val, EvalFault>
+    ensures value { IfOk result (λ v. value (names_in scope.now levels) (tree.Index x.now y.now) ≡ Ok v) }
+    ensures fault { IfErr result (λ e. e ≢ fault.Memory → value (names_in scope.now levels) (tree.Index x.now y.now) ≡ Err e) }
+{
+    let x = value(alloc, scope, levels, x)?;
+    let y = value(alloc, scope, levels, y)?;
+    index(alloc, &x, &y)
+}
+
+/// A filter but `default`.
+#[cycle(reading)]
+#[inline(never)]
+fn filtered(
+    alloc: Global,
+    scope: &Scope,
+    levels: u32,
+    filter: Filter,
+    x: &Expr,
+    args: &[Expr],
+) -> Result<Val, EvalFault>
+    ensures value { IfOk result (λ v. and_then (value (names_in scope.now levels) x.now) (λ a. and_then (values (names_in scope.now levels) (trees_of args.now)) (λ bs. apply filter a bs)) ≡ Ok v) }
+    ensures fault { IfErr result (λ e. e ≢ fault.Memory → and_then (value (names_in scope.now levels) x.now) (λ a. and_then (values (names_in scope.now levels) (trees_of args.now)) (λ bs. apply filter a bs)) ≡ Err e) }
+{
+    let x = value(alloc, scope, levels, x)?;
+    let args = values(alloc, scope, levels, args)?;
+    apply(alloc, filter, &x, args.as_slice())
+}
+
+/// The values of expressions, from the first on.
+#[cycle(reading)]
+#[inline(never)]
+fn values(alloc: Global, scope: &Scope, levels: u32, items: &[Expr]) -> Result<ValList, EvalFault>
+    ensures value { IfOk result (λ l. values (names_in scope.now levels) (trees_of items.now) ≡ Ok l) }
+    ensures fault { IfErr result (λ e. e ≢ fault.Memory → values (names_in scope.now levels) (trees_of items.now) ≡ Err e) }
+{
+    let mut values = Vec::with_capacity(alloc, items.len())?;
+    for item in items {
+        values.push(value(alloc, scope, levels, item)?)?;
+    }
+    Ok(ValList::from_vec(values))
+}
+
+/// The filter `default`: its arguments are read where they are needed alone.
+#[cycle(reading)]
+#[inline(never)]
+#[tactic(auto, using(crate::proofs::Steps::defaulted_many))]
+fn defaulted(
+    alloc: Global,
+    scope: &Scope,
+    levels: u32,
+    x: &Expr,
+    args: &[Expr],
+) -> Result<Val, EvalFault>
+    ensures value { IfOk result
+        (λ v. defaulted (value (names_in scope.now levels) x.now) (each (names_in scope.now levels) (trees_of args.now)) ≡ Ok v) }
+    ensures fault { IfErr result
+        (λ e. e ≢ fault.Memory → defaulted (value (names_in scope.now levels) x.now) (each (names_in scope.now levels) (trees_of args.now)) ≡ Err e) }
+{
+    match args {
+        [] => Err(EvalFault::WrongKind),
+        [other] => match value(alloc, scope, levels, x) {
+            Err(EvalFault::Undefined { name: _ }) => value(alloc, scope, levels, other),
+            outcome => outcome,
+        },
+        [other, if_false] => match value(alloc, scope, levels, x) {
+            Err(EvalFault::Undefined { name: _ }) => value(alloc, scope, levels, other),
+            Err(fault) => Err(fault),
+            Ok(x) => {
+                let if_false = value(alloc, scope, levels, if_false)?;
+                if if_false.truthy() && !x.truthy() {
+                    value(alloc, scope, levels, other)
+                } else {
+                    Ok(x)
+                }
+            }
+        },
+        [_, _, _, ..] => Err(EvalFault::WrongKind),
+    }
+}
+
+/// What a name stands for, where there is a look-up left.
+#[cycle(reading)]
+#[inline(never)]
+fn read(alloc: Global, scope: &Scope, levels: u32, name: &str) -> Result<Val, EvalFault>
+    ensures value { IfOk result (λ v. names_in scope.now levels name.now ≡ Ok v) }
+    ensures fault { IfErr result (λ e. e ≢ fault.Memory → names_in scope.now levels name.now ≡ Err e) }
+{
+    if levels == 0 {
+        return Err(EvalFault::TooLarge);
+    }
+    match scope.find(name) {
+        None => Err(undefined(alloc, name)),
+        Some(found) => {
+            if has_templates(found.layer) {
+                rendered(alloc, scope, levels - 1, found.value)
+            } else {
+                Ok(found.value.try_clone(alloc)?)
+            }
+        }
+    }
+}
+
+/// A value with its texts rendered.
+#[cycle(reading)]
+#[inline(never)]
+fn rendered(alloc: Global, scope: &Scope, levels: u32, stored: &Val) -> Result<Val, EvalFault>
+    ensures value { IfOk result (λ v. rendered (names_in scope.now levels) stored.now ≡ Ok v) }
+    ensures fault { IfErr result (λ e. e ≢ fault.Memory → rendered (names_in scope.now levels) stored.now ≡ Err e) }
+{
+    match &stored.node {
+        Node::Text(text) => templated(alloc, scope, levels, text.as_str()),
+        Node::List(items) => Ok(Val::list(rendered_items(alloc, scope, levels, items)?)),
+        Node::Dict(dict) => Ok(Val::dict(rendered_members(alloc, scope, levels, &dict.map)?)),
+        _ => Ok(stored.try_clone(alloc)?),
+    }
+}
+
+/// What a text gives, if it is a template.
+#[cycle(reading)]
+#[inline(never)]
+fn templated(alloc: Global, scope: &Scope, levels: u32, text: &str) -> Result<Val, EvalFault>
+    ensures value { IfOk result (λ v. templated (names_in scope.now levels) (template_of text.now) ≡ Ok v) }
+    ensures fault { IfErr result (λ e. e ≢ fault.Memory → templated (names_in scope.now levels) (template_of text.now) ≡ Err e) }
+{
+    match Template::parse(alloc, text) {
+        Ok(template) => rendered_parts(alloc, scope, levels, template.parts.as_slice()),
+        Err(ExprFault::Memory) => Err(EvalFault::Memory),
+        Err(_) => Err(EvalFault::BadTemplate),
+    }
+}
+
+#[cycle(reading)]
+#[inline(never)]
+fn rendered_items(
+    alloc: Global,
+    scope: &Scope,
+    levels: u32,
+    stored: &ValList,
+) -> Result<ValList, EvalFault>
+    ensures value { IfOk result (λ l. rendered_items (names_in scope.now levels) (items_of stored.now) ≡ Ok l) }
+    ensures fault { IfErr result (λ e. e ≢ fault.Memory → rendered_items (names_in scope.now levels) (items_of stored.now) ≡ Err e) }
+{
+    let mut values = Vec::with_capacity(alloc, stored.len())?;
+    for item in stored.as_slice() {
+        values.push(rendered(alloc, scope, levels, item)?)?;
+    }
+    Ok(ValList::from_vec(values))
+}
+
+#[cycle(reading)]
+#[inline(never)]
+fn rendered_members(
+    alloc: Global,
+    scope: &Scope,
+    levels: u32,
+    stored: &BTreeMap<String, Val>,
+) -> Result<Dict, EvalFault>
+    ensures value { IfOk result (λ d. rendered_members (names_in scope.now levels) (members_of (named stored.now.entries)) ≡ Ok d) }
+    ensures fault { IfErr result (λ e. e ≢ fault.Memory → rendered_members (names_in scope.now levels) (members_of (named stored.now.entries)) ≡ Err e) }
+{
+    let mut map = BTreeMap::new(alloc);
+    for (key, member) in stored.iter() {
+        let value = rendered(alloc, scope, levels, member)?;
+        drop(map.insert(key.clone()?, value)?);
+    }
+    Ok(Dict { map })
+}
+
+/// What the parts of a template give.
+#[cycle(reading)]
+#[inline(never)]
+pub(crate) fn rendered_parts(
+    alloc: Global,
+    scope: &Scope,
+    levels: u32,
+    parts: &[Part],
+) -> Result<Val, EvalFault>
+    ensures value { IfOk result (λ v. render (names_in scope.now levels) parts.now ≡ Ok v) }
+    ensures fault { IfErr result (λ e. e ≢ fault.Memory → render (names_in scope.now levels) parts.now ≡ Err e) }
+{
+    match parts {
+        [] => Ok(Val::text(Text::new(alloc))),
+        [Part::Code(expr)] => value(alloc, scope, levels, expr),
+        [first, rest @ ..] => {
+            let front = text_in(alloc, scope, levels, first)?;
+            let text = shown(alloc, scope, levels, front, rest)?;
+            Ok(Val::text(Text::from_string(text)))
+        }
+    }
+}
+
+/// A text with those of the parts behind it.
+#[cycle(reading)]
+#[inline(never)]
+fn shown(
+    alloc: Global,
+    scope: &Scope,
+    levels: u32,
+    front: String,
+    parts: &[Part],
+) -> Result<String, EvalFault>
+    ensures value { IfOk result (λ s. shown (names_in scope.now levels) (string_bytes front) parts.now ≡ Ok (string_bytes s)) }
+    ensures fault { IfErr result (λ e. e ≢ fault.Memory → shown (names_in scope.now levels) (string_bytes front) parts.now ≡ Err e) }
+{
+    let mut text = front;
+    for part in parts {
+        let more = text_in(alloc, scope, levels, part)?;
+        text = joined_within(text, more.as_str())?;
+    }
+    Ok(text)
+}
+
+/// The text of a part.
+#[cycle(reading)]
+#[inline(never)]
+fn text_in(alloc: Global, scope: &Scope, levels: u32, part: &Part) -> Result<String, EvalFault>
+    ensures value { IfOk result (λ s. text_in (names_in scope.now levels) part.now ≡ Ok (string_bytes s)) }
+    ensures fault { IfErr result (λ e. e ≢ fault.Memory → text_in (names_in scope.now levels) part.now ≡ Err e) }
+{
+    match part {
+        Part::Plain(text) => Ok(String::from_str(alloc, text.as_str())?),
+        Part::Code(expr) => text_of(alloc, value(alloc, scope, levels, expr)),
+    }
+}

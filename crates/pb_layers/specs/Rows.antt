@@ -1,0 +1,44 @@
+-- Worked examples: each is proved by computing both sides.
+use Rattle.std.specs.Prelude.{◌≡◌, ℕ, pos, true, false, [], ◌∷◌, Some, None, codes, refl}
+use Rattle.pb_value.specs.Datum.{int}
+use Rattle.pb_layers.specs.Scope.{Map, layers, scope, value_of, layer_of, has_templates}
+
+abbrev x : ℕ → Map
+x n = (codes "x", int (pos n)) ∷ []
+
+-- x as a role default, a variable of a group, of the host, of the play and of the task, set by set_fact, and an extra variable
+extra_wins : value_of (codes "x") (layers (x 1) (x 2) (x 3) [] (x 5) [] [] (x 8) (x 9) [] (x 11)) ≡ Some (int (pos 11))
+extra_wins = refl
+
+set_fact_wins : value_of (codes "x") (layers (x 1) (x 2) (x 3) [] (x 5) [] [] (x 8) (x 9) [] []) ≡ Some (int (pos 9))
+set_fact_wins = refl
+
+task_wins : value_of (codes "x") (layers (x 1) (x 2) (x 3) [] (x 5) [] [] (x 8) [] [] []) ≡ Some (int (pos 8))
+task_wins = refl
+
+play_wins : value_of (codes "x") (layers (x 1) (x 2) (x 3) [] (x 5) [] [] [] [] [] []) ≡ Some (int (pos 5))
+play_wins = refl
+
+host_wins : value_of (codes "x") (layers (x 1) (x 2) (x 3) [] [] [] [] [] [] [] []) ≡ Some (int (pos 3))
+host_wins = refl
+
+group_wins : value_of (codes "x") (layers (x 1) (x 2) [] [] [] [] [] [] [] [] []) ≡ Some (int (pos 2))
+group_wins = refl
+
+default_alone : layer_of (codes "x") (layers (x 1) [] [] [] [] [] [] [] [] [] []) ≡ Some 1
+default_alone = refl
+
+loop_variable_wins : layer_of (codes "x") (scope (layers (x 1) [] [] [] [] [] [] [] [] [] (x 11)) (x 12) (x 13)) ≡ Some 13
+loop_variable_wins = refl
+
+magic_wins : layer_of (codes "x") (scope (layers (x 1) [] [] [] [] [] [] [] [] [] (x 11)) (x 12) []) ≡ Some 12
+magic_wins = refl
+
+nowhere : layer_of (codes "y") (scope (layers (x 1) [] [] [] [] [] [] [] [] [] (x 11)) (x 12) []) ≡ None
+nowhere = refl
+
+facts_are_no_templates : has_templates 4 ≡ false
+facts_are_no_templates = refl
+
+play_variables_are_templates : has_templates 5 ≡ true
+play_variables_are_templates = refl

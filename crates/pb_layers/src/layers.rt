@@ -1,0 +1,45 @@
+use pb_value::val::Dict;
+use std::marker::Model;
+
+/// The layers of variables that a task sees on a host, least first: where two have a name, the
+/// later one gives its value whole (Ansible's "Using variables", "Variable precedence").
+#[derive(Drop)]
+pub struct Layers<'a> {
+    /// Layer 1: defaults of the role that the task comes from.
+    pub role_defaults: &'a Dict,
+    /// Layer 2: variables of the host's groups in the inventory, merged.
+    pub group_variables: &'a Dict,
+    /// Layer 3: variables of the host in the inventory.
+    pub host_variables: &'a Dict,
+    /// Layer 4: what was gathered from the host. Its texts are no templates.
+    pub host_facts: &'a Dict,
+    /// Layer 5: variables of the play.
+    pub play_variables: &'a Dict,
+    /// Layer 6: variables of the role that the task comes from.
+    pub role_variables: &'a Dict,
+    /// Layer 7: variables of the blocks that the task stands in, those of an inner over an outer one.
+    pub block_variables: &'a Dict,
+    /// Layer 8: variables of the task.
+    pub task_variables: &'a Dict,
+    /// Layer 9: what `set_fact` set and what was registered. Its texts are no templates.
+    pub set_facts: &'a Dict,
+    /// Layer 10: parameters of the role that the task comes from.
+    pub role_parameters: &'a Dict,
+    /// Layer 11: extra variables of the command line.
+    pub extra_variables: &'a Dict,
+}
+
+impl<'a> Model for Layers<'a> {
+    ghost use Rattle.std.specs.Prelude.{List};
+    ghost use Rattle.std.specs.Coded.{codes};
+    ghost use Rattle.pb_value.specs.contracts.val.Dict as dict;
+    ghost use Rattle.pb_layers.specs.Scope as scope;
+
+    ghost Value = { List scope.Map };
+
+    ghost coded = { Prim.hlevel (codes, dict.the_row.coded) };
+
+    ghost view = { λ l. scope.layers l.role_defaults.now l.group_variables.now l.host_variables.now l.host_facts.now
+        l.play_variables.now l.role_variables.now l.block_variables.now l.task_variables.now l.set_facts.now
+        l.role_parameters.now l.extra_variables.now };
+}

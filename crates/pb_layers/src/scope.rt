@@ -1,0 +1,121 @@
+ghost use Rattle.std.specs.Prelude.{◌≡◌, ◌≤◌, length, map};
+ghost use Rattle.std.specs.Option.{option_copied};
+ghost use Rattle.pb_layers.specs.Scope.{scope, found, value_of, layer_of, has_templates};
+ghost use Rattle.pb_layers.specs.Found.{found_in, maps_in};
+
+use crate::layers::Layers;
+use pb_value::val::{Dict, Val};
+use std::marker::Model;
+
+/// The variables that a task sees on a host: the layers, above them the magic variables and,
+/// highest, the loop variable.
+#[derive(Drop)]
+pub struct Scope<'a> {
+    layers: &'a Layers<'a>,
+    magic: &'a Dict,
+    loop_variable: &'a Dict,
+}
+
+impl<'a> Model for Scope<'a> {
+    ghost use Rattle.std.specs.Prelude.{List};
+    ghost use Rattle.std.specs.Coded.{codes};
+    ghost use Rattle.pb_value.specs.contracts.val.Dict as dict;
+    ghost use Rattle.pb_layers.specs.Scope as scope;
+
+    ghost Value = { List scope.Map };
+
+    ghost coded = { Prim.hlevel (codes, dict.the_row.coded) };
+
+    ghost view = { λ s. scope.scope s.layers.now s.magic.now s.loop_variable.now };
+}
+
+/// A stored value, and the number of the layer that gives it.
+#[derive(Drop)]
+pub struct Found<'a> {
+    pub layer: u8,
+    pub value: &'a Val,
+}
+
+impl<'a> Scope<'a> {
+    /// The layers with the magic variables and the loop variable above them; without a loop the
+    /// last map is empty.
+    pub fn new(layers: &'a Layers<'a>, magic: &'a Dict, loop_variable: &'a Dict) -> Scope<'a>
+        ensures { result ≡ scope layers.now magic.now loop_variable.now }
+    {
+        Scope {
+            layers,
+            magic,
+            loop_variable,
+        }
+    }
+
+    /// The value of the highest map that has the name, as it is stored, and the number of that map:
+    /// 1 to 11 are the layers, 12 are the magic variables, 13 is the loop variable.
+    pub fn find(&self, name: &str) -> Option<Found<'a>>
+        ensures { found_in result ≡ found name.now self.now }
+    {
+        let layers = self.layers;
+        let maps = [
+            self.loop_variable,
+            self.magic,
+            layers.extra_variables,
+            layers.role_parameters,
+            layers.set_facts,
+            layers.task_variables,
+            layers.block_variables,
+            layers.role_variables,
+            layers.play_variables,
+            layers.host_facts,
+            layers.host_variables,
+            layers.group_variables,
+            layers.role_defaults,
+        ];
+        find_in(&maps, name)
+    }
+
+    /// The stored value of a name.
+    pub fn value(&self, name: &str) -> Option<&'a Val>
+        ensures { option_copied result ≡ value_of name.now self.now }
+    {
+        match self.find(name) {
+            Some(found) => Some(found.value),
+            None => None,
+        }
+    }
+
+    /// The number of the layer that gives the name its value.
+    pub fn layer_of(&self, name: &str) -> Option<u8>
+        ensures { result ≡ layer_of name.now self.now }
+    {
+        match self.find(name) {
+            Some(found) => Some(found.layer),
+            None => None,
+        }
+    }
+}
+
+/// The value of the first map that has the name; the last map has the number 1.
+fn find_in<'a>(maps: &[&'a Dict], name: &str) -> Option<Found<'a>>
+    requires { length maps.now ≤ 13 }
+    ensures { found_in result ≡ found name.now (maps_in maps.now) }
+{
+    match maps {
+        [] => None,
+        [map, below @ ..] => match map.get(name) {
+            Some(value) => Some(Found {
+                layer: below.len() as u8 + 1,
+                value,
+            }),
+            None => find_in(below, name),
+        },
+    }
+}
+
+/// Whether texts in the layer of that number are templates, to be rendered when an expression looks
+/// a name up: all but the facts of a host (4), what was set or registered (9), the magic variables
+/// (12) and the loop variable (13).
+pub fn has_templates(layer: u8) -> bool
+    ensures { result ≡ has_templates layer }
+{
+    layer <= 11 && layer != 4 && layer != 9
+}

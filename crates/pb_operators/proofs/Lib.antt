@@ -1,0 +1,4 @@
+pub mod Rows
+pub mod Same
+pub mod Texts
+pub mod Numbers

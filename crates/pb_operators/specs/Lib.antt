@@ -1,0 +1,3 @@
+pub mod Values
+pub mod Operators
+pub mod Rows
