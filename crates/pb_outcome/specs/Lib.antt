@@ -1,5 +1,6 @@
 pub mod Causes
 pub mod Code
+pub mod Decided
 pub mod Gathered
 pub mod Limits
 pub mod Output

@@ -2,6 +2,7 @@ use crate::outcome::Outcome;
 use pb_ids::{HostNo, Place, PlayNo, Ticket};
 use pb_value::items::Items;
 use pb_value::text::Text;
+use std::alloc::{AllocError, Global};
 
 /// What a job runs.
 #[derive(Drop)]
@@ -12,6 +13,38 @@ pub enum Call {
     Shell { text: Text },
     /// The program that gathers facts. See Ansible's documentation of `ansible.builtin.setup`.
     Setup,
+}
+
+ghost use Rattle.std.specs.Prelude.{◌≡◌, IfOk};
+
+/// Equal texts of their own.
+fn clone_texts(alloc: Global, texts: &[Text]) -> Result<Items<Text>, AllocError>
+    ensures { IfOk result (λ copies. copies ≡ texts.now) }
+{
+    let mut copies = Vec::with_capacity(alloc, texts.len())?;
+    for text in texts {
+        copies.push(text.try_clone()?)?;
+    }
+    Ok(Items::from_vec(copies))
+}
+
+impl Call {
+    /// An equal call of its own.
+    pub fn try_clone(&self, alloc: Global) -> Result<Call, AllocError>
+        ensures { IfOk result (λ copy. copy ≡ self.now) }
+    {
+        match self {
+            Call::Command { words } => {
+                let words = clone_texts(alloc, words.as_slice())?;
+                Ok(Call::Command { words })
+            }
+            Call::Shell { text } => {
+                let text = text.try_clone()?;
+                Ok(Call::Shell { text })
+            }
+            Call::Setup => Ok(Call::Setup),
+        }
+    }
 }
 
 /// One item of a task on one host.

@@ -58,7 +58,12 @@ fn is_nonzero(rc: i64) -> bool
 }
 
 /// Puts a value under a key of a result.
-fn put_value(alloc: Global, members: &mut Dict, key: &str, value: Val) -> Result<(), AllocError>
+pub(crate) fn put_value(
+    alloc: Global,
+    members: &mut Dict,
+    key: &str,
+    value: Val,
+) -> Result<(), AllocError>
     ensures { OnOk result (members.new ≡ put key.now value members.old) }
 {
     members.insert(String::from_str(alloc, key)?, value)

@@ -3,10 +3,12 @@
 //! A `Job` is one item of a task on one host, a `Report` brings its `Outcome` back. `Outcome::read` and `to_json` go
 //! between an outcome and its JSON, both exactly `outcome_of` and `outcome_json` of `specs/Reading.antt` and
 //! `specs/Writing.antt`. `judge` makes an outcome the result of an item, and `gather` makes the results of a task's items
-//! the task's result, as `specs/Results.antt` and `specs/Gathered.antt` say.
+//! the task's result, as `specs/Results.antt` and `specs/Gathered.antt` say. Results of items without a job are
+//! `specs/Decided.antt`.
 #![tactic(auto)]
 
 pub mod cause;
+pub mod decided;
 pub mod fault;
 pub mod gather;
 pub mod job;

@@ -1,0 +1,57 @@
+ghost use Rattle.std.specs.Prelude.{◌≡◌, IfOk};
+ghost use Rattle.pb_outcome.specs.Decided.{said, faulty_result, debug_result, fail_result};
+
+use crate::gather::{Ending, ItemResult};
+use crate::judge::put_value;
+use pb_value::text::Text;
+use pb_value::val::{Dict, Val};
+use std::alloc::{AllocError, Global};
+
+fn said(alloc: Global, failed: bool, msg: Val) -> Result<Val, AllocError>
+    ensures { IfOk result (λ v. v ≡ said failed msg) }
+{
+    let mut members = Dict::new(alloc);
+    put_value(alloc, &mut members, "changed", Val::boolean(false))?;
+    put_value(alloc, &mut members, "failed", Val::boolean(failed))?;
+    put_value(alloc, &mut members, "msg", msg)?;
+    Ok(Val::dict(members))
+}
+
+/// The result of an item that can't be read: a fault, which `ignore_errors` doesn't ignore.
+pub fn faulty_result(alloc: Global, msg: &str) -> Result<ItemResult, AllocError>
+    ensures { IfOk result (λ r. r ≡ faulty_result msg.now) }
+{
+    let msg = Val::text(Text::from_str(alloc, msg)?);
+    Ok(ItemResult {
+        ending: Ending::Faulty,
+        result: said(alloc, true, msg)?,
+    })
+}
+
+/// The result of an item of `debug`, which shows this value. See Ansible's documentation of `ansible.builtin.debug`.
+pub fn debug_result(alloc: Global, msg: &Val) -> Result<ItemResult, AllocError>
+    ensures { IfOk result (λ r. r ≡ debug_result msg.now) }
+{
+    let msg = msg.try_clone(alloc)?;
+    Ok(ItemResult {
+        ending: Ending::Ran {
+            changed: false,
+            failed: false,
+        },
+        result: said(alloc, false, msg)?,
+    })
+}
+
+/// The result of an item of `fail`, which fails with this value. See Ansible's documentation of `ansible.builtin.fail`.
+pub fn fail_result(alloc: Global, msg: &Val) -> Result<ItemResult, AllocError>
+    ensures { IfOk result (λ r. r ≡ fail_result msg.now) }
+{
+    let msg = msg.try_clone(alloc)?;
+    Ok(ItemResult {
+        ending: Ending::Ran {
+            changed: false,
+            failed: true,
+        },
+        result: said(alloc, true, msg)?,
+    })
+}

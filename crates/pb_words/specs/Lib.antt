@@ -1,0 +1,4 @@
+pub mod Calls
+pub mod Cutting
+pub mod Rows
+pub mod Words
