@@ -14,7 +14,7 @@ use Rattle.pb_outcome.specs.declared.outcome.Form.TheVariants.{Ran}
 use Rattle.pb_runner.specs.declared.fault.TableFault.{TableFault}
 use Rattle.pb_runner.specs.declared.fault.TableFault.TheVariants.{NotJson, WrongShape, Memory}
 use Rattle.pb_runner.specs.declared.table.Row.{Row}
-use Rattle.pb_runner.specs.declared.table.TableRunner.{TableRunner}
+use Rattle.pb_runner.specs.declared.table.Table.{Table}
 use Rattle.pb_runner.specs.declared.reading.RowKey.{RowKey}
 use Rattle.pb_runner.specs.declared.reading.RowKey.TheVariants.{Host, Item, Outcome, Place, Play, Other}
 use Rattle.pb_runner.specs.declared.reading.RowDraft.{RowDraft}
@@ -111,17 +111,17 @@ table_keys path (json.member k d ms) draft = and_then (with_table_key (table_key
 abbrev pub success : Form
 success = Ran (pos 0) [] []
 
-abbrev pub finished_table : List ℕ → TableDraft → Result TableRunner TableFault
+abbrev pub finished_table : List ℕ → TableDraft → Result Table TableFault
 finished_table path draft = and_then (required path draft.rows) (λ rs. Ok (record { default = unwrap_or draft.default success; rows = rs }))
 
-abbrev pub table : List ℕ → json.Data → Result TableRunner TableFault
+abbrev pub table : List ℕ → json.Data → Result Table TableFault
 table path (json.object ms) = and_then (table_keys path ms new_table) (finished_table path)
 table path d = Err (WrongShape path)
 
-abbrev pub of_json : Option json.Data → Result TableRunner TableFault
+abbrev pub of_json : Option json.Data → Result Table TableFault
 of_json None = Err NotJson
 of_json (Some d) = table [] d
 
 -- the table that the bytes spell, or the first fault in them
-unfoldable pub table_of : List ℕ → Result TableRunner TableFault
+unfoldable pub table_of : List ℕ → Result Table TableFault
 table_of bytes = of_json (json_in bytes)

@@ -4,7 +4,7 @@ ghost use Rattle.pb_outcome.specs.declared.outcome.Form.TheVariants.{Ran};
 ghost use Rattle.pb_runner.specs.Reading.{text, number, outcome, success, row_key, new_row, with_row_key, finished_row, row, each_row, rows, table_key, new_table, with_table_key, finished_table, table, table_of};
 
 use crate::fault::{TableFault, wrong_shape};
-use crate::table::{Row, TableRunner};
+use crate::table::{Row, Table, TableRunner};
 use pb_outcome::cause::Cause;
 use pb_outcome::fault::OutcomeFault;
 use pb_outcome::outcome::Outcome;
@@ -194,7 +194,7 @@ impl TableDraft {
         }
     }
 
-    fn finish(self, alloc: Global, path: &Text) -> Result<TableRunner, TableFault>
+    fn finish(self, alloc: Global, path: &Text) -> Result<Table, TableFault>
         ensures value { IfOk result (λ t. finished_table path.now self ≡ Ok t) }
         ensures fault { IfErr result (λ e. e ≢ TableFault.Memory → finished_table path.now self ≡ Err e) }
     {
@@ -206,7 +206,7 @@ impl TableDraft {
             Some(default) => default,
             None => success(alloc),
         };
-        Ok(TableRunner { default, rows })
+        Ok(Table { default, rows })
     }
 }
 
@@ -294,7 +294,7 @@ fn read_rows(alloc: Global, path: &Text, json: &Value) -> Result<Items<Row>, Tab
     }
 }
 
-fn read_table(alloc: Global, path: &Text, json: &Value) -> Result<TableRunner, TableFault>
+fn read_table(alloc: Global, path: &Text, json: &Value) -> Result<Table, TableFault>
     ensures value { IfOk result (λ t. table path.now (view json.now) ≡ Ok t) }
     ensures fault { IfErr result (λ e. e ≢ TableFault.Memory → table path.now (view json.now) ≡ Err e) }
 {
@@ -322,7 +322,7 @@ impl TableRunner {
         match read_json(alloc, bytes) {
             Ok(json) => {
                 let table = read_table(alloc, &Text::new(alloc), &json)?;
-                Ok(table)
+                Ok(TableRunner::of(alloc, table)?)
             }
             Err(JsonFault::NotJson) => Err(TableFault::NotJson),
             Err(JsonFault::Memory) => Err(TableFault::Memory),

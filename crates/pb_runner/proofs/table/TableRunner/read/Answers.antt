@@ -7,9 +7,9 @@ pub returns-in_err-table-in-Ok-clause-fault : goal.returns-in_err-table-in-Ok-cl
 unfolding table_of
 returns-in_err-table-in-Ok-clause-fault c = grind (arith, common_steps)
 
-pub returns-in_ok-table-in-Ok-clause-value : goal.returns-in_ok-table-in-Ok-clause-value
+pub returns-in_ok-of-in-Ok-clause-value : goal.returns-in_ok-of-in-Ok-clause-value
 unfolding table_of
-returns-in_ok-table-in-Ok-clause-value c = grind (arith, common_steps)
+returns-in_ok-of-in-Ok-clause-value c = grind (arith, common_steps)
 
 pub returns-in-Err-NotJson-clause-fault : goal.returns-in-Err-NotJson-clause-fault
 unfolding table_of
