@@ -1,5 +1,7 @@
+pub mod Commands
 pub mod Faults
 pub mod Marks
+pub mod Messages
 pub mod Modules
 pub mod NoEffect
 pub mod Playbooks

@@ -1,29 +1,46 @@
--- The modules that a task may name, and their arguments.
--- See Ansible's documentation of `ansible.builtin.debug`.
-use Rattle.std.specs.Prelude.{ℕ, List, Result, Ok, Err, Option, Some, None, codes, unwrap_or, if◌then◌else◌}
+-- The modules that a task may name, each with or without the prefix `ansible.builtin.`, and their arguments.
+-- See Ansible's documentation, "Index of all Modules", ansible.builtin.
+use Rattle.std.specs.Prelude.{ℕ, Bool, ◌||◌, ◌++◌, List, Result, Option, Some, None, codes, if◌then◌else◌}
 use Rattle.std.specs.Str.{bytes_eq}
 use Rattle.serde_json.specs.Data as json
-use Rattle.pb_value.specs.Datum as value
-use Rattle.pb_value.specs.Reading.{and_then, below}
-use Rattle.pb_play.specs.Simple.{plain}
+use Rattle.pb_value.specs.Reading.{map_ok}
+use Rattle.pb_play.specs.Commands.{command, shell}
+use Rattle.pb_play.specs.Messages.{message}
 use Rattle.pb_play.specs.declared.fault.LoadFault.{LoadFault}
-use Rattle.pb_play.specs.declared.fault.LoadFault.TheVariants.{WrongShape, NotInProfile}
 use Rattle.pb_play.specs.declared.modules.Module.{Module}
-use Rattle.pb_play.specs.declared.modules.Module.TheVariants.{Debug}
+use Rattle.pb_play.specs.declared.modules.Module.TheVariants.{Command, Debug, Fail, Shell}
+use Rattle.pb_play.specs.declared.modules.ModuleKey.{ModuleKey}
+use Rattle.pb_play.specs.declared.modules.ModuleKey.TheVariants as key
 
--- what `debug` shows where nothing is said
-abbrev pub default_msg : value.Datum
-default_msg = value.text (codes "Hello world!")
+-- a key names the module of this name
+abbrev pub names : List ℕ → List ℕ → Bool
+names k name = bytes_eq k name || bytes_eq k (codes "ansible.builtin." ++ name)
 
--- the arguments of `debug`: at most `msg`
-abbrev pub debug_keys : List ℕ → json.Members → Option value.Datum → Result (Option value.Datum) LoadFault
-debug_keys path json.no_members msg = Ok msg
-debug_keys path (json.member k d ms) msg = if bytes_eq k (codes "msg") then and_then (plain (below path k) d) (λ v. debug_keys path ms (Some v)) else Err (NotInProfile k)
+-- the module that a key names
+abbrev pub module_key : List ℕ → Option ModuleKey
+module_key k =
+    if names k (codes "command") then Some key.Command
+    else (if names k (codes "debug") then Some key.Debug
+    else (if names k (codes "fail") then Some key.Fail
+    else (if names k (codes "shell") then Some key.Shell else None)))
 
-abbrev pub debug : List ℕ → json.Data → Result Module LoadFault
-debug path (json.object ms) = and_then (debug_keys path ms None) (λ msg. Ok (Debug (unwrap_or msg default_msg)))
-debug path d = Err (WrongShape path)
+-- what `debug` and `fail` show where nothing is said
+abbrev pub hello : List ℕ
+hello = codes "Hello world!"
+
+abbrev pub failed_as_requested : List ℕ
+failed_as_requested = codes "Failed as requested from task"
+
+-- the module with the arguments that stand at its key
+abbrev pub module_of : ModuleKey → List ℕ → json.Data → Result Module LoadFault
+module_of key.Command path d = map_ok Command (command path d)
+module_of key.Debug path d = map_ok Debug (message path hello d)
+module_of key.Fail path d = map_ok Fail (message path failed_as_requested d)
+module_of key.Shell path d = map_ok Shell (shell path d)
 
 -- the name that a task of the module has where none is written
 abbrev pub module_name : Module → List ℕ
+module_name (Command words) = codes "command"
 module_name (Debug msg) = codes "debug"
+module_name (Fail msg) = codes "fail"
+module_name (Shell cmd) = codes "shell"

@@ -1,16 +1,17 @@
 -- Worked playbooks: what their texts spell, or the first fault in them.
-use Rattle.std.specs.Prelude.{◌≡◌, ⊤, [], ◌∷◌, Ok, Err, codes, refl}
+use Rattle.std.specs.Prelude.{◌≡◌, ⊤, pos, [], ◌∷◌, Ok, Err, codes, refl}
 use Rattle.std.specs.Fmt.{digits}
 use Rattle.std.specs.Str.{chars, is_utf8}
 use Rattle.std.specs.Str.Lossy.{utf8_valid_len}
 use Rattle.serde_json.proofs.OnLiterals.{serde_json_on_literals}
 use Rattle.pb_value.specs.Bytes.{json_in}
-use Rattle.pb_value.specs.Datum.{text}
+use Rattle.pb_value.specs.Datum.{null, int, text}
 use Rattle.pb_value.specs.FromJson.{value_of}
 use Rattle.pb_play.specs.Playbooks.{playbook_of}
 use Rattle.pb_play.specs.Plays.{play}
 use Rattle.pb_play.specs.declared.fault.LoadFault.TheVariants.{NotJson, WrongShape, NotInProfile, NoModule, TwoModules, BadExpression, BadPattern}
-use Rattle.pb_play.specs.declared.modules.Module.TheVariants.{Debug}
+use Rattle.pb_play.specs.declared.commands.CommandWords.TheVariants.{Line, Argv}
+use Rattle.pb_play.specs.declared.modules.Module.TheVariants.{Command, Debug, Fail, Shell}
 
 -- what computes a row from its text
 unfoldable on_literals : ⊤
@@ -118,3 +119,85 @@ other_connection = refl
 no_switch : playbook_of (codes "[{\"hosts\":\"all\",\"no_log\":5}]") ≡ Err (NotInProfile (codes "no_log"))
 unfolding on_literals
 no_switch = refl
+
+-- the modules `command`, `fail` and `shell`, each in every form of its arguments
+commands : playbook_of (codes "[{\"hosts\":\"all\",\"gather_facts\":false,\"tasks\":[{\"command\":\"ls -l\"},{\"command\":{\"cmd\":\"'\"}},{\"ansible.builtin.command\":{\"argv\":[\"ls\",1,null]}}]}]")
+    ≡ Ok (record {
+      plays = record {
+        name = codes "all";
+        pre_tasks = [];
+        tasks =
+            record { name = codes "command"; «module» = Command (Line (codes "ls -l")) } ∷
+            record { name = codes "command"; «module» = Command (Line (codes "'")) } ∷
+            record { name = codes "command"; «module» = Command (Argv (text (codes "ls") ∷ int (pos 1) ∷ null ∷ [])) } ∷ [];
+        post_tasks = [];
+      } ∷ [];
+    })
+unfolding on_literals
+commands = refl
+
+shells : playbook_of (codes "[{\"hosts\":\"all\",\"gather_facts\":false,\"tasks\":[{\"shell\":\"\"},{\"ansible.builtin.shell\":{\"cmd\":\"a | b\"}}]}]")
+    ≡ Ok (record {
+      plays = record {
+        name = codes "all";
+        pre_tasks = [];
+        tasks = record { name = codes "shell"; «module» = Shell [] } ∷ record { name = codes "shell"; «module» = Shell (codes "a | b") } ∷ [];
+        post_tasks = [];
+      } ∷ [];
+    })
+unfolding on_literals
+shells = refl
+
+fails : playbook_of (codes "[{\"hosts\":\"all\",\"gather_facts\":false,\"tasks\":[{\"fail\":{}},{\"ansible.builtin.fail\":{\"msg\":1}}]}]")
+    ≡ Ok (record {
+      plays = record {
+        name = codes "all";
+        pre_tasks = [];
+        tasks = record { name = codes "fail"; «module» = Fail (text (codes "Failed as requested from task")) } ∷ record { name = codes "fail"; «module» = Fail (int (pos 1)) } ∷ [];
+        post_tasks = [];
+      } ∷ [];
+    })
+unfolding on_literals
+fails = refl
+
+-- the keys come first, and then that one of the two has to be there
+both_forms : playbook_of (codes "[{\"hosts\":\"all\",\"tasks\":[{\"command\":{\"argv\":[],\"cmd\":\"a\"}}]}]") ≡ Err (WrongShape (codes "0/tasks/0/command"))
+unfolding on_literals
+both_forms = refl
+
+neither_form : playbook_of (codes "[{\"hosts\":\"all\",\"tasks\":[{\"command\":{}}]}]") ≡ Err (WrongShape (codes "0/tasks/0/command"))
+unfolding on_literals
+neither_form = refl
+
+unknown_argument : playbook_of (codes "[{\"hosts\":\"all\",\"tasks\":[{\"command\":{\"argv\":[],\"chdir\":1,\"cmd\":1}}]}]") ≡ Err (NotInProfile (codes "chdir"))
+unfolding on_literals
+unknown_argument = refl
+
+-- a list is one value, with one path
+refused_word : playbook_of (codes "[{\"hosts\":\"all\",\"tasks\":[{\"command\":{\"argv\":[1,1.5]}}]}]") ≡ Err (WrongShape (codes "0/tasks/0/command/argv"))
+unfolding on_literals
+refused_word = refl
+
+no_words_for_shell : playbook_of (codes "[{\"hosts\":\"all\",\"tasks\":[{\"shell\":{\"argv\":[]}}]}]") ≡ Err (NotInProfile (codes "argv"))
+unfolding on_literals
+no_words_for_shell = refl
+
+no_arguments_of_fail : playbook_of (codes "[{\"hosts\":\"all\",\"tasks\":[{\"fail\":null}]}]") ≡ Err (WrongShape (codes "0/tasks/0/fail"))
+unfolding on_literals
+no_arguments_of_fail = refl
+
+template_in_command : playbook_of (codes "[{\"hosts\":\"all\",\"tasks\":[{\"command\":\"run {{ item }}\"}]}]") ≡ Err BadExpression
+unfolding on_literals
+template_in_command = refl
+
+template_in_word : playbook_of (codes "[{\"hosts\":\"all\",\"tasks\":[{\"command\":{\"argv\":[[\"{{ x }}\"]]}}]}]") ≡ Err BadExpression
+unfolding on_literals
+template_in_word = refl
+
+other_modules : playbook_of (codes "[{\"hosts\":\"all\",\"tasks\":[{\"command\":\"a\",\"shell\":\"a\"}]}]") ≡ Err TwoModules
+unfolding on_literals
+other_modules = refl
+
+other_prefix : playbook_of (codes "[{\"hosts\":\"all\",\"tasks\":[{\"ansible.builtin.copy\":\"a\"}]}]") ≡ Err (NotInProfile (codes "ansible.builtin.copy"))
+unfolding on_literals
+other_prefix = refl

@@ -7,7 +7,7 @@ use Rattle.pb_value.specs.FromJson.{value_of}
 use Rattle.pb_value.specs.Words.{switch_of}
 use Rattle.pb_value.specs.declared.fault.ValFault.{ValFault}
 use Rattle.pb_value.specs.Reading.{and_then}
-use Rattle.pb_play.specs.Marks.{has_marks}
+use Rattle.pb_play.specs.Marks.{has_mark, has_marks}
 use Rattle.pb_play.specs.declared.fault.LoadFault.{LoadFault}
 use Rattle.pb_play.specs.declared.fault.LoadFault.TheVariants.{WrongShape, NotInProfile, BadExpression, BadPattern}
 
@@ -39,3 +39,8 @@ found path (Err e) = Err (WrongShape path)
 -- a value whose texts aren't templates: it is read whole, and then its texts are looked at
 abbrev pub plain : List ℕ → json.Data → Result Datum LoadFault
 plain path d = and_then (found path (value_of d)) (λ v. if has_marks d then Err BadExpression else Ok v)
+
+-- a text that isn't a template
+abbrev pub plain_text : List ℕ → json.Data → Result (List ℕ) LoadFault
+plain_text path (json.string s) = if has_mark s then Err BadExpression else Ok s
+plain_text path d = Err (WrongShape path)

@@ -6,8 +6,10 @@
 //! Some keys are allowed without effect, and any other key that isn't read here is refused by its name. Want of memory may come at any point, in place of that answer.
 #![tactic(auto)]
 
+pub mod commands;
 pub mod fault;
 mod marks;
+mod messages;
 pub mod modules;
 mod no_effect;
 pub mod play;

@@ -15,7 +15,7 @@ fn is_mark(bytes: &[u8]) -> bool
 }
 
 /// Whether a template's mark stands in the text.
-fn has_mark(text: &[u8]) -> bool
+pub fn has_mark(text: &[u8]) -> bool
     ensures { result ≡ has_mark text.now }
 {
     let mut rest = text;

@@ -1,23 +1,36 @@
-ghost use Rattle.std.specs.Prelude.{◌≡◌, ◌≢◌, IfOk, IfErr, Ok, Err};
+ghost use Rattle.std.specs.Prelude.{◌≡◌, ◌≢◌, ◌++◌, IfOk, IfErr, Ok, Err, codes};
 ghost use Rattle.serde_json.specs.View.{view};
-ghost use Rattle.pb_play.specs.Modules.{debug, default_msg, module_name};
+ghost use Rattle.pb_play.specs.Modules.{names, module_key, module_name, module_of};
 
-use crate::fault::{LoadFault, not_in_profile, wrong_shape};
-use crate::simple::read_plain;
-use pb_value::path::child;
+use crate::commands::{CommandWords, read_command, read_shell};
+use crate::fault::LoadFault;
+use crate::messages::read_message;
 use pb_value::text::Text;
 use pb_value::val::Val;
 use serde_json::Value;
-use std::alloc::{AllocError, Global};
+use std::alloc::Global;
 
-/// What a task does.
+/// What a task does, and with what, as it is written.
 #[derive(Drop)]
 pub enum Module {
-    /// Shows a value. See Ansible's documentation of `ansible.builtin.debug`.
-    Debug {
-        /// What is shown, `Hello world!` where nothing is said.
-        msg: Val,
-    },
+    /// Runs a program without a shell. See Ansible's documentation of `ansible.builtin.command`.
+    Command(CommandWords),
+    /// Shows a message, `Hello world!` where none is written. See Ansible's documentation of `ansible.builtin.debug`.
+    Debug { msg: Val },
+    /// Fails with a message, `Failed as requested from task` where none is written. See Ansible's documentation of
+    /// `ansible.builtin.fail`.
+    Fail { msg: Val },
+    /// Runs a text in a shell. See Ansible's documentation of `ansible.builtin.shell`.
+    Shell { cmd: Text },
+}
+
+/// A module by its name.
+#[derive(Clone, Copy, Debug, PartialEq, Eq)]
+pub(crate) enum ModuleKey {
+    Command,
+    Debug,
+    Fail,
+    Shell,
 }
 
 impl Module {
@@ -26,38 +39,59 @@ impl Module {
         ensures { result.now ≡ module_name self.now }
     {
         match self {
+            Module::Command(_) => "command",
             Module::Debug { msg: _ } => "debug",
+            Module::Fail { msg: _ } => "fail",
+            Module::Shell { cmd: _ } => "shell",
         }
     }
 }
 
-fn default_message(alloc: Global) -> Result<Val, AllocError>
-    ensures { IfOk result (λ v. v ≡ default_msg) }
+/// Whether the key is a module's name, with its prefix or without.
+fn names(key: &str, name: &str, full: &str) -> bool
+    requires { full.now ≡ codes "ansible.builtin." ++ name.now }
+    ensures { result ≡ names key.now name.now }
 {
-    Ok(Val::text(Text::from_str(alloc, "Hello world!")?))
+    key == name || key == full
 }
 
-/// The arguments of `debug`.
-pub(crate) fn read_debug(alloc: Global, path: &Text, json: &Value) -> Result<Module, LoadFault>
-    ensures value { IfOk result (λ m. debug path.now (view json.now) ≡ Ok m) }
-    ensures fault { IfErr result (λ e. e ≢ LoadFault.Memory → debug path.now (view json.now) ≡ Err e) }
-{
-    match json {
-        Value::Object(members) => {
-            let mut found = None;
-            for (key, member) in members.iter() {
-                if key.as_str() != "msg" {
-                    return Err(not_in_profile(alloc, key.as_str()));
-                }
-                let here = child(alloc, path, key.as_str())?;
-                found = Some(read_plain(alloc, &here, member)?);
-            }
-            let msg = match found {
-                Some(msg) => msg,
-                None => default_message(alloc)?,
-            };
-            Ok(Module::Debug { msg })
+impl ModuleKey {
+    /// The module that a key names.
+    pub(crate) fn of(key: &str) -> Option<ModuleKey>
+        ensures { result ≡ module_key key.now }
+    {
+        if names(key, "command", "ansible.builtin.command") {
+            Some(ModuleKey::Command)
+        } else if names(key, "debug", "ansible.builtin.debug") {
+            Some(ModuleKey::Debug)
+        } else if names(key, "fail", "ansible.builtin.fail") {
+            Some(ModuleKey::Fail)
+        } else if names(key, "shell", "ansible.builtin.shell") {
+            Some(ModuleKey::Shell)
+        } else {
+            None
         }
-        _ => Err(wrong_shape(path)),
+    }
+
+    /// The module with the arguments that stand at its key.
+    pub(crate) fn read(self, alloc: Global, path: &Text, json: &Value) -> Result<Module, LoadFault>
+        ensures value { IfOk result (λ m. module_of self path.now (view json.now) ≡ Ok m) }
+        ensures fault { IfErr result (λ e. e ≢ LoadFault.Memory → module_of self path.now (view json.now) ≡ Err e) }
+    {
+        match self {
+            ModuleKey::Command => Ok(Module::Command(read_command(alloc, path, json)?)),
+            ModuleKey::Debug => {
+                let msg = read_message(alloc, path, "Hello world!", json)?;
+                Ok(Module::Debug { msg })
+            }
+            ModuleKey::Fail => {
+                let msg = read_message(alloc, path, "Failed as requested from task", json)?;
+                Ok(Module::Fail { msg })
+            }
+            ModuleKey::Shell => {
+                let cmd = read_shell(alloc, path, json)?;
+                Ok(Module::Shell { cmd })
+            }
+        }
     }
 }

@@ -1,9 +1,9 @@
 ghost use Rattle.std.specs.Prelude.{◌≡◌, ◌≢◌, IfOk, IfErr, Ok, Err};
 ghost use Rattle.serde_json.specs.View.{view};
-ghost use Rattle.pb_play.specs.Simple.{text, gathering, pattern, plain};
+ghost use Rattle.pb_play.specs.Simple.{text, gathering, pattern, plain, plain_text};
 
 use crate::fault::{LoadFault, not_in_profile, wrong_shape};
-use crate::marks::has_marks;
+use crate::marks::{has_mark, has_marks};
 use pb_value::fault::ValFault;
 use pb_value::text::Text;
 use pb_value::val::Val;
@@ -65,5 +65,21 @@ pub fn read_plain(alloc: Global, path: &Text, json: &Value) -> Result<Val, LoadF
         }
         Err(ValFault::Memory) => Err(LoadFault::Memory),
         Err(_) => Err(wrong_shape(path)),
+    }
+}
+
+/// A text that isn't a template.
+pub fn read_plain_text(alloc: Global, path: &Text, json: &Value) -> Result<Text, LoadFault>
+    ensures value { IfOk result (λ t. plain_text path.now (view json.now) ≡ Ok t) }
+    ensures fault { IfErr result (λ e. e ≢ LoadFault.Memory → plain_text path.now (view json.now) ≡ Err e) }
+{
+    match json {
+        Value::String(text) => {
+            if has_mark(text.as_bytes()) {
+                return Err(LoadFault::BadExpression);
+            }
+            Ok(Text::from_str(alloc, text.as_str())?)
+        }
+        _ => Err(wrong_shape(path)),
     }
 }

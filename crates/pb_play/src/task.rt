@@ -3,7 +3,7 @@ ghost use Rattle.serde_json.specs.View.{view};
 ghost use Rattle.pb_play.specs.Tasks.{task_key, one_more, with_task_key, new_task, finished_task, task, tasks};
 
 use crate::fault::{LoadFault, wrong_shape};
-use crate::modules::{Module, read_debug};
+use crate::modules::{Module, ModuleKey};
 use crate::no_effect::check_without_effect;
 use crate::simple::read_text;
 use pb_value::items::Items;
@@ -25,7 +25,7 @@ pub struct Task {
 #[derive(Clone, Copy, Debug, PartialEq, Eq)]
 enum TaskKey {
     Name,
-    Debug,
+    Module(ModuleKey),
     Other,
 }
 
@@ -49,11 +49,11 @@ impl TaskKey {
         ensures { result ≡ task_key key.now }
     {
         if key == "name" {
-            TaskKey::Name
-        } else if key == "debug" || key == "ansible.builtin.debug" {
-            TaskKey::Debug
-        } else {
-            TaskKey::Other
+            return TaskKey::Name;
+        }
+        match ModuleKey::of(key) {
+            Some(module) => TaskKey::Module(module),
+            None => TaskKey::Other,
         }
     }
 }
@@ -96,8 +96,8 @@ impl TaskDraft {
                 let name = Some(read_text(alloc, path, json)?);
                 Ok(TaskDraft { name, ..self })
             }
-            TaskKey::Debug => {
-                let module = read_debug(alloc, path, json)?;
+            TaskKey::Module(named) => {
+                let module = named.read(alloc, path, json)?;
                 let modules = self.modules.and(module);
                 Ok(TaskDraft {
                     name: self.name,
