@@ -1,0 +1,47 @@
+ghost use Rattle.std.specs.Prelude.{◌≡◌};
+ghost use Rattle.pb_forks.specs.Seats.{fork_view, IsForkOf, IsSameFork};
+
+use crate::runner::{Runner, report_of};
+use pb_forks::{ForkSeat, Pool};
+use std::sync::Wait;
+
+/// A pool as its workers see it: what a fork's thread does with its seat and its runner.
+pub trait Workplace<N> {
+    ghost use Rattle.pb_forks.specs.declared.seats.ForkSeat.{ForkSeat};
+
+    /// Whether the seat is one of this pool.
+    ghost seats: { Self → ForkSeat → Type 0 };
+
+    fn work<R: Wait>(&self, rt: &R, seat: ForkSeat, runner: &mut N) -> ForkSeat
+        requires { seats self.now seat }
+        ensures { IsSameFork seat result };
+}
+
+impl<N: Runner> Workplace<N> for Pool<N> {
+    ghost seats = { λ pool seat. IsForkOf pool seat };
+
+    fn work<R: Wait>(&self, rt: &R, seat: ForkSeat, runner: &mut N) -> ForkSeat {
+        serve(rt, self, seat, runner)
+    }
+}
+
+/// Runs the jobs of a fork until it is shut.
+pub fn serve<N: Runner, R: Wait>(
+    rt: &R,
+    pool: &Pool<N>,
+    mut seat: ForkSeat,
+    runner: &mut N,
+) -> ForkSeat
+    requires { IsForkOf pool.now seat }
+    ensures seat { IsSameFork seat result }
+    ensures shut { (fork_view result).seen ≡ 4 }
+{
+    for _ in rt.forever() {
+        let Some(job) = pool.wait_offer(rt, &mut seat) else {
+            return seat;
+        };
+        let outcome = runner.run(&job);
+        pool.answer(&mut seat, report_of(&job, outcome));
+    }
+    unreachable!()
+}
