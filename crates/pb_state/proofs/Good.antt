@@ -1,12 +1,14 @@
 -- A good answer more.
 use Rattle.std.proofs.Common.{◌≡◌, true, Bool, false, ◌&&◌, List, [], ◌∷◌, ◌++◌, refl}
+use Rattle.pb_tree.specs.declared.answer.Kind.{Kind}
+use Rattle.pb_tree.specs.declared.answer.Kind.TheVariants.{Good}
 use Rattle.pb_tree.specs.Answer.{AnswerOf}
 use Rattle.pb_tree.specs.Plain.{all_good, is_quiet}
-use Rattle.pb_state.specs.Row.{good}
 
-pub one_more : (answers : List AnswerOf) → all_good answers ≡ true → all_good (answers ++ good ∷ []) ≡ true
-one_more [] e = refl
-one_more (a ∷ answers) e = both (is_quiet a) (all_good answers) (all_good (answers ++ good ∷ [])) e (one_more answers)
+pub one_more : (answers : List AnswerOf) (kind : Kind) → all_good answers ≡ true → kind ≡ Good → all_good (answers ++ record { kind = kind; notified = [] } ∷ []) ≡ true
+one_more [] kind e k = rw k refl
+one_more (a ∷ answers) kind e k =
+    both (is_quiet a) (all_good answers) (all_good (answers ++ record { kind = kind; notified = [] } ∷ [])) e (λ f. one_more answers kind f k)
   where
     both : (a b c : Bool) → (a && b) ≡ true → (b ≡ true → c ≡ true) → (a && c) ≡ true
     both true b c h k = k h

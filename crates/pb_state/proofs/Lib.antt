@@ -1,4 +1,5 @@
 pub mod Least
+pub mod Oldest
 pub mod Good
 pub mod Steps
 pub mod WorkFalls
@@ -6,3 +7,4 @@ pub mod Walked
 pub mod Within
 pub mod Told
 pub mod Trees
+pub mod Once

@@ -1,14 +1,17 @@
 -- What every step keeps.
-use Rattle.std.proofs.Common.{◌≡◌, ℕ, List, length, map, set, refl}
-use Rattle.std.specs.Prelude.{Option, Some, None, slice_get}
+use Rattle.std.proofs.Common.{◌≡◌, ℕ, ◌+◌, ◌≤◌, ◌<◌, Bool, true, false, ◌&&◌, List, length, map, set, refl, arith}
+use Rattle.std.specs.Prelude.{Option, Some, None, slice_get, nat_le}
 use Rattle.std.specs.Option.{option_map_or}
 use Rattle.std.proofs.lemmas.List.{length-map, length-set}
+use Rattle.std.proofs.lemmas.Bool.{leb-true}
+use Rattle.pb_ids.specs.declared.numbers.Ticket.{Ticket}
+use Rattle.pb_outcome.specs.declared.job.Report.{Report}
 use Rattle.pb_state.specs.declared.event.Event.{Event}
-use Rattle.pb_state.specs.declared.event.Event.TheVariants.{Open, Start, Turn, Close}
+use Rattle.pb_state.specs.declared.event.Event.TheVariants.{Open, Start, Send, Report as Reported, Turn, Close, Stop, Forks}
 use Rattle.pb_state.specs.Plan.{PlayOf, PlanOf}
 use Rattle.pb_state.specs.Row.{HostRow, joined, left}
 use Rattle.pb_state.specs.State.{State}
-use Rattle.pb_state.specs.Machine.{after, change, open_play, opened_in, started_in, start_at, turned_in}
+use Rattle.pb_state.specs.Machine.{possible, after, change, open_play, opened_in, started_in, start_at, sent_in, reported_in, turned_in, closed, stopped}
 
 length-changed : (rows : List HostRow) (h : ℕ) (f : HostRow → HostRow) (found : Option HostRow) → length (option_map_or (λ row. set rows h (f row)) found rows) ≡ length rows
 length-changed rows h f None = refl
@@ -17,34 +20,95 @@ length-changed rows h f (Some row) = length-set rows h (f row)
 pub length-change : (rows : List HostRow) (h : ℕ) (f : HostRow → HostRow) → length (change rows h f) ≡ length rows
 length-change rows h f = length-changed rows h f (slice_get rows h)
 
--- what a step in a play keeps of the hosts' number and of the forks
-abbrev pub Keeps : State → State → Type 0
-Keeps old new = (length new.rows ≡ length old.rows) × (new.forks ≡ old.forks)
+-- what a step in a play keeps of the hosts' number, of the forks and of the jobs' number
+pub record Keeps (old new : State) : Type 0 where
+  pub hosts : length new.rows ≡ length old.rows
+  pub forks : new.forks ≡ old.forks
+  pub least : old.sends ≤ new.sends
+  pub most : new.sends ≤ old.sends + 1
+
+same_sends : (old new : State) → length new.rows ≡ length old.rows → new.forks ≡ old.forks → new.sends ≡ old.sends → Keeps old new
+same_sends old new h f s = record { hosts = h; forks = f; least = omega (arith, s); most = omega (arith, s) }
 
 opened_keeps : (s : State) (found : Option PlayOf) → Keeps s (option_map_or (opened_in s (map joined s.rows)) found s)
-opened_keeps s None = (refl, refl)
-opened_keeps s (Some play) = (length-map s.rows joined, refl)
+opened_keeps s None = same_sends s s refl refl refl
+opened_keeps s (Some play) = same_sends s (opened_in s (map joined s.rows) play) (length-map s.rows joined) refl refl
 
 start_keeps : (s : State) (h : ℕ) (play : PlayOf) (place : Option ℕ) → Keeps s (option_map_or (start_at s h play) place s)
-start_keeps s h play None = (refl, refl)
-start_keeps s h play (Some p) = (length-change s.rows h _, refl)
+start_keeps s h play None = same_sends s s refl refl refl
+start_keeps s h play (Some p) = same_sends s (start_at s h play p) (length-change s.rows h _) refl refl
 
 started_keeps : (s : State) (h : ℕ) (found : Option PlayOf) → Keeps s (option_map_or (started_in s h) found s)
-started_keeps s h None = (refl, refl)
+started_keeps s h None = same_sends s s refl refl refl
 started_keeps s h (Some play) = start_keeps s h play s.place
 
-turned_keeps : (s : State) (found : Option PlayOf) → Keeps s (option_map_or (turned_in s) found s)
-turned_keeps s None = (refl, refl)
-turned_keeps s (Some play) = (refl, refl)
+sent_keeps : (s : State) (h : ℕ) (ticket : Ticket) (found : Option PlayOf) → Keeps s (option_map_or (sent_in s h ticket) found s)
+sent_keeps s h ticket None = same_sends s s refl refl refl
+sent_keeps s h ticket (Some play) = record { hosts = length-change s.rows h _; forks = refl; least = omega arith; most = omega arith }
 
-keeps : (plan : PlanOf) (s : State) (e : Event) → Keeps s (after plan s e)
-keeps plan s Open = opened_keeps s (slice_get plan.plays s.play)
-keeps plan s (Start h) = started_keeps s h.0 (open_play plan s)
-keeps plan s Turn = turned_keeps s (open_play plan s)
-keeps plan s Close = (length-map s.rows left, refl)
+reported_keeps : (s : State) (r : Report) (found : Option PlayOf) → Keeps s (option_map_or (reported_in s r) found s)
+reported_keeps s r None = same_sends s s refl refl refl
+reported_keeps s r (Some play) = same_sends s (reported_in s r play) (length-change s.rows _ _) refl refl
+
+turned_keeps : (s : State) (found : Option PlayOf) → Keeps s (option_map_or (turned_in s) found s)
+turned_keeps s None = same_sends s s refl refl refl
+turned_keeps s (Some play) = same_sends s (turned_in s play) refl refl refl
+
+closed_keeps : (s : State) → Keeps s (closed s)
+closed_keeps s = same_sends s (closed s) (length-map s.rows left) refl refl
+
+stopped_keeps : (s : State) → Keeps s (stopped s)
+stopped_keeps s = same_sends s (stopped s) refl refl refl
 
 pub hosts_stay : (plan : PlanOf) (s : State) (e : Event) → length (after plan s e).rows ≡ length s.rows
-hosts_stay plan s e = (keeps plan s e).0
+hosts_stay plan s Open = (opened_keeps s (slice_get plan.plays s.play)).hosts
+hosts_stay plan s (Start h) = (started_keeps s h.0 (open_play plan s)).hosts
+hosts_stay plan s (Send h item ticket) = (sent_keeps s h.0 ticket (open_play plan s)).hosts
+hosts_stay plan s (Reported r) = (reported_keeps s r (open_play plan s)).hosts
+hosts_stay plan s Turn = (turned_keeps s (open_play plan s)).hosts
+hosts_stay plan s Close = (closed_keeps s).hosts
+hosts_stay plan s Stop = (stopped_keeps s).hosts
+hosts_stay plan s (Forks n) = refl
 
-pub forks_stay : (plan : PlanOf) (s : State) (e : Event) → (after plan s e).forks ≡ s.forks
-forks_stay plan s e = (keeps plan s e).1
+same_forks : (m n : ℕ) → n ≡ m → 0 < m → 0 < n
+same_forks m n e f = omega (arith, e, f)
+
+and_left : (a b : Bool) → (a && b) ≡ true → a ≡ true
+and_left true b e = refl
+and_left false b e = cc
+
+forks_given : (s : State) (n : ℕ) → (nat_le 1 n && nat_le n s.pool) ≡ true → 0 < n
+forks_given s n e = omega (arith, leb-true 1 n (and_left (nat_le 1 n) _ e))
+
+-- some host may run, whatever comes
+pub forks_stay : (plan : PlanOf) (s : State) (e : Event) → possible plan s e ≡ true → 0 < s.forks → 0 < (after plan s e).forks
+forks_stay plan s Open p f = same_forks s.forks _ (opened_keeps s (slice_get plan.plays s.play)).forks f
+forks_stay plan s (Start h) p f = same_forks s.forks _ (started_keeps s h.0 (open_play plan s)).forks f
+forks_stay plan s (Send h item ticket) p f = same_forks s.forks _ (sent_keeps s h.0 ticket (open_play plan s)).forks f
+forks_stay plan s (Reported r) p f = same_forks s.forks _ (reported_keeps s r (open_play plan s)).forks f
+forks_stay plan s Turn p f = same_forks s.forks _ (turned_keeps s (open_play plan s)).forks f
+forks_stay plan s Close p f = f
+forks_stay plan s Stop p f = f
+forks_stay plan s (Forks n) p f = forks_given s n p
+
+-- an event sends one job at most
+pub sends_rise : (plan : PlanOf) (s : State) (e : Event) → (after plan s e).sends ≤ s.sends + 1
+sends_rise plan s Open = (opened_keeps s (slice_get plan.plays s.play)).most
+sends_rise plan s (Start h) = (started_keeps s h.0 (open_play plan s)).most
+sends_rise plan s (Send h item ticket) = (sent_keeps s h.0 ticket (open_play plan s)).most
+sends_rise plan s (Reported r) = (reported_keeps s r (open_play plan s)).most
+sends_rise plan s Turn = (turned_keeps s (open_play plan s)).most
+sends_rise plan s Close = (closed_keeps s).most
+sends_rise plan s Stop = (stopped_keeps s).most
+sends_rise plan s (Forks n) = omega arith
+
+-- no ticket is given a second time
+pub sends_stay : (plan : PlanOf) (s : State) (e : Event) → s.sends ≤ (after plan s e).sends
+sends_stay plan s Open = (opened_keeps s (slice_get plan.plays s.play)).least
+sends_stay plan s (Start h) = (started_keeps s h.0 (open_play plan s)).least
+sends_stay plan s (Send h item ticket) = (sent_keeps s h.0 ticket (open_play plan s)).least
+sends_stay plan s (Reported r) = (reported_keeps s r (open_play plan s)).least
+sends_stay plan s Turn = (turned_keeps s (open_play plan s)).least
+sends_stay plan s Close = (closed_keeps s).least
+sends_stay plan s Stop = (stopped_keeps s).least
+sends_stay plan s (Forks n) = omega arith

@@ -1,35 +1,50 @@
 -- What the walk of a host allows.
-use Rattle.std.proofs.Common.{◌≡◌, ℕ, ◌+◌, ◌<◌, Bool, true, false, List, [], ◌∷◌, ◌++◌, length, refl, sym, ap, arith}
+use Rattle.std.proofs.Common.{◌≡◌, ℕ, ◌+◌, ◌<◌, Bool, true, false, ◌&&◌, not, List, [], ◌∷◌, ◌++◌, length, refl, sym, ap, arith}
 use Rattle.std.specs.Prelude.{Option, Some, None, if◌then◌else◌}
 use Rattle.std.proofs.lemmas.Bool.{eqb-true}
 use Rattle.pb_tree.specs.declared.tree.Reach.{Reach}
 use Rattle.pb_tree.specs.declared.tree.Reach.TheVariants.{At, Done}
+use Rattle.pb_tree.specs.declared.answer.Kind.TheVariants.{Gone}
+use Rattle.pb_outcome.specs.declared.gather.TaskResult.{TaskResult}
 use Rattle.pb_tree.specs.Tree.{TreeOf, size_of}
 use Rattle.pb_tree.specs.Answer.{AnswerOf}
 use Rattle.pb_tree.specs.Walk.{reach, one_halted, without_halted, is_halted}
 use Rattle.pb_tree.proofs.Rise.{places_bounded}
-use Rattle.pb_state.specs.Row.{HostRow, good}
-use Rattle.pb_state.specs.Machine.{next_place, place_of, same_place, stands_at, is_in}
+use Rattle.pb_state.specs.Row.{HostRow, kind_of, failed_kind, answer_of}
+use Rattle.pb_state.specs.Machine.{next_place, place_of, same_place, stands_at, is_in, is_running}
 
 -- the walk takes an answer at most for each place
 pub at_below : (tree : TreeOf) (answers : List AnswerOf) (p : ℕ) → reach tree answers ≡ At p → length (one_halted answers) < size_of tree
 at_below tree answers p e = let bounds = places_bounded tree answers p e in omega (arith, bounds.0, bounds.1)
 
-without_good : (answers : List AnswerOf) → length (without_halted (answers ++ good ∷ [])) ≡ length (without_halted answers) + 1
-without_good [] = refl
-without_good (a ∷ answers) = chosen (is_halted a.kind) a (without_halted answers) (without_halted (answers ++ good ∷ [])) (without_good answers)
+-- a task's answer is good, bad or gone
+pub not_halted : (task : TaskResult) → is_halted (kind_of task) ≡ false
+not_halted task = by_kind task.unreachable (task.failed && not task.ignored)
+  where
+    by_kind : (lost failed : Bool) → is_halted (if lost then Gone else failed_kind failed) ≡ false
+    by_kind true failed = refl
+    by_kind false true = refl
+    by_kind false false = refl
+
+without_more : (answers : List AnswerOf) (last : AnswerOf) → is_halted last.kind ≡ false → length (without_halted (answers ++ last ∷ [])) ≡ length (without_halted answers) + 1
+without_more [] last k = rw k refl
+without_more (a ∷ answers) last k = chosen (is_halted a.kind) a (without_halted answers) (without_halted (answers ++ last ∷ [])) (without_more answers last k)
   where
     chosen : (b : Bool) (a : AnswerOf) (xs ys : List AnswerOf) → length ys ≡ length xs + 1 → length (if b then ys else a ∷ ys) ≡ length (if b then xs else a ∷ xs) + 1
     chosen true a xs ys e = e
     chosen false a xs ys e = omega (arith, e)
 
-pub one_halted_good : (answers : List AnswerOf) → length (one_halted (answers ++ good ∷ [])) ≡ length (one_halted answers) + 1
-one_halted_good [] = refl
-one_halted_good (a ∷ answers) = chosen (is_halted a.kind) a (without_halted answers) (without_halted (answers ++ good ∷ [])) (one_halted answers) (one_halted (answers ++ good ∷ [])) (without_good answers) (one_halted_good answers)
+one_more : (answers : List AnswerOf) (last : AnswerOf) → is_halted last.kind ≡ false → length (one_halted (answers ++ last ∷ [])) ≡ length (one_halted answers) + 1
+one_more [] last k = rw k refl
+one_more (a ∷ answers) last k = chosen (is_halted a.kind) a (without_halted answers) (without_halted (answers ++ last ∷ [])) (one_halted answers) (one_halted (answers ++ last ∷ [])) (without_more answers last k) (one_more answers last k)
   where
     chosen : (b : Bool) (a : AnswerOf) (xs ys us vs : List AnswerOf) → length ys ≡ length xs + 1 → length vs ≡ length us + 1 → length (if b then a ∷ ys else a ∷ vs) ≡ length (if b then a ∷ xs else a ∷ us) + 1
     chosen true a xs ys us vs e f = omega (arith, e)
     chosen false a xs ys us vs e f = omega (arith, f)
+
+-- each task that ends is one answer more
+pub one_halted_answer : (answers : List AnswerOf) (task : TaskResult) → length (one_halted (answers ++ answer_of task ∷ [])) ≡ length (one_halted answers) + 1
+one_halted_answer answers task = one_more answers (answer_of task) (not_halted task)
 
 pub same_is : (a b : Option ℕ) → same_place a b ≡ true → (p : ℕ) × (a ≡ Some p) × (b ≡ Some p)
 same_is (Some p) (Some q) e = (p, refl, ap Some (sym (eqb-true p q e)))
@@ -41,8 +56,12 @@ place_at (At q) true p e = ap At (let same : q ≡ p = cc in same)
 place_at (Done ending) true p e = cc
 place_at r false p e = cc
 
+and_right : (a b : Bool) → (a && b) ≡ true → b ≡ true
+and_right true b e = e
+and_right false b e = cc
+
 -- a host that stands somewhere has answers to give
 pub stands_below : (tree : TreeOf) (place : Option ℕ) (row : HostRow) → stands_at tree place row ≡ true → length (one_halted row.answers) < size_of tree
 stands_below tree place row e =
-    let stood = same_is (next_place tree row) place e in
+    let stood = same_is (next_place tree row) place (and_right (not (is_running row)) _ e) in
     at_below tree row.answers stood.0 (place_at (reach tree row.answers) (is_in row) stood.0 stood.1)

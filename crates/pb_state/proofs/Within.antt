@@ -1,62 +1,288 @@
--- Each step keeps the counts within their bounds.
-use Rattle.std.proofs.Common.{◌≡◌, ℕ, zero, suc, ◌+◌, ◌-◌, ◌^◌, ◌<◌, ◌≤◌, Bool, true, false, ◌&&◌, List, [], ◌∷◌, length, map, replicate, refl, arith}
-use Rattle.std.specs.Prelude.{Option, Some, None, IfSome, slice_get, nat_lt}
+-- Each step keeps the state's numbers within their bounds.
+use Rattle.std.proofs.Common.{◌≡◌, ℕ, zero, suc, ◌+◌, ◌-◌, ◌*◌, ◌^◌, ◌<◌, ◌≤◌, Bool, true, false, ◌&&◌, List, [], ◌∷◌, length, map, replicate, refl, ap, subst, arith, suc-mul}
+use Rattle.std.specs.Prelude.{Option, Some, None, IfSome, slice_get, sum_by, option_map, is_none, not, ◌==◌}
+use Rattle.std.specs.Option.{option_map_or}
+use Rattle.std.proofs.lemmas.List.{length-map, length-replicate}
+use Rattle.std.proofs.lemmas.List.Sums.{sum_by-cons}
+use Rattle.pb_ids.specs.declared.numbers.Ticket.{Ticket}
+use Rattle.pb_outcome.specs.declared.gather.TaskResult.{TaskResult}
+use Rattle.pb_outcome.specs.declared.job.Call.{Call}
+use Rattle.pb_outcome.specs.declared.outcome.Form.{Form}
 use Rattle.pb_tree.specs.Tree.{TreeOf, size_of}
 use Rattle.pb_tree.specs.Walk.{one_halted}
-use Rattle.pb_state.specs.Row.{HostRow, first_row, joined, left, finished}
-use Rattle.pb_state.specs.Machine.{change, at_row, stands_at}
-use Rattle.pb_state.specs.Bounds.{IsWithin, AllWithin}
-use Rattle.pb_state.proofs.Walked.{stands_below, one_halted_good}
+use Rattle.pb_state.specs.declared.planned.Planned.TheVariants.{Sends}
+use Rattle.pb_state.specs.declared.row.Counts.{Counts}
+use Rattle.pb_state.specs.declared.row.Running.{Running}
+use Rattle.pb_state.specs.Row.{HostRow, first_row, joined, left, finished, started, sent, sent_running, reported, reported_running, counted, more, task_of, item_of}
+use Rattle.pb_state.specs.Machine.{change, at_row, stands_at, awaits, may_send_item, is_running}
+use Rattle.pb_state.specs.Bounds.{IsAtMost, run_places, out_jobs, running_jobs, IsWithin, AllWithin, most_jobs, IsBounded}
+use Rattle.pb_state.proofs.Walked.{stands_below, one_halted_answer}
 
-first_all : (n : ℕ) → AllWithin false 0 (replicate n first_row)
-first_all zero = tt
-first_all (suc n) = (omega arith, first_all n)
+-- counts
+more_at_most : (b : Bool) (n m : ℕ) → n ≤ m → more b n ≤ m + 1
+more_at_most true n m e = omega (arith, e)
+more_at_most false n m e = omega (arith, e)
 
-pub first_within : (rows : List HostRow) (n : ℕ) → rows ≡ replicate n first_row → AllWithin false 0 rows
-first_within rows n e = rw e (first_all n)
+counted_at_most : (task : TaskResult) (counts : Counts) (n : ℕ) → IsAtMost counts n → IsAtMost (counted task counts) (n + 1)
+counted_at_most task counts n m =
+    record {
+      ok = more_at_most _ counts.ok n m.ok;
+      changed = more_at_most _ counts.changed n m.changed;
+      unreachable = more_at_most _ counts.unreachable n m.unreachable;
+      failed = more_at_most _ counts.failed n m.failed;
+      skipped = more_at_most _ counts.skipped n m.skipped;
+      rescued = omega (arith, m.rescued);
+      ignored = more_at_most _ counts.ignored n m.ignored;
+    }
 
-joined_all : (play : ℕ) (rows : List HostRow) → AllWithin false play rows → AllWithin true play (map joined rows)
-joined_all play [] w = tt
-joined_all play (row ∷ rows) w = ((omega (arith, w.0), omega arith), joined_all play rows w.1)
+at_most_to : (counts : Counts) (n m : ℕ) → n ≤ m → IsAtMost counts n → IsAtMost counts m
+at_most_to counts n m e a =
+    record {
+      ok = omega (arith, e, a.ok);
+      changed = omega (arith, e, a.changed);
+      unreachable = omega (arith, e, a.unreachable);
+      failed = omega (arith, e, a.failed);
+      skipped = omega (arith, e, a.skipped);
+      rescued = omega (arith, e, a.rescued);
+      ignored = omega (arith, e, a.ignored);
+    }
 
-pub open_within : (play : ℕ) (is_open : Bool) (rows new : List HostRow) → AllWithin is_open play rows → is_open ≡ false → new ≡ map joined rows → AllWithin true play new
-open_within play true rows new w f e = cc
-open_within play false rows new w f e = rw e (joined_all play rows w)
+none_at_most : (n : ℕ) → IsAtMost (first_row).counts n
+none_at_most n = record { ok = omega arith; changed = omega arith; unreachable = omega arith; failed = omega arith; skipped = omega arith; rescued = omega arith; ignored = omega arith }
 
-left_all : (play : ℕ) (rows : List HostRow) → AllWithin true play rows → AllWithin false (play + 1) (map left rows)
-left_all play [] w = tt
-left_all play (row ∷ rows) w = (omega (arith, w.0.0, w.0.1), left_all play rows w.1)
+-- sums over rows
+sum_most : (w : HostRow → ℕ) (f : HostRow → HostRow) (v : HostRow → ℕ) → ((row : HostRow) → w row ≤ v (f row)) → (rows : List HostRow) → sum_by w rows ≤ sum_by v (map f rows)
+sum_most w f v e [] = omega arith
+sum_most w f v e (row ∷ rows) = omega (arith, e row, sum_most w f v e rows, sum_by-cons w row rows, sum_by-cons v (f row) (map f rows))
 
-pub close_within : (play : ℕ) (is_open : Bool) (rows new : List HostRow) → AllWithin is_open play rows → is_open ≡ true → new ≡ map left rows → AllWithin false (play + 1) new
-close_within play true rows new w f e = rw e (left_all play rows w)
-close_within play false rows new w f e = cc
-
-room_in : (play h : ℕ) (rows : List HostRow) → play < 256 → AllWithin true play rows → IfSome (slice_get rows h) (λ row. row.counts.ok < 2 ^ 64 - 1)
-room_in play h [] b w = tt
-room_in play zero (row ∷ rows) b w = omega (arith, w.0.0, w.0.1)
-room_in play (suc h) (row ∷ rows) b w = room_in play h rows b w.1
-
-pub room_at : (play h : ℕ) (is_open : Bool) (rows : List HostRow) → is_open ≡ true → play < 256 → AllWithin is_open play rows → IfSome (slice_get rows h) (λ row. row.counts.ok < 2 ^ 64 - 1)
-room_at play h true rows o b w = room_in play h rows b w
-room_at play h false rows o b w = cc
-
-finished_within : (play : ℕ) (tree : TreeOf) (p : ℕ) (row : HostRow) → size_of tree ≤ 16384 → length (one_halted row.answers) < size_of tree → IsWithin true play row → IsWithin true play (finished tree p row)
-finished_within play tree p row s b w = (omega (arith, w.0, one_halted_good row.answers), omega (arith, one_halted_good row.answers))
-
-change_on : (row : HostRow) (rows : List HostRow) (h : ℕ) (f : HostRow → HostRow) (found : Option HostRow) → slice_get rows h ≡ found → change (row ∷ rows) (suc h) f ≡ row ∷ change rows h f
+pub change_on : (row : HostRow) (rows : List HostRow) (h : ℕ) (f : HostRow → HostRow) (found : Option HostRow) → slice_get rows h ≡ found → change (row ∷ rows) (suc h) f ≡ row ∷ change rows h f
 change_on row rows h f None e = rw e refl
 change_on row rows h f (Some r) e = rw e refl
 
-start_all : (play h : ℕ) (tree : TreeOf) (place : Option ℕ) (p : ℕ) (rows : List HostRow) → size_of tree ≤ 16384 → at_row (stands_at tree place) rows h ≡ true → AllWithin true play rows → AllWithin true play (change rows h (finished tree p))
-start_all play h tree place p [] s e w = tt
-start_all play zero tree place p (row ∷ rows) s e w = (finished_within play tree p row s (stands_below tree place row e) w.0, w.1)
-start_all play (suc h) tree place p (row ∷ rows) s e w =
-    rw (change_on row rows h (finished tree p) (slice_get rows h) refl) (w.0, start_all play h tree place p rows s e w.1)
+-- one row changed by at least so much
+change_most : (w : HostRow → ℕ) (f : HostRow → HostRow) (test : HostRow → Bool) (by : ℕ) → ((row : HostRow) → test row ≡ true → w row + by ≤ w (f row)) → (rows : List HostRow) (h : ℕ) → at_row test rows h ≡ true → sum_by w rows + by ≤ sum_by w (change rows h f)
+change_most w f test by most [] h e = cc
+change_most w f test by most (row ∷ rows) zero e = let one = most row e in omega (arith, one, sum_by-cons w (f row) rows, sum_by-cons w row rows)
+change_most w f test by most (row ∷ rows) (suc h) e =
+    let rest = change_most w f test by most rows h e in
+    rw (change_on row rows h f (slice_get rows h) refl) (omega (arith, rest, sum_by-cons w row (change rows h f), sum_by-cons w row rows))
+
+change_within : (play : ℕ) (f : HostRow → HostRow) (test : HostRow → Bool) → ((row : HostRow) → test row ≡ true → IsWithin true play row → IsWithin true play (f row)) → (rows : List HostRow) (h : ℕ) → at_row test rows h ≡ true → AllWithin true play rows → AllWithin true play (change rows h f)
+change_within play f test keeps [] h e w = cc
+change_within play f test keeps (row ∷ rows) zero e w = (keeps row e w.0, w.1)
+change_within play f test keeps (row ∷ rows) (suc h) e w =
+    rw (change_on row rows h f (slice_get rows h) refl) (w.0, change_within play f test keeps rows h e w.1)
+
+length_changed : (rows : List HostRow) (h : ℕ) (f : HostRow → HostRow) (test : HostRow → Bool) → at_row test rows h ≡ true → length (change rows h f) ≡ length rows
+length_changed [] h f test e = cc
+length_changed (row ∷ rows) zero f test e = refl
+length_changed (row ∷ rows) (suc h) f test e = rw (change_on row rows h f (slice_get rows h) refl) (ap suc (length_changed rows h f test e))
+
+-- a row that is changed keeps the bounds, and can have sent so much more
+record Keeps (play : ℕ) (f : HostRow → HostRow) (test : HostRow → Bool) (by : ℕ) : Type 0 where
+  within : (row : HostRow) → test row ≡ true → IsWithin true play row → IsWithin true play (f row)
+  jobs : (row : HostRow) → test row ≡ true → most_jobs true play row + by ≤ most_jobs true play (f row)
+
+changed_bounded : (play sends by h : ℕ) (f : HostRow → HostRow) (test : HostRow → Bool) (rows : List HostRow) → Keeps play f test by → at_row test rows h ≡ true → IsBounded true play sends rows → IsBounded true play (sends + by) (change rows h f)
+changed_bounded play sends by h f test rows k e b =
+    record {
+      counts = change_within play f test k.within rows h e b.counts;
+      plays = b.plays;
+      opened = b.opened;
+      hosts = rw (length_changed rows h f test e) b.hosts;
+      jobs = let more = change_most (most_jobs true play) f test by k.jobs rows h e in omega (arith, more, b.jobs);
+    }
+
+-- the events
+and_left : (a b : Bool) → (a && b) ≡ true → a ≡ true
+and_left true b e = refl
+and_left false b e = cc
 
 and_right : (a b : Bool) → (a && b) ≡ true → b ≡ true
 and_right true b e = e
 and_right false b e = cc
 
-pub start_within : (play h forks : ℕ) (is_open : Bool) (tree : TreeOf) (place : Option ℕ) (p : ℕ) (rows new : List HostRow) → AllWithin is_open play rows → is_open ≡ true → size_of tree ≤ 16384 → (nat_lt 0 forks && at_row (stands_at tree place) rows h) ≡ true → new ≡ change rows h (finished tree p) → AllWithin is_open play new
-start_within play h forks true tree place p rows new w o s e n = rw n (start_all play h tree place p rows s (and_right (nat_lt 0 forks) _ e) w)
-start_within play h forks false tree place p rows new w o s e n = cc
+none_running : (row : HostRow) (found : Option Running) → row.running ≡ found → is_running row ≡ false → row.running ≡ None
+none_running row None e n = e
+none_running row (Some r) e n = let yes : is_running row ≡ true = rw e refl in cc
+
+finished_within : (play : ℕ) (tree : TreeOf) (p : ℕ) (task : TaskResult) (row : HostRow) → length (one_halted row.answers) < 16384 → IsWithin true play row → IsWithin true play (finished tree p task row)
+finished_within play tree p task row b w =
+    let more = one_halted_answer row.answers task in
+    (at_most_to (counted task row.counts) _ _ (omega (arith, more)) (counted_at_most task row.counts _ w.0), omega (arith, more, b))
+
+-- a host that starts has a place left
+start_left : (tree : TreeOf) (place : Option ℕ) (row : HostRow) → size_of tree ≤ 16384 → stands_at tree place row ≡ true → length (one_halted row.answers) < 16384
+start_left tree place row s e = omega (arith, s, stands_below tree place row e)
+
+not_true : (b : Bool) → not b ≡ true → b ≡ false
+not_true true e = cc
+not_true false e = refl
+
+stands_idle : (tree : TreeOf) (place : Option ℕ) (row : HostRow) → stands_at tree place row ≡ true → row.running ≡ None
+stands_idle tree place row e = none_running row row.running refl (not_true (is_running row) (and_left (not (is_running row)) _ e))
+
+finish_keeps : (play : ℕ) (tree : TreeOf) (place : Option ℕ) (p : ℕ) (task : TaskResult) → size_of tree ≤ 16384 → Keeps play (finished tree p task) (stands_at tree place) 0
+finish_keeps play tree place p task s =
+    record {
+      within = λ row e w. finished_within play tree p task row (start_left tree place row s e) w;
+      jobs = λ row e. let more = one_halted_answer row.answers task in let idle = stands_idle tree place row e in rw idle (omega (arith, more));
+    }
+
+begin_keeps : (play : ℕ) (tree : TreeOf) (place : Option ℕ) (p : ℕ) (call : Call) → size_of tree ≤ 16384 → Keeps play (started tree p (Sends call)) (stands_at tree place) 0
+begin_keeps play tree place p call s =
+    record {
+      within = λ row e w. (w.0, omega (arith, start_left tree place row s e));
+      jobs = λ row e. let idle = stands_idle tree place row e in rw idle (omega arith);
+    }
+
+-- a host that has a job to send runs, and no job of it is out
+sent_runs : (ticket : Ticket) (found : Option Running) → run_places (option_map (sent_running ticket) found) ≡ run_places found
+sent_runs ticket None = refl
+sent_runs ticket (Some r) = refl
+
+one_more_out : (ticket : Ticket) (found : Option Running) → option_map_or (λ (r : Running). is_none r.out) found false ≡ true → running_jobs found + 1 ≡ running_jobs (option_map (sent_running ticket) found)
+one_more_out ticket None e = cc
+one_more_out ticket (Some r) e = out r.out e
+  where
+    out : (o : Option Ticket) → is_none o ≡ true → out_jobs o + 1 ≡ 1
+    out None e = refl
+    out (Some t) e = cc
+
+send_keeps : (play item : ℕ) (ticket : Ticket) → Keeps play (sent ticket) (may_send_item item) 1
+send_keeps play item ticket =
+    record {
+      within = λ row e w. (w.0, rw (sent_runs ticket row.running) w.1);
+      jobs = λ row e. let more = one_more_out ticket row.running (and_right (item == 0) _ e) in omega (arith, more);
+    }
+
+-- a host whose job is out runs
+report_keeps : (play item : ℕ) (tree : TreeOf) (outcome : Form) (ticket : Ticket) → Keeps play (reported tree outcome) (awaits ticket item) 0
+report_keeps play item tree outcome ticket =
+    record {
+      within = λ row e w. reported_within row row.running refl w;
+      jobs = λ row e. reported_jobs row row.running refl;
+    }
+  where
+    reported_within : (row : HostRow) (found : Option Running) → row.running ≡ found → IsWithin true play row → IsWithin true play (option_map_or (reported_running tree outcome row) found row)
+    reported_within row None f w = w
+    reported_within row (Some r) f w =
+        let bound = subst (λ (v : Option Running). length (one_halted row.answers) + run_places v ≤ 16384) f w.1 in
+        finished_within play tree r.place (task_of (item_of outcome r)) row (omega (arith, bound)) w
+
+    at_most_one : (o : Option Ticket) → out_jobs o ≤ 1
+    at_most_one None = omega arith
+    at_most_one (Some t) = omega arith
+
+    reported_jobs : (row : HostRow) (found : Option Running) → row.running ≡ found → most_jobs true play row + 0 ≤ most_jobs true play (option_map_or (reported_running tree outcome row) found row)
+    reported_jobs row None f = omega arith
+    reported_jobs row (Some r) f =
+        let more = one_halted_answer row.answers (task_of (item_of outcome r)) in
+        let one = at_most_one r.out in
+        rw f (omega (arith, more, one))
+
+-- the clauses of the steps
+changed_so : (play sends by h : ℕ) (is_open : Bool) (f : HostRow → HostRow) (test : HostRow → Bool) (rows new : List HostRow) (more : ℕ) → more ≡ sends + by → is_open ≡ true → Keeps play f test by → at_row test rows h ≡ true → IsBounded is_open play sends rows → new ≡ change rows h f → IsBounded is_open play more new
+changed_so play sends by h true f test rows new more m o k e b n = rw (m, n) (changed_bounded play sends by h f test rows k e b)
+changed_so play sends by h false f test rows new more m o k e b n = cc
+
+pub finish_bounded : (play sends h : ℕ) (is_open room : Bool) (tree : TreeOf) (place : Option ℕ) (p : ℕ) (task : TaskResult) (rows new : List HostRow) → IsBounded is_open play sends rows → is_open ≡ true → size_of tree ≤ 16384 → (room && at_row (stands_at tree place) rows h) ≡ true → new ≡ change rows h (finished tree p task) → IsBounded is_open play sends new
+finish_bounded play sends h is_open room tree place p task rows new b o s e n =
+    changed_so play sends 0 h is_open (finished tree p task) (stands_at tree place) rows new sends (omega arith) o (finish_keeps play tree place p task s) (and_right room _ e) b n
+
+pub begin_bounded : (play sends h : ℕ) (is_open room : Bool) (tree : TreeOf) (place : Option ℕ) (p : ℕ) (call : Call) (rows new : List HostRow) → IsBounded is_open play sends rows → is_open ≡ true → size_of tree ≤ 16384 → (room && at_row (stands_at tree place) rows h) ≡ true → new ≡ change rows h (started tree p (Sends call)) → IsBounded is_open play sends new
+begin_bounded play sends h is_open room tree place p call rows new b o s e n =
+    changed_so play sends 0 h is_open (started tree p (Sends call)) (stands_at tree place) rows new sends (omega arith) o (begin_keeps play tree place p call s) (and_right room _ e) b n
+
+pub send_bounded : (play sends h item : ℕ) (is_open may : Bool) (ticket : Ticket) (rows new : List HostRow) → IsBounded is_open play sends rows → is_open ≡ true → (may && at_row (may_send_item item) rows h) ≡ true → new ≡ change rows h (sent ticket) → IsBounded is_open play (sends + 1) new
+send_bounded play sends h item is_open may ticket rows new b o e n =
+    changed_so play sends 1 h is_open (sent ticket) (may_send_item item) rows new (sends + 1) refl o (send_keeps play item ticket) (and_right may _ e) b n
+
+pub report_bounded : (play sends h item : ℕ) (is_open : Bool) (tree : TreeOf) (ticket : Ticket) (outcome : Form) (rows new : List HostRow) → IsBounded is_open play sends rows → is_open ≡ true → at_row (awaits ticket item) rows h ≡ true → new ≡ change rows h (reported tree outcome) → IsBounded is_open play sends new
+report_bounded play sends h item is_open tree ticket outcome rows new b o e n =
+    changed_so play sends 0 h is_open (reported tree outcome) (awaits ticket item) rows new sends (omega arith) o (report_keeps play item tree outcome ticket) e b n
+
+-- the most that rows can have sent stays far below a number's end
+most_at_most : (play : ℕ) (rows : List HostRow) → play ≤ 256 → AllWithin true play rows → sum_by (most_jobs true play) rows ≤ length rows * 4210689
+most_at_most play [] b w = omega arith
+most_at_most play (row ∷ rows) b w =
+    let one = row_at_most row.running in
+    omega (arith, w.0.1, b, one, most_at_most play rows b w.1, sum_by-cons (most_jobs true play) row rows, suc-mul (length rows) 4210689)
+  where
+    out_at_most : (o : Option Ticket) → out_jobs o ≤ 1
+    out_at_most None = omega arith
+    out_at_most (Some t) = omega arith
+
+    row_at_most : (found : Option Running) → running_jobs found ≤ run_places found
+    row_at_most None = omega arith
+    row_at_most (Some r) = out_at_most r.out
+
+pub sends_below : (play sends : ℕ) (is_open : Bool) (rows : List HostRow) → IsBounded is_open play sends rows → is_open ≡ true → sends < 2 ^ 62
+sends_below play sends true rows b o =
+    let most = most_at_most play rows b.plays b.counts in
+    let total : length rows * 4210689 ≤ 65536 * 4210689 = omega (arith, b.hosts) in
+    omega (arith, b.jobs, most, total)
+sends_below play sends false rows b o = cc
+
+-- room for one count more
+room_in : (play h : ℕ) (rows : List HostRow) → play ≤ 256 → AllWithin true play rows → IfSome (slice_get rows h) (λ row. IsAtMost row.counts (2 ^ 64 - 2))
+room_in play h [] b w = tt
+room_in play zero (row ∷ rows) b w = at_most_to row.counts _ _ (omega (arith, b, w.0.1)) w.0.0
+room_in play (suc h) (row ∷ rows) b w = room_in play h rows b w.1
+
+pub room_at : (play sends h : ℕ) (is_open : Bool) (rows : List HostRow) → is_open ≡ true → IsBounded is_open play sends rows → IfSome (slice_get rows h) (λ row. IsAtMost row.counts (2 ^ 64 - 2))
+room_at play sends h true rows o b = room_in play h rows b.plays b.counts
+room_at play sends h false rows o b = cc
+
+-- an open, a close and the beginning
+joined_all : (play : ℕ) (rows : List HostRow) → AllWithin false play rows → AllWithin true play (map joined rows)
+joined_all play [] w = tt
+joined_all play (row ∷ rows) w = ((at_most_to row.counts _ _ (omega arith) w.0, omega arith), joined_all play rows w.1)
+
+pub open_bounded : (play sends : ℕ) (is_open : Bool) (rows new : List HostRow) → IsBounded is_open play sends rows → is_open ≡ false → play < 256 → new ≡ map joined rows → IsBounded true play sends new
+open_bounded play sends true rows new b f p e = cc
+open_bounded play sends false rows new b f p e =
+    rw e (record {
+      counts = joined_all play rows b.counts;
+      plays = b.plays;
+      opened = p;
+      hosts = rw (length-map rows joined) b.hosts;
+      jobs = let more = sum_most (most_jobs false play) joined (most_jobs true play) (λ row. omega arith) rows in omega (arith, more, b.jobs);
+    })
+
+left_all : (play : ℕ) (rows : List HostRow) → AllWithin true play rows → AllWithin false (play + 1) (map left rows)
+left_all play [] w = tt
+left_all play (row ∷ rows) w = (at_most_to row.counts _ _ (omega (arith, w.0.1)) w.0.0, left_all play rows w.1)
+
+left_jobs : (play : ℕ) (rows : List HostRow) → AllWithin true play rows → sum_by (most_jobs true play) rows ≤ sum_by (most_jobs false (play + 1)) (map left rows)
+left_jobs play [] w = omega arith
+left_jobs play (row ∷ rows) w =
+    let one = row_at_most row.running in
+    omega (arith, w.0.1, one, left_jobs play rows w.1, sum_by-cons (most_jobs true play) row rows, sum_by-cons (most_jobs false (play + 1)) (left row) (map left rows))
+  where
+    out_at_most : (o : Option Ticket) → out_jobs o ≤ 1
+    out_at_most None = omega arith
+    out_at_most (Some t) = omega arith
+
+    row_at_most : (found : Option Running) → running_jobs found ≤ run_places found
+    row_at_most None = omega arith
+    row_at_most (Some r) = out_at_most r.out
+
+pub close_bounded : (play sends : ℕ) (is_open : Bool) (rows new : List HostRow) → IsBounded is_open play sends rows → is_open ≡ true → new ≡ map left rows → IsBounded false (play + 1) sends new
+close_bounded play sends true rows new b o e =
+    rw e (record {
+      counts = left_all play rows b.counts;
+      plays = let below : play < 256 = b.opened in omega (arith, below);
+      opened = tt;
+      hosts = rw (length-map rows left) b.hosts;
+      jobs = omega (arith, left_jobs play rows b.counts, b.jobs);
+    })
+close_bounded play sends false rows new b o e = cc
+
+first_all : (n : ℕ) → AllWithin false 0 (replicate n first_row)
+first_all zero = tt
+first_all (suc n) = (none_at_most 0, first_all n)
+
+pub first_bounded : (rows : List HostRow) (n : ℕ) → n ≤ 65536 → rows ≡ replicate n first_row → IsBounded false 0 0 rows
+first_bounded rows n m e =
+    rw e (record { counts = first_all n; plays = omega arith; opened = tt; hosts = rw (length-replicate n first_row) m; jobs = omega arith })

@@ -1,6 +1,6 @@
--- Each event leaves less to do.
+-- Each event but a command leaves less to do.
 use Rattle.std.proofs.Common.{◌≡◌, ℕ, zero, suc, ◌+◌, ◌-◌, ◌*◌, ◌<◌, ◌≤◌, Bool, true, false, ◌&&◌, not, List, [], ◌∷◌, length, map, drop, get_or, refl, sym, ◌∙◌, ap, arith, ◌⊎◌, inl, inr, suc-mul}
-use Rattle.std.specs.Prelude.{Option, Some, None, slice_get, sum_by, is_some, nat_lt, nat_le, min, if◌then◌else◌, ◌||◌}
+use Rattle.std.specs.Prelude.{Option, Some, None, option_map, slice_get, sum_by, is_some, is_none, ◌==◌, nat_lt, nat_le, min, if◌then◌else◌, ◌||◌}
 use Rattle.std.specs.List.{list_any}
 use Rattle.std.specs.Option.{option_map_or}
 use Rattle.std.proofs.lemmas.List.{drop_more, length-map}
@@ -8,16 +8,25 @@ use Rattle.std.proofs.lemmas.List.Sums.{sum_by-cons}
 use Rattle.std.proofs.lemmas.Option.{slice_get_within, get_or_from_slice_get, slice_get_cases}
 use Rattle.std.proofs.lemmas.Bool.{ltb-true, lt-ltb, leb-true, leb-false, eq-eqb}
 use Rattle.pb_tree.specs.Tree.{TreeOf, size_of}
-use Rattle.pb_tree.specs.Walk.{one_halted}
+use Rattle.pb_ids.specs.declared.numbers.Ticket.{Ticket}
+use Rattle.pb_outcome.specs.declared.gather.TaskResult.{TaskResult}
+use Rattle.pb_outcome.specs.declared.job.Report.{Report}
+use Rattle.pb_outcome.specs.declared.outcome.Form.{Form}
+use Rattle.pb_state.specs.declared.decided.Decided.{Decided as DecidedOf}
+use Rattle.pb_state.specs.declared.planned.Planned.{Planned}
+use Rattle.pb_state.specs.declared.planned.Planned.TheVariants.{Decided, Sends}
+use Rattle.pb_state.specs.declared.row.Running.{Running}
 use Rattle.pb_state.specs.declared.event.Event.{Event}
-use Rattle.pb_state.specs.declared.event.Event.TheVariants.{Open, Start, Turn, Close}
+use Rattle.pb_state.specs.declared.event.Event.TheVariants.{Open, Start, Send, Report as Reported, Turn, Close, Stop, Forks}
 use Rattle.pb_state.specs.Plan.{PlayOf, PlanOf}
-use Rattle.pb_state.specs.Row.{HostRow, joined, left, finished}
+use Rattle.pb_state.specs.Row.{HostRow, joined, left, finished, started, sent, sent_running, reported, reported_running, item_of, task_of}
 use Rattle.pb_state.specs.State.{State}
-use Rattle.pb_state.specs.Machine.{possible, after, change, at_row, open_play, next_place, least_place, lesser, same_place, stands_at, has_room, may_open, may_start_in, may_turn_in, may_close_in, some_may_start, opened_in, started_in, start_at, turned_in, closed}
-use Rattle.pb_state.specs.Work.{place_work, row_work, later_work, turn_work, is_place, work_in, work}
+use Rattle.pb_state.specs.Machine.{possible, after, change, at_row, open_play, next_place, least_place, lesser, same_place, stands_at, has_room, may_open, may_start_in, may_turn_in, may_close_in, some_may_start, opened_in, started_in, start_at, turned_in, closed, is_running, running_count, is_ticket, may_send_item, awaits, may_send_in, may_report_in, sent_in, reported_in}
+use Rattle.pb_state.specs.Results.{planned_at}
+use Rattle.pb_state.specs.Run.{is_command}
+use Rattle.pb_state.specs.Work.{places_left, place_work, out_work, running_work, row_work, later_work, turn_work, is_place, work_in, work}
 use Rattle.pb_state.proofs.Steps.{length-change}
-use Rattle.pb_state.proofs.Walked.{stands_below, one_halted_good, same_is}
+use Rattle.pb_state.proofs.Walked.{stands_below, one_halted_answer, same_is}
 
 and_left : (a b : Bool) → (a && b) ≡ true → a ≡ true
 and_left true b e = refl
@@ -31,18 +40,58 @@ not_false : (b : Bool) → not b ≡ true → b ≡ false
 not_false true e = cc
 not_false false e = refl
 
--- a host that starts gives one answer more
-place_less : (tree : TreeOf) (row : HostRow) (p : ℕ) (next : Option ℕ) → length (one_halted row.answers) < size_of tree → place_work tree (finished tree p row) next < size_of tree - length (one_halted row.answers)
-place_less tree row p None below = omega arith
-place_less tree row p (Some q) below = omega (arith, one_halted_good row.answers)
+-- a finished task is one answer more
+finished_at : (tree : TreeOf) (row : HostRow) (p : ℕ) (task : TaskResult) (next : Option ℕ) → place_work tree (finished tree p task row) next ≤ 3 * (places_left tree row - 1)
+finished_at tree row p task None = omega arith
+finished_at tree row p task (Some q) = omega (arith, one_halted_answer row.answers task)
 
-start_less : (tree : TreeOf) (place : Option ℕ) (p : ℕ) (row : HostRow) → stands_at tree place row ≡ true → row_work tree (finished tree p row) < row_work tree row
-start_less tree place p row e =
-    let stood = same_is (next_place tree row) place e in
-    let below = stands_below tree place row e in
-    let now : row_work tree row ≡ size_of tree - length (one_halted row.answers) = ap (place_work tree row) stood.1 in
-    let less = place_less tree row p (next_place tree (finished tree p row)) below in
-    omega (arith, now, less)
+finished_less : (tree : TreeOf) (row : HostRow) (p : ℕ) (task : TaskResult) → row_work tree (finished tree p task row) ≤ 3 * (places_left tree row - 1)
+finished_less tree row p task = finished_at tree row p task (next_place tree (finished tree p task row))
+
+-- a start
+started_less : (tree : TreeOf) (p : ℕ) (planned : Planned) (row : HostRow) → row_work tree (started tree p planned row) ≤ 2 + 3 * (places_left tree row - 1)
+started_less tree p (Decided item) row = let less = finished_less tree row p (task_of item) in omega (arith, less)
+started_less tree p (Sends call) row = omega arith
+
+not_running : (tree : TreeOf) (row : HostRow) (running : Option Running) → not (is_some running) ≡ true → running_work tree row running ≡ place_work tree row (next_place tree row)
+not_running tree row None e = refl
+not_running tree row (Some r) e = cc
+
+start_less : (tree : TreeOf) (place : Option ℕ) (p : ℕ) (planned : Planned) (row : HostRow) → stands_at tree place row ≡ true → row_work tree (started tree p planned row) < row_work tree row
+start_less tree place p planned row e =
+    let stood = same_is (next_place tree row) place (and_right (not (is_running row)) _ e) in
+    let idle : row_work tree row ≡ place_work tree row (next_place tree row) = not_running tree row row.running (and_left _ _ e) in
+    let now : place_work tree row (next_place tree row) ≡ 3 * places_left tree row = ap (place_work tree row) stood.1 in
+    omega (arith, idle, now, stands_below tree place row e, started_less tree p planned row)
+
+-- a send
+out_less : (out : Option Ticket) → is_none out ≡ true → 1 < out_work out
+out_less None e = omega arith
+out_less (Some ticket) e = cc
+
+sending : (tree : TreeOf) (ticket : Ticket) (row : HostRow) (running : Option Running) → option_map_or (λ (r : Running). is_none r.out) running false ≡ true → running_work tree (sent ticket row) (option_map (sent_running ticket) running) < running_work tree row running
+sending tree ticket row None e = cc
+sending tree ticket row (Some r) e = omega (arith, out_less r.out e)
+
+send_less : (tree : TreeOf) (item : ℕ) (ticket : Ticket) (row : HostRow) → may_send_item item row ≡ true → row_work tree (sent ticket row) < row_work tree row
+send_less tree item ticket row e = sending tree ticket row row.running (and_right (item == 0) _ e)
+
+-- a report
+out_one : (ticket : Ticket) (out : Option Ticket) → is_ticket ticket out ≡ true → out_work out ≡ 1
+out_one ticket None e = cc
+out_one ticket (Some t) e = refl
+
+reporting : (tree : TreeOf) (outcome : Form) (ticket : Ticket) (row : HostRow) (running : Option Running) → option_map_or (λ (r : Running). is_ticket ticket r.out) running false ≡ true → row_work tree (option_map_or (reported_running tree outcome row) running row) < running_work tree row running
+reporting tree outcome ticket row None e = cc
+reporting tree outcome ticket row (Some r) e =
+    let less = finished_less tree row r.place (task_of (item_of outcome r)) in
+    omega (arith, less, out_one ticket r.out e)
+
+report_less : (tree : TreeOf) (outcome : Form) (ticket : Ticket) (item : ℕ) (row : HostRow) → awaits ticket item row ≡ true → row_work tree (reported tree outcome row) < row_work tree row
+report_less tree outcome ticket item row e = reporting tree outcome ticket row row.running (and_right (item == 0) _ e)
+
+abbrev one_if : Bool → ℕ
+one_if b = if b then 1 else 0
 
 -- one row changed
 change_on : (row : HostRow) (rows : List HostRow) (h : ℕ) (f : HostRow → HostRow) (found : Option HostRow) → slice_get rows h ≡ found → change (row ∷ rows) (suc h) f ≡ row ∷ change rows h f
@@ -70,35 +119,50 @@ place_same (Some p) = eq-eqb p p refl
 no_turn : (p : Option ℕ) → turn_work p p ≡ 0
 no_turn p = rw (place_same p) refl
 
--- a start
+-- an event that changes one row of the open batch
+row_event : (plan : PlanOf) (s : State) (play : PlayOf) (h sends : ℕ) (decided : Option DecidedOf) (f : HostRow → HostRow) (test : HostRow → Bool) → open_play plan s ≡ Some play → ((row : HostRow) → test row ≡ true → row_work play.tree (f row) < row_work play.tree row) → at_row test s.rows h ≡ true → work plan (record s { rows = change s.rows h f; sends = sends; decided = decided }) < work plan s
+row_event plan s play h sends decided f test o less e =
+    let rows = change_less (row_work play.tree) f test less s.rows h e in
+    let turn = turn_work_at_most s.place (least_place play.tree (change s.rows h f)) in
+    let same : later_work (length (change s.rows h f)) (drop (s.play + 1) plan.plays) ≡ later_work (length s.rows) (drop (s.play + 1) plan.plays) = rw (length-change s.rows h f) refl in
+    let old : work plan s ≡ work_in plan s (Some play) = ap (work_in plan s) o in
+    let changed : State = record s { rows = change s.rows h f; sends = sends; decided = decided } in
+    let new : work plan changed ≡ work_in plan changed (Some play) = ap (work_in plan changed) o in
+    omega (arith, rows, turn, same, old, new)
+
 none_same : (a : Option ℕ) → same_place a None ≡ false
 none_same (Some p) = refl
 none_same None = refl
 
+none_stands_at : (tree : TreeOf) (row : HostRow) → stands_at tree None row ≡ true → ⊥
+none_stands_at tree row e =
+    let same = and_right (not (is_running row)) _ e in
+    let no = none_same (next_place tree row) in cc
+
 none_at : (tree : TreeOf) (rows : List HostRow) (h : ℕ) → at_row (stands_at tree None) rows h ≡ true → ⊥
 none_at tree [] h e = cc
-none_at tree (row ∷ rows) zero e = let no = none_same (next_place tree row) in cc
+none_at tree (row ∷ rows) zero e = none_stands_at tree row e
 none_at tree (row ∷ rows) (suc h) e = none_at tree rows h e
 
-start_at_less : (plan : PlanOf) (s : State) (h : ℕ) (play : PlayOf) (place : Option ℕ) → at_row (stands_at play.tree place) s.rows h ≡ true → work_in plan (option_map_or (start_at s h play) place s) (Some play) < work_in plan s (Some play)
-start_at_less plan s h play None e = absurd (none_at play.tree s.rows h e)
-start_at_less plan s h play (Some p) e =
-    let rows = change_less (row_work play.tree) (finished play.tree p) (stands_at play.tree (Some p)) (start_less play.tree (Some p) p) s.rows h e in
-    let turn = turn_work_at_most s.place (least_place play.tree (change s.rows h (finished play.tree p))) in
-    let same : later_work (length (change s.rows h (finished play.tree p))) (drop (s.play + 1) plan.plays) ≡ later_work (length s.rows) (drop (s.play + 1) plan.plays) = rw (length-change s.rows h (finished play.tree p)) refl in
-    omega (arith, rows, turn, same)
-
-start_open : (plan : PlanOf) (s : State) (h : ℕ) (play : PlayOf) (place : Option ℕ) → open_play plan (option_map_or (start_at s h play) place s) ≡ open_play plan s
-start_open plan s h play None = refl
-start_open plan s h play (Some p) = refl
+start_at_less : (plan : PlanOf) (s : State) (h : ℕ) (play : PlayOf) (place : Option ℕ) → open_play plan s ≡ Some play → at_row (stands_at play.tree place) s.rows h ≡ true → work plan (option_map_or (start_at s h play) place s) < work plan s
+start_at_less plan s h play None o e = absurd (none_at play.tree s.rows h e)
+start_at_less plan s h play (Some p) o e =
+    let planned : Planned = planned_at play.tasks p in
+    row_event plan s play h s.sends (start_at s h play p).decided (started play.tree p planned) (stands_at play.tree (Some p)) o (λ row may. start_less play.tree (Some p) p planned row may) e
 
 start_in_less : (plan : PlanOf) (s : State) (h : ℕ) (found : Option PlayOf) → open_play plan s ≡ found → option_map_or (may_start_in s h) found false ≡ true → work plan (option_map_or (started_in s h) found s) < work plan s
 start_in_less plan s h None o e = cc
-start_in_less plan s h (Some play) o e =
-    let less = start_at_less plan s h play s.place (and_right (has_room s) _ e) in
-    let old : work plan s ≡ work_in plan s (Some play) = ap (work_in plan s) o in
-    let new : work plan (started_in s h play) ≡ work_in plan (started_in s h play) (Some play) = ap (work_in plan (started_in s h play)) (start_open plan s h play s.place ∙ o) in
-    omega (arith, less, old, new)
+start_in_less plan s h (Some play) o e = start_at_less plan s h play s.place o (and_right (has_room s) _ e)
+
+send_in_less : (plan : PlanOf) (s : State) (h item : ℕ) (ticket : Ticket) (found : Option PlayOf) → open_play plan s ≡ found → option_map_or (may_send_in s h item ticket) found false ≡ true → work plan (option_map_or (sent_in s h ticket) found s) < work plan s
+send_in_less plan s h item ticket None o e = cc
+send_in_less plan s h item ticket (Some play) o e =
+    row_event plan s play h (s.sends + 1) None (sent ticket) (may_send_item item) o (λ row may. send_less play.tree item ticket row may) (and_right (not s.stopped && (ticket.0 == s.sends)) _ e)
+
+report_in_less : (plan : PlanOf) (s : State) (r : Report) (found : Option PlayOf) → open_play plan s ≡ found → option_map_or (may_report_in s r) found false ≡ true → work plan (option_map_or (reported_in s r) found s) < work plan s
+report_in_less plan s r None o e = cc
+report_in_less plan s r (Some play) o e =
+    row_event plan s play r.host.0 s.sends (reported_in s r play).decided (reported play.tree r.outcome) (awaits r.ticket r.item) o (λ row may. report_less play.tree r.outcome r.ticket r.item row may) e
 
 -- a turn
 min_is : (a b : ℕ) (t : Bool) → nat_le a b ≡ t → (min a b ≡ a) ⊎ (min a b ≡ b)
@@ -121,15 +185,27 @@ or_right : (a b : Bool) → (a || b) ≡ false → b ≡ false
 or_right true b e = cc
 or_right false b e = e
 
--- where none stands at a place, it isn't the least
-least_stands : (tree : TreeOf) (p : ℕ) (rows : List HostRow) → list_any (stands_at tree (Some p)) rows ≡ false → least_place tree rows ≡ Some p → ⊥
-least_stands tree p [] n e = cc
-least_stands tree p (row ∷ rows) n e =
+-- where none runs and none stands at a place, it isn't the least
+least_stands : (tree : TreeOf) (p : ℕ) (rows : List HostRow) → list_any is_running rows ≡ false → list_any (stands_at tree (Some p)) rows ≡ false → least_place tree rows ≡ Some p → ⊥
+least_stands tree p [] c n e = cc
+least_stands tree p (row ∷ rows) c n e =
     elim (lesser_is (next_place tree row) (least_place tree rows) p e) [
       | inl here ↦ (let no : stands_at tree (Some p) row ≡ false = or_left (stands_at tree (Some p) row) _ n in
-          let yes : stands_at tree (Some p) row ≡ true = same_some (next_place tree row) p here in cc)
-      | inr there ↦ least_stands tree p rows (or_right (stands_at tree (Some p) row) _ n) there
+          let idle : is_running row ≡ false = or_left (is_running row) _ c in
+          let yes : stands_at tree (Some p) row ≡ true = rw (idle, same_some (next_place tree row) p here) refl in cc)
+      | inr there ↦ least_stands tree p rows (or_right (is_running row) _ c) (or_right (stands_at tree (Some p) row) _ n) there
     ]
+
+none_counted : (rows : List HostRow) → list_any is_running rows ≡ false → running_count rows ≡ 0
+none_counted [] c = refl
+none_counted (row ∷ rows) c =
+    let idle : is_running row ≡ false = or_left (is_running row) _ c in
+    let rest = none_counted rows (or_right (is_running row) _ c) in
+    let one : one_if (is_running row) ≡ 0 = rw idle refl in
+    omega (arith, sum_by-cons (λ x. one_if (is_running x)) row rows, rest, one)
+
+room_now : (s : State) → not s.stopped ≡ true → list_any is_running s.rows ≡ false → 0 < s.forks → has_room s ≡ true
+room_now s n c f = let none = none_counted s.rows c in rw (n, lt-ltb (running_count s.rows) s.forks (omega arith)) refl
 
 is_place_some : (p q : Option ℕ) (r : ℕ) → p ≡ Some r → is_place p q ≡ true → q ≡ Some r
 is_place_some (Some p) q r e s = let same = same_is (Some p) q s in same.2 ∙ (sym same.1 ∙ e)
@@ -146,10 +222,14 @@ none_stands false b r e = cc
 turn_due : (s : State) (play : PlayOf) (b : Bool) → 0 < s.forks → may_turn_in s play ≡ true → is_place s.place (least_place play.tree s.rows) ≡ b → turn_work s.place (least_place play.tree s.rows) ≡ 1
 turn_due s play false f e t = rw t refl
 turn_due s play true f e t =
-    let at = is_some_some s.place (and_left (is_some s.place) _ e) in
-    let none = none_stands (has_room s) (list_any (stands_at play.tree s.place) s.rows) (lt-ltb 0 s.forks f) (not_false (some_may_start s play) (and_right (is_some s.place) _ e)) in
+    let three = and_left (not s.stopped && is_some s.place && not (list_any is_running s.rows)) _ e in
+    let two = and_left (not s.stopped && is_some s.place) _ three in
+    let at = is_some_some s.place (and_right (not s.stopped) _ two) in
+    let idle = not_false (list_any is_running s.rows) (and_right (not s.stopped && is_some s.place) _ three) in
+    let no_start = not_false (some_may_start s play) (and_right (not s.stopped && is_some s.place && not (list_any is_running s.rows)) _ e) in
+    let none = none_stands (has_room s) (list_any (stands_at play.tree s.place) s.rows) (room_now s (and_left (not s.stopped) _ two) idle f) no_start in
     let stands : list_any (stands_at play.tree (Some at.0)) s.rows ≡ false = rw (← at.1) none in
-    absurd (least_stands play.tree at.0 s.rows stands (is_place_some s.place _ at.0 at.1 t))
+    absurd (least_stands play.tree at.0 s.rows idle stands (is_place_some s.place _ at.0 at.1 t))
 
 turn_in_less : (plan : PlanOf) (s : State) (found : Option PlayOf) → 0 < s.forks → open_play plan s ≡ found → option_map_or (may_turn_in s) found false ≡ true → work plan (option_map_or (turned_in s) found s) < work plan s
 turn_in_less plan s None f o e = cc
@@ -172,25 +252,25 @@ close_in_less plan s (Some play) o e =
     omega (arith, same, old)
 
 -- an open
-fresh : (tree : TreeOf) (row : HostRow) → row_work tree (joined row) ≤ size_of tree
+fresh : (tree : TreeOf) (row : HostRow) → row_work tree (joined row) ≤ 3 * size_of tree
 fresh tree row = most (next_place tree (joined row))
   where
-    most : (next : Option ℕ) → place_work tree (joined row) next ≤ size_of tree
+    most : (next : Option ℕ) → place_work tree (joined row) next ≤ 3 * size_of tree
     most None = omega arith
     most (Some p) = omega arith
 
-fresh_all : (tree : TreeOf) (rows : List HostRow) → sum_by (row_work tree) (map joined rows) ≤ length rows * size_of tree
+fresh_all : (tree : TreeOf) (rows : List HostRow) → sum_by (row_work tree) (map joined rows) ≤ length rows * (3 * size_of tree)
 fresh_all tree [] = omega arith
 fresh_all tree (row ∷ rows) =
     let one = fresh tree row in
     let rest = fresh_all tree rows in
-    omega (arith, sum_by-cons (row_work tree) (joined row) (map joined rows), one, rest, suc-mul (length rows) (size_of tree))
+    omega (arith, sum_by-cons (row_work tree) (joined row) (map joined rows), one, rest, suc-mul (length rows) (3 * size_of tree))
 
-later_at : (n : ℕ) (plays : List PlayOf) (i : ℕ) (play : PlayOf) → slice_get plays i ≡ Some play → later_work n (drop i plays) ≡ 3 + 2 * (n * size_of play.tree) + later_work n (drop (i + 1) plays)
+later_at : (n : ℕ) (plays : List PlayOf) (i : ℕ) (play : PlayOf) → slice_get plays i ≡ Some play → later_work n (drop i plays) ≡ 3 + 2 * (n * (3 * size_of play.tree)) + later_work n (drop (i + 1) plays)
 later_at n plays i play e =
     let here : get_or plays i play ≡ play = get_or_from_slice_get plays i play play e in
     let cut : drop i plays ≡ get_or plays i play ∷ drop (i + 1) plays = drop_more plays i play (slice_get_within plays i play e) in
-    ap (later_work n) cut ∙ ap (λ (p : PlayOf). 3 + 2 * (n * size_of p.tree) + later_work n (drop (i + 1) plays)) here
+    ap (later_work n) cut ∙ ap (λ (p : PlayOf). 3 + 2 * (n * (3 * size_of p.tree)) + later_work n (drop (i + 1) plays)) here
 
 open_in_less : (plan : PlanOf) (s : State) (found : Option PlayOf) → s.is_open ≡ false → s.play < length plan.plays → slice_get plan.plays s.play ≡ found → work plan (option_map_or (opened_in s (map joined s.rows)) found s) < work plan s
 open_in_less plan s None o b e = absurd (elim (slice_get_cases plan.plays s.play).1 [ inl there ↦ (let x = there.2 in cc) | inr past ↦ omega (arith, past.0) ])
@@ -202,15 +282,20 @@ open_in_less plan s (Some play) o b e =
 
 open_less : (plan : PlanOf) (s : State) → may_open plan s ≡ true → work plan (after plan s Open) < work plan s
 open_less plan s e =
-    let three = and_left (not s.is_open && not s.ended && nat_lt s.play (length plan.plays)) _ e in
-    let two = and_left (not s.is_open && not s.ended) _ three in
-    open_in_less plan s (slice_get plan.plays s.play) (not_false s.is_open (and_left (not s.is_open) _ two)) (ltb-true s.play (length plan.plays) (and_right (not s.is_open && not s.ended) _ three)) refl
+    let four = and_left (not s.stopped && not s.is_open && not s.ended && nat_lt s.play (length plan.plays)) _ e in
+    let three = and_left (not s.stopped && not s.is_open && not s.ended) _ four in
+    let two = and_left (not s.stopped && not s.is_open) _ three in
+    open_in_less plan s (slice_get plan.plays s.play) (not_false s.is_open (and_right (not s.stopped) _ two)) (ltb-true s.play (length plan.plays) (and_right (not s.stopped && not s.is_open && not s.ended) _ four)) refl
 
-falls : (plan : PlanOf) (s : State) (e : Event) → 0 < s.forks → possible plan s e ≡ true → work plan (after plan s e) < work plan s
-falls plan s Open f p = open_less plan s p
-falls plan s (Start h) f p = start_in_less plan s h.0 (open_play plan s) refl p
-falls plan s Turn f p = turn_in_less plan s (open_play plan s) f refl p
-falls plan s Close f p = close_in_less plan s (open_play plan s) refl p
+falls : (plan : PlanOf) (s : State) (e : Event) → 0 < s.forks → is_command e ≡ false → possible plan s e ≡ true → work plan (after plan s e) < work plan s
+falls plan s Open f m p = open_less plan s p
+falls plan s (Start h) f m p = start_in_less plan s h.0 (open_play plan s) refl p
+falls plan s (Send h item ticket) f m p = send_in_less plan s h.0 item ticket (open_play plan s) refl p
+falls plan s (Reported r) f m p = report_in_less plan s r (open_play plan s) refl p
+falls plan s Turn f m p = turn_in_less plan s (open_play plan s) f refl p
+falls plan s Close f m p = close_in_less plan s (open_play plan s) refl p
+falls plan s Stop f m p = cc
+falls plan s (Forks n) f m p = cc
 
-pub falls_if : (plan : PlanOf) (s : State) (e : Event) → possible plan s e ≡ true → 0 < s.forks → work plan (after plan s e) < work plan s
-falls_if plan s e p f = falls plan s e f p
+pub falls_if : (plan : PlanOf) (s : State) (e : Event) → possible plan s e ≡ true → 0 < s.forks → is_command e ≡ false → work plan (after plan s e) < work plan s
+falls_if plan s e p f m = falls plan s e f m p

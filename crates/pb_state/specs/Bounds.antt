@@ -1,13 +1,52 @@
--- How far the recap's counts can have come: a host counts each place of a play once.
-use Rattle.std.specs.Prelude.{ℕ, ◌+◌, ◌*◌, ◌≤◌, Bool, true, false, List, [], ◌∷◌, length}
+-- How far a state's numbers can have come: a host counts each place of a play once, and sends one job at most there.
+use Rattle.std.specs.Prelude.{ℕ, ◌+◌, ◌*◌, ◌≤◌, ◌<◌, Bool, true, false, List, [], ◌∷◌, length, sum_by, Option, Some, None}
+use Rattle.std.specs.Bool.{OnTrue}
 use Rattle.pb_tree.specs.Walk.{one_halted}
+use Rattle.pb_ids.specs.declared.numbers.Ticket.{Ticket}
+use Rattle.pb_state.specs.declared.row.Counts.{Counts}
+use Rattle.pb_state.specs.declared.row.Running.{Running}
 use Rattle.pb_state.specs.Row.{HostRow}
+
+-- each count of a host is at most n
+pub record IsAtMost (counts : Counts) (n : ℕ) : Type 0 where
+  pub ok : counts.ok ≤ n
+  pub changed : counts.changed ≤ n
+  pub unreachable : counts.unreachable ≤ n
+  pub failed : counts.failed ≤ n
+  pub skipped : counts.skipped ≤ n
+  pub rescued : counts.rescued ≤ n
+  pub ignored : counts.ignored ≤ n
+
+-- the places at which a host was in the open batch
+abbrev pub run_places : Option Running → ℕ
+run_places None = 0
+run_places (Some r) = 1
+
+abbrev pub out_jobs : Option Ticket → ℕ
+out_jobs None = 0
+out_jobs (Some ticket) = 1
+
+abbrev pub running_jobs : Option Running → ℕ
+running_jobs None = 0
+running_jobs (Some r) = out_jobs r.out
 
 -- in an open batch, and where none is open
 abbrev pub IsWithin : Bool → ℕ → HostRow → Type 0
-IsWithin true play row = (row.counts.ok ≤ 16384 * play + length (one_halted row.answers)) × (length (one_halted row.answers) ≤ 16384)
-IsWithin false play row = row.counts.ok ≤ 16384 * play
+IsWithin true play row = IsAtMost row.counts (16384 * play + length (one_halted row.answers)) × (length (one_halted row.answers) + run_places row.running ≤ 16384)
+IsWithin false play row = IsAtMost row.counts (16384 * play)
 
 abbrev pub AllWithin : Bool → ℕ → List HostRow → Type 0
 AllWithin is_open play [] = Unit {0}
 AllWithin is_open play (row ∷ rows) = IsWithin is_open play row × AllWithin is_open play rows
+
+-- the most jobs that a host can have sent
+abbrev pub most_jobs : Bool → ℕ → HostRow → ℕ
+most_jobs true play row = 16384 * play + (length (one_halted row.answers) + running_jobs row.running)
+most_jobs false play row = 16384 * play
+
+pub record IsBounded (is_open : Bool) (play sends : ℕ) (rows : List HostRow) : Type 0 where
+  pub counts : AllWithin is_open play rows
+  pub plays : play ≤ 256
+  pub opened : OnTrue is_open (play < 256)
+  pub hosts : length rows ≤ 65536
+  pub jobs : sends ≤ sum_by (most_jobs is_open play) rows

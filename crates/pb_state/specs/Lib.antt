@@ -3,7 +3,10 @@ pub mod Row
 pub mod State
 pub mod Results
 pub mod Machine
+pub mod Jobs
+pub mod Oldest
 pub mod Run
+pub mod Once
 pub mod Work
 pub mod Bounds
 pub mod Bundle

@@ -1,18 +1,27 @@
 -- The steps of a run: what may happen in a state, and what it leads to (Ansible's documentation, "Controlling playbook execution: strategies").
-use Rattle.std.specs.Prelude.{ℕ, ◌+◌, ◌==◌, nat_lt, Bool, true, false, ◌&&◌, not, List, [], ◌∷◌, map, length, Option, Some, None, is_some, is_none, slice_get, slice_set, min, replicate, if◌then◌else◌}
+use Rattle.std.specs.Prelude.{ℕ, ◌+◌, ◌==◌, nat_lt, nat_le, Bool, true, false, ◌&&◌, ◌||◌, not, List, [], ◌∷◌, map, length, Option, Some, None, is_some, is_none, option_map, slice_get, slice_set, min, replicate, count_by, if◌then◌else◌}
 use Rattle.std.specs.List.{list_any}
 use Rattle.std.specs.Option.{option_map_or}
+use Rattle.pb_ids.specs.declared.numbers.Ticket.{Ticket}
 use Rattle.pb_tree.specs.declared.tree.Reach.{Reach}
 use Rattle.pb_tree.specs.declared.tree.Reach.TheVariants.{At, Done}
 use Rattle.pb_tree.specs.Tree.{TreeOf}
 use Rattle.pb_tree.specs.Walk.{reach}
+use Rattle.pb_outcome.specs.declared.gather.ItemResult.{ItemResult}
+use Rattle.pb_outcome.specs.declared.job.Report.{Report}
+use Rattle.pb_outcome.specs.declared.outcome.Form.{Form}
 use Rattle.pb_state.specs.declared.event.Event.{Event}
-use Rattle.pb_state.specs.declared.event.Event.TheVariants.{Open, Start, Turn, Close}
+use Rattle.pb_state.specs.declared.event.Event.TheVariants.{Open, Start, Send, Report as Reported, Turn, Close, Stop, Forks}
+use Rattle.pb_state.specs.declared.planned.Planned.{Planned}
+use Rattle.pb_state.specs.declared.planned.Planned.TheVariants.{Decided as DecidedItem, Sends}
 use Rattle.pb_state.specs.declared.row.Finish.{Finish}
+use Rattle.pb_state.specs.declared.row.Running.{Running}
+use Rattle.pb_state.specs.declared.decided.Decided.{Decided}
+use Rattle.pb_state.specs.declared.decided.Done.{Done as DoneTask}
 use Rattle.pb_state.specs.Plan.{PlayOf, PlanOf}
-use Rattle.pb_state.specs.Row.{HostRow, first_row, is_active, finished, joined, left}
+use Rattle.pb_state.specs.Row.{HostRow, first_row, is_active, started, sent, reported, joined, left, item_of, task_of}
 use Rattle.pb_state.specs.State.{State}
-use Rattle.pb_state.specs.Results.{result_at}
+use Rattle.pb_state.specs.Results.{planned_at}
 
 -- the play whose batch is open
 abbrev pub open_play : PlanOf → State → Option PlayOf
@@ -29,6 +38,13 @@ is_in row = row.in_batch && is_active row.status
 abbrev pub is_host_active : HostRow → Bool
 is_host_active row = is_active row.status
 
+-- a host runs from its start until its task is finished
+abbrev pub is_running : HostRow → Bool
+is_running row = is_some row.running
+
+abbrev pub running_count : List HostRow → ℕ
+running_count rows = count_by is_running rows
+
 -- the next place of a host of the batch
 abbrev pub next_place : TreeOf → HostRow → Option ℕ
 next_place tree row = if is_in row then place_of (reach tree row.answers) else None
@@ -38,9 +54,9 @@ same_place (Some p) (Some q) = p == q
 same_place (Some p) None = false
 same_place None q = false
 
--- under the linear strategy a host may start where its next place is the current one
+-- under the linear strategy a host may start where it doesn't run and its next place is the current one
 abbrev pub stands_at : TreeOf → Option ℕ → HostRow → Bool
-stands_at tree place row = same_place (next_place tree row) place
+stands_at tree place row = not (is_running row) && same_place (next_place tree row) place
 
 abbrev pub at_row : (HostRow → Bool) → List HostRow → ℕ → Bool
 at_row test rows h = option_map_or test (slice_get rows h) false
@@ -55,38 +71,70 @@ abbrev pub least_place : TreeOf → List HostRow → Option ℕ
 least_place tree [] = None
 least_place tree (row ∷ rows) = lesser (next_place tree row) (least_place tree rows)
 
--- no host runs between two events, since each task is decided as it starts: there is room where a fork is left
+-- hosts that run are counted, and not jobs: there is room where they are fewer than the forks
 abbrev pub has_room : State → Bool
-has_room s = nat_lt 0 s.forks
+has_room s = not s.stopped && nat_lt (running_count s.rows) s.forks
+
+abbrev pub is_ticket : Ticket → Option Ticket → Bool
+is_ticket ticket out = option_map_or (λ (t : Ticket). t.0 == ticket.0) out false
+
+-- a host that runs, with no job of it out
+abbrev pub has_send : HostRow → Bool
+has_send row = option_map_or (λ (r : Running). is_none r.out) row.running false
+
+-- a host whose job is out
+abbrev pub is_out : HostRow → Bool
+is_out row = option_map_or (λ (r : Running). is_some r.out) row.running false
+
+-- a host whose job is out under this ticket
+abbrev pub has_ticket : Ticket → HostRow → Bool
+has_ticket ticket row = option_map_or (λ (r : Running). is_ticket ticket r.out) row.running false
+
+-- a task without a loop has one item, of number 0
+abbrev pub may_send_item : ℕ → HostRow → Bool
+may_send_item item row = (item == 0) && has_send row
+
+abbrev pub awaits : Ticket → ℕ → HostRow → Bool
+awaits ticket item row = (item == 0) && has_ticket ticket row
 
 abbrev pub may_open : PlanOf → State → Bool
-may_open plan s = not s.is_open && not s.ended && nat_lt s.play (length plan.plays) && list_any is_host_active s.rows
+may_open plan s = not s.stopped && not s.is_open && not s.ended && nat_lt s.play (length plan.plays) && list_any is_host_active s.rows
 
 abbrev pub may_start_in : State → ℕ → PlayOf → Bool
 may_start_in s h play = has_room s && at_row (stands_at play.tree s.place) s.rows h
+
+abbrev pub may_send_in : State → ℕ → ℕ → Ticket → PlayOf → Bool
+may_send_in s h item ticket play = not s.stopped && (ticket.0 == s.sends) && at_row (may_send_item item) s.rows h
+
+abbrev pub may_report_in : State → Report → PlayOf → Bool
+may_report_in s r play = at_row (awaits r.ticket r.item) s.rows r.host.0
 
 abbrev pub some_may_start : State → PlayOf → Bool
 some_may_start s play = has_room s && list_any (stands_at play.tree s.place) s.rows
 
 abbrev pub may_turn_in : State → PlayOf → Bool
-may_turn_in s play = is_some s.place && not (some_may_start s play)
+may_turn_in s play = not s.stopped && is_some s.place && not (list_any is_running s.rows) && not (some_may_start s play)
 
 abbrev pub may_close_in : State → PlayOf → Bool
-may_close_in s play = is_none s.place && is_none (least_place play.tree s.rows)
+may_close_in s play = not s.stopped && is_none s.place && not (list_any is_running s.rows) && is_none (least_place play.tree s.rows)
 
 -- what may happen
 abbrev pub possible : PlanOf → State → Event → Bool
 possible plan s Open = may_open plan s
 possible plan s (Start h) = option_map_or (may_start_in s h.0) (open_play plan s) false
+possible plan s (Send h item ticket) = option_map_or (may_send_in s h.0 item ticket) (open_play plan s) false
+possible plan s (Reported r) = option_map_or (may_report_in s r) (open_play plan s) false
 possible plan s Turn = option_map_or (may_turn_in s) (open_play plan s) false
 possible plan s Close = option_map_or (may_close_in s) (open_play plan s) false
+possible plan s Stop = true
+possible plan s (Forks n) = nat_le 1 n && nat_le n s.pool
 
--- the hosts that may start
-abbrev pub is_ready : Bool → TreeOf → Option ℕ → HostRow → Bool
-is_ready room tree place row = room && stands_at tree place row
+-- the hosts that have a send or a start
+abbrev pub is_ready : Bool → Bool → TreeOf → Option ℕ → HostRow → Bool
+is_ready sends room tree place row = (sends && has_send row) || (room && stands_at tree place row)
 
 abbrev pub ready_in : State → PlayOf → List Bool
-ready_in s play = map (is_ready (has_room s) play.tree s.place) s.rows
+ready_in s play = map (is_ready (not s.stopped) (has_room s) play.tree s.place) s.rows
 
 abbrev pub ready : PlanOf → State → List Bool
 ready plan s = option_map_or (ready_in s) (open_play plan s) (replicate (length s.rows) false)
@@ -95,23 +143,57 @@ ready plan s = option_map_or (ready_in s) (open_play plan s) (replicate (length 
 abbrev pub change : List HostRow → ℕ → (HostRow → HostRow) → List HostRow
 change rows h f = option_map_or (λ row. slice_set rows h (f row)) (slice_get rows h) rows
 
--- whether the host finished the task at a place last
+-- whether the host runs the task at a place, or finished it last
+abbrev pub runs_at : ℕ → HostRow → Bool
+runs_at p row = option_map_or (λ (r : Running). r.place == p) row.running false
+
 abbrev pub is_last_at : ℕ → HostRow → Bool
 is_last_at p row = option_map_or (λ (e : Finish). e.place == p) row.last false
+
+abbrev pub has_begun : ℕ → HostRow → Bool
+has_begun p row = runs_at p row || is_last_at p row
+
+-- a task that this result ends
+abbrev pub done_by : ItemResult → DoneTask
+done_by item = record { result = item.result; task = task_of item }
+
+abbrev pub done_at_once : Planned → Option DoneTask
+done_at_once (DecidedItem item) = Some (done_by item)
+done_at_once (Sends call) = None
 
 -- what each event leads to
 abbrev pub opened_in : State → List HostRow → PlayOf → State
 opened_in s rows play = record s { rows = rows; is_open = true; place = least_place play.tree rows; decided = None }
 
-abbrev pub start_at : State → ℕ → PlayOf → ℕ → State
-start_at s h play p =
+abbrev pub start_with : State → ℕ → PlayOf → ℕ → Planned → State
+start_with s h play p planned =
     record s {
-      rows = change s.rows h (finished play.tree p);
-      decided = Some (record { place = p; is_new = not (list_any (is_last_at p) s.rows); result = result_at play.tasks p });
+      rows = change s.rows h (started play.tree p planned);
+      decided = Some (record { place = p; is_new = not (list_any (has_begun p) s.rows); done = done_at_once planned });
     }
+
+abbrev pub start_at : State → ℕ → PlayOf → ℕ → State
+start_at s h play p = start_with s h play p (planned_at play.tasks p)
 
 abbrev pub started_in : State → ℕ → PlayOf → State
 started_in s h play = option_map_or (start_at s h play) s.place s
+
+abbrev pub sent_in : State → ℕ → Ticket → PlayOf → State
+sent_in s h ticket play = record s { rows = change s.rows h (sent ticket); sends = s.sends + 1; decided = None }
+
+-- what a report decides of the task that waited for it
+abbrev pub decided_by : Form → Running → Decided
+decided_by outcome r = record { place = r.place; is_new = false; done = Some (done_by (item_of outcome r)) }
+
+abbrev pub report_decides : Form → HostRow → Option Decided
+report_decides outcome row = option_map (decided_by outcome) row.running
+
+abbrev pub reported_in : State → Report → PlayOf → State
+reported_in s r play =
+    record s {
+      rows = change s.rows r.host.0 (reported play.tree r.outcome);
+      decided = option_map_or (report_decides r.outcome) (slice_get s.rows r.host.0) None;
+    }
 
 -- the current place becomes the least next place of the batch
 abbrev pub turned_in : State → PlayOf → State
@@ -120,12 +202,33 @@ turned_in s play = record s { place = least_place play.tree s.rows; decided = No
 abbrev pub closed : State → State
 closed s = record s { rows = map left s.rows; play = s.play + 1; is_open = false; ended = not (list_any is_in s.rows); decided = None }
 
+abbrev pub stopped : State → State
+stopped s = record s { stopped = true; decided = None }
+
+abbrev pub with_forks : State → ℕ → State
+with_forks s n = record s { forks = n; decided = None }
+
 abbrev pub after : PlanOf → State → Event → State
 after plan s Open = option_map_or (opened_in s (map joined s.rows)) (slice_get plan.plays s.play) s
 after plan s (Start h) = option_map_or (started_in s h.0) (open_play plan s) s
+after plan s (Send h item ticket) = option_map_or (sent_in s h.0 ticket) (open_play plan s) s
+after plan s (Reported r) = option_map_or (reported_in s r) (open_play plan s) s
 after plan s Turn = option_map_or (turned_in s) (open_play plan s) s
 after plan s Close = closed s
+after plan s Stop = stopped s
+after plan s (Forks n) = with_forks s n
 
 abbrev pub first_state : PlanOf → ℕ → ℕ → State
 first_state plan forks pool =
-    record { rows = replicate (length plan.hosts) first_row; play = 0; is_open = false; place = None; forks = forks; pool = pool; ended = false; decided = None }
+    record {
+      rows = replicate (length plan.hosts) first_row;
+      play = 0;
+      is_open = false;
+      place = None;
+      forks = forks;
+      pool = pool;
+      sends = 0;
+      stopped = false;
+      ended = false;
+      decided = None;
+    }

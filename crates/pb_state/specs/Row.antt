@@ -1,19 +1,32 @@
 -- What the state keeps of one host, and what a step does to it alone.
-use Rattle.std.specs.Prelude.{ℕ, ◌+◌, Bool, true, false, List, [], ◌∷◌, ◌++◌, Option, Some, None}
-use Rattle.pb_tree.specs.declared.answer.Kind.TheVariants.{Good}
+use Rattle.std.specs.Prelude.{ℕ, ◌+◌, Bool, true, false, ◌&&◌, not, List, [], ◌∷◌, ◌++◌, Option, Some, None, option_map, if◌then◌else◌}
+use Rattle.std.specs.Option.{option_map_or}
+use Rattle.pb_ids.specs.declared.numbers.Ticket.{Ticket}
+use Rattle.pb_tree.specs.declared.answer.Kind.{Kind}
+use Rattle.pb_tree.specs.declared.answer.Kind.TheVariants.{Good, Bad, Gone}
 use Rattle.pb_tree.specs.declared.tree.Status.{Status}
 use Rattle.pb_tree.specs.declared.tree.Status.TheVariants.{Active, Failed, Halted as Stopped, Gone as Lost}
 use Rattle.pb_tree.specs.Tree.{TreeOf}
 use Rattle.pb_tree.specs.Answer.{AnswerOf}
 use Rattle.pb_tree.specs.Walk.{status_of}
+use Rattle.pb_outcome.specs.declared.gather.ItemResult.{ItemResult}
+use Rattle.pb_outcome.specs.declared.gather.TaskResult.{TaskResult}
+use Rattle.pb_outcome.specs.declared.outcome.Form.{Form}
+use Rattle.pb_outcome.specs.Gathered.{gathered}
+use Rattle.pb_outcome.specs.Results.{judged}
 use Rattle.pb_state.specs.declared.row.Counts.{Counts}
 use Rattle.pb_state.specs.declared.row.Finish.{Finish}
+use Rattle.pb_state.specs.declared.row.Running.{Running}
+use Rattle.pb_state.specs.declared.planned.Planned.{Planned}
+use Rattle.pb_state.specs.declared.planned.Planned.TheVariants.{Decided, Sends}
 
 pub record HostRow : Type 0 where
   -- what the host answered in the open batch, place after place
   pub answers : List AnswerOf
   pub status : Status
   pub in_batch : Bool
+  -- the task that the host runs: it waits for a job
+  pub running : Option Running
   -- the task that the host finished last in the open batch
   pub last : Option Finish
   -- how its finished tasks count in the recap
@@ -23,7 +36,7 @@ abbrev pub none_counted : Counts
 none_counted = record { ok = 0; changed = 0; unreachable = 0; failed = 0; skipped = 0; rescued = 0; ignored = 0 }
 
 abbrev pub first_row : HostRow
-first_row = record { answers = []; status = Active; in_batch = false; last = None; counts = none_counted }
+first_row = record { answers = []; status = Active; in_batch = false; running = None; last = None; counts = none_counted }
 
 abbrev pub is_active : Status → Bool
 is_active Active = true
@@ -31,28 +44,82 @@ is_active Failed = false
 is_active Stopped = false
 is_active Lost = false
 
--- a task that is neither failed, skipped nor unreachable, and changed nothing, counts as ok
-abbrev pub with_ok : Counts → Counts
-with_ok counts = record counts { ok = counts.ok + 1 }
+-- what a task's result is for the walk: a host that can't be reached is gone, and a failure that isn't ignored is bad
+abbrev pub failed_kind : Bool → Kind
+failed_kind true = Bad
+failed_kind false = Good
 
-abbrev pub good : AnswerOf
-good = record { kind = Good; notified = [] }
+abbrev pub kind_of : TaskResult → Kind
+kind_of task = if task.unreachable then Gone else failed_kind (task.failed && not task.ignored)
 
--- the task at a place ends well
-abbrev pub finished : TreeOf → ℕ → HostRow → HostRow
-finished tree place row =
+abbrev pub answer_of : TaskResult → AnswerOf
+answer_of task = record { kind = kind_of task; notified = [] }
+
+-- a task that is neither skipped nor unreachable, nor failed unless that is ignored
+abbrev pub is_okay : TaskResult → Bool
+is_okay task = not task.unreachable && not task.skipped && not (task.failed && not task.ignored)
+
+-- one more where it counts
+abbrev pub more : Bool → ℕ → ℕ
+more counts n = if counts then n + 1 else n
+
+-- a finished task in the recap: no play has blocks yet, so that no failure is rescued
+-- (Ansible's documentation, "Return Values")
+abbrev pub counted : TaskResult → Counts → Counts
+counted task counts =
     record {
-      answers = row.answers ++ good ∷ [];
-      status = status_of tree (row.answers ++ good ∷ []);
-      in_batch = row.in_batch;
-      last = Some (record { place = place; kind = Good });
-      counts = with_ok row.counts;
+      ok = more (is_okay task) counts.ok;
+      changed = more (is_okay task && task.changed) counts.changed;
+      unreachable = more task.unreachable counts.unreachable;
+      failed = more (task.failed && not task.ignored) counts.failed;
+      skipped = more task.skipped counts.skipped;
+      rescued = counts.rescued;
+      ignored = more (task.failed && task.ignored) counts.ignored;
     }
+
+-- the task at a place ends with this result
+abbrev pub finished : TreeOf → ℕ → TaskResult → HostRow → HostRow
+finished tree place task row =
+    record {
+      answers = row.answers ++ answer_of task ∷ [];
+      status = status_of tree (row.answers ++ answer_of task ∷ []);
+      in_batch = row.in_batch;
+      running = None;
+      last = Some (record { place = place; kind = kind_of task });
+      counts = counted task row.counts;
+    }
+
+-- a task without a loop has one item; no task is told to ignore its failure
+abbrev pub task_of : ItemResult → TaskResult
+task_of item = gathered false (item ∷ [])
+
+-- a task starts: what is decided at once ends it, and a job is sent for the rest
+abbrev pub started : TreeOf → ℕ → Planned → HostRow → HostRow
+started tree place (Decided item) row = finished tree place (task_of item) row
+started tree place (Sends call) row = record row { running = Some (record { place = place; call = call; out = None }) }
+
+-- a job goes out under this ticket
+abbrev pub sent_running : Ticket → Running → Running
+sent_running ticket r = record r { out = Some ticket }
+
+abbrev pub sent : Ticket → HostRow → HostRow
+sent ticket row = record row { running = option_map (sent_running ticket) row.running }
+
+-- a job's outcome is the result of its item
+abbrev pub item_of : Form → Running → ItemResult
+item_of outcome r = judged r.call outcome
+
+abbrev pub reported_running : TreeOf → Form → HostRow → Running → HostRow
+reported_running tree outcome row r = finished tree r.place (task_of (item_of outcome r)) row
+
+-- the outcome of the job that is out ends the task
+abbrev pub reported : TreeOf → Form → HostRow → HostRow
+reported tree outcome row = option_map_or (reported_running tree outcome row) row.running row
 
 -- a host as a batch opens: those that are active take part
 abbrev pub joined : HostRow → HostRow
-joined row = record { answers = []; status = row.status; in_batch = is_active row.status; last = None; counts = row.counts }
+joined row = record { answers = []; status = row.status; in_batch = is_active row.status; running = None; last = None; counts = row.counts }
 
 -- a host as its batch closes
 abbrev pub left : HostRow → HostRow
-left row = record { answers = []; status = row.status; in_batch = false; last = None; counts = row.counts }
+left row = record { answers = []; status = row.status; in_batch = false; running = None; last = None; counts = row.counts }

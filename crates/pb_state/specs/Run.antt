@@ -1,10 +1,11 @@
 -- Whole runs.
 use Rattle.std.specs.Prelude.{◌≡◌, ℕ, Bool, true, false, ◌&&◌, List, [], ◌∷◌}
+use Rattle.std.specs.List.{list_any}
 use Rattle.pb_state.specs.declared.event.Event.{Event}
-use Rattle.pb_state.specs.declared.event.Event.TheVariants.{Open, Start, Turn, Close}
+use Rattle.pb_state.specs.declared.event.Event.TheVariants.{Open, Start, Send, Report as Reported, Turn, Close, Stop, Forks}
 use Rattle.pb_state.specs.Plan.{PlanOf}
 use Rattle.pb_state.specs.State.{State}
-use Rattle.pb_state.specs.Machine.{possible, after, first_state}
+use Rattle.pb_state.specs.Machine.{possible, after, first_state, is_out}
 
 -- one step of the machine
 abbrev pub IsStep : PlanOf → State → Event → State → Type 0
@@ -24,23 +25,43 @@ state_from plan s (e ∷ es) = state_from plan (after plan s e) es
 abbrev pub is_move : Event → Bool
 is_move Open = true
 is_move (Start h) = true
+is_move (Send h item ticket) = true
+is_move (Reported r) = false
 is_move Turn = true
 is_move Close = true
+is_move Stop = false
+is_move (Forks n) = false
 
--- the reports of workers: this profile's tasks have none yet
+-- the commands of whoever runs the machine
+abbrev pub is_command : Event → Bool
+is_command Open = false
+is_command (Start h) = false
+is_command (Send h item ticket) = false
+is_command (Reported r) = false
+is_command Turn = false
+is_command Close = false
+is_command Stop = true
+is_command (Forks n) = true
+
+-- the reports of workers
 abbrev pub is_report : Event → Bool
 is_report Open = false
 is_report (Start h) = false
+is_report (Send h item ticket) = false
+is_report (Reported r) = true
 is_report Turn = false
 is_report Close = false
+is_report Stop = false
+is_report (Forks n) = false
 
 -- nothing that the machine takes by itself is possible
 abbrev pub IsQuiet : PlanOf → State → Type 0
 IsQuiet plan s = (e : Event) → is_move e ≡ true → possible plan s e ≡ false
 
--- nothing is possible
-abbrev pub IsFinished : PlanOf → State → Type 0
-IsFinished plan s = (e : Event) → possible plan s e ≡ false
+-- nothing but commands is possible, and no job is out
+pub record IsFinished (plan : PlanOf) (s : State) : Type 0 where
+  pub over : (e : Event) → is_command e ≡ false → possible plan s e ≡ false
+  pub none_out : list_any is_out s.rows ≡ false
 
 -- a list of events is a run of the plan, with the plan's forks, that ends in this state
 pub record IsRun (plan : PlanOf) (pool : ℕ) (trail : List Event) (s : State) : Type 0 where

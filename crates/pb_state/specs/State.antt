@@ -1,6 +1,6 @@
 -- The state of a run.
 use Rattle.std.specs.Prelude.{ℕ, Bool, List, Option}
-use Rattle.pb_state.specs.declared.state.Decided.{Decided}
+use Rattle.pb_state.specs.declared.decided.Decided.{Decided}
 use Rattle.pb_state.specs.Row.{HostRow}
 
 pub record State : Type 0 where
@@ -12,6 +12,10 @@ pub record State : Type 0 where
   pub place : Option ℕ
   pub forks : ℕ
   pub pool : ℕ
+  -- how many jobs were sent: the next one has this number as its ticket
+  pub sends : ℕ
+  -- told to stop
+  pub stopped : Bool
   -- a batch closed with no active host in it
   pub ended : Bool
   -- what the last step decided

@@ -1,24 +1,38 @@
--- How much is left to be done: a number that falls at each event.
+-- How much is left to be done: a number that falls at each event but a command.
 use Rattle.std.specs.Prelude.{ℕ, ◌+◌, ◌-◌, ◌*◌, Bool, true, false, List, [], ◌∷◌, length, drop, Option, Some, None, sum_by, if◌then◌else◌}
+use Rattle.pb_ids.specs.declared.numbers.Ticket.{Ticket}
 use Rattle.pb_tree.specs.Tree.{TreeOf, size_of}
 use Rattle.pb_tree.specs.Walk.{one_halted}
+use Rattle.pb_state.specs.declared.row.Running.{Running}
 use Rattle.pb_state.specs.Plan.{PlayOf, PlanOf}
 use Rattle.pb_state.specs.Row.{HostRow}
 use Rattle.pb_state.specs.State.{State}
 use Rattle.pb_state.specs.Machine.{open_play, next_place, least_place, same_place}
 
--- of one host: an answer at most for each place of the tree
+-- of one host: an answer at most for each place of the tree, and three events at most for an answer: its start, its send and its report
+abbrev pub places_left : TreeOf → HostRow → ℕ
+places_left tree row = size_of tree - length (one_halted row.answers)
+
 abbrev pub place_work : TreeOf → HostRow → Option ℕ → ℕ
 place_work tree row None = 0
-place_work tree row (Some p) = size_of tree - length (one_halted row.answers)
+place_work tree row (Some p) = 3 * places_left tree row
+
+-- of a task that runs: its send and its report, and what is behind it
+abbrev pub out_work : Option Ticket → ℕ
+out_work None = 2
+out_work (Some ticket) = 1
+
+abbrev pub running_work : TreeOf → HostRow → Option Running → ℕ
+running_work tree row None = place_work tree row (next_place tree row)
+running_work tree row (Some r) = out_work r.out + 3 * (places_left tree row - 1)
 
 abbrev pub row_work : TreeOf → HostRow → ℕ
-row_work tree row = place_work tree row (next_place tree row)
+row_work tree row = running_work tree row row.running
 
 -- of plays that haven't opened, for n hosts
 abbrev pub later_work : ℕ → List PlayOf → ℕ
 later_work n [] = 0
-later_work n (play ∷ plays) = 3 + 2 * (n * size_of play.tree) + later_work n plays
+later_work n (play ∷ plays) = 3 + 2 * (n * (3 * size_of play.tree)) + later_work n plays
 
 -- a turn is due where the current place isn't the least
 abbrev pub is_place : Option ℕ → Option ℕ → Bool

@@ -237,7 +237,10 @@ impl Plan {
             return Err(BundleFault::BadForks);
         }
         let inventory = inventory_in(alloc, bundle)?;
-        let playbook = playbook_in(alloc, bundle)?;
+        let playbook = match playbook_in(alloc, bundle) {
+            Ok(playbook) => playbook,
+            Err(fault) => return Err(fault),
+        };
         plan_in(alloc, forks, inventory, playbook)
     }
 }

@@ -1,18 +1,33 @@
 //! What may happen in a run.
 
-use pb_ids::HostNo;
+use pb_ids::{HostNo, Ticket};
+use pb_outcome::job::Report as JobReport;
 
 /// A step of a run.
-#[derive(Clone, Copy, Debug, PartialEq, Eq)]
+#[derive(Drop)]
 pub enum Event {
     /// The next play's batch opens.
     Open,
     /// A host starts the task at its next place.
     Start(HostNo),
+    /// A job of the task that a host runs goes out.
+    Send {
+        host: HostNo,
+        /// The item's number in the task's loop, from 0; 0 where there is no loop.
+        item: u32,
+        /// How many jobs were sent before.
+        ticket: Ticket,
+    },
+    /// What came of a job that is out.
+    Report(JobReport),
     /// The hosts of the batch turn to the next place.
     Turn,
     /// The batch closes.
     Close,
+    /// No more is started or sent.
+    Stop,
+    /// From now on so many hosts may run at once.
+    Forks(u32),
 }
 
 /// The events of a run, in order.

@@ -6,15 +6,19 @@
 #![tactic(auto)]
 
 mod bundle;
+mod decided;
 mod event;
+mod job;
 mod plan;
-mod result;
+mod planned;
 mod row;
 mod rows;
 mod state;
 
 pub use bundle::{Bundle, BundleFault, MAX_BYTES, RoleFault};
+pub use decided::{Decided, Done};
 pub use event::{Event, Trail};
 pub use plan::{Plan, PlanPlay};
-pub use row::{Counts, Finish, Row};
-pub use state::{Decided, EngineState, StepFault};
+pub use planned::Planned;
+pub use row::{Counts, Finish, Row, Running};
+pub use state::{EngineState, StepFault};

@@ -1,13 +1,20 @@
 //! The rows of all hosts.
 
-ghost use Rattle.std.specs.Prelude.{◌≡◌, ◌&&◌, ◌<◌, ◌-◌, ◌^◌, length, map, replicate, slice_get, false, IfOk, IfSome, OnOk, OnErr};
+ghost use Rattle.std.specs.Prelude.{◌≡◌, ◌&&◌, ◌<◌, ◌≤◌, ◌-◌, ◌^◌, length, map, replicate, slice_get, count_by, true, false, IfOk, IfSome, IfNone, OnOk, OnErr, Some, None};
 ghost use Rattle.std.specs.List.{list_any};
+ghost use Rattle.std.specs.Option.{option_map_or};
 ghost use Rattle.pb_tree.specs.Plain.{IsPlain};
-ghost use Rattle.pb_state.specs.Row.{first_row, joined, left, finished};
-ghost use Rattle.pb_state.specs.Machine.{is_ready, stands_at, is_in, is_host_active, is_last_at, least_place, lesser, change};
+ghost use Rattle.pb_state.specs.Row.{first_row, joined, left, finished, sent, reported};
+ghost use Rattle.pb_state.specs.Bounds.{IsAtMost};
+ghost use Rattle.pb_state.specs.Oldest.{oldest_out, out_at, older};
+ghost use Rattle.pb_state.specs.Machine.{is_ready, stands_at, is_in, is_host_active, is_running, has_send, is_out, has_ticket, has_begun, least_place, lesser, change, report_decides};
 
+use crate::decided::Decided;
 use crate::row::Row;
-use pb_ids::HostNo;
+use pb_ids::{HostNo, Ticket};
+use pb_outcome::gather::TaskResult;
+use pb_outcome::job::Call;
+use pb_outcome::outcome::Outcome;
 use pb_planes::HostSet;
 use pb_tree::PlayTree;
 use std::alloc::{AllocError, Global};
@@ -37,11 +44,39 @@ pub fn some_in(rows: &[Row]) -> bool
     rows.iter().any(|row| row.is_in())
 }
 
-/// Whether a host finished the task at this place last.
-pub fn some_last_at(rows: &[Row], place: usize) -> bool
-    ensures { result ≡ list_any (is_last_at place) rows.now }
+/// Whether a host runs the task at this place, or finished it last.
+pub fn some_begun(rows: &[Row], place: usize) -> bool
+    ensures { result ≡ list_any (has_begun place) rows.now }
 {
-    rows.iter().any(|row| row.is_last_at(place))
+    rows.iter().any(|row| row.has_begun(place))
+}
+
+/// Whether a host runs.
+pub fn some_running(rows: &[Row]) -> bool
+    ensures { result ≡ list_any is_running rows.now }
+{
+    rows.iter().any(|row| row.is_running())
+}
+
+/// Whether a job is out.
+pub fn some_out(rows: &[Row]) -> bool
+    ensures { result ≡ list_any is_out rows.now }
+{
+    rows.iter().any(|row| row.is_out())
+}
+
+/// Whether a job is out under this ticket.
+pub fn some_ticket(rows: &[Row], ticket: Ticket) -> bool
+    ensures { result ≡ list_any (has_ticket ticket) rows.now }
+{
+    rows.iter().any(|row| row.has_ticket(ticket))
+}
+
+/// How many hosts run.
+pub fn running_count(rows: &[Row]) -> usize
+    ensures { result ≡ count_by is_running rows.now }
+{
+    rows.iter().filter(|row| row.is_running()).count()
 }
 
 /// Whether a host of the batch is at this place.
@@ -59,16 +94,91 @@ pub fn finish_row(
     host: HostNo,
     tree: &PlayTree,
     place: usize,
+    task: TaskResult,
 ) -> Result<(), AllocError>
     requires plain { IsPlain tree.now }
-    requires room { IfSome (slice_get rows.old.items host.0) (λ row. row.counts.ok < 2 ^ 64 - 1) }
-    ensures ok { OnOk result (rows.new.items ≡ change rows.old.items host.0 (finished tree.now place)) }
+    requires room { IfSome (slice_get rows.old.items host.0) (λ row. IsAtMost row.counts (2 ^ 64 - 2)) }
+    ensures ok { OnOk result (rows.new.items ≡ change rows.old.items host.0 (finished tree.now place task)) }
     ensures err { OnErr result (rows.new.items ≡ rows.old.items) }
 {
     if let Some(row) = rows.get_mut(host.0 as usize) {
-        row.finish(alloc, tree, place)?;
+        row.finish(alloc, tree, place, task)?;
     }
     Ok(())
+}
+
+/// A host starts the task at a place, which waits for a job.
+pub fn begin_row(rows: &mut Vec<Row>, host: HostNo, place: usize, call: Call)
+    ensures { rows.new.items ≡ change rows.old.items host.0 (λ row. record row { running = Some (record { place = place; call = call; out = None }) }) }
+{
+    if let Some(row) = rows.get_mut(host.0 as usize) {
+        row.begin(place, call);
+    }
+}
+
+/// A job of a host goes out.
+pub fn send_row(rows: &mut Vec<Row>, host: HostNo, ticket: Ticket)
+    ensures { rows.new.items ≡ change rows.old.items host.0 (sent ticket) }
+{
+    if let Some(row) = rows.get_mut(host.0 as usize) {
+        row.send(ticket);
+    }
+}
+
+/// The outcome of a host's job ends its task. An `Err` changes nothing.
+pub fn report_row(
+    alloc: Global,
+    rows: &mut Vec<Row>,
+    host: HostNo,
+    tree: &PlayTree,
+    outcome: &Outcome,
+) -> Result<Option<Decided>, AllocError>
+    requires plain { IsPlain tree.now }
+    requires room { IfSome (slice_get rows.old.items host.0) (λ row. IsAtMost row.counts (2 ^ 64 - 2)) }
+    ensures rows { OnOk result (rows.new.items ≡ change rows.old.items host.0 (reported tree.now outcome.now)) }
+    ensures decides { IfOk result (λ decided. decided ≡ option_map_or (report_decides outcome.now) (slice_get rows.old.items host.0) None) }
+    ensures err { OnErr result (rows.new.items ≡ rows.old.items) }
+{
+    match rows.get_mut(host.0 as usize) {
+        Some(row) => row.report(alloc, tree, outcome),
+        None => Ok(None),
+    }
+}
+
+/// Of the jobs that are out the one that was sent first: its host and its ticket.
+#[tactic(auto, using(crate::proofs::Oldest::older_assoc, crate::proofs::Oldest::older_none))]
+pub fn oldest_out(rows: &[Row]) -> Option<(HostNo, Ticket)>
+    requires { length rows.now ≤ 65536 }
+    ensures { result ≡ oldest_out rows.now }
+{
+    let mut oldest = None;
+    for (i, row) in rows.iter().enumerate() {
+        oldest = older(oldest, out_at(HostNo(i as u32), row));
+    }
+    oldest
+}
+
+/// A host and the ticket of its job, if that is out.
+fn out_at(host: HostNo, row: &Row) -> Option<(HostNo, Ticket)>
+    ensures { result ≡ out_at host.0 row.now }
+{
+    match row.running() {
+        Some(running) => match running.out {
+            Some(ticket) => Some((host, ticket)),
+            None => None,
+        },
+        None => None,
+    }
+}
+
+fn older(a: Option<(HostNo, Ticket)>, b: Option<(HostNo, Ticket)>) -> Option<(HostNo, Ticket)>
+    ensures { result ≡ older a b }
+{
+    match (a, b) {
+        (Some(p), Some(q)) => { if p.1.0 <= q.1.0 { Some(p) } else { Some(q) } }
+        (Some(p), None) => Some(p),
+        (None, q) => q,
+    }
 }
 
 /// Each host joins the batch if it is active.
@@ -124,21 +234,22 @@ fn lesser(a: Option<usize>, b: Option<usize>) -> Option<usize>
     }
 }
 
-/// Puts the hosts that may start into a set.
+/// Puts the hosts that have a job to send or may start into a set.
 pub fn ready_into(
     rows: &[Row],
     tree: &PlayTree,
     place: Option<usize>,
+    sends: bool,
     room: bool,
     set: &mut HostSet,
 )
     requires plain { IsPlain tree.now }
     requires width { length set.old ≡ length rows.now }
-    ensures { set.new ≡ map (is_ready room tree.now place) rows.now }
+    ensures { set.new ≡ map (is_ready sends room tree.now place) rows.now }
 {
     let width = set.width();
     for i in 0..width {
-        let is_in = rows[i as usize].is_ready(room, tree, place);
+        let is_in = rows[i as usize].is_ready(sends, room, tree, place);
         set.put(HostNo(i), is_in);
     }
 }

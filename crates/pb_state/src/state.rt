@@ -1,24 +1,29 @@
 //! The state of a run, and its steps.
 
-ghost use Rattle.std.specs.Prelude.{◌≡◌, ◌≤◌, ◌<◌, length, map, OnOk, OnErr, IfOk, IfSome, slice_get, true, false, ◌&&◌, None};
+ghost use Rattle.std.specs.Prelude.{◌≡◌, ◌≤◌, ◌<◌, length, map, OnOk, OnErr, IfOk, IfSome, IfNone, slice_get, true, false, ◌&&◌, None, Some};
 ghost use Rattle.std.specs.Prelude.{◌-◌, ◌+◌, ◌^◌, ◌*◌};
 ghost use Rattle.std.specs.List.{list_any};
 ghost use Rattle.std.specs.Option.{option_copied, option_map_or};
 ghost use Rattle.pb_state.specs.Plan.{PlanOf};
-ghost use Rattle.pb_state.specs.Row.{joined, left, finished};
+ghost use Rattle.pb_state.specs.Row.{joined, left, finished, started};
+ghost use Rattle.pb_state.specs.declared.planned.Planned.TheVariants as Planned;
 ghost use Rattle.pb_state.specs.State.{State};
 
+use crate::decided::{Decided, Done, decide};
 use crate::event::Event;
+use crate::job::job_in;
 use crate::plan::{Plan, PlanPlay};
-use crate::result::result_at;
+use crate::planned::{Planned, planned_at, task_of};
 use crate::row::Row;
 use crate::rows::{
-    finish_row, first_rows, join_all, least_place, leave_all, none_into, ready_into, some_active,
-    some_in, some_last_at, some_stands,
+    begin_row, finish_row, first_rows, join_all, least_place, leave_all, none_into, oldest_out,
+    ready_into, report_row, running_count, send_row, some_active, some_begun, some_in, some_out,
+    some_running, some_stands, some_ticket,
 };
-use pb_ids::HostNo;
+use pb_ids::{HostNo, PlayNo, Ticket};
+use pb_outcome::gather::TaskResult;
+use pb_outcome::job::{Call, Job, Report};
 use pb_planes::HostSet;
-use pb_value::val::Val;
 use std::alloc::{AllocError, Global};
 use std::marker::Model;
 
@@ -42,24 +47,6 @@ impl From<AllocError> for StepFault {
     }
 }
 
-/// What a step decided of the task that started.
-#[derive(Drop)]
-pub struct Decided {
-    /// The place's position in the play's tree.
-    pub place: usize,
-    /// Whether no host of the batch had started there before.
-    pub is_new: bool,
-    /// The task's result.
-    pub result: Val,
-}
-
-/// Puts down what the step decided.
-fn decide(slot: &mut Option<Decided>, decided: Option<Decided>)
-    ensures { slot.new ≡ decided }
-{
-    *slot = decided;
-}
-
 /// The state of a run.
 #[derive(Drop)]
 pub struct EngineState {
@@ -70,6 +57,8 @@ pub struct EngineState {
     place: Option<usize>,
     forks: u32,
     pool: u32,
+    sends: u64,
+    stopped: bool,
     ended: bool,
     decided: Option<Decided>,
 }
@@ -83,17 +72,15 @@ impl Model for EngineState {
 
     ghost coded = { Prim.hlevel (codes, val.the_row.coded) };
 
-    ghost view = { λ s. record { rows = s.rows.items; play = s.play; is_open = s.is_open; place = s.place; forks = s.forks; pool = s.pool; ended = s.ended; decided = s.decided } };
+    ghost view = { λ s. record { rows = s.rows.items; play = s.play; is_open = s.is_open; place = s.place; forks = s.forks; pool = s.pool; sends = s.sends; stopped = s.stopped; ended = s.ended; decided = s.decided } };
 
-    ghost use Rattle.std.specs.Prelude.{◌<◌, ◌≤◌};
-    ghost use Rattle.std.specs.Bool.{OnTrue};
-    ghost use Rattle.pb_state.specs.Bounds.{AllWithin};
+    ghost use Rattle.pb_state.specs.Bounds.{IsBounded};
 
-    ghost invariant = { λ s. AllWithin s.is_open s.play s.rows.items × (s.play ≤ 256) × OnTrue s.is_open (s.play < 256) };
+    ghost invariant = { λ s. IsBounded s.is_open s.play s.sends s.rows.items };
 }
 
 impl EngineState {
-    ghost use Rattle.pb_state.specs.Machine.{open_play, may_open, may_start_in, some_may_start, may_turn_in, may_close_in, stands_at, at_row, has_room, possible};
+    ghost use Rattle.pb_state.specs.Machine.{open_play, may_open, may_start_in, may_send_in, may_report_in, some_may_start, may_turn_in, may_close_in, stands_at, at_row, has_room, possible, may_send_item, awaits};
 
     /// The play whose batch is open.
     fn open_play<'a>(&self, plan: &'a Plan) -> Option<&'a PlanPlay>
@@ -107,11 +94,22 @@ impl EngineState {
         }
     }
 
+    /// Whether fewer hosts run than may at once.
+    fn has_room(&self) -> bool
+        ensures { result ≡ has_room self.now }
+    {
+        !self.stopped && running_count(&self.rows) < self.forks as usize
+    }
+
     /// Whether a batch can open.
     pub fn may_open(&self, plan: &Plan) -> bool
         ensures { result ≡ may_open plan.now self.now }
     {
-        !self.is_open && !self.ended && self.play < plan.plays().len() && some_active(&self.rows)
+        !self.stopped
+            && !self.is_open
+            && !self.ended
+            && self.play < plan.plays().len()
+            && some_active(&self.rows)
     }
 
     /// Whether a host may start in a play.
@@ -119,7 +117,7 @@ impl EngineState {
         ensures { result ≡ may_start_in self.now host.0 play.now }
     {
         match self.rows.get(host.0 as usize) {
-            Some(row) => 0 < self.forks && row.stands_at(play.tree(), self.place),
+            Some(row) => self.has_room() && row.stands_at(play.tree(), self.place),
             None => false,
         }
     }
@@ -130,6 +128,46 @@ impl EngineState {
     {
         match self.open_play(plan) {
             Some(play) => self.may_start_in(host, play),
+            None => false,
+        }
+    }
+
+    /// Whether a host has a job of this item to send.
+    fn may_send_item(&self, host: HostNo, item: u32) -> bool
+        ensures { result ≡ at_row (may_send_item item) self.now.rows host.0 }
+    {
+        match self.rows.get(host.0 as usize) {
+            Some(row) => item == 0 && row.has_send(),
+            None => false,
+        }
+    }
+
+    /// Whether a host's job can go out under a ticket.
+    pub fn may_send(&self, plan: &Plan, host: HostNo, item: u32, ticket: Ticket) -> bool
+        ensures { result ≡ option_map_or (may_send_in self.now host.0 item ticket) (open_play plan.now self.now) false }
+    {
+        match self.open_play(plan) {
+            Some(_) => !self.stopped && ticket.0 == self.sends && self.may_send_item(host, item),
+            None => false,
+        }
+    }
+
+    /// Whether a host waits for what comes of its item's job under a ticket.
+    pub fn awaits(&self, host: HostNo, item: u32, ticket: Ticket) -> bool
+        ensures { result ≡ at_row (awaits ticket item) self.now.rows host.0 }
+    {
+        match self.rows.get(host.0 as usize) {
+            Some(row) => item == 0 && row.has_ticket(ticket),
+            None => false,
+        }
+    }
+
+    /// Whether a report is waited for.
+    pub fn may_report(&self, plan: &Plan, report: &Report) -> bool
+        ensures { result ≡ option_map_or (may_report_in self.now report.now) (open_play plan.now self.now) false }
+    {
+        match self.open_play(plan) {
+            Some(_) => self.awaits(report.host, report.item, report.ticket),
             None => false,
         }
     }
@@ -147,8 +185,10 @@ impl EngineState {
     fn may_turn_in(&self, play: &PlanPlay) -> bool
         ensures { result ≡ may_turn_in self.now play.now }
     {
-        self.place.is_some()
-            && !(0 < self.forks && some_stands(&self.rows, play.tree(), self.place))
+        !self.stopped
+            && self.place.is_some()
+            && !some_running(&self.rows)
+            && !(self.has_room() && some_stands(&self.rows, play.tree(), self.place))
     }
 
     /// Whether the batch can close.
@@ -156,7 +196,12 @@ impl EngineState {
         ensures { result ≡ option_map_or (may_close_in self.now) (open_play plan.now self.now) false }
     {
         match self.open_play(plan) {
-            Some(play) => self.place.is_none() && least_place(&self.rows, play.tree()).is_none(),
+            Some(play) => {
+                !self.stopped
+                    && self.place.is_none()
+                    && !some_running(&self.rows)
+                    && least_place(&self.rows, play.tree()).is_none()
+            }
             None => false,
         }
     }
@@ -168,14 +213,19 @@ impl EngineState {
         match event {
             Event::Open => self.may_open(plan),
             Event::Start(host) => self.may_start(plan, *host),
+            Event::Send { host, item, ticket } => self.may_send(plan, *host, *item, *ticket),
+            Event::Report(report) => self.may_report(plan, report),
             Event::Turn => self.may_turn(plan),
             Event::Close => self.may_close(plan),
+            Event::Stop => true,
+            Event::Forks(forks) => 1 <= *forks && *forks <= self.pool,
         }
     }
 }
 
 impl EngineState {
-    ghost use Rattle.pb_state.specs.Machine.{after, opened_in, started_in, start_at, turned_in, closed, first_state, ready, is_last_at, change, possible, may_open, may_start_in, open_play};
+    ghost use Rattle.pb_state.specs.Machine.{after, opened_in, started_in, start_at, start_with, sent_in, reported_in, turned_in, closed, stopped, with_forks, first_state, ready, change, possible, may_open, may_start_in, may_send_in, may_report_in, open_play};
+    ghost use Rattle.pb_state.specs.Run.{is_command};
     ghost use Rattle.pb_state.specs.Work.{work};
 
     /// One step, if the event is possible. An `Err` changes nothing.
@@ -190,9 +240,9 @@ impl EngineState {
 
         ensures hosts { length self.new.rows ≡ length self.old.rows }
 
-        // Each step leaves less to do.
-        ensures work { OnOk result (0 < self.old.forks → work plan.now self.new < work plan.now self.old) }
-        ensures forks { self.new.forks ≡ self.old.forks }
+        // Each step but a command leaves less to do.
+        ensures work { OnOk result (0 < self.old.forks → is_command event.now ≡ false → work plan.now self.new < work plan.now self.old) }
+        ensures forks { 0 < self.old.forks → 0 < self.new.forks }
     {
         if !self.is_possible(plan, event) {
             return Err(StepFault::Illegal);
@@ -213,6 +263,11 @@ impl EngineState {
                 Ok(())
             }
             Event::Start(host) => self.start(plan, *host),
+            Event::Send { host, item, ticket } => {
+                self.send(plan, *host, *item, *ticket);
+                Ok(())
+            }
+            Event::Report(report) => self.report(plan, report),
             Event::Turn => {
                 self.turn(plan);
                 Ok(())
@@ -221,21 +276,38 @@ impl EngineState {
                 self.close();
                 Ok(())
             }
+            Event::Stop => {
+                self.stopped = true;
+                decide(&mut self.decided, None);
+                Ok(())
+            }
+            Event::Forks(forks) => {
+                self.forks = *forks;
+                decide(&mut self.decided, None);
+                Ok(())
+            }
         }
     }
 
-    #[tactic(auto, using(crate::proofs::Within::open_within))]
     fn open(&mut self, plan: &Plan)
         requires { may_open plan.now self.old ≡ true }
         ensures { self.new ≡ after plan.now self.old Event.Open }
     {
         let plays = plan.plays();
         if let Some(play) = plays.get(self.play) {
-            join_all(&mut self.rows);
-            self.is_open = true;
-            self.place = least_place(&self.rows, play.tree());
-            decide(&mut self.decided, None);
+            self.open_in(play);
         }
+    }
+
+    fn open_in(&mut self, play: &PlanPlay)
+        requires closed { self.old.is_open ≡ false }
+        requires below { self.old.play < 256 }
+        ensures { self.new ≡ opened_in self.old (map joined self.old.rows) play.now }
+    {
+        join_all(&mut self.rows);
+        self.is_open = true;
+        self.place = least_place(&self.rows, play.tree());
+        decide(&mut self.decided, None);
     }
 
     fn turn(&mut self, plan: &Plan)
@@ -247,7 +319,6 @@ impl EngineState {
         }
     }
 
-    #[tactic(auto, using(crate::proofs::Within::close_within))]
     fn close(&mut self)
         requires { self.old.is_open ≡ true }
         ensures { self.new ≡ closed self.old }
@@ -270,7 +341,6 @@ impl EngineState {
         }
     }
 
-    #[tactic(auto, using(crate::proofs::Within::room_at, crate::proofs::Within::start_within))]
     fn start_at(&mut self, host: HostNo, play: &PlanPlay, place: usize) -> Result<(), AllocError>
         requires open { self.old.is_open ≡ true }
         requires may { may_start_in self.old host.0 play.now ≡ true }
@@ -278,19 +348,116 @@ impl EngineState {
         ensures ok { OnOk result (self.new ≡ start_at self.old host.0 play.now place) }
         ensures err { OnErr result (self.new ≡ self.old) }
     {
-        let result = result_at(self.alloc, play, place)?;
-        let is_new = !some_last_at(&self.rows, place);
-        let decided = Decided {
-            place,
-            is_new,
-            result,
-        };
-        finish_row(self.alloc, &mut self.rows, host, play.tree(), place)?;
-        decide(&mut self.decided, Some(decided));
+        let planned = planned_at(self.alloc, play, place)?;
+        let is_new = !some_begun(&self.rows, place);
+        match planned {
+            Planned::Decided(item) => {
+                let task = task_of(&item);
+                self.finish_at(host, play, place, task)?;
+                let done = Some(Done {
+                    result: item.result,
+                    task,
+                });
+                self.tell(place, is_new, done);
+            }
+            Planned::Sends(call) => {
+                self.begin_at(host, play, place, call);
+                self.tell(place, is_new, None);
+            }
+        }
         Ok(())
     }
 
-    #[tactic(auto, using(crate::proofs::Within::first_within))]
+    /// A task that is decided as it starts ends.
+    fn finish_at(
+        &mut self,
+        host: HostNo,
+        play: &PlanPlay,
+        place: usize,
+        task: TaskResult,
+    ) -> Result<(), AllocError>
+        requires open { self.old.is_open ≡ true }
+        requires may { may_start_in self.old host.0 play.now ≡ true }
+        ensures ok { OnOk result (self.new ≡ record self.old { rows = change self.old.rows host.0 (finished play.now.tree place task) }) }
+        ensures err { OnErr result (self.new ≡ self.old) }
+    {
+        finish_row(self.alloc, &mut self.rows, host, play.tree(), place, task)?;
+        Ok(())
+    }
+
+    /// A task that waits for a job begins.
+    fn begin_at(&mut self, host: HostNo, play: &PlanPlay, place: usize, call: Call)
+        requires open { self.old.is_open ≡ true }
+        requires may { may_start_in self.old host.0 play.now ≡ true }
+        ensures { self.new ≡ record self.old { rows = change self.old.rows host.0 (started play.now.tree place (Planned.Sends call)) } }
+    {
+        let _tree = play.tree();
+        begin_row(&mut self.rows, host, place, call);
+    }
+
+    /// Puts down what the start of a task decided.
+    fn tell(&mut self, place: usize, is_new: bool, done: Option<Done>)
+        ensures { self.new ≡ record self.old { decided = Some (record { place = place; is_new = is_new; done = done }) } }
+    {
+        decide(
+            &mut self.decided,
+            Some(Decided {
+                place,
+                is_new,
+                done,
+            }),
+        );
+    }
+
+    fn send(&mut self, plan: &Plan, host: HostNo, item: u32, ticket: Ticket)
+        requires { option_map_or (may_send_in self.old host.0 item ticket) (open_play plan.now self.old) false ≡ true }
+        ensures { self.new ≡ after plan.now self.old (Event.Send host item ticket) }
+    {
+        if let Some(play) = self.open_play(plan) {
+            self.send_in(host, item, ticket, play);
+        }
+    }
+
+    fn send_in(&mut self, host: HostNo, item: u32, ticket: Ticket, play: &PlanPlay)
+        requires open { self.old.is_open ≡ true }
+        requires may { may_send_in self.old host.0 item ticket play.now ≡ true }
+        ensures { self.new ≡ sent_in self.old host.0 ticket play.now }
+    {
+        let _item = item;
+        let _play = play;
+        send_row(&mut self.rows, host, ticket);
+        self.sends += 1;
+        decide(&mut self.decided, None);
+    }
+
+    fn report(&mut self, plan: &Plan, report: &Report) -> Result<(), AllocError>
+        requires { option_map_or (may_report_in self.old report.now) (open_play plan.now self.old) false ≡ true }
+        ensures ok { OnOk result (self.new ≡ after plan.now self.old (Event.Report report.now)) }
+        ensures err { OnErr result (self.new ≡ self.old) }
+    {
+        match self.open_play(plan) {
+            Some(play) => self.report_in(play, report),
+            None => Ok(()),
+        }
+    }
+
+    fn report_in(&mut self, play: &PlanPlay, report: &Report) -> Result<(), AllocError>
+        requires open { self.old.is_open ≡ true }
+        requires may { may_report_in self.old report.now play.now ≡ true }
+        ensures ok { OnOk result (self.new ≡ reported_in self.old report.now play.now) }
+        ensures err { OnErr result (self.new ≡ self.old) }
+    {
+        let decided = report_row(
+            self.alloc,
+            &mut self.rows,
+            report.host,
+            play.tree(),
+            &report.outcome,
+        )?;
+        decide(&mut self.decided, decided);
+        Ok(())
+    }
+
     /// The first state of a plan, with this number of forks and this size of the pool.
     pub fn first(
         alloc: Global,
@@ -312,6 +479,8 @@ impl EngineState {
             place: None,
             forks,
             pool,
+            sends: 0,
+            stopped: false,
             ended: false,
             decided: None,
         })
@@ -319,7 +488,9 @@ impl EngineState {
 }
 
 impl EngineState {
-    ghost use Rattle.pb_state.specs.Machine.{ready, open_play};
+    ghost use Rattle.pb_state.specs.Machine.{ready, open_play, has_room, is_out, has_ticket};
+    ghost use Rattle.pb_state.specs.Jobs.{job_of};
+    ghost use Rattle.pb_state.specs.Oldest.{oldest_out};
 
     /// How many hosts there are.
     pub fn hosts(&self) -> usize
@@ -328,14 +499,75 @@ impl EngineState {
         self.rows.len()
     }
 
-    /// The hosts that may start.
+    /// The hosts that have a job to send or may start.
     pub fn ready(&self, plan: &Plan, set: &mut HostSet)
         requires { length set.old ≡ length self.now.rows }
         ensures { set.new ≡ ready plan.now self.now }
     {
         match self.open_play(plan) {
-            Some(play) => ready_into(&self.rows, play.tree(), self.place, 0 < self.forks, set),
+            Some(play) => ready_into(
+                &self.rows,
+                play.tree(),
+                self.place,
+                !self.stopped,
+                self.has_room(),
+                set,
+            ),
             None => none_into(set),
+        }
+    }
+
+    /// Whether a job is out.
+    pub fn some_out(&self) -> bool
+        ensures { result ≡ list_any is_out self.now.rows }
+    {
+        some_out(&self.rows)
+    }
+
+    /// Whether a job is out under this ticket.
+    pub fn is_ticket_out(&self, ticket: Ticket) -> bool
+        ensures { result ≡ list_any (has_ticket ticket) self.now.rows }
+    {
+        some_ticket(&self.rows, ticket)
+    }
+
+    /// How many jobs were sent.
+    pub fn sends(&self) -> u64
+        ensures value { result ≡ self.now.sends }
+    {
+        self.sends
+    }
+
+    /// Of the jobs that are out the one that was sent first: its host and its ticket.
+    pub fn oldest_out(&self) -> Option<(HostNo, Ticket)>
+        ensures { result ≡ oldest_out self.now.rows }
+    {
+        oldest_out(&self.rows)
+    }
+
+    /// The job of a host's running task, under a ticket.
+    pub fn job(
+        &self,
+        alloc: Global,
+        plan: &Plan,
+        host: HostNo,
+        ticket: Ticket,
+    ) -> Result<Option<Job>, AllocError>
+        ensures { IfOk result (λ job. job ≡ job_of plan.now self.now host ticket) }
+    {
+        match (self.open_play(plan), self.rows.get(host.0 as usize)) {
+            (Some(play), Some(row)) => {
+                job_in(
+                    alloc,
+                    plan,
+                    PlayNo(self.play as u32),
+                    play,
+                    row,
+                    host,
+                    ticket,
+                )
+            }
+            _ => Ok(None),
         }
     }
 

@@ -1,0 +1,32 @@
+//! What a step decides.
+
+ghost use Rattle.std.specs.Prelude.{◌≡◌};
+
+use pb_outcome::gather::TaskResult;
+use pb_value::val::Val;
+
+/// What a step decided of the task that started, or that a report was for.
+#[derive(Drop)]
+pub struct Decided {
+    /// The place's position in the play's tree.
+    pub place: usize,
+    /// Whether no host of the batch had started there before.
+    pub is_new: bool,
+    /// How the task ended, if it did.
+    pub done: Option<Done>,
+}
+
+/// How a task ended on a host.
+#[derive(Drop)]
+pub struct Done {
+    /// The task's result, as it is shown.
+    pub result: Val,
+    pub task: TaskResult,
+}
+
+/// Puts down what a step decided.
+pub(crate) fn decide(slot: &mut Option<Decided>, decided: Option<Decided>)
+    ensures { slot.new ≡ decided }
+{
+    *slot = decided;
+}

@@ -1,0 +1,48 @@
+//! The jobs of running tasks.
+
+ghost use Rattle.std.specs.Prelude.{◌≡◌, ◌<◌, IfOk, slice_get, length};
+ghost use Rattle.std.specs.Option.{option_copied, option_map_or};
+ghost use Rattle.pb_state.specs.Jobs.{row_job};
+
+use crate::plan::{Plan, PlanPlay};
+use crate::row::Row;
+use pb_ids::{HostNo, PlayNo, Ticket};
+use pb_outcome::job::Job;
+use pb_value::items::Items;
+use pb_value::text::Text;
+use std::alloc::{AllocError, Global};
+
+/// The job of a host's running task: it runs on the host itself, under this ticket.
+pub(crate) fn job_in(
+    alloc: Global,
+    plan: &Plan,
+    number: PlayNo,
+    play: &PlanPlay,
+    row: &Row,
+    host: HostNo,
+    ticket: Ticket,
+) -> Result<Option<Job>, AllocError>
+    ensures { IfOk result (λ job. job ≡ row_job plan.now number.0 host ticket play.now row.now) }
+{
+    let Some(running) = row.running() else {
+        return Ok(None);
+    };
+    let Some(place) = play.tree().place(running.place) else {
+        return Ok(None);
+    };
+    if plan.hosts() <= host.0 {
+        return Ok(None);
+    }
+    let name = plan.host_name(host);
+    Ok(Some(Job {
+        ticket,
+        host,
+        name: Text::from_str(alloc, name)?,
+        play: number,
+        place: place.try_clone()?,
+        item: 0,
+        target: Text::from_str(alloc, name)?,
+        connector: Items::new(alloc),
+        call: running.call.try_clone(alloc)?,
+    }))
+}
