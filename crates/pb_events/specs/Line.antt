@@ -15,3 +15,8 @@ at_place event place play = (codes "event", text event) ∷ (codes "place", text
 -- and of a host there
 abbrev pub at_host : List ℕ → List ℕ → List ℕ → ℕ → List (List ℕ × Datum)
 at_host event host place play = (codes "event", text event) ∷ (codes "host", text host) ∷ (codes "place", text place) ∷ (codes "play", int (pos play)) ∷ []
+
+-- and of how the host's task ended there
+abbrev pub at_end : List ℕ → List ℕ → List ℕ → ℕ → Datum → List (List ℕ × Datum)
+at_end event host place play result =
+    (codes "event", text event) ∷ (codes "host", text host) ∷ (codes "place", text place) ∷ (codes "play", int (pos play)) ∷ (codes "result", result) ∷ []

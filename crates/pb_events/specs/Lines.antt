@@ -1,16 +1,17 @@
 -- The lines of an event, of the state after it (Ansible's documentation, "Callback plugins": a line has the name of the callback that Ansible calls there).
-use Rattle.std.specs.Prelude.{ℕ, pos, List, [], ◌∷◌, ◌++◌, codes, map, slice_get, if◌then◌else◌}
+use Rattle.std.specs.Prelude.{ℕ, pos, Bool, true, false, List, [], ◌∷◌, ◌++◌, codes, map, slice_get, Option, Some, None, if◌then◌else◌}
 use Rattle.std.specs.Option.{option_map_or}
-use Rattle.pb_value.specs.Datum.{Datum, text, int, list, items_of}
+use Rattle.pb_value.specs.Datum.{Datum, text, int, boolean, list, items_of}
 use Rattle.pb_ids.specs.Dotted.{dotted}
 use Rattle.pb_tree.specs.Tree.{path_at}
 use Rattle.pb_play.specs.declared.task.Task.{Task}
 use Rattle.pb_state.specs.declared.event.Event.{Event}
-use Rattle.pb_state.specs.declared.event.Event.TheVariants.{Open, Start, Turn, Close}
-use Rattle.pb_state.specs.declared.state.Decided.{Decided}
+use Rattle.pb_state.specs.declared.event.Event.TheVariants.{Open, Start, Send, Report as Reported, Turn, Close, Stop, Forks}
+use Rattle.pb_state.specs.declared.decided.Decided.{Decided}
+use Rattle.pb_state.specs.declared.decided.Done.{Done}
 use Rattle.pb_state.specs.Plan.{PlayOf, PlanOf}
 use Rattle.pb_state.specs.State.{State}
-use Rattle.pb_events.specs.Line.{line, at_host}
+use Rattle.pb_events.specs.Line.{line, at_host, at_end}
 use Rattle.pb_events.specs.Batch.{batch_names}
 
 -- before all events: how many plays there are
@@ -33,35 +34,59 @@ task_start name place play =
 abbrev pub host_start : List ℕ → List ℕ → ℕ → List ℕ
 host_start host place play = line (at_host (codes "runner_on_start") host place play)
 
--- a host's task ended well
-abbrev pub host_ok : List ℕ → List ℕ → ℕ → Datum → List ℕ
-host_ok host place play result =
+-- a host's task ended in this way: unreachable, skipped or well
+abbrev pub host_end : List ℕ → List ℕ → List ℕ → ℕ → Datum → List ℕ
+host_end event host place play result = line (at_end event host place play result)
+
+-- or it failed: its line says too whether that is ignored
+abbrev pub host_failed : Bool → List ℕ → List ℕ → ℕ → Datum → List ℕ
+host_failed ignored host place play result =
     line
-    ((codes "event", text (codes "runner_on_ok")) ∷ (codes "host", text host) ∷ (codes "place", text place) ∷ (codes "play", int (pos play))
-    ∷ (codes "result", result) ∷ [])
+    ((codes "event", text (codes "runner_on_failed")) ∷ (codes "host", text host) ∷ (codes "ignored", boolean ignored) ∷ (codes "place", text place)
+    ∷ (codes "play", int (pos play)) ∷ (codes "result", result) ∷ [])
 
--- of a task with this name at this place, which a host started: the task's own line comes with the first host alone
-abbrev pub task_text : ℕ → Decided → List ℕ → List ℕ → List ℕ → List ℕ
-task_text play decided host name place =
-    (if decided.is_new then task_start name place play else []) ++ host_start host place play ++ host_ok host place play decided.result
+-- the line of a task's result: a host that can't be reached comes first, then a failure, then what was left out
+abbrev pub result_line : List ℕ → List ℕ → ℕ → Done → List ℕ
+result_line host place play done =
+    if done.task.unreachable then host_end (codes "runner_on_unreachable") host place play done.result
+    else (if done.task.failed then host_failed done.task.ignored host place play done.result
+    else (if done.task.skipped then host_end (codes "runner_on_skipped") host place play done.result
+    else host_end (codes "runner_on_ok") host place play done.result))
 
-abbrev pub task_lines : ℕ → Decided → List ℕ → List ℕ → List ℕ → List ℕ
-task_lines play decided host name path = task_text play decided host name (dotted path)
+-- none as long as the task waits for a job
+abbrev pub done_text : List ℕ → List ℕ → ℕ → Option Done → List ℕ
+done_text host place play None = []
+done_text host place play (Some done) = result_line host place play done
+
+-- what is told before the end: of a start the task, where the host is the first there, and the host; of a report nothing
+abbrev pub start_text : Bool → Bool → List ℕ → List ℕ → List ℕ → ℕ → List ℕ
+start_text true is_new host name place play = (if is_new then task_start name place play else []) ++ host_start host place play
+start_text false is_new host name place play = []
+
+-- of a task with this name at this place, which the host started or which a report was for
+abbrev pub task_text : Bool → ℕ → Decided → List ℕ → List ℕ → List ℕ → List ℕ
+task_text starts play decided host name place = start_text starts decided.is_new host name place play ++ done_text host place play decided.done
+
+abbrev pub task_lines : Bool → ℕ → Decided → List ℕ → List ℕ → List ℕ → List ℕ
+task_lines starts play decided host name path = task_text starts play decided host name (dotted path)
 
 -- of this task: its place is printed by its path in the play's tree
-abbrev pub at_task : PlayOf → ℕ → Decided → List ℕ → Task → List ℕ
-at_task play number decided host task = option_map_or (task_lines number decided host task.name) (path_at play.tree decided.place) []
+abbrev pub at_task : Bool → PlayOf → ℕ → Decided → List ℕ → Task → List ℕ
+at_task starts play number decided host task = option_map_or (task_lines starts number decided host task.name) (path_at play.tree decided.place) []
 
 -- of a host with this name
-abbrev pub for_host : PlayOf → ℕ → Decided → List ℕ → List ℕ
-for_host play number decided host = option_map_or (at_task play number decided host) (slice_get play.tasks decided.place) []
+abbrev pub for_host : Bool → PlayOf → ℕ → Decided → List ℕ → List ℕ
+for_host starts play number decided host = option_map_or (at_task starts play number decided host) (slice_get play.tasks decided.place) []
 
 -- of the host with this number, in a play, and of what was decided for it
-abbrev pub in_play : PlanOf → State → ℕ → PlayOf → Decided → List ℕ
-in_play plan s h play decided = option_map_or (for_host play s.play decided) (slice_get plan.hosts h) []
+abbrev pub in_play : Bool → PlanOf → State → ℕ → PlayOf → Decided → List ℕ
+in_play starts plan s h play decided = option_map_or (for_host starts play s.play decided) (slice_get plan.hosts h) []
 
-abbrev pub started_in : PlanOf → State → ℕ → PlayOf → List ℕ
-started_in plan s h play = option_map_or (in_play plan s h play) s.decided []
+abbrev pub told_in : Bool → PlanOf → State → ℕ → PlayOf → List ℕ
+told_in starts plan s h play = option_map_or (in_play starts plan s h play) s.decided []
+
+abbrev pub told_of : Bool → PlanOf → State → ℕ → List ℕ
+told_of starts plan s h = option_map_or (told_in starts plan s h) (slice_get plan.plays s.play) []
 
 abbrev pub opened_in : PlanOf → State → PlayOf → List ℕ
 opened_in plan s play = play_start s.play play.name (map text (batch_names plan.hosts s.rows))
@@ -69,6 +94,10 @@ opened_in plan s play = play_start s.play play.name (map text (batch_names plan.
 -- other events have no lines
 abbrev pub lines_of : PlanOf → State → Event → List ℕ
 lines_of plan s Open = option_map_or (opened_in plan s) (slice_get plan.plays s.play) []
-lines_of plan s (Start h) = option_map_or (started_in plan s h.0) (slice_get plan.plays s.play) []
+lines_of plan s (Start h) = told_of true plan s h.0
+lines_of plan s (Send h item ticket) = []
+lines_of plan s (Reported r) = told_of false plan s r.host.0
 lines_of plan s Turn = []
 lines_of plan s Close = []
+lines_of plan s Stop = []
+lines_of plan s (Forks n) = []

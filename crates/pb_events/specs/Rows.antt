@@ -1,34 +1,44 @@
--- A worked run: two hosts, and a play with one task.
-use Rattle.std.specs.Prelude.{◌≡◌, ⊤, List, [], ◌∷◌, ◌++◌, codes, refl}
+-- Worked runs: two hosts, and a play with one task.
+use Rattle.std.specs.Prelude.{◌≡◌, ⊤, ℕ, pos, true, false, List, [], ◌∷◌, ◌++◌, codes, refl}
 use Rattle.std.specs.Fmt.{digits}
 use Rattle.serde_json.proofs.OnLiterals.{serde_json_on_literals}
-use Rattle.pb_value.specs.Datum.{text}
-use Rattle.pb_play.specs.declared.modules.Module.TheVariants.{Debug}
+use Rattle.pb_value.specs.Datum.{text, null}
+use Rattle.pb_outcome.specs.declared.gather.TaskResult.{TaskResult}
+use Rattle.pb_outcome.specs.declared.outcome.Form.{Form}
+use Rattle.pb_outcome.specs.declared.outcome.Form.TheVariants.{Ran, Unreachable}
+use Rattle.pb_play.specs.declared.modules.Module.{Module}
+use Rattle.pb_play.specs.declared.modules.Module.TheVariants.{Debug, Fail, Shell}
 use Rattle.pb_state.specs.declared.event.Event.{Event}
-use Rattle.pb_state.specs.declared.event.Event.TheVariants.{Open, Start, Turn, Close}
+use Rattle.pb_state.specs.declared.event.Event.TheVariants.{Open, Start, Send, Report as Reported, Turn, Close, Stop, Forks}
 use Rattle.pb_state.specs.Bundle.{tree_for}
 use Rattle.pb_state.specs.Machine.{first_state}
 use Rattle.pb_state.specs.Plan.{PlanOf}
 use Rattle.pb_state.specs.Run.{state_from}
 use Rattle.pb_state.specs.State.{State}
 use Rattle.pb_events.specs.Line.{line}
-use Rattle.pb_events.specs.Lines.{start_line, lines_of}
+use Rattle.pb_events.specs.Lines.{start_line, lines_of, result_line}
 
 -- what computes a row
 unfoldable on_literals : ⊤
 unfolding line digits serde_json_on_literals
 on_literals = tt
 
-abbrev two_hosts : PlanOf
-two_hosts =
+abbrev one_task : Module → PlanOf
+one_task called =
     record {
       hosts = codes "a" ∷ codes "b" ∷ [];
-      plays = record { name = codes "all"; tree = tree_for 0 1 0; tasks = record { name = codes "hi"; «module» = Debug (text (codes "hello")) } ∷ [] } ∷ [];
+      plays = record { name = codes "all"; tree = tree_for 0 1 0; tasks = record { name = codes "hi"; «module» = called } ∷ [] } ∷ [];
       forks = 5;
     }
 
+abbrev two_hosts : PlanOf
+two_hosts = one_task (Debug (text (codes "hello")))
+
+abbrev after_of : PlanOf → List Event → State
+after_of plan events = state_from plan (first_state plan 5 5) events
+
 abbrev after_all : List Event → State
-after_all events = state_from two_hosts (first_state two_hosts 5 5) events
+after_all events = after_of two_hosts events
 
 abbrev first : Event
 first = Start (record { 0 = 0 })
@@ -63,3 +73,72 @@ turns = refl
 
 closes : lines_of two_hosts (after_all (Open ∷ first ∷ second ∷ Turn ∷ Close ∷ [])) Close ≡ []
 closes = refl
+
+-- a task that fails as it starts
+abbrev failing : PlanOf
+failing = one_task (Fail (text (codes "no")))
+
+fails_at_once : lines_of failing (after_of failing (Open ∷ first ∷ [])) first
+    ≡ codes "{\"event\":\"playbook_on_task_start\",\"name\":\"hi\",\"place\":\"1\",\"play\":0}\n"
+    ++ codes "{\"event\":\"runner_on_start\",\"host\":\"a\",\"place\":\"1\",\"play\":0}\n"
+    ++ codes "{\"event\":\"runner_on_failed\",\"host\":\"a\",\"ignored\":false,\"place\":\"1\",\"play\":0,\"result\":{\"changed\":false,\"failed\":true,\"msg\":\"no\"}}\n"
+unfolding on_literals
+fails_at_once = refl
+
+-- a task that waits for a job
+abbrev commanded : PlanOf
+commanded = one_task (Shell (codes "true"))
+
+abbrev goes_out : Event
+goes_out = Send (record { 0 = 0 }) 0 (record { 0 = 0 })
+
+abbrev comes : Form → Event
+comes outcome = Reported (record { ticket = record { 0 = 0 }; host = record { 0 = 0 }; item = 0; outcome = outcome })
+
+-- its start has no line of a result
+starts_and_waits : lines_of commanded (after_of commanded (Open ∷ first ∷ [])) first
+    ≡ codes "{\"event\":\"playbook_on_task_start\",\"name\":\"hi\",\"place\":\"1\",\"play\":0}\n"
+    ++ codes "{\"event\":\"runner_on_start\",\"host\":\"a\",\"place\":\"1\",\"play\":0}\n"
+unfolding on_literals
+starts_and_waits = refl
+
+sends_in_silence : lines_of commanded (after_of commanded (Open ∷ first ∷ goes_out ∷ [])) goes_out ≡ []
+sends_in_silence = refl
+
+-- the report has the line of its result alone
+comes_well : lines_of commanded (after_of commanded (Open ∷ first ∷ goes_out ∷ comes (Ran (pos 0) (codes "x\n") []) ∷ [])) (comes (Ran (pos 0) (codes "x\n") []))
+    ≡ codes "{\"event\":\"runner_on_ok\",\"host\":\"a\",\"place\":\"1\",\"play\":0,\"result\":{\"changed\":true,\"failed\":false,\"msg\":\"\",\"rc\":0,"
+    ++ codes "\"stderr\":\"\",\"stderr_lines\":[],\"stdout\":\"x\",\"stdout_lines\":[\"x\"]}}\n"
+unfolding on_literals
+comes_well = refl
+
+comes_failed : lines_of commanded (after_of commanded (Open ∷ first ∷ goes_out ∷ comes (Ran (pos 1) [] []) ∷ [])) (comes (Ran (pos 1) [] []))
+    ≡ codes "{\"event\":\"runner_on_failed\",\"host\":\"a\",\"ignored\":false,\"place\":\"1\",\"play\":0,\"result\":{\"changed\":true,\"failed\":true,\"msg\":\"non-zero return code\",\"rc\":1,"
+    ++ codes "\"stderr\":\"\",\"stderr_lines\":[],\"stdout\":\"\",\"stdout_lines\":[]}}\n"
+unfolding on_literals
+comes_failed = refl
+
+comes_lost : lines_of commanded (after_of commanded (Open ∷ first ∷ goes_out ∷ comes (Unreachable (codes "no route")) ∷ [])) (comes (Unreachable (codes "no route")))
+    ≡ codes "{\"event\":\"runner_on_unreachable\",\"host\":\"a\",\"place\":\"1\",\"play\":0,\"result\":{\"changed\":false,\"failed\":false,\"msg\":\"no route\",\"unreachable\":true}}\n"
+unfolding on_literals
+comes_lost = refl
+
+stops : lines_of commanded (after_of commanded (Open ∷ first ∷ Stop ∷ [])) Stop ≡ []
+stops = refl
+
+has_other_forks : lines_of commanded (after_of commanded (Open ∷ first ∷ Forks 2 ∷ [])) (Forks 2) ≡ []
+has_other_forks = refl
+
+-- the lines of results that no module has yet
+abbrev ends_as : TaskResult → List ℕ
+ends_as task = result_line (codes "a") (codes "1") 0 (record { result = null; task = task })
+
+skipped_line : ends_as (record { unreachable = false; failed = false; skipped = true; changed = false; ignored = false })
+    ≡ codes "{\"event\":\"runner_on_skipped\",\"host\":\"a\",\"place\":\"1\",\"play\":0,\"result\":null}\n"
+unfolding on_literals
+skipped_line = refl
+
+ignored_line : ends_as (record { unreachable = false; failed = true; skipped = false; changed = true; ignored = true })
+    ≡ codes "{\"event\":\"runner_on_failed\",\"host\":\"a\",\"ignored\":true,\"place\":\"1\",\"play\":0,\"result\":null}\n"
+unfolding on_literals
+ignored_line = refl

@@ -6,6 +6,7 @@
 #![tactic(auto)]
 
 mod batch;
+mod end;
 mod line;
 mod lines;
 

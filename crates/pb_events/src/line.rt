@@ -2,7 +2,7 @@
 
 ghost use Rattle.std.specs.Prelude.{◌≡◌, ◌++◌, ◌∷◌, [], IfOk, codes, pos, ◌<◌, ◌^◌};
 ghost use Rattle.pb_value.specs.Datum.{text, int, put};
-ghost use Rattle.pb_events.specs.Line.{line, at_place, at_host};
+ghost use Rattle.pb_events.specs.Line.{line, at_place, at_host, at_end};
 
 use pb_value::text::Text;
 use pb_value::val::{Dict, Val};
@@ -57,5 +57,21 @@ pub fn at_host(
 {
     let mut members = at_place(alloc, event, place, play)?;
     put_text(alloc, &mut members, "host", host)?;
+    Ok(members)
+}
+
+/// The members of a line that tells how a host's task ended at a place, with its result as it is shown.
+pub fn at_end(
+    alloc: Global,
+    event: &str,
+    host: &str,
+    place: &str,
+    play: u32,
+    end: &Val,
+) -> Result<Dict, AllocError>
+    ensures { IfOk result (λ members. members ≡ at_end event.now host.now place.now play end.now) }
+{
+    let mut members = at_host(alloc, event, host, place, play)?;
+    put_value(alloc, &mut members, "result", end.try_clone(alloc)?)?;
     Ok(members)
 }

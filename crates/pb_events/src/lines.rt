@@ -1,12 +1,13 @@
 //! The lines of events.
 
-ghost use Rattle.std.specs.Prelude.{◌≡◌, ◌<◌, ◌^◌, ◌∷◌, ◌++◌, [], IfOk, IfSome, codes, pos, slice_get, if◌then◌else◌};
+ghost use Rattle.std.specs.Prelude.{◌≡◌, ◌<◌, ◌^◌, ◌∷◌, ◌++◌, [], IfOk, IfSome, codes, pos, slice_get, true, false, if◌then◌else◌};
 ghost use Rattle.std.specs.Option.{option_copied, option_map_or};
 ghost use Rattle.pb_value.specs.Datum.{text, int};
 ghost use Rattle.pb_ids.specs.Dotted.{dotted};
-ghost use Rattle.pb_events.specs.Lines.{start_line, play_start, task_start, host_ok, task_text, at_task, for_host, in_play, started_in, opened_in, lines_of};
+ghost use Rattle.pb_events.specs.Lines.{start_line, play_start, task_start, host_start, start_text, task_text, at_task, for_host, in_play, told_in, told_of, opened_in, lines_of};
 
 use crate::batch::batch_names;
+use crate::end::done_text;
 use crate::line::{at_host, at_place, line, put_text, put_value};
 use pb_ids::HostNo;
 use pb_play::task::Task;
@@ -33,7 +34,8 @@ fn start_members(alloc: Global, plays: u32) -> Result<Dict, AllocError>
 }
 
 /// The lines of an event that led to a state: where a batch opens, the play and the hosts; where a host starts a task, the
-/// task, if the host is the first to start there, the host's start, and the task's result. Other events have none.
+/// task, if the host is the first to start there, the host's start, and the task's result, if it ended at once; where a
+/// report ends a task, the task's result. Other events have none.
 pub fn lines_of(
     alloc: Global,
     plan: &Plan,
@@ -44,8 +46,11 @@ pub fn lines_of(
 {
     match event {
         Event::Open => opened(alloc, plan, state),
-        Event::Start(host) => started(alloc, plan, state, *host),
-        Event::Turn | Event::Close => Ok(Vec::new(alloc)),
+        Event::Start(host) => told(alloc, true, plan, state, *host),
+        Event::Report(report) => told(alloc, false, plan, state, report.host),
+        Event::Send { .. } | Event::Turn | Event::Close | Event::Stop | Event::Forks(_) => {
+            Ok(Vec::new(alloc))
+        }
     }
 }
 
@@ -84,34 +89,36 @@ fn play_start(alloc: Global, play: u32, name: &str, hosts: ValList) -> Result<Ve
     line(alloc, members)
 }
 
-/// The lines of a host that started a task.
-fn started(
+/// The lines of a host that started a task, or whose report came.
+fn told(
     alloc: Global,
+    starts: bool,
     plan: &Plan,
     state: &EngineState,
     host: HostNo,
 ) -> Result<Vec<u8>, AllocError>
-    ensures { IfOk result (λ bytes. bytes.items ≡ option_map_or (started_in plan.now state.now host.0) (slice_get plan.now.plays state.now.play) []) }
+    ensures { IfOk result (λ bytes. bytes.items ≡ told_of starts plan.now state.now host.0) }
 {
     match play_at(plan, state.play()) {
-        Some(play) => started_in(alloc, plan, state, host, play),
+        Some(play) => told_in(alloc, starts, plan, state, host, play),
         None => Ok(Vec::new(alloc)),
     }
 }
 
-/// The lines of a host that started a task of a play: those of what the step decided.
-fn started_in(
+/// The lines of a host in a play: those of what the step decided.
+fn told_in(
     alloc: Global,
+    starts: bool,
     plan: &Plan,
     state: &EngineState,
     host: HostNo,
     play: &PlanPlay,
 ) -> Result<Vec<u8>, AllocError>
     requires { state.now.play < 256 }
-    ensures { IfOk result (λ bytes. bytes.items ≡ started_in plan.now state.now host.0 play.now) }
+    ensures { IfOk result (λ bytes. bytes.items ≡ told_in starts plan.now state.now host.0 play.now) }
 {
     match state.decided() {
-        Some(decided) => in_play(alloc, plan, state, host, play, decided),
+        Some(decided) => in_play(alloc, starts, plan, state, host, play, decided),
         None => Ok(Vec::new(alloc)),
     }
 }
@@ -119,6 +126,7 @@ fn started_in(
 /// The lines of what was decided for a host of the plan.
 fn in_play(
     alloc: Global,
+    starts: bool,
     plan: &Plan,
     state: &EngineState,
     host: HostNo,
@@ -126,10 +134,10 @@ fn in_play(
     decided: &Decided,
 ) -> Result<Vec<u8>, AllocError>
     requires { state.now.play < 256 }
-    ensures { IfOk result (λ bytes. bytes.items ≡ in_play plan.now state.now host.0 play.now decided.now) }
+    ensures { IfOk result (λ bytes. bytes.items ≡ in_play starts plan.now state.now host.0 play.now decided.now) }
 {
     match name_of(plan, host) {
-        Some(name) => for_host(alloc, play, state.play() as u32, decided, name),
+        Some(name) => for_host(alloc, starts, play, state.play() as u32, decided, name),
         None => Ok(Vec::new(alloc)),
     }
 }
@@ -149,15 +157,16 @@ fn name_of(plan: &Plan, host: HostNo) -> Option<&str>
 /// The lines of a host with this name.
 fn for_host(
     alloc: Global,
+    starts: bool,
     play: &PlanPlay,
     number: u32,
     decided: &Decided,
     host: &str,
 ) -> Result<Vec<u8>, AllocError>
-    ensures { IfOk result (λ bytes. bytes.items ≡ for_host play.now number decided.now host.now) }
+    ensures { IfOk result (λ bytes. bytes.items ≡ for_host starts play.now number decided.now host.now) }
 {
     match play.task(decided.place) {
-        Some(task) => at_task(alloc, play, number, decided, host, task),
+        Some(task) => at_task(alloc, starts, play, number, decided, host, task),
         None => Ok(Vec::new(alloc)),
     }
 }
@@ -165,47 +174,70 @@ fn for_host(
 /// The lines of the host's task.
 fn at_task(
     alloc: Global,
+    starts: bool,
     play: &PlanPlay,
     number: u32,
     decided: &Decided,
     host: &str,
     task: &Task,
 ) -> Result<Vec<u8>, AllocError>
-    ensures { IfOk result (λ bytes. bytes.items ≡ at_task play.now number decided.now host.now task.now) }
+    ensures { IfOk result (λ bytes. bytes.items ≡ at_task starts play.now number decided.now host.now task.now) }
 {
     match play.tree().place(decided.place) {
         Some(place) => {
             let path = place.text(alloc)?;
-            task_lines(
-                alloc,
-                number,
-                decided,
-                host,
-                task.name.as_str(),
-                path.as_str(),
-            )
+            let name = task.name.as_str();
+            task_lines(alloc, starts, number, decided, host, name, path.as_str())
         }
         None => Ok(Vec::new(alloc)),
     }
 }
 
-/// The lines of a task that a host started: the task's line, if the host is the first to start there, its start, and its end.
+/// The lines of a task: its start, if it starts, and its end, if it ended.
 fn task_lines(
     alloc: Global,
+    starts: bool,
     play: u32,
     decided: &Decided,
     host: &str,
     name: &str,
     place: &str,
 ) -> Result<Vec<u8>, AllocError>
-    ensures { IfOk result (λ bytes. bytes.items ≡ task_text play decided.now host.now name.now place.now) }
+    ensures { IfOk result (λ bytes. bytes.items ≡ task_text starts play decided.now host.now name.now place.now) }
 {
-    let mut lines = task_if_new(alloc, decided.is_new, name, place, play)?;
-    let members = at_host(alloc, "runner_on_start", host, place, play)?;
-    lines.extend_from_slice(line(alloc, members)?.as_slice())?;
-    let end = host_ok(alloc, host, place, play, &decided.result)?;
+    let mut lines = start_text(alloc, starts, decided.is_new, host, name, place, play)?;
+    let end = done_text(alloc, host, place, play, &decided.done)?;
     lines.extend_from_slice(end.as_slice())?;
     Ok(lines)
+}
+
+/// What is told of a start: the task, if the host is the first to start there, and the host. Of a report it is nothing.
+fn start_text(
+    alloc: Global,
+    starts: bool,
+    is_new: bool,
+    host: &str,
+    name: &str,
+    place: &str,
+    play: u32,
+) -> Result<Vec<u8>, AllocError>
+    ensures { IfOk result (λ bytes. bytes.items ≡ start_text starts is_new host.now name.now place.now play) }
+{
+    if !starts {
+        return Ok(Vec::new(alloc));
+    }
+    let mut lines = task_if_new(alloc, is_new, name, place, play)?;
+    let begin = host_start(alloc, host, place, play)?;
+    lines.extend_from_slice(begin.as_slice())?;
+    Ok(lines)
+}
+
+/// The line of a host that starts a task.
+fn host_start(alloc: Global, host: &str, place: &str, play: u32) -> Result<Vec<u8>, AllocError>
+    ensures { IfOk result (λ bytes. bytes.items ≡ host_start host.now place.now play) }
+{
+    let members = at_host(alloc, "runner_on_start", host, place, play)?;
+    line(alloc, members)
 }
 
 /// The line of a task that no host had started.
@@ -242,19 +274,4 @@ fn task_members(alloc: Global, name: &str, place: &str, play: u32) -> Result<Dic
     let mut members = at_place(alloc, "playbook_on_task_start", place, play)?;
     put_text(alloc, &mut members, "name", name)?;
     Ok(members)
-}
-
-/// The line of a host whose task ended well.
-fn host_ok(
-    alloc: Global,
-    host: &str,
-    place: &str,
-    play: u32,
-    end: &Val,
-) -> Result<Vec<u8>, AllocError>
-    ensures { IfOk result (λ bytes. bytes.items ≡ host_ok host.now place.now play end.now) }
-{
-    let mut members = at_host(alloc, "runner_on_ok", host, place, play)?;
-    put_value(alloc, &mut members, "result", end.try_clone(alloc)?)?;
-    line(alloc, members)
 }

@@ -1,62 +1,33 @@
 -- The counts in the rows are the recap from scratch.
 use Rattle.std.proofs.Common.{◌≡◌, ℕ, zero, suc, ◌+◌, ◌<◌, Bool, true, false, ◌&&◌, List, [], ◌∷◌, length, map, replicate, refl, sym, ap, ◌∙◌, arith}
-use Rattle.std.specs.Prelude.{◌==◌, Option, Some, None, slice_get, slice_set, if◌then◌else◌}
+use Rattle.std.specs.Prelude.{◌==◌, Option, Some, None, option_map, slice_get, slice_set, if◌then◌else◌}
 use Rattle.std.specs.Option.{option_map_or}
 use Rattle.std.proofs.Math.Dec.{eqb-suc-zero, eqb-zero-suc, eqb-suc-suc}
 use Rattle.std.proofs.lemmas.List.{length-map, length-set, length-replicate}
-use Rattle.pb_value.specs.Datum.{null}
-use Rattle.pb_play.specs.declared.task.Task.{Task}
-use Rattle.pb_play.specs.declared.modules.Module.{Module}
-use Rattle.pb_play.specs.declared.modules.Module.TheVariants.{Debug}
+use Rattle.pb_ids.specs.declared.numbers.Ticket.{Ticket}
+use Rattle.pb_outcome.specs.declared.job.Report.{Report}
+use Rattle.pb_outcome.specs.declared.outcome.Form.{Form}
 use Rattle.pb_tree.specs.Tree.{TreeOf}
 use Rattle.pb_state.specs.declared.event.Event.{Event}
-use Rattle.pb_state.specs.declared.event.Event.TheVariants.{Open, Start, Turn, Close}
+use Rattle.pb_state.specs.declared.event.Event.TheVariants.{Open, Start, Send, Report as Reported, Turn, Close, Stop, Forks}
+use Rattle.pb_state.specs.declared.planned.Planned.{Planned}
+use Rattle.pb_state.specs.declared.planned.Planned.TheVariants.{Decided as DecidedItem, Sends}
 use Rattle.pb_state.specs.declared.row.Counts.{Counts}
+use Rattle.pb_state.specs.declared.row.Running.{Running}
 use Rattle.pb_state.specs.Plan.{PlayOf, PlanOf}
-use Rattle.pb_state.specs.Row.{HostRow, first_row, joined, left, finished}
+use Rattle.pb_state.specs.Row.{HostRow, first_row, joined, left, started, sent, reported, reported_running, task_of, item_of}
 use Rattle.pb_state.specs.State.{State}
-use Rattle.pb_state.specs.Results.{module_result, result_at}
-use Rattle.pb_state.specs.Machine.{change, open_play, after, first_state, opened_in, started_in, start_at, turned_in}
-use Rattle.pb_state.specs.Run.{state_from, IsRun}
+use Rattle.pb_state.specs.Results.{planned_at}
+use Rattle.pb_state.specs.Machine.{change, open_play, possible, after, first_state, opened_in, started_in, start_at, start_with, sent_in, reported_in, report_decides, decided_by, turned_in, may_start_in, may_report_in, at_row, stands_at, next_place, same_place, is_running, has_room}
+use Rattle.pb_state.specs.Run.{legal_from, state_from, IsRun}
 use Rattle.pb_recap.specs.declared.kind.CountKind.{CountKind}
 use Rattle.pb_recap.specs.declared.kind.CountKind.TheVariants.{Okay, Changed, Unreachable, Failed, Skipped, Rescued, Ignored}
 use Rattle.pb_recap.specs.Kinds.{count_of}
-use Rattle.pb_recap.specs.Recap.{finished_at, finished_in, finishes, counts_under, counted, count_from, counts_from, hosts_from, recap}
+use Rattle.pb_recap.specs.Recap.{ended_by, ended_in, finished_in, finishes, counts_under, counted, count_from, counts_from, hosts_from, recap}
+use Rattle.pb_recap.proofs.Formed.{one, task_counts}
 
--- each task goes well and changes nothing
-abbrev only_okay : CountKind → Bool
-only_okay Okay = true
-only_okay Changed = false
-only_okay Unreachable = false
-only_okay Failed = false
-only_okay Skipped = false
-only_okay Rescued = false
-only_okay Ignored = false
-
-of_module : (m : Module) (kind : CountKind) → counts_under kind (module_result m) ≡ only_okay kind
-of_module (Debug msg) Okay = refl
-of_module (Debug msg) Changed = refl
-of_module (Debug msg) Unreachable = refl
-of_module (Debug msg) Failed = refl
-of_module (Debug msg) Skipped = refl
-of_module (Debug msg) Rescued = refl
-of_module (Debug msg) Ignored = refl
-
-of_null : (kind : CountKind) → counts_under kind null ≡ only_okay kind
-of_null Okay = refl
-of_null Changed = refl
-of_null Unreachable = refl
-of_null Failed = refl
-of_null Skipped = refl
-of_null Rescued = refl
-of_null Ignored = refl
-
-of_found : (found : Option Task) (kind : CountKind) → counts_under kind (option_map_or (λ (task : Task). module_result task.module) found null) ≡ only_okay kind
-of_found None kind = of_null kind
-of_found (Some task) kind = of_module task.module kind
-
-of_result : (tasks : List Task) (p : ℕ) (kind : CountKind) → counts_under kind (result_at tasks p) ≡ only_okay kind
-of_result tasks p kind = of_found (slice_get tasks p) kind
+none_more : (n : ℕ) → n ≡ 0 + n
+none_more n = omega arith
 
 -- one row's count of a kind
 abbrev row_count : CountKind → List HostRow → ℕ → ℕ
@@ -74,74 +45,158 @@ left_keeps kind [] k = refl
 left_keeps kind (row ∷ rows) zero = refl
 left_keeps kind (row ∷ rows) (suc k) = left_keeps kind rows k
 
-one_more : (tree : TreeOf) (p : ℕ) (row : HostRow) (kind : CountKind) → count_of kind (finished tree p row).counts ≡ (if only_okay kind then 1 else 0) + count_of kind row.counts
-one_more tree p row Okay = omega arith
-one_more tree p row Changed = omega arith
-one_more tree p row Unreachable = omega arith
-one_more tree p row Failed = omega arith
-one_more tree p row Skipped = omega arith
-one_more tree p row Rescued = omega arith
-one_more tree p row Ignored = omega arith
-
 change_on : (row : HostRow) (rows : List HostRow) (h : ℕ) (f : HostRow → HostRow) (found : Option HostRow) → slice_get rows h ≡ found → change (row ∷ rows) (suc h) f ≡ row ∷ change rows h f
 change_on row rows h f None e = rw e refl
 change_on row rows h f (Some r) e = rw e refl
 
--- what a host's finished task adds to a host's count
-abbrev added : ℕ → ℕ → CountKind → ℕ
-added h k kind = if h == k && only_okay kind then 1 else 0
+change_none : (rows : List HostRow) (h : ℕ) (f : HostRow → HostRow) → slice_get rows h ≡ None → change rows h f ≡ rows
+change_none rows h f e = rw e refl
 
-added_none : (kind : CountKind) (n : ℕ) → n ≡ (if false && only_okay kind then 1 else 0) + n
-added_none kind n = omega arith
+-- what the change of one row, that adds n there, adds to each
+abbrev added : ℕ → ℕ → ℕ → ℕ
+added n h k = if h == k then n else 0
 
-changed_count : (tree : TreeOf) (p : ℕ) (kind : CountKind) (rows : List HostRow) (h k : ℕ) → k < length rows
-    → row_count kind (change rows h (finished tree p)) k ≡ added h k kind + row_count kind rows k
-changed_count tree p kind [] h k b = absurd (omega arith)
-changed_count tree p kind (row ∷ rows) zero zero b = one_more tree p row kind
-changed_count tree p kind (row ∷ rows) zero (suc k) b = rw (eqb-zero-suc k) (added_none kind (row_count kind rows k))
-changed_count tree p kind (row ∷ rows) (suc h) zero b =
-    rw (change_on row rows h (finished tree p) (slice_get rows h) refl, eqb-suc-zero h) (added_none kind (count_of kind row.counts))
-changed_count tree p kind (row ∷ rows) (suc h) (suc k) b =
-    rw (change_on row rows h (finished tree p) (slice_get rows h) refl, eqb-suc-suc h k) (changed_count tree p kind rows h k (omega arith))
+changed_count : (kind : CountKind) (f : HostRow → HostRow) (n : ℕ) (rows : List HostRow) (h k : ℕ) → k < length rows
+    → ((row : HostRow) → slice_get rows h ≡ Some row → count_of kind (f row).counts ≡ n + count_of kind row.counts)
+    → row_count kind (change rows h f) k ≡ added n h k + row_count kind rows k
+changed_count kind f n [] h k b adds = absurd (omega arith)
+changed_count kind f n (row ∷ rows) zero zero b adds = adds row refl
+changed_count kind f n (row ∷ rows) zero (suc k) b adds = rw (eqb-zero-suc k) (none_more (row_count kind rows k))
+changed_count kind f n (row ∷ rows) (suc h) zero b adds = rw (change_on row rows h f (slice_get rows h) refl, eqb-suc-zero h) (none_more (count_of kind row.counts))
+changed_count kind f n (row ∷ rows) (suc h) (suc k) b adds =
+    rw (change_on row rows h f (slice_get rows h) refl, eqb-suc-suc h k) (changed_count kind f n rows h k (omega arith) adds)
 
-start_counts : (s : State) (h k : ℕ) (kind : CountKind) (play : PlayOf) (place : Option ℕ) → k < length s.rows
-    → row_count kind (option_map_or (start_at s h play) place s).rows k ≡ counted k kind (finished_at h play place) + row_count kind s.rows k
-start_counts s h k kind play None b = omega arith
-start_counts s h k kind play (Some p) b = rw (of_result play.tasks p kind) (changed_count play.tree p kind s.rows h k b)
+if_both : (a b : Bool) → (if a && b then 1 else 0) ≡ (if a then one b else 0)
+if_both true b = refl
+if_both false b = refl
 
-started_counts : (s : State) (h k : ℕ) (kind : CountKind) (found : Option PlayOf) → k < length s.rows
-    → row_count kind (option_map_or (started_in s h) found s).rows k ≡ counted k kind (finished_in h s.place found) + row_count kind s.rows k
-started_counts s h k kind None b = omega arith
-started_counts s h k kind (Some play) b = start_counts s h k kind play s.place b
+abbrev nothing : ℕ
+nothing = 0
 
-opened_counts : (s : State) (k : ℕ) (kind : CountKind) (found : Option PlayOf) → row_count kind (option_map_or (opened_in s (map joined s.rows)) found s).rows k ≡ row_count kind s.rows k
-opened_counts s k kind None = refl
-opened_counts s k kind (Some play) = joined_keeps kind s.rows k
+none_if : (a : Bool) → nothing ≡ (if a then 0 else 0)
+none_if true = refl
+none_if false = refl
 
-turned_counts : (s : State) (k : ℕ) (kind : CountKind) (found : Option PlayOf) → row_count kind (option_map_or (turned_in s) found s).rows k ≡ row_count kind s.rows k
-turned_counts s k kind None = refl
-turned_counts s k kind (Some play) = refl
+-- a task that starts
+abbrev start_adds : CountKind → Planned → ℕ
+start_adds kind (DecidedItem item) = one (counts_under kind (task_of item))
+start_adds kind (Sends call) = 0
 
--- an event adds to a host's count what its finished task counts
-step_counts : (plan : PlanOf) (s : State) (e : Event) (k : ℕ) (kind : CountKind) → k < length s.rows
+start_row : (kind : CountKind) (tree : TreeOf) (p : ℕ) (planned : Planned) (row : HostRow) → count_of kind (started tree p planned row).counts ≡ start_adds kind planned + count_of kind row.counts
+start_row kind tree p (DecidedItem item) row = task_counts item row.counts kind
+start_row kind tree p (Sends call) row = none_more (count_of kind row.counts)
+
+start_told : (kind : CountKind) (s : State) (h k : ℕ) (play : PlayOf) (p : ℕ) (planned : Planned) → counted k kind (ended_in (start_with s h play p planned) h) ≡ added (start_adds kind planned) h k
+start_told kind s h k play p (DecidedItem item) = if_both (h == k) (counts_under kind (task_of item))
+start_told kind s h k play p (Sends call) = none_if (h == k)
+
+start_with_counts : (kind : CountKind) (s : State) (h k : ℕ) (play : PlayOf) (p : ℕ) (planned : Planned) → k < length s.rows
+    → row_count kind (start_with s h play p planned).rows k ≡ counted k kind (ended_in (start_with s h play p planned) h) + row_count kind s.rows k
+start_with_counts kind s h k play p planned b =
+    changed_count kind (started play.tree p planned) (start_adds kind planned) s.rows h k b (λ row e. start_row kind play.tree p planned row)
+    ∙ ap (λ n. n + row_count kind s.rows k) (sym (start_told kind s h k play p planned))
+
+-- no host starts where there is no place
+no_same : (a : Bool) (q : Option ℕ) → (a && same_place q None) ≡ true → ⊥
+no_same false q e = cc
+no_same true None e = cc
+no_same true (Some p) e = cc
+
+no_start : (a : Bool) (tree : TreeOf) (found : Option HostRow) → (a && option_map_or (stands_at tree None) found false) ≡ true → ⊥
+no_start false tree found e = cc
+no_start true tree None e = cc
+no_start true tree (Some row) e = no_same _ (next_place tree row) e
+
+start_counts : (kind : CountKind) (s : State) (h k : ℕ) (play : PlayOf) (place : Option ℕ) → k < length s.rows → (has_room s && at_row (stands_at play.tree place) s.rows h) ≡ true
+    → row_count kind (option_map_or (start_at s h play) place s).rows k ≡ counted k kind (ended_in (option_map_or (start_at s h play) place s) h) + row_count kind s.rows k
+start_counts kind s h k play None b may = absurd (no_start (has_room s) play.tree (slice_get s.rows h) may)
+start_counts kind s h k play (Some p) b may = start_with_counts kind s h k play p (planned_at play.tasks p) b
+
+started_counts : (kind : CountKind) (s : State) (h k : ℕ) (found : Option PlayOf) → k < length s.rows → option_map_or (may_start_in s h) found false ≡ true
+    → row_count kind (option_map_or (started_in s h) found s).rows k ≡ counted k kind (ended_in (option_map_or (started_in s h) found s) h) + row_count kind s.rows k
+started_counts kind s h k None b may = cc
+started_counts kind s h k (Some play) b may = start_counts kind s h k play s.place b may
+
+-- a job that goes out ends no task
+sent_row : (kind : CountKind) (ticket : Ticket) (row : HostRow) → count_of kind (sent ticket row).counts ≡ 0 + count_of kind row.counts
+sent_row kind ticket row = none_more (count_of kind row.counts)
+
+sent_counts : (kind : CountKind) (s : State) (h k : ℕ) (ticket : Ticket) (found : Option PlayOf) → k < length s.rows → row_count kind (option_map_or (sent_in s h ticket) found s).rows k ≡ 0 + row_count kind s.rows k
+sent_counts kind s h k ticket None b = none_more (row_count kind s.rows k)
+sent_counts kind s h k ticket (Some play) b =
+    changed_count kind (sent ticket) 0 s.rows h k b (λ row e. sent_row kind ticket row) ∙ ap (λ n. n + row_count kind s.rows k) (sym (none_if (h == k)))
+
+-- a report ends the task that waited for it
+abbrev report_adds : CountKind → Form → Option Running → ℕ
+report_adds kind outcome None = 0
+report_adds kind outcome (Some r) = one (counts_under kind (task_of (item_of outcome r)))
+
+report_row : (kind : CountKind) (tree : TreeOf) (outcome : Form) (row : HostRow) (running : Option Running)
+    → count_of kind (option_map_or (reported_running tree outcome row) running row).counts ≡ report_adds kind outcome running + count_of kind row.counts
+report_row kind tree outcome row None = none_more (count_of kind row.counts)
+report_row kind tree outcome row (Some r) = task_counts (item_of outcome r) row.counts kind
+
+report_told : (kind : CountKind) (outcome : Form) (h k : ℕ) (running : Option Running)
+    → counted k kind (option_map_or (ended_by h) (option_map (decided_by outcome) running) None) ≡ added (report_adds kind outcome running) h k
+report_told kind outcome h k None = none_if (h == k)
+report_told kind outcome h k (Some r) = if_both (h == k) (counts_under kind (task_of (item_of outcome r)))
+
+report_counts : (kind : CountKind) (tree : TreeOf) (outcome : Form) (rows : List HostRow) (h k : ℕ) (found : Option HostRow) → slice_get rows h ≡ found → k < length rows
+    → row_count kind (change rows h (reported tree outcome)) k ≡ counted k kind (option_map_or (ended_by h) (option_map_or (report_decides outcome) found None) None) + row_count kind rows k
+report_counts kind tree outcome rows h k None e b = rw (change_none rows h (reported tree outcome) e) (none_more (row_count kind rows k))
+report_counts kind tree outcome rows h k (Some row) e b =
+    changed_count kind (reported tree outcome) (report_adds kind outcome row.running) rows h k b
+    (λ r q. let same : r ≡ row = cc in rw same (report_row kind tree outcome row row.running))
+    ∙ ap (λ n. n + row_count kind rows k) (sym (report_told kind outcome h k row.running))
+
+reported_counts : (kind : CountKind) (s : State) (r : Report) (k : ℕ) (found : Option PlayOf) → k < length s.rows → option_map_or (may_report_in s r) found false ≡ true
+    → row_count kind (option_map_or (reported_in s r) found s).rows k ≡ counted k kind (ended_in (option_map_or (reported_in s r) found s) r.host.0) + row_count kind s.rows k
+reported_counts kind s r k None b may = cc
+reported_counts kind s r k (Some play) b may = report_counts kind play.tree r.outcome s.rows r.host.0 k (slice_get s.rows r.host.0) refl b
+
+opened_counts : (kind : CountKind) (s : State) (k : ℕ) (found : Option PlayOf) → row_count kind (option_map_or (opened_in s (map joined s.rows)) found s).rows k ≡ row_count kind s.rows k
+opened_counts kind s k None = refl
+opened_counts kind s k (Some play) = joined_keeps kind s.rows k
+
+turned_counts : (kind : CountKind) (s : State) (k : ℕ) (found : Option PlayOf) → row_count kind (option_map_or (turned_in s) found s).rows k ≡ row_count kind s.rows k
+turned_counts kind s k None = refl
+turned_counts kind s k (Some play) = refl
+
+-- an event that is possible adds to a host's count what its finished task counts
+step_counts : (plan : PlanOf) (s : State) (e : Event) (k : ℕ) (kind : CountKind) → k < length s.rows → possible plan s e ≡ true
     → row_count kind (after plan s e).rows k ≡ counted k kind (finishes plan s e) + row_count kind s.rows k
-step_counts plan s Open k kind b = omega (arith, opened_counts s k kind (slice_get plan.plays s.play))
-step_counts plan s (Start h) k kind b = started_counts s h.0 k kind (open_play plan s) b
-step_counts plan s Turn k kind b = omega (arith, turned_counts s k kind (open_play plan s))
-step_counts plan s Close k kind b = omega (arith, left_keeps kind s.rows k)
+step_counts plan s Open k kind b may = opened_counts kind s k (slice_get plan.plays s.play) ∙ none_more (row_count kind s.rows k)
+step_counts plan s (Start h) k kind b may = started_counts kind s h.0 k (open_play plan s) b may
+step_counts plan s (Send h item ticket) k kind b may = sent_counts kind s h.0 k ticket (open_play plan s) b
+step_counts plan s (Reported r) k kind b may = reported_counts kind s r k (open_play plan s) b may
+step_counts plan s Turn k kind b may = turned_counts kind s k (open_play plan s) ∙ none_more (row_count kind s.rows k)
+step_counts plan s Close k kind b may = left_keeps kind s.rows k ∙ none_more (row_count kind s.rows k)
+step_counts plan s Stop k kind b may = none_more (row_count kind s.rows k)
+step_counts plan s (Forks n) k kind b may = none_more (row_count kind s.rows k)
 
 -- no event adds or drops a host
-changed_hosts : (s : State) (h : ℕ) (f : HostRow → HostRow) (found : Option HostRow) → length (option_map_or (λ row. slice_set s.rows h (f row)) found s.rows) ≡ length s.rows
-changed_hosts s h f None = refl
-changed_hosts s h f (Some row) = length-set s.rows h (f row)
+changed_hosts : (rows : List HostRow) (h : ℕ) (f : HostRow → HostRow) (found : Option HostRow) → length (option_map_or (λ row. slice_set rows h (f row)) found rows) ≡ length rows
+changed_hosts rows h f None = refl
+changed_hosts rows h f (Some row) = length-set rows h (f row)
+
+change_hosts : (rows : List HostRow) (h : ℕ) (f : HostRow → HostRow) → length (change rows h f) ≡ length rows
+change_hosts rows h f = changed_hosts rows h f (slice_get rows h)
 
 start_hosts : (s : State) (h : ℕ) (play : PlayOf) (place : Option ℕ) → length (option_map_or (start_at s h play) place s).rows ≡ length s.rows
 start_hosts s h play None = refl
-start_hosts s h play (Some p) = changed_hosts s h (finished play.tree p) (slice_get s.rows h)
+start_hosts s h play (Some p) = change_hosts s.rows h (started play.tree p (planned_at play.tasks p))
 
 started_hosts : (s : State) (h : ℕ) (found : Option PlayOf) → length (option_map_or (started_in s h) found s).rows ≡ length s.rows
 started_hosts s h None = refl
 started_hosts s h (Some play) = start_hosts s h play s.place
+
+sent_hosts : (s : State) (h : ℕ) (ticket : Ticket) (found : Option PlayOf) → length (option_map_or (sent_in s h ticket) found s).rows ≡ length s.rows
+sent_hosts s h ticket None = refl
+sent_hosts s h ticket (Some play) = change_hosts s.rows h (sent ticket)
+
+reported_hosts : (s : State) (r : Report) (found : Option PlayOf) → length (option_map_or (reported_in s r) found s).rows ≡ length s.rows
+reported_hosts s r None = refl
+reported_hosts s r (Some play) = change_hosts s.rows r.host.0 (reported play.tree r.outcome)
 
 opened_hosts : (s : State) (found : Option PlayOf) → length (option_map_or (opened_in s (map joined s.rows)) found s).rows ≡ length s.rows
 opened_hosts s None = refl
@@ -154,18 +209,34 @@ turned_hosts s (Some play) = refl
 step_hosts : (plan : PlanOf) (s : State) (e : Event) → length (after plan s e).rows ≡ length s.rows
 step_hosts plan s Open = opened_hosts s (slice_get plan.plays s.play)
 step_hosts plan s (Start h) = started_hosts s h.0 (open_play plan s)
+step_hosts plan s (Send h item ticket) = sent_hosts s h.0 ticket (open_play plan s)
+step_hosts plan s (Reported r) = reported_hosts s r (open_play plan s)
 step_hosts plan s Turn = turned_hosts s (open_play plan s)
 step_hosts plan s Close = length-map s.rows left
+step_hosts plan s Stop = refl
+step_hosts plan s (Forks n) = refl
 
 trail_hosts : (plan : PlanOf) (s : State) (trail : List Event) → length (state_from plan s trail).rows ≡ length s.rows
 trail_hosts plan s [] = refl
 trail_hosts plan s (e ∷ es) = trail_hosts plan (after plan s e) es ∙ step_hosts plan s e
 
-trail_counts : (plan : PlanOf) (s : State) (trail : List Event) (k : ℕ) (kind : CountKind) → k < length s.rows
+both_left : (a b : Bool) → (a && b) ≡ true → a ≡ true
+both_left true b e = refl
+both_left false b e = cc
+
+both_right : (a b : Bool) → (a && b) ≡ true → b ≡ true
+both_right true b e = e
+both_right false b e = cc
+
+trail_counts : (plan : PlanOf) (s : State) (trail : List Event) (k : ℕ) (kind : CountKind) → legal_from plan s trail ≡ true → k < length s.rows
     → row_count kind (state_from plan s trail).rows k ≡ count_from plan s trail k kind + row_count kind s.rows k
-trail_counts plan s [] k kind b = omega arith
-trail_counts plan s (e ∷ es) k kind b =
-    omega (arith, trail_counts plan (after plan s e) es k kind (omega (arith, step_hosts plan s e, b)), step_counts plan s e k kind b)
+trail_counts plan s [] k kind legal b = omega arith
+trail_counts plan s (e ∷ es) k kind legal b =
+    omega (
+      arith,
+      trail_counts plan (after plan s e) es k kind (both_right (possible plan s e) _ legal) (omega (arith, step_hosts plan s e, b)),
+      step_counts plan s e k kind b (both_left (possible plan s e) _ legal),
+    )
 
 none_first : (n k : ℕ) (kind : CountKind) → row_count kind (replicate n first_row) k ≡ 0
 none_first zero k kind = refl
@@ -198,13 +269,14 @@ each_host plan s trail (row ∷ rows) (host ∷ hosts) h e f =
     λ k kind b. f (suc k) kind (omega (arith, b)) ∙ ap (λ n. count_from plan s trail n kind) (let at : h + suc k ≡ (h + 1) + k = omega arith in at) in
     rw (of_counts row.counts plan s trail h here, each_host plan s trail rows hosts (h + 1) (omega (arith, e)) later) refl
 
-run_counts : (plan : PlanOf) (pool : ℕ) (trail : List Event) → map (λ (row : HostRow). row.counts) (state_from plan (first_state plan plan.forks pool) trail).rows ≡ recap plan pool trail
-run_counts plan pool trail =
+run_counts : (plan : PlanOf) (pool : ℕ) (trail : List Event) → legal_from plan (first_state plan plan.forks pool) trail ≡ true
+    → map (λ (row : HostRow). row.counts) (state_from plan (first_state plan plan.forks pool) trail).rows ≡ recap plan pool trail
+run_counts plan pool trail legal =
     let s : State = first_state plan plan.forks pool in
     let hosts : length (state_from plan s trail).rows ≡ length plan.hosts = trail_hosts plan s trail ∙ length-replicate (length plan.hosts) first_row in
     each_host plan s trail (state_from plan s trail).rows plan.hosts 0 hosts
-    (λ k kind b. omega (arith, trail_counts plan s trail k kind (omega (arith, b, trail_hosts plan s trail)), none_first (length plan.hosts) k kind, ap (λ n. count_from plan s trail n kind) (let at : 0 + k ≡ k = omega arith in at)))
+    (λ k kind b. omega (arith, trail_counts plan s trail k kind legal (omega (arith, b, trail_hosts plan s trail)), none_first (length plan.hosts) k kind, ap (λ n. count_from plan s trail n kind) (let at : 0 + k ≡ k = omega arith in at)))
 
--- the counts at the end of a run are the recap of its events
+-- the counts at the end of a legal run are the recap of its events
 pub recap_of_run : (plan : PlanOf) (pool : ℕ) (trail : List Event) (s : State) → IsRun plan pool trail s → map (λ (row : HostRow). row.counts) s.rows ≡ recap plan pool trail
-recap_of_run plan pool trail s run = ap (λ (t : State). map (λ (row : HostRow). row.counts) t.rows) (sym run.ends) ∙ run_counts plan pool trail
+recap_of_run plan pool trail s run = ap (λ (t : State). map (λ (row : HostRow). row.counts) t.rows) (sym run.ends) ∙ run_counts plan pool trail run.legal

@@ -1,3 +1,4 @@
 pub mod Hosts
 pub mod NoFloat
+pub mod Formed
 pub mod Counted

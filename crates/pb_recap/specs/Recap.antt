@@ -1,63 +1,68 @@
 -- The recap, counted from scratch: which tasks the events of a run finish, and how each of them counts
 -- (Ansible's documentation, "Return Values").
-use Rattle.std.specs.Prelude.{ℕ, ◌+◌, ◌==◌, Bool, false, ◌&&◌, ◌||◌, not, List, [], ◌∷◌, codes, Option, Some, None, if◌then◌else◌}
-use Rattle.pb_value.specs.Datum.{Datum, boolean, dict, value_at, entries_of}
+use Rattle.std.specs.Prelude.{ℕ, ◌+◌, ◌==◌, Bool, false, ◌&&◌, ◌||◌, not, List, [], ◌∷◌, Option, Some, None, option_map, if◌then◌else◌}
+use Rattle.std.specs.Option.{option_map_or}
+use Rattle.pb_outcome.specs.declared.gather.TaskResult.{TaskResult}
+use Rattle.pb_state.specs.declared.decided.Decided.{Decided}
+use Rattle.pb_state.specs.declared.decided.Done.{Done}
 use Rattle.pb_state.specs.declared.event.Event.{Event}
-use Rattle.pb_state.specs.declared.event.Event.TheVariants.{Open, Start, Turn, Close}
+use Rattle.pb_state.specs.declared.event.Event.TheVariants.{Open, Start, Send, Report as Reported, Turn, Close, Stop, Forks}
 use Rattle.pb_state.specs.declared.row.Counts.{Counts}
-use Rattle.pb_state.specs.Plan.{PlayOf, PlanOf}
+use Rattle.pb_state.specs.Plan.{PlanOf}
 use Rattle.pb_state.specs.State.{State}
-use Rattle.pb_state.specs.Results.{result_at}
-use Rattle.pb_state.specs.Machine.{open_play, after, first_state}
+use Rattle.pb_state.specs.Machine.{after, first_state}
 use Rattle.pb_recap.specs.declared.kind.CountKind.{CountKind}
 use Rattle.pb_recap.specs.declared.kind.CountKind.TheVariants.{Okay, Changed, Unreachable, Failed, Skipped, Rescued, Ignored}
 
--- a finished task: the host's number, and the result there
+-- a finished task: the host's number, and how the task ended there
 pub record FinishedTask : Type 0 where
   pub host : ℕ
-  pub result : Datum
+  pub task : TaskResult
 
-abbrev pub finished_at : ℕ → PlayOf → Option ℕ → Option FinishedTask
-finished_at h play None = None
-finished_at h play (Some p) = Some (record { host = h; result = result_at play.tasks p })
+abbrev pub by_host : ℕ → Done → FinishedTask
+by_host h done = record { host = h; task = done.task }
 
-abbrev pub finished_in : ℕ → Option ℕ → Option PlayOf → Option FinishedTask
-finished_in h place None = None
-finished_in h place (Some play) = finished_at h play place
+abbrev pub ended_by : ℕ → Decided → Option FinishedTask
+ended_by h decided = option_map (by_host h) decided.done
 
--- the task that an event finishes: a task is decided as it starts, at the place where the batch is
+-- the task of a host that the step to a state ended: the step says how, if it ended one
+abbrev pub ended_in : State → ℕ → Option FinishedTask
+ended_in s h = option_map_or (ended_by h) s.decided None
+
+-- the task that an event finished, by the state after it: a task ends as it starts, or with the report that it waited for
+abbrev pub finished_in : State → Event → Option FinishedTask
+finished_in s Open = None
+finished_in s (Start h) = ended_in s h.0
+finished_in s (Send h item ticket) = None
+finished_in s (Reported r) = ended_in s r.host.0
+finished_in s Turn = None
+finished_in s Close = None
+finished_in s Stop = None
+finished_in s (Forks n) = None
+
 abbrev pub finishes : PlanOf → State → Event → Option FinishedTask
-finishes plan s Open = None
-finishes plan s (Start h) = finished_in h.0 s.place (open_play plan s)
-finishes plan s Turn = None
-finishes plan s Close = None
-
--- whether a result says true under a key
-abbrev pub is_true : Option Datum → Bool
-is_true (Some (boolean b)) = b
-is_true found = false
-
-abbrev pub says : List ℕ → Datum → Bool
-says key (dict members) = is_true (value_at key (entries_of members))
-says key result = false
+finishes plan s e = finished_in (after plan s e) e
 
 -- neither failed, skipped nor unreachable
-abbrev pub is_okay : Datum → Bool
-is_okay result = not (says (codes "failed") result || says (codes "skipped") result || says (codes "unreachable") result)
+abbrev pub went_well : TaskResult → Bool
+went_well task = not (task.failed || task.skipped || task.unreachable)
 
--- how a finished task counts: no task is told to ignore its failure, and no block rescues one
-abbrev pub counts_under : CountKind → Datum → Bool
-counts_under Okay result = is_okay result
-counts_under Changed result = is_okay result && says (codes "changed") result
-counts_under Unreachable result = says (codes "unreachable") result
-counts_under Failed result = says (codes "failed") result
-counts_under Skipped result = says (codes "skipped") result
-counts_under Rescued result = false
-counts_under Ignored result = false
+abbrev pub is_ignored : TaskResult → Bool
+is_ignored task = task.failed && task.ignored
+
+-- how a finished task counts; no play has blocks yet, so that none rescues a failure
+abbrev pub counts_under : CountKind → TaskResult → Bool
+counts_under Okay task = went_well task || is_ignored task
+counts_under Changed task = (went_well task || is_ignored task) && task.changed
+counts_under Unreachable task = task.unreachable
+counts_under Failed task = task.failed && not task.ignored
+counts_under Skipped task = task.skipped
+counts_under Rescued task = false
+counts_under Ignored task = is_ignored task
 
 abbrev pub counted : ℕ → CountKind → Option FinishedTask → ℕ
 counted h kind None = 0
-counted h kind (Some task) = if task.host == h && counts_under kind task.result then 1 else 0
+counted h kind (Some task) = if task.host == h && counts_under kind task.task then 1 else 0
 
 -- how many tasks of a host that events finish, from a state on, count under a kind
 abbrev pub count_from : PlanOf → State → List Event → ℕ → CountKind → ℕ

@@ -1,16 +1,23 @@
 -- Worked recaps.
-use Rattle.std.specs.Prelude.{◌≡◌, ⊤, ℕ, List, [], ◌∷◌, ◌++◌, codes, refl}
+use Rattle.std.specs.Prelude.{◌≡◌, ⊤, ℕ, pos, true, false, List, [], ◌∷◌, ◌++◌, codes, refl}
 use Rattle.std.specs.Fmt.{digits}
 use Rattle.serde_json.proofs.OnLiterals.{serde_json_on_literals}
 use Rattle.pb_value.specs.Datum.{text}
-use Rattle.pb_play.specs.declared.modules.Module.TheVariants.{Debug}
-use Rattle.pb_state.specs.declared.event.Event.TheVariants.{Open, Start, Turn, Close}
+use Rattle.pb_outcome.specs.declared.gather.TaskResult.{TaskResult}
+use Rattle.pb_outcome.specs.declared.outcome.Form.{Form}
+use Rattle.pb_outcome.specs.declared.outcome.Form.TheVariants.{Ran, Unreachable as NoAnswer}
+use Rattle.pb_play.specs.declared.modules.Module.TheVariants.{Debug, Shell}
+use Rattle.pb_state.specs.declared.event.Event.{Event}
+use Rattle.pb_state.specs.declared.event.Event.TheVariants.{Open, Start, Send, Report as Reported, Turn, Close}
 use Rattle.pb_state.specs.declared.row.Counts.{Counts}
 use Rattle.pb_state.specs.Bundle.{tree_for}
 use Rattle.pb_state.specs.Plan.{PlanOf}
+use Rattle.pb_state.specs.Machine.{first_state}
 use Rattle.pb_state.specs.Row.{none_counted}
+use Rattle.pb_state.specs.Run.{legal_from}
+use Rattle.pb_recap.specs.declared.kind.CountKind.TheVariants.{Okay, Changed, Unreachable, Failed, Ignored}
 use Rattle.pb_recap.specs.Kinds.{status_of}
-use Rattle.pb_recap.specs.Recap.{recap}
+use Rattle.pb_recap.specs.Recap.{recap, counts_under}
 use Rattle.pb_recap.specs.Text.{recap_text}
 use Rattle.pb_recap.specs.Stats.{stats_line, line_data}
 
@@ -78,3 +85,65 @@ status_of_loss = refl
 
 status_of_good : status_of (one_okay ∷ none_counted ∷ []) ≡ 0
 status_of_good = refl
+
+-- a command on both hosts, and then a message
+abbrev commanded : PlanOf
+commanded =
+    record {
+      hosts = codes "a" ∷ codes "b" ∷ [];
+      plays = record {
+        name = codes "all";
+        tree = tree_for 0 2 0;
+        tasks = record { name = codes "one"; «module» = Shell (codes "true") } ∷ record { name = codes "two"; «module» = Debug (text (codes "hello")) } ∷ [];
+      } ∷ [];
+      forks = 5;
+    }
+
+abbrev comes : ℕ → Form → Event
+comes h outcome = Reported (record { ticket = record { 0 = h }; host = record { 0 = h }; item = 0; outcome = outcome })
+
+-- the first host's command goes well, and the second's so
+abbrev ends_so : Form → List Event
+ends_so outcome =
+    Open ∷ Start (record { 0 = 0 }) ∷ Send (record { 0 = 0 }) 0 (record { 0 = 0 }) ∷ Start (record { 0 = 1 }) ∷ Send (record { 0 = 1 }) 0 (record { 0 = 1 })
+    ∷ comes 0 (Ran (pos 0) [] []) ∷ comes 1 outcome ∷ Turn ∷ Start (record { 0 = 0 }) ∷ Turn ∷ Close ∷ []
+
+may_end_so : legal_from commanded (first_state commanded 5 5) (ends_so (Ran (pos 1) [] [])) ≡ true
+may_end_so = refl
+
+-- a host whose task failed takes no further part
+with_a_failure : recap commanded 5 (ends_so (Ran (pos 1) [] [])) ≡ record none_counted { ok = 2; changed = 1 } ∷ one_failed ∷ []
+with_a_failure = refl
+
+with_a_loss : recap commanded 5 (ends_so (NoAnswer (codes "no route"))) ≡ record none_counted { ok = 2; changed = 1 } ∷ one_lost ∷ []
+with_a_loss = refl
+
+-- as long as a job is out its task counts nowhere
+still_out : recap commanded 5 (Open ∷ Start (record { 0 = 0 }) ∷ Send (record { 0 = 0 }) 0 (record { 0 = 0 }) ∷ []) ≡ none_counted ∷ none_counted ∷ []
+still_out = refl
+
+-- a failure that is ignored counts as a task that went well, and as ignored
+abbrev ignored_change : TaskResult
+ignored_change = record { unreachable = false; failed = true; skipped = false; changed = true; ignored = true }
+
+ignored_is_okay : counts_under Okay ignored_change ≡ true
+ignored_is_okay = refl
+
+ignored_is_changed : counts_under Changed ignored_change ≡ true
+ignored_is_changed = refl
+
+ignored_is_ignored : counts_under Ignored ignored_change ≡ true
+ignored_is_ignored = refl
+
+ignored_is_no_failure : counts_under Failed ignored_change ≡ false
+ignored_is_no_failure = refl
+
+-- what changed before the host was lost isn't counted
+abbrev lost_after_change : TaskResult
+lost_after_change = record { unreachable = true; failed = false; skipped = false; changed = true; ignored = false }
+
+lost_is_unreachable : counts_under Unreachable lost_after_change ≡ true
+lost_is_unreachable = refl
+
+lost_is_not_changed : counts_under Changed lost_after_change ≡ false
+lost_is_not_changed = refl

@@ -3,8 +3,10 @@
 ghost use Rattle.std.specs.Prelude.{◌≡◌, slice_get};
 ghost use Rattle.std.specs.Option.{option_copied};
 ghost use Rattle.pb_recap.specs.Kinds.{count_of, has_count};
+ghost use Rattle.pb_recap.specs.Recap.{counts_under};
 
 use pb_ids::HostNo;
+use pb_outcome::gather::TaskResult;
 use pb_state::Counts;
 
 /// What a finished task counts as (Ansible's documentation, "Return Values" and "Error handling in playbooks").
@@ -39,6 +41,24 @@ impl CountKind {
             CountKind::Skipped => counts.skipped,
             CountKind::Rescued => counts.rescued,
             CountKind::Ignored => counts.ignored,
+        }
+    }
+
+    /// Whether a finished task counts under this kind. A task counts as okay where it went well or its failure is
+    /// ignored, and as changed too where it changed something. No play has blocks yet, so that nothing is rescued.
+    pub fn counts(self, task: TaskResult) -> bool
+        ensures { result ≡ counts_under self task }
+    {
+        let is_ignored = task.failed && task.ignored;
+        let is_okay = is_ignored || !(task.failed || task.skipped || task.unreachable);
+        match self {
+            CountKind::Okay => is_okay,
+            CountKind::Changed => is_okay && task.changed,
+            CountKind::Unreachable => task.unreachable,
+            CountKind::Failed => task.failed && !task.ignored,
+            CountKind::Skipped => task.skipped,
+            CountKind::Rescued => false,
+            CountKind::Ignored => is_ignored,
         }
     }
 }

@@ -93,7 +93,11 @@ impl Recap {
 fn counts_of(alloc: Global, rows: &[Row]) -> Result<Vec<Counts>, AllocError>
     ensures { IfOk result (λ counts. counts.items ≡ map (λ (row : HostRow). row.counts) rows.now) }
 {
-    rows.iter().map(|row| row.counts()).collect(alloc)
+    let mut counts = Vec::with_capacity(alloc, rows.len())?;
+    for row in rows {
+        counts.push(row.counts())?;
+    }
+    Ok(counts)
 }
 
 /// Whether some host has a count of a kind.

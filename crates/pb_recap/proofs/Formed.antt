@@ -1,0 +1,50 @@
+-- How the result of one item counts: in the host's counts as in the recap from scratch.
+use Rattle.std.proofs.Common.{◌≡◌, ℕ, ◌+◌, Bool, true, false, ◌&&◌, ◌||◌, not, List, [], ◌∷◌, refl, arith}
+use Rattle.std.specs.Prelude.{if◌then◌else◌}
+use Rattle.std.specs.List.{list_any, list_all}
+use Rattle.pb_outcome.specs.declared.gather.ItemResult.{ItemResult}
+use Rattle.pb_outcome.specs.declared.gather.TaskResult.{TaskResult}
+use Rattle.pb_outcome.specs.Gathered.{some_unreachable, is_failed, is_skipped, is_changed, is_faulty, gathered}
+use Rattle.pb_state.specs.declared.row.Counts.{Counts}
+use Rattle.pb_state.specs.Row.{task_of, more, counted, is_okay}
+use Rattle.pb_recap.specs.declared.kind.CountKind.{CountKind}
+use Rattle.pb_recap.specs.declared.kind.CountKind.TheVariants.{Okay, Changed, Unreachable, Failed, Skipped, Rescued, Ignored}
+use Rattle.pb_recap.specs.Kinds.{count_of}
+use Rattle.pb_recap.specs.Recap.{went_well, is_ignored, counts_under}
+
+-- one or none
+abbrev pub one : Bool → ℕ
+one b = if b then 1 else 0
+
+more_is : (b : Bool) (n : ℕ) → more b n ≡ one b + n
+more_is true n = omega arith
+more_is false n = omega arith
+
+-- unreachable, else failed, else skipped; and ignored only where it failed
+abbrev formed : Bool → Bool → Bool → Bool → Bool → TaskResult
+formed u f s c i = record { unreachable = u; failed = not u && f; skipped = not u && (not (not u && f) && s); changed = c; ignored = (not u && f) && i }
+
+okay_formed : (u f s c i : Bool) → is_okay (formed u f s c i) ≡ (went_well (formed u f s c i) || is_ignored (formed u f s c i))
+okay_formed true f s c i = refl
+okay_formed false true s c true = refl
+okay_formed false true s c false = refl
+okay_formed false false true c i = refl
+okay_formed false false false c i = refl
+
+one_formed : (u f s c i : Bool) (counts : Counts) (kind : CountKind) → count_of kind (counted (formed u f s c i) counts) ≡ one (counts_under kind (formed u f s c i)) + count_of kind counts
+one_formed u f s c i counts Okay = rw (more_is, okay_formed u f s c i) refl
+one_formed u f s c i counts Changed = rw (more_is, okay_formed u f s c i) refl
+one_formed u f s c i counts Unreachable = more_is u counts.unreachable
+one_formed u f s c i counts Failed = more_is ((not u && f) && not ((not u && f) && i)) counts.failed
+one_formed u f s c i counts Skipped = more_is (not u && (not (not u && f) && s)) counts.skipped
+one_formed u f s c i counts Rescued = omega arith
+one_formed u f s c i counts Ignored = more_is ((not u && f) && ((not u && f) && i)) counts.ignored
+
+gathered_counts : (ignore : Bool) (items : List ItemResult) (counts : Counts) (kind : CountKind)
+    → count_of kind (counted (gathered ignore items) counts) ≡ one (counts_under kind (gathered ignore items)) + count_of kind counts
+gathered_counts ignore items counts kind =
+    one_formed (some_unreachable items) (list_any (λ (item : ItemResult). is_failed item.ending) items) (list_all (λ (item : ItemResult). is_skipped item.ending) items)
+    (list_any (λ (item : ItemResult). is_changed item.ending) items) (ignore && not (list_any (λ (item : ItemResult). is_faulty item.ending) items)) counts kind
+
+pub task_counts : (item : ItemResult) (counts : Counts) (kind : CountKind) → count_of kind (counted (task_of item) counts) ≡ one (counts_under kind (task_of item)) + count_of kind counts
+task_counts item counts kind = gathered_counts false (item ∷ []) counts kind
