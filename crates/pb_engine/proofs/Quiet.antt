@@ -1,15 +1,24 @@
--- A state in which no host is ready, and no turn, close or open is possible, is finished.
-use Rattle.std.proofs.Common.{◌≡◌, ℕ, Bool, true, false, ◌&&◌, ◌||◌, List, [], ◌∷◌, length, map, replicate, refl, zero, suc}
-use Rattle.std.specs.Prelude.{Option, Some, None, slice_get}
+-- A state in which no host is ready, and no turn, close or open is possible, is quiet; and finished, if no job is out.
+use Rattle.std.proofs.Common.{◌≡◌, ℕ, Bool, true, false, ◌&&◌, ◌||◌, not, List, [], ◌∷◌, length, map, replicate, refl, zero, suc, sym, ◌∙◌}
+use Rattle.std.specs.Prelude.{◌==◌, Option, Some, None, slice_get, is_some, is_none}
+use Rattle.std.specs.List.{list_any}
 use Rattle.std.specs.Option.{option_map_or}
 use Rattle.std.proofs.lemmas.List.{length-map, length-replicate}
+use Rattle.std.proofs.lemmas.Bool.{eq-eqb}
+use Rattle.pb_ids.specs.declared.numbers.HostNo.{HostNo}
+use Rattle.pb_ids.specs.declared.numbers.Ticket.{Ticket}
 use Rattle.pb_planes.specs.Set.{has_some}
-use Rattle.pb_state.specs.declared.event.Event.TheVariants.{Open, Start, Turn, Close}
+use Rattle.pb_state.specs.declared.event.Event.{Event}
+use Rattle.pb_state.specs.declared.event.Event.TheVariants.{Open, Start, Send, Report as Reported, Turn, Close, Stop, Forks}
+use Rattle.pb_state.specs.declared.row.Running.{Running}
+use Rattle.pb_outcome.specs.declared.job.Report.{Report}
 use Rattle.pb_state.specs.Plan.{PlayOf, PlanOf}
 use Rattle.pb_state.specs.Row.{HostRow}
 use Rattle.pb_state.specs.State.{State}
-use Rattle.pb_state.specs.Machine.{ready, ready_in, at_row, may_open, may_start_in, may_turn_in, may_close_in, has_room, stands_at, open_play}
-use Rattle.pb_state.specs.Run.{IsFinished}
+use Rattle.pb_state.specs.Machine.{possible, ready, ready_in, is_ready, at_row, may_open, may_start_in, may_send_in, may_send_item, may_report_in, may_turn_in, may_close_in, has_room, has_send, has_ticket, is_ticket, is_out, awaits, stands_at, open_play}
+use Rattle.pb_state.specs.Run.{is_move, is_command, IsQuiet, IsFinished}
+use Rattle.pb_engine.specs.declared.choice.Choice.TheVariants.{Take}
+use Rattle.pb_engine.specs.Choice.{IsChoice, host_of}
 
 or_left : (a b : Bool) → (a || b) ≡ false → a ≡ false
 or_left true b e = e
@@ -19,38 +28,137 @@ or_right : (a b : Bool) → (a || b) ≡ false → b ≡ false
 or_right true b e = cc
 or_right false b e = e
 
--- a test that no row passes fails at each
-none_at : (room : Bool) (q : HostRow → Bool) (rows : List HostRow) (h : ℕ) → has_some (map (λ row. room && q row) rows) ≡ false → (room && at_row q rows h) ≡ false
-none_at false q rows h e = refl
-none_at true q [] h e = refl
-none_at true q (row ∷ rows) zero e = or_left (q row) (has_some (map q rows)) e
-none_at true q (row ∷ rows) (suc h) e = none_at true q rows h (or_right (q row) (has_some (map q rows)) e)
+and_left : (a b : Bool) → (a && b) ≡ true → a ≡ true
+and_left true b e = refl
+and_left false b e = cc
 
--- a row that passes a test is one at which it holds
-some_at : (room : Bool) (q : HostRow → Bool) (rows : List HostRow) (h : ℕ) → slice_get (map (λ row. room && q row) rows) h ≡ Some true → (room && at_row q rows h) ≡ true
-some_at room q [] h e = cc
-some_at room q (row ∷ rows) zero e = held (room && q row) e
+and_right : (a b : Bool) → (a && b) ≡ true → b ≡ true
+and_right true b e = e
+and_right false b e = cc
+
+and_false : (a : Bool) → (a && false) ≡ false
+and_false true = refl
+and_false false = refl
+
+-- a test that implies one that no row passes fails at each
+none_at : (p q : HostRow → Bool) → ((row : HostRow) → q row ≡ false → p row ≡ false) → (rows : List HostRow) (h : ℕ) → has_some (map q rows) ≡ false → at_row p rows h ≡ false
+none_at p q imp [] h e = refl
+none_at p q imp (row ∷ rows) zero e = imp row (or_left (q row) (has_some (map q rows)) e)
+none_at p q imp (row ∷ rows) (suc h) e = none_at p q imp rows h (or_right (q row) (has_some (map q rows)) e)
+
+none_starts : (s : State) (play : PlayOf) (h : ℕ) (room : Bool) → has_room s ≡ room → has_some (ready_in s play) ≡ false → (room && at_row (stands_at play.tree s.place) s.rows h) ≡ false
+none_starts s play h false r e = refl
+none_starts s play h true r e =
+    none_at (stands_at play.tree s.place) (is_ready (not s.stopped) (has_room s) play.tree s.place)
+    (λ row q. let free : (true && stands_at play.tree s.place row) ≡ false = rw r at (or_right (not s.stopped && has_send row) (has_room s && stands_at play.tree s.place row) q) in free) s.rows h e
+
+none_starts_in : (s : State) (h : ℕ) (found : Option PlayOf) → has_some (option_map_or (ready_in s) found (replicate (length s.rows) false)) ≡ false → option_map_or (may_start_in s h) found false ≡ false
+none_starts_in s h None e = refl
+none_starts_in s h (Some play) e = none_starts s play h (has_room s) refl e
+
+none_sends : (s : State) (play : PlayOf) (h item : ℕ) (stopped : Bool) → s.stopped ≡ stopped → has_some (ready_in s play) ≡ false → (not stopped && at_row (may_send_item item) s.rows h) ≡ false
+none_sends s play h item true st e = refl
+none_sends s play h item false st e =
+    none_at (may_send_item item) (is_ready (not s.stopped) (has_room s) play.tree s.place)
+    (λ row q. let free : (true && has_send row) ≡ false = rw st at (or_left (not s.stopped && has_send row) (has_room s && stands_at play.tree s.place row) q) in rw free (and_false (item == 0))) s.rows h e
+
+no_send : (a b c : Bool) → (a && c) ≡ false → (a && b && c) ≡ false
+no_send false b c e = refl
+no_send true true c e = e
+no_send true false c e = refl
+
+none_sends_in : (s : State) (h item : ℕ) (ticket : Ticket) (found : Option PlayOf) → has_some (option_map_or (ready_in s) found (replicate (length s.rows) false)) ≡ false → option_map_or (may_send_in s h item ticket) found false ≡ false
+none_sends_in s h item ticket None e = refl
+none_sends_in s h item ticket (Some play) e = no_send (not s.stopped) (ticket.0 == s.sends) (at_row (may_send_item item) s.rows h) (none_sends s play h item s.stopped refl e)
+
+pub quiet : (plan : PlanOf) (s : State) → has_some (ready plan s) ≡ false → option_map_or (may_turn_in s) (open_play plan s) false ≡ false → option_map_or (may_close_in s) (open_play plan s) false ≡ false → may_open plan s ≡ false → IsQuiet plan s
+quiet plan s r t c o Open m = o
+quiet plan s r t c o (Start h) m = none_starts_in s h.0 (open_play plan s) r
+quiet plan s r t c o (Send h item ticket) m = none_sends_in s h.0 item ticket (open_play plan s) r
+quiet plan s r t c o (Reported report) m = cc
+quiet plan s r t c o Turn m = t
+quiet plan s r t c o Close m = c
+quiet plan s r t c o Stop m = cc
+quiet plan s r t c o (Forks n) m = cc
+
+-- where no job is out, no report is waited for
+any_none : (p q : HostRow → Bool) → ((row : HostRow) → q row ≡ false → p row ≡ false) → (rows : List HostRow) (h : ℕ) → list_any q rows ≡ false → at_row p rows h ≡ false
+any_none p q imp [] h e = refl
+any_none p q imp (row ∷ rows) zero e = imp row (or_left (q row) (list_any q rows) e)
+any_none p q imp (row ∷ rows) (suc h) e = any_none p q imp rows h (or_right (q row) (list_any q rows) e)
+
+no_ticket : (ticket : Ticket) (out : Option Ticket) → is_some out ≡ false → is_ticket ticket out ≡ false
+no_ticket ticket None e = refl
+no_ticket ticket (Some t) e = cc
+
+none_awaits : (ticket : Ticket) (item : ℕ) (running : Option Running) → option_map_or (λ (r : Running). is_some r.out) running false ≡ false → ((item == 0) && option_map_or (λ (r : Running). is_ticket ticket r.out) running false) ≡ false
+none_awaits ticket item None e = and_false (item == 0)
+none_awaits ticket item (Some r) e = rw (no_ticket ticket r.out e) (and_false (item == 0))
+
+none_reports : (s : State) (r : Report) (found : Option PlayOf) → list_any is_out s.rows ≡ false → option_map_or (may_report_in s r) found false ≡ false
+none_reports s r None e = refl
+none_reports s r (Some play) e = any_none (awaits r.ticket r.item) is_out (λ row e. none_awaits r.ticket r.item row.running e) s.rows r.host.0 e
+
+over_at : (plan : PlanOf) (s : State) → IsQuiet plan s → list_any is_out s.rows ≡ false → (e : Event) → is_command e ≡ false → possible plan s e ≡ false
+over_at plan s q out Open m = q Open refl
+over_at plan s q out (Start h) m = q (Start h) refl
+over_at plan s q out (Send h item ticket) m = q (Send h item ticket) refl
+over_at plan s q out Turn m = q Turn refl
+over_at plan s q out Close m = q Close refl
+over_at plan s q out (Reported r) m = none_reports s r (open_play plan s) out
+over_at plan s q out Stop m = cc
+over_at plan s q out (Forks n) m = cc
+
+pub finished_now : (plan : PlanOf) (s : State) → has_some (ready plan s) ≡ false → option_map_or (may_turn_in s) (open_play plan s) false ≡ false → option_map_or (may_close_in s) (open_play plan s) false ≡ false → may_open plan s ≡ false → list_any is_out s.rows ≡ false → IsFinished plan s
+finished_now plan s r t c o out = record { over = over_at plan s (quiet plan s r t c o) out; none_out = out }
+
+-- a host that is ready has a send, or a start
+some_at : (q : HostRow → Bool) (rows : List HostRow) (h : ℕ) → slice_get (map q rows) h ≡ Some true → at_row q rows h ≡ true
+some_at q [] h e = cc
+some_at q (row ∷ rows) zero e = held (q row) e
   where
     held : (b : Bool) → Some b ≡ Some true → b ≡ true
     held true e = refl
     held false e = cc
-some_at room q (row ∷ rows) (suc h) e = some_at room q rows h e
+some_at q (row ∷ rows) (suc h) e = some_at q rows h e
 
 none_of : (n h : ℕ) → slice_get (replicate n false) h ≡ Some true → false ≡ true
 none_of zero h e = cc
 none_of (suc n) zero e = cc
 none_of (suc n) (suc h) e = none_of n h e
 
-ready_there : (s : State) (h : ℕ) (found : Option PlayOf) → slice_get (option_map_or (ready_in s) found (replicate (length s.rows) false)) h ≡ Some true → option_map_or (may_start_in s h) found false ≡ true
-ready_there s h None e = none_of (length s.rows) h e
-ready_there s h (Some play) e = some_at (has_room s) (stands_at play.tree s.place) s.rows h e
+either : (a b c : Bool) → ((a && b) || c) ≡ true → (a && b) ≡ false → c ≡ true
+either true true c e f = cc
+either true false c e f = e
+either false b c e f = e
 
-pub ready_at : (plan : PlanOf) (s : State) (h : ℕ) → slice_get (ready plan s) h ≡ Some true → option_map_or (may_start_in s h) (open_play plan s) false ≡ true
-ready_at plan s h e = ready_there s h (open_play plan s) e
+starts_at : (sends room : Bool) (send start : HostRow → Bool) (rows : List HostRow) (h : ℕ) → at_row (λ row. (sends && send row) || (room && start row)) rows h ≡ true → (sends && at_row send rows h) ≡ false → (room && at_row start rows h) ≡ true
+starts_at sends room send start [] h e f = cc
+starts_at sends room send start (row ∷ rows) zero e f = either sends (send row) (room && start row) e f
+starts_at sends room send start (row ∷ rows) (suc h) e f = starts_at sends room send start rows h e f
 
-none_ready : (s : State) (h : ℕ) (found : Option PlayOf) → has_some (option_map_or (ready_in s) found (replicate (length s.rows) false)) ≡ false → option_map_or (may_start_in s h) found false ≡ false
-none_ready s h None e = refl
-none_ready s h (Some play) e = none_at (has_room s) (stands_at play.tree s.place) s.rows h e
+first_item : (rows : List HostRow) (h : ℕ) → at_row (may_send_item 0) rows h ≡ at_row has_send rows h
+first_item [] h = refl
+first_item (row ∷ rows) zero = refl
+first_item (row ∷ rows) (suc h) = first_item rows h
+
+no_start : (a b c : Bool) → b ≡ true → (a && b && c) ≡ false → (a && c) ≡ false
+no_start true true c b e = e
+no_start true false c b e = cc
+no_start false b c d e = refl
+
+start_in : (s : State) (play : PlayOf) (h : ℕ) (ticket : Ticket) → ticket.0 ≡ s.sends → slice_get (ready_in s play) h ≡ Some true → may_send_in s h 0 ticket play ≡ false → may_start_in s h play ≡ true
+start_in s play h ticket t e f =
+    let unsent : (not s.stopped && at_row has_send s.rows h) ≡ false = rw (← first_item s.rows h) (no_start (not s.stopped) (ticket.0 == s.sends) (at_row (may_send_item 0) s.rows h) (eq-eqb ticket.0 s.sends t) f) in
+    starts_at (not s.stopped) (has_room s) has_send (stands_at play.tree s.place) s.rows h (some_at (is_ready (not s.stopped) (has_room s) play.tree s.place) s.rows h e) unsent
+
+ready_there : (s : State) (h : ℕ) (ticket : Ticket) (found : Option PlayOf) → ticket.0 ≡ s.sends → slice_get (option_map_or (ready_in s) found (replicate (length s.rows) false)) h ≡ Some true → option_map_or (may_send_in s h 0 ticket) found false ≡ false → option_map_or (may_start_in s h) found false ≡ true
+ready_there s h ticket None t e f = none_of (length s.rows) h e
+ready_there s h ticket (Some play) t e f = start_in s play h ticket t e f
+
+-- a host that is ready and has no send may start
+pub ready_starts : (plan : PlanOf) (s : State) (h : ℕ) (ticket : Ticket) → ticket.0 ≡ s.sends → slice_get (ready plan s) h ≡ Some true → option_map_or (may_send_in s h 0 ticket) (open_play plan s) false ≡ false → option_map_or (may_start_in s h) (open_play plan s) false ≡ true
+ready_starts plan s h ticket t e f = ready_there s h ticket (open_play plan s) t e f
 
 length_of : (s : State) (found : Option PlayOf) → length (option_map_or (ready_in s) found (replicate (length s.rows) false)) ≡ length s.rows
 length_of s None = length-replicate (length s.rows) false
@@ -59,8 +167,13 @@ length_of s (Some play) = length-map s.rows _
 pub length_ready : (plan : PlanOf) (s : State) → length (ready plan s) ≡ length s.rows
 length_ready plan s = length_of s (open_play plan s)
 
-pub finished_now : (plan : PlanOf) (s : State) → has_some (ready plan s) ≡ false → option_map_or (may_turn_in s) (open_play plan s) false ≡ false → option_map_or (may_close_in s) (open_play plan s) false ≡ false → may_open plan s ≡ false → IsFinished plan s
-finished_now plan s r t c o Open = o
-finished_now plan s r t c o (Start h) = none_ready s h.0 (open_play plan s) r
-finished_now plan s r t c o Turn = t
-finished_now plan s r t c o Close = c
+-- what a host that was picked does is chosen
+pub picked : {P : Type 0} (plan : PlanOf) (s : State) (picks : P → List Bool → ℕ → P → Type 0) (old new : P) (host : HostNo) (e : Event) → slice_get (ready plan s) host.0 ≡ Some true → picks old (ready plan s) host.0 new → possible plan s e ≡ true → host_of e ≡ Some host → IsChoice plan s picks old new (Take e)
+picked plan s picks old new host Open here pick may is = cc
+picked plan s picks old new host (Start h) here pick may is = let same : h ≡ host = cc in (may, refl, (rw same here, rw same pick))
+picked plan s picks old new host (Send h item ticket) here pick may is = let same : h ≡ host = cc in (may, refl, (rw same here, rw same pick))
+picked plan s picks old new host (Reported r) here pick may is = cc
+picked plan s picks old new host Turn here pick may is = cc
+picked plan s picks old new host Close here pick may is = cc
+picked plan s picks old new host Stop here pick may is = cc
+picked plan s picks old new host (Forks n) here pick may is = cc

@@ -1,23 +1,73 @@
 -- A run is never stuck.
-use Rattle.std.proofs.Common.{◌≡◌, ◌⊎◌, inl, inr, ℕ, ◌<◌, Bool, true, false, ◌&&◌, ◌||◌, not, List, [], ◌∷◌, length, map, replicate, refl, sym, ◌∙◌, ap, subst}
-use Rattle.std.specs.Prelude.{Option, Some, None, slice_get, nat_lt, is_some, is_none}
+use Rattle.std.proofs.Common.{◌≡◌, ◌⊎◌, inl, inr, ℕ, ◌<◌, Bool, true, false, ◌&&◌, ◌||◌, not, List, [], ◌∷◌, length, map, replicate, refl, sym, ◌∙◌, ap, subst, arith, zero, suc}
+use Rattle.std.specs.Prelude.{◌==◌, Option, Some, None, slice_get, slice_set, nat_lt, is_some, is_none, count_by, if◌then◌else◌}
 use Rattle.std.specs.List.{list_any}
 use Rattle.std.specs.Option.{option_map_or}
 use Rattle.std.proofs.lemmas.Bool.{lt-ltb}
 use Rattle.pb_planes.specs.Set.{has_some}
+use Rattle.pb_ids.specs.declared.numbers.Ticket.{Ticket}
+use Rattle.pb_outcome.specs.declared.job.Report.{Report}
+use Rattle.pb_outcome.specs.declared.outcome.Form.{Form}
+use Rattle.pb_tree.specs.declared.tree.Status.{Status}
 use Rattle.pb_state.specs.declared.event.Event.{Event}
-use Rattle.pb_state.specs.declared.event.Event.TheVariants.{Open, Start, Turn, Close}
+use Rattle.pb_state.specs.declared.event.Event.TheVariants.{Open, Start, Send, Report as Reported, Turn, Close, Stop, Forks}
+use Rattle.pb_state.specs.declared.row.Running.{Running}
 use Rattle.pb_state.specs.Plan.{PlayOf, PlanOf}
-use Rattle.pb_state.specs.Row.{HostRow, joined}
+use Rattle.pb_state.specs.Row.{HostRow, joined, sent, sent_running, reported, is_active}
 use Rattle.pb_state.specs.State.{State}
-use Rattle.pb_state.specs.Machine.{after, ready, ready_in, may_open, may_turn_in, may_close_in, has_room, is_host_active, stands_at, least_place, open_play, opened_in, started_in, start_at, turned_in, first_state}
-use Rattle.pb_state.specs.Run.{state_from, IsRun}
+use Rattle.pb_state.specs.Machine.{possible, after, change, at_row, ready, ready_in, is_ready, is_in, is_running, is_out, has_send, is_ticket, may_send_item, awaits, running_count, may_open, may_start_in, may_send_in, may_report_in, may_turn_in, may_close_in, has_room, is_host_active, stands_at, next_place, least_place, lesser, same_place, open_play, opened_in, started_in, start_at, sent_in, reported_in, turned_in, first_state}
+use Rattle.pb_state.specs.Run.{legal_from, state_from, IsRun}
 use Rattle.pb_engine.specs.Over.{IsOver, IsPlaced, IsPlacedIn}
 
--- each event keeps it that an open batch has its play and its least place
+and_left : (a b : Bool) → (a && b) ≡ true → a ≡ true
+and_left true b e = refl
+and_left false b e = cc
+
+and_right : (a b : Bool) → (a && b) ≡ true → b ≡ true
+and_right true b e = e
+and_right false b e = cc
+
+or_left : (a b : Bool) → (a || b) ≡ false → a ≡ false
+or_left true b e = e
+or_left false b e = refl
+
+or_right : (a b : Bool) → (a || b) ≡ false → b ≡ false
+or_right true b e = cc
+or_right false b e = e
+
+not_false : (b : Bool) → not b ≡ true → b ≡ false
+not_false true e = cc
+not_false false e = refl
+
+-- a host that has a send, or waits for a report, runs
+none_runs : (test : HostRow → Bool) → ((row : HostRow) → is_running row ≡ false → test row ≡ false) → (rows : List HostRow) (h : ℕ) → list_any is_running rows ≡ false → at_row test rows h ≡ false
+none_runs test idle [] h e = refl
+none_runs test idle (row ∷ rows) zero e = idle row (or_left (is_running row) (list_any is_running rows) e)
+none_runs test idle (row ∷ rows) (suc h) e = none_runs test idle rows h (or_right (is_running row) (list_any is_running rows) e)
+
+no_more : (a b c : Bool) → (a && b && c) ≡ true → c ≡ false → true ≡ false
+no_more a b c e f = let here = and_right (a && b) c e in cc
+
+and_false : (a : Bool) → (a && false) ≡ false
+and_false true = refl
+and_false false = refl
+
+idle_sends : (item : ℕ) (running : Option Running) → is_some running ≡ false → ((item == 0) && option_map_or (λ (r : Running). is_none r.out) running false) ≡ false
+idle_sends item None e = and_false (item == 0)
+idle_sends item (Some r) e = cc
+
+idle_awaits : (item : ℕ) (ticket : Ticket) (running : Option Running) → is_some running ≡ false → ((item == 0) && option_map_or (λ (r : Running). is_ticket ticket r.out) running false) ≡ false
+idle_awaits item ticket None e = and_false (item == 0)
+idle_awaits item ticket (Some r) e = cc
+
+-- each event keeps it that an open batch has its play, and its least place where no host runs
 opened_placed : (plan : PlanOf) (s : State) (found : Option PlayOf) → slice_get plan.plays s.play ≡ found → IsPlaced plan s → IsPlaced plan (option_map_or (opened_in s (map joined s.rows)) found s)
 opened_placed plan s None e placed = placed
-opened_placed plan s (Some play) e placed = rw e (λ none. none)
+opened_placed plan s (Some play) e placed = rw e (λ none. (none, idle s.rows))
+  where
+    idle : (rows : List HostRow) → list_any is_running (map joined rows) ≡ false
+    idle [] = refl
+    idle (row ∷ rows) = idle rows
 
 start_placed : (plan : PlanOf) (s : State) (h : ℕ) (play : PlayOf) (place : Option ℕ) → s.place ≡ place → open_play plan s ≡ Some play → IsPlaced plan s → IsPlaced plan (option_map_or (start_at s h play) place s)
 start_placed plan s h play None e here placed = placed
@@ -27,51 +77,102 @@ started_placed : (plan : PlanOf) (s : State) (h : ℕ) (found : Option PlayOf) �
 started_placed plan s h None here placed = placed
 started_placed plan s h (Some play) here placed = start_placed plan s h play s.place refl here placed
 
-turned_placed : (plan : PlanOf) (s : State) (found : Option PlayOf) → open_play plan s ≡ found → IsPlaced plan s → IsPlaced plan (option_map_or (turned_in s) found s)
-turned_placed plan s None here placed = placed
-turned_placed plan s (Some play) here placed = rw here (λ none. none)
+sent_placed : (plan : PlanOf) (s : State) (h item : ℕ) (ticket : Ticket) (found : Option PlayOf) → open_play plan s ≡ found → IsPlaced plan s → option_map_or (may_send_in s h item ticket) found false ≡ true → IsPlaced plan (option_map_or (sent_in s h ticket) found s)
+sent_placed plan s h item ticket None here placed may = placed
+sent_placed plan s h item ticket (Some play) here placed may =
+    rw here
+    (λ none.
+    let before : IsPlacedIn s (Some play) = rw here at placed in
+    let wrong = no_more (not s.stopped) (ticket.0 == s.sends) (at_row (may_send_item item) s.rows h) may (none_runs (may_send_item item) (λ row e. idle_sends item row.running e) s.rows h (before none).1) in
+    cc)
 
-step_placed : (plan : PlanOf) (s : State) (e : Event) → IsPlaced plan s → IsPlaced plan (after plan s e)
-step_placed plan s Open placed = opened_placed plan s (slice_get plan.plays s.play) refl placed
-step_placed plan s (Start h) placed = started_placed plan s h.0 (open_play plan s) refl placed
-step_placed plan s Turn placed = turned_placed plan s (open_play plan s) refl placed
-step_placed plan s Close placed = refl
+reported_placed : (plan : PlanOf) (s : State) (r : Report) (found : Option PlayOf) → open_play plan s ≡ found → IsPlaced plan s → option_map_or (may_report_in s r) found false ≡ true → IsPlaced plan (option_map_or (reported_in s r) found s)
+reported_placed plan s r None here placed may = placed
+reported_placed plan s r (Some play) here placed may =
+    rw here
+    (λ none.
+    let before : IsPlacedIn s (Some play) = rw here at placed in
+    let idle = none_runs (awaits r.ticket r.item) (λ row e. idle_awaits r.item r.ticket row.running e) s.rows r.host.0 (before none).1 in
+    cc)
 
-placed_from : (plan : PlanOf) (s : State) (es : List Event) → IsPlaced plan s → IsPlaced plan (state_from plan s es)
-placed_from plan s [] placed = placed
-placed_from plan s (e ∷ es) placed = placed_from plan (after plan s e) es (step_placed plan s e placed)
+turned_placed : (plan : PlanOf) (s : State) (found : Option PlayOf) → open_play plan s ≡ found → IsPlaced plan s → option_map_or (may_turn_in s) found false ≡ true → IsPlaced plan (option_map_or (turned_in s) found s)
+turned_placed plan s None here placed may = placed
+turned_placed plan s (Some play) here placed may =
+    let idle = not_false (list_any is_running s.rows) (and_right (not s.stopped && is_some s.place) _ (and_left _ _ may)) in
+    rw here (λ none. (none, idle))
+
+step_placed : (plan : PlanOf) (s : State) (e : Event) → possible plan s e ≡ true → IsPlaced plan s → IsPlaced plan (after plan s e)
+step_placed plan s Open may placed = opened_placed plan s (slice_get plan.plays s.play) refl placed
+step_placed plan s (Start h) may placed = started_placed plan s h.0 (open_play plan s) refl placed
+step_placed plan s (Send h item ticket) may placed = sent_placed plan s h.0 item ticket (open_play plan s) refl placed may
+step_placed plan s (Reported r) may placed = reported_placed plan s r (open_play plan s) refl placed may
+step_placed plan s Turn may placed = turned_placed plan s (open_play plan s) refl placed may
+step_placed plan s Close may placed = refl
+step_placed plan s Stop may placed = placed
+step_placed plan s (Forks n) may placed = placed
+
+placed_from : (plan : PlanOf) (s : State) (es : List Event) → legal_from plan s es ≡ true → IsPlaced plan s → IsPlaced plan (state_from plan s es)
+placed_from plan s [] legal placed = placed
+placed_from plan s (e ∷ es) legal placed =
+    placed_from plan (after plan s e) es (and_right (possible plan s e) (legal_from plan (after plan s e) es) legal) (step_placed plan s e (and_left (possible plan s e) (legal_from plan (after plan s e) es) legal) placed)
 
 pub placed_run : (plan : PlanOf) (pool : ℕ) (trail : List Event) (s : State) → IsRun plan pool trail s → IsPlaced plan s
-placed_run plan pool trail s run = subst (IsPlaced plan) run.ends (placed_from plan (first_state plan plan.forks pool) trail refl)
+placed_run plan pool trail s run = subst (IsPlaced plan) run.ends (placed_from plan (first_state plan plan.forks pool) trail run.legal refl)
 
--- where no host is ready, none stands at the current place
-any_of : (q : HostRow → Bool) (rows : List HostRow) → has_some (map q rows) ≡ list_any q rows
-any_of q [] = refl
-any_of q (row ∷ rows) = ap (λ b. q row || b) (any_of q rows)
+-- where no host is ready and no job is out, no host runs
+idle_row : (running : Option Running) → option_map_or (λ (r : Running). is_none r.out) running false ≡ false → option_map_or (λ (r : Running). is_some r.out) running false ≡ false → is_some running ≡ false
+idle_row None e f = refl
+idle_row (Some r) e f = idle_out r.out e f
+  where
+    idle_out : (out : Option Ticket) → is_none out ≡ false → is_some out ≡ false → true ≡ false
+    idle_out None e f = e
+    idle_out (Some t) e f = f
 
-none_stands : (room : Bool) (q : HostRow → Bool) (rows : List HostRow) → has_some (map (λ row. room && q row) rows) ≡ false → (room && list_any q rows) ≡ false
-none_stands false q rows e = refl
-none_stands true q rows e = sym (any_of q rows) ∙ e
+both_false : (a b : Bool) → a ≡ false → b ≡ false → (a || b) ≡ false
+both_false true b e f = e
+both_false false b e f = f
+
+free : (a b : Bool) → a ≡ true → (a && b) ≡ false → b ≡ false
+free true b e f = f
+free false b e f = cc
+
+none_running : (sends room : Bool) (start : HostRow → Bool) (rows : List HostRow) → sends ≡ true → has_some (map (λ row. (sends && has_send row) || (room && start row)) rows) ≡ false → list_any is_out rows ≡ false → list_any is_running rows ≡ false
+none_running sends room start [] t e f = refl
+none_running sends room start (row ∷ rows) t e f =
+    let here = or_left ((sends && has_send row) || (room && start row)) (has_some (map (λ row. (sends && has_send row) || (room && start row)) rows)) e in
+    let rest = or_right ((sends && has_send row) || (room && start row)) (has_some (map (λ row. (sends && has_send row) || (room && start row)) rows)) e in
+    both_false (is_running row) (list_any is_running rows)
+    (idle_row row.running (free sends (has_send row) t (or_left (sends && has_send row) (room && start row) here)) (or_left (is_out row) (list_any is_out rows) f))
+    (none_running sends room start rows t rest (or_right (is_out row) (list_any is_out rows) f))
+
+-- and none stands at the current place
+none_stands : (sends room : Bool) (start : HostRow → Bool) (rows : List HostRow) → has_some (map (λ row. (sends && has_send row) || (room && start row)) rows) ≡ false → (room && list_any start rows) ≡ false
+none_stands sends room start [] e = and_false room
+none_stands sends false start (row ∷ rows) e = refl
+none_stands sends true start (row ∷ rows) e =
+    let here = or_left ((sends && has_send row) || start row) (has_some (map (λ row. (sends && has_send row) || (true && start row)) rows)) e in
+    let rest = or_right ((sends && has_send row) || start row) (has_some (map (λ row. (sends && has_send row) || (true && start row)) rows)) e in
+    both_false (start row) (list_any start rows) (or_right (sends && has_send row) (start row) here) (none_stands sends true start rows rest)
 
 -- so an open batch can turn or close
-never_both : (place least : Option ℕ) (room stands : Bool) → room ≡ true → (place ≡ None → least ≡ None) → (room && stands) ≡ false → (is_some place && not (room && stands)) ≡ false → (is_none place && is_none least) ≡ false → true ≡ false
-never_both None None room stands has placed r t c = c
-never_both None (Some q) room stands has placed r t c = let e : Some q ≡ None = placed refl in cc
-never_both (Some p) least true true has placed r t c = r
-never_both (Some p) least true false has placed r t c = t
-never_both (Some p) least false stands has placed r t c = sym has
+never_both : (place least : Option ℕ) (stopped running may : Bool) → stopped ≡ false → running ≡ false → may ≡ false → (place ≡ None → least ≡ None) → (not stopped && is_some place && not running && not may) ≡ false → (not stopped && is_none place && not running && is_none least) ≡ false → true ≡ false
+never_both None None stopped running may st r m placed t c = rw (st, r) at c
+never_both None (Some q) stopped running may st r m placed t c = let e : Some q ≡ None = placed refl in cc
+never_both (Some p) least stopped running may st r m placed t c = rw (st, r, m) at t
 
-closed_in : (s : State) (found : Option PlayOf) → IsPlacedIn s found → has_room s ≡ true → has_some (option_map_or (ready_in s) found (replicate (length s.rows) false)) ≡ false → option_map_or (may_turn_in s) found false ≡ false → option_map_or (may_close_in s) found false ≡ false → s.is_open ≡ false
-closed_in s None placed room r t c = placed
-closed_in s (Some play) placed room r t c =
-    let wrong = never_both s.place (least_place play.tree s.rows) (has_room s) (list_any (stands_at play.tree s.place) s.rows) room placed (none_stands (has_room s) (stands_at play.tree s.place) s.rows r) t c in
+closed_in : (s : State) (found : Option PlayOf) → s.stopped ≡ false → IsPlacedIn s found → list_any is_out s.rows ≡ false → has_some (option_map_or (ready_in s) found (replicate (length s.rows) false)) ≡ false → option_map_or (may_turn_in s) found false ≡ false → option_map_or (may_close_in s) found false ≡ false → s.is_open ≡ false
+closed_in s None st placed out r t c = placed
+closed_in s (Some play) st placed out r t c =
+    let idle = none_running (not s.stopped) (has_room s) (stands_at play.tree s.place) s.rows (rw st refl) r out in
+    let wrong = never_both s.place (least_place play.tree s.rows) s.stopped (list_any is_running s.rows) (has_room s && list_any (stands_at play.tree s.place) s.rows) st idle (none_stands (not s.stopped) (has_room s) (stands_at play.tree s.place) s.rows r) (λ none. (placed none).0) t c in
     cc
 
-over_in : (is_open ended left active : Bool) → is_open ≡ false → (not is_open && not ended && left && active) ≡ false → (ended ≡ true) ⊎ ((is_open ≡ false) × ((left && active) ≡ false))
-over_in true ended left active e m = inr (e, cc)
-over_in false true left active e m = inl refl
-over_in false false left active e m = inr (refl, m)
+over_in : (stopped is_open ended left active : Bool) → (stopped ≡ false → is_open ≡ false) → (not stopped && not is_open && not ended && left && active) ≡ false → (stopped ≡ true) ⊎ (ended ≡ true) ⊎ ((is_open ≡ false) × ((left && active) ≡ false))
+over_in true is_open ended left active e m = inl refl
+over_in false true ended left active e m = let wrong = e refl in cc
+over_in false false true left active e m = inr (inl refl)
+over_in false false false left active e m = inr (inr (refl, m))
 
-pub over_now : (plan : PlanOf) (s : State) → IsPlaced plan s → 0 < s.forks → has_some (ready plan s) ≡ false → option_map_or (may_turn_in s) (open_play plan s) false ≡ false → option_map_or (may_close_in s) (open_play plan s) false ≡ false → may_open plan s ≡ false → IsOver plan s
-over_now plan s placed forks r t c o =
-    over_in s.is_open s.ended (nat_lt s.play (length plan.plays)) (list_any is_host_active s.rows) (closed_in s (open_play plan s) placed (lt-ltb 0 s.forks forks) r t c) o
+pub over_now : (plan : PlanOf) (s : State) → IsPlaced plan s → has_some (ready plan s) ≡ false → option_map_or (may_turn_in s) (open_play plan s) false ≡ false → option_map_or (may_close_in s) (open_play plan s) false ≡ false → may_open plan s ≡ false → list_any is_out s.rows ≡ false → IsOver plan s
+over_now plan s placed r t c o out =
+    over_in s.stopped s.is_open s.ended (nat_lt s.play (length plan.plays)) (list_any is_host_active s.rows) (λ st. closed_in s (open_play plan s) st placed out r t c) o

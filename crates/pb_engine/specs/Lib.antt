@@ -2,3 +2,4 @@ pub mod EngineOf
 pub mod Holds
 pub mod Over
 pub mod Choice
+pub mod Refusals

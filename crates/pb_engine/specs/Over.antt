@@ -1,21 +1,21 @@
--- A run is never stuck: where nothing is possible, it ended early, or no batch is open and none is left to open.
+-- A run is never stuck: where nothing is possible, it was stopped or ended early, or no batch is open and none is left to open.
 use Rattle.std.specs.Prelude.{◌≡◌, ◌⊎◌, Bool, true, false, ◌&&◌, nat_lt, length, Option, Some, None}
 use Rattle.std.specs.List.{list_any}
 use Rattle.pb_state.specs.Plan.{PlayOf, PlanOf}
 use Rattle.pb_state.specs.State.{State}
-use Rattle.pb_state.specs.Machine.{is_host_active, least_place, open_play}
+use Rattle.pb_state.specs.Machine.{is_host_active, is_running, least_place, open_play}
 
 -- a play is left, and a host to take part in it
 abbrev pub has_more : PlanOf → State → Bool
 has_more plan s = nat_lt s.play (length plan.plays) && list_any is_host_active s.rows
 
 abbrev pub IsOver : PlanOf → State → Type 0
-IsOver plan s = (s.ended ≡ true) ⊎ ((s.is_open ≡ false) × (has_more plan s ≡ false))
+IsOver plan s = (s.stopped ≡ true) ⊎ (s.ended ≡ true) ⊎ ((s.is_open ≡ false) × (has_more plan s ≡ false))
 
--- an open batch has its play, and a batch without a place has no host that is at one
+-- an open batch has its play, and in a batch without a place no host runs or is at one
 abbrev pub IsPlacedIn : State → Option PlayOf → Type 0
 IsPlacedIn s None = s.is_open ≡ false
-IsPlacedIn s (Some play) = s.place ≡ None → least_place play.tree s.rows ≡ None
+IsPlacedIn s (Some play) = s.place ≡ None → (least_place play.tree s.rows ≡ None) × (list_any is_running s.rows ≡ false)
 
 abbrev pub IsPlaced : PlanOf → State → Type 0
 IsPlaced plan s = IsPlacedIn s (open_play plan s)

@@ -1,25 +1,29 @@
 //! What the machine does next by itself.
 
-ghost use Rattle.std.specs.Prelude.{◌≡◌, ◌<◌, length};
-ghost use Rattle.pb_engine.specs.Choice.{IsChoice};
+ghost use Rattle.std.specs.Prelude.{◌≡◌, length, slice_get, Some, true};
+ghost use Rattle.pb_state.specs.Machine.{possible, ready};
+ghost use Rattle.pb_engine.specs.Choice.{IsChoice, host_of};
 ghost use Rattle.pb_engine.specs.Over.{IsPlaced};
 
 use crate::picker::Picker;
+use pb_ids::{HostNo, Ticket};
 use pb_planes::HostSet;
 use pb_state::{EngineState, Event, Plan};
 
 /// What the machine does next.
-#[derive(Clone, Copy, Debug)]
+#[derive(Drop)]
 pub enum Choice {
     /// This event is possible.
     Take(Event),
+    /// Nothing is possible but the report of a job that is out.
+    Waiting,
     /// Nothing is possible.
     Finished,
 }
 
-/// An event that the machine takes by itself, if there is one: a start where a host is ready, else a turn, a close or an
-/// open. `ready` is a set of as many hosts as the state has, whose members don't matter.
-#[tactic(auto, using(crate::proofs::Quiet::finished_now, crate::proofs::Quiet::ready_at, crate::proofs::Quiet::length_ready, crate::proofs::Stuck::over_now))]
+/// An event that the machine takes by itself, if there is one: a send or a start where a host is ready, else a turn, a
+/// close or an open. `ready` is a set of as many hosts as the state has, whose members don't matter.
+#[tactic(auto, using(crate::proofs::Quiet::quiet, crate::proofs::Quiet::finished_now, crate::proofs::Quiet::length_ready, crate::proofs::Quiet::picked, crate::proofs::Stuck::over_now))]
 pub fn choose<P: Picker>(
     plan: &Plan,
     state: &EngineState,
@@ -27,14 +31,14 @@ pub fn choose<P: Picker>(
     picker: &mut P,
 ) -> Choice
     requires width { length ready.old ≡ length state.now.rows }
-    requires forks { 0 < state.now.forks }
     requires placed { IsPlaced plan.now state.now }
     ensures choice { IsChoice plan.now state.now P.picks picker.old picker.new result }
     ensures width { length ready.new ≡ length state.now.rows }
 {
     state.ready(plan, ready);
     if !ready.is_empty() {
-        return Choice::Take(Event::Start(picker.pick(ready)));
+        let host = picker.pick(ready);
+        return Choice::Take(event_of(plan, state, host));
     }
     if state.may_turn(plan) {
         return Choice::Take(Event::Turn);
@@ -45,5 +49,27 @@ pub fn choose<P: Picker>(
     if state.may_open(plan) {
         return Choice::Take(Event::Open);
     }
-    Choice::Finished
+    if state.some_out() {
+        Choice::Waiting
+    } else {
+        Choice::Finished
+    }
+}
+
+/// What a host that is ready does: it sends its job if it has one to send, else it starts.
+#[tactic(auto, using(crate::proofs::Quiet::ready_starts))]
+fn event_of(plan: &Plan, state: &EngineState, host: HostNo) -> Event
+    requires { slice_get (ready plan.now state.now) host.0 ≡ Some true }
+    ensures possible { possible plan.now state.now result ≡ true }
+    ensures host { host_of result ≡ Some host }
+{
+    let ticket = Ticket(state.sends());
+    if state.may_send(plan, host, 0, ticket) {
+        return Event::Send {
+            host,
+            item: 0,
+            ticket,
+        };
+    }
+    Event::Start(host)
 }

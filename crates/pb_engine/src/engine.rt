@@ -1,18 +1,21 @@
 //! The engine.
 
-ghost use Rattle.std.specs.Prelude.{◌≡◌, ◌≢◌, ◌≤◌, ◌<◌, ◌++◌, ◌∷◌, [], length, true, IfOk, OnOk, OnErr, IfErr, Ok, Err};
+ghost use Rattle.std.specs.Prelude.{◌≡◌, ◌≢◌, ◌≤◌, ◌<◌, ◌++◌, ◌∷◌, [], length, true, false, IfOk, OnOk, OnErr, IfErr, Ok, Err, Some, None};
 ghost use Rattle.std.specs.Prelude.{◌-◌, slice_get};
 ghost use Rattle.std.specs.Option.{option_copied};
 ghost use Rattle.pb_state.specs.Machine.{possible, after};
-ghost use Rattle.pb_state.specs.Run.{IsRun};
+ghost use Rattle.pb_state.specs.Run.{IsRun, is_command};
 ghost use Rattle.pb_state.specs.Work.{work};
 ghost use Rattle.pb_recap.specs.Recap.{recap};
 ghost use Rattle.pb_engine.specs.EngineOf.{EngineOf, Takes, LessWork, IsSound, engine_of};
 ghost use Rattle.pb_engine.specs.Choice.{NextIs};
+ghost use Rattle.pb_engine.specs.Refusals.{refusal_of, is_waited_for, fits};
 
 use crate::choice::{Choice, choose};
 use crate::fault::EngineFault;
 use crate::picker::Picker;
+use crate::refusal::{Refusal, refusal_for};
+use pb_outcome::job::{Job, Report};
 use pb_planes::HostSet;
 use pb_recap::Recap;
 use pb_state::{EngineState, Event, Plan, StepFault};
@@ -20,10 +23,14 @@ use std::alloc::{AllocError, Global};
 use std::marker::Model;
 
 /// What a call of `next` did.
-#[derive(Clone, Copy, Debug, PartialEq, Eq)]
+#[derive(Drop)]
 pub enum Next {
-    /// One event was taken.
+    /// This job went out.
+    Sent(Job),
+    /// One event of another kind was taken.
     Moved,
+    /// Nothing is possible but the report of a job that is out.
+    Waiting,
     /// Nothing is possible any more.
     Finished,
 }
@@ -31,6 +38,7 @@ pub enum Next {
 /// A plan, the state of its run, and the trail of events that led to it.
 #[derive(Drop)]
 pub struct Engine {
+    alloc: Global,
     plan: Plan,
     pool: u32,
     state: EngineState,
@@ -42,11 +50,12 @@ impl Model for Engine {
     ghost use Rattle.pb_engine.specs.EngineOf.{EngineOf};
     ghost use Rattle.pb_state.specs.contracts.plan.Plan as the_plan;
     ghost use Rattle.pb_state.specs.contracts.state.EngineState as the_state;
+    ghost use Rattle.pb_value.specs.contracts.val.Val as val;
     ghost use Rattle.std.specs.Coded.{codes};
 
     ghost Value = { EngineOf };
 
-    ghost coded = { Prim.hlevel (codes, the_plan.the_row.coded, the_state.the_row.coded) };
+    ghost coded = { Prim.hlevel (codes, val.the_row.coded, the_plan.the_row.coded, the_state.the_row.coded) };
 
     ghost view = { λ e. record { plan = e.plan; pool = e.pool; state = e.state; trail = e.trail.items } };
 
@@ -77,6 +86,7 @@ impl Engine {
         let ready = HostSet::empty(alloc, plan.hosts())?;
         let state = EngineState::first(alloc, &plan, forks, pool_size)?;
         Ok(Engine {
+            alloc,
             plan,
             pool: pool_size,
             state,
@@ -85,8 +95,9 @@ impl Engine {
         })
     }
 
-    /// Takes what the machine does by itself: one event, if one is possible. A host that is ready starts, and the picker
-    /// chooses which; it is asked only where one is ready, and sees exactly those that are.
+    /// Takes what the machine does by itself: one event, if one is possible. A host that is ready sends its job or starts,
+    /// and the picker chooses which host; it is asked only where one is ready, and sees exactly those that are. `Waiting`
+    /// is answered only where a job is out and nothing else is possible but commands.
     ///
     /// # Errors
     /// `Memory` where memory was refused: the engine is unchanged then.
@@ -98,10 +109,37 @@ impl Engine {
     {
         match self.choose(picker) {
             Choice::Finished => Ok(Next::Finished),
-            Choice::Take(event) => {
-                self.take(event)?;
-                Ok(Next::Moved)
-            }
+            Choice::Waiting => Ok(Next::Waiting),
+            Choice::Take(event) => self.go(event),
+        }
+    }
+
+    /// Takes the report of a job that is out. A report that is refused is handed back whole, and the engine is unchanged.
+    ///
+    /// # Errors
+    /// `UnknownTicket` exactly where no job was sent under the report's ticket, `AlreadyReported` exactly where one was sent
+    /// and isn't out, `WrongItem` exactly where it is out for another host or item; else `Memory` where memory was refused.
+    #[tactic(auto, using(crate::proofs::Waits::report_in_run, crate::proofs::Waits::wrong_in_run))]
+    pub fn absorb(&mut self, report: Report) -> Result<(), (Report, Refusal)>
+        ensures ok { OnOk result (Takes self.old self.new (Event.Report report)) }
+        ensures accepted { OnOk result (refusal_of self.old.state report ≡ None) }
+        ensures work { OnOk result (LessWork self.old self.new) }
+        ensures refusal { IfErr result (λ e. e.1 ≢ Refusal.Memory → refusal_of self.old.state report ≡ Some e.1) }
+        ensures memory { IfErr result (λ e. e.1 ≡ Refusal.Memory → refusal_of self.old.state report ≡ None) }
+        ensures back { IfErr result (λ e. e.0 ≡ report) }
+        ensures err { OnErr result (self.new ≡ self.old) }
+        ensures run { IsSound self.new }
+
+        // A job that is out was sent, so that no report of it is of an unknown ticket.
+        ensures wrong { is_waited_for self.old.state report ≡ true → fits self.old.state report ≡ false → refusal_of self.old.state report ≡ Some Refusal.WrongItem }
+    {
+        if let Some(refusal) = refusal_for(&self.state, &report) {
+            return Err((report, refusal));
+        }
+        match self.take(Event::Report(report)) {
+            Ok(()) => Ok(()),
+            Err(Event::Report(report)) => Err((report, Refusal::Memory)),
+            Err(_) => unreachable!(),
         }
     }
 
@@ -155,7 +193,8 @@ impl Engine {
 }
 
 impl Engine {
-    ghost use Rattle.pb_engine.specs.Choice.{IsChoice};
+    ghost use Rattle.pb_engine.specs.Choice.{IsChoice, IsGone, answer_of};
+    ghost use Rattle.pb_state.specs.Run.{is_move};
 
     /// What to take next.
     #[tactic(auto, using(crate::proofs::Stuck::placed_run))]
@@ -167,36 +206,76 @@ impl Engine {
         choose(&self.plan, &self.state, &mut self.ready, picker)
     }
 
-    /// Takes one event that is possible.
-    fn take(&mut self, event: Event) -> Result<(), AllocError>
+    /// What is answered for an event that the machine takes by itself: for a send its job.
+    fn answer(&self, event: &Event) -> Result<Option<Next>, AllocError>
+        ensures { IfOk result (λ next. next ≡ answer_of self.now.plan self.now.state event.now) }
+    {
+        match event {
+            Event::Send { host, ticket, .. } => {
+                match self.state.job(self.alloc, &self.plan, *host, *ticket)? {
+                    Some(job) => Ok(Some(Next::Sent(job))),
+                    None => Ok(None),
+                }
+            }
+            Event::Open | Event::Start(_) | Event::Turn | Event::Close => Ok(Some(Next::Moved)),
+            Event::Report(_) | Event::Stop | Event::Forks(_) => Ok(None),
+        }
+    }
+
+    /// Takes an event that the machine takes by itself. Its job is made before the step.
+    #[tactic(auto, using(crate::proofs::Waits::answered_in_run))]
+    fn go(&mut self, event: Event) -> Result<Next, EngineFault>
+        requires sound { IsSound self.old }
+        requires possible { possible self.old.plan self.old.state event ≡ true }
+        requires moves { is_move event ≡ true }
+        ensures value { IfOk result (λ next. IsGone self.old self.new event next) }
+        ensures fault { IfErr result (λ e. e ≡ EngineFault.Memory) }
+        ensures err { OnErr result (self.new ≡ self.old) }
+        ensures run { IsSound self.new }
+    {
+        match self.answer(&event)? {
+            Some(next) => match self.take(event) {
+                Ok(()) => Ok(next),
+                Err(_) => Err(EngineFault::Memory),
+            },
+            None => unreachable!(),
+        }
+    }
+
+    /// Takes one event that is possible, or hands it back.
+    fn take(&mut self, event: Event) -> Result<(), Event>
         requires { possible self.old.plan self.old.state event ≡ true }
         ensures ok { OnOk result (Takes self.old self.new event) }
         ensures err { OnErr result (self.new ≡ self.old) }
-        ensures work { OnOk result (LessWork self.old self.new) }
+        ensures back { IfErr result (λ e. e ≡ event) }
+        ensures work { OnOk result (is_command event ≡ false → LessWork self.old self.new) }
         ensures run { IsSound self.new }
     {
         record(&self.plan, &mut self.state, &mut self.trail, event)
     }
 }
 
-/// Takes a step, and writes the event down.
+/// Takes a step, and writes the event down, or hands it back.
 fn record(
     plan: &Plan,
     state: &mut EngineState,
     trail: &mut Vec<Event>,
     event: Event,
-) -> Result<(), AllocError>
+) -> Result<(), Event>
     requires possible { possible plan.now state.old event ≡ true }
     ensures ok { OnOk result ((state.new ≡ after plan.now state.old event) × (trail.new.items ≡ trail.old.items ++ event ∷ [])) }
     ensures err { OnErr result ((state.new ≡ state.old) × (trail.new.items ≡ trail.old.items)) }
+    ensures back { IfErr result (λ e. e ≡ event) }
     ensures hosts { length state.new.rows ≡ length state.old.rows }
-    ensures work { OnOk result (0 < state.old.forks → work plan.now state.new < work plan.now state.old) }
-    ensures forks { state.new.forks ≡ state.old.forks }
+    ensures work { OnOk result (0 < state.old.forks → is_command event ≡ false → work plan.now state.new < work plan.now state.old) }
+    ensures forks { 0 < state.old.forks → 0 < state.new.forks }
 {
-    trail.reserve(1)?;
+    if trail.reserve(1).is_err() {
+        return Err(event);
+    }
     match state.step(plan, &event) {
         Ok(()) => {}
-        Err(StepFault::Memory) => return Err(AllocError),
+        Err(StepFault::Memory) => return Err(event),
         Err(StepFault::Illegal) => unreachable!(),
     }
     match trail.push(event) {

@@ -1,4 +1,4 @@
-use Rattle.std.proofs.Common.{◌≡◌, ◌<◌, true, sym, ◌∙◌, subst}
+use Rattle.std.proofs.Common.{◌≡◌, true, sym, ◌∙◌, subst}
 use Rattle.pb_state.specs.Machine.{possible}
 use Rattle.pb_engine.specs.EngineOf.{EngineOf}
 use Rattle.pb_engine.proofs.Runs.{run_on}
@@ -10,7 +10,7 @@ invariant_of-self c =
     record {
       run = run_on c.record.result c.self.inside.plan c.self.inside.pool c.self.inside.trail.items c.record.new.trail.items c.self.inside.state c.record.new.state c.args.event c.self.invariant.run may c.record.ensures.ok c.record.ensures.err;
       width = c.self.invariant.width ∙ sym c.record.ensures.hosts;
-      forks = subst (λ n. 0 < n) (sym c.record.ensures.forks) c.self.invariant.forks;
+      forks = c.record.ensures.forks c.self.invariant.forks;
     }
 
 pub returns-clause-run : goal.returns-clause-run

@@ -1,0 +1,203 @@
+-- What every run keeps: there is a row for each host, a task that runs is at a place of the open play, and a job that is out was sent.
+use Rattle.std.proofs.Common.{◌≡◌, ℕ, zero, suc, ◌+◌, ◌<◌, Bool, true, false, ◌&&◌, List, [], ◌∷◌, length, map, replicate, refl, sym, ◌∙◌, ap, subst, arith}
+use Rattle.std.specs.Prelude.{◌==◌, Option, Some, None, slice_get, slice_set, option_map, if◌then◌else◌}
+use Rattle.std.specs.Option.{option_map_or}
+use Rattle.std.proofs.lemmas.List.{length-map, length-set, length-replicate}
+use Rattle.std.proofs.lemmas.Bool.{eqb-true}
+use Rattle.pb_ids.specs.declared.numbers.Ticket.{Ticket}
+use Rattle.pb_tree.specs.declared.tree.Reach.{Reach}
+use Rattle.pb_tree.specs.declared.tree.Reach.TheVariants.{At, Done}
+use Rattle.pb_tree.specs.Tree.{TreeOf, size_of}
+use Rattle.pb_tree.specs.Walk.{reach}
+use Rattle.pb_tree.proofs.Rise.{places_bounded}
+use Rattle.pb_outcome.specs.declared.job.Report.{Report}
+use Rattle.pb_outcome.specs.declared.outcome.Form.{Form}
+use Rattle.pb_state.specs.declared.event.Event.{Event}
+use Rattle.pb_state.specs.declared.event.Event.TheVariants.{Open, Start, Send, Report as Reported, Turn, Close, Stop, Forks}
+use Rattle.pb_state.specs.declared.planned.Planned.{Planned}
+use Rattle.pb_state.specs.declared.planned.Planned.TheVariants.{Decided, Sends}
+use Rattle.pb_state.specs.declared.row.Running.{Running}
+use Rattle.pb_state.specs.Plan.{PlayOf, PlanOf}
+use Rattle.pb_state.specs.Row.{HostRow, first_row, started, sent, sent_running, reported, joined, left}
+use Rattle.pb_state.specs.State.{State}
+use Rattle.pb_state.specs.Machine.{possible, after, change, at_row, open_play, is_in, is_running, next_place, place_of, same_place, stands_at, has_room, may_start_in, may_send_in, may_send_item, opened_in, started_in, start_at, sent_in, reported_in, turned_in, first_state}
+use Rattle.pb_state.specs.Results.{planned_at}
+use Rattle.pb_state.specs.Run.{legal_from, state_from, IsRun}
+
+and_left : (a b : Bool) → (a && b) ≡ true → a ≡ true
+and_left true b e = refl
+and_left false b e = cc
+
+and_right : (a b : Bool) → (a && b) ≡ true → b ≡ true
+and_right true b e = e
+and_right false b e = cc
+
+-- a job that is out was sent
+abbrev pub IsOutBelow : ℕ → Option Ticket → Type 0
+IsOutBelow sends None = Unit {0}
+IsOutBelow sends (Some ticket) = ticket.0 < sends
+
+-- in a tree of this many places
+abbrev pub IsHeldTask : ℕ → ℕ → Option Running → Type 0
+IsHeldTask size sends None = Unit {0}
+IsHeldTask size sends (Some r) = (r.place < size) × IsOutBelow sends r.out
+
+abbrev pub AreHeld : ℕ → ℕ → List HostRow → Type 0
+AreHeld size sends [] = Unit {0}
+AreHeld size sends (row ∷ rows) = IsHeldTask size sends row.running × AreHeld size sends rows
+
+-- where no play is open there is no place, so that no host runs
+abbrev pub places_in : Option PlayOf → ℕ
+places_in None = 0
+places_in (Some play) = size_of play.tree
+
+pub record IsHeld (plan : PlanOf) (s : State) : Type 0 where
+  pub hosts : length s.rows ≡ length plan.hosts
+  pub tasks : AreHeld (places_in (open_play plan s)) s.sends s.rows
+
+-- rows in which no host runs
+none_run : (f : HostRow → HostRow) → ((row : HostRow) → (f row).running ≡ None) → (size sends : ℕ) (rows : List HostRow) → AreHeld size sends (map f rows)
+none_run f idle size sends [] = tt
+none_run f idle size sends (row ∷ rows) = (rw (idle row) tt, none_run f idle size sends rows)
+
+none_first : (size sends n : ℕ) → AreHeld size sends (replicate n first_row)
+none_first size sends zero = tt
+none_first size sends (suc n) = (tt, none_first size sends n)
+
+-- one row changed
+length-changed : (rows : List HostRow) (h : ℕ) (f : HostRow → HostRow) (found : Option HostRow) → length (option_map_or (λ row. slice_set rows h (f row)) found rows) ≡ length rows
+length-changed rows h f None = refl
+length-changed rows h f (Some row) = length-set rows h (f row)
+
+length-change : (rows : List HostRow) (h : ℕ) (f : HostRow → HostRow) → length (change rows h f) ≡ length rows
+length-change rows h f = length-changed rows h f (slice_get rows h)
+
+change_on : (row : HostRow) (rows : List HostRow) (h : ℕ) (f : HostRow → HostRow) (found : Option HostRow) → slice_get rows h ≡ found → change (row ∷ rows) (suc h) f ≡ row ∷ change rows h f
+change_on row rows h f None e = rw e refl
+change_on row rows h f (Some r) e = rw e refl
+
+held_change : (size sends : ℕ) (f : HostRow → HostRow) → ((row : HostRow) → IsHeldTask size sends row.running → IsHeldTask size sends (f row).running) → (rows : List HostRow) (h : ℕ) → AreHeld size sends rows → AreHeld size sends (change rows h f)
+held_change size sends f keeps [] h held = tt
+held_change size sends f keeps (row ∷ rows) zero held = (keeps row held.0, held.1)
+held_change size sends f keeps (row ∷ rows) (suc h) held =
+    rw (change_on row rows h f (slice_get rows h) refl) (held.0, held_change size sends f keeps rows h held.1)
+
+-- more was sent
+below_more : (sends : ℕ) (out : Option Ticket) → IsOutBelow sends out → IsOutBelow (sends + 1) out
+below_more sends None b = tt
+below_more sends (Some ticket) b = omega arith
+
+task_more : (size sends : ℕ) (running : Option Running) → IsHeldTask size sends running → IsHeldTask size (sends + 1) running
+task_more size sends None held = tt
+task_more size sends (Some r) held = (held.0, below_more sends r.out held.1)
+
+held_more : (size sends : ℕ) (rows : List HostRow) → AreHeld size sends rows → AreHeld size (sends + 1) rows
+held_more size sends [] held = tt
+held_more size sends (row ∷ rows) held = (task_more size sends row.running held.0, held_more size sends rows held.1)
+
+-- a start
+started_held : (tree : TreeOf) (p size sends : ℕ) (planned : Planned) (row : HostRow) → p < size → IsHeldTask size sends (started tree p planned row).running
+started_held tree p size sends (Decided item) row below = tt
+started_held tree p size sends (Sends call) row below = (below, tt)
+
+same_is : (a b : Option ℕ) → same_place a b ≡ true → a ≡ b
+same_is (Some p) (Some q) e = ap Some (eqb-true p q e)
+same_is (Some p) None e = cc
+same_is None q e = cc
+
+place_below : (tree : TreeOf) (row : HostRow) (p : ℕ) (reached : Reach) → reach tree row.answers ≡ reached → place_of reached ≡ Some p → p < size_of tree
+place_below tree row p (At q) r e = let b = (places_bounded tree row.answers q r).0 in let same : q ≡ p = cc in rw (← same) b
+place_below tree row p (Done ending) r e = cc
+
+next_below : (tree : TreeOf) (row : HostRow) (p : ℕ) (b : Bool) → (if b then place_of (reach tree row.answers) else None) ≡ Some p → p < size_of tree
+next_below tree row p true e = place_below tree row p (reach tree row.answers) refl e
+next_below tree row p false e = cc
+
+place_at : (tree : TreeOf) (p : ℕ) (rows : List HostRow) (h : ℕ) → at_row (stands_at tree (Some p)) rows h ≡ true → p < size_of tree
+place_at tree p [] h e = cc
+place_at tree p (row ∷ rows) zero e = next_below tree row p (is_in row) (same_is (next_place tree row) (Some p) (and_right _ _ e))
+place_at tree p (row ∷ rows) (suc h) e = place_at tree p rows h e
+
+start_open : (plan : PlanOf) (s : State) (h : ℕ) (play : PlayOf) (place : Option ℕ) → open_play plan (option_map_or (start_at s h play) place s) ≡ open_play plan s
+start_open plan s h play None = refl
+start_open plan s h play (Some p) = refl
+
+start_tasks : (s : State) (h : ℕ) (play : PlayOf) (place : Option ℕ) → AreHeld (size_of play.tree) s.sends s.rows → at_row (stands_at play.tree place) s.rows h ≡ true → AreHeld (size_of play.tree) (option_map_or (start_at s h play) place s).sends (option_map_or (start_at s h play) place s).rows
+start_tasks s h play None held e = held
+start_tasks s h play (Some p) held e =
+    held_change (size_of play.tree) s.sends (started play.tree p (planned_at play.tasks p)) (λ row held. started_held play.tree p (size_of play.tree) s.sends (planned_at play.tasks p) row (place_at play.tree p s.rows h e)) s.rows h held
+
+start_hosts : (s : State) (h : ℕ) (play : PlayOf) (place : Option ℕ) → length (option_map_or (start_at s h play) place s).rows ≡ length s.rows
+start_hosts s h play None = refl
+start_hosts s h play (Some p) = length-change s.rows h _
+
+started_in_held : (plan : PlanOf) (s : State) (h : ℕ) (found : Option PlayOf) → open_play plan s ≡ found → IsHeld plan s → option_map_or (may_start_in s h) found false ≡ true → IsHeld plan (option_map_or (started_in s h) found s)
+started_in_held plan s h None o held e = held
+started_in_held plan s h (Some play) o held e = record {
+  hosts = start_hosts s h play s.place ∙ held.hosts;
+  tasks = rw (start_open plan s h play s.place, o) (start_tasks s h play s.place (rw o at held.tasks) (and_right (has_room s) _ e));
+}
+
+-- a send
+sent_below : (sends : ℕ) (ticket : Ticket) → (ticket.0 == sends) ≡ true → ticket.0 < sends + 1
+sent_below sends ticket e = let same = eqb-true ticket.0 sends e in omega arith
+
+sent_held : (size sends : ℕ) (ticket : Ticket) (running : Option Running) → ticket.0 < sends → IsHeldTask size sends running → IsHeldTask size sends (option_map (sent_running ticket) running)
+sent_held size sends ticket None below held = tt
+sent_held size sends ticket (Some r) below held = (held.0, below)
+
+sent_in_held : (plan : PlanOf) (s : State) (h item : ℕ) (ticket : Ticket) (found : Option PlayOf) → open_play plan s ≡ found → IsHeld plan s → option_map_or (may_send_in s h item ticket) found false ≡ true → IsHeld plan (option_map_or (sent_in s h ticket) found s)
+sent_in_held plan s h item ticket None o held e = held
+sent_in_held plan s h item ticket (Some play) o held e =
+    let below = sent_below s.sends ticket (and_right _ _ (and_left _ _ e)) in
+    record {
+      hosts = length-change s.rows h (sent ticket) ∙ held.hosts;
+      tasks = held_change (places_in (open_play plan s)) (s.sends + 1) (sent ticket) (λ row held. sent_held (places_in (open_play plan s)) (s.sends + 1) ticket row.running below held) s.rows h (held_more (places_in (open_play plan s)) s.sends s.rows held.tasks);
+    }
+
+-- a report
+reported_none : (tree : TreeOf) (outcome : Form) (row : HostRow) (running : Option Running) → row.running ≡ running → (reported tree outcome row).running ≡ None
+reported_none tree outcome row None e = rw e refl
+reported_none tree outcome row (Some r) e = rw e refl
+
+reported_held : (tree : TreeOf) (outcome : Form) (size sends : ℕ) (row : HostRow) → IsHeldTask size sends (reported tree outcome row).running
+reported_held tree outcome size sends row = rw (reported_none tree outcome row row.running refl) tt
+
+reported_in_held : (plan : PlanOf) (s : State) (r : Report) (found : Option PlayOf) → open_play plan s ≡ found → IsHeld plan s → IsHeld plan (option_map_or (reported_in s r) found s)
+reported_in_held plan s r None o held = held
+reported_in_held plan s r (Some play) o held = record {
+  hosts = length-change s.rows r.host.0 (reported play.tree r.outcome) ∙ held.hosts;
+  tasks = held_change (places_in (open_play plan s)) s.sends (reported play.tree r.outcome) (λ row held. reported_held play.tree r.outcome (places_in (open_play plan s)) s.sends row) s.rows r.host.0 held.tasks;
+}
+
+-- the others
+opened_held : (plan : PlanOf) (s : State) (found : Option PlayOf) → IsHeld plan s → IsHeld plan (option_map_or (opened_in s (map joined s.rows)) found s)
+opened_held plan s None held = held
+opened_held plan s (Some play) held = record {
+  hosts = length-map s.rows joined ∙ held.hosts;
+  tasks = none_run joined (λ row. refl) _ s.sends s.rows;
+}
+
+turned_held : (plan : PlanOf) (s : State) (found : Option PlayOf) → IsHeld plan s → IsHeld plan (option_map_or (turned_in s) found s)
+turned_held plan s None held = held
+turned_held plan s (Some play) held = record { hosts = held.hosts; tasks = held.tasks }
+
+pub step_held : (plan : PlanOf) (s : State) (e : Event) → possible plan s e ≡ true → IsHeld plan s → IsHeld plan (after plan s e)
+step_held plan s Open may held = opened_held plan s (slice_get plan.plays s.play) held
+step_held plan s (Start h) may held = started_in_held plan s h.0 (open_play plan s) refl held may
+step_held plan s (Send h item ticket) may held = sent_in_held plan s h.0 item ticket (open_play plan s) refl held may
+step_held plan s (Reported r) may held = reported_in_held plan s r (open_play plan s) refl held
+step_held plan s Turn may held = turned_held plan s (open_play plan s) held
+step_held plan s Close may held = record { hosts = length-map s.rows left ∙ held.hosts; tasks = none_run left (λ row. refl) _ s.sends s.rows }
+step_held plan s Stop may held = record { hosts = held.hosts; tasks = held.tasks }
+step_held plan s (Forks n) may held = record { hosts = held.hosts; tasks = held.tasks }
+
+held_from : (plan : PlanOf) (s : State) (es : List Event) → legal_from plan s es ≡ true → IsHeld plan s → IsHeld plan (state_from plan s es)
+held_from plan s [] legal held = held
+held_from plan s (e ∷ es) legal held =
+    held_from plan (after plan s e) es (and_right (possible plan s e) (legal_from plan (after plan s e) es) legal) (step_held plan s e (and_left (possible plan s e) (legal_from plan (after plan s e) es) legal) held)
+
+pub held_run : (plan : PlanOf) (pool : ℕ) (trail : List Event) (s : State) → IsRun plan pool trail s → IsHeld plan s
+held_run plan pool trail s run =
+    subst (IsHeld plan) run.ends
+    (held_from plan (first_state plan plan.forks pool) trail run.legal (record { hosts = length-replicate (length plan.hosts) first_row; tasks = none_first _ 0 (length plan.hosts) }))

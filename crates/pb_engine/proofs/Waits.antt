@@ -1,0 +1,286 @@
+-- Jobs that are out in a run.
+use Rattle.std.proofs.Common.{◌≡◌, ◌⊎◌, inl, inr, ℕ, zero, suc, ◌+◌, ◌<◌, ◌≤◌, Bool, true, false, ◌&&◌, ◌||◌, not, List, [], ◌∷◌, length, refl, sym, ◌∙◌, ap, subst, arith}
+use Rattle.std.specs.Prelude.{◌==◌, nat_lt, nat_le, Option, Some, None, slice_get, is_some, is_none, option_map, if◌then◌else◌}
+use Rattle.std.specs.List.{list_any}
+use Rattle.std.specs.Option.{option_map_or}
+use Rattle.std.proofs.lemmas.Bool.{lt-ltb, eqb-true, eq-eqb}
+use Rattle.std.proofs.lemmas.Option.{slice_get_within}
+use Rattle.pb_ids.specs.declared.numbers.HostNo.{HostNo}
+use Rattle.pb_ids.specs.declared.numbers.Ticket.{Ticket}
+use Rattle.pb_outcome.specs.declared.job.Job.{Job}
+use Rattle.pb_outcome.specs.declared.job.Report.{Report}
+use Rattle.pb_outcome.specs.declared.outcome.Form.{Form}
+use Rattle.pb_tree.specs.Tree.{TreeOf, paths, path_at, size_of}
+use Rattle.pb_tree.proofs.Paths.{length_paths}
+use Rattle.pb_state.specs.declared.event.Event.{Event}
+use Rattle.pb_state.specs.declared.event.Event.TheVariants.{Open, Start, Send, Report as Reported, Turn, Close, Stop, Forks}
+use Rattle.pb_state.specs.declared.row.Running.{Running}
+use Rattle.pb_state.specs.Plan.{PlayOf, PlanOf}
+use Rattle.pb_state.specs.Row.{HostRow}
+use Rattle.pb_state.specs.State.{State}
+use Rattle.pb_state.specs.Machine.{possible, at_row, awaits, has_ticket, is_ticket, is_out, is_running, open_play, may_report_in, may_send_in, may_send_item, has_send}
+use Rattle.pb_state.specs.Jobs.{job_of, job_in, row_job, placed_job, named_job, job_with}
+use Rattle.pb_state.specs.Oldest.{oldest_from, oldest_out, older, out_at, out_of}
+use Rattle.pb_state.specs.Run.{is_move, IsRun}
+use Rattle.pb_engine.proofs.Held.{IsHeld, IsHeldTask, IsOutBelow, AreHeld, places_in, held_run}
+use Rattle.pb_engine.specs.declared.refusal.Refusal.TheVariants.{UnknownTicket, AlreadyReported, WrongItem}
+use Rattle.pb_engine.specs.declared.engine.Next.TheVariants.{Sent, Moved}
+use Rattle.pb_engine.specs.Refusals.{refusal_of, is_sent, is_waited_for, fits}
+use Rattle.pb_engine.specs.Choice.{answer_of}
+
+or_elim : {C : Type 0} (a b : Bool) → (a || b) ≡ true → (a ≡ true → C) → (b ≡ true → C) → C
+or_elim true b e f g = f refl
+or_elim false b e f g = g e
+
+and_left : (a b : Bool) → (a && b) ≡ true → a ≡ true
+and_left true b e = refl
+and_left false b e = cc
+
+and_right : (a b : Bool) → (a && b) ≡ true → b ≡ true
+and_right true b e = e
+and_right false b e = cc
+
+not_false : (b : Bool) → not b ≡ true → b ≡ false
+not_false true e = cc
+not_false false e = refl
+
+-- a ticket that is out is below the sends
+ticket_below : (sends : ℕ) (ticket : Ticket) (out : Option Ticket) → is_ticket ticket out ≡ true → IsOutBelow sends out → ticket.0 < sends
+ticket_below sends ticket None e below = cc
+ticket_below sends ticket (Some t) e below = let same = eqb-true t.0 ticket.0 e in omega arith
+
+task_below : (size sends : ℕ) (ticket : Ticket) (running : Option Running) → option_map_or (λ (r : Running). is_ticket ticket r.out) running false ≡ true → IsHeldTask size sends running → ticket.0 < sends
+task_below size sends ticket None e held = cc
+task_below size sends ticket (Some r) e held = ticket_below sends ticket r.out e held.1
+
+out_below : (size sends : ℕ) (ticket : Ticket) (rows : List HostRow) → list_any (has_ticket ticket) rows ≡ true → AreHeld size sends rows → ticket.0 < sends
+out_below size sends ticket [] e held = cc
+out_below size sends ticket (row ∷ rows) e held =
+    or_elim (has_ticket ticket row) (list_any (has_ticket ticket) rows) e
+    (λ t. task_below size sends ticket row.running t held.0)
+    (λ t. out_below size sends ticket rows t held.1)
+
+pub waits_sent : (plan : PlanOf) (s : State) (ticket : Ticket) → IsHeld plan s → list_any (has_ticket ticket) s.rows ≡ true → ticket.0 < s.sends
+waits_sent plan s ticket held e = out_below (places_in (open_play plan s)) s.sends ticket s.rows e held.tasks
+
+-- a report of a job that is out for another host or item is refused as such
+wrong_of : (sent waits fit : Bool) → sent ≡ true → waits ≡ true → fit ≡ false → (if not sent then Some UnknownTicket else if not waits then Some AlreadyReported else if not fit then Some WrongItem else None) ≡ Some WrongItem
+wrong_of true true false a b c = refl
+wrong_of true true true a b c = cc
+wrong_of true false fit a b c = cc
+wrong_of false waits fit a b c = cc
+
+pub wrong_item : (plan : PlanOf) (s : State) (r : Report) → IsHeld plan s → is_waited_for s r ≡ true → fits s r ≡ false → refusal_of s r ≡ Some WrongItem
+wrong_item plan s r held w f = wrong_of (is_sent s r) (is_waited_for s r) (fits s r) (lt-ltb r.ticket.0 s.sends (waits_sent plan s r.ticket held w)) w f
+
+-- a report that isn't refused is possible
+taken_of : (sent waits fit : Bool) → (if not sent then Some UnknownTicket else if not waits then Some AlreadyReported else if not fit then Some WrongItem else None) ≡ None → fit ≡ true
+taken_of true true true e = refl
+taken_of true true false e = cc
+taken_of true false fit e = cc
+taken_of false waits fit e = cc
+
+row_runs : (item : ℕ) (test : Running → Bool) (running : Option Running) → ((item == 0) && option_map_or test running false) ≡ true → is_some running ≡ true
+row_runs item test None e = and_right (item == 0) false e
+row_runs item test (Some r) e = refl
+
+at_runs : (test : HostRow → Bool) → ((row : HostRow) → test row ≡ true → is_running row ≡ true) → (rows : List HostRow) (h : ℕ) → at_row test rows h ≡ true → at_row is_running rows h ≡ true
+at_runs test runs [] h e = cc
+at_runs test runs (row ∷ rows) zero e = runs row e
+at_runs test runs (row ∷ rows) (suc h) e = at_runs test runs rows h e
+
+fits_runs : (s : State) (r : Report) → fits s r ≡ true → at_row is_running s.rows r.host.0 ≡ true
+fits_runs s r e = at_runs (awaits r.ticket r.item) (λ row f. row_runs r.item (λ (t : Running). is_ticket r.ticket t.out) row.running f) s.rows r.host.0 e
+
+-- a task that runs is at a place
+placed_running : (size sends : ℕ) (running : Option Running) → is_some running ≡ true → IsHeldTask size sends running → 0 < size
+placed_running size sends None e held = cc
+placed_running size sends (Some r) e held = omega (arith, held.0)
+
+placed_row : (size sends : ℕ) (rows : List HostRow) (h : ℕ) → at_row is_running rows h ≡ true → AreHeld size sends rows → 0 < size
+placed_row size sends [] h e held = cc
+placed_row size sends (row ∷ rows) zero e held = placed_running size sends row.running e held.0
+placed_row size sends (row ∷ rows) (suc h) e held = placed_row size sends rows h e held.1
+
+may_report : (s : State) (r : Report) (found : Option PlayOf) → AreHeld (places_in found) s.sends s.rows → fits s r ≡ true → option_map_or (may_report_in s r) found false ≡ true
+may_report s r None held e = absurd (let some = placed_row 0 s.sends s.rows r.host.0 (fits_runs s r e) held in omega (arith, some))
+may_report s r (Some play) held e = e
+
+pub report_possible : (plan : PlanOf) (s : State) (r : Report) → IsHeld plan s → refusal_of s r ≡ None → option_map_or (may_report_in s r) (open_play plan s) false ≡ true
+report_possible plan s r held e = may_report s r (open_play plan s) held.tasks (taken_of (is_sent s r) (is_waited_for s r) (fits s r) e)
+
+-- a host that runs has its job
+get_some : {X : Type 0} (xs : List X) (i : ℕ) → i < length xs → is_some (slice_get xs i) ≡ true
+get_some [] i b = absurd (omega (arith, b))
+get_some (x ∷ xs) zero b = refl
+get_some (x ∷ xs) (suc i) b = get_some xs i (omega (arith, b))
+
+row_within : (test : HostRow → Bool) (rows : List HostRow) (h : ℕ) → at_row test rows h ≡ true → h < length rows
+row_within test [] h e = cc
+row_within test (row ∷ rows) zero e = omega arith
+row_within test (row ∷ rows) (suc h) e = let rest = row_within test rows h e in omega (arith, rest)
+
+named_some : (plan : PlanOf) (number : ℕ) (host : HostNo) (ticket : Ticket) (r : Running) (path : Option (List ℕ)) (name : Option (List ℕ)) → is_some path ≡ true → is_some name ≡ true → is_some (option_map_or (λ (p : List ℕ). option_map (λ (n : List ℕ). job_with number host ticket r n p) name) path None) ≡ true
+named_some plan number host ticket r None name e f = cc
+named_some plan number host ticket r (Some path) None e f = cc
+named_some plan number host ticket r (Some path) (Some name) e f = refl
+
+path_some : (tree : TreeOf) (p : ℕ) → p < size_of tree → is_some (path_at tree p) ≡ true
+path_some tree p b = get_some (paths tree) p (rw (length_paths tree.handlers tree.nodes) b)
+
+task_job : (plan : PlanOf) (number sends : ℕ) (host : HostNo) (ticket : Ticket) (play : PlayOf) (running : Option Running) → host.0 < length plan.hosts → is_some running ≡ true → IsHeldTask (size_of play.tree) sends running → is_some (option_map_or (placed_job plan number host ticket play) running None) ≡ true
+task_job plan number sends host ticket play None b e held = cc
+task_job plan number sends host ticket play (Some r) b e held =
+    named_some plan number host ticket r (path_at play.tree r.place) (slice_get plan.hosts host.0) (path_some play.tree r.place held.0) (get_some plan.hosts host.0 b)
+
+row_has_job : (plan : PlanOf) (number sends : ℕ) (host : HostNo) (ticket : Ticket) (play : PlayOf) (rows : List HostRow) (h : ℕ) → host.0 < length plan.hosts → at_row is_running rows h ≡ true → AreHeld (size_of play.tree) sends rows → is_some (option_map_or (row_job plan number host ticket play) (slice_get rows h) None) ≡ true
+row_has_job plan number sends host ticket play [] h b e held = cc
+row_has_job plan number sends host ticket play (row ∷ rows) zero b e held = task_job plan number sends host ticket play row.running b e held.0
+row_has_job plan number sends host ticket play (row ∷ rows) (suc h) b e held = row_has_job plan number sends host ticket play rows h b e held.1
+
+job_found : (plan : PlanOf) (s : State) (host : HostNo) (ticket : Ticket) (found : Option PlayOf) → host.0 < length plan.hosts → at_row is_running s.rows host.0 ≡ true → AreHeld (places_in found) s.sends s.rows → is_some (option_map_or (job_in plan s host ticket) found None) ≡ true
+job_found plan s host ticket None b e held = absurd (let some = placed_row 0 s.sends s.rows host.0 e held in omega (arith, some))
+job_found plan s host ticket (Some play) b e held = row_has_job plan s.play s.sends host ticket play s.rows host.0 b e held
+
+pub runs_job : (plan : PlanOf) (s : State) (host : HostNo) (ticket : Ticket) → IsHeld plan s → at_row is_running s.rows host.0 ≡ true → is_some (job_of plan s host ticket) ≡ true
+runs_job plan s host ticket held e =
+    let within = row_within is_running s.rows host.0 e in
+    job_found plan s host ticket (open_play plan s) (omega (arith, within, held.hosts)) e held.tasks
+
+send_runs : (s : State) (h item : ℕ) (ticket : Ticket) (found : Option PlayOf) → option_map_or (may_send_in s h item ticket) found false ≡ true → at_row is_running s.rows h ≡ true
+send_runs s h item ticket None e = cc
+send_runs s h item ticket (Some play) e = at_runs (may_send_item item) (λ row f. row_runs item (λ (r : Running). is_none r.out) row.running f) s.rows h (and_right (not s.stopped && (ticket.0 == s.sends)) _ e)
+
+-- a job that can go out is there
+pub send_job : (plan : PlanOf) (s : State) (host : HostNo) (item : ℕ) (ticket : Ticket) → IsHeld plan s → option_map_or (may_send_in s host.0 item ticket) (open_play plan s) false ≡ true → is_some (job_of plan s host ticket) ≡ true
+send_job plan s host item ticket held e = runs_job plan s host ticket held (send_runs s host.0 item ticket (open_play plan s) e)
+
+-- the oldest job that is out
+older_is : (a b : Option (HostNo × Ticket)) (p : HostNo × Ticket) → older a b ≡ Some p → (a ≡ Some p) ⊎ (b ≡ Some p)
+older_is None b p e = inr e
+older_is (Some a) None p e = inl e
+older_is (Some a) (Some b) p e = by_order (nat_le a.1.0 b.1.0) e
+  where
+    by_order : (c : Bool) → (if c then Some a else Some b) ≡ Some p → (Some a ≡ Some p) ⊎ (Some b ≡ Some p)
+    by_order true e = inl e
+    by_order false e = inr e
+
+older_none : (a b : Option (HostNo × Ticket)) → older a b ≡ None → (a ≡ None) × (b ≡ None)
+older_none None b e = (refl, e)
+older_none (Some a) None e = cc
+older_none (Some a) (Some b) e = by_order (nat_le a.1.0 b.1.0) e
+  where
+    by_order : (c : Bool) → (if c then Some a else Some b) ≡ None → (Some a ≡ None) × (Some b ≡ None)
+    by_order true e = cc
+    by_order false e = cc
+
+some_is : (a b : HostNo × Ticket) → Some a ≡ Some b → a ≡ b
+some_is a b e = cc
+
+out_some : (h : ℕ) (running : Option Running) (p : HostNo × Ticket) → option_map {U = HostNo × Ticket} (λ (ticket : Ticket). (record { 0 = h }, ticket)) (option_map_or out_of running None) ≡ Some p → (p.0.0 ≡ h) × (option_map_or (λ (r : Running). is_ticket p.1 r.out) running false ≡ true)
+out_some h None p e = cc
+out_some h (Some r) p e = of_out r.out e
+  where
+    of_out : (out : Option Ticket) → option_map {U = HostNo × Ticket} (λ (ticket : Ticket). (record { 0 = h }, ticket)) out ≡ Some p → (p.0.0 ≡ h) × (is_ticket p.1 out ≡ true)
+    of_out None e = cc
+    of_out (Some t) e =
+        let same = some_is (record { 0 = h }, t) p e in
+        (sym (ap (λ (q : HostNo × Ticket). q.0.0) same), eq-eqb t.0 p.1.0 (ap (λ (q : HostNo × Ticket). q.1.0) same))
+
+oldest_at : (h : ℕ) (rows : List HostRow) (p : HostNo × Ticket) → oldest_from h rows ≡ Some p → (k : ℕ) × (p.0.0 ≡ h + k) × (at_row (has_ticket p.1) rows k ≡ true)
+oldest_at h [] p e = cc
+oldest_at h (row ∷ rows) p e = elim (older_is (out_at h row) (oldest_from (h + 1) rows) p e) [
+  | inl here ↦ let found = out_some h row.running p here in (0, (let at : p.0.0 ≡ h + 0 = omega (arith, found.0) in at), found.1)
+  | inr rest ↦ let found = oldest_at (h + 1) rows p rest in (suc found.0, (let at : p.0.0 ≡ h + suc found.0 = omega (arith, found.1) in at), found.2)
+]
+
+any_at : (test : HostRow → Bool) (rows : List HostRow) (h : ℕ) → at_row test rows h ≡ true → list_any test rows ≡ true
+any_at test [] h e = cc
+any_at test (row ∷ rows) zero e = rw e refl
+any_at test (row ∷ rows) (suc h) e = rw (any_at test rows h e) (or_true (test row))
+  where
+    or_true : (b : Bool) → (b || true) ≡ true
+    or_true true = refl
+    or_true false = refl
+
+pub oldest_is_out : (rows : List HostRow) (p : HostNo × Ticket) → oldest_out rows ≡ Some p → at_row (has_ticket p.1) rows p.0.0 ≡ true
+oldest_is_out rows p e = let found = oldest_at 0 rows p e in let at : found.0 ≡ p.0.0 = omega (arith, found.1) in rw (← at) found.2
+
+row_not_out : (h : ℕ) (running : Option Running) → option_map {U = HostNo × Ticket} (λ (ticket : Ticket). (record { 0 = h }, ticket)) (option_map_or out_of running None) ≡ None → option_map_or (λ (r : Running). is_some r.out) running false ≡ false
+row_not_out h None e = refl
+row_not_out h (Some r) e = of_out r.out e
+  where
+    of_out : (out : Option Ticket) → option_map {U = HostNo × Ticket} (λ (ticket : Ticket). (record { 0 = h }, ticket)) out ≡ None → is_some out ≡ false
+    of_out None e = refl
+    of_out (Some t) e = cc
+
+both_false : (a b : Bool) → a ≡ false → b ≡ false → (a || b) ≡ false
+both_false true b e f = e
+both_false false b e f = f
+
+none_oldest : (h : ℕ) (rows : List HostRow) → oldest_from h rows ≡ None → list_any is_out rows ≡ false
+none_oldest h [] e = refl
+none_oldest h (row ∷ rows) e =
+    let none = older_none (out_at h row) (oldest_from (h + 1) rows) e in
+    both_false (is_out row) (list_any is_out rows) (row_not_out h row.running none.0) (none_oldest (h + 1) rows none.1)
+
+-- where a job is out there is an oldest one
+pub some_oldest : (rows : List HostRow) → oldest_out rows ≡ None → list_any is_out rows ≡ false
+some_oldest rows e = none_oldest 0 rows e
+
+has_runs : (ticket : Ticket) (running : Option Running) → option_map_or (λ (r : Running). is_ticket ticket r.out) running false ≡ true → is_some running ≡ true
+has_runs ticket None e = cc
+has_runs ticket (Some r) e = refl
+
+-- which has its job
+pub oldest_job : (plan : PlanOf) (s : State) (p : HostNo × Ticket) → IsHeld plan s → oldest_out s.rows ≡ Some p → is_some (job_of plan s p.0 p.1) ≡ true
+oldest_job plan s p held e = runs_job plan s p.0 p.1 held (at_runs (has_ticket p.1) (λ row f. has_runs p.1 row.running f) s.rows p.0.0 (oldest_is_out s.rows p e))
+
+all_true : (sent waits fit : Bool) → sent ≡ true → waits ≡ true → fit ≡ true → (if not sent then Some UnknownTicket else if not waits then Some AlreadyReported else if not fit then Some WrongItem else None) ≡ None
+all_true true true true a b c = refl
+all_true true true false a b c = cc
+all_true true false fit a b c = cc
+all_true false waits fit a b c = cc
+
+at_first : (ticket : Ticket) (rows : List HostRow) (h : ℕ) → at_row (awaits ticket 0) rows h ≡ at_row (has_ticket ticket) rows h
+at_first ticket [] h = refl
+at_first ticket (row ∷ rows) zero = refl
+at_first ticket (row ∷ rows) (suc h) = at_first ticket rows h
+
+-- and whose report is taken
+pub oldest_taken : (plan : PlanOf) (s : State) (r : Report) → IsHeld plan s → oldest_out s.rows ≡ Some (r.host, r.ticket) → r.item ≡ 0 → refusal_of s r ≡ None
+oldest_taken plan s r held e first =
+    let out = oldest_is_out s.rows (r.host, r.ticket) e in
+    let waits = any_at (has_ticket r.ticket) s.rows r.host.0 out in
+    all_true (is_sent s r) (is_waited_for s r) (fits s r) (lt-ltb r.ticket.0 s.sends (waits_sent plan s r.ticket held waits)) waits (rw first (at_first r.ticket s.rows r.host.0 ∙ out))
+
+-- of a run
+pub report_in_run : (plan : PlanOf) (pool : ℕ) (trail : List Event) (s : State) (r : Report) → IsRun plan pool trail s → refusal_of s r ≡ None → option_map_or (may_report_in s r) (open_play plan s) false ≡ true
+report_in_run plan pool trail s r run e = report_possible plan s r (held_run plan pool trail s run) e
+
+pub wrong_in_run : (plan : PlanOf) (pool : ℕ) (trail : List Event) (s : State) (r : Report) → IsRun plan pool trail s → is_waited_for s r ≡ true → fits s r ≡ false → refusal_of s r ≡ Some WrongItem
+wrong_in_run plan pool trail s r run w f = wrong_item plan s r (held_run plan pool trail s run) w f
+
+sent_some : (job : Option Job) → is_some job ≡ true → is_some (option_map Sent job) ≡ true
+sent_some None e = cc
+sent_some (Some job) e = refl
+
+answered : (plan : PlanOf) (s : State) (e : Event) → IsHeld plan s → possible plan s e ≡ true → is_move e ≡ true → is_some (answer_of plan s e) ≡ true
+answered plan s Open held may m = refl
+answered plan s (Start h) held may m = refl
+answered plan s (Send h item ticket) held may m = sent_some (job_of plan s h ticket) (send_job plan s h item ticket held may)
+answered plan s (Reported r) held may m = cc
+answered plan s Turn held may m = refl
+answered plan s Close held may m = refl
+answered plan s Stop held may m = cc
+answered plan s (Forks n) held may m = cc
+
+-- an event that the machine takes by itself has an answer
+pub answered_in_run : (plan : PlanOf) (pool : ℕ) (trail : List Event) (s : State) (e : Event) → IsRun plan pool trail s → possible plan s e ≡ true → is_move e ≡ true → answer_of plan s e ≡ None → ⊥
+answered_in_run plan pool trail s e run may m none = let some = answered plan s e (held_run plan pool trail s run) may m in let no : is_some (answer_of plan s e) ≡ false = ap is_some none in cc
+
+pub oldest_in_run : (plan : PlanOf) (pool : ℕ) (trail : List Event) (s : State) (r : Report) → IsRun plan pool trail s → oldest_out s.rows ≡ Some (r.host, r.ticket) → r.item ≡ 0 → refusal_of s r ≡ None
+oldest_in_run plan pool trail s r run e first = oldest_taken plan s r (held_run plan pool trail s run) e first
+
+pub job_in_run : (plan : PlanOf) (pool : ℕ) (trail : List Event) (s : State) (p : HostNo × Ticket) → IsRun plan pool trail s → oldest_out s.rows ≡ Some p → job_of plan s p.0 p.1 ≡ None → ⊥
+job_in_run plan pool trail s p run e none = let some = oldest_job plan s p (held_run plan pool trail s run) e in let no : is_some (job_of plan s p.0 p.1) ≡ false = ap is_some none in cc
