@@ -1,27 +1,96 @@
 -- What a driver keeps from turn to turn, and what it answers.
-use Rattle.std.specs.Prelude.{◌≡◌, ℕ, List, ◌-◌, length, slice_get, [], true, Option}
+use Rattle.std.specs.Prelude.{◌≡◌, ℕ, List, ◌-◌, length, slice_get, [], ◌∷◌, true, false, Option, Some}
 use Rattle.std.specs.Option.{option_map_or}
+use Rattle.pb_outcome.specs.declared.job.Job.{Job}
+use Rattle.pb_outcome.specs.declared.job.Report.{Report}
+use Rattle.pb_outcome.specs.declared.outcome.Form.{Form}
 use Rattle.pb_state.specs.declared.event.Event.{Event}
+use Rattle.pb_state.specs.declared.event.Event.TheVariants.{Open, Start, Send, Report as Reported, Turn, Close, Stop, Forks}
 use Rattle.pb_state.specs.declared.row.Counts.{Counts}
 use Rattle.pb_state.specs.Plan.{PlanOf}
-use Rattle.pb_state.specs.Machine.{first_state}
-use Rattle.pb_state.specs.Run.{IsRun, IsEager, IsFinished, legal_from, state_from}
-use Rattle.pb_engine.specs.EngineOf.{EngineOf}
+use Rattle.pb_state.specs.State.{State}
+use Rattle.pb_state.specs.Machine.{after, first_state}
+use Rattle.pb_state.specs.Jobs.{job_of}
+use Rattle.pb_state.specs.Oldest.{oldest_out}
+use Rattle.pb_state.specs.Run.{IsRun, IsEager, IsQuiet, IsFinished, legal_from, state_from, is_report, is_command}
+use Rattle.pb_state.specs.Once.{IsOnce}
+use Rattle.pb_engine.specs.EngineOf.{EngineOf, Takes}
 use Rattle.pb_events.specs.Lines.{lines_of}
 use Rattle.pb_recap.specs.Recap.{recap}
 use Rattle.pb_recap.specs.Kinds.{status_of}
 use Rattle.pb_driver.specs.Taken.{with_more}
 use Rattle.pb_driver.specs.Output.{lines_from, output}
 
--- behind a base, the bytes are the lines of the engine's trail, which is a legal, eager run
-pub record IsDriven (base : Option (List ℕ)) (engine : EngineOf) (taken : Option (List ℕ)) : Type 0 where
-  pub run : IsRun engine.plan engine.pool engine.trail engine.state
-  pub eager : IsEager engine.plan (first_state engine.plan engine.plan.forks engine.pool) engine.trail
-  pub bytes : taken ≡ with_more base (lines_from engine.plan (first_state engine.plan engine.plan.forks engine.pool) engine.trail)
+-- a report answers the oldest of the jobs that are out, with an outcome that the runner's kind allows for this job, and that the runner itself gives
+pub record IsAnswer (allows gives : Job → Form → Type 0) (plan : PlanOf) (s : State) (r : Report) : Type 0 where
+  pub job : Job
+  pub is_out : job_of plan s r.host r.ticket ≡ Some job
+  pub oldest : oldest_out s.rows ≡ Some (r.host, r.ticket)
+  pub allowed : allows job r.outcome
+  pub given : gives job r.outcome
+
+abbrev pub IsAnswerAt : (Job → Form → Type 0) → (Job → Form → Type 0) → PlanOf → State → Event → Type 0
+IsAnswerAt allows gives plan s Open = Unit {0}
+IsAnswerAt allows gives plan s (Start h) = Unit {0}
+IsAnswerAt allows gives plan s (Send h item ticket) = Unit {0}
+IsAnswerAt allows gives plan s (Reported r) = IsAnswer allows gives plan s r
+IsAnswerAt allows gives plan s Turn = Unit {0}
+IsAnswerAt allows gives plan s Close = Unit {0}
+IsAnswerAt allows gives plan s Stop = Unit {0}
+IsAnswerAt allows gives plan s (Forks n) = Unit {0}
+
+-- each report answers a job that was out
+abbrev pub IsAnswered : (Job → Form → Type 0) → (Job → Form → Type 0) → PlanOf → State → List Event → Type 0
+IsAnswered allows gives plan s [] = Unit {0}
+IsAnswered allows gives plan s (e ∷ es) = IsAnswerAt allows gives plan s e × IsAnswered allows gives plan (after plan s e) es
+
+-- no event is a command
+abbrev pub IsUncommanded : List Event → Type 0
+IsUncommanded [] = Unit {0}
+IsUncommanded (e ∷ es) = (is_command e ≡ false) × IsUncommanded es
+
+-- the beginning of a run, which is one itself: a run that couldn't go on leaves this much of its trail
+pub record IsBegun (allows gives : Job → Form → Type 0) (plan : PlanOf) (pool : ℕ) (trail : List Event) : Type 0 where
+  pub legal : legal_from plan (first_state plan plan.forks pool) trail ≡ true
+  pub eager : IsEager plan (first_state plan plan.forks pool) trail
+  pub once : IsOnce plan (first_state plan plan.forks pool) trail
+  pub answered : IsAnswered allows gives plan (first_state plan plan.forks pool) trail
+  pub uncommanded : IsUncommanded trail
+
+-- a whole run: a legal, eager trail that does nothing twice, whose reports answer the jobs that were out and that ends in a finished state, and its output
+-- and nothing else
+pub record IsWholeRun (allows gives : Job → Form → Type 0) (plan : PlanOf) (pool : ℕ) (trail : List Event) (before after : Option (List ℕ)) : Type 0 where
+  pub legal : legal_from plan (first_state plan plan.forks pool) trail ≡ true
+  pub eager : IsEager plan (first_state plan plan.forks pool) trail
+  pub once : IsOnce plan (first_state plan plan.forks pool) trail
+  pub answered : IsAnswered allows gives plan (first_state plan plan.forks pool) trail
+  pub uncommanded : IsUncommanded trail
+  pub finished : IsFinished plan (state_from plan (first_state plan plan.forks pool) trail)
+  pub written : after ≡ with_more before (output plan pool trail)
+
+-- the recap and the exit status of a trail
+abbrev pub IsTold : PlanOf → ℕ → List Event → List Counts → ℕ → Type 0
+IsTold plan pool trail counts status = (counts ≡ recap plan pool trail) × (status ≡ status_of (recap plan pool trail))
+
+-- the beginning of a run, as an engine has it
+abbrev pub HasBegun : (Job → Form → Type 0) → (Job → Form → Type 0) → EngineOf → Type 0
+HasBegun allows gives engine = IsBegun allows gives engine.plan engine.pool engine.trail
+
+-- the engine took one event that isn't a command; where it is a report, nothing else was possible, and the job that was out is answered
+pub record TakesOne (allows gives : Job → Form → Type 0) (old new : EngineOf) : Type 0 where
+  pub event : Event
+  pub takes : Takes old new event
+  pub eager : is_report event ≡ true → IsQuiet old.plan old.state
+  pub answer : IsAnswerAt allows gives old.plan old.state event
+  pub uncommanded : is_command event ≡ false
 
 -- the lines of the last event
 abbrev pub last_lines : EngineOf → List ℕ
 last_lines engine = option_map_or (lines_of engine.plan engine.state) (slice_get engine.trail (length engine.trail - 1)) []
+
+-- the lines of an engine's trail
+abbrev pub lines_of_trail : EngineOf → List ℕ
+lines_of_trail engine = lines_from engine.plan (first_state engine.plan engine.plan.forks engine.pool) engine.trail
 
 -- the same plan and pool, and a legal run still
 pub record IsSame (old new : EngineOf) : Type 0 where
@@ -29,25 +98,9 @@ pub record IsSame (old new : EngineOf) : Type 0 where
   pub pool : new.pool ≡ old.pool
   pub run : IsRun new.plan new.pool new.trail new.state
 
--- a turn keeps that the engine is driven, whatever was written before
+-- a turn keeps that the bytes are the lines of the engine's trail, whatever was written before
 abbrev pub Keeps : EngineOf → EngineOf → Option (List ℕ) → Option (List ℕ) → Type 0
-Keeps old new taken_old taken_new = (base : Option (List ℕ)) → IsDriven base old taken_old → IsDriven base new taken_new
-
--- a whole run: a legal, eager trail that ends in a finished state, and its output and nothing else
-pub record IsWholeRun (plan : PlanOf) (pool : ℕ) (trail : List Event) (before after : Option (List ℕ)) : Type 0 where
-  pub legal : legal_from plan (first_state plan plan.forks pool) trail ≡ true
-  pub eager : IsEager plan (first_state plan plan.forks pool) trail
-  pub finished : IsFinished plan (state_from plan (first_state plan plan.forks pool) trail)
-  pub written : after ≡ with_more before (output plan pool trail)
-
--- the beginning of a run, which is one itself: a run that couldn't go on leaves this much of its trail
-pub record IsBegun (plan : PlanOf) (pool : ℕ) (trail : List Event) : Type 0 where
-  pub legal : legal_from plan (first_state plan plan.forks pool) trail ≡ true
-  pub eager : IsEager plan (first_state plan plan.forks pool) trail
-
--- the recap and the exit status of a trail
-abbrev pub IsTold : PlanOf → ℕ → List Event → List Counts → ℕ → Type 0
-IsTold plan pool trail counts status = (counts ≡ recap plan pool trail) × (status ≡ status_of (recap plan pool trail))
+Keeps old new taken_old taken_new = (base : Option (List ℕ)) → taken_old ≡ with_more base (lines_of_trail old) → taken_new ≡ with_more base (lines_of_trail new)
 
 -- an engine before its run
 abbrev pub IsFresh : EngineOf → Type 0

@@ -1,18 +1,23 @@
 //! The driver.
 
-ghost use Rattle.std.specs.Prelude.{◌≡◌, ◌<◌, ◌≤◌, ◌++◌, [], ℕ, List, IfOk, IfErr, OnOk, OnErr, Ok, true, false};
-ghost use Rattle.pb_state.specs.Run.{IsFinished};
-ghost use Rattle.pb_state.specs.Machine.{first_state};
+ghost use Rattle.std.specs.Prelude.{◌≡◌, ◌<◌, ◌≤◌, ◌++◌, ◌↔◌, [], ℕ, List, IfOk, IfErr, OnOk, OnErr, Ok, true, false};
+ghost use Rattle.std.specs.List.{list_any};
+ghost use Rattle.pb_outcome.specs.declared.job.Job.{Job};
+ghost use Rattle.pb_outcome.specs.declared.outcome.Form.{Form};
+ghost use Rattle.pb_state.specs.Run.{IsFinished, IsQuiet};
+ghost use Rattle.pb_state.specs.Machine.{first_state, is_out};
 ghost use Rattle.pb_engine.specs.EngineOf.{LessWork, IsSound};
 ghost use Rattle.pb_recap.specs.Recap.{recap};
 ghost use Rattle.pb_driver.specs.Taken.{with_more, one_more};
 ghost use Rattle.pb_driver.specs.Output.{output, end_lines};
-ghost use Rattle.pb_driver.specs.Driven.{IsSame, Keeps, last_lines, IsWholeRun, IsBegun, IsTold, IsFresh};
+ghost use Rattle.pb_driver.specs.Driven.{IsSame, Keeps, TakesOne, HasBegun, last_lines, IsWholeRun, IsBegun, IsTold, IsFresh};
 
 use crate::line_out::{Failed, LineOut, put_all};
-use pb_engine::{Engine, EngineFault, Next, Picker};
+use pb_engine::{Engine, EngineFault, Next, Picker, Refusal};
 use pb_events::{lines_of, start_line};
+use pb_outcome::job::Report;
 use pb_recap::Recap;
+use pb_runner::runner::Runner;
 use pb_state::{Event, Plan};
 use std::alloc::{AllocError, Global};
 use thiserror::Error;
@@ -86,28 +91,95 @@ fn emit<W: LineOut>(alloc: Global, engine: &Engine, writer: &mut W) -> Result<()
     Ok(())
 }
 
-/// One event, with its lines. It answers whether there was one to take.
-#[tactic(auto, using(crate::proofs::Driving::keeps_move, crate::proofs::Driving::keeps_same, crate::proofs::Driving::same_next, crate::proofs::Driving::same_same, crate::proofs::Driving::less_next, crate::proofs::Driving::over_next))]
-fn turn<P: Picker, W: LineOut>(
+/// Runs the oldest of the jobs that are out, and takes its report.
+#[tactic(auto, using(crate::proofs::Driving::answers, crate::proofs::Driving::item_of_job, crate::proofs::Driving::oldest_found, crate::proofs::Driving::job_found, crate::proofs::Driving::never_refused, crate::proofs::Driving::gives_same))]
+fn answer<R: Runner>(alloc: Global, engine: &mut Engine, runner: &mut R) -> Result<(), RunFault>
+    requires sound { IsSound engine.old }
+    requires quiet { IsQuiet engine.old.plan engine.old.state }
+    requires out { list_any is_out engine.old.state.rows ≡ true }
+    ensures took { OnOk result (TakesOne R.allows (R.gives runner.old) engine.old engine.new) }
+    ensures work { OnOk result (LessWork engine.old engine.new) }
+    ensures err { OnErr result (engine.new ≡ engine.old) }
+    ensures fault { IfErr result (λ e. e ≡ RunFault.Memory) }
+    ensures run { IsSound engine.new }
+    ensures lasting { (job : Job) (outcome : Form) → R.gives runner.new job outcome ↔ R.gives runner.old job outcome }
+{
+    let Some((host, ticket)) = engine.state().oldest_out() else {
+        unreachable!()
+    };
+    let Some(job) = engine.state().job(alloc, engine.plan(), host, ticket)? else {
+        unreachable!()
+    };
+    let outcome = runner.run(alloc, &job);
+    let report = Report {
+        ticket,
+        host,
+        item: job.item,
+        outcome,
+    };
+    match engine.absorb(report) {
+        Ok(()) => Ok(()),
+        Err((_, refusal)) => match refusal {
+            Refusal::Memory => Err(RunFault::Memory),
+            Refusal::UnknownTicket => unreachable!(),
+            Refusal::AlreadyReported => unreachable!(),
+            Refusal::WrongItem => unreachable!(),
+        },
+    }
+}
+
+/// One event: one of the machine's own, or the report of the oldest job where the machine waits for one. It answers
+/// whether there was one to take.
+#[tactic(auto, using(crate::proofs::Driving::moves_one, crate::proofs::Driving::moves_sent, crate::proofs::Driving::less_sent, crate::proofs::Driving::less_next, crate::proofs::Driving::over_next, crate::proofs::Driving::waits_quiet, crate::proofs::Driving::waits_out, crate::proofs::Driving::waits_same, crate::proofs::Driving::waits_took, crate::proofs::Driving::waits_less, crate::proofs::Driving::gives_same))]
+fn advance<R: Runner, P: Picker>(
     alloc: Global,
     engine: &mut Engine,
+    runner: &mut R,
+    picker: &mut P,
+) -> Result<bool, RunFault>
+    ensures took { result ≡ Ok true → TakesOne R.allows (R.gives runner.old) engine.old engine.new }
+    ensures work { result ≡ Ok true → LessWork engine.old engine.new }
+    ensures over { result ≡ Ok false → (engine.new ≡ engine.old) × IsFinished engine.old.plan engine.old.state }
+    ensures err { OnErr result (engine.new ≡ engine.old) }
+    ensures fault { IfErr result (λ e. e ≡ RunFault.Memory) }
+    ensures run { IsSound engine.new }
+    ensures lasting { (job : Job) (outcome : Form) → R.gives runner.new job outcome ↔ R.gives runner.old job outcome }
+{
+    match engine.next(picker)? {
+        Next::Finished => return Ok(false),
+        Next::Sent(_) => return Ok(true),
+        Next::Moved => return Ok(true),
+        Next::Waiting => {}
+    }
+    answer(alloc, engine, runner)?;
+    Ok(true)
+}
+
+/// One event, with its lines. It answers whether there was one to take.
+#[tactic(auto, using(crate::proofs::Driving::keeps_one, crate::proofs::Driving::keeps_same, crate::proofs::Driving::same_one, crate::proofs::Driving::same_same, crate::proofs::Driving::begun_one, crate::proofs::Driving::begun_same))]
+fn turn<R: Runner, P: Picker, W: LineOut>(
+    alloc: Global,
+    engine: &mut Engine,
+    runner: &mut R,
     picker: &mut P,
     writer: &mut W,
 ) -> Result<bool, RunFault>
+    requires sound { IsSound engine.old }
+    requires begun { HasBegun R.allows (R.gives runner.old) engine.old }
     ensures same { IsSame engine.old engine.new }
+    ensures begun { HasBegun R.allows (R.gives runner.old) engine.new }
     ensures keeps { OnOk result (Keeps engine.old engine.new (W.taken writer.old) (W.taken writer.new)) }
     ensures more { result ≡ Ok true → LessWork engine.old engine.new }
     ensures over { result ≡ Ok false → IsFinished engine.new.plan engine.new.state }
     ensures quiet { OnOk result (W.failures writer.new ≡ W.failures writer.old) }
     ensures failed { IfErr result (λ e. e ≡ RunFault.Write → W.failures writer.new ≡ one_more (W.failures writer.old)) }
+    ensures lasting { (job : Job) (outcome : Form) → R.gives runner.new job outcome ↔ R.gives runner.old job outcome }
 {
-    match engine.next(picker)? {
-        Next::Finished => Ok(false),
-        Next::Moved => {
-            emit(alloc, engine, writer)?;
-            Ok(true)
-        }
+    if !advance(alloc, engine, runner, picker)? {
+        return Ok(false);
     }
+    emit(alloc, engine, writer)?;
+    Ok(true)
 }
 
 /// Writes the statistics and the recap of a finished run.
@@ -129,21 +201,25 @@ fn emit_end<W: LineOut>(
 }
 
 /// Takes events, with their lines, until nothing is possible.
-fn turn_all<P: Picker, W: LineOut>(
+#[tactic(auto, using(crate::proofs::Driving::begun_as, crate::proofs::Driving::begun_back, crate::proofs::Driving::gives_same, crate::proofs::Driving::gives_more))]
+fn turn_all<R: Runner, P: Picker, W: LineOut>(
     alloc: Global,
     engine: &mut Engine,
+    runner: &mut R,
     picker: &mut P,
     writer: &mut W,
 ) -> Result<(), RunFault>
-    requires { IsSound engine.old }
+    requires sound { IsSound engine.old }
+    requires begun { HasBegun R.allows (R.gives runner.old) engine.old }
     ensures same { IsSame engine.old engine.new }
+    ensures begun { HasBegun R.allows (R.gives runner.old) engine.new }
     ensures keeps { OnOk result (Keeps engine.old engine.new (W.taken writer.old) (W.taken writer.new)) }
     ensures over { OnOk result (IsFinished engine.new.plan engine.new.state) }
     ensures quiet { OnOk result (W.failures writer.new ≡ W.failures writer.old) }
     ensures failed { IfErr result (λ e. e ≡ RunFault.Write → W.failures writer.new ≡ one_more (W.failures writer.old)) }
 {
     'turns: loop {
-        let more = turn(alloc, engine, picker, writer)?;
+        let more = turn(alloc, engine, runner, picker, writer)?;
         if !more {
             break;
         }
@@ -152,43 +228,47 @@ fn turn_all<P: Picker, W: LineOut>(
 }
 
 /// Takes a fresh engine through its whole run, with its output.
-#[tactic(auto, using(crate::proofs::Driving::whole))]
-fn run_engine<P: Picker, W: LineOut>(
+#[tactic(auto, using(crate::proofs::Driving::whole, crate::proofs::Driving::fresh_begun, crate::proofs::Driving::empty_begun))]
+fn run_engine<R: Runner, P: Picker, W: LineOut>(
     alloc: Global,
     engine: &mut Engine,
+    runner: &mut R,
     picker: &mut P,
     writer: &mut W,
 ) -> Result<Recap, RunFault>
     requires sound { IsSound engine.old }
     requires fresh { IsFresh engine.old }
-    ensures whole { OnOk result (IsWholeRun engine.old.plan engine.old.pool engine.new.trail (W.taken writer.old) (W.taken writer.new)) }
+    ensures whole { OnOk result (IsWholeRun R.allows (R.gives runner.old) engine.old.plan engine.old.pool engine.new.trail (W.taken writer.old) (W.taken writer.new)) }
     ensures recap { IfOk result (λ r. r ≡ recap engine.old.plan engine.old.pool engine.new.trail) }
     ensures same { IsSame engine.old engine.new }
+    ensures begun { HasBegun R.allows (R.gives runner.old) engine.new }
     ensures quiet { OnOk result (W.failures writer.new ≡ W.failures writer.old) }
     ensures failed { IfErr result (λ e. e ≡ RunFault.Write → W.failures writer.new ≡ one_more (W.failures writer.old)) }
 {
     let start = start_line(alloc, engine.plan().plays().len() as u32)?;
     put_all(writer, &start)?;
-    turn_all(alloc, engine, picker, writer)?;
+    turn_all(alloc, engine, runner, picker, writer)?;
     let recap = Recap::of(alloc, engine.state())?;
     emit_end(alloc, engine, &recap, writer)?;
     Ok(recap)
 }
 
-/// Runs a plan to its end in this thread, with its output on the writer. The picker chooses among the hosts that may start.
+/// Runs a plan to its end in this thread, with its output on the writer. The picker chooses among the hosts that have a
+/// job to send or may start. The runner runs the oldest of the jobs that are out where the machine has nothing else to do.
 ///
 /// # Errors
-/// `Memory` where memory was refused, and `Write` where a call of the writer failed, each with the events so far, which are a
-/// legal run themselves.
-pub fn run_plain<P: Picker, W: LineOut>(
+/// `Memory` where memory was refused, and `Write` where a call of the writer failed, each with the events so far, which are
+/// the beginning of such a run.
+pub fn run_plain<R: Runner, P: Picker, W: LineOut>(
     alloc: Global,
     plan: Plan,
+    runner: &mut R,
     picker: &mut P,
     writer: &mut W,
 ) -> Result<Ended, (RunFault, Vec<Event>)>
-    ensures run { IfOk result (λ ended. IsWholeRun plan 256 ended.trail.items (W.taken writer.old) (W.taken writer.new)) }
+    ensures run { IfOk result (λ ended. IsWholeRun R.allows (R.gives runner.old) plan 256 ended.trail.items (W.taken writer.old) (W.taken writer.new)) }
     ensures told { IfOk result (λ ended. IsTold plan 256 ended.trail.items ended.recap ended.status) }
-    ensures begun { IfErr result (λ e. IsBegun plan 256 e.1.items) }
+    ensures begun { IfErr result (λ e. IsBegun R.allows (R.gives runner.old) plan 256 e.1.items) }
     ensures quiet { OnOk result (W.failures writer.new ≡ W.failures writer.old) }
     ensures write { IfErr result (λ e. e.0 ≡ RunFault.Write → W.failures writer.new ≡ one_more (W.failures writer.old)) }
 {
@@ -197,7 +277,7 @@ pub fn run_plain<P: Picker, W: LineOut>(
         Err(EngineFault::Memory) => return Err((RunFault::Memory, Vec::new(alloc))),
         Err(EngineFault::PoolTooSmall) => unreachable!(),
     };
-    match run_engine(alloc, &mut engine, picker, writer) {
+    match run_engine(alloc, &mut engine, runner, picker, writer) {
         Ok(recap) => {
             let status = recap.status();
             Ok(Ended {

@@ -1,6 +1,6 @@
-use Rattle.pb_driver.proofs.Driving.{begun_at}
+use Rattle.pb_driver.proofs.Driving.{begun_of}
 use Rattle.pb_driver.proofs.driver.run_plain.Goals as goal
 
 pub returns-in-Err-clause-begun : goal.returns-in-Err-clause-begun
 returns-in-Err-clause-begun g c =
-    begun_at c.args.plan 256 c.in-Ok.engine c.run_engine.new.engine c.into_trail-in-Err.result.items c.in-Ok.ensures.value c.run_engine.ensures.same c.into_trail-in-Err.ensures.value
+    begun_of g.R.Allows.allows (g.R.Runner.gives c.args.runner.now) c.args.plan 256 c.in-Ok.engine c.run_engine.new.engine c.into_trail-in-Err.result.items c.in-Ok.ensures.value c.run_engine.ensures.same c.run_engine.ensures.begun c.into_trail-in-Err.ensures.value

@@ -1,6 +1,9 @@
-use Rattle.pb_driver.proofs.Driving.{keeps_moved}
+use Rattle.std.proofs.Common.{rules, ◌≡◌, true, Ok}
+use Rattle.pb_driver.proofs.Driving.{keeps_one}
 use Rattle.pb_driver.proofs.driver.turn.Goals as goal
 
-pub returns-in_ok-emit-in-Moved-clause-keeps : goal.returns-in_ok-emit-in-Moved-clause-keeps
-returns-in_ok-emit-in-Moved-clause-keeps g c =
-    keeps_moved g.P.Picker.picks c.args.picker.now c.next.new.picker c.args.engine.now c.next.new.self (g.W.LineOut.taken c.args.writer.now) (g.W.LineOut.taken c.emit.new.writer) c.in_ok-next.field-0 c.in_ok-next.ensures.value c.in-Moved.is c.in_ok-emit-in-Moved.ensures.took
+pub returns-clause-keeps : goal.returns-clause-keeps
+returns-clause-keeps g c =
+    let one = c.advance.ensures.took (search rules) in
+    keeps_one g.R.Allows.allows (g.R.Runner.gives c.args.runner.now) c.args.engine.now c.advance.new.engine (g.W.LineOut.taken c.args.writer.now) (g.W.LineOut.taken c.emit.new.writer)
+    c.requires.sound one c.in_ok-emit.ensures.took

@@ -1,0 +1,15 @@
+use Rattle.std.proofs.Common.{rules, ◌≡◌, ◌∙◌, sym}
+use Rattle.pb_engine.specs.declared.refusal.Refusal.{Refusal}
+use Rattle.pb_engine.specs.declared.refusal.Refusal.TheVariants.{UnknownTicket, AlreadyReported, Memory}
+use Rattle.pb_driver.proofs.Driving.{never_refused, item_of_job}
+use Rattle.pb_driver.proofs.driver.answer.Goals as goal
+
+pub unreachable-requires-in-UnknownTicket : goal.unreachable-requires-in-UnknownTicket
+unreachable-requires-in-UnknownTicket g c =
+    let refused = c.in-Err.ensures.refusal (λ m. let no : UnknownTicket ≡ Memory = sym c.in-UnknownTicket.is ∙ m in cc) in
+    never_refused c.args.engine.now (record { ticket = c.in-Some.ticket; host = c.in-Some.host; item = c.in-Some-2.job.item; outcome = c.run-outcome.result }) c.in-Err.refusal c.requires.sound (search rules) (search (rules, item_of_job)) refused
+
+pub unreachable-requires-in-AlreadyReported : goal.unreachable-requires-in-AlreadyReported
+unreachable-requires-in-AlreadyReported g c =
+    let refused = c.in-Err.ensures.refusal (λ m. let no : AlreadyReported ≡ Memory = sym c.in-AlreadyReported.is ∙ m in cc) in
+    never_refused c.args.engine.now (record { ticket = c.in-Some.ticket; host = c.in-Some.host; item = c.in-Some-2.job.item; outcome = c.run-outcome.result }) c.in-Err.refusal c.requires.sound (search rules) (search (rules, item_of_job)) refused
