@@ -1,6 +1,7 @@
--- What the words of the command line mean: `pb-play -i FILE PLAYBOOK`, and `--help`.
--- clap's own definitions say how words are read; the program's two arguments are stated here.
-use Rattle.std.specs.Prelude.{◌≡◌, ◌≢◌, List, [], Some, Option, codes, true}
+-- What the words of the command line mean: `pb-play -i FILE [-f N] [--outcomes FILE] PLAYBOOK`, and `--help`.
+-- clap's own definitions say how words are read; the program's arguments are stated here. std's say how a number is read.
+use Rattle.std.specs.Prelude.{◌≡◌, ◌≢◌, ◌⊎◌, ◌≤◌, ℕ, List, [], Some, None, Option, codes, true}
+use Rattle.std.specs.Str.Parse.{IsNumeral, digits_value, without_leading_plus}
 use Rattle.clap.specs.Words.{App, IsAmong, Kinds, Rule, Text, fault_of, first_of, matches_of, new_app, new_rule, with_rule}
 use Rattle.clap.specs.declared.error.kind.ErrorKind.{ErrorKind}
 use Rattle.clap.specs.declared.error.kind.ErrorKind.TheVariants.{DisplayHelp, OutOfMemory}
@@ -16,8 +17,19 @@ inventory = record (new_rule (codes "inventory")) { short = Some 105; value_name
 abbrev pub playbook : Rule
 playbook = record (new_rule (codes "playbook")) { value_names = 1; required = true }
 
+-- `-f N`; 102 is `f`
+abbrev pub forks : Rule
+forks = record (new_rule (codes "forks")) { short = Some 102; value_names = 1 }
+
+-- `--outcomes FILE`
+abbrev pub outcomes : Rule
+outcomes = record (new_rule (codes "outcomes")) { long = Some (codes "outcomes"); value_names = 1 }
+
+abbrev pub file_program : App
+file_program = with_rule (with_rule (new_app (codes "pb-play")) inventory) playbook
+
 abbrev pub program : App
-program = with_rule (with_rule (new_app (codes "pb-play")) inventory) playbook
+program = with_rule (with_rule file_program forks) outcomes
 
 -- what the words, the first of which is the program's name, give an argument
 unfoldable pub value_in : Text → List Text → Option Text
@@ -27,10 +39,33 @@ value_in id words = first_of id (matches_of program words)
 unfoldable pub errors_in : List Text → Kinds
 errors_in words = fault_of program words
 
--- the words are the program's, and ask for these two files
+-- a number from 1 to 256, in decimal digits, with a plus sign before them or none
+abbrev pub IsCount : Text → ℕ → Type 0
+IsCount text n = IsNumeral 10 (without_leading_plus text) × (n ≡ digits_value 10 (without_leading_plus text)) × (1 ≤ n) × (n ≤ 256)
+
+-- as many hosts at once as are written, 5 where nothing is
+abbrev pub AreForks : Option Text → ℕ → Type 0
+AreForks None n = n ≡ 5
+AreForks (Some text) n = IsCount text n
+
+-- what is written is no such number
+abbrev pub IsNoCount : Text → Type 0
+IsNoCount text = (n : ℕ) → IsCount text n → ⊥
+
+abbrev pub NoForks : Option Text → Type 0
+NoForks None = ⊥
+NoForks (Some text) = IsNoCount text
+
+abbrev pub IsBadForks : WordsFault → Type 0
+IsBadForks (Help text) = ⊥
+IsBadForks (Wrong text) = Unit
+IsBadForks Memory = Unit
+
+-- the words are the program's, and ask for these files and so many forks
 abbrev pub Asks : List Text → Request → Type 0
 Asks words request = (errors_in words ≡ [])
     × (value_in (codes "inventory") words ≡ Some request.inventory) × (value_in (codes "playbook") words ≡ Some request.playbook)
+    × AreForks (value_in (codes "forks") words) request.forks × (value_in (codes "outcomes") words ≡ request.outcomes)
 
 -- what an error of that kind is told as
 abbrev pub TellsKind : ErrorKind → WordsFault → Type 0
@@ -41,5 +76,5 @@ TellsKind kind Memory = Unit
 -- why the words ask for nothing to be played
 abbrev pub IsRefused : List Text → WordsFault → Type 0
 IsRefused words (Help text) = IsAmong DisplayHelp (errors_in words)
-IsRefused words (Wrong text) = (kind : ErrorKind) × IsAmong kind (errors_in words) × (kind ≢ DisplayHelp)
+IsRefused words (Wrong text) = ((kind : ErrorKind) × IsAmong kind (errors_in words) × (kind ≢ DisplayHelp)) ⊎ NoForks (value_in (codes "forks") words)
 IsRefused words Memory = Unit

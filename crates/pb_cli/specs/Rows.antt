@@ -1,5 +1,5 @@
 -- Worked command lines.
-use Rattle.std.specs.Prelude.{◌≡◌, ⊤, [], ◌∷◌, codes, refl}
+use Rattle.std.specs.Prelude.{◌≡◌, ⊤, None, [], ◌∷◌, codes, refl}
 use Rattle.clap.proofs.OnLiterals.{clap_on_literals}
 use Rattle.clap.specs.declared.error.kind.ErrorKind.TheVariants.{DisplayHelp, MissingRequiredArgument, UnknownArgument}
 use Rattle.pb_cli.specs.CommandLine.{errors_in, value_in, Asks}
@@ -9,14 +9,14 @@ unfoldable on_literals : ⊤
 unfolding errors_in value_in clap_on_literals
 on_literals = tt
 
-asked : Asks (codes "pb-play" ∷ codes "-i" ∷ codes "hosts.json" ∷ codes "site.json" ∷ []) (record { inventory = codes "hosts.json"; playbook = codes "site.json" })
+asked : Asks (codes "pb-play" ∷ codes "-i" ∷ codes "hosts.json" ∷ codes "site.json" ∷ []) (record { inventory = codes "hosts.json"; playbook = codes "site.json"; forks = 5; outcomes = None })
 unfolding on_literals
-asked = (refl, refl, refl)
+asked = (refl, refl, refl, refl, refl)
 
 -- the inventory may come last, and stand in its option's word
-asked_last : Asks (codes "pb-play" ∷ codes "site.json" ∷ codes "-ihosts.json" ∷ []) (record { inventory = codes "hosts.json"; playbook = codes "site.json" })
+asked_last : Asks (codes "pb-play" ∷ codes "site.json" ∷ codes "-ihosts.json" ∷ []) (record { inventory = codes "hosts.json"; playbook = codes "site.json"; forks = 5; outcomes = None })
 unfolding on_literals
-asked_last = (refl, refl, refl)
+asked_last = (refl, refl, refl, refl, refl)
 
 help : errors_in (codes "pb-play" ∷ codes "--help" ∷ []) ≡ DisplayHelp ∷ []
 unfolding on_literals

@@ -1,48 +1,84 @@
 //! The program, but for its words' and its streams' making.
 
-ghost use Rattle.std.specs.Prelude.{◌≡◌, ◌≢◌, ◌⊎◌, IfOk, IfErr, Err};
+ghost use Rattle.std.specs.Prelude.{◌≡◌, ◌≢◌, ◌⊎◌, IfOk, IfErr, Ok, Err};
 ghost use Rattle.pb_state.specs.Bundle.{plan_of};
 ghost use Rattle.pb_driver.specs.Taken.{with_more};
-ghost use Rattle.pb_cli.specs.Played.{IsPlayed};
+ghost use Rattle.pb_cli.specs.Played.{outcomes_of, IsPlayed};
 
 use crate::files::read_file;
 use crate::messages::{Part, message};
 use crate::words::{Request, WordsFault, read_words};
 use pb_driver::{LineOut, RunFault, put_all, run_plain};
 use pb_engine::Lowest;
+use pb_outcome::outcome::Outcome;
+use pb_runner::fault::TableFault;
+use pb_runner::table::{Table, TableRunner};
 use pb_state::{Bundle, BundleFault, MAX_BYTES, Plan};
 use pb_value::items::Items;
+use pb_value::text::Text;
 use std::alloc::Global;
 use std::fmt::Display;
 use std::fs::Files;
 use std::io;
 
-/// How many hosts may run at once, where the words don't say.
-const FORKS: u32 = 5;
+/// The most bytes of a file of outcomes: 64 MiB.
+const MAX_OUTCOMES: usize = 67_108_864;
 
 /// Why a bundle wasn't played to its end.
 #[derive(Drop)]
 pub enum PlayFault {
     /// The bundle has no plan.
     Bundle(BundleFault),
+    /// The outcomes are no table.
+    Outcomes(TableFault),
     /// The run stopped early.
     Run(RunFault),
 }
 
-/// Plays a bundle, with its lines on a writer, and answers the exit status.
+/// What comes of the jobs: what the bytes of a file of outcomes say, and without them status 0 and no output of each.
+fn table_runner(alloc: Global, outcomes: &Option<Items<u8>>) -> Result<TableRunner, TableFault>
+    ensures value { IfOk result (λ t. outcomes_of outcomes.now ≡ Ok t) }
+    ensures fault { IfErr result (λ e. e ≢ TableFault.Memory → outcomes_of outcomes.now ≡ Err e) }
+{
+    match outcomes {
+        Some(bytes) => TableRunner::read(alloc, bytes.as_slice()),
+        None => match Outcome::ran(0, Text::new(alloc), Text::new(alloc)) {
+            Ok(default) => Ok(TableRunner::of(
+                alloc,
+                Table {
+                    default,
+                    rows: Items::new(alloc),
+                },
+            )?),
+            Err(_) => unreachable!(),
+        },
+    }
+}
+
+/// Plays a bundle, with its lines on a writer, and answers the exit status. Jobs have the outcomes of the file's bytes.
 ///
 /// # Errors
-/// `Bundle` with the bundle's first fault, where it has no plan: nothing is written then. `Run` where memory was refused or the
-/// writer failed in the run.
-pub fn play_bundle<O: LineOut>(alloc: Global, bundle: &Bundle, out: &mut O) -> Result<u8, PlayFault>
-    ensures played { IfOk result (IsPlayed bundle.now (O.taken out.old) (O.taken out.new)) }
+/// `Bundle` with the bundle's first fault, where it has no plan, else `Outcomes` with the first fault of the outcomes: nothing is
+/// written then. `Run` where memory was refused or the writer failed in the run.
+pub fn play_bundle<O: LineOut>(
+    alloc: Global,
+    bundle: &Bundle,
+    outcomes: &Option<Items<u8>>,
+    out: &mut O,
+) -> Result<u8, PlayFault>
+    ensures played { IfOk result (IsPlayed bundle.now outcomes.now (O.taken out.old) (O.taken out.new)) }
     ensures refused { (e : BundleFault) → result ≡ Err (PlayFault.Bundle e) → (O.taken out.new ≡ O.taken out.old) × (e ≢ BundleFault.Memory → plan_of bundle.now ≡ Err e) }
+    ensures untold { (e : TableFault) → result ≡ Err (PlayFault.Outcomes e) → (O.taken out.new ≡ O.taken out.old) × (e ≢ TableFault.Memory → outcomes_of outcomes.now ≡ Err e) }
 {
     let plan = match Plan::of(alloc, bundle) {
         Ok(plan) => plan,
         Err(fault) => return Err(PlayFault::Bundle(fault)),
     };
-    match run_plain(alloc, plan, &mut Lowest, out) {
+    let mut runner = match table_runner(alloc, outcomes) {
+        Ok(runner) => runner,
+        Err(fault) => return Err(PlayFault::Outcomes(fault)),
+    };
+    match run_plain(alloc, plan, &mut runner, &mut Lowest, out) {
         Ok(ended) => Ok(ended.status),
         Err((fault, _)) => Err(PlayFault::Run(fault)),
     }
@@ -80,9 +116,22 @@ fn play_request<R: Files + AllocGlobal, O: LineOut, E: LineOut>(
         Ok(bundle) => bundle,
         Err(error) => return told(alloc, err, Part::File, &error),
     };
-    match play_bundle(alloc, &bundle, out) {
+    let outcomes = match read_outcomes(rt, request) {
+        Ok(outcomes) => outcomes,
+        Err(error) => return told(alloc, err, Part::File, &error),
+    };
+    if is_too_long(&outcomes) {
+        return told(
+            alloc,
+            err,
+            Part::File,
+            &"the outcomes have more than 64 MiB",
+        );
+    }
+    match play_bundle(alloc, &bundle, &outcomes, out) {
         Ok(status) => status,
         Err(PlayFault::Run(fault)) => told(alloc, err, Part::Run, &fault),
+        Err(PlayFault::Outcomes(fault)) => told(alloc, err, Part::Outcomes, &fault),
         Err(PlayFault::Bundle(fault)) => told_bundle(alloc, err, &fault),
     }
 }
@@ -95,8 +144,30 @@ fn read_bundle<R: Files + AllocGlobal>(rt: &R, request: &Request) -> io::Result<
     Ok(Bundle {
         inventory: Items::from_vec(inventory),
         playbook: Items::from_vec(playbook),
-        forks: FORKS,
+        forks: request.forks,
     })
+}
+
+/// The bytes of the file of outcomes, if one was asked for: at most 64 MiB and one more.
+fn read_outcomes<R: Files + AllocGlobal>(
+    rt: &R,
+    request: &Request,
+) -> io::Result<Option<Items<u8>>> {
+    match &request.outcomes {
+        Some(path) => {
+            let bytes = read_file(rt, path.as_str(), MAX_OUTCOMES)?;
+            Ok(Some(Items::from_vec(bytes)))
+        }
+        None => Ok(None),
+    }
+}
+
+/// Whether a file of outcomes has more than 64 MiB.
+fn is_too_long(outcomes: &Option<Items<u8>>) -> bool {
+    match outcomes {
+        Some(bytes) => bytes.len() > MAX_OUTCOMES,
+        None => false,
+    }
 }
 
 /// Tells a bundle's fault, by its part.

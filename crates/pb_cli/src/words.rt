@@ -1,7 +1,7 @@
 ghost use Rattle.pb_cli.specs.declared.words.WordsFault.TheVariants.{Memory};
-ghost use Rattle.std.specs.Prelude.{◌≡◌, IfOk, IfErr, map, string_bytes};
-ghost use Rattle.clap.specs.Words.{app_of, kind_of};
-ghost use Rattle.pb_cli.specs.CommandLine.{program, Asks, IsRefused, TellsKind};
+ghost use Rattle.std.specs.Prelude.{◌≡◌, ◌⊎◌, IfOk, IfErr, map, codes, string_bytes};
+ghost use Rattle.clap.specs.Words.{app_of, kind_of, found_of, first_value};
+ghost use Rattle.pb_cli.specs.CommandLine.{file_program, program, Asks, IsCount, IsNoCount, AreForks, NoForks, IsBadForks, IsRefused, TellsKind};
 
 use clap::error::ErrorKind;
 use clap::{Arg, ArgMatches, Command, Error};
@@ -15,7 +15,14 @@ pub struct Request {
     pub inventory: Text,
     /// The path of the playbook's file.
     pub playbook: Text,
+    /// How many hosts may run at once: 1 to 256.
+    pub forks: u32,
+    /// The path of the outcomes' file, if one is given.
+    pub outcomes: Option<Text>,
 }
+
+/// How many hosts may run at once, where the words don't say.
+const FORKS: u32 = 5;
 
 /// Why the words ask for no play.
 #[derive(Drop)]
@@ -36,8 +43,9 @@ impl From<AllocError> for WordsFault {
     }
 }
 
-fn command<'a>(alloc: Global) -> Result<Command<'a>, AllocError>
-    ensures { IfOk result (λ c. app_of c ≡ program) }
+/// The program with its files.
+fn file_words<'a>(alloc: Global) -> Result<Command<'a>, AllocError>
+    ensures { IfOk result (λ c. app_of c ≡ file_program) }
 {
     let inventory = Arg::new(alloc, "inventory")
         .short('i')
@@ -49,6 +57,22 @@ fn command<'a>(alloc: Global) -> Result<Command<'a>, AllocError>
         .help("The playbook, a JSON file")
         .required(true);
     Command::new(alloc, "pb-play").arg(inventory)?.arg(playbook)
+}
+
+fn command<'a>(alloc: Global) -> Result<Command<'a>, AllocError>
+    ensures { IfOk result (λ c. app_of c ≡ program) }
+{
+    let forks = Arg::new(alloc, "forks")
+        .short('f')
+        .value_name("N")
+        .help("How many hosts run at once, 1 to 256; 5 if not given");
+    let outcomes = Arg::new(alloc, "outcomes")
+        .long("outcomes")
+        .value_name("FILE")
+        .help(
+            "What comes of the jobs, a JSON file; without it each job ends with status 0 and no output",
+        );
+    file_words(alloc)?.arg(forks)?.arg(outcomes)
 }
 
 fn fault(alloc: Global, error: &Error) -> WordsFault
@@ -69,6 +93,56 @@ fn fault(alloc: Global, error: &Error) -> WordsFault
     }
 }
 
+/// A count of forks that isn't one, told.
+fn bad_forks(alloc: Global, written: &str) -> WordsFault
+    ensures { IsBadForks result }
+{
+    match format!(in alloc; "'{written}' isn't a number from 1 to 256, as -f wants") {
+        Ok(text) => WordsFault::Wrong {
+            text: Text::from_string(text),
+        },
+        Err(_) => WordsFault::Memory,
+    }
+}
+
+/// A number from 1 to 256.
+fn read_count(alloc: Global, text: &str) -> Result<u32, WordsFault>
+    ensures value { IfOk result (IsCount text.now) }
+    ensures fault { IfErr result (λ e. IsBadForks e × IsNoCount text.now) }
+{
+    match text.parse::<u32>() {
+        Ok(count) => {
+            if 1 <= count && count <= 256 {
+                Ok(count)
+            } else {
+                Err(bad_forks(alloc, text))
+            }
+        }
+        Err(_) => Err(bad_forks(alloc, text)),
+    }
+}
+
+/// How many hosts may run at once: a number from 1 to 256, or 5 where none is written.
+fn forks_in(alloc: Global, matches: &ArgMatches<'_>) -> Result<u32, WordsFault>
+    ensures value { IfOk result (AreForks (first_value (found_of matches.now) (codes "forks"))) }
+    ensures fault { IfErr result (λ e. IsBadForks e × NoForks (first_value (found_of matches.now) (codes "forks"))) }
+{
+    match matches.get_str("forks") {
+        None => Ok(FORKS),
+        Some(text) => read_count(alloc, text),
+    }
+}
+
+/// The path of the outcomes' file, if one is given.
+fn outcomes_in(alloc: Global, matches: &ArgMatches<'_>) -> Result<Option<Text>, AllocError>
+    ensures { IfOk result (λ path. first_value (found_of matches.now) (codes "outcomes") ≡ path) }
+{
+    match matches.get_str("outcomes") {
+        Some(path) => Ok(Some(Text::from_str(alloc, path)?)),
+        None => Ok(None),
+    }
+}
+
 /// What the words ask for. The first of them is the program's name.
 pub fn read_words(alloc: Global, words: &[String]) -> Result<Request, WordsFault>
     ensures value { IfOk result (Asks (map string_bytes words.now)) }
@@ -83,9 +157,16 @@ pub fn read_words(alloc: Global, words: &[String]) -> Result<Request, WordsFault
             ) else {
                 return Err(WordsFault::Memory);
             };
+            let forks = match forks_in(alloc, &matches) {
+                Ok(forks) => forks,
+                Err(fault) => return Err(fault),
+            };
+            let outcomes = outcomes_in(alloc, &matches)?;
             Ok(Request {
                 inventory: Text::from_str(alloc, inventory)?,
                 playbook: Text::from_str(alloc, playbook)?,
+                forks,
+                outcomes,
             })
         }
         Err(error) => Err(fault(alloc, &error)),

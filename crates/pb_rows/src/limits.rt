@@ -1,7 +1,7 @@
 //! The largest bundles that are taken, and those that are one larger.
 
 use crate::kept::Kept;
-use crate::rows::play_files;
+use crate::rows::{play_files, play_words};
 use std::alloc::Global;
 use std::fs;
 use std::test::Fail;
@@ -68,6 +68,60 @@ fn largest_bundles(rt: HostRuntime) -> Result<(), Fail> {
         );
         assert_eq!(rt; seen.out.is_empty(), status == 1);
     }
+    Ok(())
+}
+
+/// A file of outcomes with this many rows, of which those of place 2 fit no job, and the last makes the last host fail.
+fn outcomes(alloc: Global, rows: u32, hosts: u32) -> Result<String, Fail> {
+    let mut text = String::from_str(alloc, "{\"rows\":[")?;
+    for row in 0..rows {
+        let host = row % hosts;
+        let line = format!(in alloc;
+            "{{\"host\":\"h{host}\",\"item\":{row},\"outcome\":{{\"err\":\"\",\"out\":\"\",\"rc\":2}},\"place\":\"2\"}},"
+        )?;
+        text.push_str(line.as_str())?;
+    }
+    let last_host = hosts.saturating_sub(1);
+    let last = format!(in alloc;
+        "{{\"host\":\"h{last_host}\",\"outcome\":{{\"err\":\"\",\"out\":\"\",\"rc\":1}}}}]}}"
+    )?;
+    text.push_str(last.as_str())?;
+    Ok(text)
+}
+
+#[test]
+fn many_outcomes(rt: HostRuntime) -> Result<(), Fail> {
+    let alloc = rt.alloc();
+    fs::write(&rt, "many_inventory", inventory(alloc, 2_000)?.as_str())?;
+    fs::write(
+        &rt,
+        "many_playbook",
+        "[{\"hosts\":\"all\",\"gather_facts\":false,\"tasks\":[{\"command\":\"x\"}]}]",
+    )?;
+    fs::write(
+        &rt,
+        "many_outcomes",
+        outcomes(alloc, 60_000, 2_000)?.as_str(),
+    )?;
+    let seen = play_words(
+        &rt,
+        [
+            "-f",
+            "256",
+            "-i",
+            "many_inventory",
+            "--outcomes",
+            "many_outcomes",
+            "many_playbook",
+        ]
+        .as_slice(),
+    )?;
+    assert_eq!(rt; seen.status, 2);
+    assert!(rt;
+        seen.out.ends_with(
+            b"h1998 : ok=1 changed=1 unreachable=0 failed=0 skipped=0 rescued=0 ignored=0\nh1999 : ok=0 changed=0 unreachable=0 failed=1 skipped=0 rescued=0 ignored=0\n"
+        )
+    );
     Ok(())
 }
 

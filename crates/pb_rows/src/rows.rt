@@ -5,6 +5,7 @@ use pb_cli::program::play;
 use pb_driver::run_plain;
 use pb_engine::Lowest;
 use pb_ids::HostNo;
+use pb_runner::table::TableRunner;
 use pb_state::{Bundle, Event, Plan};
 use pb_value::items::Items;
 use std::alloc::Global;
@@ -134,6 +135,7 @@ fn push_event(text: &mut String, event: &Event) -> Result<(), Fail> {
         Event::Start(_) => text.push_str("start 1 ")?,
         Event::Turn => text.push_str("turn ")?,
         Event::Close => text.push_str("close ")?,
+        _ => text.push_str("other ")?,
     }
     Ok(())
 }
@@ -156,7 +158,10 @@ fn worked_trails(rt: HostRuntime) -> Result<(), Fail> {
             forks: 5,
         };
         let plan = Plan::of(alloc, &bundle).ok().ok_or("a plan")?;
-        let ended = run_plain(alloc, plan, &mut Lowest, &mut Kept::new(alloc))
+        let mut runner = TableRunner::read(alloc, b"{\"rows\":[]}")
+            .ok()
+            .ok_or("a table")?;
+        let ended = run_plain(alloc, plan, &mut runner, &mut Lowest, &mut Kept::new(alloc))
             .ok()
             .ok_or("an end")?;
         let mut trail = String::new(alloc);
@@ -239,7 +244,7 @@ fn writers_that_fail(rt: HostRuntime) -> Result<(), Fail> {
 }
 
 /// Plays these words, behind the program's name.
-fn play_words(rt: &HostRuntime, texts: &[&str]) -> Result<Seen, Fail> {
+pub fn play_words(rt: &HostRuntime, texts: &[&str]) -> Result<Seen, Fail> {
     let alloc = rt.alloc();
     let mut out = Kept::new(alloc);
     let mut err = Kept::new(alloc);
@@ -266,5 +271,10 @@ fn words(rt: HostRuntime) -> Result<(), Fail> {
     assert_eq!(rt; seen.status, 1);
     assert!(rt; seen.out.is_empty());
     assert!(rt; seen.err.starts_with(b"pb-play: words: "));
+    for forks in ["0", "257", "x", ""] {
+        let seen = play_words(&rt, ["-f", forks, "-i", "none", "none"].as_slice())?;
+        assert_eq!(rt; seen.status, 1);
+        assert!(rt; seen.err.starts_with(b"pb-play: words: "));
+    }
     Ok(())
 }
