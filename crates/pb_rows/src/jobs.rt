@@ -221,19 +221,20 @@ fn reports_that_are_refused(rt: HostRuntime) -> Result<(), Fail> {
     let alloc = rt.alloc();
     let plan = plan_of(alloc, TWO_HOSTS, COMMAND, 1)?;
     let mut engine = Engine::new(alloc, plan, 256).ok().ok_or("an engine")?;
-    let mut sent = 0;
+    let mut is_sent = false;
     for _ in 0..10 {
         match engine.next(&mut Lowest) {
             Ok(Next::Sent(job)) => {
+                assert!(rt; !is_sent);
                 assert_eq!(rt; job.ticket, Ticket(0));
                 assert_eq!(rt; job.name.as_str(), "a");
-                sent += 1;
+                is_sent = true;
             }
             Ok(Next::Waiting) => break,
             _ => {}
         }
     }
-    assert_eq!(rt; sent, 1);
+    assert!(rt; is_sent);
     let cases = [
         (9, 0, 0, Some(Refusal::UnknownTicket)),
         (0, 0, 1, Some(Refusal::WrongItem)),
