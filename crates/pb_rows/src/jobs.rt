@@ -265,9 +265,9 @@ fn outcomes_that_are_refused(rt: HostRuntime) -> Result<(), Fail> {
     let alloc = rt.alloc();
     fs::write(&rt, "refused_inventory", TWO_HOSTS)?;
     fs::write(&rt, "refused_playbook", COMMAND)?;
-    let whole = "{\"default\":{\"err\":\"\",\"out\":\"\",\"rc\":0},\"rows\":[]}";
+    let whole = b"{\"default\":{\"err\":\"\",\"out\":\"\",\"rc\":0},\"rows\":[]}".as_slice();
     for at in 0..whole.len() {
-        fs::write(&rt, "refused_outcomes", whole.split_at(at).0)?;
+        fs::write(&rt, "refused_outcomes", &whole[..at])?;
         let seen = play_words(
             &rt,
             [

@@ -71,17 +71,20 @@ fn largest_bundles(rt: HostRuntime) -> Result<(), Fail> {
     Ok(())
 }
 
+/// How many hosts have outcomes.
+const HOSTS: u32 = 2_000;
+
 /// A file of outcomes with this many rows, of which those of place 2 fit no job, and the last makes the last host fail.
-fn outcomes(alloc: Global, rows: u32, hosts: u32) -> Result<String, Fail> {
+fn outcomes(alloc: Global, rows: u32) -> Result<String, Fail> {
     let mut text = String::from_str(alloc, "{\"rows\":[")?;
     for row in 0..rows {
-        let host = row % hosts;
+        let host = row % HOSTS;
         let line = format!(in alloc;
             "{{\"host\":\"h{host}\",\"item\":{row},\"outcome\":{{\"err\":\"\",\"out\":\"\",\"rc\":2}},\"place\":\"2\"}},"
         )?;
         text.push_str(line.as_str())?;
     }
-    let last_host = hosts.saturating_sub(1);
+    let last_host = HOSTS - 1;
     let last = format!(in alloc;
         "{{\"host\":\"h{last_host}\",\"outcome\":{{\"err\":\"\",\"out\":\"\",\"rc\":1}}}}]}}"
     )?;
@@ -92,17 +95,13 @@ fn outcomes(alloc: Global, rows: u32, hosts: u32) -> Result<String, Fail> {
 #[test]
 fn many_outcomes(rt: HostRuntime) -> Result<(), Fail> {
     let alloc = rt.alloc();
-    fs::write(&rt, "many_inventory", inventory(alloc, 2_000)?.as_str())?;
+    fs::write(&rt, "many_inventory", inventory(alloc, HOSTS)?.as_str())?;
     fs::write(
         &rt,
         "many_playbook",
         "[{\"hosts\":\"all\",\"gather_facts\":false,\"tasks\":[{\"command\":\"x\"}]}]",
     )?;
-    fs::write(
-        &rt,
-        "many_outcomes",
-        outcomes(alloc, 60_000, 2_000)?.as_str(),
-    )?;
+    fs::write(&rt, "many_outcomes", outcomes(alloc, 60_000)?.as_str())?;
     let seen = play_words(
         &rt,
         [
