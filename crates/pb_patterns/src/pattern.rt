@@ -1,4 +1,4 @@
-ghost use Rattle.std.specs.Prelude.{◌≡◌, ◌≢◌, [], ◌∷◌, ◌++◌, IfOk, IfErr, OnOk, Ok, Err, if◌then◌else◌};
+ghost use Rattle.std.specs.Prelude.{◌≡◌, ◌≢◌, [], ◌∷◌, ◌++◌, length, IfOk, IfErr, OnOk, Ok, Err, if◌then◌else◌};
 ghost use Rattle.pb_planes.specs.Set.{has_some};
 ghost use Rattle.pb_patterns.specs.Selection.{IsSelection};
 ghost use Rattle.std.specs.List.{flat_map};
@@ -57,7 +57,8 @@ fn selected(
     elements: &[Element],
     inventory: &Inventory,
 ) -> Result<Selected, AllocError>
-    ensures { IfOk result (λ selected. IsSelection inventory.now elements.now selected) }
+    ensures selection { IfOk result (λ selected. IsSelection inventory.now elements.now selected) }
+    ensures width { IfOk result (λ selected. length selected.hosts ≡ length inventory.now.hosts) }
 {
     let mut choice = Choice::new(alloc, inventory.hosts())?;
     let mut unmatched = Items::new(alloc);
@@ -99,7 +100,8 @@ impl Pattern {
     /// The hosts that the pattern means in an inventory, and the elements that mean none. The order of
     /// the elements says nothing.
     pub fn select(&self, alloc: Global, inventory: &Inventory) -> Result<Selected, AllocError>
-        ensures { IfOk result (λ selected. IsSelection inventory.now self.now selected) }
+        ensures selection { IfOk result (λ selected. IsSelection inventory.now self.now selected) }
+        ensures width { IfOk result (λ selected. length selected.hosts ≡ length inventory.now.hosts) }
     {
         selected(alloc, self.elements.as_slice(), inventory)
     }

@@ -1,6 +1,7 @@
 use Rattle.std.proofs.Common.{ap, sym, refl, ◌∙◌, length}
 use Rattle.pb_patterns.proofs.SetLaws.{length-each_host}
 use Rattle.pb_patterns.proofs.Chosen.{selecting_begun, selecting_more, selecting_whole}
+use Rattle.pb_patterns.specs.declared.selected.Selected.{Selected}
 use Rattle.pb_patterns.proofs.pattern.selected.Goals as goal
 
 pub loop-element-init : goal.loop-element-init
@@ -30,7 +31,14 @@ hosts-requires-3-clause-met c = ap length c.loop-element.invariant.2.1 ∙ lengt
 pub hosts-requires-3-clause-excluded : goal.hosts-requires-3-clause-excluded
 hosts-requires-3-clause-excluded c = ap length c.loop-element.invariant.2.2 ∙ length-each_host _ _ ∙ sym c.hosts-2.ensures.count
 
-pub returns : goal.returns
-returns c =
+pub returns-clause-selection : goal.returns-clause-selection
+returns-clause-selection c =
     selecting_whole c.args.inventory.now c.args.elements.now c.loop-element.element-index c.hosts-2.result c.loop-element.choice c.in_ok-hosts.hosts c.loop-element.unmatched c.loop-element-test.false
     c.hosts-2.ensures.count c.in_ok-hosts.ensures c.loop-element.invariant
+
+pub returns-clause-width : goal.returns-clause-width
+returns-clause-width c =
+    let whole =
+    selecting_whole c.args.inventory.now c.args.elements.now c.loop-element.element-index c.hosts-2.result c.loop-element.choice c.in_ok-hosts.hosts c.loop-element.unmatched c.loop-element-test.false
+    c.hosts-2.ensures.count c.in_ok-hosts.ensures c.loop-element.invariant in
+    ap (λ (s : Selected). length s.hosts) whole.2 ∙ length-each_host _ _
