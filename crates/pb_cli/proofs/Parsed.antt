@@ -6,7 +6,8 @@ use Rattle.clap.specs.declared.error.Error.{Error}
 use Rattle.clap.specs.declared.parser.matches.ArgMatches.{ArgMatches}
 use Rattle.clap.proofs.OnLiterals.{clap_on_literals}
 use Rattle.clap.proofs.WalkLemmas.{first_value-rows}
-use Rattle.pb_cli.specs.CommandLine.{program, value_in, errors_in, NoForks, IsBadForks, IsRefused, TellsKind}
+use Rattle.pb_cli.specs.CommandLine.{program, value_in, errors_in, is_true, purpose_of, purpose_in, NoForks, IsBadForks, IsRefused, TellsKind}
+use Rattle.pb_cli.specs.declared.words.Purpose.{Purpose}
 use Rattle.pb_cli.specs.declared.words.WordsFault.{WordsFault}
 use Rattle.pb_cli.specs.declared.words.WordsFault.TheVariants.{Help, Wrong, Memory}
 
@@ -28,6 +29,13 @@ found_read app m words id found is has got =
 pub value_read : (app : App) (m : ArgMatches) (words : List Text) (id t : Text) → app ≡ program → HasMatchesOf app words m → Some t ≡ first_value (found_of m) id
     → value_in id words ≡ Some t
 value_read app m words id t is has got = found_read app m words id (Some t) is has got
+
+pub purpose_read : (app : App) (m : ArgMatches) (words : List Text) (p : Purpose) → app ≡ program → HasMatchesOf app words m
+    → p ≡ purpose_of (is_true (first_value (found_of m) (codes "syntax_check"))) (is_true (first_value (found_of m) (codes "list_hosts"))) → purpose_in words ≡ p
+purpose_read app m words p is has e =
+    let checks = found_read app m words (codes "syntax_check") _ is has refl in
+    let lists = found_read app m words (codes "list_hosts") _ is has refl in
+    rw checks (rw lists (sym e))
 
 -- a count of forks that is none
 bad_forks : (words : List Text) (w : WordsFault) → IsBadForks w → NoForks (value_in (codes "forks") words) → IsRefused words w

@@ -1,11 +1,16 @@
--- What the words of the command line mean: `pb-play -i FILE [-f N] [--outcomes FILE] PLAYBOOK`, and `--help`.
+-- What the words of the command line mean: `pb-play -i FILE [-f N] [-l PATTERN] [--outcomes FILE] [--syntax-check] [--list-hosts] PLAYBOOK`,
+-- and `--help`.
 -- clap's own definitions say how words are read; the program's arguments are stated here. std's say how a number is read.
-use Rattle.std.specs.Prelude.{◌≡◌, ◌≢◌, ◌⊎◌, ◌≤◌, ℕ, List, [], Some, None, Option, codes, true}
+use Rattle.std.specs.Prelude.{◌≡◌, ◌≢◌, ◌⊎◌, ◌≤◌, ℕ, Bool, true, false, List, [], Some, None, Option, codes}
+use Rattle.std.specs.Str.{bytes_eq}
 use Rattle.std.specs.Str.Parse.{IsNumeral, digits_value, without_leading_plus}
 use Rattle.clap.specs.Words.{App, IsAmong, Kinds, Rule, Text, fault_of, first_of, matches_of, new_app, new_rule, with_rule}
 use Rattle.clap.specs.declared.error.kind.ErrorKind.{ErrorKind}
 use Rattle.clap.specs.declared.error.kind.ErrorKind.TheVariants.{DisplayHelp, OutOfMemory}
+use Rattle.clap.specs.declared.builder.action.ArgAction.TheVariants.{SetTrue}
 use Rattle.pb_cli.specs.declared.words.Request.{Request}
+use Rattle.pb_cli.specs.declared.words.Purpose.{Purpose}
+use Rattle.pb_cli.specs.declared.words.Purpose.TheVariants.{Run, CheckSyntax, ListHosts}
 use Rattle.pb_cli.specs.declared.words.WordsFault.{WordsFault}
 use Rattle.pb_cli.specs.declared.words.WordsFault.TheVariants.{Help, Wrong, Memory}
 
@@ -25,11 +30,29 @@ forks = record (new_rule (codes "forks")) { short = Some 102; value_names = 1 }
 abbrev pub outcomes : Rule
 outcomes = record (new_rule (codes "outcomes")) { long = Some (codes "outcomes"); value_names = 1 }
 
+-- `-l PATTERN`; 108 is `l`
+abbrev pub limit : Rule
+limit = record (new_rule (codes "limit")) { short = Some 108; value_names = 1 }
+
+-- `--syntax-check`
+abbrev pub syntax_check : Rule
+syntax_check = record (new_rule (codes "syntax_check")) { long = Some (codes "syntax-check"); action = Some SetTrue }
+
+-- `--list-hosts`
+abbrev pub list_hosts : Rule
+list_hosts = record (new_rule (codes "list_hosts")) { long = Some (codes "list-hosts"); action = Some SetTrue }
+
 abbrev pub file_program : App
 file_program = with_rule (with_rule (new_app (codes "pb-play")) inventory) playbook
 
+abbrev pub run_program : App
+run_program = with_rule (with_rule file_program forks) outcomes
+
+abbrev pub limited_program : App
+limited_program = with_rule run_program limit
+
 abbrev pub program : App
-program = with_rule (with_rule file_program forks) outcomes
+program = with_rule (with_rule limited_program syntax_check) list_hosts
 
 -- what the words, the first of which is the program's name, give an argument
 unfoldable pub value_in : Text → List Text → Option Text
@@ -38,6 +61,20 @@ value_in id words = first_of id (matches_of program words)
 -- the kinds of errors that the words have; none where they are the program's
 unfoldable pub errors_in : List Text → Kinds
 errors_in words = fault_of program words
+
+-- a flag that is given has the value `true`
+abbrev pub is_true : Option Text → Bool
+is_true None = false
+is_true (Some text) = bytes_eq text (codes "true")
+
+-- what the plan is made for: the check of the syntax goes before the list of hosts
+abbrev pub purpose_of : Bool → Bool → Purpose
+purpose_of true lists = CheckSyntax
+purpose_of false true = ListHosts
+purpose_of false false = Run
+
+abbrev pub purpose_in : List Text → Purpose
+purpose_in words = purpose_of (is_true (value_in (codes "syntax_check") words)) (is_true (value_in (codes "list_hosts") words))
 
 -- a number from 1 to 256, in decimal digits, with a plus sign before them or none
 abbrev pub IsCount : Text → ℕ → Type 0
@@ -61,11 +98,12 @@ IsBadForks (Help text) = ⊥
 IsBadForks (Wrong text) = Unit
 IsBadForks Memory = Unit
 
--- the words are the program's, and ask for these files and so many forks
+-- the words are the program's, and ask for these files, so many forks, this limit and this purpose
 abbrev pub Asks : List Text → Request → Type 0
 Asks words request = (errors_in words ≡ [])
     × (value_in (codes "inventory") words ≡ Some request.inventory) × (value_in (codes "playbook") words ≡ Some request.playbook)
     × AreForks (value_in (codes "forks") words) request.forks × (value_in (codes "outcomes") words ≡ request.outcomes)
+    × (value_in (codes "limit") words ≡ request.limit) × (purpose_in words ≡ request.purpose)
 
 -- what an error of that kind is told as
 abbrev pub TellsKind : ErrorKind → WordsFault → Type 0

@@ -1,5 +1,7 @@
 pub mod CommandLine
 pub mod Files
 pub mod Messages
+pub mod Listing
 pub mod Rows
 pub mod Played
+pub mod Warned

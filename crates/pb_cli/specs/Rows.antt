@@ -1,22 +1,35 @@
 -- Worked command lines.
-use Rattle.std.specs.Prelude.{◌≡◌, ⊤, None, [], ◌∷◌, codes, refl}
+use Rattle.std.specs.Prelude.{◌≡◌, ⊤, None, Some, [], ◌∷◌, codes, refl}
 use Rattle.clap.proofs.OnLiterals.{clap_on_literals}
 use Rattle.clap.specs.declared.error.kind.ErrorKind.TheVariants.{DisplayHelp, MissingRequiredArgument, UnknownArgument}
 use Rattle.pb_cli.specs.CommandLine.{errors_in, value_in, Asks}
+use Rattle.pb_cli.specs.declared.words.Purpose.TheVariants.{Run, CheckSyntax, ListHosts}
 
 -- what computes a row from its words
 unfoldable on_literals : ⊤
 unfolding errors_in value_in clap_on_literals
 on_literals = tt
 
-asked : Asks (codes "pb-play" ∷ codes "-i" ∷ codes "hosts.json" ∷ codes "site.json" ∷ []) (record { inventory = codes "hosts.json"; playbook = codes "site.json"; forks = 5; outcomes = None })
+asked : Asks (codes "pb-play" ∷ codes "-i" ∷ codes "hosts.json" ∷ codes "site.json" ∷ []) (record { inventory = codes "hosts.json"; playbook = codes "site.json"; forks = 5; outcomes = None; limit = None; purpose = Run })
 unfolding on_literals
-asked = (refl, refl, refl, refl, refl)
+asked = (refl, refl, refl, refl, refl, refl, refl)
 
 -- the inventory may come last, and stand in its option's word
-asked_last : Asks (codes "pb-play" ∷ codes "site.json" ∷ codes "-ihosts.json" ∷ []) (record { inventory = codes "hosts.json"; playbook = codes "site.json"; forks = 5; outcomes = None })
+asked_last : Asks (codes "pb-play" ∷ codes "site.json" ∷ codes "-ihosts.json" ∷ []) (record { inventory = codes "hosts.json"; playbook = codes "site.json"; forks = 5; outcomes = None; limit = None; purpose = Run })
 unfolding on_literals
-asked_last = (refl, refl, refl, refl, refl)
+asked_last = (refl, refl, refl, refl, refl, refl, refl)
+
+-- hosts are listed, within a limit
+lists : Asks (codes "pb-play" ∷ codes "-i" ∷ codes "hosts.json" ∷ codes "-l" ∷ codes "web:!db" ∷ codes "--list-hosts" ∷ codes "site.json" ∷ [])
+    (record { inventory = codes "hosts.json"; playbook = codes "site.json"; forks = 5; outcomes = None; limit = Some (codes "web:!db"); purpose = ListHosts })
+unfolding on_literals
+lists = (refl, refl, refl, refl, refl, refl, refl)
+
+-- the check goes before the list
+checks : Asks (codes "pb-play" ∷ codes "--list-hosts" ∷ codes "--syntax-check" ∷ codes "-i" ∷ codes "hosts.json" ∷ codes "site.json" ∷ [])
+    (record { inventory = codes "hosts.json"; playbook = codes "site.json"; forks = 5; outcomes = None; limit = None; purpose = CheckSyntax })
+unfolding on_literals
+checks = (refl, refl, refl, refl, refl, refl, refl)
 
 help : errors_in (codes "pb-play" ∷ codes "--help" ∷ []) ≡ DisplayHelp ∷ []
 unfolding on_literals

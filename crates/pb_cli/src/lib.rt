@@ -5,6 +5,7 @@
 #![tactic(auto)]
 
 pub mod files;
+pub mod listing;
 pub mod messages;
 pub mod program;
 pub mod words;

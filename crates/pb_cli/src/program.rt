@@ -1,13 +1,17 @@
 //! The program, but for its words' and its streams' making.
 
-ghost use Rattle.std.specs.Prelude.{◌≡◌, ◌≢◌, ◌⊎◌, IfOk, IfErr, Ok, Err};
-ghost use Rattle.pb_state.specs.Bundle.{plan_of};
+ghost use Rattle.std.specs.Prelude.{◌≡◌, ◌≢◌, ◌++◌, IfOk, IfErr, Ok, Err, string_bytes};
+ghost use Rattle.pb_state.specs.Plan.{PlanOf};
+ghost use Rattle.pb_state.specs.Bundle.{IsPlanOf, IsBundleFault};
 ghost use Rattle.pb_driver.specs.Taken.{with_more};
-ghost use Rattle.pb_cli.specs.Played.{outcomes_of, IsPlayed};
+ghost use Rattle.pb_cli.specs.Listing.{listing};
+ghost use Rattle.pb_cli.specs.Played.{outcomes_of, IsPlayed, IsGiven};
+ghost use Rattle.pb_cli.specs.Warned.{ended, warning_text, IsWarned};
 
 use crate::files::read_file;
+use crate::listing::listing;
 use crate::messages::{Part, message};
-use crate::words::{Request, WordsFault, read_words};
+use crate::words::{Purpose, Request, WordsFault, read_words};
 use pb_driver::{LineOut, RunFault, put_all, run_plain};
 use pb_engine::Lowest;
 use pb_outcome::outcome::Outcome;
@@ -16,7 +20,7 @@ use pb_runner::table::{Table, TableRunner};
 use pb_state::{Bundle, BundleFault, MAX_BYTES, Plan};
 use pb_value::items::Items;
 use pb_value::text::Text;
-use std::alloc::Global;
+use std::alloc::{AllocError, Global};
 use std::fmt::Display;
 use std::fs::Files;
 use std::io;
@@ -55,25 +59,17 @@ fn table_runner(alloc: Global, outcomes: &Option<Items<u8>>) -> Result<TableRunn
     }
 }
 
-/// Plays a bundle, with its lines on a writer, and answers the exit status. Jobs have the outcomes of the file's bytes.
-///
-/// # Errors
-/// `Bundle` with the bundle's first fault, where it has no plan, else `Outcomes` with the first fault of the outcomes: nothing is
-/// written then. `Run` where memory was refused or the writer failed in the run.
-pub fn play_bundle<O: LineOut>(
+/// Runs a plan, with its lines on a writer. Jobs have the outcomes of the file's bytes.
+fn run_plan<O: LineOut>(
     alloc: Global,
-    bundle: &Bundle,
+    plan: Plan,
     outcomes: &Option<Items<u8>>,
     out: &mut O,
 ) -> Result<u8, PlayFault>
-    ensures played { IfOk result (IsPlayed bundle.now outcomes.now (O.taken out.old) (O.taken out.new)) }
-    ensures refused { (e : BundleFault) → result ≡ Err (PlayFault.Bundle e) → (O.taken out.new ≡ O.taken out.old) × (e ≢ BundleFault.Memory → plan_of bundle.now ≡ Err e) }
+    ensures played { IfOk result (IsPlayed plan outcomes.now (O.taken out.old) (O.taken out.new)) }
+    ensures planned { (e : BundleFault) → result ≢ Err (PlayFault.Bundle e) }
     ensures untold { (e : TableFault) → result ≡ Err (PlayFault.Outcomes e) → (O.taken out.new ≡ O.taken out.old) × (e ≢ TableFault.Memory → outcomes_of outcomes.now ≡ Err e) }
 {
-    let plan = match Plan::of(alloc, bundle) {
-        Ok(plan) => plan,
-        Err(fault) => return Err(PlayFault::Bundle(fault)),
-    };
     let mut runner = match table_runner(alloc, outcomes) {
         Ok(runner) => runner,
         Err(fault) => return Err(PlayFault::Outcomes(fault)),
@@ -81,6 +77,90 @@ pub fn play_bundle<O: LineOut>(
     match run_plain(alloc, plan, &mut runner, &mut Lowest, out) {
         Ok(ended) => Ok(ended.status),
         Err((fault, _)) => Err(PlayFault::Run(fault)),
+    }
+}
+
+/// Writes a text; the exit status is 0.
+fn show<O: LineOut>(out: &mut O, text: &str) -> Result<u8, PlayFault>
+    ensures shown { IfOk result (λ status. (O.taken out.new ≡ with_more (O.taken out.old) text.now) × (status ≡ 0)) }
+    ensures fault { IfErr result (λ e. e ≡ PlayFault.Run RunFault.Write) }
+{
+    match put_all(out, text.as_bytes()) {
+        Ok(()) => Ok(0),
+        Err(_) => Err(PlayFault::Run(RunFault::Write)),
+    }
+}
+
+/// Writes the list of the hosts of each play.
+fn show_hosts<O: LineOut>(alloc: Global, plan: &Plan, out: &mut O) -> Result<u8, PlayFault>
+    ensures shown { IfOk result (λ status. (O.taken out.new ≡ with_more (O.taken out.old) (listing plan.now)) × (status ≡ 0)) }
+    ensures fault { IfErr result (λ e. (fault : RunFault) × (e ≡ PlayFault.Run fault)) }
+{
+    match listing(alloc, plan) {
+        Ok(text) => show(out, text.as_str()),
+        Err(_) => Err(PlayFault::Run(RunFault::Memory)),
+    }
+}
+
+/// Writes the warnings of a plan, a line each. That they can't be written changes nothing.
+fn warn<E: LineOut>(alloc: Global, plan: &Plan, err: &mut E) -> Result<(), AllocError>
+    ensures { IfOk result (λ _. IsWarned plan.now.warnings (E.taken err.old) (E.taken err.new) (E.failures err.old) (E.failures err.new)) }
+{
+    let text = warning_text(alloc, plan.warnings())?;
+    let _ = put_all(err, text.as_bytes());
+    Ok(())
+}
+
+/// The lines, each with a line end.
+fn warning_text(alloc: Global, lines: &[Text]) -> Result<String, AllocError>
+    ensures { IfOk result (λ text. string_bytes text ≡ warning_text lines.now) }
+{
+    let mut text = String::new(alloc);
+    for line in lines {
+        push_line(&mut text, line)?;
+    }
+    Ok(text)
+}
+
+fn push_line(text: &mut String, line: &Text) -> Result<(), AllocError>
+    ensures { IfOk result (λ _. string_bytes text.new ≡ string_bytes text.old ++ ended line.now) }
+{
+    text.push_str(line.as_str())?;
+    text.push('\n')?;
+    Ok(())
+}
+
+/// Makes the plan of a bundle and does with it what it is made for, on a writer, and answers the exit status: it is run, its
+/// hosts are listed, or nothing but `ok` is written. Warnings of the plan are written before that, on a writer of their own.
+///
+/// # Errors
+/// `Bundle` with the bundle's first fault, where it has no plan, else `Outcomes` with the first fault of the outcomes, where it
+/// is run: nothing is written on `out` then. `Run` where memory was refused or the writer failed.
+pub fn play_bundle<O: LineOut, E: LineOut>(
+    alloc: Global,
+    bundle: &Bundle,
+    purpose: Purpose,
+    outcomes: &Option<Items<u8>>,
+    out: &mut O,
+    err: &mut E,
+) -> Result<u8, PlayFault>
+    ensures answered { IfOk result (λ status. (plan : PlanOf) × IsPlanOf bundle.now plan
+        × IsGiven purpose plan outcomes.now (O.taken out.old) (O.taken out.new) status
+        × IsWarned plan.warnings (E.taken err.old) (E.taken err.new) (E.failures err.old) (E.failures err.new)) }
+    ensures refused { (e : BundleFault) → result ≡ Err (PlayFault.Bundle e) → (O.taken out.new ≡ O.taken out.old) × (e ≢ BundleFault.Memory → IsBundleFault bundle.now e) }
+    ensures untold { (e : TableFault) → result ≡ Err (PlayFault.Outcomes e) → (O.taken out.new ≡ O.taken out.old) × (e ≢ TableFault.Memory → outcomes_of outcomes.now ≡ Err e) }
+{
+    let plan = match Plan::of(alloc, bundle) {
+        Ok(plan) => plan,
+        Err(fault) => return Err(PlayFault::Bundle(fault)),
+    };
+    if warn(alloc, &plan, err).is_err() {
+        return Err(PlayFault::Run(RunFault::Memory));
+    }
+    match purpose {
+        Purpose::CheckSyntax => show(out, "ok\n"),
+        Purpose::ListHosts => show_hosts(alloc, &plan, out),
+        Purpose::Run => run_plan(alloc, plan, outcomes, out),
     }
 }
 
@@ -94,7 +174,7 @@ pub fn play<R: Files + AllocGlobal, O: LineOut, E: LineOut>(
 ) -> u8 {
     let alloc = rt.alloc();
     match read_words(alloc, words) {
-        Ok(request) => play_request(rt, &request, out, err),
+        Ok(request) => play_request(rt, request, out, err),
         Err(WordsFault::Help { text }) => match put_all(out, text.as_str().as_bytes()) {
             Ok(()) => 0,
             Err(_) => told(alloc, err, Part::Run, &RunFault::Write),
@@ -107,16 +187,24 @@ pub fn play<R: Files + AllocGlobal, O: LineOut, E: LineOut>(
 /// Reads the files that were asked for, and plays them.
 fn play_request<R: Files + AllocGlobal, O: LineOut, E: LineOut>(
     rt: &R,
-    request: &Request,
+    request: Request,
     out: &mut O,
     err: &mut E,
 ) -> u8 {
     let alloc = rt.alloc();
-    let bundle = match read_bundle(rt, request) {
+    let Request {
+        inventory,
+        playbook,
+        forks,
+        outcomes: outcomes_path,
+        limit,
+        purpose,
+    } = request;
+    let bundle = match read_bundle(rt, &inventory, &playbook, limit, forks) {
         Ok(bundle) => bundle,
         Err(error) => return told(alloc, err, Part::File, &error),
     };
-    let outcomes = match read_outcomes(rt, request) {
+    let outcomes = match read_outcomes(rt, &outcomes_path) {
         Ok(outcomes) => outcomes,
         Err(error) => return told(alloc, err, Part::File, &error),
     };
@@ -128,7 +216,7 @@ fn play_request<R: Files + AllocGlobal, O: LineOut, E: LineOut>(
             &"the outcomes have more than 64 MiB",
         );
     }
-    match play_bundle(alloc, &bundle, &outcomes, out) {
+    match play_bundle(alloc, &bundle, purpose, &outcomes, out, err) {
         Ok(status) => status,
         Err(PlayFault::Run(fault)) => told(alloc, err, Part::Run, &fault),
         Err(PlayFault::Outcomes(fault)) => told(alloc, err, Part::Outcomes, &fault),
@@ -137,23 +225,30 @@ fn play_request<R: Files + AllocGlobal, O: LineOut, E: LineOut>(
 }
 
 /// The files' bytes: of each as many as the bundle has room for, and one more where there are more.
-fn read_bundle<R: Files + AllocGlobal>(rt: &R, request: &Request) -> io::Result<Bundle> {
-    let inventory = read_file(rt, request.inventory.as_str(), MAX_BYTES)?;
+fn read_bundle<R: Files + AllocGlobal>(
+    rt: &R,
+    inventory: &Text,
+    playbook: &Text,
+    limit: Option<Text>,
+    forks: u32,
+) -> io::Result<Bundle> {
+    let inventory = read_file(rt, inventory.as_str(), MAX_BYTES)?;
     let left = MAX_BYTES.saturating_sub(inventory.len());
-    let playbook = read_file(rt, request.playbook.as_str(), left)?;
+    let playbook = read_file(rt, playbook.as_str(), left)?;
     Ok(Bundle {
         inventory: Items::from_vec(inventory),
         playbook: Items::from_vec(playbook),
-        forks: request.forks,
+        limit,
+        forks,
     })
 }
 
 /// The bytes of the file of outcomes, if one was asked for: at most 64 MiB and one more.
 fn read_outcomes<R: Files + AllocGlobal>(
     rt: &R,
-    request: &Request,
+    path: &Option<Text>,
 ) -> io::Result<Option<Items<u8>>> {
-    match &request.outcomes {
+    match path {
         Some(path) => {
             let bytes = read_file(rt, path.as_str(), MAX_OUTCOMES)?;
             Ok(Some(Items::from_vec(bytes)))
@@ -177,6 +272,7 @@ fn told_bundle<E: LineOut>(alloc: Global, err: &mut E, fault: &BundleFault) -> u
     match fault {
         BundleFault::Inventory(fault) => told(alloc, err, Part::Inventory, fault),
         BundleFault::Playbook(fault) => told(alloc, err, Part::Playbook, fault),
+        BundleFault::Limit(fault) => told(alloc, err, Part::Limit, fault),
         BundleFault::Roles(fault) => told(alloc, err, Part::Roles, fault),
         BundleFault::BadForks | BundleFault::TooLarge | BundleFault::Memory => {
             told(alloc, err, Part::Bundle, fault)

@@ -1,10 +1,10 @@
 ghost use Rattle.pb_cli.specs.declared.words.WordsFault.TheVariants.{Memory};
 ghost use Rattle.std.specs.Prelude.{◌≡◌, ◌⊎◌, IfOk, IfErr, map, codes, string_bytes};
 ghost use Rattle.clap.specs.Words.{app_of, kind_of, found_of, first_value};
-ghost use Rattle.pb_cli.specs.CommandLine.{file_program, program, Asks, IsCount, IsNoCount, AreForks, NoForks, IsBadForks, IsRefused, TellsKind};
+ghost use Rattle.pb_cli.specs.CommandLine.{file_program, run_program, limited_program, program, is_true, purpose_of, Asks, IsCount, IsNoCount, AreForks, NoForks, IsBadForks, IsRefused, TellsKind};
 
 use clap::error::ErrorKind;
-use clap::{Arg, ArgMatches, Command, Error};
+use clap::{Arg, ArgAction, ArgMatches, Command, Error};
 use pb_value::text::Text;
 use std::alloc::{AllocError, Global};
 
@@ -19,6 +19,21 @@ pub struct Request {
     pub forks: u32,
     /// The path of the outcomes' file, if one is given.
     pub outcomes: Option<Text>,
+    /// The pattern of the hosts that the plays are limited to, if one is given.
+    pub limit: Option<Text>,
+    /// What is to be done with the plan.
+    pub purpose: Purpose,
+}
+
+/// What a plan is made for.
+#[derive(Clone, Copy, Debug, PartialEq, Eq)]
+pub enum Purpose {
+    /// Its run.
+    Run,
+    /// To tell that it can be made.
+    CheckSyntax,
+    /// To list the hosts of each play.
+    ListHosts,
 }
 
 /// How many hosts may run at once, where the words don't say.
@@ -59,8 +74,9 @@ fn file_words<'a>(alloc: Global) -> Result<Command<'a>, AllocError>
     Command::new(alloc, "pb-play").arg(inventory)?.arg(playbook)
 }
 
-fn command<'a>(alloc: Global) -> Result<Command<'a>, AllocError>
-    ensures { IfOk result (λ c. app_of c ≡ program) }
+/// The program with its files and what a run takes.
+fn run_words<'a>(alloc: Global) -> Result<Command<'a>, AllocError>
+    ensures { IfOk result (λ c. app_of c ≡ run_program) }
 {
     let forks = Arg::new(alloc, "forks")
         .short('f')
@@ -73,6 +89,31 @@ fn command<'a>(alloc: Global) -> Result<Command<'a>, AllocError>
             "What comes of the jobs, a JSON file; without it each job ends with status 0 and no output",
         );
     file_words(alloc)?.arg(forks)?.arg(outcomes)
+}
+
+/// The program with its files, what a run takes, and the limit.
+fn limited_words<'a>(alloc: Global) -> Result<Command<'a>, AllocError>
+    ensures { IfOk result (λ c. app_of c ≡ limited_program) }
+{
+    let limit = Arg::new(alloc, "limit")
+        .short('l')
+        .value_name("PATTERN")
+        .help("The hosts that the plays are limited to");
+    run_words(alloc)?.arg(limit)
+}
+
+fn command<'a>(alloc: Global) -> Result<Command<'a>, AllocError>
+    ensures { IfOk result (λ c. app_of c ≡ program) }
+{
+    let syntax_check = Arg::new(alloc, "syntax_check")
+        .long("syntax-check")
+        .action(ArgAction::SetTrue)
+        .help("Runs nothing: tells whether the files are a plan");
+    let list_hosts = Arg::new(alloc, "list_hosts")
+        .long("list-hosts")
+        .action(ArgAction::SetTrue)
+        .help("Runs nothing: lists the hosts of each play");
+    limited_words(alloc)?.arg(syntax_check)?.arg(list_hosts)
 }
 
 fn fault(alloc: Global, error: &Error) -> WordsFault
@@ -133,14 +174,37 @@ fn forks_in(alloc: Global, matches: &ArgMatches<'_>) -> Result<u32, WordsFault>
     }
 }
 
-/// The path of the outcomes' file, if one is given.
-fn outcomes_in(alloc: Global, matches: &ArgMatches<'_>) -> Result<Option<Text>, AllocError>
-    ensures { IfOk result (λ path. first_value (found_of matches.now) (codes "outcomes") ≡ path) }
+/// The text that an argument is given, if it is given one.
+fn text_in(alloc: Global, matches: &ArgMatches<'_>, id: &str) -> Result<Option<Text>, AllocError>
+    ensures { IfOk result (λ text. first_value (found_of matches.now) id.now ≡ text) }
 {
-    match matches.get_str("outcomes") {
-        Some(path) => Ok(Some(Text::from_str(alloc, path)?)),
+    match matches.get_str(id) {
+        Some(text) => Ok(Some(Text::from_str(alloc, text)?)),
         None => Ok(None),
     }
+}
+
+/// Whether a flag is given.
+fn is_given(matches: &ArgMatches<'_>, flag: &str) -> bool
+    ensures { result ≡ is_true (first_value (found_of matches.now) flag.now) }
+{
+    match matches.get_str(flag) {
+        Some(text) => text == "true",
+        None => false,
+    }
+}
+
+/// What the plan is made for: the check of the syntax goes before the list of hosts.
+fn purpose_in(matches: &ArgMatches<'_>) -> Purpose
+    ensures { result ≡ purpose_of (is_true (first_value (found_of matches.now) (codes "syntax_check"))) (is_true (first_value (found_of matches.now) (codes "list_hosts"))) }
+{
+    if is_given(matches, "syntax_check") {
+        return Purpose::CheckSyntax;
+    }
+    if is_given(matches, "list_hosts") {
+        return Purpose::ListHosts;
+    }
+    Purpose::Run
 }
 
 /// What the words ask for. The first of them is the program's name.
@@ -161,12 +225,15 @@ pub fn read_words(alloc: Global, words: &[String]) -> Result<Request, WordsFault
                 Ok(forks) => forks,
                 Err(fault) => return Err(fault),
             };
-            let outcomes = outcomes_in(alloc, &matches)?;
+            let outcomes = text_in(alloc, &matches, "outcomes")?;
+            let limit = text_in(alloc, &matches, "limit")?;
             Ok(Request {
                 inventory: Text::from_str(alloc, inventory)?,
                 playbook: Text::from_str(alloc, playbook)?,
                 forks,
                 outcomes,
+                limit,
+                purpose: purpose_in(&matches),
             })
         }
         Err(error) => Err(fault(alloc, &error)),

@@ -1,5 +1,5 @@
 -- What every run keeps: there is a row for each host, a task that runs is at a place of the open play, and a job that is out was sent.
-use Rattle.std.proofs.Common.{◌≡◌, ℕ, zero, suc, ◌+◌, ◌<◌, Bool, true, false, ◌&&◌, List, [], ◌∷◌, length, map, replicate, refl, sym, ◌∙◌, ap, subst, arith}
+use Rattle.std.proofs.Common.{◌≡◌, ℕ, zero, suc, ◌+◌, ◌<◌, Bool, true, false, ◌&&◌, List, [], ◌∷◌, length, map, replicate, refl, ◌∙◌, ap, subst, arith}
 use Rattle.std.specs.Prelude.{◌==◌, Option, Some, None, slice_get, slice_set, option_map, if◌then◌else◌}
 use Rattle.std.specs.Option.{option_map_or}
 use Rattle.std.proofs.lemmas.List.{length-map, length-set, length-replicate}
@@ -18,11 +18,12 @@ use Rattle.pb_state.specs.declared.planned.Planned.{Planned}
 use Rattle.pb_state.specs.declared.planned.Planned.TheVariants.{Decided, Sends}
 use Rattle.pb_state.specs.declared.row.Running.{Running}
 use Rattle.pb_state.specs.Plan.{PlayOf, PlanOf}
-use Rattle.pb_state.specs.Row.{HostRow, first_row, started, sent, sent_running, reported, joined, left}
+use Rattle.pb_state.specs.Row.{HostRow, first_row, started, sent, sent_running, reported, left}
 use Rattle.pb_state.specs.State.{State}
-use Rattle.pb_state.specs.Machine.{possible, after, change, at_row, open_play, is_in, is_running, next_place, place_of, same_place, stands_at, has_room, may_start_in, may_send_in, may_send_item, opened_in, started_in, start_at, sent_in, reported_in, turned_in, first_state}
+use Rattle.pb_state.specs.Machine.{possible, after, change, at_row, open_play, is_in, next_place, place_of, same_place, stands_at, has_room, may_start_in, may_send_in, next_play, joined_in, opened_in, opened_at, started_in, start_at, sent_in, reported_in, turned_in, first_state}
 use Rattle.pb_state.specs.Results.{planned_at}
 use Rattle.pb_state.specs.Run.{legal_from, state_from, IsRun}
+use Rattle.pb_state.proofs.Opening.{length-joined}
 
 and_left : (a b : Bool) → (a && b) ≡ true → a ≡ true
 and_left true b e = refl
@@ -59,6 +60,10 @@ pub record IsHeld (plan : PlanOf) (s : State) : Type 0 where
 none_run : (f : HostRow → HostRow) → ((row : HostRow) → (f row).running ≡ None) → (size sends : ℕ) (rows : List HostRow) → AreHeld size sends (map f rows)
 none_run f idle size sends [] = tt
 none_run f idle size sends (row ∷ rows) = (rw (idle row) tt, none_run f idle size sends rows)
+
+none_joins : (size sends h : ℕ) (hosts : List Bool) (rows : List HostRow) → AreHeld size sends (joined_in hosts h rows)
+none_joins size sends h hosts [] = tt
+none_joins size sends h hosts (row ∷ rows) = (tt, none_joins size sends (h + 1) hosts rows)
 
 none_first : (size sends n : ℕ) → AreHeld size sends (replicate n first_row)
 none_first size sends zero = tt
@@ -171,19 +176,23 @@ reported_in_held plan s r (Some play) o held = record {
 }
 
 -- the others
-opened_held : (plan : PlanOf) (s : State) (found : Option PlayOf) → IsHeld plan s → IsHeld plan (option_map_or (opened_in s (map joined s.rows)) found s)
-opened_held plan s None held = held
-opened_held plan s (Some play) held = record {
-  hosts = length-map s.rows joined ∙ held.hosts;
-  tasks = none_run joined (λ row. refl) _ s.sends s.rows;
+opened_held : (plan : PlanOf) (s : State) (n : ℕ) (found : Option PlayOf) → IsHeld plan s → IsHeld plan (option_map_or (opened_in s n) found s)
+opened_held plan s n None held = held
+opened_held plan s n (Some play) held = record {
+  hosts = length-joined play.hosts 0 s.rows ∙ held.hosts;
+  tasks = none_joins _ s.sends 0 play.hosts s.rows;
 }
+
+next_held : (plan : PlanOf) (s : State) (next : Option ℕ) → IsHeld plan s → IsHeld plan (option_map_or (opened_at plan s) next s)
+next_held plan s None held = held
+next_held plan s (Some n) held = opened_held plan s n (slice_get plan.plays n) held
 
 turned_held : (plan : PlanOf) (s : State) (found : Option PlayOf) → IsHeld plan s → IsHeld plan (option_map_or (turned_in s) found s)
 turned_held plan s None held = held
 turned_held plan s (Some play) held = record { hosts = held.hosts; tasks = held.tasks }
 
 pub step_held : (plan : PlanOf) (s : State) (e : Event) → possible plan s e ≡ true → IsHeld plan s → IsHeld plan (after plan s e)
-step_held plan s Open may held = opened_held plan s (slice_get plan.plays s.play) held
+step_held plan s Open may held = next_held plan s (next_play plan s) held
 step_held plan s (Start h) may held = started_in_held plan s h.0 (open_play plan s) refl held may
 step_held plan s (Send h item ticket) may held = sent_in_held plan s h.0 item ticket (open_play plan s) refl held may
 step_held plan s (Reported r) may held = reported_in_held plan s r (open_play plan s) refl held

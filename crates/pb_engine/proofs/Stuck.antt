@@ -1,21 +1,18 @@
 -- A run is never stuck.
-use Rattle.std.proofs.Common.{◌≡◌, ◌⊎◌, inl, inr, ℕ, ◌<◌, Bool, true, false, ◌&&◌, ◌||◌, not, List, [], ◌∷◌, length, map, replicate, refl, sym, ◌∙◌, ap, subst, arith, zero, suc}
-use Rattle.std.specs.Prelude.{◌==◌, Option, Some, None, slice_get, slice_set, nat_lt, is_some, is_none, count_by, if◌then◌else◌}
+use Rattle.std.proofs.Common.{◌≡◌, ◌⊎◌, inl, inr, ℕ, Bool, true, false, ◌&&◌, ◌||◌, not, List, [], ◌∷◌, ◌+◌, drop, length, map, replicate, refl, sym, ◌∙◌, subst, zero, suc}
+use Rattle.std.specs.Prelude.{◌==◌, Option, Some, None, slice_get, is_some, is_none, if◌then◌else◌}
 use Rattle.std.specs.List.{list_any}
 use Rattle.std.specs.Option.{option_map_or}
-use Rattle.std.proofs.lemmas.Bool.{lt-ltb}
 use Rattle.pb_planes.specs.Set.{has_some}
 use Rattle.pb_ids.specs.declared.numbers.Ticket.{Ticket}
 use Rattle.pb_outcome.specs.declared.job.Report.{Report}
-use Rattle.pb_outcome.specs.declared.outcome.Form.{Form}
-use Rattle.pb_tree.specs.declared.tree.Status.{Status}
 use Rattle.pb_state.specs.declared.event.Event.{Event}
 use Rattle.pb_state.specs.declared.event.Event.TheVariants.{Open, Start, Send, Report as Reported, Turn, Close, Stop, Forks}
 use Rattle.pb_state.specs.declared.row.Running.{Running}
 use Rattle.pb_state.specs.Plan.{PlayOf, PlanOf}
-use Rattle.pb_state.specs.Row.{HostRow, joined, sent, sent_running, reported, is_active}
+use Rattle.pb_state.specs.Row.{HostRow}
 use Rattle.pb_state.specs.State.{State}
-use Rattle.pb_state.specs.Machine.{possible, after, change, at_row, ready, ready_in, is_ready, is_in, is_running, is_out, has_send, is_ticket, may_send_item, awaits, running_count, may_open, may_start_in, may_send_in, may_report_in, may_turn_in, may_close_in, has_room, is_host_active, stands_at, next_place, least_place, lesser, same_place, open_play, opened_in, started_in, start_at, sent_in, reported_in, turned_in, first_state}
+use Rattle.pb_state.specs.Machine.{possible, after, at_row, ready, ready_in, is_running, is_out, has_send, is_ticket, may_send_item, awaits, may_open, may_send_in, may_report_in, may_turn_in, may_close_in, has_room, has_hosts, first_play, next_play, stands_at, least_place, open_play, joined_in, opened_in, opened_at, started_in, start_at, sent_in, reported_in, turned_in, first_state}
 use Rattle.pb_state.specs.Run.{legal_from, state_from, IsRun}
 use Rattle.pb_engine.specs.Over.{IsOver, IsPlaced, IsPlacedIn}
 
@@ -61,13 +58,17 @@ idle_awaits item ticket None e = and_false (item == 0)
 idle_awaits item ticket (Some r) e = cc
 
 -- each event keeps it that an open batch has its play, and its least place where no host runs
-opened_placed : (plan : PlanOf) (s : State) (found : Option PlayOf) → slice_get plan.plays s.play ≡ found → IsPlaced plan s → IsPlaced plan (option_map_or (opened_in s (map joined s.rows)) found s)
-opened_placed plan s None e placed = placed
-opened_placed plan s (Some play) e placed = rw e (λ none. (none, idle s.rows))
+opened_placed : (plan : PlanOf) (s : State) (n : ℕ) (found : Option PlayOf) → slice_get plan.plays n ≡ found → IsPlaced plan s → IsPlaced plan (option_map_or (opened_in s n) found s)
+opened_placed plan s n None e placed = placed
+opened_placed plan s n (Some play) e placed = rw e (λ none. (none, idle play.hosts 0 s.rows))
   where
-    idle : (rows : List HostRow) → list_any is_running (map joined rows) ≡ false
-    idle [] = refl
-    idle (row ∷ rows) = idle rows
+    idle : (hosts : List Bool) (h : ℕ) (rows : List HostRow) → list_any is_running (joined_in hosts h rows) ≡ false
+    idle hosts h [] = refl
+    idle hosts h (row ∷ rows) = idle hosts (h + 1) rows
+
+next_placed : (plan : PlanOf) (s : State) (next : Option ℕ) → IsPlaced plan s → IsPlaced plan (option_map_or (opened_at plan s) next s)
+next_placed plan s None placed = placed
+next_placed plan s (Some n) placed = opened_placed plan s n (slice_get plan.plays n) refl placed
 
 start_placed : (plan : PlanOf) (s : State) (h : ℕ) (play : PlayOf) (place : Option ℕ) → s.place ≡ place → open_play plan s ≡ Some play → IsPlaced plan s → IsPlaced plan (option_map_or (start_at s h play) place s)
 start_placed plan s h play None e here placed = placed
@@ -102,7 +103,7 @@ turned_placed plan s (Some play) here placed may =
     rw here (λ none. (none, idle))
 
 step_placed : (plan : PlanOf) (s : State) (e : Event) → possible plan s e ≡ true → IsPlaced plan s → IsPlaced plan (after plan s e)
-step_placed plan s Open may placed = opened_placed plan s (slice_get plan.plays s.play) refl placed
+step_placed plan s Open may placed = next_placed plan s (next_play plan s) placed
 step_placed plan s (Start h) may placed = started_placed plan s h.0 (open_play plan s) refl placed
 step_placed plan s (Send h item ticket) may placed = sent_placed plan s h.0 item ticket (open_play plan s) refl placed may
 step_placed plan s (Reported r) may placed = reported_placed plan s r (open_play plan s) refl placed may
@@ -167,12 +168,21 @@ closed_in s (Some play) st placed out r t c =
     let wrong = never_both s.place (least_place play.tree s.rows) s.stopped (list_any is_running s.rows) (has_room s && list_any (stands_at play.tree s.place) s.rows) st idle (none_stands (not s.stopped) (has_room s) (stands_at play.tree s.place) s.rows r) (λ none. (placed none).0) t c in
     cc
 
-over_in : (stopped is_open ended left active : Bool) → (stopped ≡ false → is_open ≡ false) → (not stopped && not is_open && not ended && left && active) ≡ false → (stopped ≡ true) ⊎ (ended ≡ true) ⊎ ((is_open ≡ false) × ((left && active) ≡ false))
-over_in true is_open ended left active e m = inl refl
-over_in false true ended left active e m = let wrong = e refl in cc
-over_in false false true left active e m = inr (inl refl)
-over_in false false false left active e m = inr (inr (refl, m))
+-- a play opens next where one is left that has hosts
+some_left : (rows : List HostRow) (n : ℕ) (plays : List PlayOf) → is_some (first_play rows n plays) ≡ list_any (has_hosts rows) plays
+some_left rows n [] = refl
+some_left rows n (play ∷ plays) = by_hosts (has_hosts rows play) (some_left rows (n + 1) plays)
+  where
+    by_hosts : (b : Bool) → is_some (first_play rows (n + 1) plays) ≡ list_any (has_hosts rows) plays → is_some (if b then Some n else first_play rows (n + 1) plays) ≡ (b || list_any (has_hosts rows) plays)
+    by_hosts true e = refl
+    by_hosts false e = e
+
+over_in : (stopped is_open ended next left : Bool) → next ≡ left → (stopped ≡ false → is_open ≡ false) → (not stopped && not is_open && not ended && next) ≡ false → (stopped ≡ true) ⊎ (ended ≡ true) ⊎ ((is_open ≡ false) × (left ≡ false))
+over_in true is_open ended next left l e m = inl refl
+over_in false true ended next left l e m = let wrong = e refl in cc
+over_in false false true next left l e m = inr (inl refl)
+over_in false false false next left l e m = inr (inr (refl, sym l ∙ m))
 
 pub over_now : (plan : PlanOf) (s : State) → IsPlaced plan s → has_some (ready plan s) ≡ false → option_map_or (may_turn_in s) (open_play plan s) false ≡ false → option_map_or (may_close_in s) (open_play plan s) false ≡ false → may_open plan s ≡ false → list_any is_out s.rows ≡ false → IsOver plan s
 over_now plan s placed r t c o out =
-    over_in s.stopped s.is_open s.ended (nat_lt s.play (length plan.plays)) (list_any is_host_active s.rows) (λ st. closed_in s (open_play plan s) st placed out r t c) o
+    over_in s.stopped s.is_open s.ended (is_some (next_play plan s)) (list_any (has_hosts s.rows) (drop s.play plan.plays)) (some_left s.rows s.play (drop s.play plan.plays)) (λ st. closed_in s (open_play plan s) st placed out r t c) o

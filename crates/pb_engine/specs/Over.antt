@@ -1,13 +1,13 @@
 -- A run is never stuck: where nothing is possible, it was stopped or ended early, or no batch is open and none is left to open.
-use Rattle.std.specs.Prelude.{◌≡◌, ◌⊎◌, Bool, true, false, ◌&&◌, nat_lt, length, Option, Some, None}
+use Rattle.std.specs.Prelude.{◌≡◌, ◌⊎◌, Bool, true, false, drop, Option, Some, None}
 use Rattle.std.specs.List.{list_any}
 use Rattle.pb_state.specs.Plan.{PlayOf, PlanOf}
 use Rattle.pb_state.specs.State.{State}
-use Rattle.pb_state.specs.Machine.{is_host_active, is_running, least_place, open_play}
+use Rattle.pb_state.specs.Machine.{has_hosts, is_running, least_place, open_play}
 
--- a play is left, and a host to take part in it
+-- of the plays that are left one has an active host of its own
 abbrev pub has_more : PlanOf → State → Bool
-has_more plan s = nat_lt s.play (length plan.plays) && list_any is_host_active s.rows
+has_more plan s = list_any (has_hosts s.rows) (drop s.play plan.plays)
 
 abbrev pub IsOver : PlanOf → State → Type 0
 IsOver plan s = (s.stopped ≡ true) ⊎ (s.ended ≡ true) ⊎ ((s.is_open ≡ false) × (has_more plan s ≡ false))

@@ -83,7 +83,7 @@ impl Engine {
         if forks > pool_size {
             return Err(EngineFault::PoolTooSmall);
         }
-        let ready = HostSet::empty(alloc, plan.hosts())?;
+        let ready = HostSet::empty(alloc, plan.host_count())?;
         let state = EngineState::first(alloc, &plan, forks, pool_size)?;
         Ok(Engine {
             alloc,

@@ -1,5 +1,5 @@
 -- Worked runs: two hosts, and a play with one task.
-use Rattle.std.specs.Prelude.{◌≡◌, ⊤, ℕ, pos, true, false, List, [], ◌∷◌, ◌++◌, codes, refl}
+use Rattle.std.specs.Prelude.{◌≡◌, ⊤, ℕ, pos, Bool, true, false, List, [], ◌∷◌, ◌++◌, codes, refl}
 use Rattle.std.specs.Fmt.{digits}
 use Rattle.serde_json.proofs.OnLiterals.{serde_json_on_literals}
 use Rattle.pb_value.specs.Datum.{text, null}
@@ -12,7 +12,7 @@ use Rattle.pb_state.specs.declared.event.Event.{Event}
 use Rattle.pb_state.specs.declared.event.Event.TheVariants.{Open, Start, Send, Report as Reported, Turn, Close, Stop, Forks}
 use Rattle.pb_state.specs.Bundle.{tree_for}
 use Rattle.pb_state.specs.Machine.{first_state}
-use Rattle.pb_state.specs.Plan.{PlanOf}
+use Rattle.pb_state.specs.Plan.{PlayOf, PlanOf}
 use Rattle.pb_state.specs.Run.{state_from}
 use Rattle.pb_state.specs.State.{State}
 use Rattle.pb_events.specs.Line.{line}
@@ -27,8 +27,9 @@ abbrev one_task : Module → PlanOf
 one_task called =
     record {
       hosts = codes "a" ∷ codes "b" ∷ [];
-      plays = record { name = codes "all"; tree = tree_for 0 1 0; tasks = record { name = codes "hi"; «module» = called } ∷ [] } ∷ [];
+      plays = record { name = codes "all"; tree = tree_for 0 1 0; tasks = record { name = codes "hi"; «module» = called } ∷ []; hosts = true ∷ true ∷ [] } ∷ [];
       forks = 5;
+      warnings = [];
     }
 
 abbrev two_hosts : PlanOf
@@ -128,6 +129,27 @@ stops = refl
 
 has_other_forks : lines_of commanded (after_of commanded (Open ∷ first ∷ Forks 2 ∷ [])) (Forks 2) ≡ []
 has_other_forks = refl
+
+-- three plays for two hosts: the first has both, the second none, and the third the second host
+abbrev with_hosts : List ℕ → List Bool → PlayOf
+with_hosts name hosts = record { name = name; tree = tree_for 0 1 0; tasks = record { name = codes "hi"; «module» = Debug (text (codes "hello")) } ∷ []; hosts = hosts }
+
+abbrev three_plays : PlanOf
+three_plays =
+    record {
+      hosts = codes "a" ∷ codes "b" ∷ [];
+      plays = with_hosts (codes "all") (true ∷ true ∷ []) ∷ with_hosts (codes "none") (false ∷ false ∷ []) ∷ with_hosts (codes "b") (false ∷ true ∷ []) ∷ [];
+      forks = 5;
+      warnings = [];
+    }
+
+abbrev to_the_third : List Event
+to_the_third = Open ∷ first ∷ second ∷ Turn ∷ Close ∷ Open ∷ []
+
+-- the second play is passed over without a line, and the third's batch is its own host
+opens_the_third : lines_of three_plays (after_of three_plays to_the_third) Open ≡ codes "{\"batch\":0,\"event\":\"playbook_on_play_start\",\"hosts\":[\"b\"],\"name\":\"b\",\"play\":2}\n"
+unfolding on_literals
+opens_the_third = refl
 
 -- the lines of results that no module has yet
 abbrev ends_as : TaskResult → List ℕ

@@ -16,7 +16,7 @@ pub fn batch_names(alloc: Global, plan: &Plan, rows: &[Row]) -> Result<ValList, 
     ensures { IfOk result (λ names. names ≡ map text (batch_names plan.now.hosts rows.now)) }
 {
     let mut names = ValList::from_vec(Vec::new(alloc));
-    for host in 0..plan.hosts() {
+    for host in 0..plan.host_count() {
         let name = plan.host_name(HostNo(host));
         push_name(alloc, &mut names, name, row_at(rows, HostNo(host)))?;
     }

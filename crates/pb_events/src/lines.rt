@@ -147,7 +147,7 @@ fn in_play(
 fn name_of(plan: &Plan, host: HostNo) -> Option<&str>
     ensures { option_copied result ≡ slice_get plan.now.hosts host.0 }
 {
-    if host.0 < plan.hosts() {
+    if host.0 < plan.host_count() {
         Some(plan.host_name(host))
     } else {
         None

@@ -1,5 +1,5 @@
 -- How many members a list of values has, as its rows count them, and how many plays are read from them.
-use Rattle.std.proofs.Common.{◌≡◌, ℕ, ◌+◌, List, [], ◌∷◌, length, Ok, Err, refl, arith}
+use Rattle.std.proofs.Common.{◌≡◌, ℕ, ◌+◌, Bool, List, [], ◌∷◌, length, Ok, Err, refl, arith}
 use Rattle.std.specs.Prelude.{Result, decimal}
 use Rattle.serde_json.specs.Data as json
 use Rattle.serde_json.specs.View.{items_view}
@@ -20,6 +20,6 @@ one_more (Err f) rest n count ps e = cc
 one_more (Ok p) (Err f) n count ps e = cc
 one_more (Ok p) (Ok qs) n count ps e = let is : ps ≡ p ∷ qs = cc in let counted = count qs refl in rw is (omega (arith, counted))
 
-pub each_length : (path : List ℕ) (i : ℕ) (ds : json.Items) (ps : List Play) → each play path i ds ≡ Ok ps → length ps ≡ count ds
-each_length path i json.no_items ps e = let is : ps ≡ [] = cc in rw is refl
-each_length path i (json.item d ds) ps e = one_more (play (below path (decimal i)) d) (each play path (i + 1) ds) (count ds) (each_length path (i + 1) ds) ps e
+pub each_length : (refused : List ℕ → Bool) (path : List ℕ) (i : ℕ) (ds : json.Items) (ps : List Play) → each (play refused) path i ds ≡ Ok ps → length ps ≡ count ds
+each_length refused path i json.no_items ps e = let is : ps ≡ [] = cc in rw is refl
+each_length refused path i (json.item d ds) ps e = one_more (play refused (below path (decimal i)) d) (each (play refused) path (i + 1) ds) (count ds) (each_length refused path (i + 1) ds) ps e

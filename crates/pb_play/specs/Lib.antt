@@ -1,5 +1,6 @@
 pub mod Commands
 pub mod Faults
+pub mod Hosts
 pub mod Marks
 pub mod Messages
 pub mod Modules

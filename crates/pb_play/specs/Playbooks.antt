@@ -1,6 +1,6 @@
 -- The playbook that bytes spell, or the first fault in them.
 -- See Ansible's documentation, "Ansible playbooks"; the file is JSON (RFC 8259) in place of YAML.
-use Rattle.std.specs.Prelude.{ℕ, ◌+◌, List, [], Result, Ok, Err, Option, Some, None, nat_lt, if◌then◌else◌}
+use Rattle.std.specs.Prelude.{ℕ, ◌+◌, Bool, List, [], Result, Ok, Err, Option, Some, None, nat_lt, if◌then◌else◌}
 use Rattle.serde_json.specs.Data as json
 use Rattle.pb_value.specs.Bytes.{json_in}
 use Rattle.pb_value.specs.Reading.{and_then}
@@ -21,14 +21,14 @@ count (json.item d ds) = count ds + 1
 abbrev pub max_plays : ℕ
 max_plays = 256
 
-abbrev pub plays : json.Data → Result (List Play) LoadFault
-plays (json.array ds) = if nat_lt max_plays (count ds) then Err (TooLarge Plays) else each play [] 0 ds
-plays d = Err (WrongShape [])
+abbrev pub plays : (List ℕ → Bool) → json.Data → Result (List Play) LoadFault
+plays refused (json.array ds) = if nat_lt max_plays (count ds) then Err (TooLarge Plays) else each (play refused) [] 0 ds
+plays refused d = Err (WrongShape [])
 
-abbrev pub of_json : Option json.Data → Result Playbook LoadFault
-of_json None = Err NotJson
-of_json (Some d) = and_then (plays d) (λ ps. Ok (record { plays = ps }))
+abbrev pub of_json : (List ℕ → Bool) → Option json.Data → Result Playbook LoadFault
+of_json refused None = Err NotJson
+of_json refused (Some d) = and_then (plays refused d) (λ ps. Ok (record { plays = ps }))
 
--- the playbook that the bytes spell, or the first fault in them
-unfoldable pub playbook_of : List ℕ → Result Playbook LoadFault
-playbook_of bytes = of_json (json_in bytes)
+-- the playbook that the bytes spell, or the first fault in them; `refused` tells the regular expressions that are refused in patterns
+unfoldable pub playbook_of : (List ℕ → Bool) → List ℕ → Result Playbook LoadFault
+playbook_of refused bytes = of_json refused (json_in bytes)

@@ -1,5 +1,5 @@
 -- Worked playbooks: what their texts spell, or the first fault in them.
-use Rattle.std.specs.Prelude.{◌≡◌, ⊤, pos, [], ◌∷◌, Ok, Err, codes, refl}
+use Rattle.std.specs.Prelude.{◌≡◌, ⊤, true, pos, List, [], ◌∷◌, Some, None, Ok, Err, codes, refl}
 use Rattle.std.specs.Fmt.{digits}
 use Rattle.std.specs.Str.{chars, is_utf8}
 use Rattle.std.specs.Str.Lossy.{utf8_valid_len}
@@ -7,6 +7,11 @@ use Rattle.serde_json.proofs.OnLiterals.{serde_json_on_literals}
 use Rattle.pb_value.specs.Bytes.{json_in}
 use Rattle.pb_value.specs.Datum.{null, int, text}
 use Rattle.pb_value.specs.FromJson.{value_of}
+use Rattle.pb_patterns.specs.Reading.{pattern_of, all_taken}
+use Rattle.pb_patterns.specs.declared.element.Element.{Element}
+use Rattle.pb_patterns.specs.declared.element.Mark.TheVariants.{Unmarked, Met, Excluded}
+use Rattle.pb_patterns.specs.declared.element.Subscript.TheVariants.{At}
+use Rattle.pb_patterns.specs.declared.element.What.TheVariants.{Term, Regex}
 use Rattle.pb_play.specs.Playbooks.{playbook_of}
 use Rattle.pb_play.specs.Plays.{play}
 use Rattle.pb_play.specs.declared.fault.LoadFault.TheVariants.{NotJson, WrongShape, NotInProfile, NoModule, TwoModules, BadExpression, BadPattern}
@@ -15,72 +20,138 @@ use Rattle.pb_play.specs.declared.modules.Module.TheVariants.{Command, Debug, Fa
 
 -- what computes a row from its text
 unfoldable on_literals : ⊤
-unfolding playbook_of play json_in utf8_valid_len is_utf8 chars digits value_of serde_json_on_literals
+unfolding playbook_of play pattern_of json_in utf8_valid_len is_utf8 chars digits value_of serde_json_on_literals
 on_literals = tt
 
-hello : playbook_of (codes "[{\"hosts\":\"all\",\"gather_facts\":false,\"tasks\":[{\"name\":\"hi\",\"debug\":{\"msg\":\"hello\"}}]}]")
-    ≡ Ok (record { plays = record { name = codes "all"; pre_tasks = []; tasks = record { name = codes "hi"; «module» = Debug (text (codes "hello")) } ∷ []; post_tasks = [] } ∷ [] })
+-- the elements of the pattern `all`
+abbrev all_hosts : List Element
+all_hosts = record { text = codes "all"; mark = Unmarked; what = Term (codes "all") None } ∷ []
+
+hello : playbook_of all_taken (codes "[{\"hosts\":\"all\",\"gather_facts\":false,\"tasks\":[{\"name\":\"hi\",\"debug\":{\"msg\":\"hello\"}}]}]")
+    ≡ Ok (record { plays = record { name = codes "all"; hosts = all_hosts; pre_tasks = []; tasks = record { name = codes "hi"; «module» = Debug (text (codes "hello")) } ∷ []; post_tasks = [] } ∷ [] })
 unfolding on_literals
 hello = refl
 
 -- a task without a name has its module's, without the prefix; `debug` shows `Hello world!` where nothing is said
-nothing_said : playbook_of (codes "[{\"hosts\":\"all\",\"name\":\"p\",\"gather_facts\":\"No\",\"tasks\":[{\"ansible.builtin.debug\":{}}]}]")
-    ≡ Ok (record { plays = record { name = codes "p"; pre_tasks = []; tasks = record { name = codes "debug"; «module» = Debug (text (codes "Hello world!")) } ∷ []; post_tasks = [] } ∷ [] })
+nothing_said : playbook_of all_taken (codes "[{\"hosts\":\"all\",\"name\":\"p\",\"gather_facts\":\"No\",\"tasks\":[{\"ansible.builtin.debug\":{}}]}]")
+    ≡ Ok (record { plays = record { name = codes "p"; hosts = all_hosts; pre_tasks = []; tasks = record { name = codes "debug"; «module» = Debug (text (codes "Hello world!")) } ∷ []; post_tasks = [] } ∷ [] })
 unfolding on_literals
 nothing_said = refl
 
 -- a file without its last byte
-cut_off : playbook_of (codes "[{\"hosts\":\"all\",\"gather_facts\":false,\"tasks\":[{\"name\":\"hi\",\"debug\":{\"msg\":\"hello\"}}]}") ≡ Err NotJson
+cut_off : playbook_of all_taken (codes "[{\"hosts\":\"all\",\"gather_facts\":false,\"tasks\":[{\"name\":\"hi\",\"debug\":{\"msg\":\"hello\"}}]}") ≡ Err NotJson
 unfolding on_literals
 cut_off = refl
 
 -- keys are looked at in byte order, wherever they stand
-unknown_key : playbook_of (codes "[{\"hosts\":3,\"gather_facts\":true,\"become\":true}]") ≡ Err (NotInProfile (codes "become"))
+unknown_key : playbook_of all_taken (codes "[{\"hosts\":3,\"gather_facts\":true,\"become\":true}]") ≡ Err (NotInProfile (codes "become"))
 unfolding on_literals
 unknown_key = refl
 
-not_whole : playbook_of (codes "[{\"hosts\":\"all\",\"gather_facts\":false,\"tasks\":[{\"debug\":{\"msg\":[1.5]}}]}]") ≡ Err (WrongShape (codes "0/tasks/0/debug/msg"))
+not_whole : playbook_of all_taken (codes "[{\"hosts\":\"all\",\"gather_facts\":false,\"tasks\":[{\"debug\":{\"msg\":[1.5]}}]}]") ≡ Err (WrongShape (codes "0/tasks/0/debug/msg"))
 unfolding on_literals
 not_whole = refl
 
-no_arguments : playbook_of (codes "[{\"hosts\":\"all\",\"gather_facts\":false,\"tasks\":[{\"debug\":null}]}]") ≡ Err (WrongShape (codes "0/tasks/0/debug"))
+no_arguments : playbook_of all_taken (codes "[{\"hosts\":\"all\",\"gather_facts\":false,\"tasks\":[{\"debug\":null}]}]") ≡ Err (WrongShape (codes "0/tasks/0/debug"))
 unfolding on_literals
 no_arguments = refl
 
-template : playbook_of (codes "[{\"hosts\":\"all\",\"gather_facts\":false,\"tasks\":[{\"debug\":{\"msg\":[\"{{ x }}\"]}}]}]") ≡ Err BadExpression
+template : playbook_of all_taken (codes "[{\"hosts\":\"all\",\"gather_facts\":false,\"tasks\":[{\"debug\":{\"msg\":[\"{{ x }}\"]}}]}]") ≡ Err BadExpression
 unfolding on_literals
 template = refl
 
-no_module : playbook_of (codes "[{\"hosts\":\"all\",\"gather_facts\":false,\"tasks\":[{}]}]") ≡ Err NoModule
+no_module : playbook_of all_taken (codes "[{\"hosts\":\"all\",\"gather_facts\":false,\"tasks\":[{}]}]") ≡ Err NoModule
 unfolding on_literals
 no_module = refl
 
-two_modules : playbook_of (codes "[{\"hosts\":\"all\",\"gather_facts\":false,\"tasks\":[{\"debug\":{},\"ansible.builtin.debug\":{}}]}]") ≡ Err TwoModules
+two_modules : playbook_of all_taken (codes "[{\"hosts\":\"all\",\"gather_facts\":false,\"tasks\":[{\"debug\":{},\"ansible.builtin.debug\":{}}]}]") ≡ Err TwoModules
 unfolding on_literals
 two_modules = refl
 
 -- rules over several keys come after the keys: hosts first, then gathering
-no_hosts : playbook_of (codes "[{}]") ≡ Err (WrongShape (codes "0"))
+no_hosts : playbook_of all_taken (codes "[{}]") ≡ Err (WrongShape (codes "0"))
 unfolding on_literals
 no_hosts = refl
 
-gathering : playbook_of (codes "[{\"hosts\":\"all\"}]") ≡ Err (NotInProfile (codes "gather_facts"))
+gathering : playbook_of all_taken (codes "[{\"hosts\":\"all\"}]") ≡ Err (NotInProfile (codes "gather_facts"))
 unfolding on_literals
 gathering = refl
 
-other_hosts : playbook_of (codes "[{\"hosts\":\"web\"}]") ≡ Err BadPattern
+-- a play without a name has its pattern's text as it is written; an element's text is trimmed
+text_of_hosts : playbook_of all_taken (codes "[{\"hosts\":\" web : &db\",\"gather_facts\":false}]")
+    ≡ Ok (record {
+      plays = record {
+        name = codes " web : &db";
+        hosts = record { text = codes "web"; mark = Unmarked; what = Term (codes "web") None } ∷ record { text = codes "&db"; mark = Met; what = Term (codes "db") None } ∷ [];
+        pre_tasks = [];
+        tasks = [];
+        post_tasks = [];
+      } ∷ [];
+    })
 unfolding on_literals
-other_hosts = refl
+text_of_hosts = refl
 
-no_list : playbook_of (codes "{}") ≡ Err (WrongShape [])
+-- the texts of a list are cut each by itself and taken together
+list_of_hosts : playbook_of all_taken (codes "[{\"hosts\":[\"web[0]\",\" \",\"!a\"],\"gather_facts\":false}]")
+    ≡ Ok (record {
+      plays = record {
+        name = codes "web[0], ,!a";
+        hosts = record { text = codes "web[0]"; mark = Unmarked; what = Term (codes "web") (Some (At 0)) } ∷ record { text = codes "!a"; mark = Excluded; what = Term (codes "a") None } ∷ [];
+        pre_tasks = [];
+        tasks = [];
+        post_tasks = [];
+      } ∷ [];
+    })
+unfolding on_literals
+list_of_hosts = refl
+
+-- `~` alone is the empty regular expression
+empty_regex : playbook_of all_taken (codes "[{\"hosts\":\"~\",\"gather_facts\":false}]")
+    ≡ Ok (record { plays = record { name = codes "~"; hosts = record { text = codes "~"; mark = Unmarked; what = Regex [] } ∷ []; pre_tasks = []; tasks = []; post_tasks = [] } ∷ [] })
+unfolding on_literals
+empty_regex = refl
+
+-- where the regex crate refuses `(`
+refused_regex : playbook_of (λ source. true) (codes "[{\"hosts\":\"a,~(\",\"tasks\":3}]") ≡ Err BadPattern
+unfolding on_literals
+refused_regex = refl
+
+-- there has to be an element
+no_texts : playbook_of all_taken (codes "[{\"hosts\":[]}]") ≡ Err BadPattern
+unfolding on_literals
+no_texts = refl
+
+no_elements : playbook_of all_taken (codes "[{\"hosts\":[\" \",\",\"]}]") ≡ Err BadPattern
+unfolding on_literals
+no_elements = refl
+
+bad_subscript : playbook_of all_taken (codes "[{\"hosts\":\"web[x]\"}]") ≡ Err BadPattern
+unfolding on_literals
+bad_subscript = refl
+
+template_in_hosts : playbook_of all_taken (codes "[{\"hosts\":[\"a\",\"b{{ x }}\"]}]") ≡ Err BadPattern
+unfolding on_literals
+template_in_hosts = refl
+
+-- the kinds of all values of `hosts` come first
+no_text_in_hosts : playbook_of all_taken (codes "[{\"hosts\":[\"{{ x }}\",1,null]}]") ≡ Err (WrongShape (codes "0/hosts/1"))
+unfolding on_literals
+no_text_in_hosts = refl
+
+no_text_at_hosts : playbook_of all_taken (codes "[{\"hosts\":null}]") ≡ Err (WrongShape (codes "0/hosts"))
+unfolding on_literals
+no_text_at_hosts = refl
+
+no_list : playbook_of all_taken (codes "{}") ≡ Err (WrongShape [])
 unfolding on_literals
 no_list = refl
 
 -- tasks may stand in three lists, each with its own path
-three_lists : playbook_of (codes "[{\"hosts\":\"all\",\"gather_facts\":false,\"post_tasks\":[{\"debug\":{}}],\"pre_tasks\":[{\"name\":\"a\",\"debug\":{}}]}]")
+three_lists : playbook_of all_taken (codes "[{\"hosts\":\"all\",\"gather_facts\":false,\"post_tasks\":[{\"debug\":{}}],\"pre_tasks\":[{\"name\":\"a\",\"debug\":{}}]}]")
     ≡ Ok (record {
       plays = record {
         name = codes "all";
+        hosts = all_hosts;
         pre_tasks = record { name = codes "a"; «module» = Debug (text (codes "Hello world!")) } ∷ [];
         tasks = [];
         post_tasks = record { name = codes "debug"; «module» = Debug (text (codes "Hello world!")) } ∷ [];
@@ -89,42 +160,43 @@ three_lists : playbook_of (codes "[{\"hosts\":\"all\",\"gather_facts\":false,\"p
 unfolding on_literals
 three_lists = refl
 
-no_pre_task : playbook_of (codes "[{\"hosts\":\"all\",\"gather_facts\":false,\"pre_tasks\":[{\"debug\":{}},1]}]") ≡ Err (WrongShape (codes "0/pre_tasks/1"))
+no_pre_task : playbook_of all_taken (codes "[{\"hosts\":\"all\",\"gather_facts\":false,\"pre_tasks\":[{\"debug\":{}},1]}]") ≡ Err (WrongShape (codes "0/pre_tasks/1"))
 unfolding on_literals
 no_pre_task = refl
 
 -- keys without effect aren't read as values
-without_effect_on_plays : playbook_of (codes "[{\"hosts\":\"all\",\"gather_facts\":false,\"connection\":\"local\",\"gather_subset\":1.5,\"no_log\":\"Off\",\"remote_user\":1.5,\"tags\":\"nevermore,always\"}]")
-    ≡ Ok (record { plays = record { name = codes "all"; pre_tasks = []; tasks = []; post_tasks = [] } ∷ [] })
+without_effect_on_plays : playbook_of all_taken (codes "[{\"hosts\":\"all\",\"gather_facts\":false,\"connection\":\"local\",\"gather_subset\":1.5,\"no_log\":\"Off\",\"remote_user\":1.5,\"tags\":\"nevermore,always\"}]")
+    ≡ Ok (record { plays = record { name = codes "all"; hosts = all_hosts; pre_tasks = []; tasks = []; post_tasks = [] } ∷ [] })
 unfolding on_literals
 without_effect_on_plays = refl
 
-without_effect_on_tasks : playbook_of (codes "[{\"hosts\":\"all\",\"gather_facts\":false,\"tasks\":[{\"debug\":{},\"connection\":\"local\",\"gather_subset\":1.5,\"no_log\":false,\"remote_user\":1.5,\"tags\":[1.5,\"a\"]}]}]")
-    ≡ Ok (record { plays = record { name = codes "all"; pre_tasks = []; tasks = record { name = codes "debug"; «module» = Debug (text (codes "Hello world!")) } ∷ []; post_tasks = [] } ∷ [] })
+without_effect_on_tasks : playbook_of all_taken (codes "[{\"hosts\":\"all\",\"gather_facts\":false,\"tasks\":[{\"debug\":{},\"connection\":\"local\",\"gather_subset\":1.5,\"no_log\":false,\"remote_user\":1.5,\"tags\":[1.5,\"a\"]}]}]")
+    ≡ Ok (record { plays = record { name = codes "all"; hosts = all_hosts; pre_tasks = []; tasks = record { name = codes "debug"; «module» = Debug (text (codes "Hello world!")) } ∷ []; post_tasks = [] } ∷ [] })
 unfolding on_literals
 without_effect_on_tasks = refl
 
-tag_never : playbook_of (codes "[{\"hosts\":\"all\",\"gather_facts\":false,\"tags\":\"a, never\"}]") ≡ Err (NotInProfile (codes "never"))
+tag_never : playbook_of all_taken (codes "[{\"hosts\":\"all\",\"gather_facts\":false,\"tags\":\"a, never\"}]") ≡ Err (NotInProfile (codes "never"))
 unfolding on_literals
 tag_never = refl
 
-tags_never : playbook_of (codes "[{\"hosts\":\"all\",\"gather_facts\":false,\"tasks\":[{\"debug\":{},\"tags\":[\"a\",\"never ,b\"]}]}]") ≡ Err (NotInProfile (codes "never"))
+tags_never : playbook_of all_taken (codes "[{\"hosts\":\"all\",\"gather_facts\":false,\"tasks\":[{\"debug\":{},\"tags\":[\"a\",\"never ,b\"]}]}]") ≡ Err (NotInProfile (codes "never"))
 unfolding on_literals
 tags_never = refl
 
-other_connection : playbook_of (codes "[{\"hosts\":\"all\",\"connection\":\"ssh\"}]") ≡ Err (NotInProfile (codes "connection"))
+other_connection : playbook_of all_taken (codes "[{\"hosts\":\"all\",\"connection\":\"ssh\"}]") ≡ Err (NotInProfile (codes "connection"))
 unfolding on_literals
 other_connection = refl
 
-no_switch : playbook_of (codes "[{\"hosts\":\"all\",\"no_log\":5}]") ≡ Err (NotInProfile (codes "no_log"))
+no_switch : playbook_of all_taken (codes "[{\"hosts\":\"all\",\"no_log\":5}]") ≡ Err (NotInProfile (codes "no_log"))
 unfolding on_literals
 no_switch = refl
 
 -- the modules `command`, `fail` and `shell`, each in every form of its arguments
-commands : playbook_of (codes "[{\"hosts\":\"all\",\"gather_facts\":false,\"tasks\":[{\"command\":\"ls -l\"},{\"command\":{\"cmd\":\"'\"}},{\"ansible.builtin.command\":{\"argv\":[\"ls\",1,null]}}]}]")
+commands : playbook_of all_taken (codes "[{\"hosts\":\"all\",\"gather_facts\":false,\"tasks\":[{\"command\":\"ls -l\"},{\"command\":{\"cmd\":\"'\"}},{\"ansible.builtin.command\":{\"argv\":[\"ls\",1,null]}}]}]")
     ≡ Ok (record {
       plays = record {
         name = codes "all";
+        hosts = all_hosts;
         pre_tasks = [];
         tasks =
             record { name = codes "command"; «module» = Command (Line (codes "ls -l")) } ∷
@@ -136,10 +208,11 @@ commands : playbook_of (codes "[{\"hosts\":\"all\",\"gather_facts\":false,\"task
 unfolding on_literals
 commands = refl
 
-shells : playbook_of (codes "[{\"hosts\":\"all\",\"gather_facts\":false,\"tasks\":[{\"shell\":\"\"},{\"ansible.builtin.shell\":{\"cmd\":\"a | b\"}}]}]")
+shells : playbook_of all_taken (codes "[{\"hosts\":\"all\",\"gather_facts\":false,\"tasks\":[{\"shell\":\"\"},{\"ansible.builtin.shell\":{\"cmd\":\"a | b\"}}]}]")
     ≡ Ok (record {
       plays = record {
         name = codes "all";
+        hosts = all_hosts;
         pre_tasks = [];
         tasks = record { name = codes "shell"; «module» = Shell [] } ∷ record { name = codes "shell"; «module» = Shell (codes "a | b") } ∷ [];
         post_tasks = [];
@@ -148,10 +221,11 @@ shells : playbook_of (codes "[{\"hosts\":\"all\",\"gather_facts\":false,\"tasks\
 unfolding on_literals
 shells = refl
 
-fails : playbook_of (codes "[{\"hosts\":\"all\",\"gather_facts\":false,\"tasks\":[{\"fail\":{}},{\"ansible.builtin.fail\":{\"msg\":1}}]}]")
+fails : playbook_of all_taken (codes "[{\"hosts\":\"all\",\"gather_facts\":false,\"tasks\":[{\"fail\":{}},{\"ansible.builtin.fail\":{\"msg\":1}}]}]")
     ≡ Ok (record {
       plays = record {
         name = codes "all";
+        hosts = all_hosts;
         pre_tasks = [];
         tasks = record { name = codes "fail"; «module» = Fail (text (codes "Failed as requested from task")) } ∷ record { name = codes "fail"; «module» = Fail (int (pos 1)) } ∷ [];
         post_tasks = [];
@@ -161,43 +235,43 @@ unfolding on_literals
 fails = refl
 
 -- the keys come first, and then that one of the two has to be there
-both_forms : playbook_of (codes "[{\"hosts\":\"all\",\"tasks\":[{\"command\":{\"argv\":[],\"cmd\":\"a\"}}]}]") ≡ Err (WrongShape (codes "0/tasks/0/command"))
+both_forms : playbook_of all_taken (codes "[{\"hosts\":\"all\",\"tasks\":[{\"command\":{\"argv\":[],\"cmd\":\"a\"}}]}]") ≡ Err (WrongShape (codes "0/tasks/0/command"))
 unfolding on_literals
 both_forms = refl
 
-neither_form : playbook_of (codes "[{\"hosts\":\"all\",\"tasks\":[{\"command\":{}}]}]") ≡ Err (WrongShape (codes "0/tasks/0/command"))
+neither_form : playbook_of all_taken (codes "[{\"hosts\":\"all\",\"tasks\":[{\"command\":{}}]}]") ≡ Err (WrongShape (codes "0/tasks/0/command"))
 unfolding on_literals
 neither_form = refl
 
-unknown_argument : playbook_of (codes "[{\"hosts\":\"all\",\"tasks\":[{\"command\":{\"argv\":[],\"chdir\":1,\"cmd\":1}}]}]") ≡ Err (NotInProfile (codes "chdir"))
+unknown_argument : playbook_of all_taken (codes "[{\"hosts\":\"all\",\"tasks\":[{\"command\":{\"argv\":[],\"chdir\":1,\"cmd\":1}}]}]") ≡ Err (NotInProfile (codes "chdir"))
 unfolding on_literals
 unknown_argument = refl
 
 -- a list is one value, with one path
-refused_word : playbook_of (codes "[{\"hosts\":\"all\",\"tasks\":[{\"command\":{\"argv\":[1,1.5]}}]}]") ≡ Err (WrongShape (codes "0/tasks/0/command/argv"))
+refused_word : playbook_of all_taken (codes "[{\"hosts\":\"all\",\"tasks\":[{\"command\":{\"argv\":[1,1.5]}}]}]") ≡ Err (WrongShape (codes "0/tasks/0/command/argv"))
 unfolding on_literals
 refused_word = refl
 
-no_words_for_shell : playbook_of (codes "[{\"hosts\":\"all\",\"tasks\":[{\"shell\":{\"argv\":[]}}]}]") ≡ Err (NotInProfile (codes "argv"))
+no_words_for_shell : playbook_of all_taken (codes "[{\"hosts\":\"all\",\"tasks\":[{\"shell\":{\"argv\":[]}}]}]") ≡ Err (NotInProfile (codes "argv"))
 unfolding on_literals
 no_words_for_shell = refl
 
-no_arguments_of_fail : playbook_of (codes "[{\"hosts\":\"all\",\"tasks\":[{\"fail\":null}]}]") ≡ Err (WrongShape (codes "0/tasks/0/fail"))
+no_arguments_of_fail : playbook_of all_taken (codes "[{\"hosts\":\"all\",\"tasks\":[{\"fail\":null}]}]") ≡ Err (WrongShape (codes "0/tasks/0/fail"))
 unfolding on_literals
 no_arguments_of_fail = refl
 
-template_in_command : playbook_of (codes "[{\"hosts\":\"all\",\"tasks\":[{\"command\":\"run {{ item }}\"}]}]") ≡ Err BadExpression
+template_in_command : playbook_of all_taken (codes "[{\"hosts\":\"all\",\"tasks\":[{\"command\":\"run {{ item }}\"}]}]") ≡ Err BadExpression
 unfolding on_literals
 template_in_command = refl
 
-template_in_word : playbook_of (codes "[{\"hosts\":\"all\",\"tasks\":[{\"command\":{\"argv\":[[\"{{ x }}\"]]}}]}]") ≡ Err BadExpression
+template_in_word : playbook_of all_taken (codes "[{\"hosts\":\"all\",\"tasks\":[{\"command\":{\"argv\":[[\"{{ x }}\"]]}}]}]") ≡ Err BadExpression
 unfolding on_literals
 template_in_word = refl
 
-other_modules : playbook_of (codes "[{\"hosts\":\"all\",\"tasks\":[{\"command\":\"a\",\"shell\":\"a\"}]}]") ≡ Err TwoModules
+other_modules : playbook_of all_taken (codes "[{\"hosts\":\"all\",\"tasks\":[{\"command\":\"a\",\"shell\":\"a\"}]}]") ≡ Err TwoModules
 unfolding on_literals
 other_modules = refl
 
-other_prefix : playbook_of (codes "[{\"hosts\":\"all\",\"tasks\":[{\"ansible.builtin.copy\":\"a\"}]}]") ≡ Err (NotInProfile (codes "ansible.builtin.copy"))
+other_prefix : playbook_of all_taken (codes "[{\"hosts\":\"all\",\"tasks\":[{\"ansible.builtin.copy\":\"a\"}]}]") ≡ Err (NotInProfile (codes "ansible.builtin.copy"))
 unfolding on_literals
 other_prefix = refl

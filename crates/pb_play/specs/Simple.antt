@@ -1,6 +1,5 @@
 -- The values that stand alone at a key.
 use Rattle.std.specs.Prelude.{ℕ, Bool, true, false, List, Result, Ok, Err, Option, Some, None, codes, if◌then◌else◌}
-use Rattle.std.specs.Str.{bytes_eq}
 use Rattle.serde_json.specs.Data as json
 use Rattle.pb_value.specs.Datum.{Datum}
 use Rattle.pb_value.specs.FromJson.{value_of}
@@ -9,7 +8,7 @@ use Rattle.pb_value.specs.declared.fault.ValFault.{ValFault}
 use Rattle.pb_value.specs.Reading.{and_then}
 use Rattle.pb_play.specs.Marks.{has_mark, has_marks}
 use Rattle.pb_play.specs.declared.fault.LoadFault.{LoadFault}
-use Rattle.pb_play.specs.declared.fault.LoadFault.TheVariants.{WrongShape, NotInProfile, BadExpression, BadPattern}
+use Rattle.pb_play.specs.declared.fault.LoadFault.TheVariants.{WrongShape, NotInProfile, BadExpression}
 
 -- a text
 abbrev pub text : List ℕ → json.Data → Result (List ℕ) LoadFault
@@ -24,12 +23,6 @@ off path None = Err (WrongShape path)
 
 abbrev pub gathering : List ℕ → json.Data → Result Bool LoadFault
 gathering path d = off path (switch_of d)
-
--- the pattern of a play's hosts: `all` is the only one yet
-abbrev pub pattern : List ℕ → json.Data → Result (List ℕ) LoadFault
-pattern path (json.string s) = if bytes_eq s (codes "all") then Ok s else Err BadPattern
-pattern path (json.array ds) = Err BadPattern
-pattern path d = Err (WrongShape path)
 
 -- a value, as it was read
 abbrev found : List ℕ → Result Datum ValFault → Result Datum LoadFault

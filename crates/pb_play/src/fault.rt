@@ -56,7 +56,8 @@ pub enum LoadFault {
     /// A list with more members than it may have.
     #[error("9 TooLarge {which}")]
     TooLarge { which: Limit },
-    /// A pattern of hosts that is none.
+    /// A pattern of hosts that is none: it has no element, or one with wrong square brackets or a refused regular expression,
+    /// or `{{` stands in it.
     #[error("10 BadPattern")]
     BadPattern,
     /// Memory was wanting.

@@ -3,11 +3,15 @@
 //! For the layer above: `Playbook::read` gives the plays of a playbook's bytes, or the first fault in them.
 //! What it answers is `playbook_of` of `specs/Playbooks.antt`, exactly: objects are looked at with their keys in byte order
 //! and lists from the front, the first fault met counts, and the rules over several keys of an object come after its keys.
-//! Some keys are allowed without effect, and any other key that isn't read here is refused by its name. Want of memory may come at any point, in place of that answer.
+//! Some keys are allowed without effect, and any other key that isn't read here is refused by its name. The hosts of a play are a
+//! pattern, which `pb_patterns` reads; `playbook_of` is told which regular expressions are refused. A playbook that is read is the
+//! one where none is, and `BadPattern` may also come for an expression that the `regex` crate refuses, where it stands before any
+//! other fault. Want of memory may come at any point, in place of that answer.
 #![tactic(auto)]
 
 pub mod commands;
 pub mod fault;
+mod hosts;
 mod marks;
 mod messages;
 pub mod modules;

@@ -1,11 +1,15 @@
 ghost use Rattle.std.specs.Prelude.{◌≡◌, ◌≢◌, IfOk, IfErr, Ok, Err};
 ghost use Rattle.serde_json.specs.View.{view};
+ghost use Rattle.pb_patterns.specs.Reading.{all_taken};
+ghost use Rattle.pb_play.specs.Faults.{IsLoadFaultOf};
 ghost use Rattle.pb_play.specs.Plays.{play_key, with_play_key, new_play, finished_play, play};
 
 use crate::fault::{LoadFault, not_in_profile, wrong_shape};
+use crate::hosts::{PlayHosts, read_hosts};
 use crate::no_effect::check_without_effect;
-use crate::simple::{read_gathering, read_pattern, read_text};
+use crate::simple::{read_gathering, read_text};
 use crate::task::{Task, read_tasks};
+use pb_patterns::pattern::Pattern;
 use pb_value::items::Items;
 use pb_value::path::child;
 use pb_value::text::Text;
@@ -15,8 +19,13 @@ use std::alloc::Global;
 /// A play of a playbook.
 #[derive(Drop)]
 pub struct Play {
-    /// Its name as it is written, or its pattern's text.
+    /// Its name as it is written, or its pattern's text: that of `hosts` as it is written, a list's texts with `,` between.
     pub name: Text,
+    /// The pattern of its hosts, from the text at `hosts`, or from the texts of a list there, taken together. A text is cut at `,`
+    /// and `:` outside square brackets. An element names groups or hosts, with `*` and `?` for unknown letters, perhaps with a
+    /// subscript behind, or is a regular expression behind `~`; `&` or `!` in front keeps to its hosts or leaves them out.
+    /// See Ansible's documentation, "Patterns: targeting hosts and groups".
+    pub hosts: Pattern,
     /// What it does before its tasks, in this order.
     pub pre_tasks: Items<Task>,
     /// What it does, in this order.
@@ -41,7 +50,7 @@ enum PlayKey {
 #[derive(Drop)]
 struct PlayDraft {
     name: Option<Text>,
-    hosts: Option<Text>,
+    hosts: Option<PlayHosts>,
     gather_facts: Option<bool>,
     pre_tasks: Option<Items<Task>>,
     tasks: Option<Items<Task>>,
@@ -92,9 +101,9 @@ impl PlayDraft {
         json: &Value,
     ) -> Result<PlayDraft, LoadFault>
         ensures value { IfOk result
-            (λ draft. with_play_key (play_key key.now) path.now key.now (view json.now) self ≡ Ok draft) }
+            (λ draft. with_play_key all_taken (play_key key.now) path.now key.now (view json.now) self ≡ Ok draft) }
         ensures fault { IfErr result
-            (λ e. e ≢ LoadFault.Memory → with_play_key (play_key key.now) path.now key.now (view json.now) self ≡ Err e) }
+            (λ e. e ≢ LoadFault.Memory → IsLoadFaultOf (λ refused. with_play_key refused (play_key key.now) path.now key.now (view json.now) self) e) }
     {
         match PlayKey::of(key) {
             PlayKey::GatherFacts => {
@@ -105,7 +114,7 @@ impl PlayDraft {
                 })
             }
             PlayKey::Hosts => {
-                let hosts = Some(read_pattern(alloc, path, json)?);
+                let hosts = Some(read_hosts(alloc, path, json)?);
                 Ok(PlayDraft { hosts, ..self })
             }
             PlayKey::Name => {
@@ -143,14 +152,15 @@ impl PlayDraft {
             tasks,
             post_tasks,
         } = self;
-        let Some(hosts) = hosts else {
+        let Some(PlayHosts { text, pattern }) = hosts else {
             return Err(wrong_shape(path));
         };
         if gather_facts.is_none() {
             return Err(not_in_profile(alloc, "gather_facts"));
         }
         Ok(Play {
-            name: name.unwrap_or(hosts),
+            name: name.unwrap_or(text),
+            hosts: pattern,
             pre_tasks: pre_tasks.unwrap_or(Items::new(alloc)),
             tasks: tasks.unwrap_or(Items::new(alloc)),
             post_tasks: post_tasks.unwrap_or(Items::new(alloc)),
@@ -161,15 +171,19 @@ impl PlayDraft {
 /// A play, as an object spells it.
 #[tactic(auto, unfolding(crate::specs::Plays::play))]
 pub(crate) fn read_play(alloc: Global, path: &Text, json: &Value) -> Result<Play, LoadFault>
-    ensures value { IfOk result (λ p. play path.now (view json.now) ≡ Ok p) }
-    ensures fault { IfErr result (λ e. e ≢ LoadFault.Memory → play path.now (view json.now) ≡ Err e) }
+    ensures value { IfOk result (λ p. play all_taken path.now (view json.now) ≡ Ok p) }
+    ensures fault { IfErr result (λ e. e ≢ LoadFault.Memory → IsLoadFaultOf (λ refused. play refused path.now (view json.now)) e) }
 {
     match json {
         Value::Object(members) => {
             let mut draft = PlayDraft::new();
-            for (key, member) in members.iter() {
-                let here = child(alloc, path, key.as_str())?;
-                draft = draft.with_key(alloc, &here, key.as_str(), member)?;
+            for (name, member) in members.iter() {
+                let key = name.as_str();
+                let here = child(alloc, path, key)?;
+                draft = match draft.with_key(alloc, &here, key, member) {
+                    Ok(next) => next,
+                    Err(fault) => return Err(fault),
+                };
             }
             draft.finish(alloc, path)
         }

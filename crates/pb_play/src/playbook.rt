@@ -1,7 +1,8 @@
 ghost use Rattle.std.specs.Prelude.{◌≡◌, ◌≢◌, ◌≤◌, length, IfOk, IfErr, Ok, Err, nat_lt, decimal};
 ghost use Rattle.serde_json.specs.View.{view, items_view};
 ghost use Rattle.pb_value.specs.Reading.{below};
-ghost use Rattle.pb_play.specs.Faults.{each};
+ghost use Rattle.pb_patterns.specs.Reading.{all_taken};
+ghost use Rattle.pb_play.specs.Faults.{each, IsLoadFaultOf};
 ghost use Rattle.pb_play.specs.Plays.{play};
 ghost use Rattle.pb_play.specs.Playbooks.{count, max_plays, plays, playbook_of};
 
@@ -27,17 +28,18 @@ impl Playbook {
     /// The playbook that the bytes spell, or the first fault in them.
     /// See Ansible's documentation, "Playbook Keywords"; the file is JSON in place of YAML.
     pub fn read(alloc: Global, bytes: &[u8]) -> Result<Playbook, LoadFault>
-        ensures value { IfOk result (λ playbook. playbook_of bytes.now ≡ Ok playbook) }
+        ensures value { IfOk result (λ playbook. playbook_of all_taken bytes.now ≡ Ok playbook) }
         ensures limit { IfOk result (λ playbook. length playbook.plays ≤ max_plays) }
-        ensures fault { IfErr result (λ e. e ≢ LoadFault.Memory → playbook_of bytes.now ≡ Err e) }
+        ensures fault { IfErr result (λ e. e ≢ LoadFault.Memory → IsLoadFaultOf (λ refused. playbook_of refused bytes.now) e) }
     {
-        match read_json(alloc, bytes) {
-            Ok(json) => {
-                let plays = read_plays(alloc, &json)?;
-                Ok(Playbook { plays })
-            }
-            Err(JsonFault::NotJson) => Err(LoadFault::NotJson),
-            Err(JsonFault::Memory) => Err(LoadFault::Memory),
+        let json = match read_json(alloc, bytes) {
+            Ok(json) => json,
+            Err(JsonFault::NotJson) => return Err(LoadFault::NotJson),
+            Err(JsonFault::Memory) => return Err(LoadFault::Memory),
+        };
+        match read_plays(alloc, &json) {
+            Ok(plays) => Ok(Playbook { plays }),
+            Err(fault) => Err(fault),
         }
     }
 }
@@ -52,9 +54,9 @@ fn are_too_many(items: &[Value]) -> bool
 
 #[tactic(auto, using(crate::proofs::Counts::each_length))]
 fn read_plays(alloc: Global, json: &Value) -> Result<Items<Play>, LoadFault>
-    ensures value { IfOk result (λ ps. plays (view json.now) ≡ Ok ps) }
+    ensures value { IfOk result (λ ps. plays all_taken (view json.now) ≡ Ok ps) }
     ensures limit { IfOk result (λ ps. length ps ≤ max_plays) }
-    ensures fault { IfErr result (λ e. e ≢ LoadFault.Memory → plays (view json.now) ≡ Err e) }
+    ensures fault { IfErr result (λ e. e ≢ LoadFault.Memory → IsLoadFaultOf (λ refused. plays refused (view json.now)) e) }
 {
     let path = Text::from_str(alloc, "")?;
     match json {
@@ -72,20 +74,23 @@ fn read_plays(alloc: Global, json: &Value) -> Result<Items<Play>, LoadFault>
 
 /// The play with this number in the list at the path.
 fn read_at(alloc: Global, path: &Text, i: usize, json: &Value) -> Result<Play, LoadFault>
-    ensures value { IfOk result (λ p. play (below path.now (decimal i)) (view json.now) ≡ Ok p) }
-    ensures fault { IfErr result (λ e. e ≢ LoadFault.Memory → play (below path.now (decimal i)) (view json.now) ≡ Err e) }
+    ensures value { IfOk result (λ p. play all_taken (below path.now (decimal i)) (view json.now) ≡ Ok p) }
+    ensures fault { IfErr result (λ e. e ≢ LoadFault.Memory → IsLoadFaultOf (λ refused. play refused (below path.now (decimal i)) (view json.now)) e) }
 {
     let here = child_at(alloc, path, i)?;
     read_play(alloc, &here, json)
 }
 
 fn read_each(alloc: Global, path: &Text, items: &[Value]) -> Result<Items<Play>, LoadFault>
-    ensures value { IfOk result (λ ps. each play path.now 0 (items_view items.now) ≡ Ok ps) }
-    ensures fault { IfErr result (λ e. e ≢ LoadFault.Memory → each play path.now 0 (items_view items.now) ≡ Err e) }
+    ensures value { IfOk result (λ ps. each (play all_taken) path.now 0 (items_view items.now) ≡ Ok ps) }
+    ensures fault { IfErr result (λ e. e ≢ LoadFault.Memory → IsLoadFaultOf (λ refused. each (play refused) path.now 0 (items_view items.now)) e) }
 {
     let mut read = Vec::with_capacity(alloc, items.len())?;
     for (i, item) in items.iter().enumerate() {
-        read.push(read_at(alloc, path, i, item)?)?;
+        match read_at(alloc, path, i, item) {
+            Ok(play) => read.push(play)?,
+            Err(fault) => return Err(fault),
+        }
     }
     Ok(Items::from_vec(read))
 }

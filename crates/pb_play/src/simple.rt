@@ -1,6 +1,6 @@
 ghost use Rattle.std.specs.Prelude.{◌≡◌, ◌≢◌, IfOk, IfErr, Ok, Err};
 ghost use Rattle.serde_json.specs.View.{view};
-ghost use Rattle.pb_play.specs.Simple.{text, gathering, pattern, plain, plain_text};
+ghost use Rattle.pb_play.specs.Simple.{text, gathering, plain, plain_text};
 
 use crate::fault::{LoadFault, not_in_profile, wrong_shape};
 use crate::marks::{has_mark, has_marks};
@@ -31,23 +31,6 @@ pub fn read_gathering(alloc: Global, path: &Text, json: &Value) -> Result<bool, 
         Some(true) => Err(not_in_profile(alloc, "gather_facts")),
         Some(false) => Ok(false),
         None => Err(wrong_shape(path)),
-    }
-}
-
-/// The pattern of a play's hosts: `all`.
-pub fn read_pattern(alloc: Global, path: &Text, json: &Value) -> Result<Text, LoadFault>
-    ensures value { IfOk result (λ t. pattern path.now (view json.now) ≡ Ok t) }
-    ensures fault { IfErr result (λ e. e ≢ LoadFault.Memory → pattern path.now (view json.now) ≡ Err e) }
-{
-    match json {
-        Value::String(text) => {
-            if text.as_str() != "all" {
-                return Err(LoadFault::BadPattern);
-            }
-            Ok(Text::from_str(alloc, text.as_str())?)
-        }
-        Value::Array(_) => Err(LoadFault::BadPattern),
-        _ => Err(wrong_shape(path)),
     }
 }
 

@@ -15,15 +15,16 @@ use Rattle.pb_state.specs.declared.planned.Planned.TheVariants.{Decided as Decid
 use Rattle.pb_state.specs.declared.row.Counts.{Counts}
 use Rattle.pb_state.specs.declared.row.Running.{Running}
 use Rattle.pb_state.specs.Plan.{PlayOf, PlanOf}
-use Rattle.pb_state.specs.Row.{HostRow, first_row, joined, left, started, sent, reported, reported_running, task_of, item_of}
+use Rattle.pb_state.specs.Row.{HostRow, first_row, left, started, sent, reported, reported_running, task_of, item_of}
 use Rattle.pb_state.specs.State.{State}
 use Rattle.pb_state.specs.Results.{planned_at}
-use Rattle.pb_state.specs.Machine.{change, open_play, possible, after, first_state, opened_in, started_in, start_at, start_with, sent_in, reported_in, report_decides, decided_by, turned_in, may_start_in, may_report_in, at_row, stands_at, next_place, same_place, is_running, has_room}
+use Rattle.pb_state.specs.Machine.{change, open_play, possible, after, first_state, next_play, joined_in, opened_in, opened_at, started_in, start_at, start_with, sent_in, reported_in, report_decides, decided_by, turned_in, may_start_in, may_report_in, at_row, stands_at, next_place, same_place, has_room}
 use Rattle.pb_state.specs.Run.{legal_from, state_from, IsRun}
+use Rattle.pb_state.proofs.Opening.{length-joined}
 use Rattle.pb_recap.specs.declared.kind.CountKind.{CountKind}
 use Rattle.pb_recap.specs.declared.kind.CountKind.TheVariants.{Okay, Changed, Unreachable, Failed, Skipped, Rescued, Ignored}
 use Rattle.pb_recap.specs.Kinds.{count_of}
-use Rattle.pb_recap.specs.Recap.{ended_by, ended_in, finished_in, finishes, counts_under, counted, count_from, counts_from, hosts_from, recap}
+use Rattle.pb_recap.specs.Recap.{ended_by, ended_in, finishes, counts_under, counted, count_from, counts_from, hosts_from, recap}
 use Rattle.pb_recap.proofs.Formed.{one, task_counts}
 
 none_more : (n : ℕ) → n ≡ 0 + n
@@ -35,10 +36,10 @@ row_count kind [] h = 0
 row_count kind (row ∷ rows) zero = count_of kind row.counts
 row_count kind (row ∷ rows) (suc h) = row_count kind rows h
 
-joined_keeps : (kind : CountKind) (rows : List HostRow) (k : ℕ) → row_count kind (map joined rows) k ≡ row_count kind rows k
-joined_keeps kind [] k = refl
-joined_keeps kind (row ∷ rows) zero = refl
-joined_keeps kind (row ∷ rows) (suc k) = joined_keeps kind rows k
+joined_keeps : (kind : CountKind) (hosts : List Bool) (h : ℕ) (rows : List HostRow) (k : ℕ) → row_count kind (joined_in hosts h rows) k ≡ row_count kind rows k
+joined_keeps kind hosts h [] k = refl
+joined_keeps kind hosts h (row ∷ rows) zero = refl
+joined_keeps kind hosts h (row ∷ rows) (suc k) = joined_keeps kind hosts (h + 1) rows k
 
 left_keeps : (kind : CountKind) (rows : List HostRow) (k : ℕ) → row_count kind (map left rows) k ≡ row_count kind rows k
 left_keeps kind [] k = refl
@@ -154,9 +155,13 @@ reported_counts : (kind : CountKind) (s : State) (r : Report) (k : ℕ) (found :
 reported_counts kind s r k None b may = cc
 reported_counts kind s r k (Some play) b may = report_counts kind play.tree r.outcome s.rows r.host.0 k (slice_get s.rows r.host.0) refl b
 
-opened_counts : (kind : CountKind) (s : State) (k : ℕ) (found : Option PlayOf) → row_count kind (option_map_or (opened_in s (map joined s.rows)) found s).rows k ≡ row_count kind s.rows k
-opened_counts kind s k None = refl
-opened_counts kind s k (Some play) = joined_keeps kind s.rows k
+opened_counts : (kind : CountKind) (s : State) (n k : ℕ) (found : Option PlayOf) → row_count kind (option_map_or (opened_in s n) found s).rows k ≡ row_count kind s.rows k
+opened_counts kind s n k None = refl
+opened_counts kind s n k (Some play) = joined_keeps kind play.hosts 0 s.rows k
+
+next_counts : (kind : CountKind) (plan : PlanOf) (s : State) (k : ℕ) (next : Option ℕ) → row_count kind (option_map_or (opened_at plan s) next s).rows k ≡ row_count kind s.rows k
+next_counts kind plan s k None = refl
+next_counts kind plan s k (Some n) = opened_counts kind s n k (slice_get plan.plays n)
 
 turned_counts : (kind : CountKind) (s : State) (k : ℕ) (found : Option PlayOf) → row_count kind (option_map_or (turned_in s) found s).rows k ≡ row_count kind s.rows k
 turned_counts kind s k None = refl
@@ -165,7 +170,7 @@ turned_counts kind s k (Some play) = refl
 -- an event that is possible adds to a host's count what its finished task counts
 step_counts : (plan : PlanOf) (s : State) (e : Event) (k : ℕ) (kind : CountKind) → k < length s.rows → possible plan s e ≡ true
     → row_count kind (after plan s e).rows k ≡ counted k kind (finishes plan s e) + row_count kind s.rows k
-step_counts plan s Open k kind b may = opened_counts kind s k (slice_get plan.plays s.play) ∙ none_more (row_count kind s.rows k)
+step_counts plan s Open k kind b may = next_counts kind plan s k (next_play plan s) ∙ none_more (row_count kind s.rows k)
 step_counts plan s (Start h) k kind b may = started_counts kind s h.0 k (open_play plan s) b may
 step_counts plan s (Send h item ticket) k kind b may = sent_counts kind s h.0 k ticket (open_play plan s) b
 step_counts plan s (Reported r) k kind b may = reported_counts kind s r k (open_play plan s) b may
@@ -198,16 +203,20 @@ reported_hosts : (s : State) (r : Report) (found : Option PlayOf) → length (op
 reported_hosts s r None = refl
 reported_hosts s r (Some play) = change_hosts s.rows r.host.0 (reported play.tree r.outcome)
 
-opened_hosts : (s : State) (found : Option PlayOf) → length (option_map_or (opened_in s (map joined s.rows)) found s).rows ≡ length s.rows
-opened_hosts s None = refl
-opened_hosts s (Some play) = length-map s.rows joined
+opened_hosts : (s : State) (n : ℕ) (found : Option PlayOf) → length (option_map_or (opened_in s n) found s).rows ≡ length s.rows
+opened_hosts s n None = refl
+opened_hosts s n (Some play) = length-joined play.hosts 0 s.rows
+
+next_hosts : (plan : PlanOf) (s : State) (next : Option ℕ) → length (option_map_or (opened_at plan s) next s).rows ≡ length s.rows
+next_hosts plan s None = refl
+next_hosts plan s (Some n) = opened_hosts s n (slice_get plan.plays n)
 
 turned_hosts : (s : State) (found : Option PlayOf) → length (option_map_or (turned_in s) found s).rows ≡ length s.rows
 turned_hosts s None = refl
 turned_hosts s (Some play) = refl
 
 step_hosts : (plan : PlanOf) (s : State) (e : Event) → length (after plan s e).rows ≡ length s.rows
-step_hosts plan s Open = opened_hosts s (slice_get plan.plays s.play)
+step_hosts plan s Open = next_hosts plan s (next_play plan s)
 step_hosts plan s (Start h) = started_hosts s h.0 (open_play plan s)
 step_hosts plan s (Send h item ticket) = sent_hosts s h.0 ticket (open_play plan s)
 step_hosts plan s (Reported r) = reported_hosts s r (open_play plan s)

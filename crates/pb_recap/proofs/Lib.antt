@@ -2,3 +2,4 @@ pub mod Hosts
 pub mod NoFloat
 pub mod Formed
 pub mod Counted
+pub mod Finishing

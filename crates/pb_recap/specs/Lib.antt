@@ -4,3 +4,4 @@ pub mod Hosts
 pub mod Text
 pub mod Stats
 pub mod Rows
+pub mod Counting

@@ -31,8 +31,9 @@ abbrev two_hosts : PlanOf
 two_hosts =
     record {
       hosts = codes "b" ∷ codes "a" ∷ [];
-      plays = record { name = codes "all"; tree = tree_for 0 1 0; tasks = record { name = codes "hi"; «module» = Debug (text (codes "hello")) } ∷ [] } ∷ [];
+      plays = record { name = codes "all"; tree = tree_for 0 1 0; tasks = record { name = codes "hi"; «module» = Debug (text (codes "hello")) } ∷ []; hosts = true ∷ true ∷ [] } ∷ [];
       forks = 5;
+      warnings = [];
     }
 
 abbrev one_okay : Counts
@@ -95,8 +96,10 @@ commanded =
         name = codes "all";
         tree = tree_for 0 2 0;
         tasks = record { name = codes "one"; «module» = Shell (codes "true") } ∷ record { name = codes "two"; «module» = Debug (text (codes "hello")) } ∷ [];
+        hosts = true ∷ true ∷ [];
       } ∷ [];
       forks = 5;
+      warnings = [];
     }
 
 abbrev comes : ℕ → Form → Event

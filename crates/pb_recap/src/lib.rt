@@ -5,6 +5,7 @@
 //! and the line of statistics that are written at the end, and the exit status.
 #![tactic(auto)]
 
+mod counting;
 mod kind;
 mod recap;
 mod stats;

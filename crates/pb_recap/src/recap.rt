@@ -1,20 +1,22 @@
 //! The recap itself.
 
-ghost use Rattle.std.specs.Prelude.{◌≡◌, ◌<◌, ℕ, List, length, map, sum_by, IfOk, string_bytes};
+ghost use Rattle.std.specs.Prelude.{◌≡◌, ◌<◌, ℕ, List, length, map, replicate, slice_get, sum_by, IfOk, IfSome, string_bytes};
 ghost use Rattle.pb_state.specs.Plan.{PlanOf};
-ghost use Rattle.pb_state.specs.Row.{HostRow};
+ghost use Rattle.pb_state.specs.Row.{HostRow, none_counted};
 ghost use Rattle.pb_state.specs.Run.{IsRun};
 ghost use Rattle.pb_state.specs.declared.event.Event.{Event};
 ghost use Rattle.pb_recap.specs.Kinds.{count_of, count_at, has, status_of};
 ghost use Rattle.std.specs.List.{list_any};
-ghost use Rattle.pb_recap.specs.Recap.{recap};
+ghost use Rattle.pb_recap.specs.Counting.{HasRoom, with_finished};
+ghost use Rattle.pb_recap.specs.Recap.{recap, finished_in};
 ghost use Rattle.pb_recap.specs.Text.{recap_text};
 ghost use Rattle.pb_recap.specs.Stats.{stats_line};
 
+use crate::counting::count_event;
 use crate::kind::CountKind;
 use crate::{stats, text};
 use pb_ids::HostNo;
-use pb_state::{Counts, EngineState, Plan, Row};
+use pb_state::{Counts, EngineState, Event, Plan, Row};
 use std::alloc::{AllocError, Global};
 use std::marker::Model;
 
@@ -44,6 +46,33 @@ impl Recap {
         Ok(Recap {
             counts: counts_of(alloc, state.rows())?,
         })
+    }
+
+    /// No counts: no host has finished a task.
+    pub fn new(alloc: Global, plan: &Plan) -> Result<Recap, AllocError>
+        ensures { IfOk result (λ r. r ≡ replicate (length plan.now.hosts) none_counted) }
+    {
+        let none = Counts {
+            ok: 0,
+            changed: 0,
+            unreachable: 0,
+            failed: 0,
+            skipped: 0,
+            rescued: 0,
+            ignored: 0,
+        };
+        Ok(Recap {
+            counts: vec![in alloc; none; plan.host_count() as usize]?,
+        })
+    }
+
+    /// Counts the task that an event finished, by the state after the event. Limit: each count is below 2^64 - 1.
+    pub fn count(&mut self, plan: &Plan, state: &EngineState, event: &Event)
+        requires { (h : ℕ) → IfSome (slice_get self.old h) HasRoom }
+        ensures { self.new ≡ with_finished (finished_in state.now event.now) self.old }
+    {
+        let _plan = plan;
+        count_event(self.counts.as_mut_slice(), state, event);
     }
 
     /// How many finished tasks of a host count under a kind.

@@ -53,7 +53,7 @@ fn put_hosts(
 ) -> Result<(), AllocError>
     ensures { IfOk result (λ _. members_view stats.new.entries ≡ with_hosts (members_view stats.old.entries) (hosts_with_count plan.now.hosts counts.now)) }
 {
-    for host in 0..plan.hosts() {
+    for host in 0..plan.host_count() {
         let name = plan.host_name(HostNo(host));
         put_host(alloc, stats, name, counts_at(counts, HostNo(host)))?;
     }

@@ -27,7 +27,7 @@ fn push_hosts(
 ) -> Result<(), AllocError>
     ensures { IfOk result (λ _. string_bytes text.new ≡ string_bytes text.old ++ host_lines (hosts_with_count plan.now.hosts counts.now)) }
 {
-    for host in 0..plan.hosts() {
+    for host in 0..plan.host_count() {
         let name = plan.host_name(HostNo(host));
         push_host(alloc, text, name, counts_at(counts, HostNo(host)))?;
     }

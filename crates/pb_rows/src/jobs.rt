@@ -137,6 +137,7 @@ fn plan_of(alloc: Global, inventory: &str, playbook: &str, forks: u32) -> Result
     let bundle = Bundle {
         inventory: bytes_of(alloc, inventory)?,
         playbook: bytes_of(alloc, playbook)?,
+        limit: None,
         forks,
     };
     Ok(Plan::of(alloc, &bundle).ok().ok_or("a plan")?)

@@ -9,4 +9,6 @@ mod kept;
 #[cfg(test)]
 mod limits;
 #[cfg(test)]
+mod patterns;
+#[cfg(test)]
 mod rows;

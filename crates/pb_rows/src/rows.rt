@@ -155,6 +155,7 @@ fn worked_trails(rt: HostRuntime) -> Result<(), Fail> {
         let bundle = Bundle {
             inventory: bytes_of(alloc, TWO_HOSTS)?,
             playbook: bytes_of(alloc, playbook)?,
+            limit: None,
             forks: 5,
         };
         let plan = Plan::of(alloc, &bundle).ok().ok_or("a plan")?;

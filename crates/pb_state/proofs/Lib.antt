@@ -1,4 +1,5 @@
 pub mod Least
+pub mod Opening
 pub mod Oldest
 pub mod Good
 pub mod Steps
@@ -8,3 +9,4 @@ pub mod Within
 pub mod Told
 pub mod Trees
 pub mod Once
+pub mod Plans

@@ -1,5 +1,5 @@
 -- No run does anything twice: what a host has yet to start or send in a play lies behind what it started and sent.
-use Rattle.std.proofs.Common.{◌≡◌, ◌≢◌, ℕ, zero, suc, ◌+◌, ◌*◌, ◌<◌, ◌≤◌, Bool, true, false, ◌&&◌, not, List, [], ◌∷◌, ◌++◌, map, refl, sym, ◌∙◌, ap, arith, subst, ◌⊎◌, inl, inr}
+use Rattle.std.proofs.Common.{◌≡◌, ◌≢◌, ℕ, zero, suc, ◌+◌, ◌*◌, ◌<◌, ◌≤◌, Bool, true, false, ◌&&◌, not, List, [], ◌∷◌, ◌++◌, refl, sym, ◌∙◌, ap, arith, subst, ◌⊎◌, inl, inr}
 use Rattle.std.specs.Prelude.{Option, Some, None, option_map, slice_get, is_none, is_some, nat_eq, if◌then◌else◌}
 use Rattle.std.specs.List.{list_any}
 use Rattle.std.specs.Option.{option_map_or}
@@ -23,11 +23,12 @@ use Rattle.pb_state.specs.declared.planned.Planned.{Planned}
 use Rattle.pb_state.specs.declared.planned.Planned.TheVariants.{Decided, Sends}
 use Rattle.pb_state.specs.declared.row.Running.{Running}
 use Rattle.pb_state.specs.Plan.{PlayOf, PlanOf}
-use Rattle.pb_state.specs.Row.{HostRow, joined, failed_kind, kind_of, answer_of, finished, started, sent, sent_running, reported, reported_running, task_of, item_of}
+use Rattle.pb_state.specs.Row.{HostRow, failed_kind, kind_of, answer_of, finished, started, sent, sent_running, reported, reported_running, task_of, item_of}
 use Rattle.pb_state.specs.State.{State}
 use Rattle.pb_state.specs.Results.{planned_at}
-use Rattle.pb_state.specs.Machine.{possible, after, change, at_row, open_play, place_of, next_place, same_place, stands_at, is_running, is_in, has_room, has_send, may_send_item, may_start_in, may_send_in, may_report_in, opened_in, started_in, start_at, sent_in, reported_in, turned_in, closed, first_state}
+use Rattle.pb_state.specs.Machine.{possible, after, change, at_row, open_play, next_play, place_of, next_place, same_place, stands_at, is_running, is_in, has_room, has_send, may_send_item, may_start_in, may_send_in, may_report_in, joined_in, opened_in, opened_at as opened_from, started_in, start_at, sent_in, reported_in, turned_in, first_state}
 use Rattle.pb_state.specs.Run.{legal_from, IsRun}
+use Rattle.pb_state.proofs.Opening.{next_is}
 use Rattle.pb_state.specs.Once.{StartOf, SendOf, running_place, place_run_by, starts_from, sends_from, IsNotIn, NoTwice, IsOnce, NothingTwice}
 
 and_left : (a b : Bool) → (a && b) ≡ true → a ≡ true
@@ -180,10 +181,10 @@ zero_from : (r : Reach) → IsFrom 0 r
 zero_from (At place) = omega arith
 zero_from (Done ending) = tt
 
-joined_from : (tree : TreeOf) (rows : List HostRow) (h : ℕ) → FoundFrom 0 tree (slice_get (map joined rows) h)
-joined_from tree [] h = tt
-joined_from tree (row ∷ rows) zero = zero_from (reach tree [])
-joined_from tree (row ∷ rows) (suc h) = joined_from tree rows h
+joined_from : (tree : TreeOf) (hosts : List Bool) (n : ℕ) (rows : List HostRow) (h : ℕ) → FoundFrom 0 tree (slice_get (joined_in hosts n rows) h)
+joined_from tree hosts n [] h = tt
+joined_from tree hosts n (row ∷ rows) zero = zero_from (reach tree [])
+joined_from tree hosts n (row ∷ rows) (suc h) = joined_from tree hosts (n + 1) rows h
 
 -- ---- the states
 -- the next step of a host in the open play has at least the number n
@@ -205,7 +206,7 @@ Stays plan s new =
     × ((h n : ℕ) (play : PlayOf) → slice_get plan.plays s.play ≡ Some play → FoundFrom n play.tree (slice_get s.rows h) → FoundFrom n play.tree (slice_get new.rows h))
 
 abbrev Opens : State → State → Type 0
-Opens s new = (s.is_open ≡ false) × (new.play ≡ s.play) × ((h : ℕ) (tree : TreeOf) → FoundFrom 0 tree (slice_get new.rows h))
+Opens s new = (s.is_open ≡ false) × (s.play ≤ new.play) × ((h : ℕ) (tree : TreeOf) → FoundFrom 0 tree (slice_get new.rows h))
 
 abbrev Closes : State → State → Type 0
 Closes s new = (new.play ≡ s.play + 1) × (new.is_open ≡ false)
@@ -286,20 +287,23 @@ turn_moves : (plan : PlanOf) (s : State) (found : Option PlayOf) → Moves plan 
 turn_moves plan s None = same_rows plan s s refl refl refl
 turn_moves plan s (Some play) = same_rows plan s (turned_in s play) refl refl refl
 
-open_moves : (plan : PlanOf) (s : State) (found : Option PlayOf) → s.is_open ≡ false → Moves plan s (option_map_or (opened_in s (map joined s.rows)) found s)
-open_moves plan s None c = same_rows plan s s refl refl refl
-open_moves plan s (Some play) c = inr (inl (c, refl, λ h tree. joined_from tree s.rows h))
+opened_moves : (plan : PlanOf) (s : State) (n : ℕ) (found : Option PlayOf) → s.is_open ≡ false → s.play ≤ n → Moves plan s (option_map_or (opened_in s n) found s)
+opened_moves plan s n None c l = same_rows plan s s refl refl refl
+opened_moves plan s n (Some play) c l = inr (inl (c, l, λ h tree. joined_from tree play.hosts 0 s.rows h))
 
-may_open_closed : (stopped opened ended more any : Bool) → (not stopped && not opened && not ended && more && any) ≡ true → opened ≡ false
-may_open_closed stopped true ended more any e =
-    let three = and_left (not stopped && not true && not ended && more) any e in
-    let two = and_left (not stopped && not true && not ended) more three in
+open_moves : (plan : PlanOf) (s : State) (next : Option ℕ) → next_play plan s ≡ next → s.is_open ≡ false → Moves plan s (option_map_or (opened_from plan s) next s)
+open_moves plan s None f c = same_rows plan s s refl refl refl
+open_moves plan s (Some n) f c = opened_moves plan s n (slice_get plan.plays n) c (next_is plan s n f).least
+
+may_open_closed : (stopped opened ended more : Bool) → (not stopped && not opened && not ended && more) ≡ true → opened ≡ false
+may_open_closed stopped true ended more e =
+    let two = and_left (not stopped && not true && not ended) more e in
     let one = and_left (not stopped && not true) (not ended) two in
     absurd (let no = and_right (not stopped) false one in cc)
-may_open_closed stopped false ended more any e = refl
+may_open_closed stopped false ended more e = refl
 
 moves : (plan : PlanOf) (s : State) (e : Event) → possible plan s e ≡ true → Moves plan s (after plan s e)
-moves plan s Open p = open_moves plan s (slice_get plan.plays s.play) (may_open_closed s.stopped s.is_open s.ended _ _ p)
+moves plan s Open p = open_moves plan s (next_play plan s) refl (may_open_closed s.stopped s.is_open s.ended _ p)
 moves plan s (Start host) p = start_moves plan s host.0 (open_play plan s) refl p
 moves plan s (Send host item ticket) p = send_moves plan s host.0 item ticket (open_play plan s) refl p
 moves plan s (Reported r) p = report_moves plan s r (open_play plan s) refl p

@@ -1,5 +1,5 @@
 -- What every step keeps.
-use Rattle.std.proofs.Common.{◌≡◌, ℕ, ◌+◌, ◌≤◌, ◌<◌, Bool, true, false, ◌&&◌, List, length, map, set, refl, arith}
+use Rattle.std.proofs.Common.{◌≡◌, ℕ, ◌+◌, ◌≤◌, ◌<◌, Bool, true, false, ◌&&◌, List, length, set, refl, arith}
 use Rattle.std.specs.Prelude.{Option, Some, None, slice_get, nat_le}
 use Rattle.std.specs.Option.{option_map_or}
 use Rattle.std.proofs.lemmas.List.{length-map, length-set}
@@ -9,9 +9,10 @@ use Rattle.pb_outcome.specs.declared.job.Report.{Report}
 use Rattle.pb_state.specs.declared.event.Event.{Event}
 use Rattle.pb_state.specs.declared.event.Event.TheVariants.{Open, Start, Send, Report as Reported, Turn, Close, Stop, Forks}
 use Rattle.pb_state.specs.Plan.{PlayOf, PlanOf}
-use Rattle.pb_state.specs.Row.{HostRow, joined, left}
+use Rattle.pb_state.specs.Row.{HostRow, left}
 use Rattle.pb_state.specs.State.{State}
-use Rattle.pb_state.specs.Machine.{possible, after, change, open_play, opened_in, started_in, start_at, sent_in, reported_in, turned_in, closed, stopped}
+use Rattle.pb_state.specs.Machine.{possible, after, change, open_play, next_play, opened_in, opened_at, started_in, start_at, sent_in, reported_in, turned_in, closed, stopped}
+use Rattle.pb_state.proofs.Opening.{length-joined}
 
 length-changed : (rows : List HostRow) (h : ℕ) (f : HostRow → HostRow) (found : Option HostRow) → length (option_map_or (λ row. set rows h (f row)) found rows) ≡ length rows
 length-changed rows h f None = refl
@@ -30,9 +31,13 @@ pub record Keeps (old new : State) : Type 0 where
 same_sends : (old new : State) → length new.rows ≡ length old.rows → new.forks ≡ old.forks → new.sends ≡ old.sends → Keeps old new
 same_sends old new h f s = record { hosts = h; forks = f; least = omega (arith, s); most = omega (arith, s) }
 
-opened_keeps : (s : State) (found : Option PlayOf) → Keeps s (option_map_or (opened_in s (map joined s.rows)) found s)
-opened_keeps s None = same_sends s s refl refl refl
-opened_keeps s (Some play) = same_sends s (opened_in s (map joined s.rows) play) (length-map s.rows joined) refl refl
+opened_keeps : (s : State) (n : ℕ) (found : Option PlayOf) → Keeps s (option_map_or (opened_in s n) found s)
+opened_keeps s n None = same_sends s s refl refl refl
+opened_keeps s n (Some play) = same_sends s (opened_in s n play) (length-joined play.hosts 0 s.rows) refl refl
+
+open_keeps : (plan : PlanOf) (s : State) (next : Option ℕ) → Keeps s (option_map_or (opened_at plan s) next s)
+open_keeps plan s None = same_sends s s refl refl refl
+open_keeps plan s (Some n) = opened_keeps s n (slice_get plan.plays n)
 
 start_keeps : (s : State) (h : ℕ) (play : PlayOf) (place : Option ℕ) → Keeps s (option_map_or (start_at s h play) place s)
 start_keeps s h play None = same_sends s s refl refl refl
@@ -61,7 +66,7 @@ stopped_keeps : (s : State) → Keeps s (stopped s)
 stopped_keeps s = same_sends s (stopped s) refl refl refl
 
 pub hosts_stay : (plan : PlanOf) (s : State) (e : Event) → length (after plan s e).rows ≡ length s.rows
-hosts_stay plan s Open = (opened_keeps s (slice_get plan.plays s.play)).hosts
+hosts_stay plan s Open = (open_keeps plan s (next_play plan s)).hosts
 hosts_stay plan s (Start h) = (started_keeps s h.0 (open_play plan s)).hosts
 hosts_stay plan s (Send h item ticket) = (sent_keeps s h.0 ticket (open_play plan s)).hosts
 hosts_stay plan s (Reported r) = (reported_keeps s r (open_play plan s)).hosts
@@ -82,7 +87,7 @@ forks_given s n e = omega (arith, leb-true 1 n (and_left (nat_le 1 n) _ e))
 
 -- some host may run, whatever comes
 pub forks_stay : (plan : PlanOf) (s : State) (e : Event) → possible plan s e ≡ true → 0 < s.forks → 0 < (after plan s e).forks
-forks_stay plan s Open p f = same_forks s.forks _ (opened_keeps s (slice_get plan.plays s.play)).forks f
+forks_stay plan s Open p f = same_forks s.forks _ (open_keeps plan s (next_play plan s)).forks f
 forks_stay plan s (Start h) p f = same_forks s.forks _ (started_keeps s h.0 (open_play plan s)).forks f
 forks_stay plan s (Send h item ticket) p f = same_forks s.forks _ (sent_keeps s h.0 ticket (open_play plan s)).forks f
 forks_stay plan s (Reported r) p f = same_forks s.forks _ (reported_keeps s r (open_play plan s)).forks f
@@ -93,7 +98,7 @@ forks_stay plan s (Forks n) p f = forks_given s n p
 
 -- an event sends one job at most
 pub sends_rise : (plan : PlanOf) (s : State) (e : Event) → (after plan s e).sends ≤ s.sends + 1
-sends_rise plan s Open = (opened_keeps s (slice_get plan.plays s.play)).most
+sends_rise plan s Open = (open_keeps plan s (next_play plan s)).most
 sends_rise plan s (Start h) = (started_keeps s h.0 (open_play plan s)).most
 sends_rise plan s (Send h item ticket) = (sent_keeps s h.0 ticket (open_play plan s)).most
 sends_rise plan s (Reported r) = (reported_keeps s r (open_play plan s)).most
@@ -104,7 +109,7 @@ sends_rise plan s (Forks n) = omega arith
 
 -- no ticket is given a second time
 pub sends_stay : (plan : PlanOf) (s : State) (e : Event) → s.sends ≤ (after plan s e).sends
-sends_stay plan s Open = (opened_keeps s (slice_get plan.plays s.play)).least
+sends_stay plan s Open = (open_keeps plan s (next_play plan s)).least
 sends_stay plan s (Start h) = (started_keeps s h.0 (open_play plan s)).least
 sends_stay plan s (Send h item ticket) = (sent_keeps s h.0 ticket (open_play plan s)).least
 sends_stay plan s (Reported r) = (reported_keeps s r (open_play plan s)).least

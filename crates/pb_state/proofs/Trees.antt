@@ -60,7 +60,7 @@ size_then : (n : ℕ) (rest : Nodes) → size 0 (tasks_then n rest) ≡ n + size
 size_then zero rest = omega arith
 size_then (suc n) rest = omega (arith, size_then n rest)
 
-size_tree : (pre tasks post : ℕ) → size_of (tree_for pre tasks post) ≡ pre + tasks + post
+pub size_tree : (pre tasks post : ℕ) → size_of (tree_for pre tasks post) ≡ pre + tasks + post
 size_tree pre tasks post =
     omega (arith, size_then pre (Flush (tasks_then tasks (Flush (tasks_then post (Flush Nothing))))), size_then tasks (Flush (tasks_then post (Flush Nothing))), size_then post (Flush Nothing))
 

@@ -8,14 +8,16 @@ use Rattle.pb_ids.specs.declared.numbers.Ticket.{Ticket}
 use Rattle.pb_outcome.specs.declared.gather.TaskResult.{TaskResult}
 use Rattle.pb_outcome.specs.declared.job.Call.{Call}
 use Rattle.pb_outcome.specs.declared.outcome.Form.{Form}
+use Rattle.pb_planes.specs.Set.{is_in as is_member}
 use Rattle.pb_tree.specs.Tree.{TreeOf, size_of}
 use Rattle.pb_tree.specs.Walk.{one_halted}
 use Rattle.pb_state.specs.declared.planned.Planned.TheVariants.{Sends}
 use Rattle.pb_state.specs.declared.row.Counts.{Counts}
 use Rattle.pb_state.specs.declared.row.Running.{Running}
 use Rattle.pb_state.specs.Row.{HostRow, first_row, joined, left, finished, started, sent, sent_running, reported, reported_running, counted, more, task_of, item_of}
-use Rattle.pb_state.specs.Machine.{change, at_row, stands_at, awaits, may_send_item, is_running}
+use Rattle.pb_state.specs.Machine.{change, at_row, stands_at, awaits, may_send_item, is_running, joined_in}
 use Rattle.pb_state.specs.Bounds.{IsAtMost, run_places, out_jobs, running_jobs, IsWithin, AllWithin, most_jobs, IsBounded}
+use Rattle.pb_state.proofs.Opening.{length-joined}
 use Rattle.pb_state.proofs.Walked.{stands_below, one_halted_answer}
 
 -- counts
@@ -49,11 +51,6 @@ at_most_to counts n m e a =
 
 none_at_most : (n : ℕ) → IsAtMost (first_row).counts n
 none_at_most n = record { ok = omega arith; changed = omega arith; unreachable = omega arith; failed = omega arith; skipped = omega arith; rescued = omega arith; ignored = omega arith }
-
--- sums over rows
-sum_most : (w : HostRow → ℕ) (f : HostRow → HostRow) (v : HostRow → ℕ) → ((row : HostRow) → w row ≤ v (f row)) → (rows : List HostRow) → sum_by w rows ≤ sum_by v (map f rows)
-sum_most w f v e [] = omega arith
-sum_most w f v e (row ∷ rows) = omega (arith, e row, sum_most w f v e rows, sum_by-cons w row rows, sum_by-cons v (f row) (map f rows))
 
 pub change_on : (row : HostRow) (rows : List HostRow) (h : ℕ) (f : HostRow → HostRow) (found : Option HostRow) → slice_get rows h ≡ found → change (row ∷ rows) (suc h) f ≡ row ∷ change rows h f
 change_on row rows h f None e = rw e refl
@@ -235,19 +232,25 @@ room_at play sends h true rows o b = room_in play h rows b.plays b.counts
 room_at play sends h false rows o b = cc
 
 -- an open, a close and the beginning
-joined_all : (play : ℕ) (rows : List HostRow) → AllWithin false play rows → AllWithin true play (map joined rows)
-joined_all play [] w = tt
-joined_all play (row ∷ rows) w = ((at_most_to row.counts _ _ (omega arith) w.0, omega arith), joined_all play rows w.1)
+joined_all : (play n h : ℕ) (hosts : List Bool) (rows : List HostRow) → play ≤ n → AllWithin false play rows → AllWithin true n (joined_in hosts h rows)
+joined_all play n h hosts [] l w = tt
+joined_all play n h hosts (row ∷ rows) l w = ((at_most_to row.counts _ _ (omega (arith, l)) w.0, omega arith), joined_all play n (h + 1) hosts rows l w.1)
 
-pub open_bounded : (play sends : ℕ) (is_open : Bool) (rows new : List HostRow) → IsBounded is_open play sends rows → is_open ≡ false → play < 256 → new ≡ map joined rows → IsBounded true play sends new
-open_bounded play sends true rows new b f p e = cc
-open_bounded play sends false rows new b f p e =
+joined_jobs : (play n h : ℕ) (hosts : List Bool) (rows : List HostRow) → play ≤ n → sum_by (most_jobs false play) rows ≤ sum_by (most_jobs true n) (joined_in hosts h rows)
+joined_jobs play n h hosts [] l = omega arith
+joined_jobs play n h hosts (row ∷ rows) l =
+    let rest = joined_jobs play n (h + 1) hosts rows l in
+    omega (arith, l, rest, sum_by-cons (most_jobs false play) row rows, sum_by-cons (most_jobs true n) (joined (is_member hosts h) row) (joined_in hosts (h + 1) rows))
+
+pub open_bounded : (play n sends : ℕ) (is_open : Bool) (hosts : List Bool) (rows new : List HostRow) → IsBounded is_open play sends rows → is_open ≡ false → play ≤ n → n < 256 → new ≡ joined_in hosts 0 rows → IsBounded true n sends new
+open_bounded play n sends true hosts rows new b f l p e = cc
+open_bounded play n sends false hosts rows new b f l p e =
     rw e (record {
-      counts = joined_all play rows b.counts;
-      plays = b.plays;
+      counts = joined_all play n 0 hosts rows l b.counts;
+      plays = omega (arith, p);
       opened = p;
-      hosts = rw (length-map rows joined) b.hosts;
-      jobs = let more = sum_most (most_jobs false play) joined (most_jobs true play) (λ row. omega arith) rows in omega (arith, more, b.jobs);
+      hosts = rw (length-joined hosts 0 rows) b.hosts;
+      jobs = let more = joined_jobs play n 0 hosts rows l in omega (arith, more, b.jobs);
     })
 
 left_all : (play : ℕ) (rows : List HostRow) → AllWithin true play rows → AllWithin false (play + 1) (map left rows)

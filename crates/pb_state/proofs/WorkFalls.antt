@@ -1,12 +1,13 @@
 -- Each event but a command leaves less to do.
-use Rattle.std.proofs.Common.{◌≡◌, ℕ, zero, suc, ◌+◌, ◌-◌, ◌*◌, ◌<◌, ◌≤◌, Bool, true, false, ◌&&◌, not, List, [], ◌∷◌, length, map, drop, get_or, refl, sym, ◌∙◌, ap, arith, ◌⊎◌, inl, inr, suc-mul}
-use Rattle.std.specs.Prelude.{Option, Some, None, option_map, slice_get, sum_by, is_some, is_none, ◌==◌, nat_lt, nat_le, min, if◌then◌else◌, ◌||◌}
+use Rattle.std.proofs.Common.{◌≡◌, ℕ, zero, suc, ◌+◌, ◌-◌, ◌*◌, ◌<◌, ◌≤◌, Bool, true, false, ◌&&◌, not, List, [], ◌∷◌, length, map, drop, get_or, refl, sym, ◌∙◌, ap, subst, arith, ◌⊎◌, inl, inr, suc-mul}
+use Rattle.std.specs.Prelude.{Option, Some, None, option_map, slice_get, sum_by, is_some, is_none, ◌==◌, nat_le, min, if◌then◌else◌, ◌||◌}
 use Rattle.std.specs.List.{list_any}
 use Rattle.std.specs.Option.{option_map_or}
 use Rattle.std.proofs.lemmas.List.{drop_more, length-map}
 use Rattle.std.proofs.lemmas.List.Sums.{sum_by-cons}
-use Rattle.std.proofs.lemmas.Option.{slice_get_within, get_or_from_slice_get, slice_get_cases}
-use Rattle.std.proofs.lemmas.Bool.{ltb-true, lt-ltb, leb-true, leb-false, eq-eqb}
+use Rattle.std.proofs.lemmas.Option.{slice_get_within, get_or_from_slice_get}
+use Rattle.std.proofs.lemmas.Bool.{lt-ltb, leb-true, leb-false, eq-eqb}
+use Rattle.pb_planes.specs.Set.{is_in as is_member}
 use Rattle.pb_tree.specs.Tree.{TreeOf, size_of}
 use Rattle.pb_ids.specs.declared.numbers.Ticket.{Ticket}
 use Rattle.pb_outcome.specs.declared.gather.TaskResult.{TaskResult}
@@ -21,10 +22,11 @@ use Rattle.pb_state.specs.declared.event.Event.TheVariants.{Open, Start, Send, R
 use Rattle.pb_state.specs.Plan.{PlayOf, PlanOf}
 use Rattle.pb_state.specs.Row.{HostRow, joined, left, finished, started, sent, sent_running, reported, reported_running, item_of, task_of}
 use Rattle.pb_state.specs.State.{State}
-use Rattle.pb_state.specs.Machine.{possible, after, change, at_row, open_play, next_place, least_place, lesser, same_place, stands_at, has_room, may_open, may_start_in, may_turn_in, may_close_in, some_may_start, opened_in, started_in, start_at, turned_in, closed, is_running, running_count, is_ticket, may_send_item, awaits, may_send_in, may_report_in, sent_in, reported_in}
+use Rattle.pb_state.specs.Machine.{possible, after, change, at_row, open_play, next_place, least_place, lesser, same_place, stands_at, has_room, may_open, next_play, may_start_in, may_turn_in, may_close_in, some_may_start, joined_in, opened_in, opened_at, started_in, start_at, turned_in, closed, is_running, running_count, is_ticket, may_send_item, awaits, may_send_in, may_report_in, sent_in, reported_in}
 use Rattle.pb_state.specs.Results.{planned_at}
 use Rattle.pb_state.specs.Run.{is_command}
 use Rattle.pb_state.specs.Work.{places_left, place_work, out_work, running_work, row_work, later_work, turn_work, is_place, work_in, work}
+use Rattle.pb_state.proofs.Opening.{next_is, length-joined}
 use Rattle.pb_state.proofs.Steps.{length-change}
 use Rattle.pb_state.proofs.Walked.{stands_below, one_halted_answer, same_is}
 
@@ -252,19 +254,19 @@ close_in_less plan s (Some play) o e =
     omega (arith, same, old)
 
 -- an open
-fresh : (tree : TreeOf) (row : HostRow) → row_work tree (joined row) ≤ 3 * size_of tree
-fresh tree row = most (next_place tree (joined row))
+fresh : (tree : TreeOf) (own : Bool) (row : HostRow) → row_work tree (joined own row) ≤ 3 * size_of tree
+fresh tree own row = most (next_place tree (joined own row))
   where
-    most : (next : Option ℕ) → place_work tree (joined row) next ≤ 3 * size_of tree
+    most : (next : Option ℕ) → place_work tree (joined own row) next ≤ 3 * size_of tree
     most None = omega arith
     most (Some p) = omega arith
 
-fresh_all : (tree : TreeOf) (rows : List HostRow) → sum_by (row_work tree) (map joined rows) ≤ length rows * (3 * size_of tree)
-fresh_all tree [] = omega arith
-fresh_all tree (row ∷ rows) =
-    let one = fresh tree row in
-    let rest = fresh_all tree rows in
-    omega (arith, sum_by-cons (row_work tree) (joined row) (map joined rows), one, rest, suc-mul (length rows) (3 * size_of tree))
+fresh_all : (tree : TreeOf) (hosts : List Bool) (h : ℕ) (rows : List HostRow) → sum_by (row_work tree) (joined_in hosts h rows) ≤ length rows * (3 * size_of tree)
+fresh_all tree hosts h [] = omega arith
+fresh_all tree hosts h (row ∷ rows) =
+    let one = fresh tree (is_member hosts h) row in
+    let rest = fresh_all tree hosts (h + 1) rows in
+    omega (arith, sum_by-cons (row_work tree) (joined (is_member hosts h) row) (joined_in hosts (h + 1) rows), one, rest, suc-mul (length rows) (3 * size_of tree))
 
 later_at : (n : ℕ) (plays : List PlayOf) (i : ℕ) (play : PlayOf) → slice_get plays i ≡ Some play → later_work n (drop i plays) ≡ 3 + 2 * (n * (3 * size_of play.tree)) + later_work n (drop (i + 1) plays)
 later_at n plays i play e =
@@ -272,20 +274,38 @@ later_at n plays i play e =
     let cut : drop i plays ≡ get_or plays i play ∷ drop (i + 1) plays = drop_more plays i play (slice_get_within plays i play e) in
     ap (later_work n) cut ∙ ap (λ (p : PlayOf). 3 + 2 * (n * (3 * size_of p.tree)) + later_work n (drop (i + 1) plays)) here
 
-open_in_less : (plan : PlanOf) (s : State) (found : Option PlayOf) → s.is_open ≡ false → s.play < length plan.plays → slice_get plan.plays s.play ≡ found → work plan (option_map_or (opened_in s (map joined s.rows)) found s) < work plan s
-open_in_less plan s None o b e = absurd (elim (slice_get_cases plan.plays s.play).1 [ inl there ↦ (let x = there.2 in cc) | inr past ↦ omega (arith, past.0) ])
-open_in_less plan s (Some play) o b e =
+-- plays that are passed over leave less to do
+one_fewer : (n : ℕ) (plays : List PlayOf) (i : ℕ) → later_work n (drop (suc i) plays) ≤ later_work n (drop i plays)
+one_fewer n [] zero = omega arith
+one_fewer n [] (suc i) = omega arith
+one_fewer n (play ∷ plays) zero = omega arith
+one_fewer n (play ∷ plays) (suc i) = one_fewer n plays i
+
+some_fewer : (n : ℕ) (plays : List PlayOf) (i k : ℕ) → later_work n (drop (k + i) plays) ≤ later_work n (drop i plays)
+some_fewer n plays i zero = let same : 0 + i ≡ i = omega arith in rw same (omega arith)
+some_fewer n plays i (suc k) = let same : suc k + i ≡ suc (k + i) = omega arith in rw same (omega (arith, one_fewer n plays (k + i), some_fewer n plays i k))
+
+fewer : (n : ℕ) (plays : List PlayOf) (i j : ℕ) → i ≤ j → later_work n (drop j plays) ≤ later_work n (drop i plays)
+fewer n plays i j l = let at : (j - i) + i ≡ j = omega (arith, l) in rw at at (some_fewer n plays i (j - i))
+
+open_in_less : (plan : PlanOf) (s : State) (n : ℕ) (play : PlayOf) → s.is_open ≡ false → s.play ≤ n → slice_get plan.plays n ≡ Some play → work plan (opened_in s n play) < work plan s
+open_in_less plan s n play o l e =
     let old : work plan s ≡ work_in plan s None = ap (λ (v : Bool). work_in plan s (if v then slice_get plan.plays s.play else None)) o in
-    let new : work plan (opened_in s (map joined s.rows) play) ≡ work_in plan (opened_in s (map joined s.rows) play) (Some play) = ap (work_in plan (opened_in s (map joined s.rows) play)) e in
-    let same : later_work (length (map joined s.rows)) (drop (s.play + 1) plan.plays) ≡ later_work (length s.rows) (drop (s.play + 1) plan.plays) = rw (length-map s.rows joined) refl in
-    omega (arith, old, new, same, fresh_all play.tree s.rows, later_at (length s.rows) plan.plays s.play play e, no_turn (least_place play.tree (map joined s.rows)))
+    let new : work plan (opened_in s n play) ≡ work_in plan (opened_in s n play) (Some play) = ap (work_in plan (opened_in s n play)) e in
+    let same : later_work (length (joined_in play.hosts 0 s.rows)) (drop (n + 1) plan.plays) ≡ later_work (length s.rows) (drop (n + 1) plan.plays) = rw (length-joined play.hosts 0 s.rows) refl in
+    omega (arith, old, new, same, fresh_all play.tree play.hosts 0 s.rows, later_at (length s.rows) plan.plays n play e, fewer (length s.rows) plan.plays s.play n l, no_turn (least_place play.tree (joined_in play.hosts 0 s.rows)))
+
+open_next_less : (plan : PlanOf) (s : State) (next : Option ℕ) → next_play plan s ≡ next → s.is_open ≡ false → is_some next ≡ true → work plan (option_map_or (opened_at plan s) next s) < work plan s
+open_next_less plan s None f o e = cc
+open_next_less plan s (Some n) f o e =
+    let is = next_is plan s n f in
+    subst (λ (found : Option PlayOf). work plan (option_map_or (opened_in s n) found s) < work plan s) (sym is.there) (open_in_less plan s n is.play o is.least is.there)
 
 open_less : (plan : PlanOf) (s : State) → may_open plan s ≡ true → work plan (after plan s Open) < work plan s
 open_less plan s e =
-    let four = and_left (not s.stopped && not s.is_open && not s.ended && nat_lt s.play (length plan.plays)) _ e in
-    let three = and_left (not s.stopped && not s.is_open && not s.ended) _ four in
+    let three = and_left (not s.stopped && not s.is_open && not s.ended) _ e in
     let two = and_left (not s.stopped && not s.is_open) _ three in
-    open_in_less plan s (slice_get plan.plays s.play) (not_false s.is_open (and_right (not s.stopped) _ two)) (ltb-true s.play (length plan.plays) (and_right (not s.stopped && not s.is_open && not s.ended) _ four)) refl
+    open_next_less plan s (next_play plan s) refl (not_false s.is_open (and_right (not s.stopped) _ two)) (and_right (not s.stopped && not s.is_open && not s.ended) _ e)
 
 falls : (plan : PlanOf) (s : State) (e : Event) → 0 < s.forks → is_command e ≡ false → possible plan s e ≡ true → work plan (after plan s e) < work plan s
 falls plan s Open f m p = open_less plan s p

@@ -1,8 +1,16 @@
 -- The plan of a bundle, or its first fault.
-use Rattle.std.specs.Prelude.{ℕ, zero, suc, ◌+◌, Bool, false, ◌||◌, List, [], ◌∷◌, ◌++◌, length, nat_lt, nat_eq, Result, Ok, Err, if◌then◌else◌}
-use Rattle.pb_value.specs.Reading.{and_then}
+use Rattle.std.specs.Prelude.{◌≡◌, ℕ, zero, suc, ◌+◌, Bool, true, false, ◌&&◌, ◌||◌, List, [], ◌∷◌, ◌++◌, map, length, replicate, nat_lt, nat_eq, Option, Some, None, Result, Ok, Err, codes, if◌then◌else◌}
+use Rattle.std.specs.List.{list_any}
+use Rattle.std.specs.Option.{option_map_or}
+use Rattle.std.specs.Simd.Lanes.{zip2}
+use Rattle.pb_value.specs.Reading.{and_then, map_ok}
 use Rattle.pb_inventory.specs.InventoryOf.{InventoryOf}
 use Rattle.pb_inventory.specs.Reading.{inventory_of}
+use Rattle.pb_inventory.specs.Vars.{strangers}
+use Rattle.pb_patterns.specs.Reading.{pattern_of, all_taken, IsRefused}
+use Rattle.pb_patterns.specs.Selection.{IsSelection}
+use Rattle.pb_patterns.specs.declared.element.Element.{Element}
+use Rattle.pb_patterns.specs.declared.selected.Selected.{Selected}
 use Rattle.pb_play.specs.declared.play.Play.{Play}
 use Rattle.pb_play.specs.declared.task.Task.{Task as OneTask}
 use Rattle.pb_play.specs.declared.playbook.Playbook.{Playbook}
@@ -10,7 +18,7 @@ use Rattle.pb_play.specs.Playbooks.{playbook_of}
 use Rattle.pb_tree.specs.Tree.{Nodes, Nothing, Task, Flush, TreeOf, size_of}
 use Rattle.pb_state.specs.declared.bundle.Bundle.{Bundle}
 use Rattle.pb_state.specs.declared.bundle.BundleFault.{BundleFault}
-use Rattle.pb_state.specs.declared.bundle.BundleFault.TheVariants.{Inventory, Playbook as InPlaybook, Roles, BadForks, TooLarge}
+use Rattle.pb_state.specs.declared.bundle.BundleFault.TheVariants.{Inventory, Playbook as InPlaybook, Roles, Limit, BadForks, TooLarge}
 use Rattle.pb_state.specs.declared.bundle.RoleFault.TheVariants.{TooLarge as TooManyPlaces}
 use Rattle.pb_state.specs.Plan.{PlayOf, PlanOf}
 
@@ -43,33 +51,114 @@ all_tasks play = play.pre_tasks ++ play.tasks ++ play.post_tasks
 abbrev pub max_places : ℕ
 max_places = 16384
 
-abbrev pub play_of : Play → Result PlayOf BundleFault
-play_of play =
-    if nat_lt max_places (size_of (play_tree play)) then Err (Roles TooManyPlaces)
-    else Ok (record { name = play.name; tree = play_tree play; tasks = all_tasks play })
+-- a play whose own hosts are these
+abbrev pub play_with : List Bool → Play → PlayOf
+play_with hosts play = record { name = play.name; tree = play_tree play; tasks = all_tasks play; hosts = hosts }
 
-abbrev pub plays_of : List Play → Result (List PlayOf) BundleFault
-plays_of [] = Ok []
-plays_of (play ∷ plays) = and_then (play_of play) (λ first. and_then (plays_of plays) (λ rest. Ok (first ∷ rest)))
+abbrev pub has_too_many_places : Play → Bool
+has_too_many_places play = nat_lt max_places (size_of (play_tree play))
 
 -- the bytes of a bundle, all together: 64 MiB
 abbrev pub max_bytes : ℕ
 max_bytes = 67108864
 
+abbrev pub limit_bytes : Option (List ℕ) → ℕ
+limit_bytes limit = option_map_or length limit 0
+
 abbrev pub bundle_bytes : Bundle → ℕ
-bundle_bytes bundle = length bundle.inventory + length bundle.playbook
+bundle_bytes bundle = length bundle.inventory + length bundle.playbook + limit_bytes bundle.limit
 
 -- 1 to 256
 abbrev pub are_bad_forks : ℕ → Bool
 are_bad_forks forks = nat_eq forks 0 || nat_lt 256 forks
 
-abbrev pub plan_in : ℕ → InventoryOf → Playbook → Result PlanOf BundleFault
-plan_in forks inventory book = and_then (plays_of book.plays) (λ plays. Ok (record { hosts = inventory.hosts; plays = plays; forks = forks }))
+-- what the parts of a bundle say
+pub record Readings : Type 0 where
+  pub inventory : InventoryOf
+  pub book : Playbook
+  -- the elements of the pattern that the plays are limited to, if there is one
+  pub limit : Option (List Element)
 
--- the size comes first, then the forks, the inventory, the playbook, and the plays' trees
-unfoldable pub plan_of : Bundle → Result PlanOf BundleFault
-plan_of bundle =
+abbrev pub limit_of : (List ℕ → Bool) → Option (List ℕ) → Result (Option (List Element)) BundleFault
+limit_of refused None = Ok None
+limit_of refused (Some text) = in_part Limit (map_ok Some (pattern_of refused (text ∷ [])))
+
+abbrev pub with_places : Readings → Result Readings BundleFault
+with_places readings = if list_any has_too_many_places readings.book.plays then Err (Roles TooManyPlaces) else Ok readings
+
+abbrev pub limited : (List ℕ → Bool) → Option (List ℕ) → InventoryOf → Playbook → Result Readings BundleFault
+limited refused limit inventory book = and_then (limit_of refused limit) (λ elements. with_places (record { inventory = inventory; book = book; limit = elements }))
+
+abbrev pub booked : (in_plays in_limit : List ℕ → Bool) → Bundle → InventoryOf → Result Readings BundleFault
+booked in_plays in_limit bundle inventory = and_then (in_part InPlaybook (playbook_of in_plays bundle.playbook)) (limited in_limit bundle.limit inventory)
+
+-- what a bundle says, or its first fault: its size comes first, then its forks, the inventory, the playbook, the limit, and the plays' trees.
+-- The tests tell which regular expressions are refused, in the plays' patterns and in the limit.
+unfoldable pub readings_of : (in_plays in_limit : List ℕ → Bool) → Bundle → Result Readings BundleFault
+readings_of in_plays in_limit bundle =
     if nat_lt max_bytes (bundle_bytes bundle) then Err TooLarge
     else (if are_bad_forks bundle.forks then Err BadForks
-    else and_then (in_part Inventory (inventory_of bundle.inventory)) (λ inventory.
-    and_then (in_part InPlaybook (playbook_of bundle.playbook)) (plan_in bundle.forks inventory)))
+    else and_then (in_part Inventory (inventory_of bundle.inventory)) (booked in_plays in_limit bundle))
+
+-- the hosts that two patterns select
+abbrev pub both : List Bool → List Bool → List Bool
+both one other = zip2 (λ a b. a && b) one other
+
+-- a limit selects the hosts of its pattern, and no limit selects all
+abbrev pub IsLimit : InventoryOf → Option (List Element) → Selected → Type 0
+IsLimit inventory None selected = selected ≡ record { hosts = replicate (length inventory.hosts) true; unmatched = [] }
+IsLimit inventory (Some elements) selected = IsSelection inventory elements selected
+
+-- a warning of an element of a pattern that selects no host, and one of the variables of a host that isn't there
+abbrev pub unmatched_line : List ℕ → List ℕ
+unmatched_line element = codes "warning: no host matches " ++ element
+
+abbrev pub stranger_line : List ℕ → List ℕ
+stranger_line name = codes "warning: no such host " ++ name
+
+-- a play has the hosts that its own pattern and the limit select; the lines warn of the elements of its pattern
+abbrev pub IsPlayOf : InventoryOf → List Bool → Play → PlayOf → List (List ℕ) → Type 0
+IsPlayOf inventory limit play planned lines =
+    (own : Selected) × IsSelection inventory play.hosts own × (planned ≡ play_with (both own.hosts limit) play) × (lines ≡ map unmatched_line own.unmatched)
+
+abbrev pub ArePlaysOf : InventoryOf → List Bool → List Play → List PlayOf → List (List ℕ) → Type 0
+ArePlaysOf inventory limit [] [] lines = lines ≡ []
+ArePlaysOf inventory limit [] (planned ∷ rest) lines = ⊥
+ArePlaysOf inventory limit (play ∷ plays) [] lines = ⊥
+ArePlaysOf inventory limit (play ∷ plays) (planned ∷ rest) lines =
+    (first : List (List ℕ)) × (later : List (List ℕ)) × IsPlayOf inventory limit play planned first × ArePlaysOf inventory limit plays rest later × (lines ≡ first ++ later)
+
+-- a plan of an inventory, a limit's elements and a playbook: the hosts, the plays with their hosts, the forks, and what is warned of, of the
+-- inventory, of the limit, and of each play
+pub record IsPlanIn (inventory : InventoryOf) (limit : Option (List Element)) (forks : ℕ) (book : Playbook) (plan : PlanOf) : Type 0 where
+  pub selected : Selected
+  pub lines : List (List ℕ)
+  pub limited : IsLimit inventory limit selected
+  pub plays : ArePlaysOf inventory selected.hosts book.plays plan.plays lines
+  pub hosts : plan.hosts ≡ inventory.hosts
+  pub has_forks : plan.forks ≡ forks
+  pub warnings : plan.warnings ≡ map stranger_line (strangers inventory) ++ map unmatched_line selected.unmatched ++ lines
+
+pub record IsPlanOf (bundle : Bundle) (plan : PlanOf) : Type 0 where
+  pub readings : Readings
+  pub read : readings_of all_taken all_taken bundle ≡ Ok readings
+  pub planned : IsPlanIn readings.inventory readings.limit bundle.forks readings.book plan
+
+-- the regex crate refuses all of these expressions, for another cause than memory
+abbrev pub AreRefused : (List ℕ → Bool) → Type 0
+AreRefused refused = (source : List ℕ) → refused source ≡ true → IsRefused source
+
+-- the first fault of a part, where some of the regular expressions that the regex crate refuses are refused, and no others
+abbrev pub IsPlaybookFault : List ℕ → BundleFault → Type 0
+IsPlaybookFault bytes fault = (refused : List ℕ → Bool) × AreRefused refused × (in_part InPlaybook (playbook_of refused bytes) ≡ Err fault)
+
+abbrev pub IsLimitFault : Option (List ℕ) → BundleFault → Type 0
+IsLimitFault limit fault = (refused : List ℕ → Bool) × AreRefused refused × (limit_of refused limit ≡ Err fault)
+
+-- the same of a whole bundle
+pub record IsBundleFault (bundle : Bundle) (fault : BundleFault) : Type 0 where
+  pub in_plays : List ℕ → Bool
+  pub in_limit : List ℕ → Bool
+  pub plays_refused : AreRefused in_plays
+  pub limit_refused : AreRefused in_limit
+  pub met : readings_of in_plays in_limit bundle ≡ Err fault

@@ -10,3 +10,4 @@ pub mod Once
 pub mod Work
 pub mod Bounds
 pub mod Bundle
+pub mod Rows

@@ -1,8 +1,9 @@
 -- The steps of a run: what may happen in a state, and what it leads to (Ansible's documentation, "Controlling playbook execution: strategies").
-use Rattle.std.specs.Prelude.{ℕ, ◌+◌, ◌==◌, nat_lt, nat_le, Bool, true, false, ◌&&◌, ◌||◌, not, List, [], ◌∷◌, map, length, Option, Some, None, is_some, is_none, option_map, slice_get, slice_set, min, replicate, count_by, if◌then◌else◌}
+use Rattle.std.specs.Prelude.{ℕ, ◌+◌, ◌==◌, nat_lt, nat_le, Bool, true, false, ◌&&◌, ◌||◌, not, List, [], ◌∷◌, map, drop, length, Option, Some, None, is_some, is_none, option_map, slice_get, slice_set, min, replicate, count_by, if◌then◌else◌}
 use Rattle.std.specs.List.{list_any}
 use Rattle.std.specs.Option.{option_map_or}
 use Rattle.pb_ids.specs.declared.numbers.Ticket.{Ticket}
+use Rattle.pb_planes.specs.Set.{is_in as is_member}
 use Rattle.pb_tree.specs.declared.tree.Reach.{Reach}
 use Rattle.pb_tree.specs.declared.tree.Reach.TheVariants.{At, Done}
 use Rattle.pb_tree.specs.Tree.{TreeOf}
@@ -34,9 +35,6 @@ place_of (Done ending) = None
 -- a host of the batch that is active
 abbrev pub is_in : HostRow → Bool
 is_in row = row.in_batch && is_active row.status
-
-abbrev pub is_host_active : HostRow → Bool
-is_host_active row = is_active row.status
 
 -- a host runs from its start until its task is finished
 abbrev pub is_running : HostRow → Bool
@@ -97,8 +95,27 @@ may_send_item item row = (item == 0) && has_send row
 abbrev pub awaits : Ticket → ℕ → HostRow → Bool
 awaits ticket item row = (item == 0) && has_ticket ticket row
 
+-- whether one of these hosts, whose first has the number h, is active and in a set; none is in it beyond its end
+abbrev pub some_own : List Bool → ℕ → List HostRow → Bool
+some_own hosts h [] = false
+some_own hosts h (row ∷ rows) = (is_member hosts h && is_active row.status) || some_own hosts (h + 1) rows
+
+-- a play has hosts where one of its own is active
+abbrev pub has_hosts : List HostRow → PlayOf → Bool
+has_hosts rows play = some_own play.hosts 0 rows
+
+-- the number of the first of these plays that has hosts; their first has the number n
+abbrev pub first_play : List HostRow → ℕ → List PlayOf → Option ℕ
+first_play rows n [] = None
+first_play rows n (play ∷ plays) = if has_hosts rows play then Some n else first_play rows (n + 1) plays
+
+-- the play that opens next: those without hosts are passed over
+-- (Ansible's documentation, "Patterns: targeting hosts and groups")
+abbrev pub next_play : PlanOf → State → Option ℕ
+next_play plan s = first_play s.rows s.play (drop s.play plan.plays)
+
 abbrev pub may_open : PlanOf → State → Bool
-may_open plan s = not s.stopped && not s.is_open && not s.ended && nat_lt s.play (length plan.plays) && list_any is_host_active s.rows
+may_open plan s = not s.stopped && not s.is_open && not s.ended && is_some (next_play plan s)
 
 abbrev pub may_start_in : State → ℕ → PlayOf → Bool
 may_start_in s h play = has_room s && at_row (stands_at play.tree s.place) s.rows h
@@ -161,9 +178,20 @@ abbrev pub done_at_once : Planned → Option DoneTask
 done_at_once (DecidedItem item) = Some (done_by item)
 done_at_once (Sends call) = None
 
+-- these hosts, whose first has the number h, as the batch of a play opens whose own hosts are in this set
+abbrev pub joined_in : List Bool → ℕ → List HostRow → List HostRow
+joined_in hosts h [] = []
+joined_in hosts h (row ∷ rows) = joined (is_member hosts h) row ∷ joined_in hosts (h + 1) rows
+
 -- what each event leads to
-abbrev pub opened_in : State → List HostRow → PlayOf → State
-opened_in s rows play = record s { rows = rows; is_open = true; place = least_place play.tree rows; decided = None }
+abbrev pub opened_with : State → ℕ → List HostRow → PlayOf → State
+opened_with s n rows play = record s { rows = rows; play = n; is_open = true; place = least_place play.tree rows; decided = None }
+
+abbrev pub opened_in : State → ℕ → PlayOf → State
+opened_in s n play = opened_with s n (joined_in play.hosts 0 s.rows) play
+
+abbrev pub opened_at : PlanOf → State → ℕ → State
+opened_at plan s n = option_map_or (opened_in s n) (slice_get plan.plays n) s
 
 abbrev pub start_with : State → ℕ → PlayOf → ℕ → Planned → State
 start_with s h play p planned =
@@ -209,7 +237,7 @@ abbrev pub with_forks : State → ℕ → State
 with_forks s n = record s { forks = n; decided = None }
 
 abbrev pub after : PlanOf → State → Event → State
-after plan s Open = option_map_or (opened_in s (map joined s.rows)) (slice_get plan.plays s.play) s
+after plan s Open = option_map_or (opened_at plan s) (next_play plan s) s
 after plan s (Start h) = option_map_or (started_in s h.0) (open_play plan s) s
 after plan s (Send h item ticket) = option_map_or (sent_in s h.0 ticket) (open_play plan s) s
 after plan s (Reported r) = option_map_or (reported_in s r) (open_play plan s) s

@@ -116,9 +116,9 @@ reported_running tree outcome row r = finished tree r.place (task_of (item_of ou
 abbrev pub reported : TreeOf → Form → HostRow → HostRow
 reported tree outcome row = option_map_or (reported_running tree outcome row) row.running row
 
--- a host as a batch opens: those that are active take part
-abbrev pub joined : HostRow → HostRow
-joined row = record { answers = []; status = row.status; in_batch = is_active row.status; running = None; last = None; counts = row.counts }
+-- a host as a batch opens: it takes part where it is one of the play's own and active
+abbrev pub joined : Bool → HostRow → HostRow
+joined own row = record { answers = []; status = row.status; in_batch = own && is_active row.status; running = None; last = None; counts = row.counts }
 
 -- a host as its batch closes
 abbrev pub left : HostRow → HostRow

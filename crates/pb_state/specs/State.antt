@@ -5,7 +5,7 @@ use Rattle.pb_state.specs.Row.{HostRow}
 
 pub record State : Type 0 where
   pub rows : List HostRow
-  -- the play whose batch is open, or the next one
+  -- the play whose batch is open, or the one behind the last that was
   pub play : ℕ
   pub is_open : Bool
   -- the place at which the hosts of the batch are, by its position in the play's tree

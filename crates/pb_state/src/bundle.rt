@@ -1,20 +1,19 @@
 //! What a run is made of, and its plan.
 
-ghost use Rattle.std.specs.Prelude.{◌≡◌, ◌≢◌, ◌<◌, ◌≤◌, [], ◌∷◌, ◌++◌, length, replicate, nat_lt, IfOk, IfErr, Ok, Err};
-ghost use Rattle.pb_inventory.specs.Reading.{inventory_of};
-ghost use Rattle.pb_play.specs.Playbooks.{playbook_of};
+ghost use Rattle.std.specs.Prelude.{◌≡◌, ◌≢◌, [], ◌∷◌, ◌++◌, length, replicate, false, nat_lt, IfOk, IfErr, Ok, Err};
 ghost use Rattle.pb_tree.specs.View.{tree_of};
-ghost use Rattle.pb_state.specs.Bundle.{plan_of, plan_in, plays_of, play_of, tree_for, play_nodes, in_part, max_bytes, bundle_bytes};
+ghost use Rattle.pb_state.specs.Bundle.{play_with, has_too_many_places, tree_for, play_nodes, max_bytes, bundle_bytes, limit_bytes};
 
-use crate::plan::{Plan, PlanPlay};
+use crate::plan::PlanPlay;
 use pb_inventory::fault::InvFault;
-use pb_inventory::inventory::Inventory;
+use pb_patterns::fault::PatFault;
+use pb_planes::HostSet;
 use pb_play::fault::LoadFault;
 use pb_play::play::Play;
-use pb_play::playbook::Playbook;
 use pb_play::task::Task;
 use pb_tree::{Node, PlayTree};
 use pb_value::items::Items;
+use pb_value::text::Text;
 use std::alloc::{AllocError, AllocFailed, Global};
 use thiserror::Error;
 
@@ -22,7 +21,7 @@ use thiserror::Error;
 pub const MAX_BYTES: usize = 67_108_864;
 
 /// The most places of a play.
-const MAX_PLACES: usize = 16_384;
+const MAX_PLACES: u64 = 16_384;
 
 /// What a run is made of: the bytes of its files, and how many hosts may run at once.
 #[derive(Drop)]
@@ -31,6 +30,8 @@ pub struct Bundle {
     pub inventory: Items<u8>,
     /// The bytes of the playbook's file.
     pub playbook: Items<u8>,
+    /// The pattern of the hosts that the plays are limited to, if there is one.
+    pub limit: Option<Text>,
     /// How many hosts may run at once: 1 to 256.
     pub forks: u32,
 }
@@ -55,6 +56,9 @@ pub enum BundleFault {
     /// A fault of the plays' trees.
     #[error("3 Roles {0}")]
     Roles(RoleFault),
+    /// A fault of the limit's pattern.
+    #[error("4 Limit {0}")]
+    Limit(PatFault),
     /// The number of forks isn't 1 to 256.
     #[error("6 BadForks")]
     BadForks,
@@ -153,11 +157,25 @@ fn all_tasks(
     joined(pre_tasks, later)
 }
 
-/// A play with its tree.
+/// Whether a play has more than 16,384 places.
+#[tactic(auto, using(crate::proofs::Trees::size_tree))]
+pub(crate) fn has_too_many_places(play: &Play) -> bool
+    ensures { result ≡ has_too_many_places play.now }
+{
+    let pre_tasks = play.pre_tasks.len() as u64;
+    let tasks = play.tasks.len() as u64;
+    let post_tasks = play.post_tasks.len() as u64;
+    pre_tasks > MAX_PLACES
+        || tasks > MAX_PLACES - pre_tasks
+        || post_tasks > MAX_PLACES - pre_tasks - tasks
+}
+
+/// A play with its tree, whose own hosts are these.
 #[tactic(auto, using(crate::proofs::Trees::plain_tree))]
-fn play_of(alloc: Global, play: Play) -> Result<PlanPlay, BundleFault>
-    ensures value { IfOk result (λ p. play_of play ≡ Ok p) }
-    ensures fault { IfErr result (λ e. e ≢ BundleFault.Memory → play_of play ≡ Err e) }
+pub(crate) fn play_with(alloc: Global, play: Play, hosts: HostSet) -> Result<PlanPlay, BundleFault>
+    requires { has_too_many_places play ≡ false }
+    ensures value { IfOk result (λ p. p ≡ play_with hosts play) }
+    ensures fault { IfErr result (λ e. e ≡ BundleFault.Memory) }
 {
     let tree = tree_for(
         alloc,
@@ -165,99 +183,28 @@ fn play_of(alloc: Global, play: Play) -> Result<PlanPlay, BundleFault>
         play.tasks.len(),
         play.post_tasks.len(),
     )?;
-    if tree.places() > MAX_PLACES {
-        return Err(BundleFault::Roles(RoleFault::TooLarge));
-    }
     let tasks = all_tasks(play.pre_tasks, play.tasks, play.post_tasks)?;
-    Ok(PlanPlay::of(play.name, tree, tasks))
+    Ok(PlanPlay::of(play.name, tree, tasks, hosts))
 }
 
-/// The plays with their trees, in order.
-fn plays_of(alloc: Global, plays: Items<Play>) -> Result<Items<PlanPlay>, BundleFault>
-    ensures value { IfOk result (λ ps. plays_of plays ≡ Ok ps) }
-    ensures count { IfOk result (λ ps. length ps ≡ length plays) }
-    ensures fault { IfErr result (λ e. e ≢ BundleFault.Memory → plays_of plays ≡ Err e) }
+/// How many bytes the limit has.
+fn limit_bytes(limit: &Option<Text>) -> usize
+    ensures { result ≡ limit_bytes limit.now }
 {
-    let mut all = Vec::with_capacity(alloc, plays.len())?;
-    for play in plays.into_vec() {
-        all.push(play_of(alloc, play)?)?;
-    }
-    Ok(Items::from_vec(all))
-}
-
-/// The inventory of a bundle.
-fn inventory_in(alloc: Global, bundle: &Bundle) -> Result<Inventory, BundleFault>
-    ensures value { IfOk result (λ i. in_part BundleFault.Inventory (inventory_of bundle.now.inventory) ≡ Ok i) }
-    ensures fault { IfErr result (λ e. e ≢ BundleFault.Memory → in_part BundleFault.Inventory (inventory_of bundle.now.inventory) ≡ Err e) }
-{
-    match Inventory::read(alloc, bundle.inventory.as_slice()) {
-        Ok(inventory) => Ok(inventory),
-        Err(InvFault::Memory) => Err(BundleFault::Memory),
-        Err(fault) => Err(BundleFault::Inventory(fault)),
-    }
-}
-
-/// The playbook of a bundle.
-fn playbook_in(alloc: Global, bundle: &Bundle) -> Result<Playbook, BundleFault>
-    ensures value { IfOk result (λ p. in_part BundleFault.Playbook (playbook_of bundle.now.playbook) ≡ Ok p) }
-    ensures limit { IfOk result (λ p. length p.plays ≤ 256) }
-    ensures fault { IfErr result (λ e. e ≢ BundleFault.Memory → in_part BundleFault.Playbook (playbook_of bundle.now.playbook) ≡ Err e) }
-{
-    match Playbook::read(alloc, bundle.playbook.as_slice()) {
-        Ok(playbook) => Ok(playbook),
-        Err(LoadFault::Memory) => Err(BundleFault::Memory),
-        Err(fault) => Err(BundleFault::Playbook(fault)),
+    match limit {
+        Some(text) => text.as_str().len(),
+        None => 0,
     }
 }
 
 /// Whether a bundle is too large.
-fn is_too_large(bundle: &Bundle) -> bool
+pub(crate) fn is_too_large(bundle: &Bundle) -> bool
     ensures { result ≡ nat_lt max_bytes (bundle_bytes bundle.now) }
 {
     let inventory = bundle.inventory.len();
     let playbook = bundle.playbook.len();
-    inventory > MAX_BYTES || playbook > MAX_BYTES - inventory
-}
-
-impl Plan {
-    /// The plan of a bundle, or its first fault.
-    ///
-    /// # Errors
-    /// In this order: `TooLarge` where the bundle has more than 64 MiB, `BadForks` where its forks aren't 1 to 256, a fault of
-    /// the inventory, one of the playbook, one of the plays' trees. `Memory` may come at any point, where memory was refused.
-    pub fn of(alloc: Global, bundle: &Bundle) -> Result<Plan, BundleFault>
-        ensures value { IfOk result (λ plan. plan_of bundle.now ≡ Ok plan) }
-        ensures fault { IfErr result (λ e. e ≢ BundleFault.Memory → plan_of bundle.now ≡ Err e) }
-    {
-        if is_too_large(bundle) {
-            return Err(BundleFault::TooLarge);
-        }
-        let forks = bundle.forks;
-        if forks == 0 || 256 < forks {
-            return Err(BundleFault::BadForks);
-        }
-        let inventory = inventory_in(alloc, bundle)?;
-        let playbook = match playbook_in(alloc, bundle) {
-            Ok(playbook) => playbook,
-            Err(fault) => return Err(fault),
-        };
-        plan_in(alloc, forks, inventory, playbook)
-    }
-}
-
-/// The plan of an inventory and a playbook.
-fn plan_in(
-    alloc: Global,
-    forks: u32,
-    inventory: Inventory,
-    playbook: Playbook,
-) -> Result<Plan, BundleFault>
-    requires some { 0 < forks }
-    requires bound { forks ≤ 256 }
-    requires plays { length playbook.plays ≤ 256 }
-    ensures value { IfOk result (λ plan. plan_in forks inventory playbook ≡ Ok plan) }
-    ensures fault { IfErr result (λ e. e ≢ BundleFault.Memory → plan_in forks inventory playbook ≡ Err e) }
-{
-    let plays = plays_of(alloc, playbook.plays)?;
-    Ok(Plan::from_parts(inventory, plays, forks))
+    let limit = limit_bytes(&bundle.limit);
+    inventory > MAX_BYTES
+        || playbook > MAX_BYTES - inventory
+        || limit > MAX_BYTES - inventory - playbook
 }

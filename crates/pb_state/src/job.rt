@@ -30,7 +30,7 @@ pub(crate) fn job_in(
     let Some(place) = play.tree().place(running.place) else {
         return Ok(None);
     };
-    if plan.hosts() <= host.0 {
+    if plan.host_count() <= host.0 {
         return Ok(None);
     }
     let name = plan.host_name(host);

@@ -11,6 +11,7 @@ mod event;
 mod job;
 mod plan;
 mod planned;
+mod planning;
 mod row;
 mod rows;
 mod state;

@@ -1,24 +1,27 @@
 //! What the machine reads of a bundle.
 
-ghost use Rattle.std.specs.Prelude.{◌≡◌, ◌≤◌, length, slice_get, Some};
+ghost use Rattle.std.specs.Prelude.{◌≡◌, ◌<◌, ◌≤◌, length, slice_get, option_map, IfOk, Some};
 ghost use Rattle.std.specs.Option.{option_copied};
 ghost use Rattle.pb_tree.specs.Plain.{IsPlain};
 ghost use Rattle.pb_tree.specs.Tree.{size_of};
 
-use pb_ids::HostNo;
+use pb_ids::{HostNo, PlayNo};
 use pb_inventory::inventory::Inventory;
+use pb_planes::HostSet;
 use pb_play::task::Task;
 use pb_tree::PlayTree;
 use pb_value::items::Items;
 use pb_value::text::Text;
+use std::alloc::{AllocError, Global};
 use std::marker::Model;
 
-/// A play: its name, its tree, and the task at each place of the tree, in the order of places.
+/// A play: its name, its tree, the task at each place of the tree, in the order of places, and the hosts that are its own.
 #[derive(Drop)]
 pub struct PlanPlay {
     name: Text,
     tree: PlayTree,
     tasks: Items<Task>,
+    hosts: HostSet,
 }
 
 impl Model for PlanPlay {
@@ -31,7 +34,7 @@ impl Model for PlanPlay {
 
     ghost coded = { Prim.hlevel (codes, val.the_row.coded, play_tree.the_row.coded) };
 
-    ghost view = { λ p. record { name = p.name; tree = p.tree; tasks = p.tasks } };
+    ghost view = { λ p. record { name = p.name; tree = p.tree; tasks = p.tasks; hosts = p.hosts } };
 
     ghost use Rattle.std.specs.Prelude.{◌≡◌, ◌≤◌, length};
     ghost use Rattle.pb_tree.specs.Plain.{IsPlain};
@@ -42,13 +45,18 @@ impl Model for PlanPlay {
 
 impl PlanPlay {
     /// A play of these parts.
-    pub(crate) fn of(name: Text, tree: PlayTree, tasks: Items<Task>) -> PlanPlay
+    pub(crate) fn of(name: Text, tree: PlayTree, tasks: Items<Task>, hosts: HostSet) -> PlanPlay
         requires plain { IsPlain tree }
         requires bound { size_of tree ≤ 16384 }
         requires places { length tasks ≡ size_of tree }
-        ensures { result ≡ record { name = name; tree = tree; tasks = tasks } }
+        ensures { result ≡ record { name = name; tree = tree; tasks = tasks; hosts = hosts } }
     {
-        PlanPlay { name, tree, tasks }
+        PlanPlay {
+            name,
+            tree,
+            tasks,
+            hosts,
+        }
     }
 
     /// The play's name, as it is printed.
@@ -73,14 +81,22 @@ impl PlanPlay {
     {
         self.tasks.get(place)
     }
+
+    /// The hosts that are the play's own.
+    pub fn hosts(&self) -> &HostSet
+        ensures { result.now ≡ self.now.hosts }
+    {
+        &self.hosts
+    }
 }
 
-/// The hosts by their numbers, the plays in order, and how many hosts may run at once.
+/// The hosts by their numbers, the plays in order, how many hosts may run at once, and lines that tell what was odd in the bundle.
 #[derive(Drop)]
 pub struct Plan {
     inventory: Inventory,
     plays: Items<PlanPlay>,
     forks: u32,
+    warnings: Items<Text>,
 }
 
 impl Model for Plan {
@@ -93,7 +109,7 @@ impl Model for Plan {
 
     ghost coded = { Prim.hlevel (codes, val.the_row.coded, play_tree.the_row.coded) };
 
-    ghost view = { λ p. record { hosts = p.inventory.hosts; plays = p.plays; forks = p.forks } };
+    ghost view = { λ p. record { hosts = p.inventory.hosts; plays = p.plays; forks = p.forks; warnings = p.warnings } };
 
     ghost use Rattle.std.specs.Prelude.{◌<◌, ◌≤◌, length};
 
@@ -104,21 +120,27 @@ impl Plan {
     ghost use Rattle.std.specs.Prelude.{◌<◌};
 
     /// A plan of these parts.
-    pub(crate) fn from_parts(inventory: Inventory, plays: Items<PlanPlay>, forks: u32) -> Plan
+    pub(crate) fn from_parts(
+        inventory: Inventory,
+        plays: Items<PlanPlay>,
+        forks: u32,
+        warnings: Items<Text>,
+    ) -> Plan
         requires plays { length plays ≤ 256 }
         requires some { 0 < forks }
         requires bound { forks ≤ 256 }
-        ensures { result ≡ record { hosts = inventory.hosts; plays = plays; forks = forks } }
+        ensures { result ≡ record { hosts = inventory.hosts; plays = plays; forks = forks; warnings = warnings } }
     {
         Plan {
             inventory,
             plays,
             forks,
+            warnings,
         }
     }
 
     /// How many hosts there are: at most 65,536.
-    pub fn hosts(&self) -> u32
+    pub fn host_count(&self) -> u32
         ensures value { result ≡ length self.now.hosts }
         ensures bound { length self.now.hosts ≤ 65536 }
     {
@@ -141,6 +163,16 @@ impl Plan {
         self.plays.as_slice()
     }
 
+    /// The hosts that the pattern of a play and the limit select.
+    pub fn hosts(&self, alloc: Global, play: PlayNo) -> Result<HostSet, AllocError>
+        requires { play.0 < length self.now.plays }
+        ensures { IfOk result (λ set. option_map (λ p. p.hosts) (slice_get self.now.plays play.0) ≡ Some set) }
+    {
+        self.plays.as_slice()[play.0 as usize]
+            .hosts()
+            .try_clone(alloc)
+    }
+
     /// How many hosts may run at once: 1 to 256.
     pub fn forks(&self) -> u32
         ensures value { result ≡ self.now.forks }
@@ -148,5 +180,12 @@ impl Plan {
         ensures bound { self.now.forks ≤ 256 }
     {
         self.forks
+    }
+
+    /// Lines that tell what was odd in the bundle.
+    pub fn warnings(&self) -> &[Text]
+        ensures { result.now ≡ self.now.warnings }
+    {
+        self.warnings.as_slice()
     }
 }

@@ -241,13 +241,13 @@ impl Row {
         }
     }
 
-    /// A batch opens.
-    pub fn join(&mut self)
-        ensures { self.new ≡ joined self.old }
+    /// A batch opens. `own` tells whether the host is one of the play's own.
+    pub fn join(&mut self, own: bool)
+        ensures { self.new ≡ joined own self.old }
     {
         self.answers.clear();
         self.is_straight = true;
-        self.in_batch = is_active(self.status);
+        self.in_batch = own && is_active(self.status);
         run(&mut self.running, None);
         self.last = None;
     }
@@ -265,11 +265,11 @@ impl Row {
 }
 
 impl Row {
-    ghost use Rattle.pb_state.specs.Machine.{is_ready, next_place, stands_at, is_in, is_host_active, is_running, has_send, is_out, has_ticket, has_begun, is_last_at, runs_at, is_ticket};
+    ghost use Rattle.pb_state.specs.Machine.{is_ready, next_place, stands_at, is_in, is_running, has_send, is_out, has_ticket, has_begun, is_last_at, runs_at, is_ticket};
 
     /// Whether the host still takes part in the playbook.
     pub fn is_host_active(&self) -> bool
-        ensures { result ≡ is_host_active self.now }
+        ensures { result ≡ is_active self.now.status }
     {
         is_active(self.status)
     }

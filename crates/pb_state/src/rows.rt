@@ -1,15 +1,17 @@
 //! The rows of all hosts.
 
-ghost use Rattle.std.specs.Prelude.{◌≡◌, ◌&&◌, ◌<◌, ◌≤◌, ◌-◌, ◌^◌, length, map, replicate, slice_get, count_by, true, false, IfOk, IfSome, IfNone, OnOk, OnErr, Some, None};
+ghost use Rattle.std.specs.Prelude.{◌≡◌, ◌&&◌, ◌<◌, ◌≤◌, ◌-◌, ◌^◌, length, map, drop, replicate, slice_get, count_by, true, false, IfOk, IfSome, IfNone, OnOk, OnErr, Some, None};
 ghost use Rattle.std.specs.List.{list_any};
 ghost use Rattle.std.specs.Option.{option_map_or};
+ghost use Rattle.pb_planes.specs.Set.{is_in as is_member};
 ghost use Rattle.pb_tree.specs.Plain.{IsPlain};
-ghost use Rattle.pb_state.specs.Row.{first_row, joined, left, finished, sent, reported};
+ghost use Rattle.pb_state.specs.Row.{first_row, left, finished, sent, reported};
 ghost use Rattle.pb_state.specs.Bounds.{IsAtMost};
 ghost use Rattle.pb_state.specs.Oldest.{oldest_out, out_at, older};
-ghost use Rattle.pb_state.specs.Machine.{is_ready, stands_at, is_in, is_host_active, is_running, has_send, is_out, has_ticket, has_begun, least_place, lesser, change, report_decides};
+ghost use Rattle.pb_state.specs.Machine.{is_ready, stands_at, is_in, is_running, has_send, is_out, has_ticket, has_begun, least_place, lesser, change, report_decides, some_own, has_hosts, first_play, joined_in};
 
 use crate::decided::Decided;
+use crate::plan::PlanPlay;
 use crate::row::Row;
 use pb_ids::{HostNo, Ticket};
 use pb_outcome::gather::TaskResult;
@@ -30,11 +32,38 @@ pub fn first_rows(alloc: Global, hosts: usize) -> Result<Vec<Row>, AllocError>
     Ok(rows)
 }
 
-/// Whether a host is active.
-pub fn some_active(rows: &[Row]) -> bool
-    ensures { result ≡ list_any is_host_active rows.now }
+/// Whether a host is in a set: none is beyond its end.
+fn is_member(set: &HostSet, host: HostNo) -> bool
+    ensures { result ≡ is_member set.now host.0 }
 {
-    rows.iter().any(|row| row.is_host_active())
+    host.0 < set.width() && set.has(host)
+}
+
+/// Whether a host of a set is active.
+fn some_own(rows: &[Row], hosts: &HostSet) -> bool
+    requires { length rows.now ≤ 65536 }
+    ensures { result ≡ some_own hosts.now 0 rows.now }
+{
+    for (i, row) in rows.iter().enumerate() {
+        if is_member(hosts, HostNo(i as u32)) && row.is_host_active() {
+            return true;
+        }
+    }
+    false
+}
+
+/// The number of the first play from this one on that has hosts: some host of its own is active.
+pub fn first_play(rows: &[Row], plays: &[PlanPlay], from: usize) -> Option<usize>
+    requires { length rows.now ≤ 65536 }
+    ensures value { result ≡ first_play rows.now from (drop from plays.now) }
+    ensures least { IfSome result (λ number. from ≤ number) }
+{
+    for number in from..plays.len() {
+        if some_own(rows, plays[number].hosts()) {
+            return Some(number);
+        }
+    }
+    None
 }
 
 /// Whether a host of the batch is active.
@@ -181,11 +210,12 @@ fn older(a: Option<(HostNo, Ticket)>, b: Option<(HostNo, Ticket)>) -> Option<(Ho
     }
 }
 
-/// Each host joins the batch if it is active.
-pub fn join_all(rows: &mut Vec<Row>)
-    ensures { rows.new.items ≡ map joined rows.old.items }
+/// Each host of a set joins the batch if it is active.
+pub fn join_all(rows: &mut Vec<Row>, hosts: &HostSet)
+    requires { length rows.old.items ≤ 65536 }
+    ensures { rows.new.items ≡ joined_in hosts.now 0 rows.old.items }
 {
-    join_each(rows.as_mut_slice());
+    join_each(rows.as_mut_slice(), hosts);
 }
 
 /// Each host leaves the batch.
@@ -195,11 +225,12 @@ pub fn leave_all(rows: &mut Vec<Row>)
     leave_each(rows.as_mut_slice());
 }
 
-fn join_each(rows: &mut [Row])
-    ensures { rows.new ≡ map joined rows.old }
+fn join_each(rows: &mut [Row], hosts: &HostSet)
+    requires { length rows.old ≤ 65536 }
+    ensures { rows.new ≡ joined_in hosts.now 0 rows.old }
 {
-    for row in rows.iter_mut() {
-        row.join();
+    for (i, row) in rows.iter_mut().enumerate() {
+        row.join(is_member(hosts, HostNo(i as u32)));
     }
 }
 

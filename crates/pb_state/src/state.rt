@@ -5,7 +5,7 @@ ghost use Rattle.std.specs.Prelude.{◌-◌, ◌+◌, ◌^◌, ◌*◌};
 ghost use Rattle.std.specs.List.{list_any};
 ghost use Rattle.std.specs.Option.{option_copied, option_map_or};
 ghost use Rattle.pb_state.specs.Plan.{PlanOf};
-ghost use Rattle.pb_state.specs.Row.{joined, left, finished, started};
+ghost use Rattle.pb_state.specs.Row.{left, finished, started};
 ghost use Rattle.pb_state.specs.declared.planned.Planned.TheVariants as Planned;
 ghost use Rattle.pb_state.specs.State.{State};
 
@@ -16,8 +16,8 @@ use crate::plan::{Plan, PlanPlay};
 use crate::planned::{Planned, planned_at, task_of};
 use crate::row::Row;
 use crate::rows::{
-    begin_row, finish_row, first_rows, join_all, least_place, leave_all, none_into, oldest_out,
-    ready_into, report_row, running_count, send_row, some_active, some_begun, some_in, some_out,
+    begin_row, finish_row, first_play, first_rows, join_all, least_place, leave_all, none_into,
+    oldest_out, ready_into, report_row, running_count, send_row, some_begun, some_in, some_out,
     some_running, some_stands, some_ticket,
 };
 use pb_ids::{HostNo, PlayNo, Ticket};
@@ -80,7 +80,7 @@ impl Model for EngineState {
 }
 
 impl EngineState {
-    ghost use Rattle.pb_state.specs.Machine.{open_play, may_open, may_start_in, may_send_in, may_report_in, some_may_start, may_turn_in, may_close_in, stands_at, at_row, has_room, possible, may_send_item, awaits};
+    ghost use Rattle.pb_state.specs.Machine.{open_play, next_play, may_open, may_start_in, may_send_in, may_report_in, some_may_start, may_turn_in, may_close_in, stands_at, at_row, has_room, possible, may_send_item, awaits};
 
     /// The play whose batch is open.
     fn open_play<'a>(&self, plan: &'a Plan) -> Option<&'a PlanPlay>
@@ -101,15 +101,19 @@ impl EngineState {
         !self.stopped && running_count(&self.rows) < self.forks as usize
     }
 
+    /// The number of the play that opens next.
+    fn next_play(&self, plan: &Plan) -> Option<usize>
+        ensures value { result ≡ next_play plan.now self.now }
+        ensures least { IfSome result (λ number. self.now.play ≤ number) }
+    {
+        first_play(&self.rows, plan.plays(), self.play)
+    }
+
     /// Whether a batch can open.
     pub fn may_open(&self, plan: &Plan) -> bool
         ensures { result ≡ may_open plan.now self.now }
     {
-        !self.stopped
-            && !self.is_open
-            && !self.ended
-            && self.play < plan.plays().len()
-            && some_active(&self.rows)
+        !self.stopped && !self.is_open && !self.ended && self.next_play(plan).is_some()
     }
 
     /// Whether a host may start in a play.
@@ -294,17 +298,30 @@ impl EngineState {
         ensures { self.new ≡ after plan.now self.old Event.Open }
     {
         let plays = plan.plays();
-        if let Some(play) = plays.get(self.play) {
-            self.open_in(play);
+        if let Some(number) = self.next_play(plan) {
+            self.open_at(number, plays);
         }
     }
 
-    fn open_in(&mut self, play: &PlanPlay)
+    fn open_at(&mut self, number: usize, plays: &[PlanPlay])
         requires closed { self.old.is_open ≡ false }
-        requires below { self.old.play < 256 }
-        ensures { self.new ≡ opened_in self.old (map joined self.old.rows) play.now }
+        requires least { self.old.play ≤ number }
+        requires most { length plays.now ≤ 256 }
+        ensures { self.new ≡ option_map_or (opened_in self.old number) (slice_get plays.now number) self.old }
     {
-        join_all(&mut self.rows);
+        if let Some(play) = plays.get(number) {
+            self.open_in(number, play);
+        }
+    }
+
+    fn open_in(&mut self, number: usize, play: &PlanPlay)
+        requires closed { self.old.is_open ≡ false }
+        requires least { self.old.play ≤ number }
+        requires below { number < 256 }
+        ensures { self.new ≡ opened_in self.old number play.now }
+    {
+        join_all(&mut self.rows, play.hosts());
+        self.play = number;
         self.is_open = true;
         self.place = least_place(&self.rows, play.tree());
         decide(&mut self.decided, None);
@@ -470,7 +487,7 @@ impl EngineState {
         requires most { pool ≤ 256 }
         ensures { IfOk result (λ s. s ≡ first_state plan.now forks pool) }
     {
-        let rows = first_rows(alloc, plan.hosts() as usize)?;
+        let rows = first_rows(alloc, plan.host_count() as usize)?;
         Ok(EngineState {
             alloc,
             rows,
@@ -578,7 +595,7 @@ impl EngineState {
         self.decided.as_ref()
     }
 
-    /// The number of the play whose batch is open, or of the next one.
+    /// The number of the play whose batch is open, or of the one behind the last that was.
     pub fn play(&self) -> usize
         ensures { result ≡ self.now.play }
     {

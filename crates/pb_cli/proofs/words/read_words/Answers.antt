@@ -1,7 +1,7 @@
 use Rattle.std.proofs.Common.{◌∙◌, Some, ap, codes, refl, sym, subst}
 use Rattle.std.specs.Prelude.{ℕ, List, Option}
 use Rattle.pb_cli.specs.CommandLine.{AreForks}
-use Rattle.pb_cli.proofs.Parsed.{found_read, value_read, none_met, error_met, forks_refused}
+use Rattle.pb_cli.proofs.Parsed.{found_read, value_read, none_met, error_met, forks_refused, purpose_read}
 use Rattle.pb_cli.proofs.words.read_words.Goals as goal
 
 pub returns-in_ok-from_str-in-Ok-2-clause-value : goal.returns-in_ok-from_str-in-Ok-2-clause-value
@@ -13,6 +13,8 @@ returns-in_ok-from_str-in-Ok-2-clause-value c =
       value_read _ c.in-Ok.matches _ (codes "playbook") _ is parsed.matches (ap Some c.in_ok-from_str-in-Ok-2.ensures ∙ c.in-Some-Some.ensures'),
       subst (λ (found : Option (List ℕ)). AreForks found c.in-Ok-forks_in.forks) (sym (found_read _ c.in-Ok.matches _ (codes "forks") _ is parsed.matches refl)) c.in-Ok-forks_in.ensures.value,
       found_read _ c.in-Ok.matches _ (codes "outcomes") _ is parsed.matches (sym c.in_ok-outcomes-in-Ok.ensures),
+      found_read _ c.in-Ok.matches _ (codes "limit") _ is parsed.matches (sym c.in_ok-limit-in-Ok.ensures),
+      purpose_read _ c.in-Ok.matches _ _ is parsed.matches c.purpose_in.ensures,
     )
 
 pub returns-in-Err-clause-fault : goal.returns-in-Err-clause-fault

@@ -1,16 +1,15 @@
-use Rattle.std.proofs.Common.{arith}
-use Rattle.std.proofs.lemmas.Grind.{common_steps}
-use Rattle.pb_play.specs.Playbooks.{playbook_of}
+use Rattle.std.proofs.Common.{refl}
+use Rattle.serde_json.specs.View.{view}
+use Rattle.pb_play.specs.declared.fault.LoadFault.TheVariants.{NotJson}
+use Rattle.pb_play.proofs.Refusable.{not_json, playbook_fault, playbook_is}
 use Rattle.pb_play.proofs.playbook.Playbook.read.Goals as goal
 
-pub returns-in_err-plays-in-Ok-clause-fault : goal.returns-in_err-plays-in-Ok-clause-fault
-unfolding playbook_of
-returns-in_err-plays-in-Ok-clause-fault c = grind (arith, common_steps)
-
-pub returns-in_ok-plays-in-Ok-clause-value : goal.returns-in_ok-plays-in-Ok-clause-value
-unfolding playbook_of
-returns-in_ok-plays-in-Ok-clause-value c = grind (arith, common_steps)
-
 pub returns-in-Err-NotJson-clause-fault : goal.returns-in-Err-NotJson-clause-fault
-unfolding playbook_of
-returns-in-Err-NotJson-clause-fault c = grind (arith, common_steps)
+returns-in-Err-NotJson-clause-fault c =
+    λ other. let seen = c.in-Err-NotJson.field-0-is in not_json c.args.bytes.now NotJson (c.in-Err-NotJson.ensures.fault (λ memory. cc)) refl
+
+pub returns-in-Ok-read_plays-clause-value : goal.returns-in-Ok-read_plays-clause-value
+returns-in-Ok-read_plays-clause-value c = playbook_is c.args.bytes.now (view c.in-Ok.json) c.in-Ok-read_plays.plays c.in-Ok.ensures.value c.in-Ok-read_plays.ensures.value
+
+pub returns-clause-fault : goal.returns-clause-fault
+returns-clause-fault c = λ other. playbook_fault c.args.bytes.now (view c.in-Ok.json) c.in-Err.fault c.in-Ok.ensures.value (c.in-Err.ensures.fault other)

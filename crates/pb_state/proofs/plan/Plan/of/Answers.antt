@@ -1,52 +1,62 @@
-use Rattle.std.proofs.Common.{◌≡◌, ◌≤◌, ℕ, false, Ok, arith, rules, refl, sym, ◌∙◌}
-use Rattle.std.specs.Prelude.{nat_lt}
-use Rattle.std.proofs.lemmas.Grind.{common_steps}
+use Rattle.std.proofs.Common.{◌≡◌, ◌≤◌, ◌<◌, ℕ, true, false, ◌⊎◌, inl, inr, arith, refl, sym, ap, ◌∙◌}
+use Rattle.std.specs.List.{list_any}
 use Rattle.std.proofs.lemmas.Bool.Decides.{nat_tests}
-use Rattle.pb_value.specs.Reading.{and_then}
-use Rattle.pb_inventory.specs.InventoryOf.{InventoryOf}
-use Rattle.pb_inventory.specs.Reading.{inventory_of}
-use Rattle.pb_play.specs.Playbooks.{playbook_of}
-use Rattle.pb_state.specs.declared.bundle.Bundle.{Bundle}
-use Rattle.pb_state.specs.declared.bundle.BundleFault.TheVariants.{Inventory, Playbook as InPlaybook}
-use Rattle.pb_state.specs.Bundle.{plan_of, plan_in, in_part, are_bad_forks, max_bytes, bundle_bytes}
+use Rattle.std.proofs.lemmas.Result.{IfOk-weaker}
+use Rattle.pb_state.specs.Bundle.{are_bad_forks, has_too_many_places}
+use Rattle.pb_state.proofs.Plans.{IsSized, HasInventory, size_fault, forks_fault, inventory_fault, book_fault, limit_met, places_fault, plan_made}
 use Rattle.pb_state.proofs.plan.Plan.of.Goals as goal
 
 good_forks : (n : ℕ) → (n ≡ 0 → ⊥) → n ≤ 256 → are_bad_forks n ≡ false
 good_forks n some few = grind (arith, nat_tests)
 
--- what is left once size, forks and inventory are good
-after_inventory : (bundle : Bundle) (inventory : InventoryOf) → nat_lt max_bytes (bundle_bytes bundle) ≡ false → are_bad_forks bundle.forks ≡ false
-    → in_part Inventory (inventory_of bundle.inventory) ≡ Ok inventory
-    → plan_of bundle ≡ and_then (in_part InPlaybook (playbook_of bundle.playbook)) (plan_in bundle.forks inventory)
-unfolding plan_of
-after_inventory bundle inventory size forks is = rw (size, forks, is) refl
+bad_forks : (n : ℕ) → (n ≡ 0) ⊎ ((n ≡ 0 → ⊥) × 256 < n) → are_bad_forks n ≡ true
+bad_forks n (inl none) = rw none refl
+bad_forks n (inr many) = let more = many.1 in grind (arith, nat_tests)
 
 pub returns-then-is_too_large-clause-fault : goal.returns-then-is_too_large-clause-fault
-unfolding plan_of
-returns-then-is_too_large-clause-fault c = grind (arith, common_steps)
+returns-then-is_too_large-clause-fault c = λ other. size_fault c.args.bundle.now (sym c.is_too_large.ensures ∙ c.if-is_too_large.true)
 
 pub returns-then-forks-eq0-clause-fault : goal.returns-then-forks-eq0-clause-fault
-unfolding plan_of
-returns-then-forks-eq0-clause-fault c = grind (arith, common_steps)
-
-pub returns-in_err-inventory-clause-fault : goal.returns-in_err-inventory-clause-fault
-unfolding plan_of
-returns-in_err-inventory-clause-fault c = grind (arith, common_steps)
-
-pub returns-clause-value : goal.returns-clause-value
-returns-clause-value c =
-    let left = after_inventory c.args.bundle.now c.in_ok-inventory.inventory (sym c.is_too_large.ensures ∙ c.if-is_too_large.false)
-    (good_forks _ c.if-forks-eq0.false c.if-forks-gt256.false) c.in_ok-inventory.ensures.value in
-    rw (left, c.in-Ok.ensures.value) c.plan_in.ensures.value
+returns-then-forks-eq0-clause-fault c =
+    λ other. forks_fault c.args.bundle.now (sym c.is_too_large.ensures ∙ c.if-is_too_large.false) (bad_forks c.args.bundle.now.forks c.then-forks-eq0.either)
 
 pub returns-in-Err-clause-fault : goal.returns-in-Err-clause-fault
 returns-in-Err-clause-fault c =
-    let left = after_inventory c.args.bundle.now c.in_ok-inventory.inventory (sym c.is_too_large.ensures ∙ c.if-is_too_large.false)
-    (good_forks _ c.if-forks-eq0.false c.if-forks-gt256.false) c.in_ok-inventory.ensures.value in
-    λ other. rw (left, c.in-Err.ensures.fault other) refl
+    let sized : IsSized c.args.bundle.now =
+    record { size = sym c.is_too_large.ensures ∙ c.if-is_too_large.false; forks = good_forks _ c.if-forks-eq0.false c.if-forks-gt256.false } in
+    λ other. inventory_fault c.args.bundle.now c.in-Err.fault sized (c.in-Err.ensures.fault other)
 
-pub returns-clause-fault : goal.returns-clause-fault
-returns-clause-fault c =
-    let left = after_inventory c.args.bundle.now c.in_ok-inventory.inventory (sym c.is_too_large.ensures ∙ c.if-is_too_large.false)
-    (good_forks _ c.if-forks-eq0.false c.if-forks-gt256.false) c.in_ok-inventory.ensures.value in
-    rw (left, c.in-Ok.ensures.value) c.plan_in.ensures.fault
+pub returns-in-Err-playbook_in-clause-fault : goal.returns-in-Err-playbook_in-clause-fault
+returns-in-Err-playbook_in-clause-fault c =
+    let sized : IsSized c.args.bundle.now =
+    record { size = sym c.is_too_large.ensures ∙ c.if-is_too_large.false; forks = good_forks _ c.if-forks-eq0.false c.if-forks-gt256.false } in
+    let has : HasInventory c.args.bundle.now c.in-Ok.inventory = record { sized = sized; read = c.in-Ok.ensures.value } in
+    λ other. book_fault c.args.bundle.now c.in-Ok.inventory c.in-Err-playbook_in.fault has (c.in-Err-playbook_in.ensures.fault other)
+
+pub returns-in-Err-limit_in-clause-fault : goal.returns-in-Err-limit_in-clause-fault
+returns-in-Err-limit_in-clause-fault c =
+    let sized : IsSized c.args.bundle.now =
+    record { size = sym c.is_too_large.ensures ∙ c.if-is_too_large.false; forks = good_forks _ c.if-forks-eq0.false c.if-forks-gt256.false } in
+    let has : HasInventory c.args.bundle.now c.in-Ok.inventory = record { sized = sized; read = c.in-Ok.ensures.value } in
+    λ other. limit_met c.args.bundle.now c.in-Ok.inventory c.in-Ok-playbook_in.playbook c.in-Err-limit_in.fault has c.in-Ok-playbook_in.ensures.value (c.in-Err-limit_in.ensures.fault other)
+
+pub returns-then-some_too_large-clause-fault : goal.returns-then-some_too_large-clause-fault
+returns-then-some_too_large-clause-fault c =
+    let sized : IsSized c.args.bundle.now =
+    record { size = sym c.is_too_large.ensures ∙ c.if-is_too_large.false; forks = good_forks _ c.if-forks-eq0.false c.if-forks-gt256.false } in
+    let has : HasInventory c.args.bundle.now c.in-Ok.inventory = record { sized = sized; read = c.in-Ok.ensures.value } in
+    let many : list_any has_too_many_places c.in-Ok-playbook_in.playbook.plays ≡ true =
+    ap (list_any has_too_many_places) (sym c.as_slice.ensures) ∙ sym c.some_too_large.ensures ∙ c.if-some_too_large.true in
+    λ other.
+    places_fault c.args.bundle.now c.in-Ok.inventory c.in-Ok-playbook_in.playbook c.in-Ok-limit_in.limit has c.in-Ok-playbook_in.ensures.value c.in-Ok-limit_in.ensures.value many
+
+pub returns-clause-value : goal.returns-clause-value
+returns-clause-value c =
+    let sized : IsSized c.args.bundle.now =
+    record { size = sym c.is_too_large.ensures ∙ c.if-is_too_large.false; forks = good_forks _ c.if-forks-eq0.false c.if-forks-gt256.false } in
+    let has : HasInventory c.args.bundle.now c.in-Ok.inventory = record { sized = sized; read = c.in-Ok.ensures.value } in
+    let few : list_any has_too_many_places c.in-Ok-playbook_in.playbook.plays ≡ false =
+    ap (list_any has_too_many_places) (sym c.as_slice.ensures) ∙ sym c.some_too_large.ensures ∙ c.if-some_too_large.false in
+    IfOk-weaker c.plan_with.result _ _
+    (λ plan made. plan_made c.args.bundle.now c.in-Ok.inventory c.in-Ok-playbook_in.playbook c.in-Ok-limit_in.limit plan has c.in-Ok-playbook_in.ensures.value c.in-Ok-limit_in.ensures.value few made)
+    c.plan_with.ensures.value

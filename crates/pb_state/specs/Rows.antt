@@ -1,0 +1,66 @@
+-- Worked runs: plays with hosts of their own.
+use Rattle.std.specs.Prelude.{◌≡◌, Bool, true, false, List, [], ◌∷◌, map, codes, Some, None, refl}
+use Rattle.pb_value.specs.Datum.{text}
+use Rattle.pb_tree.specs.declared.tree.Status.TheVariants.{Failed}
+use Rattle.pb_play.specs.declared.modules.Module.TheVariants.{Debug}
+use Rattle.pb_state.specs.declared.event.Event.{Event}
+use Rattle.pb_state.specs.declared.event.Event.TheVariants.{Open, Start, Turn, Close}
+use Rattle.pb_state.specs.Bundle.{tree_for}
+use Rattle.pb_state.specs.Plan.{PlayOf, PlanOf}
+use Rattle.pb_state.specs.Row.{HostRow, first_row}
+use Rattle.pb_state.specs.State.{State}
+use Rattle.pb_state.specs.Machine.{possible, first_state, first_play}
+use Rattle.pb_state.specs.Run.{legal_from, state_from}
+
+-- a play with one task
+abbrev play_on : List Bool → PlayOf
+play_on hosts = record { name = codes "p"; tree = tree_for 0 1 0; tasks = record { name = codes "hi"; «module» = Debug (text (codes "hello")) } ∷ []; hosts = hosts }
+
+-- three plays for two hosts: the first is the first host's, the second has no hosts, and the third is the second host's
+abbrev three_plays : PlanOf
+three_plays = record { hosts = codes "a" ∷ codes "b" ∷ []; plays = play_on (true ∷ []) ∷ play_on (false ∷ false ∷ []) ∷ play_on (false ∷ true ∷ []) ∷ []; forks = 5; warnings = [] }
+
+abbrev start : State
+start = first_state three_plays 5 5
+
+abbrev a : Event
+a = Start (record { 0 = 0 })
+
+abbrev b : Event
+b = Start (record { 0 = 1 })
+
+abbrev batch_of : State → List Bool
+batch_of s = map (λ (row : HostRow). row.in_batch) s.rows
+
+abbrev whole : List Event
+whole = Open ∷ a ∷ Turn ∷ Close ∷ Open ∷ b ∷ Turn ∷ Close ∷ []
+
+is_whole_run : legal_from three_plays start whole ≡ true
+is_whole_run = refl
+
+-- the second host isn't in the first play
+first_batch : batch_of (state_from three_plays start (Open ∷ [])) ≡ true ∷ false ∷ []
+first_batch = refl
+
+starts_outside : possible three_plays (state_from three_plays start (Open ∷ [])) b ≡ false
+starts_outside = refl
+
+-- the second play is passed over
+passes_over : (state_from three_plays start (Open ∷ a ∷ Turn ∷ Close ∷ Open ∷ [])).play ≡ 2
+passes_over = refl
+
+last_batch : batch_of (state_from three_plays start (Open ∷ a ∷ Turn ∷ Close ∷ Open ∷ [])) ≡ false ∷ true ∷ []
+last_batch = refl
+
+no_play_left : possible three_plays (state_from three_plays start whole) Open ≡ false
+no_play_left = refl
+
+-- so is a play whose hosts failed
+abbrev failed_row : HostRow
+failed_row = record first_row { status = Failed }
+
+passes_failed : first_play (failed_row ∷ first_row ∷ []) 0 (play_on (true ∷ []) ∷ play_on (true ∷ true ∷ []) ∷ []) ≡ Some 1
+passes_failed = refl
+
+no_hosts : first_play (failed_row ∷ first_row ∷ []) 0 (play_on (true ∷ false ∷ []) ∷ []) ≡ None
+no_hosts = refl
