@@ -1,4 +1,5 @@
 pub mod Value
 pub mod Rendering
 pub mod Scoped
+pub mod Messages
 pub mod Rows

@@ -1,7 +1,7 @@
 -- Worked examples, from texts: each is proved by computing both sides.
 use Rattle.std.specs.Prelude.{◌≡◌, pos, negsuc, false, List, [], ◌∷◌, Option, Some, None, Ok, Err, codes, refl}
 use Rattle.std.specs.Fmt.{digits}
-use Rattle.pb_value.specs.Datum.{boolean, int, text}
+use Rattle.pb_value.specs.Datum.{boolean, int, text, list, dict, items_of, members_of}
 use Rattle.pb_expr_syntax.specs.Computed.{tree_of, tree_of_tokens}
 use Rattle.pb_expr_syntax.specs.Tree.{Tree}
 use Rattle.pb_layers.specs.Scope.{Map, layers}
@@ -9,7 +9,8 @@ use Rattle.pb_template.specs.Computed.{template_of}
 use Rattle.pb_template.specs.declared.template.Part.{Part}
 use Rattle.pb_operators.specs.declared.fault.EvalFault.TheVariants.{Undefined, WrongKind, Overflow, TooLarge, BadTemplate}
 use Rattle.pb_operators.specs.Values.{Value}
-use Rattle.pb_expr_eval.specs.Scoped.{eval_of, render_of}
+use Rattle.pb_expr_eval.specs.Messages.{message_of}
+use Rattle.pb_expr_eval.specs.Scoped.{eval_of, render_of, rendered_of}
 
 abbrev of_tree : List Map → Option Tree → Option Value
 of_tree scope None = None
@@ -80,3 +81,17 @@ set_text_unrendered = refl
 bad_template : of_tree (play ((codes "a", text (codes "{{ b")) ∷ []) []) (tree_of (codes "a")) ≡ Some (Err BadTemplate)
 unfolding template_of tree_of tree_of_tokens eval_of
 bad_template = refl
+
+-- texts in a list and in a dict are rendered, its names aren't, and an expression alone keeps its kind
+rendered_value :
+    rendered_of (play ((codes "a", int (pos 1)) ∷ []) []) (list (items_of (text (codes "{{ a }}") ∷ text (codes "a") ∷ dict (members_of ((codes "{{ a }}", text (codes "{{ a }}!")) ∷ [])) ∷ [])))
+    ≡ Ok (list (items_of (int (pos 1) ∷ text (codes "a") ∷ dict (members_of ((codes "{{ a }}", text (codes "1!")) ∷ [])) ∷ [])))
+unfolding digits template_of tree_of tree_of_tokens rendered_of
+rendered_value = refl
+
+first_fault : rendered_of [] (list (items_of (text (codes "{{ a }}") ∷ text (codes "{{ b") ∷ []))) ≡ Err (Undefined (codes "a"))
+unfolding template_of tree_of tree_of_tokens rendered_of
+first_fault = refl
+
+undefined_message : message_of (Undefined (codes "a")) ≡ codes "'a' is undefined"
+undefined_message = refl

@@ -30,3 +30,7 @@ eval_of scope t = and_then (value (names_in scope max_look_ups) t) finished
 
 unfoldable pub render_of : List Map → List Part → Value
 render_of scope parts = and_then (render (names_in scope max_look_ups) parts) finished
+
+-- a value with its texts rendered, in lists and dicts too
+unfoldable pub rendered_of : List Map → Datum → Value
+rendered_of scope v = and_then (rendered (names_in scope max_look_ups) v) finished

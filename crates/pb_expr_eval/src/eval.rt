@@ -1,9 +1,10 @@
 //! The public calls.
 ghost use Rattle.std.specs.Prelude.{◌≡◌, ◌≢◌, IfOk, IfErr, Ok, Err};
 ghost use Rattle.pb_operators.specs.declared.fault.EvalFault.TheVariants as fault;
-ghost use Rattle.pb_expr_eval.specs.Scoped.{eval_of, render_of};
+ghost use Rattle.pb_value.specs.Datum.{text};
+ghost use Rattle.pb_expr_eval.specs.Scoped.{eval_of, render_of, rendered_of};
 
-use crate::reading::{rendered_parts, value};
+use crate::reading::{rendered, rendered_parts, templated, value};
 use pb_expr_syntax::tree::Expr;
 use pb_layers::scope::Scope;
 use pb_operators::fault::EvalFault;
@@ -37,6 +38,31 @@ pub fn render(alloc: Global, template: &Template, scope: &Scope) -> Result<Val, 
     ensures fault { IfErr result (λ e. e ≢ fault.Memory → render_of scope.now template.now.parts ≡ Err e) }
 {
     match rendered_parts(alloc, scope, MAX_LOOK_UPS, template.parts.as_slice()) {
+        Ok(value) => finished(value),
+        Err(fault) => Err(fault),
+    }
+}
+
+/// A value with its texts rendered, in lists and dicts too, or its first fault, with the limits of
+/// `eval`. Names of dicts are no templates.
+#[tactic(auto, unfolding(crate::specs::Scoped::rendered_of))]
+pub fn render_value(alloc: Global, value: &Val, scope: &Scope) -> Result<Val, EvalFault>
+    ensures value { IfOk result (λ v. rendered_of scope.now value.now ≡ Ok v) }
+    ensures fault { IfErr result (λ e. e ≢ fault.Memory → rendered_of scope.now value.now ≡ Err e) }
+{
+    match rendered(alloc, scope, MAX_LOOK_UPS, value) {
+        Ok(value) => finished(value),
+        Err(fault) => Err(fault),
+    }
+}
+
+/// What a text gives as a template, or its first fault, with the limits of `eval`.
+#[tactic(auto, unfolding(crate::specs::Scoped::rendered_of))]
+pub fn render_text(alloc: Global, words: &str, scope: &Scope) -> Result<Val, EvalFault>
+    ensures value { IfOk result (λ v. rendered_of scope.now (text words.now) ≡ Ok v) }
+    ensures fault { IfErr result (λ e. e ≢ fault.Memory → rendered_of scope.now (text words.now) ≡ Err e) }
+{
+    match templated(alloc, scope, MAX_LOOK_UPS, words) {
         Ok(value) => finished(value),
         Err(fault) => Err(fault),
     }

@@ -194,7 +194,12 @@ fn read(alloc: Global, scope: &Scope, levels: u32, name: &str) -> Result<Val, Ev
 /// A value with its texts rendered.
 #[cycle(reading)]
 #[inline(never)]
-fn rendered(alloc: Global, scope: &Scope, levels: u32, stored: &Val) -> Result<Val, EvalFault>
+pub(crate) fn rendered(
+    alloc: Global,
+    scope: &Scope,
+    levels: u32,
+    stored: &Val,
+) -> Result<Val, EvalFault>
     ensures value { IfOk result (λ v. rendered (names_in scope.now levels) stored.now ≡ Ok v) }
     ensures fault { IfErr result (λ e. e ≢ fault.Memory → rendered (names_in scope.now levels) stored.now ≡ Err e) }
 {
@@ -209,7 +214,12 @@ fn rendered(alloc: Global, scope: &Scope, levels: u32, stored: &Val) -> Result<V
 /// What a text gives, if it is a template.
 #[cycle(reading)]
 #[inline(never)]
-fn templated(alloc: Global, scope: &Scope, levels: u32, text: &str) -> Result<Val, EvalFault>
+pub(crate) fn templated(
+    alloc: Global,
+    scope: &Scope,
+    levels: u32,
+    text: &str,
+) -> Result<Val, EvalFault>
     ensures value { IfOk result (λ v. templated (names_in scope.now levels) (template_of text.now) ≡ Ok v) }
     ensures fault { IfErr result (λ e. e ≢ fault.Memory → templated (names_in scope.now levels) (template_of text.now) ≡ Err e) }
 {

@@ -1,5 +1,5 @@
 -- Worked examples: each is proved by computing both sides.
-use Rattle.std.specs.Prelude.{◌≡◌, ℕ, pos, true, false, [], ◌∷◌, Some, None, codes, refl}
+use Rattle.std.specs.Prelude.{◌≡◌, ℕ, pos, true, false, [], ◌∷◌, ◌++◌, Some, None, codes, refl}
 use Rattle.pb_value.specs.Datum.{int}
 use Rattle.pb_layers.specs.Scope.{Map, layers, scope, value_of, layer_of, has_templates}
 
@@ -33,6 +33,13 @@ loop_variable_wins = refl
 
 magic_wins : layer_of (codes "x") (scope (layers (x 1) [] [] [] [] [] [] [] [] [] (x 11)) (x 12) []) ≡ Some 12
 magic_wins = refl
+
+-- of the magic variables those of the host, then those of the play
+magic_of_host_wins : value_of (codes "x") (scope [] (x 1 ++ x 2 ++ x 3) []) ≡ Some (int (pos 1))
+magic_of_host_wins = refl
+
+magic_of_play_wins : value_of (codes "x") (scope [] ([] ++ x 2 ++ x 3) []) ≡ Some (int (pos 2))
+magic_of_play_wins = refl
 
 nowhere : layer_of (codes "y") (scope (layers (x 1) [] [] [] [] [] [] [] [] [] (x 11)) (x 12) []) ≡ None
 nowhere = refl

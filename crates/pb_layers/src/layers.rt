@@ -1,4 +1,7 @@
-use pb_value::val::Dict;
+ghost use Rattle.std.specs.Prelude.{◌≡◌, option_copied};
+ghost use Rattle.pb_value.specs.Datum.{value_at};
+
+use pb_value::val::{Dict, Val};
 use std::marker::Model;
 
 /// The layers of variables that a task sees on a host, least first: where two have a name, the
@@ -42,4 +45,45 @@ impl<'a> Model for Layers<'a> {
     ghost view = { λ l. scope.layers l.role_defaults.now l.group_variables.now l.host_variables.now l.host_facts.now
         l.play_variables.now l.role_variables.now l.block_variables.now l.task_variables.now l.set_facts.now
         l.role_parameters.now l.extra_variables.now };
+}
+
+/// The magic variables, which the engine gives itself: where two maps have a name, the earlier one
+/// gives its value (Ansible's "Special variables").
+#[derive(Drop)]
+pub struct Magic<'a> {
+    /// Those of the host.
+    pub host: &'a Dict,
+    /// Those that all hosts of the play share.
+    pub play: &'a Dict,
+    /// Those that all plays share.
+    pub plan: &'a Dict,
+}
+
+impl<'a> Model for Magic<'a> {
+    ghost use Rattle.std.specs.Prelude.{◌++◌};
+    ghost use Rattle.std.specs.Coded.{codes};
+    ghost use Rattle.pb_value.specs.contracts.val.Dict as dict;
+    ghost use Rattle.pb_layers.specs.Scope as scope;
+
+    ghost Value = { scope.Map };
+
+    ghost coded = { Prim.hlevel (codes, dict.the_row.coded) };
+
+    ghost view = { λ m. m.host.now ++ m.play.now ++ m.plan.now };
+}
+
+impl<'a> Magic<'a> {
+    /// The value of a name, from the first map that has it.
+    #[tactic(auto, using(crate::proofs::Joined::value_in_three))]
+    pub fn get(&self, name: &str) -> Option<&'a Val>
+        ensures { option_copied result ≡ value_at name.now self.now }
+    {
+        if let Some(value) = self.host.get(name) {
+            return Some(value);
+        }
+        match self.play.get(name) {
+            Some(value) => Some(value),
+            None => self.plan.get(name),
+        }
+    }
 }

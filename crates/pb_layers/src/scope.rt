@@ -3,7 +3,7 @@ ghost use Rattle.std.specs.Option.{option_copied};
 ghost use Rattle.pb_layers.specs.Scope.{scope, found, value_of, layer_of, has_templates};
 ghost use Rattle.pb_layers.specs.Found.{found_in, maps_in};
 
-use crate::layers::Layers;
+use crate::layers::{Layers, Magic};
 use pb_value::val::{Dict, Val};
 use std::marker::Model;
 
@@ -12,7 +12,7 @@ use std::marker::Model;
 #[derive(Drop)]
 pub struct Scope<'a> {
     layers: &'a Layers<'a>,
-    magic: &'a Dict,
+    magic: &'a Magic<'a>,
     loop_variable: &'a Dict,
 }
 
@@ -39,7 +39,7 @@ pub struct Found<'a> {
 impl<'a> Scope<'a> {
     /// The layers with the magic variables and the loop variable above them; without a loop the
     /// last map is empty.
-    pub fn new(layers: &'a Layers<'a>, magic: &'a Dict, loop_variable: &'a Dict) -> Scope<'a>
+    pub fn new(layers: &'a Layers<'a>, magic: &'a Magic<'a>, loop_variable: &'a Dict) -> Scope<'a>
         ensures { result ≡ scope layers.now magic.now loop_variable.now }
     {
         Scope {
@@ -56,8 +56,6 @@ impl<'a> Scope<'a> {
     {
         let layers = self.layers;
         let maps = [
-            self.loop_variable,
-            self.magic,
             layers.extra_variables,
             layers.role_parameters,
             layers.set_facts,
@@ -70,7 +68,13 @@ impl<'a> Scope<'a> {
             layers.group_variables,
             layers.role_defaults,
         ];
-        find_in(&maps, name)
+        if let Some(value) = self.loop_variable.get(name) {
+            return Some(Found { layer: 13, value });
+        }
+        match self.magic.get(name) {
+            Some(value) => Some(Found { layer: 12, value }),
+            None => find_in(&maps, name),
+        }
     }
 
     /// The stored value of a name.
