@@ -1,7 +1,7 @@
 -- The results of items that are decided when their task starts, without a job.
 -- See Ansible's documentation of `ansible.builtin.debug` and `ansible.builtin.fail`.
 use Rattle.std.specs.Prelude.{ℕ, Bool, true, false, List, [], ◌∷◌, codes}
-use Rattle.pb_value.specs.Datum.{Datum, boolean, text, dict, members_of}
+use Rattle.pb_value.specs.Datum.{Datum, boolean, text, dict, members_of, put}
 use Rattle.pb_outcome.specs.declared.gather.Ending.TheVariants.{Faulty, Ran}
 use Rattle.pb_outcome.specs.declared.gather.ItemResult.{ItemResult}
 
@@ -20,3 +20,7 @@ debug_result msg = record { ending = Ran false false; result = said false msg }
 -- an item of `fail`
 abbrev pub fail_result : Datum → ItemResult
 fail_result msg = record { ending = Ran false true; result = said true msg }
+
+-- an item of `debug` that shows a value under a name: where the name is `changed` or `failed`, the result's own wins
+abbrev pub shown_result : List ℕ → Datum → ItemResult
+shown_result name v = record { ending = Ran false false; result = dict (members_of (put (codes "failed") (boolean false) (put (codes "changed") (boolean false) ((name, v) ∷ [])))) }

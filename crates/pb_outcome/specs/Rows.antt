@@ -1,7 +1,8 @@
 -- Worked examples: each is proved by computing both sides.
-use Rattle.std.specs.Prelude.{◌≡◌, true, false, [], ◌∷◌, Ok, Err, codes, refl}
+use Rattle.std.specs.Prelude.{◌≡◌, pos, true, false, [], ◌∷◌, Ok, Err, codes, refl}
 use Rattle.serde_json.specs.Data as json
-use Rattle.pb_value.specs.Datum.{null}
+use Rattle.pb_value.specs.Datum.{null, boolean, int, dict, members_of}
+use Rattle.pb_outcome.specs.Decided.{shown_result}
 use Rattle.pb_outcome.specs.Gathered.{gathered}
 use Rattle.pb_outcome.specs.Output.{stripped, lines_of}
 use Rattle.pb_outcome.specs.Reading.{outcome_of}
@@ -54,3 +55,13 @@ faulty_not_ignored = refl
 -- a loop over an empty list is skipped
 no_items_skipped : gathered false [] ≡ record { unreachable = false; failed = false; skipped = true; changed = false; ignored = false }
 no_items_skipped = refl
+
+-- a value that is shown stands in the order of names, and doesn't hide that nothing changed
+shown_first : (shown_result (codes "a") (int (pos 1))).result ≡ dict (members_of ((codes "a", int (pos 1)) ∷ (codes "changed", boolean false) ∷ (codes "failed", boolean false) ∷ []))
+shown_first = refl
+
+shown_last : (shown_result (codes "x") (int (pos 1))).result ≡ dict (members_of ((codes "changed", boolean false) ∷ (codes "failed", boolean false) ∷ (codes "x", int (pos 1)) ∷ []))
+shown_last = refl
+
+own_changed_wins : shown_result (codes "changed") (boolean true) ≡ record { ending = ending.Ran false false; result = dict (members_of ((codes "changed", boolean false) ∷ (codes "failed", boolean false) ∷ [])) }
+own_changed_wins = refl

@@ -1,5 +1,5 @@
 ghost use Rattle.std.specs.Prelude.{◌≡◌, IfOk};
-ghost use Rattle.pb_outcome.specs.Decided.{said, faulty_result, debug_result, fail_result};
+ghost use Rattle.pb_outcome.specs.Decided.{said, faulty_result, debug_result, shown_result, fail_result};
 
 use crate::gather::{Ending, ItemResult};
 use crate::judge::put_value;
@@ -39,6 +39,24 @@ pub fn debug_result(alloc: Global, msg: &Val) -> Result<ItemResult, AllocError>
             failed: false,
         },
         result: said(alloc, false, msg)?,
+    })
+}
+
+/// The result of an item of `debug` that shows a value under a name, as `var` does: where the name is `changed` or
+/// `failed`, the result's own wins. See Ansible's documentation of `ansible.builtin.debug`.
+pub fn shown_result(alloc: Global, name: &str, value: &Val) -> Result<ItemResult, AllocError>
+    ensures { IfOk result (λ r. r ≡ shown_result name.now value.now) }
+{
+    let mut members = Dict::new(alloc);
+    put_value(alloc, &mut members, name, value.try_clone(alloc)?)?;
+    put_value(alloc, &mut members, "changed", Val::boolean(false))?;
+    put_value(alloc, &mut members, "failed", Val::boolean(false))?;
+    Ok(ItemResult {
+        ending: Ending::Ran {
+            changed: false,
+            failed: false,
+        },
+        result: Val::dict(members),
     })
 }
 
