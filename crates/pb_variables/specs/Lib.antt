@@ -1,0 +1,3 @@
+pub mod Extra
+pub mod Magic
+pub mod Rows

@@ -1,0 +1,80 @@
+-- Worked examples: each is proved by computing both sides.
+use Rattle.std.specs.Prelude.{◌≡◌, refl, ℕ, pos, true, false, List, [], ◌∷◌, Ok, Err, codes}
+use Rattle.serde_json.specs.Data as json
+use Rattle.pb_value.specs.Datum.{Datum, int, text, list, dict, items_of, members_of}
+use Rattle.pb_value.specs.FromJson.{value_of}
+use Rattle.pb_groups.specs.Members.{own_of as own}
+use Rattle.pb_groups.specs.Ways.{link}
+use Rattle.pb_inventory.specs.InventoryOf.{InventoryOf}
+use Rattle.pb_variables.specs.Extra.{variables_in}
+use Rattle.pb_variables.specs.Magic.{plan_magic, play_magic, host_magic}
+use Rattle.pb_variables.specs.declared.fault.ExtraFault.TheVariants.{WrongShape}
+
+-- {"_x":"{{","y2":1}: a text is kept as it stands
+pub texts_stay : variables_in (json.object (json.member (codes "_x") (json.string (codes "{{")) (json.member (codes "y2") (json.number (json.unsigned 1)) json.no_members)))
+    ≡ Ok ((codes "_x", text (codes "{{")) ∷ (codes "y2", int (pos 1)) ∷ [])
+unfolding value_of
+texts_stay = refl
+
+-- {"1x":18446744073709551615,"y":1}: the key is looked at before its value
+pub no_name : variables_in (json.object (json.member (codes "1x") (json.number (json.unsigned 18446744073709551615)) (json.member (codes "y") (json.number (json.unsigned 1)) json.no_members)))
+    ≡ Err (WrongShape (codes "1x"))
+no_name = refl
+
+-- {"x":18446744073709551615,"y-z":1}: the first fault counts
+pub no_value : variables_in (json.object (json.member (codes "x") (json.number (json.unsigned 18446744073709551615)) (json.member (codes "y-z") (json.number (json.unsigned 1)) json.no_members)))
+    ≡ Err (WrongShape (codes "x"))
+unfolding value_of
+no_value = refl
+
+-- []
+pub no_object : variables_in (json.array json.no_items) ≡ Err (WrongShape [])
+no_object = refl
+
+-- hosts b and a, of which a is in `web`; `web` has x 1 and y 1, and a has y 2
+abbrev pub two_hosts : InventoryOf
+two_hosts = record {
+  hosts = codes "b" ∷ codes "a" ∷ [];
+  groups = codes "all" ∷ codes "ungrouped" ∷ codes "web" ∷ [];
+  own = own 2 1 ∷ own 0 0 ∷ own 0 1 ∷ own 1 0 ∷ [];
+  links = link 0 1 ∷ link 0 2 ∷ [];
+  group_vars =
+      (codes "web", record { priority = pos 1; vars = record { name = codes "x"; value = int (pos 1) } ∷ record { name = codes "y"; value = int (pos 1) } ∷ [] }) ∷ [];
+  host_vars = (codes "a", (codes "y", int (pos 2)) ∷ []) ∷ [];
+}
+
+abbrev pub row : List Datum → Datum
+row values = list (items_of values)
+
+abbrev pub map_of : List (List ℕ × Datum) → Datum
+map_of entries = dict (members_of entries)
+
+-- the extra variable x 3 is over the group's, on each host; names stand in byte order, and hosts of a group in the order of their numbers
+pub magic_of_plan : plan_magic two_hosts ((codes "x", int (pos 3)) ∷ [])
+    ≡ (
+      codes "groups",
+      map_of (
+          (codes "all", row (text (codes "b") ∷ text (codes "a") ∷ []))
+          ∷ (codes "ungrouped", row (text (codes "b") ∷ []))
+          ∷ (codes "web", row (text (codes "a") ∷ []))
+          ∷ []),
+    )
+    ∷ (
+      codes "hostvars",
+      map_of (
+          (codes "a", map_of ((codes "x", int (pos 3)) ∷ (codes "y", int (pos 2)) ∷ []))
+          ∷ (codes "b", map_of ((codes "x", int (pos 3)) ∷ []))
+          ∷ []),
+    )
+    ∷ []
+unfolding plan_magic
+magic_of_plan = refl
+
+pub magic_of_play : play_magic two_hosts (true ∷ false ∷ []) ≡ (codes "ansible_play_hosts_all", row (text (codes "b") ∷ [])) ∷ []
+unfolding play_magic
+magic_of_play = refl
+
+-- `ungrouped` is a group like another, and `all` isn't listed
+pub magic_of_host : host_magic two_hosts 0 ≡ (codes "group_names", row (text (codes "ungrouped") ∷ [])) ∷ (codes "inventory_hostname", text (codes "b")) ∷ []
+unfolding host_magic
+magic_of_host = refl

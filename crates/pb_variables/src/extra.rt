@@ -1,0 +1,62 @@
+ghost use Rattle.std.specs.Prelude.{◌≡◌, ◌≢◌, IfOk, IfErr, Ok, Err};
+ghost use Rattle.serde_json.specs.View.{view};
+ghost use Rattle.pb_variables.specs.Extra.{value_under, variables_in, extra_of};
+
+use crate::fault::{ExtraFault, wrong_shape};
+use pb_value::fault::ValFault;
+use pb_value::read_json::{JsonFault, read_json};
+use pb_value::text::Text;
+use pb_value::val::{Dict, Val};
+use pb_value::words::is_name;
+use serde_json::Value;
+use std::alloc::Global;
+
+/// The extra variables that the bytes of a file spell, or the first fault in them: a JSON object
+/// whose keys are names of variables, with values that nest at most 64 deep. The keys are looked at
+/// in byte order, each before its value. Texts are kept as they stand: whether they are templates is
+/// looked at when they are read.
+#[tactic(auto, unfolding(crate::specs::Extra::extra_of))]
+pub fn read_extra(alloc: Global, bytes: &[u8]) -> Result<Dict, ExtraFault>
+    ensures value { IfOk result (λ extra. extra_of bytes.now ≡ Ok extra) }
+    ensures fault { IfErr result (λ e. e ≢ ExtraFault.Memory → extra_of bytes.now ≡ Err e) }
+{
+    match read_json(alloc, bytes) {
+        Ok(json) => read_variables(alloc, &json),
+        Err(JsonFault::NotJson) => Err(ExtraFault::NotJson),
+        Err(JsonFault::Memory) => Err(ExtraFault::Memory),
+    }
+}
+
+fn read_variables(alloc: Global, json: &Value) -> Result<Dict, ExtraFault>
+    ensures value { IfOk result (λ extra. variables_in (view json.now) ≡ Ok extra) }
+    ensures fault { IfErr result (λ e. e ≢ ExtraFault.Memory → variables_in (view json.now) ≡ Err e) }
+{
+    match json {
+        Value::Object(members) => {
+            let mut known = Dict::new(alloc);
+            for (key, member) in members.iter() {
+                let value = read_value(alloc, key.as_str(), member)?;
+                known.insert(key.clone()?, value)?;
+            }
+            Ok(known)
+        }
+        _ => Err(ExtraFault::WrongShape {
+            path: Text::new(alloc),
+        }),
+    }
+}
+
+/// The value under a key, which has to be a name.
+fn read_value(alloc: Global, key: &str, json: &Value) -> Result<Val, ExtraFault>
+    ensures value { IfOk result (λ v. value_under key.now (view json.now) ≡ Ok v) }
+    ensures fault { IfErr result (λ e. e ≢ ExtraFault.Memory → value_under key.now (view json.now) ≡ Err e) }
+{
+    if !is_name(key) {
+        return Err(wrong_shape(alloc, key));
+    }
+    match Val::from_json(alloc, json) {
+        Ok(value) => Ok(value),
+        Err(ValFault::Memory) => Err(ExtraFault::Memory),
+        Err(_) => Err(wrong_shape(alloc, key)),
+    }
+}

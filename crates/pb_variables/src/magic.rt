@@ -1,0 +1,168 @@
+ghost use Rattle.std.specs.Prelude.{◌≡◌, ◌<◌, [], ◌∷◌, ◌++◌, length, if◌then◌else◌, IfOk, OnOk};
+ghost use Rattle.pb_planes.specs.Set.{is_in};
+ghost use Rattle.pb_value.specs.Datum.{dict, members_of, put};
+ghost use Rattle.pb_inventory.specs.Vars.{group_name, host_name, names_of_hosts};
+ghost use Rattle.pb_variables.specs.Magic.{texts, groups_map, variables_of, hostvars_map, names_in, plan_magic, play_magic, host_magic};
+
+use crate::put::{put, put_all, texts};
+use pb_ids::{GroupNo, HostNo};
+use pb_inventory::inventory::Inventory;
+use pb_planes::HostSet;
+use pb_value::items::Items;
+use pb_value::text::Text;
+use pb_value::val::{Dict, Val};
+use std::alloc::{AllocError, Global};
+
+/// The magic variables that are the same wherever a plan is run: `groups`, a dict from each group's
+/// name to the list of its hosts' names in the order of their numbers; and `hostvars`, a dict from
+/// each host's name to the dict of its variables as they are stored: those from its groups, over
+/// them its own, and over these the extra variables (Ansible's documentation, "Special variables").
+/// Each host's dict has its own copy of the extra variables. The only error is want of memory.
+#[tactic(auto, unfolding(crate::specs::Magic::plan_magic))]
+pub fn plan_magic(alloc: Global, inventory: &Inventory, extra: &Dict) -> Result<Dict, AllocError>
+    ensures { IfOk result (λ known. known ≡ plan_magic inventory.now extra.now) }
+{
+    let groups = groups_map(alloc, inventory)?;
+    let hostvars = hostvars_map(alloc, inventory, extra)?;
+    let mut known = Dict::new(alloc);
+    put(alloc, &mut known, "groups", Val::dict(groups))?;
+    put(alloc, &mut known, "hostvars", Val::dict(hostvars))?;
+    Ok(known)
+}
+
+fn groups_map(alloc: Global, inventory: &Inventory) -> Result<Dict, AllocError>
+    ensures { IfOk result (λ known. known ≡ groups_map inventory.now) }
+{
+    let mut known = Dict::new(alloc);
+    for n in 0..inventory.groups() {
+        put_group(alloc, &mut known, inventory, GroupNo(n))?;
+    }
+    Ok(known)
+}
+
+/// Puts the names of a group's hosts under the group's name.
+fn put_group(
+    alloc: Global,
+    known: &mut Dict,
+    inventory: &Inventory,
+    group: GroupNo,
+) -> Result<(), AllocError>
+    requires { group.0 < length inventory.now.groups }
+    ensures { OnOk result (known.new ≡ put (group_name inventory.now group.0) (texts (names_of_hosts inventory.now group.0)) known.old) }
+{
+    let names = inventory.host_names(alloc, group)?;
+    let value = texts(alloc, names)?;
+    put(alloc, known, inventory.group_name(group), value)
+}
+
+fn hostvars_map(alloc: Global, inventory: &Inventory, extra: &Dict) -> Result<Dict, AllocError>
+    ensures { IfOk result (λ known. known ≡ hostvars_map inventory.now extra.now) }
+{
+    let mut known = Dict::new(alloc);
+    for n in 0..inventory.hosts() {
+        put_host(alloc, &mut known, inventory, extra, HostNo(n))?;
+    }
+    Ok(known)
+}
+
+/// Puts a host's variables under the host's name.
+fn put_host(
+    alloc: Global,
+    known: &mut Dict,
+    inventory: &Inventory,
+    extra: &Dict,
+    host: HostNo,
+) -> Result<(), AllocError>
+    requires { host.0 < length inventory.now.hosts }
+    ensures { OnOk result (known.new ≡ put (host_name inventory.now host.0) (dict (members_of (variables_of inventory.now extra.now host.0))) known.old) }
+{
+    let variables = variables_of(alloc, inventory, extra, host)?;
+    put(alloc, known, inventory.name(host), Val::dict(variables))
+}
+
+/// A host's variables: those from its groups, over them its own, over these the extra variables.
+fn variables_of(
+    alloc: Global,
+    inventory: &Inventory,
+    extra: &Dict,
+    host: HostNo,
+) -> Result<Dict, AllocError>
+    requires { host.0 < length inventory.now.hosts }
+    ensures { IfOk result (λ variables. variables ≡ variables_of inventory.now extra.now host.0) }
+{
+    let mut variables = inventory.group_vars(alloc, host)?;
+    put_all(alloc, &mut variables, inventory.host_vars(host))?;
+    put_all(alloc, &mut variables, extra)?;
+    Ok(variables)
+}
+
+/// The magic variable of a play: `ansible_play_hosts_all`, the names of the play's hosts in the
+/// order of their numbers. The set says of each host of the inventory whether it is one of them.
+/// The only error is want of memory.
+#[tactic(auto, unfolding(crate::specs::Magic::play_magic))]
+pub fn play_magic(alloc: Global, inventory: &Inventory, hosts: &HostSet) -> Result<Dict, AllocError>
+    requires { length hosts.now ≡ length inventory.now.hosts }
+    ensures { IfOk result (λ known. known ≡ play_magic inventory.now hosts.now) }
+{
+    let names = names_in(alloc, inventory, hosts)?;
+    let value = texts(alloc, names)?;
+    let mut known = Dict::new(alloc);
+    put(alloc, &mut known, "ansible_play_hosts_all", value)?;
+    Ok(known)
+}
+
+fn names_in(
+    alloc: Global,
+    inventory: &Inventory,
+    hosts: &HostSet,
+) -> Result<Items<Text>, AllocError>
+    requires { length hosts.now ≡ length inventory.now.hosts }
+    ensures { IfOk result (λ names. names ≡ names_in inventory.now hosts.now) }
+{
+    let mut names = Items::new(alloc);
+    for n in 0..inventory.hosts() {
+        push_name(alloc, &mut names, inventory, hosts, HostNo(n))?;
+    }
+    Ok(names)
+}
+
+/// Pushes the name of a host that is in the set.
+fn push_name(
+    alloc: Global,
+    names: &mut Items<Text>,
+    inventory: &Inventory,
+    hosts: &HostSet,
+    host: HostNo,
+) -> Result<(), AllocError>
+    requires host { host.0 < length inventory.now.hosts }
+    requires width { length hosts.now ≡ length inventory.now.hosts }
+    ensures { OnOk result (names.new ≡ names.old ++ (if is_in hosts.now host.0 then host_name inventory.now host.0 ∷ [] else [])) }
+{
+    if is_listed(hosts, host) {
+        names.push(Text::from_str(alloc, inventory.name(host))?)?;
+    }
+    Ok(())
+}
+
+fn is_listed(hosts: &HostSet, host: HostNo) -> bool
+    requires { host.0 < length hosts.now }
+    ensures { result ≡ is_in hosts.now host.0 }
+{
+    hosts.has(host)
+}
+
+/// The magic variables of a host: `group_names`, the names of its groups, all but `all`, in byte
+/// order; and `inventory_hostname`, its own name. The only error is want of memory.
+#[tactic(auto, unfolding(crate::specs::Magic::host_magic))]
+pub fn host_magic(alloc: Global, inventory: &Inventory, host: HostNo) -> Result<Dict, AllocError>
+    requires { host.0 < length inventory.now.hosts }
+    ensures { IfOk result (λ known. known ≡ host_magic inventory.now host.0) }
+{
+    let names = inventory.group_names(alloc, host)?;
+    let groups = texts(alloc, names)?;
+    let name = Text::from_str(alloc, inventory.name(host))?;
+    let mut known = Dict::new(alloc);
+    put(alloc, &mut known, "group_names", groups)?;
+    put(alloc, &mut known, "inventory_hostname", Val::text(name))?;
+    Ok(known)
+}
