@@ -1,4 +1,4 @@
--- What the words of the command line mean: `pb-play -i FILE [-f N] [-l PATTERN] [--outcomes FILE] [--syntax-check] [--list-hosts] PLAYBOOK`,
+-- What the words of the command line mean: `pb-play -i FILE [-f N] [-l PATTERN] [-e JSON] [--outcomes FILE] [--syntax-check] [--list-hosts] PLAYBOOK`,
 -- and `--help`.
 -- clap's own definitions say how words are read; the program's arguments are stated here. std's say how a number is read.
 use Rattle.std.specs.Prelude.{◌≡◌, ◌≢◌, ◌⊎◌, ◌≤◌, ℕ, Bool, true, false, List, [], Some, None, Option, codes}
@@ -34,6 +34,10 @@ outcomes = record (new_rule (codes "outcomes")) { long = Some (codes "outcomes")
 abbrev pub limit : Rule
 limit = record (new_rule (codes "limit")) { short = Some 108; value_names = 1 }
 
+-- `-e JSON`; 101 is `e`
+abbrev pub extra : Rule
+extra = record (new_rule (codes "extra")) { short = Some 101; value_names = 1 }
+
 -- `--syntax-check`
 abbrev pub syntax_check : Rule
 syntax_check = record (new_rule (codes "syntax_check")) { long = Some (codes "syntax-check"); action = Some SetTrue }
@@ -49,7 +53,7 @@ abbrev pub run_program : App
 run_program = with_rule (with_rule file_program forks) outcomes
 
 abbrev pub limited_program : App
-limited_program = with_rule run_program limit
+limited_program = with_rule (with_rule run_program limit) extra
 
 abbrev pub program : App
 program = with_rule (with_rule limited_program syntax_check) list_hosts
@@ -98,12 +102,12 @@ IsBadForks (Help text) = ⊥
 IsBadForks (Wrong text) = Unit
 IsBadForks Memory = Unit
 
--- the words are the program's, and ask for these files, so many forks, this limit and this purpose
+-- the words are the program's, and ask for these files, so many forks, this limit, these extra variables and this purpose
 abbrev pub Asks : List Text → Request → Type 0
 Asks words request = (errors_in words ≡ [])
     × (value_in (codes "inventory") words ≡ Some request.inventory) × (value_in (codes "playbook") words ≡ Some request.playbook)
     × AreForks (value_in (codes "forks") words) request.forks × (value_in (codes "outcomes") words ≡ request.outcomes)
-    × (value_in (codes "limit") words ≡ request.limit) × (purpose_in words ≡ request.purpose)
+    × (value_in (codes "limit") words ≡ request.limit) × (value_in (codes "extra") words ≡ request.extra) × (purpose_in words ≡ request.purpose)
 
 -- what an error of that kind is told as
 abbrev pub TellsKind : ErrorKind → WordsFault → Type 0

@@ -184,6 +184,14 @@ pub fn play<R: Files + AllocGlobal, O: LineOut, E: LineOut>(
     }
 }
 
+/// What was asked for, with the bytes of the files.
+#[derive(Drop)]
+struct Asked {
+    bundle: Bundle,
+    outcomes: Option<Items<u8>>,
+    purpose: Purpose,
+}
+
 /// Reads the files that were asked for, and plays them.
 fn play_request<R: Files + AllocGlobal, O: LineOut, E: LineOut>(
     rt: &R,
@@ -192,23 +200,11 @@ fn play_request<R: Files + AllocGlobal, O: LineOut, E: LineOut>(
     err: &mut E,
 ) -> u8 {
     let alloc = rt.alloc();
-    let Request {
-        inventory,
-        playbook,
-        forks,
-        outcomes: outcomes_path,
-        limit,
-        purpose,
-    } = request;
-    let bundle = match read_bundle(rt, &inventory, &playbook, limit, forks) {
-        Ok(bundle) => bundle,
+    let asked = match read_files(rt, request) {
+        Ok(asked) => asked,
         Err(error) => return told(alloc, err, Part::File, &error),
     };
-    let outcomes = match read_outcomes(rt, &outcomes_path) {
-        Ok(outcomes) => outcomes,
-        Err(error) => return told(alloc, err, Part::File, &error),
-    };
-    if is_too_long(&outcomes) {
+    if is_too_long(&asked.outcomes) {
         return told(
             alloc,
             err,
@@ -216,7 +212,14 @@ fn play_request<R: Files + AllocGlobal, O: LineOut, E: LineOut>(
             &"the outcomes have more than 64 MiB",
         );
     }
-    match play_bundle(alloc, &bundle, purpose, &outcomes, out, err) {
+    match play_bundle(
+        alloc,
+        &asked.bundle,
+        asked.purpose,
+        &asked.outcomes,
+        out,
+        err,
+    ) {
         Ok(status) => status,
         Err(PlayFault::Run(fault)) => told(alloc, err, Part::Run, &fault),
         Err(PlayFault::Outcomes(fault)) => told(alloc, err, Part::Outcomes, &fault),
@@ -225,21 +228,31 @@ fn play_request<R: Files + AllocGlobal, O: LineOut, E: LineOut>(
 }
 
 /// The files' bytes: of each as many as the bundle has room for, and one more where there are more.
-fn read_bundle<R: Files + AllocGlobal>(
-    rt: &R,
-    inventory: &Text,
-    playbook: &Text,
-    limit: Option<Text>,
-    forks: u32,
-) -> io::Result<Bundle> {
+fn read_files<R: Files + AllocGlobal>(rt: &R, request: Request) -> io::Result<Asked> {
+    let Request {
+        inventory,
+        playbook,
+        forks,
+        outcomes,
+        limit,
+        extra,
+        purpose,
+    } = request;
     let inventory = read_file(rt, inventory.as_str(), MAX_BYTES)?;
     let left = MAX_BYTES.saturating_sub(inventory.len());
     let playbook = read_file(rt, playbook.as_str(), left)?;
-    Ok(Bundle {
+    let outcomes = read_outcomes(rt, &outcomes)?;
+    let bundle = Bundle {
         inventory: Items::from_vec(inventory),
         playbook: Items::from_vec(playbook),
         limit,
+        extra,
         forks,
+    };
+    Ok(Asked {
+        bundle,
+        outcomes,
+        purpose,
     })
 }
 
@@ -271,6 +284,7 @@ fn told_bundle<E: LineOut>(alloc: Global, err: &mut E, fault: &BundleFault) -> u
 {
     match fault {
         BundleFault::Inventory(fault) => told(alloc, err, Part::Inventory, fault),
+        BundleFault::Extra(fault) => told(alloc, err, Part::Extra, fault),
         BundleFault::Playbook(fault) => told(alloc, err, Part::Playbook, fault),
         BundleFault::Limit(fault) => told(alloc, err, Part::Limit, fault),
         BundleFault::Roles(fault) => told(alloc, err, Part::Roles, fault),

@@ -21,6 +21,8 @@ pub struct Request {
     pub outcomes: Option<Text>,
     /// The pattern of the hosts that the plays are limited to, if one is given.
     pub limit: Option<Text>,
+    /// The extra variables, an object in JSON, if some are given.
+    pub extra: Option<Text>,
     /// What is to be done with the plan.
     pub purpose: Purpose,
 }
@@ -91,7 +93,7 @@ fn run_words<'a>(alloc: Global) -> Result<Command<'a>, AllocError>
     file_words(alloc)?.arg(forks)?.arg(outcomes)
 }
 
-/// The program with its files, what a run takes, and the limit.
+/// The program with its files, what a run takes, the limit and the extra variables.
 fn limited_words<'a>(alloc: Global) -> Result<Command<'a>, AllocError>
     ensures { IfOk result (λ c. app_of c ≡ limited_program) }
 {
@@ -99,7 +101,11 @@ fn limited_words<'a>(alloc: Global) -> Result<Command<'a>, AllocError>
         .short('l')
         .value_name("PATTERN")
         .help("The hosts that the plays are limited to");
-    run_words(alloc)?.arg(limit)
+    let extra = Arg::new(alloc, "extra")
+        .short('e')
+        .value_name("JSON")
+        .help("Variables over all others, a JSON object");
+    run_words(alloc)?.arg(limit)?.arg(extra)
 }
 
 fn command<'a>(alloc: Global) -> Result<Command<'a>, AllocError>
@@ -227,12 +233,14 @@ pub fn read_words(alloc: Global, words: &[String]) -> Result<Request, WordsFault
             };
             let outcomes = text_in(alloc, &matches, "outcomes")?;
             let limit = text_in(alloc, &matches, "limit")?;
+            let extra = text_in(alloc, &matches, "extra")?;
             Ok(Request {
                 inventory: Text::from_str(alloc, inventory)?,
                 playbook: Text::from_str(alloc, playbook)?,
                 forks,
                 outcomes,
                 limit,
+                extra,
                 purpose: purpose_in(&matches),
             })
         }

@@ -14,8 +14,8 @@ use Rattle.pb_outcome.specs.declared.job.Report.{Report}
 use Rattle.pb_outcome.specs.declared.outcome.Form.{Form}
 use Rattle.pb_state.specs.declared.event.Event.{Event}
 use Rattle.pb_state.specs.declared.event.Event.TheVariants.{Open, Start, Send, Report as Reported, Turn, Close, Stop, Forks}
-use Rattle.pb_state.specs.declared.planned.Planned.{Planned}
-use Rattle.pb_state.specs.declared.planned.Planned.TheVariants.{Decided, Sends}
+use Rattle.pb_items.specs.declared.planned.Planned.{Planned}
+use Rattle.pb_items.specs.declared.planned.Planned.TheVariants.{Decided, Sends}
 use Rattle.pb_state.specs.declared.row.Running.{Running}
 use Rattle.pb_state.specs.Plan.{PlayOf, PlanOf}
 use Rattle.pb_state.specs.Row.{HostRow, first_row, started, sent, sent_running, reported, left}
@@ -123,24 +123,24 @@ place_at tree p [] h e = cc
 place_at tree p (row ∷ rows) zero e = next_below tree row p (is_in row) (same_is (next_place tree row) (Some p) (and_right _ _ e))
 place_at tree p (row ∷ rows) (suc h) e = place_at tree p rows h e
 
-start_open : (plan : PlanOf) (s : State) (h : ℕ) (play : PlayOf) (place : Option ℕ) → open_play plan (option_map_or (start_at s h play) place s) ≡ open_play plan s
+start_open : (plan : PlanOf) (s : State) (h : ℕ) (play : PlayOf) (place : Option ℕ) → open_play plan (option_map_or (start_at plan s h play) place s) ≡ open_play plan s
 start_open plan s h play None = refl
 start_open plan s h play (Some p) = refl
 
-start_tasks : (s : State) (h : ℕ) (play : PlayOf) (place : Option ℕ) → AreHeld (size_of play.tree) s.sends s.rows → at_row (stands_at play.tree place) s.rows h ≡ true → AreHeld (size_of play.tree) (option_map_or (start_at s h play) place s).sends (option_map_or (start_at s h play) place s).rows
-start_tasks s h play None held e = held
-start_tasks s h play (Some p) held e =
-    held_change (size_of play.tree) s.sends (started play.tree p (planned_at play.tasks p)) (λ row held. started_held play.tree p (size_of play.tree) s.sends (planned_at play.tasks p) row (place_at play.tree p s.rows h e)) s.rows h held
+start_tasks : (plan : PlanOf) (s : State) (h : ℕ) (play : PlayOf) (place : Option ℕ) → AreHeld (size_of play.tree) s.sends s.rows → at_row (stands_at play.tree place) s.rows h ≡ true → AreHeld (size_of play.tree) (option_map_or (start_at plan s h play) place s).sends (option_map_or (start_at plan s h play) place s).rows
+start_tasks plan s h play None held e = held
+start_tasks plan s h play (Some p) held e =
+    held_change (size_of play.tree) s.sends (started play.tree p (planned_at plan play h p)) (λ row held. started_held play.tree p (size_of play.tree) s.sends (planned_at plan play h p) row (place_at play.tree p s.rows h e)) s.rows h held
 
-start_hosts : (s : State) (h : ℕ) (play : PlayOf) (place : Option ℕ) → length (option_map_or (start_at s h play) place s).rows ≡ length s.rows
-start_hosts s h play None = refl
-start_hosts s h play (Some p) = length-change s.rows h _
+start_hosts : (plan : PlanOf) (s : State) (h : ℕ) (play : PlayOf) (place : Option ℕ) → length (option_map_or (start_at plan s h play) place s).rows ≡ length s.rows
+start_hosts plan s h play None = refl
+start_hosts plan s h play (Some p) = length-change s.rows h _
 
-started_in_held : (plan : PlanOf) (s : State) (h : ℕ) (found : Option PlayOf) → open_play plan s ≡ found → IsHeld plan s → option_map_or (may_start_in s h) found false ≡ true → IsHeld plan (option_map_or (started_in s h) found s)
+started_in_held : (plan : PlanOf) (s : State) (h : ℕ) (found : Option PlayOf) → open_play plan s ≡ found → IsHeld plan s → option_map_or (may_start_in s h) found false ≡ true → IsHeld plan (option_map_or (started_in plan s h) found s)
 started_in_held plan s h None o held e = held
 started_in_held plan s h (Some play) o held e = record {
-  hosts = start_hosts s h play s.place ∙ held.hosts;
-  tasks = rw (start_open plan s h play s.place, o) (start_tasks s h play s.place (rw o at held.tasks) (and_right (has_room s) _ e));
+  hosts = start_hosts plan s h play s.place ∙ held.hosts;
+  tasks = rw (start_open plan s h play s.place, o) (start_tasks plan s h play s.place (rw o at held.tasks) (and_right (has_room s) _ e));
 }
 
 -- a send

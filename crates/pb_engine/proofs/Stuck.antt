@@ -70,11 +70,11 @@ next_placed : (plan : PlanOf) (s : State) (next : Option ℕ) → IsPlaced plan 
 next_placed plan s None placed = placed
 next_placed plan s (Some n) placed = opened_placed plan s n (slice_get plan.plays n) refl placed
 
-start_placed : (plan : PlanOf) (s : State) (h : ℕ) (play : PlayOf) (place : Option ℕ) → s.place ≡ place → open_play plan s ≡ Some play → IsPlaced plan s → IsPlaced plan (option_map_or (start_at s h play) place s)
+start_placed : (plan : PlanOf) (s : State) (h : ℕ) (play : PlayOf) (place : Option ℕ) → s.place ≡ place → open_play plan s ≡ Some play → IsPlaced plan s → IsPlaced plan (option_map_or (start_at plan s h play) place s)
 start_placed plan s h play None e here placed = placed
 start_placed plan s h play (Some p) e here placed = rw here (λ none. let absent : Some p ≡ None = sym e ∙ none in cc)
 
-started_placed : (plan : PlanOf) (s : State) (h : ℕ) (found : Option PlayOf) → open_play plan s ≡ found → IsPlaced plan s → IsPlaced plan (option_map_or (started_in s h) found s)
+started_placed : (plan : PlanOf) (s : State) (h : ℕ) (found : Option PlayOf) → open_play plan s ≡ found → IsPlaced plan s → IsPlaced plan (option_map_or (started_in plan s h) found s)
 started_placed plan s h None here placed = placed
 started_placed plan s h (Some play) here placed = start_placed plan s h play s.place refl here placed
 

@@ -12,7 +12,8 @@ use Rattle.pb_state.specs.declared.event.Event.{Event}
 use Rattle.pb_state.specs.declared.event.Event.TheVariants.{Open, Start, Send, Report as Reported, Turn, Close, Stop, Forks}
 use Rattle.pb_state.specs.Bundle.{tree_for}
 use Rattle.pb_state.specs.Machine.{first_state}
-use Rattle.pb_state.specs.Plan.{PlayOf, PlanOf}
+use Rattle.pb_state.specs.Plan.{PlayOf, PlanOf, bare_play, bare_plan}
+use Rattle.pb_state.specs.Results.{on_tasks}
 use Rattle.pb_state.specs.Run.{state_from}
 use Rattle.pb_state.specs.State.{State}
 use Rattle.pb_events.specs.Line.{line}
@@ -20,17 +21,13 @@ use Rattle.pb_events.specs.Lines.{start_line, lines_of, result_line}
 
 -- what computes a row
 unfoldable on_literals : ⊤
-unfolding line digits serde_json_on_literals
+unfolding line digits serde_json_on_literals on_tasks
 on_literals = tt
 
 abbrev one_task : Module → PlanOf
 one_task called =
-    record {
-      hosts = codes "a" ∷ codes "b" ∷ [];
-      plays = record { name = codes "all"; tree = tree_for 0 1 0; tasks = record { name = codes "hi"; «module» = called } ∷ []; hosts = true ∷ true ∷ [] } ∷ [];
-      forks = 5;
-      warnings = [];
-    }
+    bare_plan (codes "a" ∷ codes "b" ∷ [])
+    (bare_play (codes "all") (tree_for 0 1 0) (record { name = codes "hi"; vars = []; «module» = called } ∷ []) (true ∷ true ∷ []) ∷ [])
 
 abbrev two_hosts : PlanOf
 two_hosts = one_task (Debug (text (codes "hello")))
@@ -132,16 +129,12 @@ has_other_forks = refl
 
 -- three plays for two hosts: the first has both, the second none, and the third the second host
 abbrev with_hosts : List ℕ → List Bool → PlayOf
-with_hosts name hosts = record { name = name; tree = tree_for 0 1 0; tasks = record { name = codes "hi"; «module» = Debug (text (codes "hello")) } ∷ []; hosts = hosts }
+with_hosts name hosts = bare_play name (tree_for 0 1 0) (record { name = codes "hi"; vars = []; «module» = Debug (text (codes "hello")) } ∷ []) hosts
 
 abbrev three_plays : PlanOf
 three_plays =
-    record {
-      hosts = codes "a" ∷ codes "b" ∷ [];
-      plays = with_hosts (codes "all") (true ∷ true ∷ []) ∷ with_hosts (codes "none") (false ∷ false ∷ []) ∷ with_hosts (codes "b") (false ∷ true ∷ []) ∷ [];
-      forks = 5;
-      warnings = [];
-    }
+    bare_plan (codes "a" ∷ codes "b" ∷ [])
+    (with_hosts (codes "all") (true ∷ true ∷ []) ∷ with_hosts (codes "none") (false ∷ false ∷ []) ∷ with_hosts (codes "b") (false ∷ true ∷ []) ∷ [])
 
 abbrev to_the_third : List Event
 to_the_third = Open ∷ first ∷ second ∷ Turn ∷ Close ∷ Open ∷ []

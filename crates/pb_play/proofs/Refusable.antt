@@ -52,6 +52,7 @@ key_refusable key.Name path name d draft = same_refusable _
 key_refusable key.PostTasks path name d draft = same_refusable _
 key_refusable key.PreTasks path name d draft = same_refusable _
 key_refusable key.Tasks path name d draft = same_refusable _
+key_refusable key.Vars path name d draft = same_refusable _
 key_refusable key.Other path name d draft = same_refusable _
 
 keys_refusable : (path : List ℕ) (ms : json.Members) (draft : PlayDraft) → Refusable (λ refused. play_keys refused path ms draft)

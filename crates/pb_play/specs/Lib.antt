@@ -1,7 +1,7 @@
 pub mod Commands
+pub mod Debug
 pub mod Faults
 pub mod Hosts
-pub mod Marks
 pub mod Messages
 pub mod Modules
 pub mod NoEffect
@@ -10,3 +10,5 @@ pub mod Plays
 pub mod Rows
 pub mod Simple
 pub mod Tasks
+pub mod Templates
+pub mod Variables

@@ -5,10 +5,11 @@ use Rattle.std.specs.Str.{bytes_eq}
 use Rattle.serde_json.specs.Data as json
 use Rattle.pb_value.specs.Reading.{map_ok}
 use Rattle.pb_play.specs.Commands.{command, shell}
+use Rattle.pb_play.specs.Debug.{debug}
 use Rattle.pb_play.specs.Messages.{message}
 use Rattle.pb_play.specs.declared.fault.LoadFault.{LoadFault}
 use Rattle.pb_play.specs.declared.modules.Module.{Module}
-use Rattle.pb_play.specs.declared.modules.Module.TheVariants.{Command, Debug, Fail, Shell}
+use Rattle.pb_play.specs.declared.modules.Module.TheVariants.{Command, Debug, DebugVar, Fail, Shell}
 use Rattle.pb_play.specs.declared.modules.ModuleKey.{ModuleKey}
 use Rattle.pb_play.specs.declared.modules.ModuleKey.TheVariants as key
 
@@ -24,17 +25,14 @@ module_key k =
     else (if names k (codes "fail") then Some key.Fail
     else (if names k (codes "shell") then Some key.Shell else None)))
 
--- what `debug` and `fail` show where nothing is said
-abbrev pub hello : List ℕ
-hello = codes "Hello world!"
-
+-- what `fail` shows where nothing is said
 abbrev pub failed_as_requested : List ℕ
 failed_as_requested = codes "Failed as requested from task"
 
 -- the module with the arguments that stand at its key
 abbrev pub module_of : ModuleKey → List ℕ → json.Data → Result Module LoadFault
 module_of key.Command path d = map_ok Command (command path d)
-module_of key.Debug path d = map_ok Debug (message path hello d)
+module_of key.Debug path d = debug path d
 module_of key.Fail path d = map_ok Fail (message path failed_as_requested d)
 module_of key.Shell path d = map_ok Shell (shell path d)
 
@@ -42,5 +40,6 @@ module_of key.Shell path d = map_ok Shell (shell path d)
 abbrev pub module_name : Module → List ℕ
 module_name (Command words) = codes "command"
 module_name (Debug msg) = codes "debug"
+module_name (DebugVar s t) = codes "debug"
 module_name (Fail msg) = codes "fail"
 module_name (Shell cmd) = codes "shell"

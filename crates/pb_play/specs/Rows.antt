@@ -5,7 +5,10 @@ use Rattle.std.specs.Str.{chars, is_utf8}
 use Rattle.std.specs.Str.Lossy.{utf8_valid_len}
 use Rattle.serde_json.proofs.OnLiterals.{serde_json_on_literals}
 use Rattle.pb_value.specs.Bytes.{json_in}
-use Rattle.pb_value.specs.Datum.{null, int, text}
+use Rattle.pb_expr_syntax.specs.Computed.{tree_of, tree_of_tokens}
+use Rattle.pb_expr_syntax.specs.Tree.{Name}
+use Rattle.pb_template.specs.Computed.{template_of}
+use Rattle.pb_value.specs.Datum.{null, int, text, dict, no_members, member}
 use Rattle.pb_value.specs.FromJson.{value_of}
 use Rattle.pb_patterns.specs.Reading.{pattern_of, all_taken}
 use Rattle.pb_patterns.specs.declared.element.Element.{Element}
@@ -14,13 +17,14 @@ use Rattle.pb_patterns.specs.declared.element.Subscript.TheVariants.{At}
 use Rattle.pb_patterns.specs.declared.element.What.TheVariants.{Term, Regex}
 use Rattle.pb_play.specs.Playbooks.{playbook_of}
 use Rattle.pb_play.specs.Plays.{play}
+use Rattle.pb_play.specs.Templates.{is_template}
 use Rattle.pb_play.specs.declared.fault.LoadFault.TheVariants.{NotJson, WrongShape, NotInProfile, NoModule, TwoModules, BadExpression, BadPattern}
 use Rattle.pb_play.specs.declared.commands.CommandWords.TheVariants.{Line, Argv}
-use Rattle.pb_play.specs.declared.modules.Module.TheVariants.{Command, Debug, Fail, Shell}
+use Rattle.pb_play.specs.declared.modules.Module.TheVariants.{Command, Debug, DebugVar, Fail, Shell}
 
 -- what computes a row from its text
 unfoldable on_literals : ⊤
-unfolding playbook_of play pattern_of json_in utf8_valid_len is_utf8 chars digits value_of serde_json_on_literals
+unfolding playbook_of play pattern_of is_template template_of tree_of tree_of_tokens json_in utf8_valid_len is_utf8 chars digits value_of serde_json_on_literals
 on_literals = tt
 
 -- the elements of the pattern `all`
@@ -28,13 +32,13 @@ abbrev all_hosts : List Element
 all_hosts = record { text = codes "all"; mark = Unmarked; what = Term (codes "all") None } ∷ []
 
 hello : playbook_of all_taken (codes "[{\"hosts\":\"all\",\"gather_facts\":false,\"tasks\":[{\"name\":\"hi\",\"debug\":{\"msg\":\"hello\"}}]}]")
-    ≡ Ok (record { plays = record { name = codes "all"; hosts = all_hosts; pre_tasks = []; tasks = record { name = codes "hi"; «module» = Debug (text (codes "hello")) } ∷ []; post_tasks = [] } ∷ [] })
+    ≡ Ok (record { plays = record { name = codes "all"; hosts = all_hosts; vars = []; pre_tasks = []; tasks = record { name = codes "hi"; vars = []; «module» = Debug (text (codes "hello")) } ∷ []; post_tasks = [] } ∷ [] })
 unfolding on_literals
 hello = refl
 
 -- a task without a name has its module's, without the prefix; `debug` shows `Hello world!` where nothing is said
 nothing_said : playbook_of all_taken (codes "[{\"hosts\":\"all\",\"name\":\"p\",\"gather_facts\":\"No\",\"tasks\":[{\"ansible.builtin.debug\":{}}]}]")
-    ≡ Ok (record { plays = record { name = codes "p"; hosts = all_hosts; pre_tasks = []; tasks = record { name = codes "debug"; «module» = Debug (text (codes "Hello world!")) } ∷ []; post_tasks = [] } ∷ [] })
+    ≡ Ok (record { plays = record { name = codes "p"; hosts = all_hosts; vars = []; pre_tasks = []; tasks = record { name = codes "debug"; vars = []; «module» = Debug (text (codes "Hello world!")) } ∷ []; post_tasks = [] } ∷ [] })
 unfolding on_literals
 nothing_said = refl
 
@@ -56,9 +60,16 @@ no_arguments : playbook_of all_taken (codes "[{\"hosts\":\"all\",\"gather_facts\
 unfolding on_literals
 no_arguments = refl
 
-template : playbook_of all_taken (codes "[{\"hosts\":\"all\",\"gather_facts\":false,\"tasks\":[{\"debug\":{\"msg\":[\"{{ x }}\"]}}]}]") ≡ Err BadExpression
+-- a template is kept as it is written
+template : playbook_of all_taken (codes "[{\"hosts\":\"all\",\"gather_facts\":false,\"tasks\":[{\"debug\":{\"msg\":\"{{ x }}\"}}]}]")
+    ≡ Ok (record { plays = record { name = codes "all"; hosts = all_hosts; vars = []; pre_tasks = []; tasks = record { name = codes "debug"; vars = []; «module» = Debug (text (codes "{{ x }}")) } ∷ []; post_tasks = [] } ∷ [] })
 unfolding on_literals
 template = refl
+
+-- there is no such operator
+no_template : playbook_of all_taken (codes "[{\"hosts\":\"all\",\"gather_facts\":false,\"tasks\":[{\"debug\":{\"msg\":\"{{ 2 * 3 }}\"}}]}]") ≡ Err BadExpression
+unfolding on_literals
+no_template = refl
 
 no_module : playbook_of all_taken (codes "[{\"hosts\":\"all\",\"gather_facts\":false,\"tasks\":[{}]}]") ≡ Err NoModule
 unfolding on_literals
@@ -83,6 +94,7 @@ text_of_hosts : playbook_of all_taken (codes "[{\"hosts\":\" web : &db\",\"gathe
       plays = record {
         name = codes " web : &db";
         hosts = record { text = codes "web"; mark = Unmarked; what = Term (codes "web") None } ∷ record { text = codes "&db"; mark = Met; what = Term (codes "db") None } ∷ [];
+        vars = [];
         pre_tasks = [];
         tasks = [];
         post_tasks = [];
@@ -97,6 +109,7 @@ list_of_hosts : playbook_of all_taken (codes "[{\"hosts\":[\"web[0]\",\" \",\"!a
       plays = record {
         name = codes "web[0], ,!a";
         hosts = record { text = codes "web[0]"; mark = Unmarked; what = Term (codes "web") (Some (At 0)) } ∷ record { text = codes "!a"; mark = Excluded; what = Term (codes "a") None } ∷ [];
+        vars = [];
         pre_tasks = [];
         tasks = [];
         post_tasks = [];
@@ -107,7 +120,7 @@ list_of_hosts = refl
 
 -- `~` alone is the empty regular expression
 empty_regex : playbook_of all_taken (codes "[{\"hosts\":\"~\",\"gather_facts\":false}]")
-    ≡ Ok (record { plays = record { name = codes "~"; hosts = record { text = codes "~"; mark = Unmarked; what = Regex [] } ∷ []; pre_tasks = []; tasks = []; post_tasks = [] } ∷ [] })
+    ≡ Ok (record { plays = record { name = codes "~"; hosts = record { text = codes "~"; mark = Unmarked; what = Regex [] } ∷ []; vars = []; pre_tasks = []; tasks = []; post_tasks = [] } ∷ [] })
 unfolding on_literals
 empty_regex = refl
 
@@ -152,9 +165,10 @@ three_lists : playbook_of all_taken (codes "[{\"hosts\":\"all\",\"gather_facts\"
       plays = record {
         name = codes "all";
         hosts = all_hosts;
-        pre_tasks = record { name = codes "a"; «module» = Debug (text (codes "Hello world!")) } ∷ [];
+        vars = [];
+        pre_tasks = record { name = codes "a"; vars = []; «module» = Debug (text (codes "Hello world!")) } ∷ [];
         tasks = [];
-        post_tasks = record { name = codes "debug"; «module» = Debug (text (codes "Hello world!")) } ∷ [];
+        post_tasks = record { name = codes "debug"; vars = []; «module» = Debug (text (codes "Hello world!")) } ∷ [];
       } ∷ [];
     })
 unfolding on_literals
@@ -166,12 +180,12 @@ no_pre_task = refl
 
 -- keys without effect aren't read as values
 without_effect_on_plays : playbook_of all_taken (codes "[{\"hosts\":\"all\",\"gather_facts\":false,\"connection\":\"local\",\"gather_subset\":1.5,\"no_log\":\"Off\",\"remote_user\":1.5,\"tags\":\"nevermore,always\"}]")
-    ≡ Ok (record { plays = record { name = codes "all"; hosts = all_hosts; pre_tasks = []; tasks = []; post_tasks = [] } ∷ [] })
+    ≡ Ok (record { plays = record { name = codes "all"; hosts = all_hosts; vars = []; pre_tasks = []; tasks = []; post_tasks = [] } ∷ [] })
 unfolding on_literals
 without_effect_on_plays = refl
 
 without_effect_on_tasks : playbook_of all_taken (codes "[{\"hosts\":\"all\",\"gather_facts\":false,\"tasks\":[{\"debug\":{},\"connection\":\"local\",\"gather_subset\":1.5,\"no_log\":false,\"remote_user\":1.5,\"tags\":[1.5,\"a\"]}]}]")
-    ≡ Ok (record { plays = record { name = codes "all"; hosts = all_hosts; pre_tasks = []; tasks = record { name = codes "debug"; «module» = Debug (text (codes "Hello world!")) } ∷ []; post_tasks = [] } ∷ [] })
+    ≡ Ok (record { plays = record { name = codes "all"; hosts = all_hosts; vars = []; pre_tasks = []; tasks = record { name = codes "debug"; vars = []; «module» = Debug (text (codes "Hello world!")) } ∷ []; post_tasks = [] } ∷ [] })
 unfolding on_literals
 without_effect_on_tasks = refl
 
@@ -197,11 +211,12 @@ commands : playbook_of all_taken (codes "[{\"hosts\":\"all\",\"gather_facts\":fa
       plays = record {
         name = codes "all";
         hosts = all_hosts;
+        vars = [];
         pre_tasks = [];
         tasks =
-            record { name = codes "command"; «module» = Command (Line (codes "ls -l")) } ∷
-            record { name = codes "command"; «module» = Command (Line (codes "'")) } ∷
-            record { name = codes "command"; «module» = Command (Argv (text (codes "ls") ∷ int (pos 1) ∷ null ∷ [])) } ∷ [];
+            record { name = codes "command"; vars = []; «module» = Command (Line (codes "ls -l")) } ∷
+            record { name = codes "command"; vars = []; «module» = Command (Line (codes "'")) } ∷
+            record { name = codes "command"; vars = []; «module» = Command (Argv (text (codes "ls") ∷ int (pos 1) ∷ null ∷ [])) } ∷ [];
         post_tasks = [];
       } ∷ [];
     })
@@ -213,8 +228,9 @@ shells : playbook_of all_taken (codes "[{\"hosts\":\"all\",\"gather_facts\":fals
       plays = record {
         name = codes "all";
         hosts = all_hosts;
+        vars = [];
         pre_tasks = [];
-        tasks = record { name = codes "shell"; «module» = Shell [] } ∷ record { name = codes "shell"; «module» = Shell (codes "a | b") } ∷ [];
+        tasks = record { name = codes "shell"; vars = []; «module» = Shell [] } ∷ record { name = codes "shell"; vars = []; «module» = Shell (codes "a | b") } ∷ [];
         post_tasks = [];
       } ∷ [];
     })
@@ -226,8 +242,9 @@ fails : playbook_of all_taken (codes "[{\"hosts\":\"all\",\"gather_facts\":false
       plays = record {
         name = codes "all";
         hosts = all_hosts;
+        vars = [];
         pre_tasks = [];
-        tasks = record { name = codes "fail"; «module» = Fail (text (codes "Failed as requested from task")) } ∷ record { name = codes "fail"; «module» = Fail (int (pos 1)) } ∷ [];
+        tasks = record { name = codes "fail"; vars = []; «module» = Fail (text (codes "Failed as requested from task")) } ∷ record { name = codes "fail"; vars = []; «module» = Fail (int (pos 1)) } ∷ [];
         post_tasks = [];
       } ∷ [];
     })
@@ -260,13 +277,77 @@ no_arguments_of_fail : playbook_of all_taken (codes "[{\"hosts\":\"all\",\"tasks
 unfolding on_literals
 no_arguments_of_fail = refl
 
-template_in_command : playbook_of all_taken (codes "[{\"hosts\":\"all\",\"tasks\":[{\"command\":\"run {{ item }}\"}]}]") ≡ Err BadExpression
+-- the kinds of values come first, and then their texts, at any depth but for keys
+no_template_in_command : playbook_of all_taken (codes "[{\"hosts\":\"all\",\"tasks\":[{\"command\":\"run {{ item\"}]}]") ≡ Err BadExpression
 unfolding on_literals
-template_in_command = refl
+no_template_in_command = refl
 
-template_in_word : playbook_of all_taken (codes "[{\"hosts\":\"all\",\"tasks\":[{\"command\":{\"argv\":[[\"{{ x }}\"]]}}]}]") ≡ Err BadExpression
+no_template_in_word : playbook_of all_taken (codes "[{\"hosts\":\"all\",\"tasks\":[{\"command\":{\"argv\":[[\"{% x\"]]}}]}]") ≡ Err BadExpression
 unfolding on_literals
-template_in_word = refl
+no_template_in_word = refl
+
+no_template_in_key : playbook_of all_taken (codes "[{\"hosts\":\"all\",\"gather_facts\":false,\"tasks\":[{\"fail\":{\"msg\":{\"{% x\":\"a\"}}}]}]")
+    ≡ Ok (record {
+      plays = record {
+        name = codes "all";
+        hosts = all_hosts;
+        vars = [];
+        pre_tasks = [];
+        tasks = record { name = codes "fail"; vars = []; «module» = Fail (dict (member (codes "{% x") (text (codes "a")) no_members)) } ∷ [];
+        post_tasks = [];
+      } ∷ [];
+    })
+unfolding on_literals
+no_template_in_key = refl
+
+-- the variables of a play and of a task, each under its name
+variables : playbook_of all_taken (codes "[{\"hosts\":\"all\",\"gather_facts\":false,\"vars\":{\"b\":\"{{ a }}\",\"a\":1},\"tasks\":[{\"debug\":{},\"vars\":{\"-\":null}}]}]")
+    ≡ Ok (record {
+      plays = record {
+        name = codes "all";
+        hosts = all_hosts;
+        vars = (codes "a", int (pos 1)) ∷ (codes "b", text (codes "{{ a }}")) ∷ [];
+        pre_tasks = [];
+        tasks = record { name = codes "debug"; vars = (codes "-", null) ∷ []; «module» = Debug (text (codes "Hello world!")) } ∷ [];
+        post_tasks = [];
+      } ∷ [];
+    })
+unfolding on_literals
+variables = refl
+
+no_whole_variable : playbook_of all_taken (codes "[{\"hosts\":\"all\",\"vars\":{\"x\":1.5}}]") ≡ Err (WrongShape (codes "0/vars/x"))
+unfolding on_literals
+no_whole_variable = refl
+
+no_variables : playbook_of all_taken (codes "[{\"hosts\":\"all\",\"tasks\":[{\"debug\":{},\"vars\":[]}]}]") ≡ Err (WrongShape (codes "0/tasks/0/vars"))
+unfolding on_literals
+no_variables = refl
+
+no_template_in_variable : playbook_of all_taken (codes "[{\"hosts\":\"all\",\"vars\":{\"x\":\"{{ }}\"}}]") ≡ Err BadExpression
+unfolding on_literals
+no_template_in_variable = refl
+
+-- `debug` shows the value of an expression, which stands without braces
+shown : playbook_of all_taken (codes "[{\"hosts\":\"all\",\"gather_facts\":false,\"tasks\":[{\"debug\":{\"var\":\"x\"}}]}]")
+    ≡ Ok (record { plays = record { name = codes "all"; hosts = all_hosts; vars = []; pre_tasks = []; tasks = record { name = codes "debug"; vars = []; «module» = DebugVar (codes "x") (Name (codes "x")) } ∷ []; post_tasks = [] } ∷ [] })
+unfolding on_literals
+shown = refl
+
+no_expression : playbook_of all_taken (codes "[{\"hosts\":\"all\",\"tasks\":[{\"debug\":{\"var\":\"{{ x }}\"}}]}]") ≡ Err BadExpression
+unfolding on_literals
+no_expression = refl
+
+no_text_at_var : playbook_of all_taken (codes "[{\"hosts\":\"all\",\"tasks\":[{\"debug\":{\"var\":1}}]}]") ≡ Err (WrongShape (codes "0/tasks/0/debug/var"))
+unfolding on_literals
+no_text_at_var = refl
+
+message_and_expression : playbook_of all_taken (codes "[{\"hosts\":\"all\",\"tasks\":[{\"debug\":{\"msg\":1,\"var\":\"x\"}}]}]") ≡ Err (WrongShape (codes "0/tasks/0/debug"))
+unfolding on_literals
+message_and_expression = refl
+
+no_expression_of_fail : playbook_of all_taken (codes "[{\"hosts\":\"all\",\"tasks\":[{\"fail\":{\"var\":\"x\"}}]}]") ≡ Err (NotInProfile (codes "var"))
+unfolding on_literals
+no_expression_of_fail = refl
 
 other_modules : playbook_of all_taken (codes "[{\"hosts\":\"all\",\"tasks\":[{\"command\":\"a\",\"shell\":\"a\"}]}]") ≡ Err TwoModules
 unfolding on_literals

@@ -6,7 +6,7 @@ use Rattle.pb_value.specs.FromJson.{value_of}
 use Rattle.pb_value.specs.Words.{switch_of}
 use Rattle.pb_value.specs.declared.fault.ValFault.{ValFault}
 use Rattle.pb_value.specs.Reading.{and_then}
-use Rattle.pb_play.specs.Marks.{has_mark, has_marks}
+use Rattle.pb_play.specs.Templates.{is_template, are_templates}
 use Rattle.pb_play.specs.declared.fault.LoadFault.{LoadFault}
 use Rattle.pb_play.specs.declared.fault.LoadFault.TheVariants.{WrongShape, NotInProfile, BadExpression}
 
@@ -29,11 +29,11 @@ abbrev found : List ℕ → Result Datum ValFault → Result Datum LoadFault
 found path (Ok v) = Ok v
 found path (Err e) = Err (WrongShape path)
 
--- a value whose texts aren't templates: it is read whole, and then its texts are looked at
-abbrev pub plain : List ℕ → json.Data → Result Datum LoadFault
-plain path d = and_then (found path (value_of d)) (λ v. if has_marks d then Err BadExpression else Ok v)
+-- a value whose texts are templates, as it is written: it is read whole, and then its texts are looked at
+abbrev pub template_value : List ℕ → json.Data → Result Datum LoadFault
+template_value path d = and_then (found path (value_of d)) (λ v. if are_templates d then Ok v else Err BadExpression)
 
--- a text that isn't a template
-abbrev pub plain_text : List ℕ → json.Data → Result (List ℕ) LoadFault
-plain_text path (json.string s) = if has_mark s then Err BadExpression else Ok s
-plain_text path d = Err (WrongShape path)
+-- a text that is a template, as it is written
+abbrev pub template_text : List ℕ → json.Data → Result (List ℕ) LoadFault
+template_text path (json.string s) = if is_template s then Ok s else Err BadExpression
+template_text path d = Err (WrongShape path)

@@ -1,5 +1,5 @@
 -- The tasks of a play. See Ansible's documentation, "Playbook Keywords", Task.
-use Rattle.std.specs.Prelude.{ℕ, List, Result, Ok, Err, Option, Some, None, codes, unwrap_or, if◌then◌else◌}
+use Rattle.std.specs.Prelude.{ℕ, List, [], Result, Ok, Err, Option, Some, None, codes, unwrap_or, if◌then◌else◌}
 use Rattle.std.specs.Str.{bytes_eq}
 use Rattle.serde_json.specs.Data as json
 use Rattle.pb_value.specs.Reading.{and_then, below}
@@ -7,6 +7,7 @@ use Rattle.pb_play.specs.Faults.{each}
 use Rattle.pb_play.specs.NoEffect.{without_effect}
 use Rattle.pb_play.specs.Simple.{text}
 use Rattle.pb_play.specs.Modules.{module_key, module_name, module_of}
+use Rattle.pb_play.specs.Variables.{variables}
 use Rattle.pb_play.specs.declared.fault.LoadFault.{LoadFault}
 use Rattle.pb_play.specs.declared.fault.LoadFault.TheVariants.{WrongShape, NoModule, TwoModules}
 use Rattle.pb_play.specs.declared.modules.Module.{Module}
@@ -25,7 +26,7 @@ told_by None = key.Other
 
 -- the keys of a task
 abbrev pub task_key : List ℕ → TaskKey
-task_key k = if bytes_eq k (codes "name") then key.Name else told_by (module_key k)
+task_key k = if bytes_eq k (codes "name") then key.Name else (if bytes_eq k (codes "vars") then key.Vars else told_by (module_key k))
 
 -- one module more
 abbrev pub one_more : Modules → Module → Modules
@@ -36,6 +37,7 @@ one_more Several m = Several
 -- what the keys of a task have told, with what the key k at this path tells
 abbrev pub with_task_key : TaskKey → List ℕ → List ℕ → json.Data → TaskDraft → Result TaskDraft LoadFault
 with_task_key key.Name path k d draft = and_then (text path d) (λ s. Ok (record draft { name = Some s }))
+with_task_key key.Vars path k d draft = and_then (variables path d) (λ vs. Ok (record draft { vars = Some vs }))
 with_task_key (key.Module named) path k d draft = and_then (module_of named path d) (λ m. Ok (record draft { modules = one_more draft.modules m }))
 with_task_key key.Other path k d draft = and_then (without_effect k d) (λ _. Ok draft)
 
@@ -49,12 +51,12 @@ the_module Nothing = Err NoModule
 the_module (One m) = Ok m
 the_module Several = Err TwoModules
 
--- the task that its keys make; a task without a name has its module's
+-- the task that its keys make; a task without a name has its module's, and one without variables has none
 abbrev pub finished_task : TaskDraft → Result Task LoadFault
-finished_task draft = and_then (the_module draft.modules) (λ m. Ok (record { name = unwrap_or draft.name (module_name m); «module» = m }))
+finished_task draft = and_then (the_module draft.modules) (λ m. Ok (record { name = unwrap_or draft.name (module_name m); vars = unwrap_or draft.vars []; «module» = m }))
 
 abbrev pub new_task : TaskDraft
-new_task = record { name = None; modules = Nothing }
+new_task = record { name = None; vars = None; modules = Nothing }
 
 abbrev pub task : List ℕ → json.Data → Result Task LoadFault
 task path (json.object ms) = and_then (task_keys path ms new_task) finished_task

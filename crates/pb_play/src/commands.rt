@@ -3,7 +3,7 @@ ghost use Rattle.serde_json.specs.View.{view};
 ghost use Rattle.pb_play.specs.Commands.{listed, argv, command_key, with_command_key, new_command, finished_command, command, shell};
 
 use crate::fault::{LoadFault, not_in_profile, wrong_shape};
-use crate::simple::{read_plain, read_plain_text};
+use crate::simple::{read_template_text, read_template_value};
 use pb_value::path::child;
 use pb_value::text::Text;
 use pb_value::val::{Node, Val, ValList};
@@ -76,7 +76,7 @@ impl CommandDraft {
                 Ok(CommandDraft { argv, ..self })
             }
             CommandKey::Cmd => {
-                let cmd = Some(read_plain_text(alloc, path, json)?);
+                let cmd = Some(read_template_text(alloc, path, json)?);
                 Ok(CommandDraft { cmd, ..self })
             }
             CommandKey::Other => Err(not_in_profile(alloc, key)),
@@ -117,7 +117,7 @@ fn read_argv(alloc: Global, path: &Text, json: &Value) -> Result<ValList, LoadFa
 {
     match json {
         Value::Array(_) => {
-            let words = read_plain(alloc, path, json)?;
+            let words = read_template_value(alloc, path, json)?;
             members_of(path, words)
         }
         _ => Err(wrong_shape(path)),
@@ -142,7 +142,7 @@ pub(crate) fn read_command(
             }
             draft.finish(path)
         }
-        _ => Ok(CommandWords::Line(read_plain_text(alloc, path, json)?)),
+        _ => Ok(CommandWords::Line(read_template_text(alloc, path, json)?)),
     }
 }
 
@@ -159,13 +159,13 @@ pub(crate) fn read_shell(alloc: Global, path: &Text, json: &Value) -> Result<Tex
                     return Err(not_in_profile(alloc, key.as_str()));
                 }
                 let here = child(alloc, path, key.as_str())?;
-                found = Some(read_plain_text(alloc, &here, member)?);
+                found = Some(read_template_text(alloc, &here, member)?);
             }
             match found {
                 Some(cmd) => Ok(cmd),
                 None => Err(wrong_shape(path)),
             }
         }
-        _ => read_plain_text(alloc, path, json),
+        _ => read_template_text(alloc, path, json),
     }
 }

@@ -44,7 +44,7 @@ pub enum LoadFault {
     /// A task that names two modules.
     #[error("5 TwoModules")]
     TwoModules,
-    /// A text that isn't a template, where one is read.
+    /// A text that isn't a template or an expression, where one is read.
     #[error("6 BadExpression")]
     BadExpression,
     /// A batch size that is none.

@@ -7,12 +7,16 @@
 //! pattern, which `pb_patterns` reads; `playbook_of` is told which regular expressions are refused. A playbook that is read is the
 //! one where none is, and `BadPattern` may also come for an expression that the `regex` crate refuses, where it stands before any
 //! other fault. Want of memory may come at any point, in place of that answer.
+//!
+//! The texts of a module's arguments and of variables are templates, which `pb_template` reads: a text that is none is `BadExpression`. They are
+//! kept as they are written, since what they give is known only when a task starts on a host. The expression at `var` of `debug` is kept
+//! as its tree, too.
 #![tactic(auto)]
 
 pub mod commands;
+mod debug;
 pub mod fault;
 mod hosts;
-mod marks;
 mod messages;
 pub mod modules;
 mod no_effect;
@@ -20,3 +24,5 @@ pub mod play;
 pub mod playbook;
 mod simple;
 pub mod task;
+mod templates;
+mod variables;

@@ -3,7 +3,7 @@ ghost use Rattle.serde_json.specs.View.{view};
 ghost use Rattle.pb_play.specs.Messages.{message};
 
 use crate::fault::{LoadFault, not_in_profile, wrong_shape};
-use crate::simple::read_plain;
+use crate::simple::read_template_value;
 use pb_value::path::child;
 use pb_value::text::Text;
 use pb_value::val::Val;
@@ -28,7 +28,7 @@ pub(crate) fn read_message(
                     return Err(not_in_profile(alloc, key.as_str()));
                 }
                 let here = child(alloc, path, key.as_str())?;
-                found = Some(read_plain(alloc, &here, member)?);
+                found = Some(read_template_value(alloc, &here, member)?);
             }
             match found {
                 Some(msg) => Ok(msg),

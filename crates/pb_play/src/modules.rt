@@ -3,8 +3,10 @@ ghost use Rattle.serde_json.specs.View.{view};
 ghost use Rattle.pb_play.specs.Modules.{names, module_key, module_name, module_of};
 
 use crate::commands::{CommandWords, read_command, read_shell};
+use crate::debug::read_debug;
 use crate::fault::LoadFault;
 use crate::messages::read_message;
+use pb_expr_syntax::tree::Expr;
 use pb_value::text::Text;
 use pb_value::val::Val;
 use serde_json::Value;
@@ -17,6 +19,9 @@ pub enum Module {
     Command(CommandWords),
     /// Shows a message, `Hello world!` where none is written. See Ansible's documentation of `ansible.builtin.debug`.
     Debug { msg: Val },
+    /// Shows the value of an expression under its text; `expr` is the tree that the text spells. See Ansible's documentation of
+    /// `ansible.builtin.debug`, `var`.
+    DebugVar { text: Text, expr: Expr },
     /// Fails with a message, `Failed as requested from task` where none is written. See Ansible's documentation of
     /// `ansible.builtin.fail`.
     Fail { msg: Val },
@@ -41,6 +46,7 @@ impl Module {
         match self {
             Module::Command(_) => "command",
             Module::Debug { msg: _ } => "debug",
+            Module::DebugVar { text: _, expr: _ } => "debug",
             Module::Fail { msg: _ } => "fail",
             Module::Shell { cmd: _ } => "shell",
         }
@@ -80,10 +86,7 @@ impl ModuleKey {
     {
         match self {
             ModuleKey::Command => Ok(Module::Command(read_command(alloc, path, json)?)),
-            ModuleKey::Debug => {
-                let msg = read_message(alloc, path, "Hello world!", json)?;
-                Ok(Module::Debug { msg })
-            }
+            ModuleKey::Debug => read_debug(alloc, path, json),
             ModuleKey::Fail => {
                 let msg = read_message(alloc, path, "Failed as requested from task", json)?;
                 Ok(Module::Fail { msg })

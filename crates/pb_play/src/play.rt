@@ -9,10 +9,12 @@ use crate::hosts::{PlayHosts, read_hosts};
 use crate::no_effect::check_without_effect;
 use crate::simple::{read_gathering, read_text};
 use crate::task::{Task, read_tasks};
+use crate::variables::read_variables;
 use pb_patterns::pattern::Pattern;
 use pb_value::items::Items;
 use pb_value::path::child;
 use pb_value::text::Text;
+use pb_value::val::Dict;
 use serde_json::Value;
 use std::alloc::Global;
 
@@ -26,6 +28,9 @@ pub struct Play {
     /// subscript behind, or is a regular expression behind `~`; `&` or `!` in front keeps to its hosts or leaves them out.
     /// See Ansible's documentation, "Patterns: targeting hosts and groups".
     pub hosts: Pattern,
+    /// Its variables, each a value under its name, as they are written: their texts are templates. They are layer 5 of those that a task
+    /// sees (`pb_layers`): over those of the inventory, under those of the task. See Ansible's documentation, "Using variables".
+    pub vars: Dict,
     /// What it does before its tasks, in this order.
     pub pre_tasks: Items<Task>,
     /// What it does, in this order.
@@ -43,6 +48,7 @@ enum PlayKey {
     PostTasks,
     PreTasks,
     Tasks,
+    Vars,
     Other,
 }
 
@@ -52,6 +58,7 @@ struct PlayDraft {
     name: Option<Text>,
     hosts: Option<PlayHosts>,
     gather_facts: Option<bool>,
+    vars: Option<Dict>,
     pre_tasks: Option<Items<Task>>,
     tasks: Option<Items<Task>>,
     post_tasks: Option<Items<Task>>,
@@ -73,6 +80,8 @@ impl PlayKey {
             PlayKey::PreTasks
         } else if key == "tasks" {
             PlayKey::Tasks
+        } else if key == "vars" {
+            PlayKey::Vars
         } else {
             PlayKey::Other
         }
@@ -87,6 +96,7 @@ impl PlayDraft {
             name: None,
             hosts: None,
             gather_facts: None,
+            vars: None,
             pre_tasks: None,
             tasks: None,
             post_tasks: None,
@@ -133,6 +143,10 @@ impl PlayDraft {
                 let tasks = Some(read_tasks(alloc, path, json)?);
                 Ok(PlayDraft { tasks, ..self })
             }
+            PlayKey::Vars => {
+                let vars = Some(read_variables(alloc, path, json)?);
+                Ok(PlayDraft { vars, ..self })
+            }
             PlayKey::Other => {
                 check_without_effect(alloc, key, json)?;
                 Ok(self)
@@ -148,6 +162,7 @@ impl PlayDraft {
             name,
             hosts,
             gather_facts,
+            vars,
             pre_tasks,
             tasks,
             post_tasks,
@@ -161,6 +176,7 @@ impl PlayDraft {
         Ok(Play {
             name: name.unwrap_or(text),
             hosts: pattern,
+            vars: vars.unwrap_or(Dict::new(alloc)),
             pre_tasks: pre_tasks.unwrap_or(Items::new(alloc)),
             tasks: tasks.unwrap_or(Items::new(alloc)),
             post_tasks: post_tasks.unwrap_or(Items::new(alloc)),

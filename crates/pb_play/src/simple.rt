@@ -1,9 +1,9 @@
 ghost use Rattle.std.specs.Prelude.{◌≡◌, ◌≢◌, IfOk, IfErr, Ok, Err};
 ghost use Rattle.serde_json.specs.View.{view};
-ghost use Rattle.pb_play.specs.Simple.{text, gathering, plain, plain_text};
+ghost use Rattle.pb_play.specs.Simple.{text, gathering, template_value, template_text};
 
 use crate::fault::{LoadFault, not_in_profile, wrong_shape};
-use crate::marks::{has_mark, has_marks};
+use crate::templates::{are_templates, is_template};
 use pb_value::fault::ValFault;
 use pb_value::text::Text;
 use pb_value::val::Val;
@@ -34,34 +34,36 @@ pub fn read_gathering(alloc: Global, path: &Text, json: &Value) -> Result<bool, 
     }
 }
 
-/// A value whose texts aren't templates.
-pub fn read_plain(alloc: Global, path: &Text, json: &Value) -> Result<Val, LoadFault>
-    ensures value { IfOk result (λ v. plain path.now (view json.now) ≡ Ok v) }
-    ensures fault { IfErr result (λ e. e ≢ LoadFault.Memory → plain path.now (view json.now) ≡ Err e) }
+/// A value whose texts are templates, as it is written.
+pub fn read_template_value(alloc: Global, path: &Text, json: &Value) -> Result<Val, LoadFault>
+    ensures value { IfOk result (λ v. template_value path.now (view json.now) ≡ Ok v) }
+    ensures fault { IfErr result (λ e. e ≢ LoadFault.Memory → template_value path.now (view json.now) ≡ Err e) }
 {
     match Val::from_json(alloc, json) {
         Ok(value) => {
-            if has_marks(json) {
-                return Err(LoadFault::BadExpression);
+            if are_templates(alloc, json)? {
+                Ok(value)
+            } else {
+                Err(LoadFault::BadExpression)
             }
-            Ok(value)
         }
         Err(ValFault::Memory) => Err(LoadFault::Memory),
         Err(_) => Err(wrong_shape(path)),
     }
 }
 
-/// A text that isn't a template.
-pub fn read_plain_text(alloc: Global, path: &Text, json: &Value) -> Result<Text, LoadFault>
-    ensures value { IfOk result (λ t. plain_text path.now (view json.now) ≡ Ok t) }
-    ensures fault { IfErr result (λ e. e ≢ LoadFault.Memory → plain_text path.now (view json.now) ≡ Err e) }
+/// A text that is a template, as it is written.
+pub fn read_template_text(alloc: Global, path: &Text, json: &Value) -> Result<Text, LoadFault>
+    ensures value { IfOk result (λ t. template_text path.now (view json.now) ≡ Ok t) }
+    ensures fault { IfErr result (λ e. e ≢ LoadFault.Memory → template_text path.now (view json.now) ≡ Err e) }
 {
     match json {
         Value::String(text) => {
-            if has_mark(text.as_bytes()) {
-                return Err(LoadFault::BadExpression);
+            if is_template(alloc, text.as_str())? {
+                Ok(Text::from_str(alloc, text.as_str())?)
+            } else {
+                Err(LoadFault::BadExpression)
             }
-            Ok(Text::from_str(alloc, text.as_str())?)
         }
         _ => Err(wrong_shape(path)),
     }

@@ -6,9 +6,11 @@ use crate::fault::{LoadFault, wrong_shape};
 use crate::modules::{Module, ModuleKey};
 use crate::no_effect::check_without_effect;
 use crate::simple::read_text;
+use crate::variables::read_variables;
 use pb_value::items::Items;
 use pb_value::path::{child, child_at};
 use pb_value::text::Text;
+use pb_value::val::Dict;
 use serde_json::Value;
 use std::alloc::Global;
 
@@ -17,6 +19,9 @@ use std::alloc::Global;
 pub struct Task {
     /// Its name as it is written, or its module's.
     pub name: Text,
+    /// Its variables, each a value under its name, as they are written: their texts are templates. They are layer 8 of those that it sees
+    /// (`pb_layers`), over those of its play. See Ansible's documentation, "Using variables".
+    pub vars: Dict,
     /// What it does.
     pub module: Module,
 }
@@ -25,6 +30,7 @@ pub struct Task {
 #[derive(Clone, Copy, Debug, PartialEq, Eq)]
 enum TaskKey {
     Name,
+    Vars,
     Module(ModuleKey),
     Other,
 }
@@ -41,6 +47,7 @@ enum Modules {
 #[derive(Drop)]
 struct TaskDraft {
     name: Option<Text>,
+    vars: Option<Dict>,
     modules: Modules,
 }
 
@@ -50,6 +57,9 @@ impl TaskKey {
     {
         if key == "name" {
             return TaskKey::Name;
+        }
+        if key == "vars" {
+            return TaskKey::Vars;
         }
         match ModuleKey::of(key) {
             Some(module) => TaskKey::Module(module),
@@ -64,7 +74,11 @@ impl Modules {
     {
         match self {
             Modules::Nothing => Modules::One(module),
-            Modules::One(_) | Modules::Several => Modules::Several,
+            others => {
+                drop(others);
+                drop(module);
+                Modules::Several
+            }
         }
     }
 }
@@ -75,6 +89,7 @@ impl TaskDraft {
     {
         TaskDraft {
             name: None,
+            vars: None,
             modules: Modules::Nothing,
         }
     }
@@ -96,11 +111,16 @@ impl TaskDraft {
                 let name = Some(read_text(alloc, path, json)?);
                 Ok(TaskDraft { name, ..self })
             }
+            TaskKey::Vars => {
+                let vars = Some(read_variables(alloc, path, json)?);
+                Ok(TaskDraft { vars, ..self })
+            }
             TaskKey::Module(named) => {
                 let module = named.read(alloc, path, json)?;
                 let modules = self.modules.and(module);
                 Ok(TaskDraft {
                     name: self.name,
+                    vars: self.vars,
                     modules,
                 })
             }
@@ -115,7 +135,11 @@ impl TaskDraft {
         ensures value { IfOk result (λ t. finished_task self ≡ Ok t) }
         ensures fault { IfErr result (λ e. e ≢ LoadFault.Memory → finished_task self ≡ Err e) }
     {
-        let TaskDraft { name, modules } = self;
+        let TaskDraft {
+            name,
+            vars,
+            modules,
+        } = self;
         match modules {
             Modules::Nothing => Err(LoadFault::NoModule),
             Modules::One(module) => {
@@ -123,7 +147,8 @@ impl TaskDraft {
                     Some(name) => name,
                     None => Text::from_str(alloc, module.name())?,
                 };
-                Ok(Task { name, module })
+                let vars = vars.unwrap_or(Dict::new(alloc));
+                Ok(Task { name, vars, module })
             }
             Modules::Several => Err(LoadFault::TwoModules),
         }

@@ -10,8 +10,8 @@ use Rattle.pb_outcome.specs.declared.outcome.Form.{Form}
 use Rattle.pb_tree.specs.Tree.{TreeOf}
 use Rattle.pb_state.specs.declared.event.Event.{Event}
 use Rattle.pb_state.specs.declared.event.Event.TheVariants.{Open, Start, Send, Report as Reported, Turn, Close, Stop, Forks}
-use Rattle.pb_state.specs.declared.planned.Planned.{Planned}
-use Rattle.pb_state.specs.declared.planned.Planned.TheVariants.{Decided as DecidedItem, Sends}
+use Rattle.pb_items.specs.declared.planned.Planned.{Planned}
+use Rattle.pb_items.specs.declared.planned.Planned.TheVariants.{Decided as DecidedItem, Sends}
 use Rattle.pb_state.specs.declared.row.Counts.{Counts}
 use Rattle.pb_state.specs.declared.row.Running.{Running}
 use Rattle.pb_state.specs.Plan.{PlayOf, PlanOf}
@@ -108,15 +108,15 @@ no_start false tree found e = cc
 no_start true tree None e = cc
 no_start true tree (Some row) e = no_same _ (next_place tree row) e
 
-start_counts : (kind : CountKind) (s : State) (h k : ℕ) (play : PlayOf) (place : Option ℕ) → k < length s.rows → (has_room s && at_row (stands_at play.tree place) s.rows h) ≡ true
-    → row_count kind (option_map_or (start_at s h play) place s).rows k ≡ counted k kind (ended_in (option_map_or (start_at s h play) place s) h) + row_count kind s.rows k
-start_counts kind s h k play None b may = absurd (no_start (has_room s) play.tree (slice_get s.rows h) may)
-start_counts kind s h k play (Some p) b may = start_with_counts kind s h k play p (planned_at play.tasks p) b
+start_counts : (kind : CountKind) (plan : PlanOf) (s : State) (h k : ℕ) (play : PlayOf) (place : Option ℕ) → k < length s.rows → (has_room s && at_row (stands_at play.tree place) s.rows h) ≡ true
+    → row_count kind (option_map_or (start_at plan s h play) place s).rows k ≡ counted k kind (ended_in (option_map_or (start_at plan s h play) place s) h) + row_count kind s.rows k
+start_counts kind plan s h k play None b may = absurd (no_start (has_room s) play.tree (slice_get s.rows h) may)
+start_counts kind plan s h k play (Some p) b may = start_with_counts kind s h k play p (planned_at plan play h p) b
 
-started_counts : (kind : CountKind) (s : State) (h k : ℕ) (found : Option PlayOf) → k < length s.rows → option_map_or (may_start_in s h) found false ≡ true
-    → row_count kind (option_map_or (started_in s h) found s).rows k ≡ counted k kind (ended_in (option_map_or (started_in s h) found s) h) + row_count kind s.rows k
-started_counts kind s h k None b may = cc
-started_counts kind s h k (Some play) b may = start_counts kind s h k play s.place b may
+started_counts : (kind : CountKind) (plan : PlanOf) (s : State) (h k : ℕ) (found : Option PlayOf) → k < length s.rows → option_map_or (may_start_in s h) found false ≡ true
+    → row_count kind (option_map_or (started_in plan s h) found s).rows k ≡ counted k kind (ended_in (option_map_or (started_in plan s h) found s) h) + row_count kind s.rows k
+started_counts kind plan s h k None b may = cc
+started_counts kind plan s h k (Some play) b may = start_counts kind plan s h k play s.place b may
 
 -- a job that goes out ends no task
 sent_row : (kind : CountKind) (ticket : Ticket) (row : HostRow) → count_of kind (sent ticket row).counts ≡ 0 + count_of kind row.counts
@@ -171,7 +171,7 @@ turned_counts kind s k (Some play) = refl
 step_counts : (plan : PlanOf) (s : State) (e : Event) (k : ℕ) (kind : CountKind) → k < length s.rows → possible plan s e ≡ true
     → row_count kind (after plan s e).rows k ≡ counted k kind (finishes plan s e) + row_count kind s.rows k
 step_counts plan s Open k kind b may = next_counts kind plan s k (next_play plan s) ∙ none_more (row_count kind s.rows k)
-step_counts plan s (Start h) k kind b may = started_counts kind s h.0 k (open_play plan s) b may
+step_counts plan s (Start h) k kind b may = started_counts kind plan s h.0 k (open_play plan s) b may
 step_counts plan s (Send h item ticket) k kind b may = sent_counts kind s h.0 k ticket (open_play plan s) b
 step_counts plan s (Reported r) k kind b may = reported_counts kind s r k (open_play plan s) b may
 step_counts plan s Turn k kind b may = turned_counts kind s k (open_play plan s) ∙ none_more (row_count kind s.rows k)
@@ -187,13 +187,13 @@ changed_hosts rows h f (Some row) = length-set rows h (f row)
 change_hosts : (rows : List HostRow) (h : ℕ) (f : HostRow → HostRow) → length (change rows h f) ≡ length rows
 change_hosts rows h f = changed_hosts rows h f (slice_get rows h)
 
-start_hosts : (s : State) (h : ℕ) (play : PlayOf) (place : Option ℕ) → length (option_map_or (start_at s h play) place s).rows ≡ length s.rows
-start_hosts s h play None = refl
-start_hosts s h play (Some p) = change_hosts s.rows h (started play.tree p (planned_at play.tasks p))
+start_hosts : (plan : PlanOf) (s : State) (h : ℕ) (play : PlayOf) (place : Option ℕ) → length (option_map_or (start_at plan s h play) place s).rows ≡ length s.rows
+start_hosts plan s h play None = refl
+start_hosts plan s h play (Some p) = change_hosts s.rows h (started play.tree p (planned_at plan play h p))
 
-started_hosts : (s : State) (h : ℕ) (found : Option PlayOf) → length (option_map_or (started_in s h) found s).rows ≡ length s.rows
-started_hosts s h None = refl
-started_hosts s h (Some play) = start_hosts s h play s.place
+started_hosts : (plan : PlanOf) (s : State) (h : ℕ) (found : Option PlayOf) → length (option_map_or (started_in plan s h) found s).rows ≡ length s.rows
+started_hosts plan s h None = refl
+started_hosts plan s h (Some play) = start_hosts plan s h play s.place
 
 sent_hosts : (s : State) (h : ℕ) (ticket : Ticket) (found : Option PlayOf) → length (option_map_or (sent_in s h ticket) found s).rows ≡ length s.rows
 sent_hosts s h ticket None = refl
@@ -217,7 +217,7 @@ turned_hosts s (Some play) = refl
 
 step_hosts : (plan : PlanOf) (s : State) (e : Event) → length (after plan s e).rows ≡ length s.rows
 step_hosts plan s Open = next_hosts plan s (next_play plan s)
-step_hosts plan s (Start h) = started_hosts s h.0 (open_play plan s)
+step_hosts plan s (Start h) = started_hosts plan s h.0 (open_play plan s)
 step_hosts plan s (Send h item ticket) = sent_hosts s h.0 ticket (open_play plan s)
 step_hosts plan s (Reported r) = reported_hosts s r (open_play plan s)
 step_hosts plan s Turn = turned_hosts s (open_play plan s)

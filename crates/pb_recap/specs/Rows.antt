@@ -11,9 +11,10 @@ use Rattle.pb_state.specs.declared.event.Event.{Event}
 use Rattle.pb_state.specs.declared.event.Event.TheVariants.{Open, Start, Send, Report as Reported, Turn, Close}
 use Rattle.pb_state.specs.declared.row.Counts.{Counts}
 use Rattle.pb_state.specs.Bundle.{tree_for}
-use Rattle.pb_state.specs.Plan.{PlanOf}
+use Rattle.pb_state.specs.Plan.{PlanOf, bare_play, bare_plan}
 use Rattle.pb_state.specs.Machine.{first_state}
 use Rattle.pb_state.specs.Row.{none_counted}
+use Rattle.pb_state.specs.Results.{on_tasks}
 use Rattle.pb_state.specs.Run.{legal_from}
 use Rattle.pb_recap.specs.declared.kind.CountKind.TheVariants.{Okay, Changed, Unreachable, Failed, Ignored}
 use Rattle.pb_recap.specs.Kinds.{status_of}
@@ -23,18 +24,14 @@ use Rattle.pb_recap.specs.Stats.{stats_line, line_data}
 
 -- what computes a row
 unfoldable on_literals : ⊤
-unfolding line_data digits serde_json_on_literals
+unfolding line_data digits serde_json_on_literals on_tasks
 on_literals = tt
 
 -- two hosts, and a play with one task
 abbrev two_hosts : PlanOf
 two_hosts =
-    record {
-      hosts = codes "b" ∷ codes "a" ∷ [];
-      plays = record { name = codes "all"; tree = tree_for 0 1 0; tasks = record { name = codes "hi"; «module» = Debug (text (codes "hello")) } ∷ []; hosts = true ∷ true ∷ [] } ∷ [];
-      forks = 5;
-      warnings = [];
-    }
+    bare_plan (codes "b" ∷ codes "a" ∷ [])
+    (bare_play (codes "all") (tree_for 0 1 0) (record { name = codes "hi"; vars = []; «module» = Debug (text (codes "hello")) } ∷ []) (true ∷ true ∷ []) ∷ [])
 
 abbrev one_okay : Counts
 one_okay = record none_counted { ok = 1 }
@@ -46,9 +43,11 @@ abbrev one_lost : Counts
 one_lost = record none_counted { unreachable = 1 }
 
 both_ran : recap two_hosts 5 (Open ∷ Start (record { 0 = 0 }) ∷ Start (record { 0 = 1 }) ∷ Turn ∷ Close ∷ []) ≡ one_okay ∷ one_okay ∷ []
+unfolding on_tasks
 both_ran = refl
 
 one_ran : recap two_hosts 5 (Open ∷ Start (record { 0 = 1 }) ∷ []) ≡ none_counted ∷ one_okay ∷ []
+unfolding on_tasks
 one_ran = refl
 
 -- hosts stand in the order of their numbers
@@ -90,17 +89,10 @@ status_of_good = refl
 -- a command on both hosts, and then a message
 abbrev commanded : PlanOf
 commanded =
-    record {
-      hosts = codes "a" ∷ codes "b" ∷ [];
-      plays = record {
-        name = codes "all";
-        tree = tree_for 0 2 0;
-        tasks = record { name = codes "one"; «module» = Shell (codes "true") } ∷ record { name = codes "two"; «module» = Debug (text (codes "hello")) } ∷ [];
-        hosts = true ∷ true ∷ [];
-      } ∷ [];
-      forks = 5;
-      warnings = [];
-    }
+    bare_plan (codes "a" ∷ codes "b" ∷ [])
+    (bare_play (codes "all") (tree_for 0 2 0)
+    (record { name = codes "one"; vars = []; «module» = Shell (codes "true") } ∷ record { name = codes "two"; vars = []; «module» = Debug (text (codes "hello")) } ∷ [])
+    (true ∷ true ∷ []) ∷ [])
 
 abbrev comes : ℕ → Form → Event
 comes h outcome = Reported (record { ticket = record { 0 = h }; host = record { 0 = h }; item = 0; outcome = outcome })
@@ -112,17 +104,21 @@ ends_so outcome =
     ∷ comes 0 (Ran (pos 0) [] []) ∷ comes 1 outcome ∷ Turn ∷ Start (record { 0 = 0 }) ∷ Turn ∷ Close ∷ []
 
 may_end_so : legal_from commanded (first_state commanded 5 5) (ends_so (Ran (pos 1) [] [])) ≡ true
+unfolding on_tasks
 may_end_so = refl
 
 -- a host whose task failed takes no further part
 with_a_failure : recap commanded 5 (ends_so (Ran (pos 1) [] [])) ≡ record none_counted { ok = 2; changed = 1 } ∷ one_failed ∷ []
+unfolding on_tasks
 with_a_failure = refl
 
 with_a_loss : recap commanded 5 (ends_so (NoAnswer (codes "no route"))) ≡ record none_counted { ok = 2; changed = 1 } ∷ one_lost ∷ []
+unfolding on_tasks
 with_a_loss = refl
 
 -- as long as a job is out its task counts nowhere
 still_out : recap commanded 5 (Open ∷ Start (record { 0 = 0 }) ∷ Send (record { 0 = 0 }) 0 (record { 0 = 0 }) ∷ []) ≡ none_counted ∷ none_counted ∷ []
+unfolding on_tasks
 still_out = refl
 
 -- a failure that is ignored counts as a task that went well, and as ignored

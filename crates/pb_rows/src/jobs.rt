@@ -138,6 +138,7 @@ fn plan_of(alloc: Global, inventory: &str, playbook: &str, forks: u32) -> Result
         inventory: bytes_of(alloc, inventory)?,
         playbook: bytes_of(alloc, playbook)?,
         limit: None,
+        extra: None,
         forks,
     };
     Ok(Plan::of(alloc, &bundle).ok().ok_or("a plan")?)

@@ -12,3 +12,5 @@ mod limits;
 mod patterns;
 #[cfg(test)]
 mod rows;
+#[cfg(test)]
+mod variables;

@@ -156,6 +156,7 @@ fn worked_trails(rt: HostRuntime) -> Result<(), Fail> {
             inventory: bytes_of(alloc, TWO_HOSTS)?,
             playbook: bytes_of(alloc, playbook)?,
             limit: None,
+            extra: None,
             forks: 5,
         };
         let plan = Plan::of(alloc, &bundle).ok().ok_or("a plan")?;

@@ -19,8 +19,8 @@ use Rattle.pb_outcome.specs.declared.job.Report.{Report}
 use Rattle.pb_outcome.specs.declared.outcome.Form.{Form}
 use Rattle.pb_state.specs.declared.event.Event.{Event}
 use Rattle.pb_state.specs.declared.event.Event.TheVariants.{Open, Start, Send, Report as Reported, Turn, Close, Stop, Forks}
-use Rattle.pb_state.specs.declared.planned.Planned.{Planned}
-use Rattle.pb_state.specs.declared.planned.Planned.TheVariants.{Decided, Sends}
+use Rattle.pb_items.specs.declared.planned.Planned.{Planned}
+use Rattle.pb_items.specs.declared.planned.Planned.TheVariants.{Decided, Sends}
 use Rattle.pb_state.specs.declared.row.Running.{Running}
 use Rattle.pb_state.specs.Plan.{PlayOf, PlanOf}
 use Rattle.pb_state.specs.Row.{HostRow, failed_kind, kind_of, answer_of, finished, started, sent, sent_running, reported, reported_running, task_of, item_of}
@@ -254,17 +254,17 @@ stays_in plan s new play o p b f = inl (p, b, λ h n pl is. of_play plan s new h
 same_rows : (plan : PlanOf) (s new : State) → new.play ≡ s.play → new.is_open ≡ s.is_open → new.rows ≡ s.rows → Moves plan s new
 same_rows plan s new p b r = inl (p, b, λ h n pl is w. rw r w)
 
-start_at_moves : (plan : PlanOf) (s : State) (k : ℕ) (play : PlayOf) (place : Option ℕ) → open_play plan s ≡ Some play → at_row (stands_at play.tree place) s.rows k ≡ true → Moves plan s (option_map_or (start_at s k play) place s)
+start_at_moves : (plan : PlanOf) (s : State) (k : ℕ) (play : PlayOf) (place : Option ℕ) → open_play plan s ≡ Some play → at_row (stands_at play.tree place) s.rows k ≡ true → Moves plan s (option_map_or (start_at plan s k play) place s)
 start_at_moves plan s k play None o e = same_rows plan s s refl refl refl
 start_at_moves plan s k play (Some p) o e =
-    stays_in plan s (start_at s k play p) play o refl refl
-    (λ h n w. change_keeps n play.tree (started play.tree p (planned_at play.tasks p)) s.rows k h
+    stays_in plan s (start_at plan s k play p) play o refl refl
+    (λ h n w. change_keeps n play.tree (started play.tree p (planned_at plan play k p)) s.rows k h
     (λ row is v. let at = found_test (stands_at play.tree (Some p)) row (slice_get s.rows k) is e in
     let least = start_number n play.tree p row at v in
-    started_from n play.tree p (planned_at play.tasks p) row (stands play.tree p row at) (omega (arith, least)))
+    started_from n play.tree p (planned_at plan play k p) row (stands play.tree p row at) (omega (arith, least)))
     w)
 
-start_moves : (plan : PlanOf) (s : State) (k : ℕ) (found : Option PlayOf) → open_play plan s ≡ found → option_map_or (may_start_in s k) found false ≡ true → Moves plan s (option_map_or (started_in s k) found s)
+start_moves : (plan : PlanOf) (s : State) (k : ℕ) (found : Option PlayOf) → open_play plan s ≡ found → option_map_or (may_start_in s k) found false ≡ true → Moves plan s (option_map_or (started_in plan s k) found s)
 start_moves plan s k None o e = cc
 start_moves plan s k (Some play) o e = start_at_moves plan s k play s.place o (and_right (has_room s) _ e)
 
@@ -331,7 +331,7 @@ start_place plan s k None e = cc
 start_place plan s k (Some play) e = start_place_in s k play s.place (and_right (has_room s) _ e)
 
 -- after a start the host is past it
-start_at_raises : (plan : PlanOf) (s : State) (k : ℕ) (play : PlayOf) (place : Option ℕ) (p : ℕ) → IsSound plan s → open_play plan s ≡ Some play → place ≡ Some p → at_row (stands_at play.tree place) s.rows k ≡ true → IsPast plan (option_map_or (start_at s k play) place s) k s.play (2 * p + 1)
+start_at_raises : (plan : PlanOf) (s : State) (k : ℕ) (play : PlayOf) (place : Option ℕ) (p : ℕ) → IsSound plan s → open_play plan s ≡ Some play → place ≡ Some p → at_row (stands_at play.tree place) s.rows k ≡ true → IsPast plan (option_map_or (start_at plan s k play) place s) k s.play (2 * p + 1)
 start_at_raises plan s k play None p w o f e = cc
 start_at_raises plan s k play (Some q) p w o f e =
     let same : q ≡ p = cc in
@@ -339,14 +339,14 @@ start_at_raises plan s k play (Some q) p w o f e =
     inr (
       refl,
       opened,
-      λ pl is. of_play plan s (start_at s k play q) k 0 (2 * p + 1) play o
-          (λ v. change_raises 0 (2 * p + 1) play.tree (started play.tree q (planned_at play.tasks q)) s.rows k
+      λ pl is. of_play plan s (start_at plan s k play q) k 0 (2 * p + 1) play o
+          (λ v. change_raises 0 (2 * p + 1) play.tree (started play.tree q (planned_at plan play k q)) s.rows k
           (λ row here u. let at = found_test (stands_at play.tree (Some q)) row (slice_get s.rows k) here e in
-          started_from (2 * p + 1) play.tree q (planned_at play.tasks q) row (stands play.tree q row at) (omega (arith, same)))
+          started_from (2 * p + 1) play.tree q (planned_at plan play k q) row (stands play.tree q row at) (omega (arith, same)))
           v) pl is (w opened k pl is),
     )
 
-start_raises : (plan : PlanOf) (s : State) (k p : ℕ) (found : Option PlayOf) → IsSound plan s → open_play plan s ≡ found → s.place ≡ Some p → option_map_or (may_start_in s k) found false ≡ true → IsPast plan (option_map_or (started_in s k) found s) k s.play (2 * p + 1)
+start_raises : (plan : PlanOf) (s : State) (k p : ℕ) (found : Option PlayOf) → IsSound plan s → open_play plan s ≡ found → s.place ≡ Some p → option_map_or (may_start_in s k) found false ≡ true → IsPast plan (option_map_or (started_in plan s k) found s) k s.play (2 * p + 1)
 start_raises plan s k p None w o f e = cc
 start_raises plan s k p (Some play) w o f e = start_at_raises plan s k play s.place p w o f (and_right (has_room s) _ e)
 

@@ -8,6 +8,7 @@ use Rattle.std.proofs.lemmas.Slice.Eq.{bytes_eq-Decides}
 use Rattle.pb_value.specs.Reading.{and_then, map_ok}
 use Rattle.pb_inventory.specs.InventoryOf.{InventoryOf}
 use Rattle.pb_inventory.specs.Reading.{inventory_of}
+use Rattle.pb_layers.specs.Scope.{Map}
 use Rattle.pb_patterns.specs.Reading.{pattern_of, all_taken, IsRefused, IsFaultOf}
 use Rattle.pb_patterns.specs.declared.element.Element.{Element}
 use Rattle.pb_patterns.specs.declared.fault.PatFault.{PatFault}
@@ -23,7 +24,7 @@ use Rattle.pb_state.specs.declared.bundle.BundleFault.{BundleFault}
 use Rattle.pb_state.specs.declared.bundle.BundleFault.TheVariants.{Inventory, Playbook as InPlaybook, Roles, Limit, BadForks, TooLarge}
 use Rattle.pb_state.specs.declared.bundle.RoleFault.TheVariants.{TooLarge as TooManyPlaces}
 use Rattle.pb_state.specs.Plan.{PlayOf, PlanOf}
-use Rattle.pb_state.specs.Bundle.{in_part, limit_of, limited, booked, with_places, readings_of, Readings, has_too_many_places, are_bad_forks, max_bytes, bundle_bytes, IsPlayOf, ArePlaysOf, AreRefused, IsPlaybookFault, IsLimitFault, IsBundleFault, IsPlanIn, IsPlanOf}
+use Rattle.pb_state.specs.Bundle.{in_part, limit_of, limited, booked, varied, extra_in, with_places, readings_of, Readings, has_too_many_places, are_bad_forks, max_bytes, bundle_bytes, IsPlayOf, ArePlaysOf, AreRefused, IsPlaybookFault, IsLimitFault, IsBundleFault, IsPlanIn, IsPlanOf}
 
 -- the plays in front are planned
 abbrev pub ArePlannedTo : InventoryOf → List Bool → List Play → List Play → List PlayOf → List (List ℕ) → Type 0
@@ -100,42 +101,54 @@ unfolding readings_of
 inventory_fault bundle fault sized is =
     record { in_plays = all_taken; in_limit = all_taken; plays_refused = none_refused; limit_refused = none_refused; met = rw (sized.size, sized.forks, is) refl }
 
--- the inventory is read
-pub record HasInventory (bundle : Bundle) (inventory : InventoryOf) : Type 0 where
+-- the inventory and the extra variables are read
+pub record HasVariables (bundle : Bundle) (inventory : InventoryOf) (extra : Map) : Type 0 where
   pub sized : IsSized bundle
   pub read : in_part Inventory (inventory_of bundle.inventory) ≡ Ok inventory
+  pub extra_read : extra_in bundle.extra ≡ Ok extra
 
-behind_inventory : (in_plays in_limit : List ℕ → Bool) (bundle : Bundle) (inventory : InventoryOf) → HasInventory bundle inventory
-    → readings_of in_plays in_limit bundle ≡ booked in_plays in_limit bundle inventory
+pub extra_fault : (bundle : Bundle) (inventory : InventoryOf) (fault : BundleFault) → IsSized bundle → in_part Inventory (inventory_of bundle.inventory) ≡ Ok inventory
+    → extra_in bundle.extra ≡ Err fault → IsBundleFault bundle fault
 unfolding readings_of
-behind_inventory in_plays in_limit bundle inventory has = rw (has.sized.size, has.sized.forks, has.read) refl
+extra_fault bundle inventory fault sized read is =
+    record { in_plays = all_taken; in_limit = all_taken; plays_refused = none_refused; limit_refused = none_refused; met = rw (sized.size, sized.forks, read, is) refl }
 
-pub book_fault : (bundle : Bundle) (inventory : InventoryOf) (fault : BundleFault) → HasInventory bundle inventory → IsPlaybookFault bundle.playbook fault → IsBundleFault bundle fault
-book_fault bundle inventory fault has (refused, are, is) =
-    record { in_plays = refused; in_limit = all_taken; plays_refused = are; limit_refused = none_refused; met = behind_inventory refused all_taken bundle inventory has ∙ rw is refl }
+behind_variables : (in_plays in_limit : List ℕ → Bool) (bundle : Bundle) (inventory : InventoryOf) (extra : Map) → HasVariables bundle inventory extra
+    → readings_of in_plays in_limit bundle ≡ booked in_plays in_limit bundle inventory extra
+unfolding readings_of
+behind_variables in_plays in_limit bundle inventory extra has = rw (has.sized.size, has.sized.forks, has.read, has.extra_read) refl
 
-behind_book : (in_limit : List ℕ → Bool) (bundle : Bundle) (inventory : InventoryOf) (book : Playbook) → HasInventory bundle inventory
-    → in_part InPlaybook (playbook_of all_taken bundle.playbook) ≡ Ok book → readings_of all_taken in_limit bundle ≡ limited in_limit bundle.limit inventory book
-behind_book in_limit bundle inventory book has is = behind_inventory all_taken in_limit bundle inventory has ∙ rw is refl
+pub book_fault : (bundle : Bundle) (inventory : InventoryOf) (extra : Map) (fault : BundleFault) → HasVariables bundle inventory extra → IsPlaybookFault bundle.playbook fault
+    → IsBundleFault bundle fault
+book_fault bundle inventory extra fault has (refused, are, is) =
+    record { in_plays = refused; in_limit = all_taken; plays_refused = are; limit_refused = none_refused; met = behind_variables refused all_taken bundle inventory extra has ∙ rw is refl }
 
-pub limit_met : (bundle : Bundle) (inventory : InventoryOf) (book : Playbook) (fault : BundleFault) → HasInventory bundle inventory
+behind_book : (in_limit : List ℕ → Bool) (bundle : Bundle) (inventory : InventoryOf) (extra : Map) (book : Playbook) → HasVariables bundle inventory extra
+    → in_part InPlaybook (playbook_of all_taken bundle.playbook) ≡ Ok book → readings_of all_taken in_limit bundle ≡ limited in_limit bundle.limit inventory extra book
+behind_book in_limit bundle inventory extra book has is = behind_variables all_taken in_limit bundle inventory extra has ∙ rw is refl
+
+pub limit_met : (bundle : Bundle) (inventory : InventoryOf) (extra : Map) (book : Playbook) (fault : BundleFault) → HasVariables bundle inventory extra
     → in_part InPlaybook (playbook_of all_taken bundle.playbook) ≡ Ok book → IsLimitFault bundle.limit fault → IsBundleFault bundle fault
-limit_met bundle inventory book fault has booked (refused, are, is) =
-    record { in_plays = all_taken; in_limit = refused; plays_refused = none_refused; limit_refused = are; met = behind_book refused bundle inventory book has booked ∙ rw is refl }
+limit_met bundle inventory extra book fault has booked (refused, are, is) =
+    record { in_plays = all_taken; in_limit = refused; plays_refused = none_refused; limit_refused = are; met = behind_book refused bundle inventory extra book has booked ∙ rw is refl }
 
-behind_limit : (bundle : Bundle) (inventory : InventoryOf) (book : Playbook) (limit : Option (List Element)) → HasInventory bundle inventory
+behind_limit : (bundle : Bundle) (inventory : InventoryOf) (extra : Map) (book : Playbook) (limit : Option (List Element)) → HasVariables bundle inventory extra
     → in_part InPlaybook (playbook_of all_taken bundle.playbook) ≡ Ok book → limit_of all_taken bundle.limit ≡ Ok limit
-    → readings_of all_taken all_taken bundle ≡ with_places (record { inventory = inventory; book = book; limit = limit })
-behind_limit bundle inventory book limit has booked is = behind_book all_taken bundle inventory book has booked ∙ rw is refl
+    → readings_of all_taken all_taken bundle ≡ with_places (record { inventory = inventory; extra = extra; book = book; limit = limit })
+behind_limit bundle inventory extra book limit has booked is = behind_book all_taken bundle inventory extra book has booked ∙ rw is refl
 
-pub places_fault : (bundle : Bundle) (inventory : InventoryOf) (book : Playbook) (limit : Option (List Element)) → HasInventory bundle inventory
+pub places_fault : (bundle : Bundle) (inventory : InventoryOf) (extra : Map) (book : Playbook) (limit : Option (List Element)) → HasVariables bundle inventory extra
     → in_part InPlaybook (playbook_of all_taken bundle.playbook) ≡ Ok book → limit_of all_taken bundle.limit ≡ Ok limit → list_any has_too_many_places book.plays ≡ true
     → IsBundleFault bundle (Roles TooManyPlaces)
-places_fault bundle inventory book limit has booked is many =
-    record { in_plays = all_taken; in_limit = all_taken; plays_refused = none_refused; limit_refused = none_refused; met = behind_limit bundle inventory book limit has booked is ∙ rw many refl }
+places_fault bundle inventory extra book limit has booked is many =
+    record { in_plays = all_taken; in_limit = all_taken; plays_refused = none_refused; limit_refused = none_refused; met = behind_limit bundle inventory extra book limit has booked is ∙ rw many refl }
 
-pub plan_made : (bundle : Bundle) (inventory : InventoryOf) (book : Playbook) (limit : Option (List Element)) (plan : PlanOf) → HasInventory bundle inventory
+pub plan_made : (bundle : Bundle) (inventory : InventoryOf) (extra : Map) (book : Playbook) (limit : Option (List Element)) (plan : PlanOf) → HasVariables bundle inventory extra
     → in_part InPlaybook (playbook_of all_taken bundle.playbook) ≡ Ok book → limit_of all_taken bundle.limit ≡ Ok limit → list_any has_too_many_places book.plays ≡ false
-    → IsPlanIn inventory limit bundle.forks book plan → IsPlanOf bundle plan
-plan_made bundle inventory book limit plan has booked is few made =
-    record { readings = record { inventory = inventory; book = book; limit = limit }; read = behind_limit bundle inventory book limit has booked is ∙ rw few refl; planned = made }
+    → IsPlanIn inventory extra limit bundle.forks book plan → IsPlanOf bundle plan
+plan_made bundle inventory extra book limit plan has booked is few made =
+    record {
+      readings = record { inventory = inventory; extra = extra; book = book; limit = limit };
+      read = behind_limit bundle inventory extra book limit has booked is ∙ rw few refl;
+      planned = made;
+    }

@@ -39,13 +39,13 @@ open_keeps : (plan : PlanOf) (s : State) (next : Option ℕ) → Keeps s (option
 open_keeps plan s None = same_sends s s refl refl refl
 open_keeps plan s (Some n) = opened_keeps s n (slice_get plan.plays n)
 
-start_keeps : (s : State) (h : ℕ) (play : PlayOf) (place : Option ℕ) → Keeps s (option_map_or (start_at s h play) place s)
-start_keeps s h play None = same_sends s s refl refl refl
-start_keeps s h play (Some p) = same_sends s (start_at s h play p) (length-change s.rows h _) refl refl
+start_keeps : (plan : PlanOf) (s : State) (h : ℕ) (play : PlayOf) (place : Option ℕ) → Keeps s (option_map_or (start_at plan s h play) place s)
+start_keeps plan s h play None = same_sends s s refl refl refl
+start_keeps plan s h play (Some p) = same_sends s (start_at plan s h play p) (length-change s.rows h _) refl refl
 
-started_keeps : (s : State) (h : ℕ) (found : Option PlayOf) → Keeps s (option_map_or (started_in s h) found s)
-started_keeps s h None = same_sends s s refl refl refl
-started_keeps s h (Some play) = start_keeps s h play s.place
+started_keeps : (plan : PlanOf) (s : State) (h : ℕ) (found : Option PlayOf) → Keeps s (option_map_or (started_in plan s h) found s)
+started_keeps plan s h None = same_sends s s refl refl refl
+started_keeps plan s h (Some play) = start_keeps plan s h play s.place
 
 sent_keeps : (s : State) (h : ℕ) (ticket : Ticket) (found : Option PlayOf) → Keeps s (option_map_or (sent_in s h ticket) found s)
 sent_keeps s h ticket None = same_sends s s refl refl refl
@@ -67,7 +67,7 @@ stopped_keeps s = same_sends s (stopped s) refl refl refl
 
 pub hosts_stay : (plan : PlanOf) (s : State) (e : Event) → length (after plan s e).rows ≡ length s.rows
 hosts_stay plan s Open = (open_keeps plan s (next_play plan s)).hosts
-hosts_stay plan s (Start h) = (started_keeps s h.0 (open_play plan s)).hosts
+hosts_stay plan s (Start h) = (started_keeps plan s h.0 (open_play plan s)).hosts
 hosts_stay plan s (Send h item ticket) = (sent_keeps s h.0 ticket (open_play plan s)).hosts
 hosts_stay plan s (Reported r) = (reported_keeps s r (open_play plan s)).hosts
 hosts_stay plan s Turn = (turned_keeps s (open_play plan s)).hosts
@@ -88,7 +88,7 @@ forks_given s n e = omega (arith, leb-true 1 n (and_left (nat_le 1 n) _ e))
 -- some host may run, whatever comes
 pub forks_stay : (plan : PlanOf) (s : State) (e : Event) → possible plan s e ≡ true → 0 < s.forks → 0 < (after plan s e).forks
 forks_stay plan s Open p f = same_forks s.forks _ (open_keeps plan s (next_play plan s)).forks f
-forks_stay plan s (Start h) p f = same_forks s.forks _ (started_keeps s h.0 (open_play plan s)).forks f
+forks_stay plan s (Start h) p f = same_forks s.forks _ (started_keeps plan s h.0 (open_play plan s)).forks f
 forks_stay plan s (Send h item ticket) p f = same_forks s.forks _ (sent_keeps s h.0 ticket (open_play plan s)).forks f
 forks_stay plan s (Reported r) p f = same_forks s.forks _ (reported_keeps s r (open_play plan s)).forks f
 forks_stay plan s Turn p f = same_forks s.forks _ (turned_keeps s (open_play plan s)).forks f
@@ -99,7 +99,7 @@ forks_stay plan s (Forks n) p f = forks_given s n p
 -- an event sends one job at most
 pub sends_rise : (plan : PlanOf) (s : State) (e : Event) → (after plan s e).sends ≤ s.sends + 1
 sends_rise plan s Open = (open_keeps plan s (next_play plan s)).most
-sends_rise plan s (Start h) = (started_keeps s h.0 (open_play plan s)).most
+sends_rise plan s (Start h) = (started_keeps plan s h.0 (open_play plan s)).most
 sends_rise plan s (Send h item ticket) = (sent_keeps s h.0 ticket (open_play plan s)).most
 sends_rise plan s (Reported r) = (reported_keeps s r (open_play plan s)).most
 sends_rise plan s Turn = (turned_keeps s (open_play plan s)).most
@@ -110,7 +110,7 @@ sends_rise plan s (Forks n) = omega arith
 -- no ticket is given a second time
 pub sends_stay : (plan : PlanOf) (s : State) (e : Event) → s.sends ≤ (after plan s e).sends
 sends_stay plan s Open = (open_keeps plan s (next_play plan s)).least
-sends_stay plan s (Start h) = (started_keeps s h.0 (open_play plan s)).least
+sends_stay plan s (Start h) = (started_keeps plan s h.0 (open_play plan s)).least
 sends_stay plan s (Send h item ticket) = (sent_keeps s h.0 ticket (open_play plan s)).least
 sends_stay plan s (Reported r) = (reported_keeps s r (open_play plan s)).least
 sends_stay plan s Turn = (turned_keeps s (open_play plan s)).least

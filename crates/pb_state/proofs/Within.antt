@@ -11,7 +11,7 @@ use Rattle.pb_outcome.specs.declared.outcome.Form.{Form}
 use Rattle.pb_planes.specs.Set.{is_in as is_member}
 use Rattle.pb_tree.specs.Tree.{TreeOf, size_of}
 use Rattle.pb_tree.specs.Walk.{one_halted}
-use Rattle.pb_state.specs.declared.planned.Planned.TheVariants.{Sends}
+use Rattle.pb_items.specs.declared.planned.Planned.TheVariants.{Sends}
 use Rattle.pb_state.specs.declared.row.Counts.{Counts}
 use Rattle.pb_state.specs.declared.row.Running.{Running}
 use Rattle.pb_state.specs.Row.{HostRow, first_row, joined, left, finished, started, sent, sent_running, reported, reported_running, counted, more, task_of, item_of}

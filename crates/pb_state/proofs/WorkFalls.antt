@@ -14,8 +14,8 @@ use Rattle.pb_outcome.specs.declared.gather.TaskResult.{TaskResult}
 use Rattle.pb_outcome.specs.declared.job.Report.{Report}
 use Rattle.pb_outcome.specs.declared.outcome.Form.{Form}
 use Rattle.pb_state.specs.declared.decided.Decided.{Decided as DecidedOf}
-use Rattle.pb_state.specs.declared.planned.Planned.{Planned}
-use Rattle.pb_state.specs.declared.planned.Planned.TheVariants.{Decided, Sends}
+use Rattle.pb_items.specs.declared.planned.Planned.{Planned}
+use Rattle.pb_items.specs.declared.planned.Planned.TheVariants.{Decided, Sends}
 use Rattle.pb_state.specs.declared.row.Running.{Running}
 use Rattle.pb_state.specs.declared.event.Event.{Event}
 use Rattle.pb_state.specs.declared.event.Event.TheVariants.{Open, Start, Send, Report as Reported, Turn, Close, Stop, Forks}
@@ -146,13 +146,13 @@ none_at tree [] h e = cc
 none_at tree (row ∷ rows) zero e = none_stands_at tree row e
 none_at tree (row ∷ rows) (suc h) e = none_at tree rows h e
 
-start_at_less : (plan : PlanOf) (s : State) (h : ℕ) (play : PlayOf) (place : Option ℕ) → open_play plan s ≡ Some play → at_row (stands_at play.tree place) s.rows h ≡ true → work plan (option_map_or (start_at s h play) place s) < work plan s
+start_at_less : (plan : PlanOf) (s : State) (h : ℕ) (play : PlayOf) (place : Option ℕ) → open_play plan s ≡ Some play → at_row (stands_at play.tree place) s.rows h ≡ true → work plan (option_map_or (start_at plan s h play) place s) < work plan s
 start_at_less plan s h play None o e = absurd (none_at play.tree s.rows h e)
 start_at_less plan s h play (Some p) o e =
-    let planned : Planned = planned_at play.tasks p in
-    row_event plan s play h s.sends (start_at s h play p).decided (started play.tree p planned) (stands_at play.tree (Some p)) o (λ row may. start_less play.tree (Some p) p planned row may) e
+    let planned : Planned = planned_at plan play h p in
+    row_event plan s play h s.sends (start_at plan s h play p).decided (started play.tree p planned) (stands_at play.tree (Some p)) o (λ row may. start_less play.tree (Some p) p planned row may) e
 
-start_in_less : (plan : PlanOf) (s : State) (h : ℕ) (found : Option PlayOf) → open_play plan s ≡ found → option_map_or (may_start_in s h) found false ≡ true → work plan (option_map_or (started_in s h) found s) < work plan s
+start_in_less : (plan : PlanOf) (s : State) (h : ℕ) (found : Option PlayOf) → open_play plan s ≡ found → option_map_or (may_start_in s h) found false ≡ true → work plan (option_map_or (started_in plan s h) found s) < work plan s
 start_in_less plan s h None o e = cc
 start_in_less plan s h (Some play) o e = start_at_less plan s h play s.place o (and_right (has_room s) _ e)
 

@@ -7,6 +7,9 @@ use Rattle.pb_value.specs.Reading.{and_then, map_ok}
 use Rattle.pb_inventory.specs.InventoryOf.{InventoryOf}
 use Rattle.pb_inventory.specs.Reading.{inventory_of}
 use Rattle.pb_inventory.specs.Vars.{strangers}
+use Rattle.pb_layers.specs.Scope.{Map}
+use Rattle.pb_variables.specs.Extra.{extra_of}
+use Rattle.pb_variables.specs.Magic.{plan_magic, play_magic}
 use Rattle.pb_patterns.specs.Reading.{pattern_of, all_taken, IsRefused}
 use Rattle.pb_patterns.specs.Selection.{IsSelection}
 use Rattle.pb_patterns.specs.declared.element.Element.{Element}
@@ -18,7 +21,7 @@ use Rattle.pb_play.specs.Playbooks.{playbook_of}
 use Rattle.pb_tree.specs.Tree.{Nodes, Nothing, Task, Flush, TreeOf, size_of}
 use Rattle.pb_state.specs.declared.bundle.Bundle.{Bundle}
 use Rattle.pb_state.specs.declared.bundle.BundleFault.{BundleFault}
-use Rattle.pb_state.specs.declared.bundle.BundleFault.TheVariants.{Inventory, Playbook as InPlaybook, Roles, Limit, BadForks, TooLarge}
+use Rattle.pb_state.specs.declared.bundle.BundleFault.TheVariants.{Inventory, Playbook as InPlaybook, Roles, Limit, Extra, BadForks, TooLarge}
 use Rattle.pb_state.specs.declared.bundle.RoleFault.TheVariants.{TooLarge as TooManyPlaces}
 use Rattle.pb_state.specs.Plan.{PlayOf, PlanOf}
 
@@ -52,8 +55,9 @@ abbrev pub max_places : ℕ
 max_places = 16384
 
 -- a play whose own hosts are these
-abbrev pub play_with : List Bool → Play → PlayOf
-play_with hosts play = record { name = play.name; tree = play_tree play; tasks = all_tasks play; hosts = hosts }
+abbrev pub play_with : InventoryOf → List Bool → Play → PlayOf
+play_with inventory hosts play =
+    record { name = play.name; tree = play_tree play; tasks = all_tasks play; hosts = hosts; vars = play.vars; magic = play_magic inventory hosts }
 
 abbrev pub has_too_many_places : Play → Bool
 has_too_many_places play = nat_lt max_places (size_of (play_tree play))
@@ -62,11 +66,11 @@ has_too_many_places play = nat_lt max_places (size_of (play_tree play))
 abbrev pub max_bytes : ℕ
 max_bytes = 67108864
 
-abbrev pub limit_bytes : Option (List ℕ) → ℕ
-limit_bytes limit = option_map_or length limit 0
+abbrev pub bytes_in : Option (List ℕ) → ℕ
+bytes_in given = option_map_or length given 0
 
 abbrev pub bundle_bytes : Bundle → ℕ
-bundle_bytes bundle = length bundle.inventory + length bundle.playbook + limit_bytes bundle.limit
+bundle_bytes bundle = length bundle.inventory + length bundle.playbook + bytes_in bundle.limit + bytes_in bundle.extra
 
 -- 1 to 256
 abbrev pub are_bad_forks : ℕ → Bool
@@ -75,6 +79,7 @@ are_bad_forks forks = nat_eq forks 0 || nat_lt 256 forks
 -- what the parts of a bundle say
 pub record Readings : Type 0 where
   pub inventory : InventoryOf
+  pub extra : Map
   pub book : Playbook
   -- the elements of the pattern that the plays are limited to, if there is one
   pub limit : Option (List Element)
@@ -86,19 +91,28 @@ limit_of refused (Some text) = in_part Limit (map_ok Some (pattern_of refused (t
 abbrev pub with_places : Readings → Result Readings BundleFault
 with_places readings = if list_any has_too_many_places readings.book.plays then Err (Roles TooManyPlaces) else Ok readings
 
-abbrev pub limited : (List ℕ → Bool) → Option (List ℕ) → InventoryOf → Playbook → Result Readings BundleFault
-limited refused limit inventory book = and_then (limit_of refused limit) (λ elements. with_places (record { inventory = inventory; book = book; limit = elements }))
+-- the extra variables, if there are some
+abbrev pub extra_in : Option (List ℕ) → Result Map BundleFault
+extra_in None = Ok []
+extra_in (Some bytes) = in_part Extra (extra_of bytes)
 
-abbrev pub booked : (in_plays in_limit : List ℕ → Bool) → Bundle → InventoryOf → Result Readings BundleFault
-booked in_plays in_limit bundle inventory = and_then (in_part InPlaybook (playbook_of in_plays bundle.playbook)) (limited in_limit bundle.limit inventory)
+abbrev pub limited : (List ℕ → Bool) → Option (List ℕ) → InventoryOf → Map → Playbook → Result Readings BundleFault
+limited refused limit inventory extra book =
+    and_then (limit_of refused limit) (λ elements. with_places (record { inventory = inventory; extra = extra; book = book; limit = elements }))
 
--- what a bundle says, or its first fault: its size comes first, then its forks, the inventory, the playbook, the limit, and the plays' trees.
+abbrev pub booked : (in_plays in_limit : List ℕ → Bool) → Bundle → InventoryOf → Map → Result Readings BundleFault
+booked in_plays in_limit bundle inventory extra = and_then (in_part InPlaybook (playbook_of in_plays bundle.playbook)) (limited in_limit bundle.limit inventory extra)
+
+abbrev pub varied : (in_plays in_limit : List ℕ → Bool) → Bundle → InventoryOf → Result Readings BundleFault
+varied in_plays in_limit bundle inventory = and_then (extra_in bundle.extra) (booked in_plays in_limit bundle inventory)
+
+-- what a bundle says, or its first fault: its size comes first, then its forks, the inventory, the extra variables, the playbook, the limit, and the plays' trees.
 -- The tests tell which regular expressions are refused, in the plays' patterns and in the limit.
 unfoldable pub readings_of : (in_plays in_limit : List ℕ → Bool) → Bundle → Result Readings BundleFault
 readings_of in_plays in_limit bundle =
     if nat_lt max_bytes (bundle_bytes bundle) then Err TooLarge
     else (if are_bad_forks bundle.forks then Err BadForks
-    else and_then (in_part Inventory (inventory_of bundle.inventory)) (booked in_plays in_limit bundle))
+    else and_then (in_part Inventory (inventory_of bundle.inventory)) (varied in_plays in_limit bundle))
 
 -- the hosts that two patterns select
 abbrev pub both : List Bool → List Bool → List Bool
@@ -119,7 +133,7 @@ stranger_line name = codes "warning: no such host " ++ name
 -- a play has the hosts that its own pattern and the limit select; the lines warn of the elements of its pattern
 abbrev pub IsPlayOf : InventoryOf → List Bool → Play → PlayOf → List (List ℕ) → Type 0
 IsPlayOf inventory limit play planned lines =
-    (own : Selected) × IsSelection inventory play.hosts own × (planned ≡ play_with (both own.hosts limit) play) × (lines ≡ map unmatched_line own.unmatched)
+    (own : Selected) × IsSelection inventory play.hosts own × (planned ≡ play_with inventory (both own.hosts limit) play) × (lines ≡ map unmatched_line own.unmatched)
 
 abbrev pub ArePlaysOf : InventoryOf → List Bool → List Play → List PlayOf → List (List ℕ) → Type 0
 ArePlaysOf inventory limit [] [] lines = lines ≡ []
@@ -128,21 +142,24 @@ ArePlaysOf inventory limit (play ∷ plays) [] lines = ⊥
 ArePlaysOf inventory limit (play ∷ plays) (planned ∷ rest) lines =
     (first : List (List ℕ)) × (later : List (List ℕ)) × IsPlayOf inventory limit play planned first × ArePlaysOf inventory limit plays rest later × (lines ≡ first ++ later)
 
--- a plan of an inventory, a limit's elements and a playbook: the hosts, the plays with their hosts, the forks, and what is warned of, of the
--- inventory, of the limit, and of each play
-pub record IsPlanIn (inventory : InventoryOf) (limit : Option (List Element)) (forks : ℕ) (book : Playbook) (plan : PlanOf) : Type 0 where
+-- a plan of an inventory, extra variables, a limit's elements and a playbook: the hosts, the plays with their hosts, the forks, the variables, and
+-- what is warned of, of the inventory, of the limit, and of each play
+pub record IsPlanIn (inventory : InventoryOf) (extra : Map) (limit : Option (List Element)) (forks : ℕ) (book : Playbook) (plan : PlanOf) : Type 0 where
   pub selected : Selected
   pub lines : List (List ℕ)
   pub limited : IsLimit inventory limit selected
   pub plays : ArePlaysOf inventory selected.hosts book.plays plan.plays lines
   pub hosts : plan.hosts ≡ inventory.hosts
   pub has_forks : plan.forks ≡ forks
+  pub has_inventory : plan.inventory ≡ inventory
+  pub has_extra : plan.extra ≡ extra
+  pub has_magic : plan.magic ≡ plan_magic inventory extra
   pub warnings : plan.warnings ≡ map stranger_line (strangers inventory) ++ map unmatched_line selected.unmatched ++ lines
 
 pub record IsPlanOf (bundle : Bundle) (plan : PlanOf) : Type 0 where
   pub readings : Readings
   pub read : readings_of all_taken all_taken bundle ≡ Ok readings
-  pub planned : IsPlanIn readings.inventory readings.limit bundle.forks readings.book plan
+  pub planned : IsPlanIn readings.inventory readings.extra readings.limit bundle.forks readings.book plan
 
 -- the regex crate refuses all of these expressions, for another cause than memory
 abbrev pub AreRefused : (List ℕ → Bool) → Type 0

@@ -13,8 +13,8 @@ use Rattle.pb_outcome.specs.declared.job.Report.{Report}
 use Rattle.pb_outcome.specs.declared.outcome.Form.{Form}
 use Rattle.pb_state.specs.declared.event.Event.{Event}
 use Rattle.pb_state.specs.declared.event.Event.TheVariants.{Open, Start, Send, Report as Reported, Turn, Close, Stop, Forks}
-use Rattle.pb_state.specs.declared.planned.Planned.{Planned}
-use Rattle.pb_state.specs.declared.planned.Planned.TheVariants.{Decided as DecidedItem, Sends}
+use Rattle.pb_items.specs.declared.planned.Planned.{Planned}
+use Rattle.pb_items.specs.declared.planned.Planned.TheVariants.{Decided as DecidedItem, Sends}
 use Rattle.pb_state.specs.declared.row.Finish.{Finish}
 use Rattle.pb_state.specs.declared.row.Running.{Running}
 use Rattle.pb_state.specs.declared.decided.Decided.{Decided}
@@ -200,11 +200,11 @@ start_with s h play p planned =
       decided = Some (record { place = p; is_new = not (list_any (has_begun p) s.rows); done = done_at_once planned });
     }
 
-abbrev pub start_at : State → ℕ → PlayOf → ℕ → State
-start_at s h play p = start_with s h play p (planned_at play.tasks p)
+abbrev pub start_at : PlanOf → State → ℕ → PlayOf → ℕ → State
+start_at plan s h play p = start_with s h play p (planned_at plan play h p)
 
-abbrev pub started_in : State → ℕ → PlayOf → State
-started_in s h play = option_map_or (start_at s h play) s.place s
+abbrev pub started_in : PlanOf → State → ℕ → PlayOf → State
+started_in plan s h play = option_map_or (start_at plan s h play) s.place s
 
 abbrev pub sent_in : State → ℕ → Ticket → PlayOf → State
 sent_in s h ticket play = record s { rows = change s.rows h (sent ticket); sends = s.sends + 1; decided = None }
@@ -238,7 +238,7 @@ with_forks s n = record s { forks = n; decided = None }
 
 abbrev pub after : PlanOf → State → Event → State
 after plan s Open = option_map_or (opened_at plan s) (next_play plan s) s
-after plan s (Start h) = option_map_or (started_in s h.0) (open_play plan s) s
+after plan s (Start h) = option_map_or (started_in plan s h.0) (open_play plan s) s
 after plan s (Send h item ticket) = option_map_or (sent_in s h.0 ticket) (open_play plan s) s
 after plan s (Reported r) = option_map_or (reported_in s r) (open_play plan s) s
 after plan s Turn = option_map_or (turned_in s) (open_play plan s) s

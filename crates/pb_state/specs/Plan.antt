@@ -1,18 +1,37 @@
 -- A plan as plain lists: what the machine reads of a bundle.
-use Rattle.std.specs.Prelude.{ℕ, Bool, List}
+use Rattle.std.specs.Prelude.{ℕ, Bool, List, []}
 use Rattle.pb_tree.specs.Tree.{TreeOf}
+use Rattle.pb_inventory.specs.InventoryOf.{InventoryOf}
+use Rattle.pb_layers.specs.Scope.{Map}
 use Rattle.pb_play.specs.declared.task.Task.{Task}
 
--- a play: its name, its tree, the task at each place of the tree, and of each host by its number whether it is one of the play's own
+-- a play: its name, its tree, the task at each place of the tree, of each host by its number whether it is one of the play's own, its
+-- variables, and those that the play gives by itself
 pub record PlayOf : Type 0 where
   pub name : List ℕ
   pub tree : TreeOf
   pub tasks : List Task
   pub hosts : List Bool
+  pub vars : Map
+  pub magic : Map
 
--- the names of the hosts by their numbers, the plays in order, how many hosts may run at once, and lines that tell what was odd in the bundle
+-- the names of the hosts by their numbers, the plays in order, how many hosts may run at once, lines that tell what was odd in the bundle,
+-- the inventory with its variables, the extra variables, and those that the plan gives by itself
 pub record PlanOf : Type 0 where
   pub hosts : List (List ℕ)
   pub plays : List PlayOf
   pub forks : ℕ
   pub warnings : List (List ℕ)
+  pub inventory : InventoryOf
+  pub extra : Map
+  pub magic : Map
+
+-- what worked examples are made of: hosts in no group, and a play and a plan without variables
+abbrev pub bare_inventory : List (List ℕ) → InventoryOf
+bare_inventory hosts = record { hosts = hosts; groups = []; own = []; links = []; group_vars = []; host_vars = [] }
+
+abbrev pub bare_play : List ℕ → TreeOf → List Task → List Bool → PlayOf
+bare_play name tree tasks hosts = record { name = name; tree = tree; tasks = tasks; hosts = hosts; vars = []; magic = [] }
+
+abbrev pub bare_plan : List (List ℕ) → List PlayOf → PlanOf
+bare_plan hosts plays = record { hosts = hosts; plays = plays; forks = 5; warnings = []; inventory = bare_inventory hosts; extra = []; magic = [] }

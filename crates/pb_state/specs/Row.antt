@@ -17,8 +17,8 @@ use Rattle.pb_outcome.specs.Results.{judged}
 use Rattle.pb_state.specs.declared.row.Counts.{Counts}
 use Rattle.pb_state.specs.declared.row.Finish.{Finish}
 use Rattle.pb_state.specs.declared.row.Running.{Running}
-use Rattle.pb_state.specs.declared.planned.Planned.{Planned}
-use Rattle.pb_state.specs.declared.planned.Planned.TheVariants.{Decided, Sends}
+use Rattle.pb_items.specs.declared.planned.Planned.{Planned}
+use Rattle.pb_items.specs.declared.planned.Planned.TheVariants.{Decided, Sends}
 
 pub record HostRow : Type 0 where
   -- what the host answered in the open batch, place after place

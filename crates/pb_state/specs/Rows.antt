@@ -6,7 +6,8 @@ use Rattle.pb_play.specs.declared.modules.Module.TheVariants.{Debug}
 use Rattle.pb_state.specs.declared.event.Event.{Event}
 use Rattle.pb_state.specs.declared.event.Event.TheVariants.{Open, Start, Turn, Close}
 use Rattle.pb_state.specs.Bundle.{tree_for}
-use Rattle.pb_state.specs.Plan.{PlayOf, PlanOf}
+use Rattle.pb_state.specs.Results.{on_tasks}
+use Rattle.pb_state.specs.Plan.{PlayOf, PlanOf, bare_play, bare_plan}
 use Rattle.pb_state.specs.Row.{HostRow, first_row}
 use Rattle.pb_state.specs.State.{State}
 use Rattle.pb_state.specs.Machine.{possible, first_state, first_play}
@@ -14,11 +15,11 @@ use Rattle.pb_state.specs.Run.{legal_from, state_from}
 
 -- a play with one task
 abbrev play_on : List Bool → PlayOf
-play_on hosts = record { name = codes "p"; tree = tree_for 0 1 0; tasks = record { name = codes "hi"; «module» = Debug (text (codes "hello")) } ∷ []; hosts = hosts }
+play_on hosts = bare_play (codes "p") (tree_for 0 1 0) (record { name = codes "hi"; vars = []; «module» = Debug (text (codes "hello")) } ∷ []) hosts
 
 -- three plays for two hosts: the first is the first host's, the second has no hosts, and the third is the second host's
 abbrev three_plays : PlanOf
-three_plays = record { hosts = codes "a" ∷ codes "b" ∷ []; plays = play_on (true ∷ []) ∷ play_on (false ∷ false ∷ []) ∷ play_on (false ∷ true ∷ []) ∷ []; forks = 5; warnings = [] }
+three_plays = bare_plan (codes "a" ∷ codes "b" ∷ []) (play_on (true ∷ []) ∷ play_on (false ∷ false ∷ []) ∷ play_on (false ∷ true ∷ []) ∷ [])
 
 abbrev start : State
 start = first_state three_plays 5 5
@@ -36,23 +37,29 @@ abbrev whole : List Event
 whole = Open ∷ a ∷ Turn ∷ Close ∷ Open ∷ b ∷ Turn ∷ Close ∷ []
 
 is_whole_run : legal_from three_plays start whole ≡ true
+unfolding on_tasks
 is_whole_run = refl
 
 -- the second host isn't in the first play
 first_batch : batch_of (state_from three_plays start (Open ∷ [])) ≡ true ∷ false ∷ []
+unfolding on_tasks
 first_batch = refl
 
 starts_outside : possible three_plays (state_from three_plays start (Open ∷ [])) b ≡ false
+unfolding on_tasks
 starts_outside = refl
 
 -- the second play is passed over
 passes_over : (state_from three_plays start (Open ∷ a ∷ Turn ∷ Close ∷ Open ∷ [])).play ≡ 2
+unfolding on_tasks
 passes_over = refl
 
 last_batch : batch_of (state_from three_plays start (Open ∷ a ∷ Turn ∷ Close ∷ Open ∷ [])) ≡ false ∷ true ∷ []
+unfolding on_tasks
 last_batch = refl
 
 no_play_left : possible three_plays (state_from three_plays start whole) Open ≡ false
+unfolding on_tasks
 no_play_left = refl
 
 -- so is a play whose hosts failed

@@ -2,10 +2,11 @@
 
 ghost use Rattle.std.specs.Prelude.{◌≡◌, ◌≢◌, [], ◌∷◌, ◌++◌, length, replicate, false, nat_lt, IfOk, IfErr, Ok, Err};
 ghost use Rattle.pb_tree.specs.View.{tree_of};
-ghost use Rattle.pb_state.specs.Bundle.{play_with, has_too_many_places, tree_for, play_nodes, max_bytes, bundle_bytes, limit_bytes};
+ghost use Rattle.pb_state.specs.Bundle.{play_with, has_too_many_places, tree_for, play_nodes, max_bytes, bundle_bytes, bytes_in};
 
 use crate::plan::PlanPlay;
 use pb_inventory::fault::InvFault;
+use pb_inventory::inventory::Inventory;
 use pb_patterns::fault::PatFault;
 use pb_planes::HostSet;
 use pb_play::fault::LoadFault;
@@ -14,6 +15,8 @@ use pb_play::task::Task;
 use pb_tree::{Node, PlayTree};
 use pb_value::items::Items;
 use pb_value::text::Text;
+use pb_variables::fault::ExtraFault;
+use pb_variables::magic::play_magic;
 use std::alloc::{AllocError, AllocFailed, Global};
 use thiserror::Error;
 
@@ -23,7 +26,7 @@ pub const MAX_BYTES: usize = 67_108_864;
 /// The most places of a play.
 const MAX_PLACES: u64 = 16_384;
 
-/// What a run is made of: the bytes of its files, and how many hosts may run at once.
+/// What a run is made of: the bytes of its files and of its extra variables, and how many hosts may run at once.
 #[derive(Drop)]
 pub struct Bundle {
     /// The bytes of the inventory's file.
@@ -32,6 +35,8 @@ pub struct Bundle {
     pub playbook: Items<u8>,
     /// The pattern of the hosts that the plays are limited to, if there is one.
     pub limit: Option<Text>,
+    /// The extra variables, an object in JSON, if some are given.
+    pub extra: Option<Text>,
     /// How many hosts may run at once: 1 to 256.
     pub forks: u32,
 }
@@ -59,6 +64,9 @@ pub enum BundleFault {
     /// A fault of the limit's pattern.
     #[error("4 Limit {0}")]
     Limit(PatFault),
+    /// A fault of the extra variables.
+    #[error("5 Extra {0}")]
+    Extra(ExtraFault),
     /// The number of forks isn't 1 to 256.
     #[error("6 BadForks")]
     BadForks,
@@ -172,9 +180,15 @@ pub(crate) fn has_too_many_places(play: &Play) -> bool
 
 /// A play with its tree, whose own hosts are these.
 #[tactic(auto, using(crate::proofs::Trees::plain_tree))]
-pub(crate) fn play_with(alloc: Global, play: Play, hosts: HostSet) -> Result<PlanPlay, BundleFault>
-    requires { has_too_many_places play ≡ false }
-    ensures value { IfOk result (λ p. p ≡ play_with hosts play) }
+pub(crate) fn play_with(
+    alloc: Global,
+    inventory: &Inventory,
+    play: Play,
+    hosts: HostSet,
+) -> Result<PlanPlay, BundleFault>
+    requires places { has_too_many_places play ≡ false }
+    requires width { length hosts ≡ length inventory.now.hosts }
+    ensures value { IfOk result (λ p. p ≡ play_with inventory.now hosts play) }
     ensures fault { IfErr result (λ e. e ≡ BundleFault.Memory) }
 {
     let tree = tree_for(
@@ -184,14 +198,15 @@ pub(crate) fn play_with(alloc: Global, play: Play, hosts: HostSet) -> Result<Pla
         play.post_tasks.len(),
     )?;
     let tasks = all_tasks(play.pre_tasks, play.tasks, play.post_tasks)?;
-    Ok(PlanPlay::of(play.name, tree, tasks, hosts))
+    let magic = play_magic(alloc, inventory, &hosts)?;
+    Ok(PlanPlay::of(play.name, tree, tasks, hosts, play.vars, magic))
 }
 
-/// How many bytes the limit has.
-fn limit_bytes(limit: &Option<Text>) -> usize
-    ensures { result ≡ limit_bytes limit.now }
+/// How many bytes a text has that may be given.
+fn bytes_in(given: &Option<Text>) -> usize
+    ensures { result ≡ bytes_in given.now }
 {
-    match limit {
+    match given {
         Some(text) => text.as_str().len(),
         None => 0,
     }
@@ -203,8 +218,10 @@ pub(crate) fn is_too_large(bundle: &Bundle) -> bool
 {
     let inventory = bundle.inventory.len();
     let playbook = bundle.playbook.len();
-    let limit = limit_bytes(&bundle.limit);
+    let limit = bytes_in(&bundle.limit);
+    let extra = bytes_in(&bundle.extra);
     inventory > MAX_BYTES
         || playbook > MAX_BYTES - inventory
         || limit > MAX_BYTES - inventory - playbook
+        || extra > MAX_BYTES - inventory - playbook - limit
 }

@@ -20,6 +20,5 @@ pub use bundle::{Bundle, BundleFault, MAX_BYTES, RoleFault};
 pub use decided::{Decided, Done};
 pub use event::{Event, Trail};
 pub use plan::{Plan, PlanPlay};
-pub use planned::Planned;
 pub use row::{Counts, Finish, Row, Running};
 pub use state::{EngineState, StepFault};

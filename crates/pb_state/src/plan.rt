@@ -12,29 +12,34 @@ use pb_play::task::Task;
 use pb_tree::PlayTree;
 use pb_value::items::Items;
 use pb_value::text::Text;
+use pb_value::val::Dict;
 use std::alloc::{AllocError, Global};
 use std::marker::Model;
 
-/// A play: its name, its tree, the task at each place of the tree, in the order of places, and the hosts that are its own.
+/// A play: its name, its tree, the task at each place of the tree, in the order of places, the hosts that are its own, its variables, and
+/// those that the play gives by itself.
 #[derive(Drop)]
 pub struct PlanPlay {
     name: Text,
     tree: PlayTree,
     tasks: Items<Task>,
     hosts: HostSet,
+    vars: Dict,
+    magic: Dict,
 }
 
 impl Model for PlanPlay {
     ghost use Rattle.pb_state.specs.Plan.{PlayOf};
     ghost use Rattle.pb_value.specs.contracts.val.Val as val;
+    ghost use Rattle.pb_expr_syntax.specs.contracts.tree.Expr as expr;
     ghost use Rattle.pb_tree.specs.contracts.tree.PlayTree as play_tree;
     ghost use Rattle.std.specs.Coded.{codes};
 
     ghost Value = { PlayOf };
 
-    ghost coded = { Prim.hlevel (codes, val.the_row.coded, play_tree.the_row.coded) };
+    ghost coded = { Prim.hlevel (codes, val.the_row.coded, expr.the_row.coded, play_tree.the_row.coded) };
 
-    ghost view = { λ p. record { name = p.name; tree = p.tree; tasks = p.tasks; hosts = p.hosts } };
+    ghost view = { λ p. record { name = p.name; tree = p.tree; tasks = p.tasks; hosts = p.hosts; vars = p.vars; magic = p.magic } };
 
     ghost use Rattle.std.specs.Prelude.{◌≡◌, ◌≤◌, length};
     ghost use Rattle.pb_tree.specs.Plain.{IsPlain};
@@ -45,17 +50,26 @@ impl Model for PlanPlay {
 
 impl PlanPlay {
     /// A play of these parts.
-    pub(crate) fn of(name: Text, tree: PlayTree, tasks: Items<Task>, hosts: HostSet) -> PlanPlay
+    pub(crate) fn of(
+        name: Text,
+        tree: PlayTree,
+        tasks: Items<Task>,
+        hosts: HostSet,
+        vars: Dict,
+        magic: Dict,
+    ) -> PlanPlay
         requires plain { IsPlain tree }
         requires bound { size_of tree ≤ 16384 }
         requires places { length tasks ≡ size_of tree }
-        ensures { result ≡ record { name = name; tree = tree; tasks = tasks; hosts = hosts } }
+        ensures { result ≡ record { name = name; tree = tree; tasks = tasks; hosts = hosts; vars = vars; magic = magic } }
     {
         PlanPlay {
             name,
             tree,
             tasks,
             hosts,
+            vars,
+            magic,
         }
     }
 
@@ -88,28 +102,54 @@ impl PlanPlay {
     {
         &self.hosts
     }
+
+    /// The play's variables, as they are written.
+    pub fn vars(&self) -> &Dict
+        ensures { result.now ≡ self.now.vars }
+    {
+        &self.vars
+    }
+
+    /// The variables that the play gives by itself.
+    pub fn magic(&self) -> &Dict
+        ensures { result.now ≡ self.now.magic }
+    {
+        &self.magic
+    }
 }
 
-/// The hosts by their numbers, the plays in order, how many hosts may run at once, and lines that tell what was odd in the bundle.
+/// The inventory, the plays in order, how many hosts may run at once, lines that tell what was odd in the bundle, the extra variables, and
+/// those that the plan gives by itself.
 #[derive(Drop)]
 pub struct Plan {
     inventory: Inventory,
     plays: Items<PlanPlay>,
     forks: u32,
     warnings: Items<Text>,
+    extra: Dict,
+    magic: Dict,
 }
 
 impl Model for Plan {
     ghost use Rattle.pb_state.specs.Plan.{PlanOf};
     ghost use Rattle.pb_value.specs.contracts.val.Val as val;
+    ghost use Rattle.pb_expr_syntax.specs.contracts.tree.Expr as expr;
     ghost use Rattle.pb_tree.specs.contracts.tree.PlayTree as play_tree;
     ghost use Rattle.std.specs.Coded.{codes};
 
     ghost Value = { PlanOf };
 
-    ghost coded = { Prim.hlevel (codes, val.the_row.coded, play_tree.the_row.coded) };
+    ghost coded = { Prim.hlevel (codes, val.the_row.coded, expr.the_row.coded, play_tree.the_row.coded) };
 
-    ghost view = { λ p. record { hosts = p.inventory.hosts; plays = p.plays; forks = p.forks; warnings = p.warnings } };
+    ghost view = { λ p. record {
+      hosts = p.inventory.hosts;
+      plays = p.plays;
+      forks = p.forks;
+      warnings = p.warnings;
+      inventory = p.inventory;
+      extra = p.extra;
+      magic = p.magic;
+    } };
 
     ghost use Rattle.std.specs.Prelude.{◌<◌, ◌≤◌, length};
 
@@ -125,17 +165,29 @@ impl Plan {
         plays: Items<PlanPlay>,
         forks: u32,
         warnings: Items<Text>,
+        extra: Dict,
+        magic: Dict,
     ) -> Plan
         requires plays { length plays ≤ 256 }
         requires some { 0 < forks }
         requires bound { forks ≤ 256 }
-        ensures { result ≡ record { hosts = inventory.hosts; plays = plays; forks = forks; warnings = warnings } }
+        ensures { result ≡ record {
+          hosts = inventory.hosts;
+          plays = plays;
+          forks = forks;
+          warnings = warnings;
+          inventory = inventory;
+          extra = extra;
+          magic = magic;
+        } }
     {
         Plan {
             inventory,
             plays,
             forks,
             warnings,
+            extra,
+            magic,
         }
     }
 
@@ -180,6 +232,28 @@ impl Plan {
         ensures bound { self.now.forks ≤ 256 }
     {
         self.forks
+    }
+
+    /// The inventory, with its variables.
+    pub fn inventory(&self) -> &Inventory
+        ensures value { result.now ≡ self.now.inventory }
+        ensures hosts { self.now.inventory.hosts ≡ self.now.hosts }
+    {
+        &self.inventory
+    }
+
+    /// The extra variables, as they are given.
+    pub fn extra(&self) -> &Dict
+        ensures { result.now ≡ self.now.extra }
+    {
+        &self.extra
+    }
+
+    /// The variables that the plan gives by itself.
+    pub fn magic(&self) -> &Dict
+        ensures { result.now ≡ self.now.magic }
+    {
+        &self.magic
     }
 
     /// Lines that tell what was odd in the bundle.

@@ -1,94 +1,83 @@
-//! What tasks do when they start.
+//! What tasks do when they start on a host.
 
-ghost use Rattle.std.specs.Prelude.{◌≡◌, ◌≢◌, IfOk, IfErr, Ok, Err, slice_get, Option, option_map};
-ghost use Rattle.std.specs.Option.{option_map_or, option_copied};
-ghost use Rattle.pb_value.specs.Datum.{null};
-ghost use Rattle.pb_words.specs.Calls.{shell_call};
-ghost use Rattle.pb_state.specs.Results.{planned_call, command_call, planned_by, planned_at, nothing};
+ghost use Rattle.std.specs.Prelude.{◌≡◌, ◌<◌, length, IfOk};
+ghost use Rattle.std.specs.Option.{option_copied};
+ghost use Rattle.pb_state.specs.Results.{planned_at, planned_for, task_for};
 ghost use Rattle.pb_state.specs.Row.{task_of};
 
-use crate::plan::PlanPlay;
-use pb_outcome::decided::{debug_result, fail_result, faulty_result};
+use crate::plan::{Plan, PlanPlay};
+use pb_ids::HostNo;
+use pb_items::planned::Planned;
+use pb_items::planning::planned;
+use pb_layers::layers::{Layers, Magic};
+use pb_layers::scope::Scope;
 use pb_outcome::gather::{Ending, ItemResult, TaskResult};
-use pb_outcome::job::Call;
-use pb_play::commands::CommandWords;
-use pb_play::modules::Module;
-use pb_value::val::{Node, Val};
-use pb_words::calls::{argv_call, line_call, shell_call};
-use pb_words::fault::CallFault;
+use pb_play::task::Task;
+use pb_value::val::{Dict, Node, Val};
+use pb_variables::magic::host_magic;
 use std::alloc::{AllocError, Global};
 
-/// What an item of a task is when the task starts.
-#[derive(Drop)]
-pub enum Planned {
-    /// It has its result at once.
-    Decided(ItemResult),
-    /// It is sent as a job.
-    Sends(Call),
+/// What a task does on a host, with the variables that it sees there.
+fn planned_for(
+    alloc: Global,
+    plan: &Plan,
+    play: &PlanPlay,
+    host: HostNo,
+    task: &Task,
+) -> Result<Planned, AllocError>
+    requires { host.0 < length plan.now.hosts }
+    ensures { IfOk result (λ planned. planned ≡ planned_for plan.now play.now host.0 task.now) }
+{
+    let inventory = plan.inventory();
+    let group_variables = inventory.group_vars(alloc, host)?;
+    let host_magic = host_magic(alloc, inventory, host)?;
+    let none = Dict::new(alloc);
+    let layers = Layers {
+        role_defaults: &none,
+        group_variables: &group_variables,
+        host_variables: inventory.host_vars(host),
+        host_facts: &none,
+        play_variables: play.vars(),
+        role_variables: &none,
+        block_variables: &none,
+        task_variables: &task.vars,
+        set_facts: &none,
+        role_parameters: &none,
+        extra_variables: plan.extra(),
+    };
+    let magic = Magic {
+        host: &host_magic,
+        play: play.magic(),
+        plan: plan.magic(),
+    };
+    let scope = Scope::new(&layers, &magic, &none);
+    planned(alloc, &task.module, &scope)
 }
 
-/// An item that fails because its call can't be read.
-fn unread(alloc: Global, fault: &CallFault) -> Result<Planned, AllocError>
-    ensures { IfOk result (λ planned. planned ≡ planned_call (Err fault.now)) }
+/// The task at a place, where the host is one of the plan.
+fn task_for<'a>(plan: &Plan, play: &'a PlanPlay, host: HostNo, place: usize) -> Option<&'a Task>
+    ensures { option_copied result ≡ task_for plan.now play.now host.0 place }
 {
-    Ok(Planned::Decided(faulty_result(alloc, fault.message())?))
-}
-
-/// The call of a command's words.
-fn command_call(alloc: Global, words: &CommandWords) -> Result<Call, CallFault>
-    ensures value { IfOk result (λ call. command_call words.now ≡ Ok call) }
-    ensures fault { IfErr result (λ e. e ≢ CallFault.Memory → command_call words.now ≡ Err e) }
-{
-    match words {
-        CommandWords::Line(line) => line_call(alloc, line.as_str()),
-        CommandWords::Argv(words) => argv_call(alloc, words.as_slice()),
+    if host.0 < plan.host_count() {
+        play.task(place)
+    } else {
+        None
     }
 }
 
-/// A command is sent; what can't be read fails the item at once.
-fn planned_command(alloc: Global, words: &CommandWords) -> Result<Planned, AllocError>
-    ensures { IfOk result (λ planned. planned ≡ planned_call (command_call words.now)) }
-{
-    match command_call(alloc, words) {
-        Ok(call) => Ok(Planned::Sends(call)),
-        Err(CallFault::Memory) => Err(AllocError),
-        Err(fault) => unread(alloc, &fault),
-    }
-}
-
-/// A text for the shell is sent; what can't be read fails the item at once.
-fn planned_shell(alloc: Global, cmd: &str) -> Result<Planned, AllocError>
-    ensures { IfOk result (λ planned. planned ≡ planned_call (shell_call cmd.now)) }
-{
-    match shell_call(alloc, cmd) {
-        Ok(call) => Ok(Planned::Sends(call)),
-        Err(CallFault::Memory) => Err(AllocError),
-        Err(fault) => unread(alloc, &fault),
-    }
-}
-
-/// What a module does.
-fn planned_by(alloc: Global, called: &Module) -> Result<Planned, AllocError>
-    ensures { IfOk result (λ planned. planned ≡ planned_by called.now) }
-{
-    match called {
-        Module::Command(words) => planned_command(alloc, words),
-        Module::Debug { msg } => Ok(Planned::Decided(debug_result(alloc, msg)?)),
-        Module::Fail { msg } => Ok(Planned::Decided(fail_result(alloc, msg)?)),
-        Module::Shell { cmd } => planned_shell(alloc, cmd.as_str()),
-    }
-}
-
-/// What the task at a place does.
+/// What the task at a place does on a host.
+#[tactic(auto, unfolding(crate::specs::Results::planned_at))]
 pub(crate) fn planned_at(
     alloc: Global,
+    plan: &Plan,
     play: &PlanPlay,
+    host: HostNo,
     place: usize,
 ) -> Result<Planned, AllocError>
-    ensures { IfOk result (λ planned. planned ≡ planned_at play.now.tasks place) }
+    ensures { IfOk result (λ planned. planned ≡ planned_at plan.now play.now host.0 place) }
 {
-    match play.task(place) {
-        Some(task) => planned_by(alloc, &task.module),
+    match task_for(plan, play, host, place) {
+        Some(task) => planned_for(alloc, plan, play, host, task),
         None => Ok(Planned::Decided(ItemResult {
             ending: Ending::Skipped,
             result: Val { node: Node::Null },

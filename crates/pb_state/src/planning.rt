@@ -6,7 +6,7 @@ ghost use Rattle.pb_inventory.specs.Reading.{inventory_of};
 ghost use Rattle.pb_patterns.specs.Reading.{all_taken};
 ghost use Rattle.pb_inventory.specs.Vars.{strangers};
 ghost use Rattle.pb_play.specs.Playbooks.{playbook_of};
-ghost use Rattle.pb_state.specs.Bundle.{in_part, limit_of, has_too_many_places, stranger_line, unmatched_line, IsLimit, IsPlayOf, ArePlaysOf, IsPlanIn, IsPlanOf, IsBundleFault, IsPlaybookFault, IsLimitFault};
+ghost use Rattle.pb_state.specs.Bundle.{in_part, limit_of, extra_in, has_too_many_places, stranger_line, unmatched_line, IsLimit, IsPlayOf, ArePlaysOf, IsPlanIn, IsPlanOf, IsBundleFault, IsPlaybookFault, IsLimitFault};
 
 use crate::bundle::{Bundle, BundleFault, RoleFault, has_too_many_places, is_too_large, play_with};
 use crate::plan::{Plan, PlanPlay};
@@ -21,6 +21,10 @@ use pb_play::play::Play;
 use pb_play::playbook::Playbook;
 use pb_value::items::Items;
 use pb_value::text::Text;
+use pb_value::val::Dict;
+use pb_variables::extra::read_extra;
+use pb_variables::fault::ExtraFault;
+use pb_variables::magic::plan_magic;
 use std::alloc::{AllocError, Global};
 
 /// The inventory of a bundle.
@@ -32,6 +36,21 @@ fn inventory_in(alloc: Global, bundle: &Bundle) -> Result<Inventory, BundleFault
         Ok(inventory) => Ok(inventory),
         Err(InvFault::Memory) => Err(BundleFault::Memory),
         Err(fault) => Err(BundleFault::Inventory(fault)),
+    }
+}
+
+/// The extra variables, if there are some.
+fn extra_in(alloc: Global, extra: &Option<Text>) -> Result<Dict, BundleFault>
+    ensures value { IfOk result (λ vars. extra_in extra.now ≡ Ok vars) }
+    ensures fault { IfErr result (λ e. e ≢ BundleFault.Memory → extra_in extra.now ≡ Err e) }
+{
+    match extra {
+        Some(text) => match read_extra(alloc, text.as_str().as_bytes()) {
+            Ok(vars) => Ok(vars),
+            Err(ExtraFault::Memory) => Err(BundleFault::Memory),
+            Err(fault) => Err(BundleFault::Extra(fault)),
+        },
+        None => Ok(Dict::new(alloc)),
     }
 }
 
@@ -139,7 +158,7 @@ fn plan_play(
     )?;
     let mut own = hosts;
     own.and_with(limit);
-    play_with(alloc, play, own)
+    play_with(alloc, inventory, play, own)
 }
 
 /// The plays with their hosts.
@@ -194,6 +213,7 @@ fn plan_with(
     alloc: Global,
     forks: u32,
     inventory: Inventory,
+    extra: Dict,
     playbook: Playbook,
     limit: &Option<Pattern>,
 ) -> Result<Plan, BundleFault>
@@ -201,7 +221,7 @@ fn plan_with(
     requires bound { forks ≤ 256 }
     requires plays { length playbook.plays ≤ 256 }
     requires places { list_any has_too_many_places playbook.plays ≡ false }
-    ensures value { IfOk result (λ plan. IsPlanIn inventory limit.now forks playbook plan) }
+    ensures value { IfOk result (λ plan. IsPlanIn inventory extra limit.now forks playbook plan) }
     ensures fault { IfErr result (λ e. e ≡ BundleFault.Memory) }
 {
     let selected = limit_selects(alloc, &inventory, limit)?;
@@ -213,7 +233,8 @@ fn plan_with(
         playbook.plays,
         &mut lines,
     )?;
-    Ok(Plan::from_parts(inventory, plays, forks, lines))
+    let magic = plan_magic(alloc, &inventory, &extra)?;
+    Ok(Plan::from_parts(inventory, plays, forks, lines, extra, magic))
 }
 
 impl Plan {
@@ -221,7 +242,7 @@ impl Plan {
     ///
     /// # Errors
     /// In this order: `TooLarge` where the bundle has more than 64 MiB, `BadForks` where its forks aren't 1 to 256, a fault of
-    /// the inventory, one of the playbook, one of the limit, one of the plays' trees. `Memory` may come at any point, where
+    /// the inventory, one of the extra variables, one of the playbook, one of the limit, one of the plays' trees. `Memory` may come at any point, where
     /// memory was refused. Which regular expressions are refused for their size is the `regex` crate's own choice.
     pub fn of(alloc: Global, bundle: &Bundle) -> Result<Plan, BundleFault>
         ensures value { IfOk result (IsPlanOf bundle.now) }
@@ -238,6 +259,10 @@ impl Plan {
             Ok(inventory) => inventory,
             Err(fault) => return Err(fault),
         };
+        let extra = match extra_in(alloc, &bundle.extra) {
+            Ok(extra) => extra,
+            Err(fault) => return Err(fault),
+        };
         let playbook = match playbook_in(alloc, bundle) {
             Ok(playbook) => playbook,
             Err(fault) => return Err(fault),
@@ -249,6 +274,6 @@ impl Plan {
         if some_too_large(playbook.plays.as_slice()) {
             return Err(BundleFault::Roles(RoleFault::TooLarge));
         }
-        plan_with(alloc, forks, inventory, playbook, &limit)
+        plan_with(alloc, forks, inventory, extra, playbook, &limit)
     }
 }

@@ -137,7 +137,7 @@ fn run(slot: &mut Option<Running>, running: Option<Running>)
 impl Row {
     ghost use Rattle.pb_state.specs.Row.{first_row, finished, started, sent, reported, joined, left};
     ghost use Rattle.pb_state.specs.Machine.{report_decides};
-    ghost use Rattle.pb_state.specs.declared.planned.Planned.TheVariants.{Sends};
+    ghost use Rattle.pb_items.specs.declared.planned.Planned.TheVariants.{Sends};
 
     /// A host before the run.
     pub fn new(alloc: Global) -> Row

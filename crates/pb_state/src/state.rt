@@ -6,14 +6,14 @@ ghost use Rattle.std.specs.List.{list_any};
 ghost use Rattle.std.specs.Option.{option_copied, option_map_or};
 ghost use Rattle.pb_state.specs.Plan.{PlanOf};
 ghost use Rattle.pb_state.specs.Row.{left, finished, started};
-ghost use Rattle.pb_state.specs.declared.planned.Planned.TheVariants as Planned;
+ghost use Rattle.pb_items.specs.declared.planned.Planned.TheVariants as Planned;
 ghost use Rattle.pb_state.specs.State.{State};
 
 use crate::decided::{Decided, Done, decide};
 use crate::event::Event;
 use crate::job::job_in;
 use crate::plan::{Plan, PlanPlay};
-use crate::planned::{Planned, planned_at, task_of};
+use crate::planned::{planned_at, task_of};
 use crate::row::Row;
 use crate::rows::{
     begin_row, finish_row, first_play, first_rows, join_all, least_place, leave_all, none_into,
@@ -21,6 +21,7 @@ use crate::rows::{
     some_running, some_stands, some_ticket,
 };
 use pb_ids::{HostNo, PlayNo, Ticket};
+use pb_items::planned::Planned;
 use pb_outcome::gather::TaskResult;
 use pb_outcome::job::{Call, Job, Report};
 use pb_planes::HostSet;
@@ -353,19 +354,25 @@ impl EngineState {
         ensures err { OnErr result (self.new ≡ self.old) }
     {
         match (self.open_play(plan), self.place) {
-            (Some(play), Some(place)) => self.start_at(host, play, place),
+            (Some(play), Some(place)) => self.start_at(plan, host, play, place),
             _ => Ok(()),
         }
     }
 
-    fn start_at(&mut self, host: HostNo, play: &PlanPlay, place: usize) -> Result<(), AllocError>
+    fn start_at(
+        &mut self,
+        plan: &Plan,
+        host: HostNo,
+        play: &PlanPlay,
+        place: usize,
+    ) -> Result<(), AllocError>
         requires open { self.old.is_open ≡ true }
         requires may { may_start_in self.old host.0 play.now ≡ true }
         requires here { self.old.place ≡ Some place }
-        ensures ok { OnOk result (self.new ≡ start_at self.old host.0 play.now place) }
+        ensures ok { OnOk result (self.new ≡ start_at plan.now self.old host.0 play.now place) }
         ensures err { OnErr result (self.new ≡ self.old) }
     {
-        let planned = planned_at(self.alloc, play, place)?;
+        let planned = planned_at(self.alloc, plan, play, host, place)?;
         let is_new = !some_begun(&self.rows, place);
         match planned {
             Planned::Decided(item) => {

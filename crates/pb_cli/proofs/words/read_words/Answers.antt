@@ -14,6 +14,7 @@ returns-in_ok-from_str-in-Ok-2-clause-value c =
       subst (λ (found : Option (List ℕ)). AreForks found c.in-Ok-forks_in.forks) (sym (found_read _ c.in-Ok.matches _ (codes "forks") _ is parsed.matches refl)) c.in-Ok-forks_in.ensures.value,
       found_read _ c.in-Ok.matches _ (codes "outcomes") _ is parsed.matches (sym c.in_ok-outcomes-in-Ok.ensures),
       found_read _ c.in-Ok.matches _ (codes "limit") _ is parsed.matches (sym c.in_ok-limit-in-Ok.ensures),
+      found_read _ c.in-Ok.matches _ (codes "extra") _ is parsed.matches (sym c.in_ok-extra-in-Ok.ensures),
       purpose_read _ c.in-Ok.matches _ _ is parsed.matches c.purpose_in.ensures,
     )
 

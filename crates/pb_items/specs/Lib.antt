@@ -1,0 +1,4 @@
+pub mod Faults
+pub mod Calls
+pub mod Planning
+pub mod Rows

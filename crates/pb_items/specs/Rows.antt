@@ -1,0 +1,86 @@
+-- Worked examples: each is proved by computing both sides.
+use Rattle.std.specs.Prelude.{◌≡◌, ⊤, pos, List, [], ◌∷◌, codes, refl}
+use Rattle.std.specs.Char.{encode_utf8}
+use Rattle.std.specs.Fmt.{digits}
+use Rattle.std.specs.Str.{chars}
+use Rattle.pb_value.specs.Datum.{Datum, int, text, list, items_of}
+use Rattle.pb_layers.specs.Scope.{Map, layers}
+use Rattle.pb_expr_syntax.specs.Computed.{tree_of, tree_of_tokens}
+use Rattle.pb_expr_syntax.specs.Tree as tree
+use Rattle.pb_expr_syntax.specs.declared.tree.Op.TheVariants.{Plus}
+use Rattle.pb_template.specs.Computed.{template_of}
+use Rattle.pb_expr_eval.specs.Scoped.{eval_of, rendered_of}
+use Rattle.pb_outcome.specs.Decided.{faulty_result, debug_result, shown_result, fail_result}
+use Rattle.pb_outcome.specs.declared.job.Call.TheVariants as call
+use Rattle.pb_play.specs.declared.commands.CommandWords.TheVariants.{Line, Argv}
+use Rattle.pb_play.specs.declared.modules.Module.TheVariants.{Command, Debug, DebugVar, Fail, Shell}
+use Rattle.pb_items.specs.Planning.{planned_by}
+use Rattle.pb_items.specs.declared.planned.Planned.TheVariants.{Decided, Sends}
+
+-- what computes the values of templates and the words of texts
+unfoldable on_items : ⊤
+unfolding chars encode_utf8 digits template_of tree_of tree_of_tokens eval_of rendered_of planned_by
+on_items = tt
+
+-- a host where a play gives x this value
+abbrev x_is : Datum → List Map
+x_is v = layers [] [] [] [] ((codes "x", v) ∷ []) [] [] [] [] [] []
+
+debug_keeps_kind : planned_by (x_is (int (pos 1))) (Debug (text (codes "{{ x + 1 }}"))) ≡ Decided (debug_result (int (pos 2)))
+unfolding on_items
+debug_keeps_kind = refl
+
+debug_undefined : planned_by [] (Debug (text (codes "{{ x }}"))) ≡ Decided (faulty_result (codes "'x' is undefined"))
+unfolding on_items
+debug_undefined = refl
+
+var_is_shown : planned_by (x_is (int (pos 1))) (DebugVar (codes "x") (tree.Name (codes "x"))) ≡ Decided (shown_result (codes "x") (int (pos 1)))
+unfolding on_items
+var_is_shown = refl
+
+var_undefined : planned_by [] (DebugVar (codes "x") (tree.Name (codes "x"))) ≡ Decided (shown_result (codes "x") (text (codes "VARIABLE IS NOT DEFINED!")))
+unfolding on_items
+var_undefined = refl
+
+-- so does a variable whose own template names none
+var_of_undefined : planned_by (x_is (text (codes "{{ y }}"))) (DebugVar (codes "x") (tree.Name (codes "x"))) ≡ Decided (shown_result (codes "x") (text (codes "VARIABLE IS NOT DEFINED!")))
+unfolding on_items
+var_of_undefined = refl
+
+var_of_wrong_kind : planned_by [] (DebugVar (codes "1 + 'a'") (tree.Binary Plus (tree.Int (pos 1)) (tree.Text (codes "a")))) ≡ Decided (faulty_result (codes "wrong kind of value"))
+unfolding on_items
+var_of_wrong_kind = refl
+
+fail_renders : planned_by (x_is (int (pos 1))) (Fail (list (items_of (text (codes "{{ x }}!") ∷ [])))) ≡ Decided (fail_result (list (items_of (text (codes "1!") ∷ []))))
+unfolding on_items
+fail_renders = refl
+
+-- a text is cut into words when it is rendered, a word of argv isn't cut
+line_is_cut_late : planned_by (x_is (text (codes "a b"))) (Command (Line (codes "echo {{ x }}"))) ≡ Sends (call.Command (codes "echo" ∷ codes "a" ∷ codes "b" ∷ []))
+unfolding on_items
+line_is_cut_late = refl
+
+argv_is_not_cut : planned_by (x_is (text (codes "a b"))) (Command (Argv (text (codes "echo") ∷ text (codes "{{ x }}") ∷ int (pos 1) ∷ []))) ≡ Sends (call.Command (codes "echo" ∷ codes "a b" ∷ codes "1" ∷ []))
+unfolding on_items
+argv_is_not_cut = refl
+
+-- the fault of an earlier word counts
+argv_first_fault : planned_by [] (Command (Argv (text (codes "{{ 1 + 'a' }}") ∷ text (codes "{{ x }}") ∷ []))) ≡ Decided (faulty_result (codes "wrong kind of value"))
+unfolding on_items
+argv_first_fault = refl
+
+quote_from_variable : planned_by (x_is (text (codes "'"))) (Command (Line (codes "echo {{ x }}"))) ≡ Decided (faulty_result (codes "unclosed quote"))
+unfolding on_items
+quote_from_variable = refl
+
+empty_line : planned_by (x_is (text [])) (Command (Line (codes "{{ x }}"))) ≡ Decided (faulty_result (codes "no command given"))
+unfolding on_items
+empty_line = refl
+
+empty_argv : planned_by [] (Command (Argv [])) ≡ Decided (faulty_result (codes "no command given"))
+unfolding on_items
+empty_argv = refl
+
+shell_is_rendered : planned_by (x_is (text (codes "a b"))) (Shell (codes "echo {{ x }}")) ≡ Sends (call.Shell (codes "echo a b"))
+unfolding on_items
+shell_is_rendered = refl
