@@ -105,7 +105,7 @@ fn members_of(path: &Text, value: Val) -> Result<ValList, LoadFault>
     ensures value { IfOk result (λ words. listed path.now value ≡ Ok words) }
     ensures fault { IfErr result (λ e. e ≢ LoadFault.Memory → listed path.now value ≡ Err e) }
 {
-    match value.node {
+    match value.into_node() {
         Node::List(words) => Ok(words),
         _ => Err(wrong_shape(path)),
     }
