@@ -36,9 +36,39 @@ pub enum Op {
 
 /// An expression: one level of it, in which further expressions may stand.
 #[cycle(expr)]
-#[derive(Drop)]
 pub struct Expr {
     pub form: Form,
+}
+
+impl Drop for Expr {
+    #[cycle(expr_drop)]
+    fn drop(self) {
+        let Expr { form } = self;
+        match form {
+            Form::Int(_) | Form::Truth(_) | Form::Null => {}
+            Form::Text(text) | Form::Name(text) => drop(text),
+            Form::List(list) => drop(list),
+            Form::Member(of, name) => {
+                drop(of);
+                drop(name);
+            }
+            Form::Index(of, at) => {
+                drop(of);
+                drop(at);
+            }
+            Form::Not(operand) | Form::Negate(operand) | Form::IsDefined(operand, _) => {
+                drop(operand)
+            }
+            Form::Binary(_, left, right) => {
+                drop(left);
+                drop(right);
+            }
+            Form::Apply(_, operand, arguments) => {
+                drop(operand);
+                drop(arguments);
+            }
+        }
+    }
 }
 
 /// One level of an expression.
