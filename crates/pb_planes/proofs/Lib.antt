@@ -1,1 +1,6 @@
-pub mod Combined
+mod Combined
+mod Counted
+mod Lowest
+mod Walked
+mod Put
+mod Sets

@@ -1,8 +1,9 @@
-ghost use Rattle.std.specs.Prelude.{◌≡◌, ◌<◌, ◌≤◌, ◌&&◌, ◌||◌, length, replicate, false, true, not, slice_get, slice_set, Some, IfOk, IfSome, IfNone, count_by};
+ghost use Rattle.std.specs.Prelude.{◌≡◌, ℕ, ◌<◌, ◌≤◌, ◌+◌, ◌*◌, ◌/◌, ◌&&◌, ◌||◌, length, replicate, false, true, not, slice_get, slice_set, Some, IfOk, IfSome, IfNone, count_by, vec_len, nat_lt};
 ghost use Rattle.std.specs.Simd.Lanes.{zip2};
+ghost use Rattle.pb_planes.specs.Words.{bools, combined_bits, has_at};
 ghost use Rattle.pb_planes.specs.Set.{has_some, IsNextFrom, HasNoneFrom, IsMemberAfter};
 
-use crate::bits;
+use crate::words::{self, Combine};
 use pb_ids::HostNo;
 use std::alloc::{AllocError, Global};
 use std::marker::Model;
@@ -10,49 +11,79 @@ use std::marker::Model;
 /// A set of host numbers below a width.
 #[derive(Debug, Drop)]
 pub struct HostSet {
-    bits: Vec<bool>,
+    words: Vec<u64>,
+    width: u32,
 }
 
 impl Model for HostSet {
-    ghost use Rattle.std.specs.Prelude.{List, Bool, ◌<◌, ◌^◌, length};
+    ghost use Rattle.std.specs.Prelude.{ℕ, List, Bool, ◌≡◌, ◌≤◌, ◌<◌, ◌^◌, ◌+◌, ◌/◌, false, vec_len};
+    ghost use Rattle.pb_planes.specs.Words.{bools, has_at};
 
     ghost Value = { List Bool };
 
-    ghost view = { λ s. s.bits.items };
+    ghost view = { λ s. bools s.words.items s.width };
 
-    ghost invariant = { λ s. length s.bits.items < 2 ^ 32 };
+    ghost invariant = { λ s. (s.width < 2 ^ 32) × (vec_len s.words ≡ (s.width + 63) / 64)
+        × ((i : ℕ) → s.width ≤ i → has_at s.words.items i ≡ false) };
+}
+
+/// How many words of 64 bits hold so many bits.
+fn words_for(width: u32) -> usize
+    ensures { result ≡ (width + 63) / 64 }
+{
+    (width as usize + 63) / 64
+}
+
+/// Words in which just the bits below the width are set.
+fn full_words(alloc: Global, width: u32) -> Result<Vec<u64>, AllocError>
+    ensures { IfOk result (λ words. (length words.items ≡ (width + 63) / 64)
+        × ((i : ℕ) → i < 64 * length words.items → has_at words.items i ≡ nat_lt i width)) }
+{
+    let mut words = vec![in alloc; 0; words_for(width)]?;
+    words::fill(words.as_mut_slice(), width);
+    Ok(words)
 }
 
 impl HostSet {
+    /// The set of these bits; none past the width is set.
+    fn of(words: Vec<u64>, width: u32) -> HostSet
+        requires long { vec_len words ≡ (width + 63) / 64 }
+        requires past { (i : ℕ) → width ≤ i → has_at words.items i ≡ false }
+        ensures { result ≡ bools words.items width }
+    {
+        HostSet { words, width }
+    }
+
     /// No host, of this many.
     pub fn empty(alloc: Global, width: u32) -> Result<HostSet, AllocError>
         ensures { IfOk result (λ set. set ≡ replicate width false) }
     {
-        let bits = vec![in alloc; false; width as usize]?;
-        Ok(HostSet { bits })
+        let words = vec![in alloc; 0; words_for(width)]?;
+        Ok(HostSet::of(words, width))
     }
 
     /// All of this many hosts.
     pub fn full(alloc: Global, width: u32) -> Result<HostSet, AllocError>
         ensures { IfOk result (λ set. set ≡ replicate width true) }
     {
-        let bits = vec![in alloc; true; width as usize]?;
-        Ok(HostSet { bits })
+        let words = full_words(alloc, width)?;
+        Ok(HostSet::of(words, width))
     }
 
     /// A copy of the set.
     pub fn try_clone(&self, alloc: Global) -> Result<HostSet, AllocError>
         ensures { IfOk result (λ set. set ≡ self.now) }
     {
-        let bits = Vec::from_slice(alloc, self.bits.as_slice())?;
-        Ok(HostSet { bits })
+        let words = Vec::from_slice(alloc, self.words.as_slice())?;
+        let width = self.width;
+        Ok(HostSet { words, width })
     }
 
     /// How many hosts there are, in the set or not.
     pub fn width(&self) -> u32
         ensures { result ≡ length self.now }
     {
-        self.bits.len() as u32
+        self.width
     }
 
     /// Whether the host is in the set.
@@ -60,7 +91,7 @@ impl HostSet {
         requires { host.0 < length self.now }
         ensures { slice_get self.now host.0 ≡ Some result }
     {
-        self.bits[host.0 as usize]
+        words::bit_in(self.words.as_slice(), host.0)
     }
 
     /// Adds a host.
@@ -84,8 +115,7 @@ impl HostSet {
         requires { host.0 < length self.old }
         ensures { self.new ≡ slice_set self.old host.0 is_in }
     {
-        let at = host.0 as usize;
-        self.bits[at] = is_in;
+        words::put_bit(self.words.as_mut_slice(), host.0, is_in);
     }
 
     /// Adds the hosts of the other set.
@@ -93,7 +123,7 @@ impl HostSet {
         requires { length self.old ≡ length other.now }
         ensures { self.new ≡ zip2 (λ a b. a || b) self.old other.now }
     {
-        bits::or_bits(self.bits.as_mut_slice(), other.bits.as_slice());
+        self.combine(Combine::Either, other);
     }
 
     /// Keeps the hosts that are in the other set too.
@@ -101,7 +131,7 @@ impl HostSet {
         requires { length self.old ≡ length other.now }
         ensures { self.new ≡ zip2 (λ a b. a && b) self.old other.now }
     {
-        bits::and_bits(self.bits.as_mut_slice(), other.bits.as_slice());
+        self.combine(Combine::Both, other);
     }
 
     /// Takes out the hosts of the other set.
@@ -109,21 +139,36 @@ impl HostSet {
         requires { length self.old ≡ length other.now }
         ensures { self.new ≡ zip2 (λ a b. a && not b) self.old other.now }
     {
-        bits::minus_bits(self.bits.as_mut_slice(), other.bits.as_slice());
+        self.combine(Combine::Without, other);
+    }
+
+    /// Combines the set with another one.
+    fn combine(&mut self, how: Combine, other: &HostSet)
+        requires { length self.old ≡ length other.now }
+        ensures { self.new ≡ zip2 (combined_bits how) self.old other.now }
+    {
+        words::combine_words(how, self.words.as_mut_slice(), other.words.as_slice());
     }
 
     /// How many hosts are in the set.
     pub fn count(&self) -> u32
         ensures { result ≡ count_by (λ b. b) self.now }
     {
-        bits::count_bits(self.bits.as_slice())
+        // (the width's range is known to the proof once it is read)
+        let _width = self.width;
+        words::count_in(self.words.as_slice()) as u32
     }
 
     /// Whether no host is in the set.
     pub fn is_empty(&self) -> bool
         ensures { result ≡ not (has_some self.now) }
     {
-        !bits::some_bit(self.bits.as_slice())
+        // (the width's range is known to the proof once it is read)
+        let _width = self.width;
+        match words::next_in(self.words.as_slice(), 0) {
+            Some(_) => false,
+            None => true,
+        }
     }
 
     /// The least host of the set whose number is at least `from`, which may be any number.
@@ -131,8 +176,12 @@ impl HostSet {
         ensures some { IfSome result (λ host. IsNextFrom self.now from host.0) }
         ensures none { IfNone result (HasNoneFrom self.now from) }
     {
-        let at = bits::next_bit(self.bits.as_slice(), from)?;
-        Some(HostNo(at))
+        // (the width's range is known to the proof once it is read)
+        let _width = self.width;
+        match words::next_in(self.words.as_slice(), from) {
+            Some(at) => Some(HostNo(at)),
+            None => None,
+        }
     }
 
     /// The host of the set that has `before` members below it: 0 gives the least.
@@ -140,7 +189,11 @@ impl HostSet {
         ensures some { IfSome result (λ host. IsMemberAfter self.now before host.0) }
         ensures none { IfNone result (count_by (λ b. b) self.now ≤ before) }
     {
-        let at = bits::nth_bit(self.bits.as_slice(), before)?;
-        Some(HostNo(at))
+        // (the width's range is known to the proof once it is read)
+        let _width = self.width;
+        match words::nth_in(self.words.as_slice(), before) {
+            Some(at) => Some(HostNo(at)),
+            None => None,
+        }
     }
 }

@@ -5,7 +5,7 @@
 //! every other call succeeds.
 #![tactic(auto)]
 
-mod bits;
 pub mod host_set;
+mod words;
 
 pub use host_set::HostSet;
