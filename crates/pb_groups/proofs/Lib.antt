@@ -6,4 +6,5 @@ pub mod Levels
 pub mod Ordered
 pub mod MemberLaws
 pub mod Raising
+pub mod Rounds
 pub mod Sets

@@ -1,11 +1,15 @@
 -- The lengths of the longest ways.
-use Rattle.std.specs.Prelude.{◌<◌, ◌≤◌, ℕ, List, length, slice_index}
+use Rattle.std.specs.Prelude.{◌<◌, ◌≤◌, ℕ, suc, List, length, slice_index}
 use Rattle.pb_groups.specs.declared.links.ChildLink.{ChildLink}
 use Rattle.pb_groups.specs.Ways.{Way, parent_at, child_at}
 
 -- Ways go on without end: among so many groups a way of so many steps comes to some group twice.
 abbrev pub IsEndless : List ChildLink → ℕ → Type 0
 IsEndless links groups = (from : ℕ) × (to : ℕ) × Way links groups from to
+
+-- some group leads, over one step or more, to itself
+abbrev pub LeadsToItself : List ChildLink → Type 0
+LeadsToItself links = (group : ℕ) × (steps : ℕ) × Way links (suc steps) group group
 
 -- some way of so many steps leads to each group whose depth is at least that
 abbrev pub AreReached : List ChildLink → List ℕ → Type 0

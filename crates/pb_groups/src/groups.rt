@@ -22,13 +22,28 @@ use std::marker::Model;
 const MAX_GROUPS: u32 = 4096;
 
 /// Groups of hosts, by their numbers.
-#[derive(Drop)]
 pub struct Groups {
     hosts: u32,
     own: Vec<OwnHost>,
     links: Vec<ChildLink>,
     depths: Vec<u32>,
     members: Vec<HostSet>,
+}
+
+impl Drop for Groups {
+    fn drop(self) {
+        let Groups {
+            hosts: _,
+            own,
+            links,
+            depths,
+            members,
+        } = self;
+        drop(own);
+        drop(links);
+        drop(depths);
+        drop(members);
+    }
 }
 
 impl Model for Groups {

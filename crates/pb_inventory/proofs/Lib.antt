@@ -1,8 +1,10 @@
 pub mod Bounds
 pub mod Cycles
 pub mod Entries
+pub mod InByteOrder
 pub mod Kept
 pub mod Lasts
+pub mod Mentioned
 pub mod Once
 pub mod Ranges
 pub mod Texts

@@ -1,9 +1,13 @@
 pub mod Graph
+pub mod Group
 pub mod GraphOf
 pub mod InventoryOf
 pub mod Named
 pub mod MemberSets
+pub mod Mentioned
+pub mod Meta
 pub mod Names
 pub mod Reading
 pub mod Rows
 pub mod Vars
+pub mod Values

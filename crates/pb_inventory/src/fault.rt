@@ -1,5 +1,5 @@
 ghost use Rattle.pb_inventory.specs.declared.fault.InvFault.TheVariants.{Memory};
-ghost use Rattle.std.specs.Prelude.{◌≡◌, ◌≢◌};
+ghost use Rattle.std.specs.Prelude.{◌≡◌};
 
 use pb_value::text::Text;
 use std::alloc::{AllocError, AllocFailed};
@@ -44,15 +44,5 @@ impl<T: Drop> From<AllocFailed<T>> for InvFault {
 
     fn from(_e: AllocFailed<T>) -> InvFault {
         InvFault::Memory
-    }
-}
-
-/// The fault of a shape that is wrong at the path.
-pub fn wrong_shape(path: &Text) -> InvFault
-    ensures { result ≢ InvFault.Memory → result ≡ InvFault.WrongShape path.now }
-{
-    match path.try_clone() {
-        Ok(path) => InvFault::WrongShape { path },
-        Err(_) => InvFault::Memory,
     }
 }

@@ -28,12 +28,26 @@ const MAX_HOSTS: usize = 65536;
 const MAX_GROUPS: usize = 4096;
 
 /// The hosts and the groups, by their numbers, without their variables.
-#[derive(Drop)]
 pub struct Graph {
     hosts: NameList,
     names: NameList,
     own: Vec<OwnHost>,
     groups: Groups,
+}
+
+impl Drop for Graph {
+    fn drop(self) {
+        let Graph {
+            hosts,
+            names,
+            own,
+            groups,
+        } = self;
+        drop(hosts);
+        drop(names);
+        drop(own);
+        drop(groups);
+    }
 }
 
 impl Model for Graph {
@@ -163,20 +177,17 @@ impl Graph {
         self.groups.has(group, host)
     }
 
-    /// The priorities of the groups.
-    pub fn priorities(&self, alloc: Global, vars: &Named<GroupVars>) -> Result<Vec<i64>, AllocError>
-        ensures { IfOk result (λ v. v.items ≡ priorities_in vars.now self.now.groups) }
-    {
-        self.names.priorities(alloc, vars)
-    }
-
     /// All groups in the order in which their variables merge.
-    pub fn in_order(&self, alloc: Global, priorities: &[i64]) -> Result<Vec<GroupNo>, AllocError>
-        requires { length priorities.now ≡ length self.now.groups }
-        ensures value { IfOk result (λ order. order.items ≡ in_order (numbered self.now) priorities.now) }
+    pub fn in_order(
+        &self,
+        alloc: Global,
+        vars: &Named<GroupVars>,
+    ) -> Result<Vec<GroupNo>, AllocError>
+        ensures value { IfOk result (λ order. order.items ≡ in_order (numbered self.now) (priorities_in vars.now self.now.groups)) }
         ensures below { IfOk result (λ order. All (λ g. g.0 < length self.now.groups) order.items) }
     {
-        self.groups.in_order(alloc, priorities)
+        let priorities = self.names.priorities(alloc, vars)?;
+        self.groups.in_order(alloc, priorities.as_slice())
     }
 
     /// Those of the groups that have the host.

@@ -1,4 +1,4 @@
-ghost use Rattle.std.specs.Prelude.{◌≡◌, ◌≢◌, ◌<◌, ◌≤◌, ◌↔◌, ℕ, IfOk, IfErr, Ok, Err, Some, true, length, position, slice_get};
+ghost use Rattle.std.specs.Prelude.{◌≡◌, ◌≢◌, [], ◌<◌, ◌≤◌, ◌↔◌, ℕ, IfOk, IfErr, Ok, Err, Some, true, length, position, slice_get};
 ghost use Rattle.std.specs.Option.{option_map};
 ghost use Rattle.std.specs.Str.{bytes_eq};
 ghost use Rattle.pb_planes.specs.Set.{is_in};
@@ -6,6 +6,7 @@ ghost use Rattle.pb_groups.specs.Members.{IsMember};
 ghost use Rattle.pb_inventory.specs.Graph.{max_groups};
 ghost use Rattle.pb_inventory.specs.Reading.{inventory_of, max_hosts, limited, with_vars};
 ghost use Rattle.pb_inventory.specs.MemberSets.{members_in};
+ghost use Rattle.pb_inventory.specs.Mentioned.{AreGroupsIn};
 
 use crate::fault::InvFault;
 use crate::graph::Graph;
@@ -30,7 +31,6 @@ pub struct Inventory {
 }
 
 /// The variables of an inventory.
-#[derive(Drop)]
 pub struct AllVars {
     pub group_vars: Named<GroupVars>,
     pub host_vars: Named<Dict>,
@@ -38,6 +38,38 @@ pub struct AllVars {
     pub order: Vec<GroupNo>,
     /// What is lent for a host without variables.
     pub no_vars: Dict,
+}
+
+impl Drop for AllVars {
+    fn drop(self) {
+        let AllVars {
+            group_vars,
+            host_vars,
+            order,
+            no_vars,
+        } = self;
+        drop(group_vars);
+        drop(host_vars);
+        drop(order);
+        drop(no_vars);
+    }
+}
+
+impl AllVars {
+    fn of(alloc: Global, file: FileEntries, order: Vec<GroupNo>) -> AllVars
+        ensures groups { result.group_vars ≡ file.group_vars }
+        ensures hosts { result.host_vars ≡ file.host_vars }
+        ensures order { result.order ≡ order }
+        ensures no_vars { result.no_vars ≡ [] }
+    {
+        let (group_vars, host_vars) = file.into_vars();
+        AllVars {
+            group_vars,
+            host_vars,
+            order,
+            no_vars: Dict::new(alloc),
+        }
+    }
 }
 
 impl Model for Inventory {
@@ -66,7 +98,16 @@ impl Inventory {
     /// JSON object whose keys are groups: lists of hosts, or objects with `hosts`, `vars` and
     /// `children`. The key `_meta` is no group: its `hostvars` has the variables of hosts. There
     /// are at most 65,536 hosts and 4,096 groups.
+    #[tactic(auto, using(crate::proofs::Mentioned::groups_exactly))]
     pub fn read(alloc: Global, bytes: &[u8]) -> Result<Inventory, InvFault>
+        ensures value { IfOk result (λ inventory. inventory_of bytes.now ≡ Ok inventory) }
+        ensures fault { IfErr result (λ e. e ≢ InvFault.Memory → inventory_of bytes.now ≡ Err e) }
+        ensures groups { IfOk result (λ inventory. AreGroupsIn bytes.now inventory.groups) }
+    {
+        Inventory::spelt(alloc, bytes)
+    }
+
+    fn spelt(alloc: Global, bytes: &[u8]) -> Result<Inventory, InvFault>
         ensures value { IfOk result (λ inventory. inventory_of bytes.now ≡ Ok inventory) }
         ensures fault { IfErr result (λ e. e ≢ InvFault.Memory → inventory_of bytes.now ≡ Err e) }
     {
@@ -91,20 +132,8 @@ impl Inventory {
     fn with_vars(alloc: Global, graph: Graph, file: FileEntries) -> Result<Inventory, AllocError>
         ensures { IfOk result (λ inventory. inventory ≡ with_vars graph file.group_vars file.host_vars) }
     {
-        let priorities = graph.priorities(alloc, &file.group_vars)?;
-        let order = graph.in_order(alloc, priorities.as_slice())?;
-        let FileEntries {
-            groups,
-            group_vars,
-            host_vars,
-        } = file;
-        drop(groups);
-        let vars = AllVars {
-            group_vars,
-            host_vars,
-            order,
-            no_vars: Dict::new(alloc),
-        };
+        let order = graph.in_order(alloc, &file.group_vars)?;
+        let vars = AllVars::of(alloc, file, order);
         Ok(Inventory {
             graph: Box::new(alloc, graph)?,
             vars: Box::new(alloc, vars)?,

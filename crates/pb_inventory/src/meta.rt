@@ -1,62 +1,88 @@
-ghost use Rattle.std.specs.Prelude.{◌≡◌, ◌≢◌, IfOk, IfErr, Ok, Err};
-ghost use Rattle.serde_json.specs.View.{view};
-ghost use Rattle.pb_inventory.specs.Reading.{meta_in, host_entries, host_entry_in};
+ghost use Rattle.pb_inventory.specs.Meta.{passed, with_host, host_entries, meta};
 
-use crate::fault::{InvFault, wrong_shape};
+use crate::fault::InvFault;
 use crate::named::Named;
-use crate::reading::is_empty;
-use crate::vars::read_host_vars;
-use pb_value::path::child;
+use crate::vars::VariableValue;
+use pb_reading::keys::{Keys, Others};
+use pb_reading::list::EachNamed;
+use pb_reading::reads::Reads;
+use pb_reading::stop::{Stop, wrong};
 use pb_value::text::Text;
 use pb_value::val::Dict;
 use serde_json::Value;
 use std::alloc::Global;
 
-/// The variables of hosts that `_meta` has under `hostvars`. Its other keys don't count.
-pub fn read_meta(alloc: Global, path: &Text, json: &Value) -> Result<Named<Dict>, InvFault>
-    ensures value { IfOk result (λ entries. meta_in path.now (view json.now) ≡ Ok entries) }
-    ensures fault { IfErr result (λ e. e ≢ InvFault.Memory → meta_in path.now (view json.now) ≡ Err e) }
-{
-    match json {
-        Value::Object(members) => {
-            let mut known = Named::new(alloc);
-            for (key, member) in members.iter() {
-                if key.as_str() == "hostvars" {
-                    let here = child(alloc, path, key.as_str())?;
-                    known = read_host_entries(alloc, &here, member)?;
-                }
-            }
-            Ok(known)
+/// The variables of hosts, which stand under their names.
+impl Others for Named<Dict> {
+    type Fault = InvFault;
+
+    ghost tells = { with_host };
+
+    fn tell(
+        &mut self,
+        alloc: Global,
+        path: &Text,
+        key: &str,
+        json: &Value,
+    ) -> Result<(), Stop<InvFault>> {
+        if key.is_empty() {
+            return wrong(path);
         }
-        _ => Err(wrong_shape(path)),
+        let vars = EachNamed::<VariableValue>::read(alloc, path, json)?;
+        self.insert(String::from_str(alloc, key)?, vars)?;
+        Ok(())
     }
 }
 
-fn read_host_entries(alloc: Global, path: &Text, json: &Value) -> Result<Named<Dict>, InvFault>
-    ensures value { IfOk result (λ entries. host_entries path.now (view json.now) ≡ Ok entries) }
-    ensures fault { IfErr result (λ e. e ≢ InvFault.Memory → host_entries path.now (view json.now) ≡ Err e) }
-{
-    match json {
-        Value::Object(members) => {
-            let mut known = Named::new(alloc);
-            for (key, member) in members.iter() {
-                let here = child(alloc, path, key.as_str())?;
-                let vars = read_host_entry(alloc, &here, key.as_str(), member)?;
-                known.insert(key.clone()?, vars)?;
-            }
-            Ok(known)
-        }
-        _ => Err(wrong_shape(path)),
+impl Reads<InvFault> for Named<Dict> {
+    type Value = Named<Dict>;
+
+    ghost reads = { host_entries };
+
+    fn read(alloc: Global, path: &Text, json: &Value) -> Result<Named<Dict>, Stop<InvFault>> {
+        let Value::Object(members) = json else {
+            return wrong(path);
+        };
+        Keys::of(path, members, Named::new(alloc)).others(alloc)
     }
 }
 
-/// The variables that stand under the name of a host, which isn't empty.
-fn read_host_entry(alloc: Global, path: &Text, name: &str, json: &Value) -> Result<Dict, InvFault>
-    ensures value { IfOk result (λ vars. host_entry_in path.now name.now (view json.now) ≡ Ok vars) }
-    ensures fault { IfErr result (λ e. e ≢ InvFault.Memory → host_entry_in path.now name.now (view json.now) ≡ Err e) }
-{
-    if is_empty(name) {
-        return Err(wrong_shape(path));
+/// The keys that don't count.
+#[derive(Drop)]
+pub struct PassedOver;
+
+impl Others for PassedOver {
+    type Fault = InvFault;
+
+    ghost tells = { passed };
+
+    fn tell(
+        &mut self,
+        _alloc: Global,
+        _path: &Text,
+        _key: &str,
+        _json: &Value,
+    ) -> Result<(), Stop<InvFault>> {
+        Ok(())
     }
-    read_host_vars(alloc, path, json)
+}
+
+/// Reads `_meta`: the variables of hosts that it has under `hostvars`. Its other keys don't count.
+pub struct Meta;
+
+impl Reads<InvFault> for Meta {
+    type Value = Named<Dict>;
+
+    ghost reads = { meta };
+
+    #[tactic(auto, unfolding(crate::specs::Meta::meta))]
+    fn read(alloc: Global, path: &Text, json: &Value) -> Result<Named<Dict>, Stop<InvFault>> {
+        let Value::Object(members) = json else {
+            return wrong(path);
+        };
+        let mut keys = Keys::of(path, members, PassedOver);
+        let host_vars = keys.field_or::<Named<Dict>>(alloc, "hostvars", Named::new(alloc))?;
+        keys.others(alloc)?;
+        Ok(host_vars)
+    }
 }

@@ -12,9 +12,15 @@ use std::marker::Model;
 
 /// Things under names, in the order in which they came. A name is found without a look at the
 /// others.
-#[derive(Drop)]
 pub struct Named<T> {
     map: IndexMap<String, T>,
+}
+
+impl<T: Drop> Drop for Named<T> {
+    fn drop(self) {
+        let Named { map } = self;
+        drop(map);
+    }
 }
 
 impl<T> Model for Named<T> {

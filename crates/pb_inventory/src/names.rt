@@ -12,9 +12,15 @@ use std::marker::Model;
 
 /// Names in the order of their first mention, each once. A name is found without a look at the
 /// others.
-#[derive(Drop)]
 pub struct NameList {
     set: IndexSet<String>,
+}
+
+impl Drop for NameList {
+    fn drop(self) {
+        let NameList { set } = self;
+        drop(set);
+    }
 }
 
 impl Model for NameList {

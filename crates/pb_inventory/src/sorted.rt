@@ -8,9 +8,15 @@ use std::collections::BTreeSet;
 use std::marker::Model;
 
 /// Names in byte order, each once.
-#[derive(Drop)]
 pub struct SortedNames {
     set: BTreeSet<String>,
+}
+
+impl Drop for SortedNames {
+    fn drop(self) {
+        let SortedNames { set } = self;
+        drop(set);
+    }
 }
 
 impl Model for SortedNames {

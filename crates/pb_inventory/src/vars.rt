@@ -1,11 +1,11 @@
-ghost use Rattle.std.specs.Prelude.{◌≡◌, ◌≢◌, [], length, map, IfOk, IfErr, OnOk, Ok, Err};
-ghost use Rattle.serde_json.specs.View.{view, members_view};
-ghost use Rattle.pb_value.specs.Datum.{put};
-ghost use Rattle.pb_value.specs.FromJson.{value_of};
-ghost use Rattle.pb_inventory.specs.Reading.{variable, with_variable, group_vars_in, host_vars_in};
-ghost use Rattle.pb_inventory.specs.Vars.{is_priority, priority_in, no_vars, put_vars};
+ghost use Rattle.std.specs.Prelude.{◌≡◌, OnOk};
+ghost use Rattle.pb_inventory.specs.Values.{variable_value, with_variable, with_value, group_vars};
+ghost use Rattle.pb_inventory.specs.Vars.{priority_in, no_vars, put_vars};
 
-use crate::fault::{InvFault, wrong_shape};
+use crate::fault::InvFault;
+use pb_reading::keys::{Keys, Others};
+use pb_reading::reads::Reads;
+use pb_reading::stop::{Stop, wrong};
 use pb_value::fault::ValFault;
 use pb_value::items::Items;
 use pb_value::text::Text;
@@ -22,10 +22,16 @@ pub struct Variable {
 
 /// What a file says under `vars` of a group: the variables, in byte order of their names, and the
 /// priority of the group (`ansible_group_priority`), which isn't a variable there.
-#[derive(Drop)]
 pub struct GroupVars {
     pub priority: i64,
     pub vars: Items<Variable>,
+}
+
+impl Drop for GroupVars {
+    fn drop(self) {
+        let GroupVars { priority: _, vars } = self;
+        drop(vars);
+    }
 }
 
 impl GroupVars {
@@ -62,49 +68,52 @@ fn priority_of(value: &Val) -> i64
     }
 }
 
-fn read_variable(alloc: Global, json: &Value) -> Result<Val, InvFault>
-    ensures value { IfOk result (λ v. variable (value_of (view json.now)) ≡ Ok v) }
-    ensures fault { IfErr result (λ e. e ≢ InvFault.Memory → variable (value_of (view json.now)) ≡ Err e) }
-{
-    match Val::from_json(alloc, json) {
-        Ok(value) => Ok(value),
-        Err(ValFault::Memory) => Err(InvFault::Memory),
-        Err(_) => Err(InvFault::Value),
+/// Reads the value of a variable.
+pub struct VariableValue;
+
+impl Reads<InvFault> for VariableValue {
+    type Value = Val;
+
+    ghost reads = { variable_value };
+
+    fn read(alloc: Global, _path: &Text, json: &Value) -> Result<Val, Stop<InvFault>> {
+        match Val::from_json(alloc, json) {
+            Ok(value) => Ok(value),
+            Err(ValFault::Memory) => Err(Stop::Memory),
+            Err(_) => Err(Stop::Fault(InvFault::Value)),
+        }
     }
 }
 
-/// The variables and the priority of a group.
-pub fn read_group_vars(alloc: Global, path: &Text, json: &Value) -> Result<GroupVars, InvFault>
-    ensures value { IfOk result (λ vars. group_vars_in path.now (view json.now) ≡ Ok vars) }
-    ensures fault { IfErr result (λ e. e ≢ InvFault.Memory → group_vars_in path.now (view json.now) ≡ Err e) }
-{
-    match json {
-        Value::Object(members) => {
-            let mut vars = GroupVars::none(alloc);
-            for (key, member) in members.iter() {
-                vars.add(alloc, key.as_str(), read_variable(alloc, member)?)?;
-            }
-            Ok(vars)
-        }
-        _ => Err(wrong_shape(path)),
+/// The variables of a group, which stand under their names.
+impl Others for GroupVars {
+    type Fault = InvFault;
+
+    ghost tells = { with_value };
+
+    fn tell(
+        &mut self,
+        alloc: Global,
+        path: &Text,
+        key: &str,
+        json: &Value,
+    ) -> Result<(), Stop<InvFault>> {
+        let value = VariableValue::read(alloc, path, json)?;
+        self.add(alloc, key, value)?;
+        Ok(())
     }
 }
 
-/// The variables of a host.
-pub fn read_host_vars(alloc: Global, path: &Text, json: &Value) -> Result<Dict, InvFault>
-    ensures value { IfOk result (λ vars. host_vars_in path.now (view json.now) ≡ Ok vars) }
-    ensures fault { IfErr result (λ e. e ≢ InvFault.Memory → host_vars_in path.now (view json.now) ≡ Err e) }
-{
-    match json {
-        Value::Object(members) => {
-            let mut vars = Dict::new(alloc);
-            for (key, member) in members.iter() {
-                let value = read_variable(alloc, member)?;
-                vars.insert(key.clone()?, value)?;
-            }
-            Ok(vars)
-        }
-        _ => Err(wrong_shape(path)),
+impl Reads<InvFault> for GroupVars {
+    type Value = GroupVars;
+
+    ghost reads = { group_vars };
+
+    fn read(alloc: Global, path: &Text, json: &Value) -> Result<GroupVars, Stop<InvFault>> {
+        let Value::Object(members) = json else {
+            return wrong(path);
+        };
+        Keys::of(path, members, GroupVars::none(alloc)).others(alloc)
     }
 }
 
