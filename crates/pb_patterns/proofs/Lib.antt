@@ -1,7 +1,9 @@
 pub mod Chosen
 pub mod Faults
+pub mod Firsts
 pub mod Meant
 pub mod Orders
 pub mod Rows
 pub mod SetLaws
 pub mod Trimming
+mod NoList

@@ -1,6 +1,7 @@
 pub mod Choosing
 pub mod Built
 pub mod Cutting
+pub mod Expressions
 pub mod Fitting
 pub mod Globs
 pub mod Reading

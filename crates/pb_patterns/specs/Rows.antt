@@ -12,10 +12,10 @@ use Rattle.pb_patterns.specs.declared.element.What.{What}
 use Rattle.pb_patterns.specs.declared.element.What.TheVariants as what
 use Rattle.pb_patterns.specs.declared.element.Subscript.TheVariants.{Between}
 use Rattle.pb_patterns.specs.declared.fault.PatFault.{PatFault}
-use Rattle.pb_patterns.specs.declared.fault.PatFault.TheVariants.{Empty, BadSubscript, BadRegex}
+use Rattle.pb_patterns.specs.declared.fault.PatFault.TheVariants.{Empty, BadSubscript}
 use Rattle.pb_patterns.specs.declared.selected.Selected.{Selected}
 use Rattle.pb_patterns.specs.Globs.{glob}
-use Rattle.pb_patterns.specs.Reading.{pattern_of, all_taken}
+use Rattle.pb_patterns.specs.Reading.{pattern_of, expressions_of}
 use Rattle.pb_patterns.specs.Selection.{Part, selection}
 use Rattle.pb_patterns.specs.Sets.{set_of, starts}
 use Rattle.regex.specs.Patterns.{alt, literal, find_str}
@@ -32,7 +32,7 @@ abbrev part_in : InventoryOf → Element → Part
 part_in inventory e = record { text = e.text; mark = e.mark; set = set_in inventory e.what }
 
 abbrev pub selects : InventoryOf → List ℕ → Result Selected PatFault
-selects inventory text = map_ok (λ es. selection (length inventory.hosts) (map (part_in inventory) es)) (pattern_of all_taken (text ∷ []))
+selects inventory text = map_ok (λ es. selection (length inventory.hosts) (map (part_in inventory) es)) (pattern_of (text ∷ []))
 
 abbrev pub chosen : List Bool → Result Selected PatFault
 chosen hosts = Ok (record { hosts = hosts; unmatched = [] })
@@ -108,36 +108,40 @@ unfolding pattern_of members_of
 child_behind = refl
 
 -- an element's text is trimmed and has its mark; what stands behind the mark isn't trimmed
-pub spaces : pattern_of all_taken (codes " & a ,!b[0:1]:" ∷ [])
+pub spaces : pattern_of (codes " & a ,!b[0:1]:" ∷ [])
     ≡ Ok (record { text = codes "& a"; mark = Met; what = what.Term (codes " a") None } ∷ record { text = codes "!b[0:1]"; mark = Excluded; what = what.Term (codes "b") (Some (Between 0 1)) } ∷ [])
 unfolding pattern_of
 spaces = refl
 
-pub brackets : pattern_of all_taken (codes "web[x]" ∷ []) ≡ Err BadSubscript
+pub brackets : pattern_of (codes "web[x]" ∷ []) ≡ Err BadSubscript
 unfolding pattern_of
 brackets = refl
 
-pub brackets_alone : pattern_of all_taken (codes "[0]" ∷ []) ≡ Err BadSubscript
+pub brackets_alone : pattern_of (codes "[0]" ∷ []) ≡ Err BadSubscript
 unfolding pattern_of
 brackets_alone = refl
 
-pub mark_alone : pattern_of all_taken (codes "!" ∷ []) ≡ Err Empty
+pub mark_alone : pattern_of (codes "!" ∷ []) ≡ Err Empty
 unfolding pattern_of
 mark_alone = refl
 
-pub nothing : pattern_of all_taken (codes ", ," ∷ []) ≡ Err Empty
+pub nothing : pattern_of (codes ", ," ∷ []) ≡ Err Empty
 unfolding pattern_of
 nothing = refl
 
 -- of several texts one may be empty
-pub together : pattern_of all_taken (codes " " ∷ codes "~b|c" ∷ []) ≡ Ok (record { text = codes "~b|c"; mark = Unmarked; what = what.Regex (codes "b|c") } ∷ [])
+pub together : pattern_of (codes " " ∷ codes "~b|c" ∷ []) ≡ Ok (record { text = codes "~b|c"; mark = Unmarked; what = what.Regex (codes "b|c") } ∷ [])
 unfolding pattern_of
 together = refl
 
--- where the regex crate refuses `(`
-pub refused_regex : pattern_of (λ source. true) (codes "a,~(" ∷ []) ≡ Err BadRegex
-unfolding pattern_of
-refused_regex = refl
+-- the expressions that are met, up to the first fault
+pub met : expressions_of (codes "a,~(,!~b|c" ∷ codes "&~d" ∷ []) ≡ codes "(" ∷ codes "b|c" ∷ codes "d" ∷ []
+unfolding expressions_of
+met = refl
+
+pub met_first : expressions_of (codes "~(,a],~b" ∷ []) ≡ codes "(" ∷ []
+unfolding expressions_of
+met_first = refl
 
 -- `~b|c` means what begins with b or c, and not what has one of them further on
 pub begins : map (starts (alt (literal (codes "b")) (literal (codes "c")))) (codes "a" ∷ codes "b" ∷ codes "c1" ∷ codes "ab" ∷ []) ≡ false ∷ true ∷ true ∷ false ∷ []

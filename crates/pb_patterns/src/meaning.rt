@@ -1,6 +1,7 @@
-ghost use Rattle.std.specs.Prelude.{◌≡◌, ◌≢◌, length, IfOk, IfErr, Ok, Err};
+ghost use Rattle.std.specs.Prelude.{◌≡◌, ◌≢◌, length, IfOk, IfErr, OnOk, Ok, Err};
 ghost use Rattle.pb_patterns.specs.Sets.{IsSetOf};
-ghost use Rattle.pb_patterns.specs.Reading.{is_regex, regex_of, what_of, all_taken, IsRefused, IsFaultOf};
+ghost use Rattle.pb_patterns.specs.Reading.{is_regex, what_of, expression_in};
+ghost use Rattle.pb_patterns.specs.Expressions.{IsTaken, IsRefused, AreTaken, IsFirstFault};
 ghost use Rattle.pb_patterns.specs.Subscripts.{term_of, closes_none, plain_term, bracket_term};
 ghost use Rattle.pb_patterns.specs.Built.{IsRegexOf};
 
@@ -17,10 +18,17 @@ use std::alloc::{AllocError, Global};
 use std::marker::Model;
 
 /// What an element tells of names, with the pattern that was built for its regular expression.
-#[derive(Drop)]
 pub struct Meaning {
     what: What,
     regex: Option<Regex>,
+}
+
+impl Drop for Meaning {
+    fn drop(self) {
+        let Meaning { what, regex } = self;
+        drop(what);
+        drop(regex);
+    }
 }
 
 impl Model for Meaning {
@@ -46,7 +54,8 @@ fn compiled(alloc: Global, source: &str) -> Result<Regex, PatFault>
 }
 
 fn regex_meaning(alloc: Global, source: &str) -> Result<Meaning, PatFault>
-    ensures value { IfOk result (λ m. regex_of all_taken source.now ≡ Ok m) }
+    ensures value { IfOk result (λ m. m ≡ What.Regex source.now) }
+    ensures taken { OnOk result (IsTaken source.now) }
     ensures fault { IfErr result (λ e. e ≢ PatFault.Memory → (e ≡ PatFault.BadRegex) × IsRefused source.now) }
 {
     match compiled(alloc, source) {
@@ -127,8 +136,9 @@ fn is_regex(bytes: &[u8]) -> bool
 
 /// What an element means, from what stands behind its mark.
 pub fn read_meaning(alloc: Global, text: &str) -> Result<Meaning, PatFault>
-    ensures value { IfOk result (λ m. what_of all_taken text.now ≡ Ok m) }
-    ensures fault { IfErr result (λ e. e ≢ PatFault.Memory → IsFaultOf (λ refused. what_of refused text.now) e) }
+    ensures value { IfOk result (λ m. what_of text.now ≡ Ok m) }
+    ensures taken { OnOk result (AreTaken (expression_in text.now)) }
+    ensures fault { IfErr result (λ e. e ≢ PatFault.Memory → IsFirstFault (expression_in text.now) (what_of text.now) PatFault.BadRegex e) }
 {
     if text.is_empty() {
         Err(PatFault::Empty)

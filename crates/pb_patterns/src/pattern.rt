@@ -3,7 +3,8 @@ ghost use Rattle.pb_planes.specs.Set.{has_some};
 ghost use Rattle.pb_patterns.specs.Selection.{IsSelection};
 ghost use Rattle.std.specs.List.{flat_map};
 ghost use Rattle.pb_patterns.specs.Spelling.{spelt};
-ghost use Rattle.pb_patterns.specs.Reading.{pattern_of, all_taken, IsFaultOf};
+ghost use Rattle.pb_patterns.specs.Expressions.{AreTaken, IsFirstFault};
+ghost use Rattle.pb_patterns.specs.Reading.{pattern_of, expressions_of};
 
 use crate::choice::Choice;
 use crate::element::Element;
@@ -76,8 +77,9 @@ impl Pattern {
     /// square brackets, the pieces are trimmed of spaces and empty ones dropped. `BadRegex` stands
     /// for an expression that the `regex` crate refuses for another cause than memory.
     pub fn parse(alloc: Global, text: &str) -> Result<Pattern, PatFault>
-        ensures value { IfOk result (λ p. pattern_of all_taken (text.now ∷ []) ≡ Ok p) }
-        ensures fault { IfErr result (λ e. e ≢ PatFault.Memory → IsFaultOf (λ refused. pattern_of refused (text.now ∷ [])) e) }
+        ensures value { IfOk result (λ p. pattern_of (text.now ∷ []) ≡ Ok p) }
+        ensures taken { OnOk result (AreTaken (expressions_of (text.now ∷ []))) }
+        ensures fault { IfErr result (λ e. e ≢ PatFault.Memory → IsFirstFault (expressions_of (text.now ∷ [])) (pattern_of (text.now ∷ [])) PatFault.BadRegex e) }
     {
         let texts = vec![in alloc; Text::from_str(alloc, text)?]?;
         Pattern::parse_all(alloc, texts.as_slice())
@@ -85,10 +87,11 @@ impl Pattern {
 
     /// The pattern that several texts spell, taken together: it is empty only where none of them
     /// has an element.
-    #[tactic(auto, unfolding(crate::specs::Reading::pattern_of))]
+    #[tactic(auto, unfolding(crate::specs::Reading::pattern_of, crate::specs::Reading::expressions_of))]
     pub fn parse_all(alloc: Global, texts: &[Text]) -> Result<Pattern, PatFault>
-        ensures value { IfOk result (λ p. pattern_of all_taken texts.now ≡ Ok p) }
-        ensures fault { IfErr result (λ e. e ≢ PatFault.Memory → IsFaultOf (λ refused. pattern_of refused texts.now) e) }
+        ensures value { IfOk result (λ p. pattern_of texts.now ≡ Ok p) }
+        ensures taken { OnOk result (AreTaken (expressions_of texts.now)) }
+        ensures fault { IfErr result (λ e. e ≢ PatFault.Memory → IsFirstFault (expressions_of texts.now) (pattern_of texts.now) PatFault.BadRegex e) }
     {
         let spelt = spelt_in(alloc, texts)?;
         match elements_of(alloc, spelt.as_slice()) {

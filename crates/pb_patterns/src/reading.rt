@@ -1,5 +1,6 @@
-ghost use Rattle.std.specs.Prelude.{◌≡◌, ◌≢◌, IfOk, IfErr, Ok, Err};
-ghost use Rattle.pb_patterns.specs.Reading.{mark_of, behind_mark, element_of, each_of, elements_of, all_taken, IsFaultOf};
+ghost use Rattle.std.specs.Prelude.{◌≡◌, ◌≢◌, IfOk, IfErr, OnOk, Ok, Err};
+ghost use Rattle.pb_patterns.specs.Expressions.{AreTaken, IsFirstFault};
+ghost use Rattle.pb_patterns.specs.Reading.{mark_of, behind_mark, element_of, each_of, elements_of, expression_in, each_expression};
 
 use crate::element::{Element, Mark};
 use crate::fault::PatFault;
@@ -28,8 +29,9 @@ fn behind_mark(text: &str) -> &str
 }
 
 fn element(alloc: Global, text: &str) -> Result<Element, PatFault>
-    ensures value { IfOk result (λ element. element_of all_taken text.now ≡ Ok element) }
-    ensures fault { IfErr result (λ e. e ≢ PatFault.Memory → IsFaultOf (λ refused. element_of refused text.now) e) }
+    ensures value { IfOk result (λ element. element_of text.now ≡ Ok element) }
+    ensures taken { OnOk result (AreTaken (expression_in (behind_mark text.now))) }
+    ensures fault { IfErr result (λ e. e ≢ PatFault.Memory → IsFirstFault (expression_in (behind_mark text.now)) (element_of text.now) PatFault.BadRegex e) }
 {
     match read_meaning(alloc, behind_mark(text)) {
         Ok(what) => Ok(Element {
@@ -42,8 +44,9 @@ fn element(alloc: Global, text: &str) -> Result<Element, PatFault>
 }
 
 fn each_of(alloc: Global, texts: &[Text]) -> Result<Items<Element>, PatFault>
-    ensures value { IfOk result (λ elements. each_of all_taken texts.now ≡ Ok elements) }
-    ensures fault { IfErr result (λ e. e ≢ PatFault.Memory → IsFaultOf (λ refused. each_of refused texts.now) e) }
+    ensures value { IfOk result (λ elements. each_of texts.now ≡ Ok elements) }
+    ensures taken { OnOk result (AreTaken (each_expression texts.now)) }
+    ensures fault { IfErr result (λ e. e ≢ PatFault.Memory → IsFirstFault (each_expression texts.now) (each_of texts.now) PatFault.BadRegex e) }
 {
     let mut elements = Items::new(alloc);
     for text in texts {
@@ -57,8 +60,9 @@ fn each_of(alloc: Global, texts: &[Text]) -> Result<Items<Element>, PatFault>
 
 /// The elements that these texts spell.
 pub fn elements_of(alloc: Global, texts: &[Text]) -> Result<Items<Element>, PatFault>
-    ensures value { IfOk result (λ elements. elements_of all_taken texts.now ≡ Ok elements) }
-    ensures fault { IfErr result (λ e. e ≢ PatFault.Memory → IsFaultOf (λ refused. elements_of refused texts.now) e) }
+    ensures value { IfOk result (λ elements. elements_of texts.now ≡ Ok elements) }
+    ensures taken { OnOk result (AreTaken (each_expression texts.now)) }
+    ensures fault { IfErr result (λ e. e ≢ PatFault.Memory → IsFirstFault (each_expression texts.now) (elements_of texts.now) PatFault.BadRegex e) }
 {
     match texts {
         [] => Err(PatFault::Empty),

@@ -1,185 +1,284 @@
--- What is read where an expression of a pattern is refused: the same, or BadPattern.
-use Rattle.std.proofs.Common.{◌≡◌, ◌<◌, ℕ, ◌+◌, Bool, true, false, List, [], ◌∷◌, ◌++◌, Result, Ok, Err, inl, inr, ◌⊎◌, refl, sym, ◌∙◌, ap, subst, length, drop, get_or}
-use Rattle.std.proofs.lemmas.List.{append_assoc, drop_more}
-use Rattle.std.specs.Prelude.{decimal, Some, None, if◌then◌else◌}
+-- Patterns, plays and lists of plays, whose regular expressions may be refused.
+use Rattle.std.proofs.Common.{◌≡◌, ◌≢◌, ◌<◌, ℕ, ◌+◌, Bool, true, false, List, [], ◌∷◌, ◌++◌, Result, Ok, Err, inl, inr, ◌⊎◌, refl, sym, ◌∙◌, ap, subst, length, drop, get_or}
+use Rattle.std.proofs.lemmas.List.{append_assoc, append-nil, drop_more}
+use Rattle.std.specs.Prelude.{decimal, Option, Some, None, codes, if◌then◌else◌}
 use Rattle.std.specs.List.{list_any}
-use Rattle.std.specs.Str.{bytes_eq}
 use Rattle.serde_json.specs.Data as json
 use Rattle.serde_json.specs.View.{view, items_view}
 use Rattle.serde_json.specs.declared.value.Value.{Value}
 use Rattle.pb_value.specs.Bytes.{json_in}
-use Rattle.pb_value.specs.Reading.{and_then, below}
-use Rattle.pb_patterns.specs.Reading.{pattern_of, all_taken}
+use Rattle.pb_value.specs.Reading.{and_then, map_ok, below}
+use Rattle.pb_patterns.specs.Expressions.{AreTaken, IsFirstFault, behind}
+use Rattle.pb_patterns.specs.Reading.{pattern_of, expressions_of}
 use Rattle.pb_patterns.specs.declared.element.Element.{Element}
-use Rattle.pb_patterns.proofs.Faults.{pattern_agrees}
-use Rattle.pb_play.specs.Faults.{each, IsLoadFaultOf}
-use Rattle.pb_play.specs.Hosts.{texts, has_braces, as_read, pattern, joined, hosts}
-use Rattle.pb_play.specs.Playbooks.{plays, of_json, playbook_of}
-use Rattle.pb_play.specs.Plays.{play_key, with_play_key, play_keys, finished_play, new_play, play}
+use Rattle.pb_patterns.specs.declared.fault.PatFault.{PatFault}
+use Rattle.pb_patterns.specs.declared.fault.PatFault.TheVariants as pattern_fault
+use Rattle.pb_patterns.proofs.Firsts.{taken_append}
+use Rattle.pb_reading.specs.Fields.{Ahead, Read, field, optional, value_at, value_of}
+use Rattle.pb_reading.specs.Reading.{Reading, Fault, WrongShape, Own, Stops, Gives, each}
+use Rattle.pb_reading.specs.declared.stop.Stop.{Stop}
+use Rattle.pb_reading.specs.declared.stop.Stop.TheVariants as stop
+use Rattle.pb_play.specs.Refusals.{GivesOf}
+use Rattle.pb_play.specs.Hosts.{texts, has_braces, as_read, pattern, expressions_in, joined, hosts, expressions_of_hosts}
+use Rattle.pb_play.specs.NoEffect.{has_no_effect}
+use Rattle.pb_play.specs.Playbooks.{plays, of_json, playbook_of, as_load_fault, as_playbook, each_expression, expressions_of_plays, expressions_of_book}
+use Rattle.pb_play.specs.Simple.{gathering}
+use Rattle.pb_play.specs.Plays.{key, rest_of_play, play, expressions_at, expressions_of_play}
 use Rattle.pb_play.specs.declared.fault.LoadFault.{LoadFault}
-use Rattle.pb_play.specs.declared.fault.LoadFault.TheVariants.{BadPattern, NotJson}
+use Rattle.pb_play.specs.declared.fault.LoadFault.TheVariants as load
+use Rattle.pb_play.specs.declared.fault.LoadFault.TheVariants.{BadPattern}
+use Rattle.pb_play.specs.declared.hosts.PlayHosts.{PlayHosts}
+use Rattle.pb_play.specs.declared.other_keys.WithoutEffect.{WithoutEffect}
 use Rattle.pb_play.specs.declared.play.Play.{Play}
-use Rattle.pb_play.specs.declared.play.PlayDraft.{PlayDraft}
-use Rattle.pb_play.specs.declared.play.PlayKey.{PlayKey}
-use Rattle.pb_play.specs.declared.play.PlayKey.TheVariants as key
-use Rattle.pb_play.proofs.Refusals.{Reading, Refusable, IsRest, first_read, first_fault, rest_whole, rest_fault, rest_same, then_assoc, same_refusable, then_refusable}
+use Rattle.pb_play.proofs.Refusals.{IsRest, gives_plain, gives_first, gives_next, gives_made, gives_last, gives_rest}
 
 -- patterns
-if_agrees : (t : Bool) (a b : Result (List Element) LoadFault) → (a ≡ Err BadPattern) ⊎ (a ≡ b)
-    → ((if t then Err BadPattern else a) ≡ Err BadPattern) ⊎ ((if t then Err BadPattern else a) ≡ (if t then Err BadPattern else b))
-if_agrees true a b agrees = inl refl
-if_agrees false a b agrees = agrees
+as_bad : (e : PatFault) (ts : List (List ℕ)) → IsFirstFault (expressions_of ts) (pattern_of ts) pattern_fault.BadRegex e
+    → IsFirstFault (expressions_of ts) (as_read (pattern_of ts)) (Own BadPattern) (Own BadPattern)
+as_bad e ts (inl (taken, is)) = inl (taken, ap as_read is)
+as_bad e ts (inr (is, bad)) = inr (refl, bad)
 
-read_agrees : (refused : List ℕ → Bool) (ts : List (List ℕ)) → (as_read (pattern_of refused ts) ≡ Err BadPattern) ⊎ (as_read (pattern_of refused ts) ≡ as_read (pattern_of all_taken ts))
-read_agrees refused ts = elim (pattern_agrees refused ts) [
-  | inl same ↦ inr (ap as_read same)
-  | inr bad ↦ inl (ap as_read bad)
-]
+without_braces : (ts : List (List ℕ)) (s : Stop LoadFault) → list_any has_braces ts ≡ false → GivesOf {A = List Element} (Err s) (expressions_of ts) (as_read (pattern_of ts)) → GivesOf {A = List Element} (Err s) (expressions_in ts) (pattern ts)
+without_braces ts s none given = rw none given
 
-pub pattern_refusable : (ts : List (List ℕ)) → Refusable (λ refused. pattern refused ts)
-pattern_refusable ts source = if_agrees (list_any has_braces ts) (as_read (pattern_of (bytes_eq source) ts)) (as_read (pattern_of all_taken ts)) (read_agrees (bytes_eq source) ts)
+pub pattern_stopped : (ts : List (List ℕ)) (e : PatFault) (s : Stop LoadFault) → list_any has_braces ts ≡ false → (e ≡ pattern_fault.Memory → s ≡ stop.Memory) → (e ≢ pattern_fault.Memory → s ≡ stop.Fault BadPattern)
+    → (e ≢ pattern_fault.Memory → IsFirstFault (expressions_of ts) (pattern_of ts) pattern_fault.BadRegex e) → GivesOf {A = List Element} (Err s) (expressions_in ts) (pattern ts)
+pattern_stopped ts pattern_fault.Memory s none memory other bad = subst (λ s. GivesOf {A = List Element} (Err s) (expressions_in ts) (pattern ts)) (sym (memory refl)) tt
+pattern_stopped ts pattern_fault.Empty s none memory other bad =
+    subst (λ s. GivesOf {A = List Element} (Err s) (expressions_in ts) (pattern ts)) (sym (other (λ is. cc))) (without_braces ts (stop.Fault BadPattern) none (as_bad pattern_fault.Empty ts (bad (λ is. cc))))
+pattern_stopped ts pattern_fault.BadSubscript s none memory other bad =
+    subst (λ s. GivesOf {A = List Element} (Err s) (expressions_in ts) (pattern ts)) (sym (other (λ is. cc))) (without_braces ts (stop.Fault BadPattern) none (as_bad pattern_fault.BadSubscript ts (bad (λ is. cc))))
+pattern_stopped ts pattern_fault.BadRegex s none memory other bad =
+    subst (λ s. GivesOf {A = List Element} (Err s) (expressions_in ts) (pattern ts)) (sym (other (λ is. cc))) (without_braces ts (stop.Fault BadPattern) none (as_bad pattern_fault.BadRegex ts (bad (λ is. cc))))
 
-pub hosts_refusable : (path : List ℕ) (d : json.Data) → Refusable (λ refused. hosts refused path d)
-hosts_refusable path d =
-    then_refusable (λ refused. texts path d) (λ refused ts. and_then (pattern refused ts) (λ elements. Ok (record { text = joined ts; pattern = elements }))) (same_refusable (texts path d))
-    (λ ts. then_refusable (λ refused. pattern refused ts) (λ refused elements. Ok (record { text = joined ts; pattern = elements })) (pattern_refusable ts) (λ elements. same_refusable _))
+pub pattern_taken : (ts : List (List ℕ)) (es : List Element) → list_any has_braces ts ≡ false → AreTaken (expressions_of ts) → pattern_of ts ≡ Ok es → GivesOf {A = List Element} (Ok es) (expressions_in ts) (pattern ts)
+pattern_taken ts es none taken is = (rw none taken, rw none (ap as_read is))
 
--- the keys of a play
-pub key_refusable : (k : PlayKey) (path name : List ℕ) (d : json.Data) (draft : PlayDraft) → Refusable (λ refused. with_play_key refused k path name d draft)
-key_refusable key.GatherFacts path name d draft = same_refusable _
-key_refusable key.Hosts path name d draft = then_refusable (λ refused. hosts refused path d) (λ refused h. Ok (record draft { hosts = Some h })) (hosts_refusable path d) (λ h. same_refusable _)
-key_refusable key.Name path name d draft = same_refusable _
-key_refusable key.PostTasks path name d draft = same_refusable _
-key_refusable key.PreTasks path name d draft = same_refusable _
-key_refusable key.Tasks path name d draft = same_refusable _
-key_refusable key.Vars path name d draft = same_refusable _
-key_refusable key.Other path name d draft = same_refusable _
+pub with_braces : (ts : List (List ℕ)) → list_any has_braces ts ≡ true → GivesOf {A = List Element} (Err (stop.Fault BadPattern)) (expressions_in ts) (pattern ts)
+with_braces ts some = inl (rw some tt, rw some refl)
 
-keys_refusable : (path : List ℕ) (ms : json.Members) (draft : PlayDraft) → Refusable (λ refused. play_keys refused path ms draft)
-keys_refusable path json.no_members draft = same_refusable _
-keys_refusable path (json.member k d ms) draft =
-    then_refusable (λ refused. with_play_key refused (play_key k) (below path k) k d draft) (λ refused. play_keys refused path ms) (key_refusable (play_key k) (below path k) k d draft) (keys_refusable path ms)
+-- the hosts of a play
+abbrev made_hosts : List (List ℕ) → List Element → Reading PlayHosts LoadFault
+made_hosts ts elements = Ok (record { text = joined ts; pattern = elements })
 
-pub play_refusable : (path : List ℕ) (d : json.Data) → Refusable (λ refused. play refused path d)
-unfolding play
-play_refusable path (json.object ms) = then_refusable (λ refused. play_keys refused path ms new_play) (λ refused. finished_play path) (keys_refusable path ms new_play) (λ draft. same_refusable _)
-play_refusable path json.null = same_refusable _
-play_refusable path (json.boolean b) = same_refusable _
-play_refusable path (json.number n) = same_refusable _
-play_refusable path (json.string s) = same_refusable _
-play_refusable path (json.array ds) = same_refusable _
+pub texts_stop : (path : List ℕ) (d : json.Data) (e : Stop LoadFault) → Gives {A = List (List ℕ)} (Err e) (texts path d) → GivesOf {A = PlayHosts} (Err e) (expressions_of_hosts path d) (hosts path d)
+texts_stop path d e given = gives_first e [] (texts path d) (λ ts. and_then (pattern ts) (made_hosts ts)) expressions_in (gives_plain (Err e) (texts path d) given)
 
--- one key of a play: its fault, and what is left behind it
-keys_read : (refused : List ℕ → Bool) (path k : List ℕ) (d : json.Data) (ms : json.Members) (draft : PlayDraft)
-    → and_then (play_keys refused path (json.member k d ms) draft) (finished_play path)
-    ≡ and_then (with_play_key refused (play_key k) (below path k) k d draft) (λ next. and_then (play_keys refused path ms next) (finished_play path))
-keys_read refused path k d ms draft = then_assoc (with_play_key refused (play_key k) (below path k) k d draft) (play_keys refused path ms) (finished_play path)
+pub pattern_stop : (path : List ℕ) (d : json.Data) (ts : List (List ℕ)) (e : Stop LoadFault) → texts path d ≡ Ok ts → GivesOf {A = List Element} (Err e) (expressions_in ts) (pattern ts)
+    → GivesOf {A = PlayHosts} (Err e) (expressions_of_hosts path d) (hosts path d)
+pattern_stop path d ts e is given =
+    gives_next (Err e) [] (texts path d) ts (λ ts. and_then (pattern ts) (made_hosts ts)) expressions_in tt is (gives_made e (expressions_in ts) (pattern ts) (made_hosts ts) given)
 
-abbrev pub rest_of_keys : (List ℕ → Bool) → List ℕ → json.Members → PlayDraft → Result Play LoadFault
-rest_of_keys refused path ms draft = and_then (play_keys refused path ms draft) (finished_play path)
+pub hosts_taken : (path : List ℕ) (d : json.Data) (ts : List (List ℕ)) (elements : List Element) (h : PlayHosts) → texts path d ≡ Ok ts → GivesOf {A = List Element} (Ok elements) (expressions_in ts) (pattern ts)
+    → h ≡ record { text = joined ts; pattern = elements } → GivesOf {A = PlayHosts} (Ok h) (expressions_of_hosts path d) (hosts path d)
+hosts_taken path d ts elements h is given made =
+    gives_next (Ok h) [] (texts path d) ts (λ ts. and_then (pattern ts) (made_hosts ts)) expressions_in tt is
+    (gives_last (Ok h) (expressions_in ts) (pattern ts) elements (made_hosts ts) given.0 given.1 (ap Ok (sym made)))
 
-pub play_begun : (path : List ℕ) (d : json.Data) (ms : json.Members) (draft : PlayDraft) → d ≡ json.object ms → draft ≡ new_play → IsRest (λ refused. play refused path d) (λ refused. rest_of_keys refused path ms draft)
-unfolding play
-play_begun path d ms draft is fresh =
-    rest_same (λ refused. play refused path d) (λ refused. play refused path d) (λ refused. rest_of_keys refused path ms draft) (rest_whole (λ refused. play refused path d))
-    (λ refused. ap (play refused path) is ∙ ap (rest_of_keys refused path ms) (sym fresh))
-
--- the fault of the rules over several keys
-pub play_fault_ended : (whole : Reading Play) (path : List ℕ) (left : json.Members) (draft : PlayDraft) (e : LoadFault) → left ≡ json.no_members → IsRest whole (λ refused. rest_of_keys refused path left draft)
-    → finished_play path draft ≡ Err e → IsLoadFaultOf whole e
-play_fault_ended whole path left draft e none rest bad =
-    rest_fault whole (λ refused. rest_of_keys refused path left draft) e rest (inl (ap (λ l. rest_of_keys all_taken path l draft) none ∙ bad))
-
-first_key_fault : (path k : List ℕ) (d : json.Data) (ms : json.Members) (draft : PlayDraft) (e : LoadFault) → IsLoadFaultOf (λ refused. with_play_key refused (play_key k) (below path k) k d draft) e
-    → IsLoadFaultOf (λ refused. rest_of_keys refused path (json.member k d ms) draft) e
-first_key_fault path k d ms draft e bad =
-    first_fault (λ refused. play_keys refused path (json.member k d ms) draft) (λ refused. finished_play path) e
-    (first_fault (λ refused. with_play_key refused (play_key k) (below path k) k d draft) (λ refused. play_keys refused path ms) e bad)
-
-pub key_fault : (whole : Reading Play) (path k here : List ℕ) (d : json.Data) (ms left : json.Members) (draft : PlayDraft) (e : LoadFault) → left ≡ json.member k d ms → here ≡ below path k
-    → IsRest whole (λ refused. rest_of_keys refused path left draft) → IsLoadFaultOf (λ refused. with_play_key refused (play_key k) here k d draft) e → IsLoadFaultOf whole e
-key_fault whole path k here d ms left draft e is at rest bad =
-    rest_fault whole (λ refused. rest_of_keys refused path (json.member k d ms) draft) e
-    (rest_same whole (λ refused. rest_of_keys refused path left draft) (λ refused. rest_of_keys refused path (json.member k d ms) draft) rest (λ refused. ap (λ l. rest_of_keys refused path l draft) is))
-    (first_key_fault path k d ms draft e (subst (λ p. IsLoadFaultOf (λ refused. with_play_key refused (play_key k) p k d draft) e) at bad))
-
-pub key_taken : (whole : Reading Play) (path k here : List ℕ) (d : json.Data) (ms left : json.Members) (draft next : PlayDraft) → left ≡ json.member k d ms → here ≡ below path k
-    → IsRest whole (λ refused. rest_of_keys refused path left draft) → with_play_key all_taken (play_key k) here k d draft ≡ Ok next → IsRest whole (λ refused. rest_of_keys refused path ms next)
-key_taken whole path k here d ms left draft next is at rest taken =
-    first_read whole (λ refused. with_play_key refused (play_key k) (below path k) k d draft) (λ refused next. rest_of_keys refused path ms next) next
-    (
-    rest_same whole (λ refused. rest_of_keys refused path left draft) (λ refused. and_then (with_play_key refused (play_key k) (below path k) k d draft) (λ next. rest_of_keys refused path ms next)) rest
-    (λ refused. ap (λ l. rest_of_keys refused path l draft) is ∙ keys_read refused path k d ms draft)
-    )
-    (key_refusable (play_key k) (below path k) k d draft) (subst (λ p. with_play_key all_taken (play_key k) p k d draft ≡ Ok next) at taken)
+pub hosts_there : (path : List ℕ) (d : json.Data) (e : Stop LoadFault) → GivesOf {A = PlayHosts} (Err e) (expressions_of_hosts path d) (hosts path d)
+    → GivesOf {A = Option PlayHosts} (Err e) (expressions_of_hosts path d) (map_ok Some (hosts path d))
+hosts_there path d stop.Memory given = given
+hosts_there path d (stop.WrongShape p) (inl (taken, is)) = inl (taken, ap (map_ok Some) is)
+hosts_there path d (stop.WrongShape p) (inr bad) = inr bad
+hosts_there path d (stop.Fault f) (inl (taken, is)) = inl (taken, ap (map_ok Some) is)
+hosts_there path d (stop.Fault f) (inr bad) = inr bad
 
 -- one play of a list
-abbrev pub rest_of : (List ℕ → Bool) → List ℕ → ℕ → json.Items → List Play → Result (List Play) LoadFault
-rest_of refused path i ds front = and_then (each (play refused) path i ds) (λ ps. Ok (front ++ ps))
+abbrev pub rest_of : List ℕ → ℕ → json.Items → List Play → Reading (List Play) LoadFault
+rest_of path i ds front = and_then (each play path i ds) (λ ps. Ok (front ++ ps))
 
-appended : (r : Result (List Play) LoadFault) (front : List Play) (p : Play)
+appended : (r : Reading (List Play) LoadFault) (front : List Play) (p : Play)
     → and_then (and_then r (λ ps. Ok (p ∷ ps))) (λ ps. Ok (front ++ ps)) ≡ and_then r (λ ps. Ok ((front ++ p ∷ []) ++ ps))
 appended (Ok ps) front p = ap Ok (sym (append_assoc front (p ∷ []) ps))
 appended (Err e) front p = refl
 
-moved : (a : Result Play LoadFault) (r : Result (List Play) LoadFault) (front : List Play)
+moved : (a : Reading Play LoadFault) (r : Reading (List Play) LoadFault) (front : List Play)
     → and_then (and_then a (λ p. and_then r (λ ps. Ok (p ∷ ps)))) (λ ps. Ok (front ++ ps)) ≡ and_then a (λ p. and_then r (λ ps. Ok ((front ++ p ∷ []) ++ ps)))
 moved (Ok p) r front = appended r front p
 moved (Err e) r front = refl
 
-none_front : (r : Result (List Play) LoadFault) → r ≡ and_then r (λ ps. Ok ([] ++ ps))
+none_front : (r : Reading (List Play) LoadFault) → r ≡ and_then r (λ ps. Ok ([] ++ ps))
 none_front (Ok ps) = refl
 none_front (Err e) = refl
 
-each_read : (refused : List ℕ → Bool) (path : List ℕ) (i : ℕ) (d : json.Data) (ds : json.Items) (front : List Play)
-    → rest_of refused path i (json.item d ds) front ≡ and_then (play refused (below path (decimal i)) d) (λ p. rest_of refused path (i + 1) ds (front ++ p ∷ []))
-each_read refused path i d ds front = moved (play refused (below path (decimal i)) d) (each (play refused) path (i + 1) ds) front
+each_read : (path : List ℕ) (i : ℕ) (d : json.Data) (ds : json.Items) (front : List Play)
+    → rest_of path i (json.item d ds) front ≡ and_then (play (below path (decimal i)) d) (λ p. rest_of path (i + 1) ds (front ++ p ∷ []))
+each_read path i d ds front = moved (play (below path (decimal i)) d) (each play path (i + 1) ds) front
 
-first_play_fault : (path : List ℕ) (i : ℕ) (d : json.Data) (ds : json.Items) (front : List Play) (e : LoadFault) → IsLoadFaultOf (λ refused. play refused (below path (decimal i)) d) e
-    → IsLoadFaultOf (λ refused. rest_of refused path i (json.item d ds) front) e
-first_play_fault path i d ds front e bad =
-    first_fault (λ refused. each (play refused) path i (json.item d ds)) (λ refused ps. Ok (front ++ ps)) e
-    (first_fault (λ refused. play refused (below path (decimal i)) d) (λ refused p. and_then (each (play refused) path (i + 1) ds) (λ ps. Ok (p ∷ ps))) e bad)
-
-pub play_fault : (whole : Reading (List Play)) (path : List ℕ) (i : ℕ) (d : json.Data) (ds left : json.Items) (front : List Play) (e : LoadFault) → left ≡ json.item d ds
-    → IsRest whole (λ refused. rest_of refused path i left front) → IsLoadFaultOf (λ refused. play refused (below path (decimal i)) d) e → IsLoadFaultOf whole e
-play_fault whole path i d ds left front e is rest bad =
-    rest_fault whole (λ refused. rest_of refused path i left front) e rest
-    (subst (λ l. IsLoadFaultOf (λ refused. rest_of refused path i l front) e) (sym is) (first_play_fault path i d ds front e bad))
-
-pub play_taken : (whole : Reading (List Play)) (path : List ℕ) (i : ℕ) (d : json.Data) (ds left : json.Items) (front after : List Play) (p : Play) → left ≡ json.item d ds → after ≡ front ++ p ∷ []
-    → IsRest whole (λ refused. rest_of refused path i left front) → play all_taken (below path (decimal i)) d ≡ Ok p → IsRest whole (λ refused. rest_of refused path (i + 1) ds after)
-play_taken whole path i d ds left front after p is more rest taken =
-    subst (λ l. IsRest whole (λ refused. rest_of refused path (i + 1) ds l)) (sym more)
+pub play_stopped : (met : List (List ℕ)) (whole : Reading (List Play) LoadFault) (path : List ℕ) (i : ℕ) (d : json.Data) (ds left : json.Items) (front : List Play) (e : Stop LoadFault) → left ≡ json.item d ds
+    → IsRest met whole (each_expression path i left) (rest_of path i left front) → GivesOf {A = Play} (Err e) (expressions_of_play (below path (decimal i)) d) (play (below path (decimal i)) d)
+    → GivesOf {A = List Play} (Err e) met whole
+play_stopped met whole path i d ds left front e is rest given =
+    gives_rest e met (each_expression path i left) whole (rest_of path i left front) rest
     (
-    first_read whole (λ refused. play refused (below path (decimal i)) d) (λ refused p. rest_of refused path (i + 1) ds (front ++ p ∷ [])) p
+    subst (λ l. GivesOf {A = List Play} (Err e) (each_expression path i l) (rest_of path i l front)) (sym is)
     (
-    rest_same whole (λ refused. rest_of refused path i left front) (λ refused. and_then (play refused (below path (decimal i)) d) (λ p. rest_of refused path (i + 1) ds (front ++ p ∷ []))) rest
-    (λ refused. ap (λ l. rest_of refused path i l front) is ∙ each_read refused path i d ds front)
+    subst (λ r. GivesOf {A = List Play} (Err e) (each_expression path i (json.item d ds)) r) (sym (each_read path i d ds front))
+    (
+    gives_first e (expressions_of_play (below path (decimal i)) d) (play (below path (decimal i)) d) (λ p. rest_of path (i + 1) ds (front ++ p ∷ []))
+    (λ _. each_expression path (i + 1) ds) given
     )
-    (play_refusable (below path (decimal i)) d)
-    taken
+    )
     )
 
--- at first the plays of a list are all left
-pub plays_begun : (path : List ℕ) (ds : json.Items) (front : List Play) → front ≡ [] → IsRest (λ refused. each (play refused) path 0 ds) (λ refused. rest_of refused path 0 ds front)
-plays_begun path ds front none =
-    rest_same (λ refused. each (play refused) path 0 ds) (λ refused. each (play refused) path 0 ds) (λ refused. rest_of refused path 0 ds front) (rest_whole (λ refused. each (play refused) path 0 ds))
-    (λ refused. none_front (each (play refused) path 0 ds) ∙ ap (rest_of refused path 0 ds) (sym none))
+pub play_taken : (met : List (List ℕ)) (whole : Reading (List Play) LoadFault) (path : List ℕ) (i : ℕ) (d : json.Data) (ds left : json.Items) (front after : List Play) (p : Play) → left ≡ json.item d ds
+    → after ≡ front ++ p ∷ [] → IsRest met whole (each_expression path i left) (rest_of path i left front)
+    → GivesOf {A = Play} (Ok p) (expressions_of_play (below path (decimal i)) d) (play (below path (decimal i)) d)
+    → IsRest met whole (each_expression path (i + 1) ds) (rest_of path (i + 1) ds after)
+play_taken met whole path i d ds left front after p is more (before, taken, met_is, same) given =
+    let here = expressions_of_play (below path (decimal i)) d in
+    let later = each_expression path (i + 1) ds in (
+      before ++ here,
+      taken_append before here taken given.0,
+      met_is ∙ ap (λ l. before ++ each_expression path i l) is ∙ ap (λ r. before ++ (here ++ behind r (λ _. later))) given.1 ∙ sym (append_assoc before here later),
+      same ∙ ap (λ l. rest_of path i l front) is ∙ each_read path i d ds front ∙ ap (λ r. and_then r (λ p. rest_of path (i + 1) ds (front ++ p ∷ []))) given.1
+          ∙ ap (rest_of path (i + 1) ds) (sym more),
+    )
+
+-- at first the plays of a list are all left, and at last none
+pub plays_begun : (path : List ℕ) (ds : json.Items) (front : List Play) → front ≡ [] → IsRest (each_expression path 0 ds) (each play path 0 ds) (each_expression path 0 ds) (rest_of path 0 ds front)
+plays_begun path ds front none = ([], tt, refl, none_front (each play path 0 ds) ∙ ap (rest_of path 0 ds) (sym none))
+
+pub plays_read : (met : List (List ℕ)) (whole : Reading (List Play) LoadFault) (path : List ℕ) (i : ℕ) (left : json.Items) (front read : List Play) → left ≡ json.no_items → read ≡ front
+    → IsRest met whole (each_expression path i left) (rest_of path i left front) → GivesOf {A = List Play} (Ok read) met whole
+plays_read met whole path i left front read none same (before, taken, met_is, is) = (
+  subst AreTaken (sym (met_is ∙ ap (λ l. before ++ each_expression path i l) none ∙ append-nil before)) taken,
+  is ∙ ap (λ l. rest_of path i l front) none ∙ ap Ok (append-nil front ∙ sym same),
+)
 
 pub next_left : (vs : List Value) (i : ℕ) (v : Value) → i < length vs → v ≡ get_or vs i v → items_view (drop i vs) ≡ json.item (view v) (items_view (drop (i + 1) vs))
 next_left vs i v within is = ap items_view (drop_more vs i v within) ∙ ap (λ w. items_view (w ∷ drop (i + 1) vs)) (sym is)
 
--- the fault of a playbook's plays
-pub playbook_fault : (bytes : List ℕ) (d : json.Data) (e : LoadFault) → json_in bytes ≡ Some d → IsLoadFaultOf (λ refused. plays refused d) e → IsLoadFaultOf (λ refused. playbook_of refused bytes) e
-unfolding playbook_of
-playbook_fault bytes d e is bad =
-    subst (λ o. IsLoadFaultOf (λ refused. of_json refused o) e) (sym is) (first_fault (λ refused. plays refused d) (λ refused ps. Ok (record { plays = ps })) e bad)
+-- a play, once its keys up to `hosts` are read: where the reading of the hosts stops, and the rest of the play
+abbrev hosts_and_rest : List ℕ → Option Bool → Option json.Data → Ahead WithoutEffect → Reading Play LoadFault
+hosts_and_rest path facts d ahead = and_then (optional hosts (below path (codes "hosts")) d) (λ h. value_of (rest_of_play path facts h ahead))
 
-pub playbook_is : (bytes : List ℕ) (d : json.Data) (ps : List Play) → json_in bytes ≡ Some d → plays all_taken d ≡ Ok ps → playbook_of all_taken bytes ≡ Ok (record { plays = ps })
-unfolding playbook_of
-playbook_is bytes d ps is read = ap (of_json all_taken) is ∙ ap (λ r. and_then r (λ ps. Ok (record { plays = ps }))) read
+abbrev with_ahead : Ahead WithoutEffect → Option PlayHosts → Reading (Read (Option PlayHosts) WithoutEffect) LoadFault
+with_ahead ahead v = Ok (record { value = v; ahead = ahead })
 
-pub not_json : (bytes : List ℕ) (e : LoadFault) → json_in bytes ≡ None → e ≡ NotJson → IsLoadFaultOf (λ refused. playbook_of refused bytes) e
+last_part : (r : Reading (Option PlayHosts) LoadFault) (path : List ℕ) (facts : Option Bool) (ahead : Ahead WithoutEffect)
+    → value_of (and_then (and_then r (with_ahead ahead)) (λ y. rest_of_play path facts y.value y.ahead)) ≡ and_then r (λ h. value_of (rest_of_play path facts h ahead))
+last_part (Ok h) path facts ahead = refl
+last_part (Err e) path facts ahead = refl
+
+-- the first field of a play, and the value at its hosts
+abbrev pub front_of : List ℕ → json.Members → Ahead WithoutEffect
+front_of path ms = record { path = path; members = ms; told = record {} }
+
+play_rest : (path : List ℕ) (ms : json.Members) (facts : Option Bool) (d : Option json.Data) (first second : Ahead WithoutEffect)
+    → key (codes "gather_facts") gathering (front_of path ms) ≡ Ok (record { value = facts; ahead = first }) → first.path ≡ path
+    → value_at has_no_effect (codes "hosts") first ≡ Ok (record { value = d; ahead = second })
+    → play path (json.object ms) ≡ hosts_and_rest path facts d second
+unfolding play field
+play_rest path ms facts d first second e at f =
+    ap (λ r. value_of (and_then r (λ x. and_then (field has_no_effect (codes "hosts") hosts x.ahead) (λ y. rest_of_play path x.value y.value y.ahead)))) e
+    ∙ ap (λ r. value_of (and_then (and_then r (λ x. and_then (optional hosts (below first.path (codes "hosts")) x.value) (with_ahead x.ahead))) (λ y. rest_of_play path facts y.value y.ahead))) f
+    ∙ ap (λ p. value_of (and_then (and_then (optional hosts (below p (codes "hosts")) d) (with_ahead second)) (λ y. rest_of_play path facts y.value y.ahead))) at
+    ∙ last_part (optional hosts (below path (codes "hosts")) d) path facts second
+
+met_rest : (path : List ℕ) (ms : json.Members) (facts : Option Bool) (d : Option json.Data) (first second : Ahead WithoutEffect)
+    → key (codes "gather_facts") gathering (front_of path ms) ≡ Ok (record { value = facts; ahead = first })
+    → value_at has_no_effect (codes "hosts") first ≡ Ok (record { value = d; ahead = second })
+    → expressions_of_play path (json.object ms) ≡ expressions_at (below path (codes "hosts")) d
+unfolding expressions_of_play
+met_rest path ms facts d first second e f =
+    ap (λ r. behind r (λ facts. behind (value_at has_no_effect (codes "hosts") facts.ahead) (λ hosts. expressions_at (below path (codes "hosts")) hosts.value))) e
+    ∙ ap (λ r. behind r (λ hosts. expressions_at (below path (codes "hosts")) hosts.value)) f
+
+value_then : {A B S : Type 0} (r : Reading A LoadFault) (f : A → Reading (Read B S) LoadFault) → value_of (and_then r f) ≡ and_then r (λ x. value_of (f x))
+value_then (Ok x) f = refl
+value_then (Err e) f = refl
+
+then_then : {A B C : Type 0} (r : Reading A LoadFault) (f : A → Reading B LoadFault) (g : B → Reading C LoadFault) → and_then (and_then r f) g ≡ and_then r (λ x. and_then (f x) g)
+then_then (Ok x) f g = refl
+then_then (Err e) f g = refl
+
+-- a reader that stops where no expression was met yet
+stops_first : {A : Type 0} (e : Stop LoadFault) (first : Reading A LoadFault) (next : A → Reading Play LoadFault) (more : A → List (List ℕ)) (met : List (List ℕ)) (whole : Reading Play LoadFault)
+    → met ≡ behind first more → whole ≡ and_then first next → Stops e first → GivesOf {A = Play} (Err e) met whole
+stops_first e first next more met whole met_is is stopped =
+    subst (λ m. GivesOf {A = Play} (Err e) m whole) (sym met_is)
+    (subst (λ w. GivesOf {A = Play} (Err e) (behind first more) w) (sym is) (gives_first e [] first next more (gives_plain (Err e) first stopped)))
+
+-- the first field stops a reader, or the keys in front of the hosts
+pub facts_stop : (path : List ℕ) (ms : json.Members) (e : Stop LoadFault) → Stops e (key (codes "gather_facts") gathering (front_of path ms))
+    → GivesOf {A = Play} (Err e) (expressions_of_play path (json.object ms)) (play path (json.object ms))
+unfolding play expressions_of_play
+facts_stop path ms e stopped =
+    stops_first e (key (codes "gather_facts") gathering (front_of path ms)) _ _ (expressions_of_play path (json.object ms)) (play path (json.object ms))
+    refl
+    (value_then (key (codes "gather_facts") gathering (front_of path ms)) (λ x. and_then (key (codes "hosts") hosts x.ahead) (λ y. rest_of_play path x.value y.value y.ahead))) stopped
+
+pub front_stop : (path : List ℕ) (ms : json.Members) (facts : Option Bool) (first : Ahead WithoutEffect) (e : Stop LoadFault)
+    → key (codes "gather_facts") gathering (front_of path ms) ≡ Ok (record { value = facts; ahead = first })
+    → Stops e (value_at has_no_effect (codes "hosts") first) → GivesOf {A = Play} (Err e) (expressions_of_play path (json.object ms)) (play path (json.object ms))
+unfolding play field expressions_of_play
+front_stop path ms facts first e one stopped =
+    let hosts_in = λ (x : Read (Option json.Data) WithoutEffect). and_then (optional hosts (below first.path (codes "hosts")) x.value) (with_ahead x.ahead) in
+    let after = λ (y : Read (Option PlayHosts) WithoutEffect). rest_of_play path facts y.value y.ahead in
+    stops_first e (value_at has_no_effect (codes "hosts") first) _ (λ (x : Read (Option json.Data) WithoutEffect). expressions_at (below path (codes "hosts")) x.value)
+    (expressions_of_play path (json.object ms)) (play path (json.object ms))
+    (ap (λ r. behind r (λ facts. behind (value_at has_no_effect (codes "hosts") facts.ahead) (λ hosts. expressions_at (below path (codes "hosts")) hosts.value))) one)
+    (
+    ap (λ r. value_of (and_then r (λ x. and_then (field has_no_effect (codes "hosts") hosts x.ahead) (λ y. rest_of_play path x.value y.value y.ahead)))) one
+    ∙ ap value_of (then_then (value_at has_no_effect (codes "hosts") first) hosts_in after)
+    ∙ value_then (value_at has_no_effect (codes "hosts") first) (λ x. and_then (hosts_in x) after)
+    )
+    stopped
+
+-- where the hosts stop a reader, and where they don't
+pub hosts_stop : (path : List ℕ) (ms : json.Members) (facts : Option Bool) (d : Option json.Data) (first second : Ahead WithoutEffect) (e : Stop LoadFault)
+    → key (codes "gather_facts") gathering (front_of path ms) ≡ Ok (record { value = facts; ahead = first }) → first.path ≡ path
+    → value_at has_no_effect (codes "hosts") first ≡ Ok (record { value = d; ahead = second })
+    → GivesOf {A = Option PlayHosts} (Err e) (expressions_at (below path (codes "hosts")) d) (optional hosts (below path (codes "hosts")) d)
+    → GivesOf {A = Play} (Err e) (expressions_of_play path (json.object ms)) (play path (json.object ms))
+hosts_stop path ms facts d first second e one at two stopped =
+    subst (λ m. GivesOf {A = Play} (Err e) m (play path (json.object ms))) (sym (met_rest path ms facts d first second one two))
+    (
+    subst (λ r. GivesOf {A = Play} (Err e) (expressions_at (below path (codes "hosts")) d) r) (sym (play_rest path ms facts d first second one at two))
+    (
+    gives_made e (expressions_at (below path (codes "hosts")) d) (optional hosts (below path (codes "hosts")) d) (λ h. value_of (rest_of_play path facts h second)) stopped
+    )
+    )
+
+pub hosts_read : (path : List ℕ) (ms : json.Members) (facts : Option Bool) (d : Option json.Data) (first second : Ahead WithoutEffect) (h : Option PlayHosts) (result : Result Play (Stop LoadFault))
+    → key (codes "gather_facts") gathering (front_of path ms) ≡ Ok (record { value = facts; ahead = first }) → first.path ≡ path
+    → value_at has_no_effect (codes "hosts") first ≡ Ok (record { value = d; ahead = second })
+    → GivesOf {A = Option PlayHosts} (Ok h) (expressions_at (below path (codes "hosts")) d) (optional hosts (below path (codes "hosts")) d) → Gives result (value_of (rest_of_play path facts h second))
+    → GivesOf result (expressions_of_play path (json.object ms)) (play path (json.object ms))
+hosts_read path ms facts d first second h result one at two read rest =
+    subst (λ m. GivesOf result m (play path (json.object ms))) (sym (met_rest path ms facts d first second one two))
+    (
+    subst (λ r. GivesOf result (expressions_at (below path (codes "hosts")) d) r) (sym (play_rest path ms facts d first second one at two))
+    (
+    gives_last result (expressions_at (below path (codes "hosts")) d) (optional hosts (below path (codes "hosts")) d) h (λ h. value_of (rest_of_play path facts h second)) read.0 read.1 rest
+    )
+    )
+
+-- the playbook of a JSON value
+pub playbook_fault : (bytes : List ℕ) (d : json.Data) (e : Fault LoadFault) → json_in bytes ≡ Some d → IsFirstFault (expressions_of_plays d) (plays d) (Own BadPattern) e
+    → IsFirstFault (expressions_of_book bytes) (playbook_of bytes) BadPattern (as_load_fault e)
+unfolding playbook_of expressions_of_book
+playbook_fault bytes d e is (inl (taken, first)) = inl (rw is taken, ap of_json is ∙ ap as_playbook first)
+playbook_fault bytes d e is (inr (same, bad)) = inr (ap as_load_fault same, rw is bad)
+
+pub playbook_stopped : (bytes : List ℕ) (d : json.Data) (s : Stop LoadFault) (e : LoadFault) → json_in bytes ≡ Some d → GivesOf {A = List Play} (Err s) (expressions_of_plays d) (plays d)
+    → (s ≡ stop.Memory → e ≡ load.Memory) → ((path : List ℕ) → s ≡ stop.WrongShape path → e ≡ as_load_fault (WrongShape path)) → ((f : LoadFault) → s ≡ stop.Fault f → e ≡ as_load_fault (Own f))
+    → e ≢ load.Memory → IsFirstFault (expressions_of_book bytes) (playbook_of bytes) BadPattern e
+playbook_stopped bytes d stop.Memory e is given memory wrong fault other = absurd (other (memory refl))
+playbook_stopped bytes d (stop.WrongShape path) e is given memory wrong fault other =
+    subst (IsFirstFault (expressions_of_book bytes) (playbook_of bytes) BadPattern) (sym (wrong path refl)) (playbook_fault bytes d (WrongShape path) is given)
+playbook_stopped bytes d (stop.Fault f) e is given memory wrong fault other =
+    subst (IsFirstFault (expressions_of_book bytes) (playbook_of bytes) BadPattern) (sym (fault f refl)) (playbook_fault bytes d (Own f) is given)
+
+pub playbook_is : (bytes : List ℕ) (d : json.Data) (ps : List Play) → json_in bytes ≡ Some d → plays d ≡ Ok ps → playbook_of bytes ≡ Ok (record { plays = ps })
 unfolding playbook_of
-not_json bytes e none is = inl (ap (of_json all_taken) none ∙ ap Err (sym is))
+playbook_is bytes d ps is read = ap of_json is ∙ ap as_playbook read
+
+pub playbook_taken : (bytes : List ℕ) (d : json.Data) → json_in bytes ≡ Some d → AreTaken (expressions_of_plays d) → AreTaken (expressions_of_book bytes)
+unfolding expressions_of_book
+playbook_taken bytes d is taken = rw is taken
+
+pub not_json : (bytes : List ℕ) (e : LoadFault) → json_in bytes ≡ None → e ≡ load.NotJson → IsFirstFault (expressions_of_book bytes) (playbook_of bytes) BadPattern e
+unfolding playbook_of expressions_of_book
+not_json bytes e none is = inl (rw none tt, ap of_json none ∙ ap Err (sym is))

@@ -4,20 +4,21 @@ use Rattle.std.specs.Prelude.{ℕ, Bool, false, ◌||◌, List, [], ◌∷◌, �
 use Rattle.std.specs.List.{starts_with, list_any}
 use Rattle.serde_json.specs.Data as json
 use Rattle.pb_value.specs.Reading.{and_then}
-use Rattle.pb_patterns.specs.Reading.{pattern_of}
+use Rattle.pb_patterns.specs.Expressions.{behind}
+use Rattle.pb_patterns.specs.Reading.{pattern_of, expressions_of}
 use Rattle.pb_patterns.specs.declared.element.Element.{Element}
 use Rattle.pb_patterns.specs.declared.fault.PatFault.{PatFault}
-use Rattle.pb_play.specs.Faults.{each}
-use Rattle.pb_play.specs.Simple.{text}
+use Rattle.pb_reading.specs.Reading.{Reading, Own, wrong, each}
+use Rattle.pb_reading.specs.Simple.{text}
 use Rattle.pb_play.specs.declared.fault.LoadFault.{LoadFault}
-use Rattle.pb_play.specs.declared.fault.LoadFault.TheVariants.{WrongShape, BadPattern}
+use Rattle.pb_play.specs.declared.fault.LoadFault.TheVariants.{BadPattern}
 use Rattle.pb_play.specs.declared.hosts.PlayHosts.{PlayHosts}
 
 -- a text, or a list of texts
-abbrev pub texts : List ℕ → json.Data → Result (List (List ℕ)) LoadFault
+abbrev pub texts : List ℕ → json.Data → Reading (List (List ℕ)) LoadFault
 texts path (json.string s) = Ok (s ∷ [])
 texts path (json.array ds) = each text path 0 ds
-texts path d = Err (WrongShape path)
+texts path d = wrong path
 
 -- `{{` stands somewhere in a text
 abbrev pub has_braces : List ℕ → Bool
@@ -25,13 +26,17 @@ has_braces [] = false
 has_braces (b ∷ bs) = starts_with nat_eq (b ∷ bs) (codes "{{") || has_braces bs
 
 -- a pattern, as it was read: where it is none, for whatever cause, that is BadPattern
-abbrev pub as_read : Result (List Element) PatFault → Result (List Element) LoadFault
+abbrev pub as_read : Result (List Element) PatFault → Reading (List Element) LoadFault
 as_read (Ok elements) = Ok elements
-as_read (Err e) = Err BadPattern
+as_read (Err e) = Err (Own BadPattern)
 
--- the pattern that texts spell, taken together; `{{` may stand in none of them. `refused` tells the regular expressions that are refused
-abbrev pub pattern : (List ℕ → Bool) → List (List ℕ) → Result (List Element) LoadFault
-pattern refused ts = if list_any has_braces ts then Err BadPattern else as_read (pattern_of refused ts)
+-- the pattern that texts spell, taken together; `{{` may stand in none of them
+abbrev pub pattern : List (List ℕ) → Reading (List Element) LoadFault
+pattern ts = if list_any has_braces ts then Err (Own BadPattern) else as_read (pattern_of ts)
+
+-- the regular expressions that are met in it
+abbrev pub expressions_in : List (List ℕ) → List (List ℕ)
+expressions_in ts = if list_any has_braces ts then [] else expressions_of ts
 
 -- texts, each behind a `,`
 abbrev pub behind_commas : List (List ℕ) → List ℕ
@@ -44,5 +49,9 @@ joined [] = []
 joined (t ∷ ts) = t ++ behind_commas ts
 
 -- the kinds of all values come first, and then what the texts mean
-abbrev pub hosts : (List ℕ → Bool) → List ℕ → json.Data → Result PlayHosts LoadFault
-hosts refused path d = and_then (texts path d) (λ ts. and_then (pattern refused ts) (λ elements. Ok (record { text = joined ts; pattern = elements })))
+abbrev pub hosts : List ℕ → json.Data → Reading PlayHosts LoadFault
+hosts path d = and_then (texts path d) (λ ts. and_then (pattern ts) (λ elements. Ok (record { text = joined ts; pattern = elements })))
+
+-- the regular expressions that are met in them
+abbrev pub expressions_of_hosts : List ℕ → json.Data → List (List ℕ)
+expressions_of_hosts path d = behind (texts path d) expressions_in

@@ -1,13 +1,15 @@
 -- The playbook that bytes spell, or the first fault in them.
 -- See Ansible's documentation, "Ansible playbooks"; the file is JSON (RFC 8259) in place of YAML.
-use Rattle.std.specs.Prelude.{ℕ, ◌+◌, Bool, List, [], Result, Ok, Err, Option, Some, None, nat_lt, if◌then◌else◌}
+use Rattle.std.specs.Prelude.{ℕ, ◌+◌, List, [], ◌++◌, Result, Ok, Err, Option, Some, None, nat_lt, decimal, if◌then◌else◌}
 use Rattle.serde_json.specs.Data as json
 use Rattle.pb_value.specs.Bytes.{json_in}
-use Rattle.pb_value.specs.Reading.{and_then}
-use Rattle.pb_play.specs.Faults.{each}
-use Rattle.pb_play.specs.Plays.{play}
+use Rattle.pb_value.specs.Reading.{below}
+use Rattle.pb_patterns.specs.Expressions.{behind}
+use Rattle.pb_reading.specs.Reading.{Reading, Fault, WrongShape, Own, wrong, each}
+use Rattle.pb_play.specs.Plays.{play, expressions_of_play}
 use Rattle.pb_play.specs.declared.fault.LoadFault.{LoadFault}
-use Rattle.pb_play.specs.declared.fault.LoadFault.TheVariants.{NotJson, WrongShape, TooLarge}
+use Rattle.pb_play.specs.declared.fault.LoadFault.TheVariants as load
+use Rattle.pb_play.specs.declared.fault.LoadFault.TheVariants.{TooLarge}
 use Rattle.pb_play.specs.declared.fault.Limit.TheVariants.{Plays}
 use Rattle.pb_play.specs.declared.play.Play.{Play}
 use Rattle.pb_play.specs.declared.playbook.Playbook.{Playbook}
@@ -21,14 +23,40 @@ count (json.item d ds) = count ds + 1
 abbrev pub max_plays : ℕ
 max_plays = 256
 
-abbrev pub plays : (List ℕ → Bool) → json.Data → Result (List Play) LoadFault
-plays refused (json.array ds) = if nat_lt max_plays (count ds) then Err (TooLarge Plays) else each (play refused) [] 0 ds
-plays refused d = Err (WrongShape [])
+abbrev pub plays : json.Data → Reading (List Play) LoadFault
+plays (json.array ds) = if nat_lt max_plays (count ds) then Err (Own (TooLarge Plays)) else each play [] 0 ds
+plays d = wrong []
 
-abbrev pub of_json : (List ℕ → Bool) → Option json.Data → Result Playbook LoadFault
-of_json refused None = Err NotJson
-of_json refused (Some d) = and_then (plays refused d) (λ ps. Ok (record { plays = ps }))
+-- the fault of a playbook for that of a reading
+abbrev pub as_load_fault : Fault LoadFault → LoadFault
+as_load_fault (WrongShape path) = load.WrongShape path
+as_load_fault (Own f) = f
 
--- the playbook that the bytes spell, or the first fault in them; `refused` tells the regular expressions that are refused in patterns
-unfoldable pub playbook_of : (List ℕ → Bool) → List ℕ → Result Playbook LoadFault
-playbook_of refused bytes = of_json refused (json_in bytes)
+abbrev pub as_playbook : Reading (List Play) LoadFault → Result Playbook LoadFault
+as_playbook (Ok ps) = Ok (record { plays = ps })
+as_playbook (Err e) = Err (as_load_fault e)
+
+abbrev pub of_json : Option json.Data → Result Playbook LoadFault
+of_json None = Err load.NotJson
+of_json (Some d) = as_playbook (plays d)
+
+-- the playbook that the bytes spell, or the first fault in them, where every regular expression is taken
+unfoldable pub playbook_of : List ℕ → Result Playbook LoadFault
+playbook_of bytes = of_json (json_in bytes)
+
+-- the regular expressions that are met in the plays of a list, from the one numbered i on: in their order, up to the first fault
+abbrev pub each_expression : List ℕ → ℕ → json.Items → List (List ℕ)
+each_expression path i json.no_items = []
+each_expression path i (json.item d ds) = expressions_of_play (below path (decimal i)) d ++ behind (play (below path (decimal i)) d) (λ _. each_expression path (i + 1) ds)
+
+abbrev pub expressions_of_plays : json.Data → List (List ℕ)
+expressions_of_plays (json.array ds) = if nat_lt max_plays (count ds) then [] else each_expression [] 0 ds
+expressions_of_plays d = []
+
+abbrev pub expressions_in : Option json.Data → List (List ℕ)
+expressions_in None = []
+expressions_in (Some d) = expressions_of_plays d
+
+-- those that are met in a playbook
+unfoldable pub expressions_of_book : List ℕ → List (List ℕ)
+expressions_of_book bytes = expressions_in (json_in bytes)

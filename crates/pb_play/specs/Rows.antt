@@ -10,13 +10,15 @@ use Rattle.pb_expr_syntax.specs.Tree.{Name}
 use Rattle.pb_template.specs.Computed.{template_of}
 use Rattle.pb_value.specs.Datum.{null, int, text, dict, no_members, member}
 use Rattle.pb_value.specs.FromJson.{value_of}
-use Rattle.pb_patterns.specs.Reading.{pattern_of, all_taken}
+use Rattle.pb_patterns.specs.Reading.{pattern_of, expressions_of}
 use Rattle.pb_patterns.specs.declared.element.Element.{Element}
 use Rattle.pb_patterns.specs.declared.element.Mark.TheVariants.{Unmarked, Met, Excluded}
 use Rattle.pb_patterns.specs.declared.element.Subscript.TheVariants.{At}
 use Rattle.pb_patterns.specs.declared.element.What.TheVariants.{Term, Regex}
-use Rattle.pb_play.specs.Playbooks.{playbook_of}
-use Rattle.pb_play.specs.Plays.{play}
+use Rattle.pb_play.specs.Playbooks.{playbook_of, expressions_of_book}
+use Rattle.pb_reading.specs.Fields.{field, field_or, others}
+use Rattle.pb_play.specs.Plays.{play, expressions_of_play}
+use Rattle.pb_play.specs.Tasks.{task, tells_of_task}
 use Rattle.pb_play.specs.Templates.{is_template}
 use Rattle.pb_play.specs.declared.fault.LoadFault.TheVariants.{NotJson, WrongShape, NotInProfile, NoModule, TwoModules, BadExpression, BadPattern}
 use Rattle.pb_play.specs.declared.commands.CommandWords.TheVariants.{Line, Argv}
@@ -24,72 +26,72 @@ use Rattle.pb_play.specs.declared.modules.Module.TheVariants.{Command, Debug, De
 
 -- what computes a row from its text
 unfoldable on_literals : ⊤
-unfolding playbook_of play pattern_of is_template template_of tree_of tree_of_tokens json_in utf8_valid_len is_utf8 chars digits value_of serde_json_on_literals
+unfolding playbook_of expressions_of_book play expressions_of_play task tells_of_task field field_or others pattern_of expressions_of is_template template_of tree_of tree_of_tokens json_in utf8_valid_len is_utf8 chars digits value_of serde_json_on_literals
 on_literals = tt
 
 -- the elements of the pattern `all`
 abbrev all_hosts : List Element
 all_hosts = record { text = codes "all"; mark = Unmarked; what = Term (codes "all") None } ∷ []
 
-hello : playbook_of all_taken (codes "[{\"hosts\":\"all\",\"gather_facts\":false,\"tasks\":[{\"name\":\"hi\",\"debug\":{\"msg\":\"hello\"}}]}]")
+hello : playbook_of (codes "[{\"hosts\":\"all\",\"gather_facts\":false,\"tasks\":[{\"name\":\"hi\",\"debug\":{\"msg\":\"hello\"}}]}]")
     ≡ Ok (record { plays = record { name = codes "all"; hosts = all_hosts; vars = []; pre_tasks = []; tasks = record { name = codes "hi"; vars = []; «module» = Debug (text (codes "hello")) } ∷ []; post_tasks = [] } ∷ [] })
 unfolding on_literals
 hello = refl
 
 -- a task without a name has its module's, without the prefix; `debug` shows `Hello world!` where nothing is said
-nothing_said : playbook_of all_taken (codes "[{\"hosts\":\"all\",\"name\":\"p\",\"gather_facts\":\"No\",\"tasks\":[{\"ansible.builtin.debug\":{}}]}]")
+nothing_said : playbook_of (codes "[{\"hosts\":\"all\",\"name\":\"p\",\"gather_facts\":\"No\",\"tasks\":[{\"ansible.builtin.debug\":{}}]}]")
     ≡ Ok (record { plays = record { name = codes "p"; hosts = all_hosts; vars = []; pre_tasks = []; tasks = record { name = codes "debug"; vars = []; «module» = Debug (text (codes "Hello world!")) } ∷ []; post_tasks = [] } ∷ [] })
 unfolding on_literals
 nothing_said = refl
 
 -- a file without its last byte
-cut_off : playbook_of all_taken (codes "[{\"hosts\":\"all\",\"gather_facts\":false,\"tasks\":[{\"name\":\"hi\",\"debug\":{\"msg\":\"hello\"}}]}") ≡ Err NotJson
+cut_off : playbook_of (codes "[{\"hosts\":\"all\",\"gather_facts\":false,\"tasks\":[{\"name\":\"hi\",\"debug\":{\"msg\":\"hello\"}}]}") ≡ Err NotJson
 unfolding on_literals
 cut_off = refl
 
 -- keys are looked at in byte order, wherever they stand
-unknown_key : playbook_of all_taken (codes "[{\"hosts\":3,\"gather_facts\":true,\"become\":true}]") ≡ Err (NotInProfile (codes "become"))
+unknown_key : playbook_of (codes "[{\"hosts\":3,\"gather_facts\":true,\"become\":true}]") ≡ Err (NotInProfile (codes "become"))
 unfolding on_literals
 unknown_key = refl
 
-not_whole : playbook_of all_taken (codes "[{\"hosts\":\"all\",\"gather_facts\":false,\"tasks\":[{\"debug\":{\"msg\":[1.5]}}]}]") ≡ Err (WrongShape (codes "0/tasks/0/debug/msg"))
+not_whole : playbook_of (codes "[{\"hosts\":\"all\",\"gather_facts\":false,\"tasks\":[{\"debug\":{\"msg\":[1.5]}}]}]") ≡ Err (WrongShape (codes "0/tasks/0/debug/msg"))
 unfolding on_literals
 not_whole = refl
 
-no_arguments : playbook_of all_taken (codes "[{\"hosts\":\"all\",\"gather_facts\":false,\"tasks\":[{\"debug\":null}]}]") ≡ Err (WrongShape (codes "0/tasks/0/debug"))
+no_arguments : playbook_of (codes "[{\"hosts\":\"all\",\"gather_facts\":false,\"tasks\":[{\"debug\":null}]}]") ≡ Err (WrongShape (codes "0/tasks/0/debug"))
 unfolding on_literals
 no_arguments = refl
 
 -- a template is kept as it is written
-template : playbook_of all_taken (codes "[{\"hosts\":\"all\",\"gather_facts\":false,\"tasks\":[{\"debug\":{\"msg\":\"{{ x }}\"}}]}]")
+template : playbook_of (codes "[{\"hosts\":\"all\",\"gather_facts\":false,\"tasks\":[{\"debug\":{\"msg\":\"{{ x }}\"}}]}]")
     ≡ Ok (record { plays = record { name = codes "all"; hosts = all_hosts; vars = []; pre_tasks = []; tasks = record { name = codes "debug"; vars = []; «module» = Debug (text (codes "{{ x }}")) } ∷ []; post_tasks = [] } ∷ [] })
 unfolding on_literals
 template = refl
 
 -- there is no such operator
-no_template : playbook_of all_taken (codes "[{\"hosts\":\"all\",\"gather_facts\":false,\"tasks\":[{\"debug\":{\"msg\":\"{{ 2 * 3 }}\"}}]}]") ≡ Err BadExpression
+no_template : playbook_of (codes "[{\"hosts\":\"all\",\"gather_facts\":false,\"tasks\":[{\"debug\":{\"msg\":\"{{ 2 * 3 }}\"}}]}]") ≡ Err BadExpression
 unfolding on_literals
 no_template = refl
 
-no_module : playbook_of all_taken (codes "[{\"hosts\":\"all\",\"gather_facts\":false,\"tasks\":[{}]}]") ≡ Err NoModule
+no_module : playbook_of (codes "[{\"hosts\":\"all\",\"gather_facts\":false,\"tasks\":[{}]}]") ≡ Err NoModule
 unfolding on_literals
 no_module = refl
 
-two_modules : playbook_of all_taken (codes "[{\"hosts\":\"all\",\"gather_facts\":false,\"tasks\":[{\"debug\":{},\"ansible.builtin.debug\":{}}]}]") ≡ Err TwoModules
+two_modules : playbook_of (codes "[{\"hosts\":\"all\",\"gather_facts\":false,\"tasks\":[{\"debug\":{},\"ansible.builtin.debug\":{}}]}]") ≡ Err TwoModules
 unfolding on_literals
 two_modules = refl
 
 -- rules over several keys come after the keys: hosts first, then gathering
-no_hosts : playbook_of all_taken (codes "[{}]") ≡ Err (WrongShape (codes "0"))
+no_hosts : playbook_of (codes "[{}]") ≡ Err (WrongShape (codes "0"))
 unfolding on_literals
 no_hosts = refl
 
-gathering : playbook_of all_taken (codes "[{\"hosts\":\"all\"}]") ≡ Err (NotInProfile (codes "gather_facts"))
+gathering : playbook_of (codes "[{\"hosts\":\"all\"}]") ≡ Err (NotInProfile (codes "gather_facts"))
 unfolding on_literals
 gathering = refl
 
 -- a play without a name has its pattern's text as it is written; an element's text is trimmed
-text_of_hosts : playbook_of all_taken (codes "[{\"hosts\":\" web : &db\",\"gather_facts\":false}]")
+text_of_hosts : playbook_of (codes "[{\"hosts\":\" web : &db\",\"gather_facts\":false}]")
     ≡ Ok (record {
       plays = record {
         name = codes " web : &db";
@@ -104,7 +106,7 @@ unfolding on_literals
 text_of_hosts = refl
 
 -- the texts of a list are cut each by itself and taken together
-list_of_hosts : playbook_of all_taken (codes "[{\"hosts\":[\"web[0]\",\" \",\"!a\"],\"gather_facts\":false}]")
+list_of_hosts : playbook_of (codes "[{\"hosts\":[\"web[0]\",\" \",\"!a\"],\"gather_facts\":false}]")
     ≡ Ok (record {
       plays = record {
         name = codes "web[0], ,!a";
@@ -119,48 +121,52 @@ unfolding on_literals
 list_of_hosts = refl
 
 -- `~` alone is the empty regular expression
-empty_regex : playbook_of all_taken (codes "[{\"hosts\":\"~\",\"gather_facts\":false}]")
+empty_regex : playbook_of (codes "[{\"hosts\":\"~\",\"gather_facts\":false}]")
     ≡ Ok (record { plays = record { name = codes "~"; hosts = record { text = codes "~"; mark = Unmarked; what = Regex [] } ∷ []; vars = []; pre_tasks = []; tasks = []; post_tasks = [] } ∷ [] })
 unfolding on_literals
 empty_regex = refl
 
--- where the regex crate refuses `(`
-refused_regex : playbook_of (λ source. true) (codes "[{\"hosts\":\"a,~(\",\"tasks\":3}]") ≡ Err BadPattern
+-- the expressions that are met: each play's in the order of the plays, up to the first fault
+expressions_met : expressions_of_book (codes "[{\"hosts\":\"a,~(\",\"gather_facts\":false},{\"hosts\":[\"~b\",\"!~c\"],\"tasks\":3},{\"hosts\":\"~d\"}]") ≡ codes "(" ∷ codes "b" ∷ codes "c" ∷ []
 unfolding on_literals
-refused_regex = refl
+expressions_met = refl
+
+no_expression_met : expressions_of_book (codes "[{\"hosts\":\"~b\",\"become\":true}]") ≡ []
+unfolding on_literals
+no_expression_met = refl
 
 -- there has to be an element
-no_texts : playbook_of all_taken (codes "[{\"hosts\":[]}]") ≡ Err BadPattern
+no_texts : playbook_of (codes "[{\"hosts\":[]}]") ≡ Err BadPattern
 unfolding on_literals
 no_texts = refl
 
-no_elements : playbook_of all_taken (codes "[{\"hosts\":[\" \",\",\"]}]") ≡ Err BadPattern
+no_elements : playbook_of (codes "[{\"hosts\":[\" \",\",\"]}]") ≡ Err BadPattern
 unfolding on_literals
 no_elements = refl
 
-bad_subscript : playbook_of all_taken (codes "[{\"hosts\":\"web[x]\"}]") ≡ Err BadPattern
+bad_subscript : playbook_of (codes "[{\"hosts\":\"web[x]\"}]") ≡ Err BadPattern
 unfolding on_literals
 bad_subscript = refl
 
-template_in_hosts : playbook_of all_taken (codes "[{\"hosts\":[\"a\",\"b{{ x }}\"]}]") ≡ Err BadPattern
+template_in_hosts : playbook_of (codes "[{\"hosts\":[\"a\",\"b{{ x }}\"]}]") ≡ Err BadPattern
 unfolding on_literals
 template_in_hosts = refl
 
 -- the kinds of all values of `hosts` come first
-no_text_in_hosts : playbook_of all_taken (codes "[{\"hosts\":[\"{{ x }}\",1,null]}]") ≡ Err (WrongShape (codes "0/hosts/1"))
+no_text_in_hosts : playbook_of (codes "[{\"hosts\":[\"{{ x }}\",1,null]}]") ≡ Err (WrongShape (codes "0/hosts/1"))
 unfolding on_literals
 no_text_in_hosts = refl
 
-no_text_at_hosts : playbook_of all_taken (codes "[{\"hosts\":null}]") ≡ Err (WrongShape (codes "0/hosts"))
+no_text_at_hosts : playbook_of (codes "[{\"hosts\":null}]") ≡ Err (WrongShape (codes "0/hosts"))
 unfolding on_literals
 no_text_at_hosts = refl
 
-no_list : playbook_of all_taken (codes "{}") ≡ Err (WrongShape [])
+no_list : playbook_of (codes "{}") ≡ Err (WrongShape [])
 unfolding on_literals
 no_list = refl
 
 -- tasks may stand in three lists, each with its own path
-three_lists : playbook_of all_taken (codes "[{\"hosts\":\"all\",\"gather_facts\":false,\"post_tasks\":[{\"debug\":{}}],\"pre_tasks\":[{\"name\":\"a\",\"debug\":{}}]}]")
+three_lists : playbook_of (codes "[{\"hosts\":\"all\",\"gather_facts\":false,\"post_tasks\":[{\"debug\":{}}],\"pre_tasks\":[{\"name\":\"a\",\"debug\":{}}]}]")
     ≡ Ok (record {
       plays = record {
         name = codes "all";
@@ -174,39 +180,39 @@ three_lists : playbook_of all_taken (codes "[{\"hosts\":\"all\",\"gather_facts\"
 unfolding on_literals
 three_lists = refl
 
-no_pre_task : playbook_of all_taken (codes "[{\"hosts\":\"all\",\"gather_facts\":false,\"pre_tasks\":[{\"debug\":{}},1]}]") ≡ Err (WrongShape (codes "0/pre_tasks/1"))
+no_pre_task : playbook_of (codes "[{\"hosts\":\"all\",\"gather_facts\":false,\"pre_tasks\":[{\"debug\":{}},1]}]") ≡ Err (WrongShape (codes "0/pre_tasks/1"))
 unfolding on_literals
 no_pre_task = refl
 
 -- keys without effect aren't read as values
-without_effect_on_plays : playbook_of all_taken (codes "[{\"hosts\":\"all\",\"gather_facts\":false,\"connection\":\"local\",\"gather_subset\":1.5,\"no_log\":\"Off\",\"remote_user\":1.5,\"tags\":\"nevermore,always\"}]")
+without_effect_on_plays : playbook_of (codes "[{\"hosts\":\"all\",\"gather_facts\":false,\"connection\":\"local\",\"gather_subset\":1.5,\"no_log\":\"Off\",\"remote_user\":1.5,\"tags\":\"nevermore,always\"}]")
     ≡ Ok (record { plays = record { name = codes "all"; hosts = all_hosts; vars = []; pre_tasks = []; tasks = []; post_tasks = [] } ∷ [] })
 unfolding on_literals
 without_effect_on_plays = refl
 
-without_effect_on_tasks : playbook_of all_taken (codes "[{\"hosts\":\"all\",\"gather_facts\":false,\"tasks\":[{\"debug\":{},\"connection\":\"local\",\"gather_subset\":1.5,\"no_log\":false,\"remote_user\":1.5,\"tags\":[1.5,\"a\"]}]}]")
+without_effect_on_tasks : playbook_of (codes "[{\"hosts\":\"all\",\"gather_facts\":false,\"tasks\":[{\"debug\":{},\"connection\":\"local\",\"gather_subset\":1.5,\"no_log\":false,\"remote_user\":1.5,\"tags\":[1.5,\"a\"]}]}]")
     ≡ Ok (record { plays = record { name = codes "all"; hosts = all_hosts; vars = []; pre_tasks = []; tasks = record { name = codes "debug"; vars = []; «module» = Debug (text (codes "Hello world!")) } ∷ []; post_tasks = [] } ∷ [] })
 unfolding on_literals
 without_effect_on_tasks = refl
 
-tag_never : playbook_of all_taken (codes "[{\"hosts\":\"all\",\"gather_facts\":false,\"tags\":\"a, never\"}]") ≡ Err (NotInProfile (codes "never"))
+tag_never : playbook_of (codes "[{\"hosts\":\"all\",\"gather_facts\":false,\"tags\":\"a, never\"}]") ≡ Err (NotInProfile (codes "never"))
 unfolding on_literals
 tag_never = refl
 
-tags_never : playbook_of all_taken (codes "[{\"hosts\":\"all\",\"gather_facts\":false,\"tasks\":[{\"debug\":{},\"tags\":[\"a\",\"never ,b\"]}]}]") ≡ Err (NotInProfile (codes "never"))
+tags_never : playbook_of (codes "[{\"hosts\":\"all\",\"gather_facts\":false,\"tasks\":[{\"debug\":{},\"tags\":[\"a\",\"never ,b\"]}]}]") ≡ Err (NotInProfile (codes "never"))
 unfolding on_literals
 tags_never = refl
 
-other_connection : playbook_of all_taken (codes "[{\"hosts\":\"all\",\"connection\":\"ssh\"}]") ≡ Err (NotInProfile (codes "connection"))
+other_connection : playbook_of (codes "[{\"hosts\":\"all\",\"connection\":\"ssh\"}]") ≡ Err (NotInProfile (codes "connection"))
 unfolding on_literals
 other_connection = refl
 
-no_switch : playbook_of all_taken (codes "[{\"hosts\":\"all\",\"no_log\":5}]") ≡ Err (NotInProfile (codes "no_log"))
+no_switch : playbook_of (codes "[{\"hosts\":\"all\",\"no_log\":5}]") ≡ Err (NotInProfile (codes "no_log"))
 unfolding on_literals
 no_switch = refl
 
 -- the modules `command`, `fail` and `shell`, each in every form of its arguments
-commands : playbook_of all_taken (codes "[{\"hosts\":\"all\",\"gather_facts\":false,\"tasks\":[{\"command\":\"ls -l\"},{\"command\":{\"cmd\":\"'\"}},{\"ansible.builtin.command\":{\"argv\":[\"ls\",1,null]}}]}]")
+commands : playbook_of (codes "[{\"hosts\":\"all\",\"gather_facts\":false,\"tasks\":[{\"command\":\"ls -l\"},{\"command\":{\"cmd\":\"'\"}},{\"ansible.builtin.command\":{\"argv\":[\"ls\",1,null]}}]}]")
     ≡ Ok (record {
       plays = record {
         name = codes "all";
@@ -223,7 +229,7 @@ commands : playbook_of all_taken (codes "[{\"hosts\":\"all\",\"gather_facts\":fa
 unfolding on_literals
 commands = refl
 
-shells : playbook_of all_taken (codes "[{\"hosts\":\"all\",\"gather_facts\":false,\"tasks\":[{\"shell\":\"\"},{\"ansible.builtin.shell\":{\"cmd\":\"a | b\"}}]}]")
+shells : playbook_of (codes "[{\"hosts\":\"all\",\"gather_facts\":false,\"tasks\":[{\"shell\":\"\"},{\"ansible.builtin.shell\":{\"cmd\":\"a | b\"}}]}]")
     ≡ Ok (record {
       plays = record {
         name = codes "all";
@@ -237,7 +243,7 @@ shells : playbook_of all_taken (codes "[{\"hosts\":\"all\",\"gather_facts\":fals
 unfolding on_literals
 shells = refl
 
-fails : playbook_of all_taken (codes "[{\"hosts\":\"all\",\"gather_facts\":false,\"tasks\":[{\"fail\":{}},{\"ansible.builtin.fail\":{\"msg\":1}}]}]")
+fails : playbook_of (codes "[{\"hosts\":\"all\",\"gather_facts\":false,\"tasks\":[{\"fail\":{}},{\"ansible.builtin.fail\":{\"msg\":1}}]}]")
     ≡ Ok (record {
       plays = record {
         name = codes "all";
@@ -252,41 +258,41 @@ unfolding on_literals
 fails = refl
 
 -- the keys come first, and then that one of the two has to be there
-both_forms : playbook_of all_taken (codes "[{\"hosts\":\"all\",\"tasks\":[{\"command\":{\"argv\":[],\"cmd\":\"a\"}}]}]") ≡ Err (WrongShape (codes "0/tasks/0/command"))
+both_forms : playbook_of (codes "[{\"hosts\":\"all\",\"tasks\":[{\"command\":{\"argv\":[],\"cmd\":\"a\"}}]}]") ≡ Err (WrongShape (codes "0/tasks/0/command"))
 unfolding on_literals
 both_forms = refl
 
-neither_form : playbook_of all_taken (codes "[{\"hosts\":\"all\",\"tasks\":[{\"command\":{}}]}]") ≡ Err (WrongShape (codes "0/tasks/0/command"))
+neither_form : playbook_of (codes "[{\"hosts\":\"all\",\"tasks\":[{\"command\":{}}]}]") ≡ Err (WrongShape (codes "0/tasks/0/command"))
 unfolding on_literals
 neither_form = refl
 
-unknown_argument : playbook_of all_taken (codes "[{\"hosts\":\"all\",\"tasks\":[{\"command\":{\"argv\":[],\"chdir\":1,\"cmd\":1}}]}]") ≡ Err (NotInProfile (codes "chdir"))
+unknown_argument : playbook_of (codes "[{\"hosts\":\"all\",\"tasks\":[{\"command\":{\"argv\":[],\"chdir\":1,\"cmd\":1}}]}]") ≡ Err (NotInProfile (codes "chdir"))
 unfolding on_literals
 unknown_argument = refl
 
 -- a list is one value, with one path
-refused_word : playbook_of all_taken (codes "[{\"hosts\":\"all\",\"tasks\":[{\"command\":{\"argv\":[1,1.5]}}]}]") ≡ Err (WrongShape (codes "0/tasks/0/command/argv"))
+refused_word : playbook_of (codes "[{\"hosts\":\"all\",\"tasks\":[{\"command\":{\"argv\":[1,1.5]}}]}]") ≡ Err (WrongShape (codes "0/tasks/0/command/argv"))
 unfolding on_literals
 refused_word = refl
 
-no_words_for_shell : playbook_of all_taken (codes "[{\"hosts\":\"all\",\"tasks\":[{\"shell\":{\"argv\":[]}}]}]") ≡ Err (NotInProfile (codes "argv"))
+no_words_for_shell : playbook_of (codes "[{\"hosts\":\"all\",\"tasks\":[{\"shell\":{\"argv\":[]}}]}]") ≡ Err (NotInProfile (codes "argv"))
 unfolding on_literals
 no_words_for_shell = refl
 
-no_arguments_of_fail : playbook_of all_taken (codes "[{\"hosts\":\"all\",\"tasks\":[{\"fail\":null}]}]") ≡ Err (WrongShape (codes "0/tasks/0/fail"))
+no_arguments_of_fail : playbook_of (codes "[{\"hosts\":\"all\",\"tasks\":[{\"fail\":null}]}]") ≡ Err (WrongShape (codes "0/tasks/0/fail"))
 unfolding on_literals
 no_arguments_of_fail = refl
 
 -- the kinds of values come first, and then their texts, at any depth but for keys
-no_template_in_command : playbook_of all_taken (codes "[{\"hosts\":\"all\",\"tasks\":[{\"command\":\"run {{ item\"}]}]") ≡ Err BadExpression
+no_template_in_command : playbook_of (codes "[{\"hosts\":\"all\",\"tasks\":[{\"command\":\"run {{ item\"}]}]") ≡ Err BadExpression
 unfolding on_literals
 no_template_in_command = refl
 
-no_template_in_word : playbook_of all_taken (codes "[{\"hosts\":\"all\",\"tasks\":[{\"command\":{\"argv\":[[\"{% x\"]]}}]}]") ≡ Err BadExpression
+no_template_in_word : playbook_of (codes "[{\"hosts\":\"all\",\"tasks\":[{\"command\":{\"argv\":[[\"{% x\"]]}}]}]") ≡ Err BadExpression
 unfolding on_literals
 no_template_in_word = refl
 
-no_template_in_key : playbook_of all_taken (codes "[{\"hosts\":\"all\",\"gather_facts\":false,\"tasks\":[{\"fail\":{\"msg\":{\"{% x\":\"a\"}}}]}]")
+no_template_in_key : playbook_of (codes "[{\"hosts\":\"all\",\"gather_facts\":false,\"tasks\":[{\"fail\":{\"msg\":{\"{% x\":\"a\"}}}]}]")
     ≡ Ok (record {
       plays = record {
         name = codes "all";
@@ -301,7 +307,7 @@ unfolding on_literals
 no_template_in_key = refl
 
 -- the variables of a play and of a task, each under its name
-variables : playbook_of all_taken (codes "[{\"hosts\":\"all\",\"gather_facts\":false,\"vars\":{\"b\":\"{{ a }}\",\"a\":1},\"tasks\":[{\"debug\":{},\"vars\":{\"-\":null}}]}]")
+variables : playbook_of (codes "[{\"hosts\":\"all\",\"gather_facts\":false,\"vars\":{\"b\":\"{{ a }}\",\"a\":1},\"tasks\":[{\"debug\":{},\"vars\":{\"-\":null}}]}]")
     ≡ Ok (record {
       plays = record {
         name = codes "all";
@@ -315,44 +321,97 @@ variables : playbook_of all_taken (codes "[{\"hosts\":\"all\",\"gather_facts\":f
 unfolding on_literals
 variables = refl
 
-no_whole_variable : playbook_of all_taken (codes "[{\"hosts\":\"all\",\"vars\":{\"x\":1.5}}]") ≡ Err (WrongShape (codes "0/vars/x"))
+no_whole_variable : playbook_of (codes "[{\"hosts\":\"all\",\"vars\":{\"x\":1.5}}]") ≡ Err (WrongShape (codes "0/vars/x"))
 unfolding on_literals
 no_whole_variable = refl
 
-no_variables : playbook_of all_taken (codes "[{\"hosts\":\"all\",\"tasks\":[{\"debug\":{},\"vars\":[]}]}]") ≡ Err (WrongShape (codes "0/tasks/0/vars"))
+no_variables : playbook_of (codes "[{\"hosts\":\"all\",\"tasks\":[{\"debug\":{},\"vars\":[]}]}]") ≡ Err (WrongShape (codes "0/tasks/0/vars"))
 unfolding on_literals
 no_variables = refl
 
-no_template_in_variable : playbook_of all_taken (codes "[{\"hosts\":\"all\",\"vars\":{\"x\":\"{{ }}\"}}]") ≡ Err BadExpression
+no_template_in_variable : playbook_of (codes "[{\"hosts\":\"all\",\"vars\":{\"x\":\"{{ }}\"}}]") ≡ Err BadExpression
 unfolding on_literals
 no_template_in_variable = refl
 
 -- `debug` shows the value of an expression, which stands without braces
-shown : playbook_of all_taken (codes "[{\"hosts\":\"all\",\"gather_facts\":false,\"tasks\":[{\"debug\":{\"var\":\"x\"}}]}]")
+shown : playbook_of (codes "[{\"hosts\":\"all\",\"gather_facts\":false,\"tasks\":[{\"debug\":{\"var\":\"x\"}}]}]")
     ≡ Ok (record { plays = record { name = codes "all"; hosts = all_hosts; vars = []; pre_tasks = []; tasks = record { name = codes "debug"; vars = []; «module» = DebugVar (codes "x") (Name (codes "x")) } ∷ []; post_tasks = [] } ∷ [] })
 unfolding on_literals
 shown = refl
 
-no_expression : playbook_of all_taken (codes "[{\"hosts\":\"all\",\"tasks\":[{\"debug\":{\"var\":\"{{ x }}\"}}]}]") ≡ Err BadExpression
+no_expression : playbook_of (codes "[{\"hosts\":\"all\",\"tasks\":[{\"debug\":{\"var\":\"{{ x }}\"}}]}]") ≡ Err BadExpression
 unfolding on_literals
 no_expression = refl
 
-no_text_at_var : playbook_of all_taken (codes "[{\"hosts\":\"all\",\"tasks\":[{\"debug\":{\"var\":1}}]}]") ≡ Err (WrongShape (codes "0/tasks/0/debug/var"))
+no_text_at_var : playbook_of (codes "[{\"hosts\":\"all\",\"tasks\":[{\"debug\":{\"var\":1}}]}]") ≡ Err (WrongShape (codes "0/tasks/0/debug/var"))
 unfolding on_literals
 no_text_at_var = refl
 
-message_and_expression : playbook_of all_taken (codes "[{\"hosts\":\"all\",\"tasks\":[{\"debug\":{\"msg\":1,\"var\":\"x\"}}]}]") ≡ Err (WrongShape (codes "0/tasks/0/debug"))
+message_and_expression : playbook_of (codes "[{\"hosts\":\"all\",\"tasks\":[{\"debug\":{\"msg\":1,\"var\":\"x\"}}]}]") ≡ Err (WrongShape (codes "0/tasks/0/debug"))
 unfolding on_literals
 message_and_expression = refl
 
-no_expression_of_fail : playbook_of all_taken (codes "[{\"hosts\":\"all\",\"tasks\":[{\"fail\":{\"var\":\"x\"}}]}]") ≡ Err (NotInProfile (codes "var"))
+no_expression_of_fail : playbook_of (codes "[{\"hosts\":\"all\",\"tasks\":[{\"fail\":{\"var\":\"x\"}}]}]") ≡ Err (NotInProfile (codes "var"))
 unfolding on_literals
 no_expression_of_fail = refl
 
-other_modules : playbook_of all_taken (codes "[{\"hosts\":\"all\",\"tasks\":[{\"command\":\"a\",\"shell\":\"a\"}]}]") ≡ Err TwoModules
+other_modules : playbook_of (codes "[{\"hosts\":\"all\",\"tasks\":[{\"command\":\"a\",\"shell\":\"a\"}]}]") ≡ Err TwoModules
 unfolding on_literals
 other_modules = refl
 
-other_prefix : playbook_of all_taken (codes "[{\"hosts\":\"all\",\"tasks\":[{\"ansible.builtin.copy\":\"a\"}]}]") ≡ Err (NotInProfile (codes "ansible.builtin.copy"))
+other_prefix : playbook_of (codes "[{\"hosts\":\"all\",\"tasks\":[{\"ansible.builtin.copy\":\"a\"}]}]") ≡ Err (NotInProfile (codes "ansible.builtin.copy"))
 unfolding on_literals
 other_prefix = refl
+
+-- all keys of a play at once, in the order of their bytes
+all_keys_of_play : playbook_of (codes "[{\"connection\":\"local\",\"gather_facts\":false,\"gather_subset\":[],\"hosts\":\"all\",\"name\":\"p\",\"no_log\":false,\"post_tasks\":[{\"shell\":\"c\"}],\"pre_tasks\":[{\"shell\":\"a\"}],\"remote_user\":\"r\",\"tags\":\"t\",\"tasks\":[{\"shell\":\"b\"}],\"vars\":{\"x\":1}}]")
+    ≡ Ok (record {
+      plays = record {
+        name = codes "p";
+        hosts = all_hosts;
+        vars = (codes "x", int (pos 1)) ∷ [];
+        pre_tasks = record { name = codes "shell"; vars = []; «module» = Shell (codes "a") } ∷ [];
+        tasks = record { name = codes "shell"; vars = []; «module» = Shell (codes "b") } ∷ [];
+        post_tasks = record { name = codes "shell"; vars = []; «module» = Shell (codes "c") } ∷ [];
+      } ∷ [];
+    })
+unfolding on_literals
+all_keys_of_play = refl
+
+-- all keys of a task at once, with one module
+all_keys_of_task : playbook_of (codes "[{\"hosts\":\"all\",\"gather_facts\":false,\"tasks\":[{\"connection\":\"local\",\"gather_subset\":[],\"name\":\"n\",\"no_log\":false,\"remote_user\":\"r\",\"shell\":\"a\",\"tags\":\"t\",\"vars\":{\"x\":1}}]}]")
+    ≡ Ok (record {
+      plays = record {
+        name = codes "all";
+        hosts = all_hosts;
+        vars = [];
+        pre_tasks = [];
+        tasks = record { name = codes "n"; vars = (codes "x", int (pos 1)) ∷ []; «module» = Shell (codes "a") } ∷ [];
+        post_tasks = [];
+      } ∷ [];
+    })
+unfolding on_literals
+all_keys_of_task = refl
+
+-- all arguments of a module at once: those of `command` and of `debug` are refused together, so that both were read; `fail` and `shell` have one each
+all_arguments_of_command : playbook_of (codes "[{\"hosts\":\"all\",\"tasks\":[{\"command\":{\"argv\":[\"a\"],\"cmd\":\"a\"}}]}]") ≡ Err (WrongShape (codes "0/tasks/0/command"))
+unfolding on_literals
+all_arguments_of_command = refl
+
+all_arguments_of_debug : playbook_of (codes "[{\"hosts\":\"all\",\"tasks\":[{\"debug\":{\"msg\":\"a\",\"var\":\"x\"}}]}]") ≡ Err (WrongShape (codes "0/tasks/0/debug"))
+unfolding on_literals
+all_arguments_of_debug = refl
+
+all_arguments_of_fail_and_shell : playbook_of (codes "[{\"hosts\":\"all\",\"gather_facts\":false,\"tasks\":[{\"fail\":{\"msg\":\"a\"}},{\"shell\":{\"cmd\":\"b\"}}]}]")
+    ≡ Ok (record {
+      plays = record {
+        name = codes "all";
+        hosts = all_hosts;
+        vars = [];
+        pre_tasks = [];
+        tasks = record { name = codes "fail"; vars = []; «module» = Fail (text (codes "a")) } ∷ record { name = codes "shell"; vars = []; «module» = Shell (codes "b") } ∷ [];
+        post_tasks = [];
+      } ∷ [];
+    })
+unfolding on_literals
+all_arguments_of_fail_and_shell = refl

@@ -1,19 +1,20 @@
-ghost use Rattle.std.specs.Prelude.{◌≡◌, ◌≢◌, ◌++◌, IfOk, IfErr, Ok, Err, decimal};
+ghost use Rattle.std.specs.Prelude.{◌≡◌, ◌≢◌, ◌++◌, IfOk};
 ghost use Rattle.std.specs.List.{list_any};
-ghost use Rattle.serde_json.specs.View.{view, items_view};
-ghost use Rattle.pb_value.specs.Reading.{below};
-ghost use Rattle.pb_patterns.specs.Reading.{all_taken};
+ghost use Rattle.serde_json.specs.View.{view};
 ghost use Rattle.pb_patterns.specs.declared.fault.PatFault.TheVariants as pattern_fault;
-ghost use Rattle.pb_play.specs.Faults.{each, IsLoadFaultOf};
-ghost use Rattle.pb_play.specs.Simple.{text};
-ghost use Rattle.pb_play.specs.Hosts.{texts, has_braces, pattern, behind_commas, joined, hosts};
+ghost use Rattle.pb_reading.specs.Reading.{Gives};
+ghost use Rattle.pb_reading.specs.declared.stop.Stop.TheVariants.{Memory, Fault};
+ghost use Rattle.pb_play.specs.Refusals.{GivesOf};
+ghost use Rattle.pb_play.specs.Hosts.{texts, has_braces, pattern, expressions_in, behind_commas, joined, hosts, expressions_of_hosts};
+ghost use Rattle.pb_play.specs.declared.fault.LoadFault.TheVariants.{BadPattern};
 
-use crate::fault::{LoadFault, wrong_shape};
-use crate::simple::read_text;
+use crate::fault::LoadFault;
 use pb_patterns::fault::PatFault;
 use pb_patterns::pattern::Pattern;
+use pb_reading::list::read_each;
+use pb_reading::simple::PlainText;
+use pb_reading::stop::{Stop, wrong};
 use pb_value::items::Items;
-use pb_value::path::child_at;
 use pb_value::text::Text;
 use serde_json::Value;
 use std::alloc::{AllocError, Global};
@@ -27,30 +28,9 @@ pub(crate) struct PlayHosts {
     pub(crate) pattern: Pattern,
 }
 
-/// The text with this number in the list at the path.
-fn read_at(alloc: Global, path: &Text, i: usize, json: &Value) -> Result<Text, LoadFault>
-    ensures value { IfOk result (λ t. text (below path.now (decimal i)) (view json.now) ≡ Ok t) }
-    ensures fault { IfErr result (λ e. e ≢ LoadFault.Memory → text (below path.now (decimal i)) (view json.now) ≡ Err e) }
-{
-    let here = child_at(alloc, path, i)?;
-    read_text(alloc, &here, json)
-}
-
-fn read_each(alloc: Global, path: &Text, items: &[Value]) -> Result<Items<Text>, LoadFault>
-    ensures value { IfOk result (λ ts. each text path.now 0 (items_view items.now) ≡ Ok ts) }
-    ensures fault { IfErr result (λ e. e ≢ LoadFault.Memory → each text path.now 0 (items_view items.now) ≡ Err e) }
-{
-    let mut read = Vec::with_capacity(alloc, items.len())?;
-    for (i, item) in items.iter().enumerate() {
-        read.push(read_at(alloc, path, i, item)?)?;
-    }
-    Ok(Items::from_vec(read))
-}
-
 /// A text, or the texts of a list.
-fn read_texts(alloc: Global, path: &Text, json: &Value) -> Result<Items<Text>, LoadFault>
-    ensures value { IfOk result (λ ts. texts path.now (view json.now) ≡ Ok ts) }
-    ensures fault { IfErr result (λ e. e ≢ LoadFault.Memory → texts path.now (view json.now) ≡ Err e) }
+fn read_texts(alloc: Global, path: &Text, json: &Value) -> Result<Items<Text>, Stop<LoadFault>>
+    ensures { Gives result (texts path.now (view json.now)) }
 {
     match json {
         Value::String(text) => {
@@ -58,8 +38,8 @@ fn read_texts(alloc: Global, path: &Text, json: &Value) -> Result<Items<Text>, L
             texts.push(Text::from_str(alloc, text.as_str())?)?;
             Ok(texts)
         }
-        Value::Array(items) => read_each(alloc, path, items.as_slice()),
-        _ => Err(wrong_shape(path)),
+        Value::Array(items) => read_each::<LoadFault, PlainText>(alloc, path, items.as_slice()),
+        _ => wrong(path),
     }
 }
 
@@ -89,22 +69,22 @@ fn some_has_braces(texts: &[Text]) -> bool
     false
 }
 
-/// The fault of a playbook for that of a pattern.
-fn refusal(fault: PatFault) -> LoadFault
-    ensures { result ≢ LoadFault.Memory → (fault ≢ pattern_fault.Memory) × (result ≡ LoadFault.BadPattern) }
+/// The stop of a playbook for the fault of a pattern.
+fn refusal(fault: PatFault) -> Stop<LoadFault>
+    ensures memory { fault ≡ pattern_fault.Memory → result ≡ Memory }
+    ensures fault { fault ≢ pattern_fault.Memory → result ≡ Fault BadPattern }
 {
     match fault {
-        PatFault::Memory => LoadFault::Memory,
-        _ => LoadFault::BadPattern,
+        PatFault::Memory => Stop::Memory,
+        _ => Stop::Fault(LoadFault::BadPattern),
     }
 }
 
-fn read_pattern(alloc: Global, texts: &[Text]) -> Result<Pattern, LoadFault>
-    ensures value { IfOk result (λ p. pattern all_taken texts.now ≡ Ok p) }
-    ensures fault { IfErr result (λ e. e ≢ LoadFault.Memory → IsLoadFaultOf (λ refused. pattern refused texts.now) e) }
+fn read_pattern(alloc: Global, texts: &[Text]) -> Result<Pattern, Stop<LoadFault>>
+    ensures { GivesOf result (expressions_in texts.now) (pattern texts.now) }
 {
     if some_has_braces(texts) {
-        return Err(LoadFault::BadPattern);
+        return Err(Stop::Fault(LoadFault::BadPattern));
     }
     match Pattern::parse_all(alloc, texts) {
         Ok(pattern) => Ok(pattern),
@@ -134,17 +114,20 @@ fn joined(alloc: Global, texts: &[Text]) -> Result<Text, AllocError>
 }
 
 /// The hosts of a play, as a text or a list of texts spells them.
-pub(crate) fn read_hosts(alloc: Global, path: &Text, json: &Value) -> Result<PlayHosts, LoadFault>
-    ensures value { IfOk result (λ h. hosts all_taken path.now (view json.now) ≡ Ok h) }
-    ensures fault { IfErr result (λ e. e ≢ LoadFault.Memory → IsLoadFaultOf (λ refused. hosts refused path.now (view json.now)) e) }
+pub(crate) fn read_hosts(
+    alloc: Global,
+    path: &Text,
+    json: &Value,
+) -> Result<PlayHosts, Stop<LoadFault>>
+    ensures { GivesOf result (expressions_of_hosts path.now (view json.now)) (hosts path.now (view json.now)) }
 {
     let texts = match read_texts(alloc, path, json) {
         Ok(texts) => texts,
-        Err(fault) => return Err(fault),
+        Err(stop) => return Err(stop),
     };
     let pattern = match read_pattern(alloc, texts.as_slice()) {
         Ok(pattern) => pattern,
-        Err(fault) => return Err(fault),
+        Err(stop) => return Err(stop),
     };
     let text = joined(alloc, texts.as_slice())?;
     Ok(PlayHosts { text, pattern })

@@ -4,9 +4,9 @@
 //! What it answers is `playbook_of` of `specs/Playbooks.antt`, exactly: objects are looked at with their keys in byte order
 //! and lists from the front, the first fault met counts, and the rules over several keys of an object come after its keys.
 //! Some keys are allowed without effect, and any other key that isn't read here is refused by its name. The hosts of a play are a
-//! pattern, which `pb_patterns` reads; `playbook_of` is told which regular expressions are refused. A playbook that is read is the
-//! one where none is, and `BadPattern` may also come for an expression that the `regex` crate refuses, where it stands before any
-//! other fault. Want of memory may come at any point, in place of that answer.
+//! pattern, which `pb_patterns` reads; `expressions_of_book` lists the regular expressions that are met in them, up to the first fault. Where
+//! a playbook is read, the `regex` crate took each of these. `BadPattern` comes for the first one that it refuses; any other fault comes
+//! only where each expression before it was taken. Want of memory may come at any point, in place of that answer.
 //!
 //! The texts of a module's arguments and of variables are templates, which `pb_template` reads: a text that is none is `BadExpression`. They are
 //! kept as they are written, since what they give is known only when a task starts on a host. The expression at `var` of `debug` is kept
@@ -20,9 +20,9 @@ mod hosts;
 mod messages;
 pub mod modules;
 mod no_effect;
+mod other_keys;
 pub mod play;
 pub mod playbook;
 mod simple;
 pub mod task;
 mod templates;
-mod variables;

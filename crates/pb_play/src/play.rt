@@ -1,21 +1,29 @@
-ghost use Rattle.std.specs.Prelude.{◌≡◌, ◌≢◌, IfOk, IfErr, Ok, Err};
-ghost use Rattle.serde_json.specs.View.{view};
-ghost use Rattle.pb_patterns.specs.Reading.{all_taken};
-ghost use Rattle.pb_play.specs.Faults.{IsLoadFaultOf};
-ghost use Rattle.pb_play.specs.Plays.{play_key, with_play_key, new_play, finished_play, play};
+ghost use Rattle.std.specs.Prelude.{◌≡◌, option_map, codes};
+ghost use Rattle.serde_json.specs.Data as json;
+ghost use Rattle.serde_json.specs.View.{view, members_view};
+ghost use Rattle.pb_value.specs.Reading.{below};
+ghost use Rattle.pb_reading.specs.Ahead.{ahead};
+ghost use Rattle.pb_reading.specs.Fields.{optional, value_of};
+ghost use Rattle.pb_reading.specs.Reading.{Gives};
+ghost use Rattle.pb_play.specs.Refusals.{GivesOf};
+ghost use Rattle.pb_play.specs.Hosts.{hosts};
+ghost use Rattle.pb_play.specs.Plays.{written_off, rest_of_play, play, expressions_at, expressions_of_play};
 
-use crate::fault::{LoadFault, not_in_profile, wrong_shape};
+use crate::fault::{LoadFault, not_in_profile};
 use crate::hosts::{PlayHosts, read_hosts};
-use crate::no_effect::check_without_effect;
-use crate::simple::{read_gathering, read_text};
-use crate::task::{Task, read_tasks};
-use crate::variables::read_variables;
+use crate::other_keys::WithoutEffect;
+use crate::simple::{Gathering, TemplateValue};
+use crate::task::Task;
 use pb_patterns::pattern::Pattern;
+use pb_reading::keys::Keys;
+use pb_reading::list::{Each, EachNamed};
+use pb_reading::simple::PlainText;
+use pb_reading::stop::{Stop, required, wrong};
 use pb_value::items::Items;
 use pb_value::path::child;
 use pb_value::text::Text;
 use pb_value::val::Dict;
-use serde_json::Value;
+use serde_json::{Map, Value};
 use std::alloc::Global;
 
 /// A play of a playbook.
@@ -39,170 +47,94 @@ pub struct Play {
     pub post_tasks: Items<Task>,
 }
 
-/// A key of a play.
-#[derive(Clone, Copy, Debug, PartialEq, Eq)]
-enum PlayKey {
-    GatherFacts,
-    Hosts,
-    Name,
-    PostTasks,
-    PreTasks,
-    Tasks,
-    Vars,
-    Other,
+/// The hosts, where they are written.
+fn read_hosts_at(
+    alloc: Global,
+    path: &Text,
+    json: Option<&Value>,
+) -> Result<Option<PlayHosts>, Stop<LoadFault>>
+    ensures { GivesOf result (expressions_at (below path.now (codes "hosts")) (option_map (λ v. view v.now) json.entry)) (optional hosts (below path.now (codes "hosts")) (option_map (λ v. view v.now) json.entry)) }
+{
+    match json {
+        Some(json) => {
+            let here = child(alloc, path, "hosts")?;
+            match read_hosts(alloc, &here, json) {
+                Ok(hosts) => Ok(Some(hosts)),
+                Err(stop) => Err(stop),
+            }
+        }
+        None => Ok(None),
+    }
 }
 
-/// What the keys of a play have told.
-#[derive(Drop)]
-struct PlayDraft {
-    name: Option<Text>,
-    hosts: Option<PlayHosts>,
+/// Where `gather_facts` isn't written it is on, and facts aren't gathered yet.
+fn check_written_off(alloc: Global, gather_facts: Option<bool>) -> Result<bool, Stop<LoadFault>>
+    ensures { Gives result (written_off gather_facts) }
+{
+    match gather_facts {
+        Some(off) => Ok(off),
+        None => not_in_profile(alloc, "gather_facts"),
+    }
+}
+
+/// The play, whose keys up to `hosts` have told this.
+fn read_rest(
+    alloc: Global,
+    mut keys: Keys<'_, WithoutEffect>,
+    path: &Text,
     gather_facts: Option<bool>,
-    vars: Option<Dict>,
-    pre_tasks: Option<Items<Task>>,
-    tasks: Option<Items<Task>>,
-    post_tasks: Option<Items<Task>>,
+    hosts: Option<PlayHosts>,
+) -> Result<Play, Stop<LoadFault>>
+    ensures { Gives result (value_of (rest_of_play path.now gather_facts hosts (ahead keys.entry))) }
+{
+    let name = keys.field::<PlainText>(alloc, "name")?;
+    let post_tasks = keys.field_or::<Each<Task>>(alloc, "post_tasks", Items::new(alloc))?;
+    let pre_tasks = keys.field_or::<Each<Task>>(alloc, "pre_tasks", Items::new(alloc))?;
+    let tasks = keys.field_or::<Each<Task>>(alloc, "tasks", Items::new(alloc))?;
+    let vars = keys.field_or::<EachNamed<TemplateValue>>(alloc, "vars", Dict::new(alloc))?;
+    keys.others(alloc)?;
+    let PlayHosts { text, pattern } = required(path, hosts)?;
+    check_written_off(alloc, gather_facts)?;
+    Ok(Play {
+        name: name.unwrap_or(text),
+        hosts: pattern,
+        vars,
+        pre_tasks,
+        tasks,
+        post_tasks,
+    })
 }
 
-impl PlayKey {
-    fn of(key: &str) -> PlayKey
-        ensures { result ≡ play_key key.now }
-    {
-        if key == "gather_facts" {
-            PlayKey::GatherFacts
-        } else if key == "hosts" {
-            PlayKey::Hosts
-        } else if key == "name" {
-            PlayKey::Name
-        } else if key == "post_tasks" {
-            PlayKey::PostTasks
-        } else if key == "pre_tasks" {
-            PlayKey::PreTasks
-        } else if key == "tasks" {
-            PlayKey::Tasks
-        } else if key == "vars" {
-            PlayKey::Vars
-        } else {
-            PlayKey::Other
-        }
-    }
-}
-
-impl PlayDraft {
-    fn new() -> PlayDraft
-        ensures { result ≡ new_play }
-    {
-        PlayDraft {
-            name: None,
-            hosts: None,
-            gather_facts: None,
-            vars: None,
-            pre_tasks: None,
-            tasks: None,
-            post_tasks: None,
-        }
-    }
-
-    fn with_key(
-        self,
-        alloc: Global,
-        path: &Text,
-        key: &str,
-        json: &Value,
-    ) -> Result<PlayDraft, LoadFault>
-        ensures value { IfOk result
-            (λ draft. with_play_key all_taken (play_key key.now) path.now key.now (view json.now) self ≡ Ok draft) }
-        ensures fault { IfErr result
-            (λ e. e ≢ LoadFault.Memory → IsLoadFaultOf (λ refused. with_play_key refused (play_key key.now) path.now key.now (view json.now) self) e) }
-    {
-        match PlayKey::of(key) {
-            PlayKey::GatherFacts => {
-                let gather_facts = Some(read_gathering(alloc, path, json)?);
-                Ok(PlayDraft {
-                    gather_facts,
-                    ..self
-                })
-            }
-            PlayKey::Hosts => {
-                let hosts = Some(read_hosts(alloc, path, json)?);
-                Ok(PlayDraft { hosts, ..self })
-            }
-            PlayKey::Name => {
-                let name = Some(read_text(alloc, path, json)?);
-                Ok(PlayDraft { name, ..self })
-            }
-            PlayKey::PostTasks => {
-                let post_tasks = Some(read_tasks(alloc, path, json)?);
-                Ok(PlayDraft { post_tasks, ..self })
-            }
-            PlayKey::PreTasks => {
-                let pre_tasks = Some(read_tasks(alloc, path, json)?);
-                Ok(PlayDraft { pre_tasks, ..self })
-            }
-            PlayKey::Tasks => {
-                let tasks = Some(read_tasks(alloc, path, json)?);
-                Ok(PlayDraft { tasks, ..self })
-            }
-            PlayKey::Vars => {
-                let vars = Some(read_variables(alloc, path, json)?);
-                Ok(PlayDraft { vars, ..self })
-            }
-            PlayKey::Other => {
-                check_without_effect(alloc, key, json)?;
-                Ok(self)
-            }
-        }
-    }
-
-    fn finish(self, alloc: Global, path: &Text) -> Result<Play, LoadFault>
-        ensures value { IfOk result (λ p. finished_play path.now self ≡ Ok p) }
-        ensures fault { IfErr result (λ e. e ≢ LoadFault.Memory → finished_play path.now self ≡ Err e) }
-    {
-        let PlayDraft {
-            name,
-            hosts,
-            gather_facts,
-            vars,
-            pre_tasks,
-            tasks,
-            post_tasks,
-        } = self;
-        let Some(PlayHosts { text, pattern }) = hosts else {
-            return Err(wrong_shape(path));
-        };
-        if gather_facts.is_none() {
-            return Err(not_in_profile(alloc, "gather_facts"));
-        }
-        Ok(Play {
-            name: name.unwrap_or(text),
-            hosts: pattern,
-            vars: vars.unwrap_or(Dict::new(alloc)),
-            pre_tasks: pre_tasks.unwrap_or(Items::new(alloc)),
-            tasks: tasks.unwrap_or(Items::new(alloc)),
-            post_tasks: post_tasks.unwrap_or(Items::new(alloc)),
-        })
+/// The play that the members of an object make.
+fn read_members(
+    alloc: Global,
+    path: &Text,
+    members: &Map<String, Value>,
+) -> Result<Play, Stop<LoadFault>>
+    ensures { GivesOf result (expressions_of_play path.now (json.object (members_view members.now.entries))) (play path.now (json.object (members_view members.now.entries))) }
+{
+    let mut keys = Keys::of(path, members, WithoutEffect);
+    let gather_facts = match keys.field::<Gathering>(alloc, "gather_facts") {
+        Ok(found) => found,
+        Err(stop) => return Err(stop),
+    };
+    let found = match keys.value_at(alloc, "hosts") {
+        Ok(found) => found,
+        Err(stop) => return Err(stop),
+    };
+    match read_hosts_at(alloc, path, found) {
+        Ok(hosts) => read_rest(alloc, keys, path, gather_facts, hosts),
+        Err(stop) => Err(stop),
     }
 }
 
 /// A play, as an object spells it.
-#[tactic(auto, unfolding(crate::specs::Plays::play))]
-pub(crate) fn read_play(alloc: Global, path: &Text, json: &Value) -> Result<Play, LoadFault>
-    ensures value { IfOk result (λ p. play all_taken path.now (view json.now) ≡ Ok p) }
-    ensures fault { IfErr result (λ e. e ≢ LoadFault.Memory → IsLoadFaultOf (λ refused. play refused path.now (view json.now)) e) }
+#[tactic(auto, unfolding(crate::specs::Plays::play, crate::specs::Plays::expressions_of_play))]
+pub(crate) fn read_play(alloc: Global, path: &Text, json: &Value) -> Result<Play, Stop<LoadFault>>
+    ensures { GivesOf result (expressions_of_play path.now (view json.now)) (play path.now (view json.now)) }
 {
     match json {
-        Value::Object(members) => {
-            let mut draft = PlayDraft::new();
-            for (name, member) in members.iter() {
-                let key = name.as_str();
-                let here = child(alloc, path, key)?;
-                draft = match draft.with_key(alloc, &here, key, member) {
-                    Ok(next) => next,
-                    Err(fault) => return Err(fault),
-                };
-            }
-            draft.finish(alloc, path)
-        }
-        _ => Err(wrong_shape(path)),
+        Value::Object(members) => read_members(alloc, path, members),
+        _ => wrong(path),
     }
 }

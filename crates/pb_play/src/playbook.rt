@@ -1,13 +1,17 @@
-ghost use Rattle.std.specs.Prelude.{◌≡◌, ◌≢◌, ◌≤◌, length, IfOk, IfErr, Ok, Err, nat_lt, decimal};
+ghost use Rattle.std.specs.Prelude.{◌≡◌, ◌≢◌, ◌≤◌, ℕ, List, length, IfOk, IfErr, OnOk, Ok, Err, nat_lt, decimal};
 ghost use Rattle.serde_json.specs.View.{view, items_view};
 ghost use Rattle.pb_value.specs.Reading.{below};
-ghost use Rattle.pb_patterns.specs.Reading.{all_taken};
-ghost use Rattle.pb_play.specs.Faults.{each, IsLoadFaultOf};
-ghost use Rattle.pb_play.specs.Plays.{play};
-ghost use Rattle.pb_play.specs.Playbooks.{count, max_plays, plays, playbook_of};
+ghost use Rattle.pb_patterns.specs.Expressions.{AreTaken, IsFirstFault};
+ghost use Rattle.pb_reading.specs.Reading as reading;
+ghost use Rattle.pb_reading.specs.Reading.{each, Own};
+ghost use Rattle.pb_reading.specs.declared.stop.Stop.TheVariants.{Memory, WrongShape, Fault};
+ghost use Rattle.pb_play.specs.Refusals.{GivesOf};
+ghost use Rattle.pb_play.specs.Plays.{play, expressions_of_play};
+ghost use Rattle.pb_play.specs.Playbooks.{count, max_plays, plays, playbook_of, as_load_fault, each_expression, expressions_of_plays, expressions_of_book};
 
-use crate::fault::{Limit, LoadFault, wrong_shape};
+use crate::fault::{Limit, LoadFault};
 use crate::play::{Play, read_play};
+use pb_reading::stop::{Stop, wrong};
 use pb_value::items::Items;
 use pb_value::path::child_at;
 use pb_value::read_json::{JsonFault, read_json};
@@ -28,9 +32,10 @@ impl Playbook {
     /// The playbook that the bytes spell, or the first fault in them.
     /// See Ansible's documentation, "Playbook Keywords"; the file is JSON in place of YAML.
     pub fn read(alloc: Global, bytes: &[u8]) -> Result<Playbook, LoadFault>
-        ensures value { IfOk result (λ playbook. playbook_of all_taken bytes.now ≡ Ok playbook) }
+        ensures value { IfOk result (λ playbook. playbook_of bytes.now ≡ Ok playbook) }
+        ensures taken { OnOk result (AreTaken (expressions_of_book bytes.now)) }
         ensures limit { IfOk result (λ playbook. length playbook.plays ≤ max_plays) }
-        ensures fault { IfErr result (λ e. e ≢ LoadFault.Memory → IsLoadFaultOf (λ refused. playbook_of refused bytes.now) e) }
+        ensures fault { IfErr result (λ e. e ≢ LoadFault.Memory → IsFirstFault (expressions_of_book bytes.now) (playbook_of bytes.now) LoadFault.BadPattern e) }
     {
         let json = match read_json(alloc, bytes) {
             Ok(json) => json,
@@ -39,7 +44,7 @@ impl Playbook {
         };
         match read_plays(alloc, &json) {
             Ok(plays) => Ok(Playbook { plays }),
-            Err(fault) => Err(fault),
+            Err(stop) => Err(fault_of(stop)),
         }
     }
 }
@@ -52,44 +57,54 @@ fn are_too_many(items: &[Value]) -> bool
     items.len() > MAX_PLAYS
 }
 
+/// The fault that stopped a reader.
+fn fault_of(stop: Stop<LoadFault>) -> LoadFault
+    ensures memory { stop ≡ Memory → result ≡ LoadFault.Memory }
+    ensures wrong { (path : List ℕ) → stop ≡ WrongShape path → result ≡ as_load_fault (reading.WrongShape path) }
+    ensures fault { (f : LoadFault) → stop ≡ Fault f → result ≡ as_load_fault (Own f) }
+{
+    match stop {
+        Stop::Memory => LoadFault::Memory,
+        Stop::WrongShape { path } => LoadFault::WrongShape { path },
+        Stop::Fault(fault) => fault,
+    }
+}
+
 #[tactic(auto, using(crate::proofs::Counts::each_length))]
-fn read_plays(alloc: Global, json: &Value) -> Result<Items<Play>, LoadFault>
-    ensures value { IfOk result (λ ps. plays all_taken (view json.now) ≡ Ok ps) }
+fn read_plays(alloc: Global, json: &Value) -> Result<Items<Play>, Stop<LoadFault>>
+    ensures value { GivesOf result (expressions_of_plays (view json.now)) (plays (view json.now)) }
     ensures limit { IfOk result (λ ps. length ps ≤ max_plays) }
-    ensures fault { IfErr result (λ e. e ≢ LoadFault.Memory → IsLoadFaultOf (λ refused. plays refused (view json.now)) e) }
 {
     let path = Text::from_str(alloc, "")?;
     match json {
         Value::Array(items) => {
             if are_too_many(items.as_slice()) {
-                return Err(LoadFault::TooLarge {
+                return Err(Stop::Fault(LoadFault::TooLarge {
                     which: Limit::Plays,
-                });
+                }));
             }
             read_each(alloc, &path, items.as_slice())
         }
-        _ => Err(wrong_shape(&path)),
+        _ => wrong(&path),
     }
 }
 
 /// The play with this number in the list at the path.
-fn read_at(alloc: Global, path: &Text, i: usize, json: &Value) -> Result<Play, LoadFault>
-    ensures value { IfOk result (λ p. play all_taken (below path.now (decimal i)) (view json.now) ≡ Ok p) }
-    ensures fault { IfErr result (λ e. e ≢ LoadFault.Memory → IsLoadFaultOf (λ refused. play refused (below path.now (decimal i)) (view json.now)) e) }
+fn read_at(alloc: Global, path: &Text, i: usize, json: &Value) -> Result<Play, Stop<LoadFault>>
+    ensures { GivesOf result (expressions_of_play (below path.now (decimal i)) (view json.now)) (play (below path.now (decimal i)) (view json.now)) }
 {
     let here = child_at(alloc, path, i)?;
     read_play(alloc, &here, json)
 }
 
-fn read_each(alloc: Global, path: &Text, items: &[Value]) -> Result<Items<Play>, LoadFault>
-    ensures value { IfOk result (λ ps. each (play all_taken) path.now 0 (items_view items.now) ≡ Ok ps) }
-    ensures fault { IfErr result (λ e. e ≢ LoadFault.Memory → IsLoadFaultOf (λ refused. each (play refused) path.now 0 (items_view items.now)) e) }
+fn read_each(alloc: Global, path: &Text, items: &[Value]) -> Result<Items<Play>, Stop<LoadFault>>
+    ensures { GivesOf result (each_expression path.now 0 (items_view items.now)) (each play path.now 0 (items_view items.now)) }
 {
     let mut read = Vec::with_capacity(alloc, items.len())?;
     for (i, item) in items.iter().enumerate() {
         match read_at(alloc, path, i, item) {
             Ok(play) => read.push(play)?,
-            Err(fault) => return Err(fault),
+            Err(stop) => return Err(stop),
         }
     }
     Ok(Items::from_vec(read))
