@@ -2,19 +2,18 @@
 use Rattle.std.proofs.Common.{◌≡◌, ℕ, ◌++◌, Bool, true, false, List, [], ◌∷◌, refl, sym, ap, subst, ◌∙◌, append_assoc, ◌⊎◌, inl, inr, ◌||◌}
 use Rattle.std.specs.Prelude.{nat_lt, Option, Some, None, Result, Ok, Err, if◌then◌else◌}
 use Rattle.std.specs.List.{list_any}
-use Rattle.std.specs.Str.{bytes_eq}
 use Rattle.std.proofs.lemmas.List.{append-nil}
-use Rattle.std.proofs.lemmas.Slice.Eq.{bytes_eq-Decides}
 use Rattle.pb_value.specs.Reading.{and_then, map_ok}
 use Rattle.pb_inventory.specs.InventoryOf.{InventoryOf}
 use Rattle.pb_inventory.specs.Reading.{inventory_of}
 use Rattle.pb_layers.specs.Scope.{Map}
-use Rattle.pb_patterns.specs.Reading.{pattern_of, all_taken, IsRefused, IsFaultOf}
+use Rattle.pb_patterns.specs.Expressions.{AreTaken, IsFirstFault}
+use Rattle.pb_patterns.specs.Reading.{pattern_of, expressions_of}
+use Rattle.pb_patterns.proofs.Firsts.{made_of}
 use Rattle.pb_patterns.specs.declared.element.Element.{Element}
 use Rattle.pb_patterns.specs.declared.fault.PatFault.{PatFault}
 use Rattle.pb_patterns.specs.declared.fault.PatFault.TheVariants.{BadRegex}
-use Rattle.pb_play.specs.Faults.{IsLoadFaultOf}
-use Rattle.pb_play.specs.Playbooks.{playbook_of}
+use Rattle.pb_play.specs.Playbooks.{playbook_of, expressions_of_book}
 use Rattle.pb_play.specs.declared.fault.LoadFault.{LoadFault}
 use Rattle.pb_play.specs.declared.fault.LoadFault.TheVariants.{BadPattern}
 use Rattle.pb_play.specs.declared.play.Play.{Play}
@@ -24,7 +23,7 @@ use Rattle.pb_state.specs.declared.bundle.BundleFault.{BundleFault}
 use Rattle.pb_state.specs.declared.bundle.BundleFault.TheVariants.{Inventory, Playbook as InPlaybook, Roles, Limit, BadForks, TooLarge}
 use Rattle.pb_state.specs.declared.bundle.RoleFault.TheVariants.{TooLarge as TooManyPlaces}
 use Rattle.pb_state.specs.Plan.{PlayOf, PlanOf}
-use Rattle.pb_state.specs.Bundle.{in_part, limit_of, limited, booked, varied, extra_in, with_places, readings_of, Readings, has_too_many_places, are_bad_forks, max_bytes, bundle_bytes, IsPlayOf, ArePlaysOf, AreRefused, IsPlaybookFault, IsLimitFault, IsBundleFault, IsPlanIn, IsPlanOf}
+use Rattle.pb_state.specs.Bundle.{in_part, limit_of, limited, extra_in, with_places, variables_of, book_of, readings_of, expressions_of_limit, expressions_in_plays, expressions_in_limit, has_too_many_places, are_bad_forks, max_bytes, bundle_bytes, IsPlayOf, ArePlaysOf, IsPlaybookFault, IsLimitFault, IsBundleFault, IsPlanIn, IsPlanOf}
 
 -- the plays in front are planned
 abbrev pub ArePlannedTo : InventoryOf → List Bool → List Play → List Play → List PlayOf → List (List ℕ) → Type 0
@@ -63,29 +62,21 @@ rest_few old rest play steps few = few_of (has_too_many_places play) (list_any h
     few_of true b e = cc
     few_of false b e = e
 
-none_refused : AreRefused all_taken
-none_refused source is = cc
+pub playbook_fault : (bytes : List ℕ) (fault : LoadFault) → IsFirstFault (expressions_of_book bytes) (playbook_of bytes) BadPattern fault → IsPlaybookFault bytes (InPlaybook fault)
+playbook_fault bytes fault (inl (taken, is)) = inl (taken, ap (in_part InPlaybook) is)
+playbook_fault bytes fault (inr (is, refused)) = inr (ap InPlaybook is, refused)
 
-one_refused : (source : List ℕ) → IsRefused source → AreRefused (bytes_eq source)
-one_refused source refused other is = subst IsRefused ((bytes_eq-Decides source other).0 is) refused
-
-pub playbook_fault : (bytes : List ℕ) (fault : LoadFault) → IsLoadFaultOf (λ refused. playbook_of refused bytes) fault → IsPlaybookFault bytes (InPlaybook fault)
-playbook_fault bytes fault (inl is) = (all_taken, none_refused, ap (in_part InPlaybook) is)
-playbook_fault bytes fault (inr bad) =
-    (bytes_eq bad.1.0, one_refused bad.1.0 bad.1.1, ap (in_part InPlaybook) bad.1.2 ∙ ap (λ f. Err (InPlaybook f)) (sym bad.0))
-
-limit_read : (refused : List ℕ → Bool) (text : List ℕ) (fault : PatFault) → pattern_of refused (text ∷ []) ≡ Err fault → limit_of refused (Some text) ≡ Err (Limit fault)
-limit_read refused text fault is = rw is refl
-
-pub limit_fault : (text : List ℕ) (fault : PatFault) → IsFaultOf (λ refused. pattern_of refused (text ∷ [])) fault → IsLimitFault (Some text) (Limit fault)
-limit_fault text fault (inl is) = (all_taken, none_refused, limit_read all_taken text fault is)
-limit_fault text fault (inr bad) =
-    (bytes_eq bad.1.0, one_refused bad.1.0 bad.1.1, limit_read (bytes_eq bad.1.0) text fault (bad.1.2 ∙ ap Err (sym bad.0)))
+pub limit_fault : (text : List ℕ) (fault : PatFault) → IsFirstFault (expressions_of (text ∷ [])) (pattern_of (text ∷ [])) BadRegex fault → IsLimitFault (Some text) (Limit fault)
+limit_fault text fault (inl (taken, is)) = inl (taken, rw is refl)
+limit_fault text fault (inr (is, refused)) = inr (ap Limit is, refused)
 
 -- the faults of a bundle, one part after another
+variables_fault : (bundle : Bundle) (fault : BundleFault) → variables_of bundle ≡ Err fault → IsBundleFault bundle fault
+variables_fault bundle fault is = inl (inl (rw is tt, rw is refl))
+
 pub size_fault : (bundle : Bundle) → nat_lt max_bytes (bundle_bytes bundle) ≡ true → IsBundleFault bundle TooLarge
-unfolding readings_of
-size_fault bundle large = record { in_plays = all_taken; in_limit = all_taken; plays_refused = none_refused; limit_refused = none_refused; met = rw large refl }
+unfolding variables_of
+size_fault bundle large = variables_fault bundle TooLarge (rw large refl)
 
 -- size and forks are good
 pub record IsSized (bundle : Bundle) : Type 0 where
@@ -93,13 +84,12 @@ pub record IsSized (bundle : Bundle) : Type 0 where
   pub forks : are_bad_forks bundle.forks ≡ false
 
 pub forks_fault : (bundle : Bundle) → nat_lt max_bytes (bundle_bytes bundle) ≡ false → are_bad_forks bundle.forks ≡ true → IsBundleFault bundle BadForks
-unfolding readings_of
-forks_fault bundle small bad = record { in_plays = all_taken; in_limit = all_taken; plays_refused = none_refused; limit_refused = none_refused; met = rw (small, bad) refl }
+unfolding variables_of
+forks_fault bundle small bad = variables_fault bundle BadForks (rw (small, bad) refl)
 
 pub inventory_fault : (bundle : Bundle) (fault : BundleFault) → IsSized bundle → in_part Inventory (inventory_of bundle.inventory) ≡ Err fault → IsBundleFault bundle fault
-unfolding readings_of
-inventory_fault bundle fault sized is =
-    record { in_plays = all_taken; in_limit = all_taken; plays_refused = none_refused; limit_refused = none_refused; met = rw (sized.size, sized.forks, is) refl }
+unfolding variables_of
+inventory_fault bundle fault sized is = variables_fault bundle fault (rw (sized.size, sized.forks, is) refl)
 
 -- the inventory and the extra variables are read
 pub record HasVariables (bundle : Bundle) (inventory : InventoryOf) (extra : Map) : Type 0 where
@@ -109,46 +99,70 @@ pub record HasVariables (bundle : Bundle) (inventory : InventoryOf) (extra : Map
 
 pub extra_fault : (bundle : Bundle) (inventory : InventoryOf) (fault : BundleFault) → IsSized bundle → in_part Inventory (inventory_of bundle.inventory) ≡ Ok inventory
     → extra_in bundle.extra ≡ Err fault → IsBundleFault bundle fault
-unfolding readings_of
-extra_fault bundle inventory fault sized read is =
-    record { in_plays = all_taken; in_limit = all_taken; plays_refused = none_refused; limit_refused = none_refused; met = rw (sized.size, sized.forks, read, is) refl }
+unfolding variables_of
+extra_fault bundle inventory fault sized read is = variables_fault bundle fault (rw (sized.size, sized.forks, read, is) refl)
 
-behind_variables : (in_plays in_limit : List ℕ → Bool) (bundle : Bundle) (inventory : InventoryOf) (extra : Map) → HasVariables bundle inventory extra
-    → readings_of in_plays in_limit bundle ≡ booked in_plays in_limit bundle inventory extra
-unfolding readings_of
-behind_variables in_plays in_limit bundle inventory extra has = rw (has.sized.size, has.sized.forks, has.read, has.extra_read) refl
+variables_read : (bundle : Bundle) (inventory : InventoryOf) (extra : Map) → HasVariables bundle inventory extra → variables_of bundle ≡ Ok (record { inventory = inventory; extra = extra })
+unfolding variables_of
+variables_read bundle inventory extra has = rw (has.sized.size, has.sized.forks, has.read, has.extra_read) refl
 
 pub book_fault : (bundle : Bundle) (inventory : InventoryOf) (extra : Map) (fault : BundleFault) → HasVariables bundle inventory extra → IsPlaybookFault bundle.playbook fault
     → IsBundleFault bundle fault
-book_fault bundle inventory extra fault has (refused, are, is) =
-    record { in_plays = refused; in_limit = all_taken; plays_refused = are; limit_refused = none_refused; met = behind_variables refused all_taken bundle inventory extra has ∙ rw is refl }
+book_fault bundle inventory extra fault has bad = inl (rw (variables_read bundle inventory extra has) bad)
 
-behind_book : (in_limit : List ℕ → Bool) (bundle : Bundle) (inventory : InventoryOf) (extra : Map) (book : Playbook) → HasVariables bundle inventory extra
-    → in_part InPlaybook (playbook_of all_taken bundle.playbook) ≡ Ok book → readings_of all_taken in_limit bundle ≡ limited in_limit bundle.limit inventory extra book
-behind_book in_limit bundle inventory extra book has is = behind_variables all_taken in_limit bundle inventory extra has ∙ rw is refl
+-- the playbook is read, too
+pub record HasBook (bundle : Bundle) (inventory : InventoryOf) (extra : Map) (book : Playbook) : Type 0 where
+  pub variables : HasVariables bundle inventory extra
+  pub read : in_part InPlaybook (playbook_of bundle.playbook) ≡ Ok book
+  pub taken : AreTaken (expressions_of_book bundle.playbook)
 
-pub limit_met : (bundle : Bundle) (inventory : InventoryOf) (extra : Map) (book : Playbook) (fault : BundleFault) → HasVariables bundle inventory extra
-    → in_part InPlaybook (playbook_of all_taken bundle.playbook) ≡ Ok book → IsLimitFault bundle.limit fault → IsBundleFault bundle fault
-limit_met bundle inventory extra book fault has booked (refused, are, is) =
-    record { in_plays = all_taken; in_limit = refused; plays_refused = none_refused; limit_refused = are; met = behind_book refused bundle inventory extra book has booked ∙ rw is refl }
+plays_taken : (bundle : Bundle) (inventory : InventoryOf) (extra : Map) (book : Playbook) → HasBook bundle inventory extra book → AreTaken (expressions_in_plays bundle)
+plays_taken bundle inventory extra book has = rw (variables_read bundle inventory extra has.variables) has.taken
 
-behind_limit : (bundle : Bundle) (inventory : InventoryOf) (extra : Map) (book : Playbook) (limit : Option (List Element)) → HasVariables bundle inventory extra
-    → in_part InPlaybook (playbook_of all_taken bundle.playbook) ≡ Ok book → limit_of all_taken bundle.limit ≡ Ok limit
-    → readings_of all_taken all_taken bundle ≡ with_places (record { inventory = inventory; extra = extra; book = book; limit = limit })
-behind_limit bundle inventory extra book limit has booked is = behind_book all_taken bundle inventory extra book has booked ∙ rw is refl
+behind_book : (bundle : Bundle) (inventory : InventoryOf) (extra : Map) (book : Playbook) → HasBook bundle inventory extra book
+    → readings_of bundle ≡ limited bundle.limit (record { inventory = inventory; extra = extra }) book
+behind_book bundle inventory extra book has = rw (variables_read bundle inventory extra has.variables, has.read) refl
 
-pub places_fault : (bundle : Bundle) (inventory : InventoryOf) (extra : Map) (book : Playbook) (limit : Option (List Element)) → HasVariables bundle inventory extra
-    → in_part InPlaybook (playbook_of all_taken bundle.playbook) ≡ Ok book → limit_of all_taken bundle.limit ≡ Ok limit → list_any has_too_many_places book.plays ≡ true
-    → IsBundleFault bundle (Roles TooManyPlaces)
-places_fault bundle inventory extra book limit has booked is many =
-    record { in_plays = all_taken; in_limit = all_taken; plays_refused = none_refused; limit_refused = none_refused; met = behind_limit bundle inventory extra book limit has booked is ∙ rw many refl }
+limit_met_is : (bundle : Bundle) (inventory : InventoryOf) (extra : Map) (book : Playbook) → HasBook bundle inventory extra book → expressions_in_limit bundle ≡ expressions_of_limit bundle.limit
+limit_met_is bundle inventory extra book has = rw (variables_read bundle inventory extra has.variables, has.read) refl
 
-pub plan_made : (bundle : Bundle) (inventory : InventoryOf) (extra : Map) (book : Playbook) (limit : Option (List Element)) (plan : PlanOf) → HasVariables bundle inventory extra
-    → in_part InPlaybook (playbook_of all_taken bundle.playbook) ≡ Ok book → limit_of all_taken bundle.limit ≡ Ok limit → list_any has_too_many_places book.plays ≡ false
-    → IsPlanIn inventory extra limit bundle.forks book plan → IsPlanOf bundle plan
-plan_made bundle inventory extra book limit plan has booked is few made =
+pub limit_met : (bundle : Bundle) (inventory : InventoryOf) (extra : Map) (book : Playbook) (fault : BundleFault) → HasBook bundle inventory extra book → IsLimitFault bundle.limit fault
+    → IsBundleFault bundle fault
+limit_met bundle inventory extra book fault has bad =
+    inr (
+      plays_taken bundle inventory extra book has,
+      subst (λ m. IsFirstFault m (readings_of bundle) (Limit BadRegex) fault) (sym (limit_met_is bundle inventory extra book has))
+          (
+          subst (λ r. IsFirstFault (expressions_of_limit bundle.limit) r (Limit BadRegex) fault) (sym (behind_book bundle inventory extra book has))
+          (made_of (expressions_of_limit bundle.limit) (limit_of bundle.limit) (λ elements. with_places (record { inventory = inventory; extra = extra; book = book; limit = elements })) (Limit BadRegex) fault bad)
+          ),
+    )
+
+-- and the limit
+pub record HasLimit (bundle : Bundle) (limit : Option (List Element)) : Type 0 where
+  pub read : limit_of bundle.limit ≡ Ok limit
+  pub taken : AreTaken (expressions_of_limit bundle.limit)
+
+limit_taken : (bundle : Bundle) (inventory : InventoryOf) (extra : Map) (book : Playbook) (limit : Option (List Element)) → HasBook bundle inventory extra book → HasLimit bundle limit
+    → AreTaken (expressions_in_limit bundle)
+limit_taken bundle inventory extra book limit has limited = subst AreTaken (sym (limit_met_is bundle inventory extra book has)) limited.taken
+
+behind_limit : (bundle : Bundle) (inventory : InventoryOf) (extra : Map) (book : Playbook) (limit : Option (List Element)) → HasBook bundle inventory extra book → HasLimit bundle limit
+    → readings_of bundle ≡ with_places (record { inventory = inventory; extra = extra; book = book; limit = limit })
+behind_limit bundle inventory extra book limit has limited = behind_book bundle inventory extra book has ∙ rw limited.read refl
+
+pub places_fault : (bundle : Bundle) (inventory : InventoryOf) (extra : Map) (book : Playbook) (limit : Option (List Element)) → HasBook bundle inventory extra book → HasLimit bundle limit
+    → list_any has_too_many_places book.plays ≡ true → IsBundleFault bundle (Roles TooManyPlaces)
+places_fault bundle inventory extra book limit has limited many =
+    inr (plays_taken bundle inventory extra book has, inl (limit_taken bundle inventory extra book limit has limited, behind_limit bundle inventory extra book limit has limited ∙ rw many refl))
+
+pub plan_made : (bundle : Bundle) (inventory : InventoryOf) (extra : Map) (book : Playbook) (limit : Option (List Element)) (plan : PlanOf) → HasBook bundle inventory extra book → HasLimit bundle limit
+    → list_any has_too_many_places book.plays ≡ false → IsPlanIn inventory extra limit bundle.forks book plan → IsPlanOf bundle plan
+plan_made bundle inventory extra book limit plan has limited few made =
     record {
       readings = record { inventory = inventory; extra = extra; book = book; limit = limit };
-      read = behind_limit bundle inventory extra book limit has booked is ∙ rw few refl;
+      plays_taken = plays_taken bundle inventory extra book has;
+      limit_taken = limit_taken bundle inventory extra book limit has limited;
+      read = behind_limit bundle inventory extra book limit has limited ∙ rw few refl;
       planned = made;
     }

@@ -1,5 +1,5 @@
 -- The plan of a bundle, or its first fault.
-use Rattle.std.specs.Prelude.{◌≡◌, ℕ, zero, suc, ◌+◌, Bool, true, false, ◌&&◌, ◌||◌, List, [], ◌∷◌, ◌++◌, map, length, replicate, nat_lt, nat_eq, Option, Some, None, Result, Ok, Err, codes, if◌then◌else◌}
+use Rattle.std.specs.Prelude.{◌≡◌, ◌⊎◌, ℕ, zero, suc, ◌+◌, Bool, true, false, ◌&&◌, ◌||◌, List, [], ◌∷◌, ◌++◌, map, length, replicate, nat_lt, nat_eq, Option, Some, None, Result, Ok, Err, codes, if◌then◌else◌}
 use Rattle.std.specs.List.{list_any}
 use Rattle.std.specs.Option.{option_map_or}
 use Rattle.std.specs.Simd.Lanes.{zip2}
@@ -10,14 +10,17 @@ use Rattle.pb_inventory.specs.Vars.{strangers}
 use Rattle.pb_layers.specs.Scope.{Map}
 use Rattle.pb_variables.specs.Extra.{extra_of}
 use Rattle.pb_variables.specs.Magic.{plan_magic, play_magic}
-use Rattle.pb_patterns.specs.Reading.{pattern_of, all_taken, IsRefused}
+use Rattle.pb_patterns.specs.Expressions.{AreTaken, IsFirstFault, behind}
+use Rattle.pb_patterns.specs.Reading.{pattern_of, expressions_of}
+use Rattle.pb_patterns.specs.declared.fault.PatFault.TheVariants.{BadRegex}
+use Rattle.pb_play.specs.declared.fault.LoadFault.TheVariants.{BadPattern}
 use Rattle.pb_patterns.specs.Selection.{IsSelection}
 use Rattle.pb_patterns.specs.declared.element.Element.{Element}
 use Rattle.pb_patterns.specs.declared.selected.Selected.{Selected}
 use Rattle.pb_play.specs.declared.play.Play.{Play}
 use Rattle.pb_play.specs.declared.task.Task.{Task as OneTask}
 use Rattle.pb_play.specs.declared.playbook.Playbook.{Playbook}
-use Rattle.pb_play.specs.Playbooks.{playbook_of}
+use Rattle.pb_play.specs.Playbooks.{playbook_of, expressions_of_book}
 use Rattle.pb_tree.specs.Tree.{Nodes, Nothing, Task, Flush, TreeOf, size_of}
 use Rattle.pb_state.specs.declared.bundle.Bundle.{Bundle}
 use Rattle.pb_state.specs.declared.bundle.BundleFault.{BundleFault}
@@ -84,9 +87,14 @@ pub record Readings : Type 0 where
   -- the elements of the pattern that the plays are limited to, if there is one
   pub limit : Option (List Element)
 
-abbrev pub limit_of : (List ℕ → Bool) → Option (List ℕ) → Result (Option (List Element)) BundleFault
-limit_of refused None = Ok None
-limit_of refused (Some text) = in_part Limit (map_ok Some (pattern_of refused (text ∷ [])))
+abbrev pub limit_of : Option (List ℕ) → Result (Option (List Element)) BundleFault
+limit_of None = Ok None
+limit_of (Some text) = in_part Limit (map_ok Some (pattern_of (text ∷ [])))
+
+-- the regular expressions that are met in a limit
+abbrev pub expressions_of_limit : Option (List ℕ) → List (List ℕ)
+expressions_of_limit None = []
+expressions_of_limit (Some text) = expressions_of (text ∷ [])
 
 abbrev pub with_places : Readings → Result Readings BundleFault
 with_places readings = if list_any has_too_many_places readings.book.plays then Err (Roles TooManyPlaces) else Ok readings
@@ -96,23 +104,40 @@ abbrev pub extra_in : Option (List ℕ) → Result Map BundleFault
 extra_in None = Ok []
 extra_in (Some bytes) = in_part Extra (extra_of bytes)
 
-abbrev pub limited : (List ℕ → Bool) → Option (List ℕ) → InventoryOf → Map → Playbook → Result Readings BundleFault
-limited refused limit inventory extra book =
-    and_then (limit_of refused limit) (λ elements. with_places (record { inventory = inventory; extra = extra; book = book; limit = elements }))
+-- an inventory and extra variables
+pub record Variables : Type 0 where
+  pub inventory : InventoryOf
+  pub extra : Map
 
-abbrev pub booked : (in_plays in_limit : List ℕ → Bool) → Bundle → InventoryOf → Map → Result Readings BundleFault
-booked in_plays in_limit bundle inventory extra = and_then (in_part InPlaybook (playbook_of in_plays bundle.playbook)) (limited in_limit bundle.limit inventory extra)
+abbrev pub varied : Bundle → InventoryOf → Result Variables BundleFault
+varied bundle inventory = and_then (extra_in bundle.extra) (λ extra. Ok (record { inventory = inventory; extra = extra }))
 
-abbrev pub varied : (in_plays in_limit : List ℕ → Bool) → Bundle → InventoryOf → Result Readings BundleFault
-varied in_plays in_limit bundle inventory = and_then (extra_in bundle.extra) (booked in_plays in_limit bundle inventory)
-
--- what a bundle says, or its first fault: its size comes first, then its forks, the inventory, the extra variables, the playbook, the limit, and the plays' trees.
--- The tests tell which regular expressions are refused, in the plays' patterns and in the limit.
-unfoldable pub readings_of : (in_plays in_limit : List ℕ → Bool) → Bundle → Result Readings BundleFault
-readings_of in_plays in_limit bundle =
+-- what stands in front of the playbook: a bundle's size comes first, then its forks, the inventory and the extra variables
+unfoldable pub variables_of : Bundle → Result Variables BundleFault
+variables_of bundle =
     if nat_lt max_bytes (bundle_bytes bundle) then Err TooLarge
     else (if are_bad_forks bundle.forks then Err BadForks
-    else and_then (in_part Inventory (inventory_of bundle.inventory)) (varied in_plays in_limit bundle))
+    else and_then (in_part Inventory (inventory_of bundle.inventory)) (varied bundle))
+
+-- the playbook, behind these
+abbrev pub book_of : Bundle → Result Playbook BundleFault
+book_of bundle = and_then (variables_of bundle) (λ _. in_part InPlaybook (playbook_of bundle.playbook))
+
+abbrev pub limited : Option (List ℕ) → Variables → Playbook → Result Readings BundleFault
+limited limit variables book =
+    and_then (limit_of limit) (λ elements. with_places (record { inventory = variables.inventory; extra = variables.extra; book = book; limit = elements }))
+
+-- what a bundle says, or its first fault, where every regular expression is taken: behind the playbook come the limit, and the plays' trees
+abbrev pub readings_of : Bundle → Result Readings BundleFault
+readings_of bundle = and_then (variables_of bundle) (λ variables. and_then (in_part InPlaybook (playbook_of bundle.playbook)) (limited bundle.limit variables))
+
+-- the regular expressions that are met in the plays' patterns: none, where a fault stands in front of the playbook
+abbrev pub expressions_in_plays : Bundle → List (List ℕ)
+expressions_in_plays bundle = behind (variables_of bundle) (λ _. expressions_of_book bundle.playbook)
+
+-- those that are met in the limit: none, where a fault stands in front of it
+abbrev pub expressions_in_limit : Bundle → List (List ℕ)
+expressions_in_limit bundle = behind (book_of bundle) (λ _. expressions_of_limit bundle.limit)
 
 -- the hosts that two patterns select
 abbrev pub both : List Bool → List Bool → List Bool
@@ -158,24 +183,20 @@ pub record IsPlanIn (inventory : InventoryOf) (extra : Map) (limit : Option (Lis
 
 pub record IsPlanOf (bundle : Bundle) (plan : PlanOf) : Type 0 where
   pub readings : Readings
-  pub read : readings_of all_taken all_taken bundle ≡ Ok readings
+  pub plays_taken : AreTaken (expressions_in_plays bundle)
+  pub limit_taken : AreTaken (expressions_in_limit bundle)
+  pub read : readings_of bundle ≡ Ok readings
   pub planned : IsPlanIn readings.inventory readings.extra readings.limit bundle.forks readings.book plan
 
--- the regex crate refuses all of these expressions, for another cause than memory
-abbrev pub AreRefused : (List ℕ → Bool) → Type 0
-AreRefused refused = (source : List ℕ) → refused source ≡ true → IsRefused source
-
--- the first fault of a part, where some of the regular expressions that the regex crate refuses are refused, and no others
+-- the first fault of a playbook, and of a limit, as faults of a bundle
 abbrev pub IsPlaybookFault : List ℕ → BundleFault → Type 0
-IsPlaybookFault bytes fault = (refused : List ℕ → Bool) × AreRefused refused × (in_part InPlaybook (playbook_of refused bytes) ≡ Err fault)
+IsPlaybookFault bytes fault = IsFirstFault (expressions_of_book bytes) (in_part InPlaybook (playbook_of bytes)) (InPlaybook BadPattern) fault
 
 abbrev pub IsLimitFault : Option (List ℕ) → BundleFault → Type 0
-IsLimitFault limit fault = (refused : List ℕ → Bool) × AreRefused refused × (limit_of refused limit ≡ Err fault)
+IsLimitFault limit fault = IsFirstFault (expressions_of_limit limit) (limit_of limit) (Limit BadRegex) fault
 
--- the same of a whole bundle
-pub record IsBundleFault (bundle : Bundle) (fault : BundleFault) : Type 0 where
-  pub in_plays : List ℕ → Bool
-  pub in_limit : List ℕ → Bool
-  pub plays_refused : AreRefused in_plays
-  pub limit_refused : AreRefused in_limit
-  pub met : readings_of in_plays in_limit bundle ≡ Err fault
+-- The first fault of a bundle: it is met up to the end of the playbook; or the expressions of the plays are taken, and it is the first fault of all.
+abbrev pub IsBundleFault : Bundle → BundleFault → Type 0
+IsBundleFault bundle fault =
+    IsFirstFault (expressions_in_plays bundle) (book_of bundle) (InPlaybook BadPattern) fault
+    ⊎ (AreTaken (expressions_in_plays bundle) × IsFirstFault (expressions_in_limit bundle) (readings_of bundle) (Limit BadRegex) fault)

@@ -6,7 +6,6 @@ use pb_outcome::gather::TaskResult;
 use pb_value::val::Val;
 
 /// What a step decided of the task that started, or that a report was for.
-#[derive(Drop)]
 pub struct Decided {
     /// The place's position in the play's tree.
     pub place: usize,
@@ -16,12 +15,29 @@ pub struct Decided {
     pub done: Option<Done>,
 }
 
+impl Drop for Decided {
+    fn drop(self) {
+        let Decided {
+            place: _,
+            is_new: _,
+            done,
+        } = self;
+        drop(done);
+    }
+}
+
 /// How a task ended on a host.
-#[derive(Drop)]
 pub struct Done {
     /// The task's result, as it is shown.
     pub result: Val,
     pub task: TaskResult,
+}
+
+impl Drop for Done {
+    fn drop(self) {
+        let Done { result, task: _ } = self;
+        drop(result);
+    }
 }
 
 /// Puts down what a step decided.

@@ -2,11 +2,11 @@
 
 ghost use Rattle.std.specs.Prelude.{◌≡◌, ◌<◌, IfOk, slice_get, length};
 ghost use Rattle.std.specs.Option.{option_copied, option_map_or};
-ghost use Rattle.pb_state.specs.Jobs.{row_job};
+ghost use Rattle.pb_state.specs.Jobs.{row_job, job_with};
 
 use crate::plan::{Plan, PlanPlay};
-use crate::row::Row;
-use pb_ids::{HostNo, PlayNo, Ticket};
+use crate::row::{Row, Running};
+use pb_ids::{HostNo, Place, PlayNo, Ticket};
 use pb_outcome::job::Job;
 use pb_value::items::Items;
 use pb_value::text::Text;
@@ -34,7 +34,23 @@ pub(crate) fn job_in(
         return Ok(None);
     }
     let name = plan.host_name(host);
-    Ok(Some(Job {
+    let job = job_with(alloc, number, host, ticket, running, name, place)?;
+    Ok(Some(job))
+}
+
+/// The job of a task that runs at a place, on a host with this name.
+fn job_with(
+    alloc: Global,
+    number: PlayNo,
+    host: HostNo,
+    ticket: Ticket,
+    running: &Running,
+    name: &str,
+    place: &Place,
+) -> Result<Job, AllocError>
+    ensures { IfOk result (λ job. job ≡ job_with number.0 host ticket running.now name.now place.now) }
+{
+    Ok(Job {
         ticket,
         host,
         name: Text::from_str(alloc, name)?,
@@ -44,5 +60,5 @@ pub(crate) fn job_in(
         target: Text::from_str(alloc, name)?,
         connector: Items::new(alloc),
         call: running.call.try_clone(alloc)?,
-    }))
+    })
 }

@@ -3,10 +3,10 @@
 ghost use Rattle.std.specs.Prelude.{◌≡◌, ◌≢◌, ◌<◌, ◌≤◌, [], ◌∷◌, ◌++◌, List, ℕ, map, length, false, IfOk, IfErr, OnOk, Ok, Err};
 ghost use Rattle.std.specs.List.{list_any};
 ghost use Rattle.pb_inventory.specs.Reading.{inventory_of};
-ghost use Rattle.pb_patterns.specs.Reading.{all_taken};
+ghost use Rattle.pb_patterns.specs.Expressions.{AreTaken};
 ghost use Rattle.pb_inventory.specs.Vars.{strangers};
-ghost use Rattle.pb_play.specs.Playbooks.{playbook_of};
-ghost use Rattle.pb_state.specs.Bundle.{in_part, limit_of, extra_in, has_too_many_places, stranger_line, unmatched_line, IsLimit, IsPlayOf, ArePlaysOf, IsPlanIn, IsPlanOf, IsBundleFault, IsPlaybookFault, IsLimitFault};
+ghost use Rattle.pb_play.specs.Playbooks.{playbook_of, expressions_of_book};
+ghost use Rattle.pb_state.specs.Bundle.{in_part, limit_of, expressions_of_limit, extra_in, has_too_many_places, stranger_line, unmatched_line, IsLimit, IsPlayOf, ArePlaysOf, IsPlanIn, IsPlanOf, IsBundleFault, IsPlaybookFault, IsLimitFault};
 
 use crate::bundle::{Bundle, BundleFault, RoleFault, has_too_many_places, is_too_large, play_with};
 use crate::plan::{Plan, PlanPlay};
@@ -56,7 +56,8 @@ fn extra_in(alloc: Global, extra: &Option<Text>) -> Result<Dict, BundleFault>
 
 /// The playbook of a bundle.
 fn playbook_in(alloc: Global, bundle: &Bundle) -> Result<Playbook, BundleFault>
-    ensures value { IfOk result (λ p. in_part BundleFault.Playbook (playbook_of all_taken bundle.now.playbook) ≡ Ok p) }
+    ensures value { IfOk result (λ p. in_part BundleFault.Playbook (playbook_of bundle.now.playbook) ≡ Ok p) }
+    ensures taken { OnOk result (AreTaken (expressions_of_book bundle.now.playbook)) }
     ensures limit { IfOk result (λ p. length p.plays ≤ 256) }
     ensures fault { IfErr result (λ e. e ≢ BundleFault.Memory → IsPlaybookFault bundle.now.playbook e) }
 {
@@ -69,7 +70,8 @@ fn playbook_in(alloc: Global, bundle: &Bundle) -> Result<Playbook, BundleFault>
 
 /// The pattern of a limit, if there is one.
 fn limit_in(alloc: Global, limit: &Option<Text>) -> Result<Option<Pattern>, BundleFault>
-    ensures value { IfOk result (λ pattern. limit_of all_taken limit.now ≡ Ok pattern) }
+    ensures value { IfOk result (λ pattern. limit_of limit.now ≡ Ok pattern) }
+    ensures taken { OnOk result (AreTaken (expressions_of_limit limit.now)) }
     ensures fault { IfErr result (λ e. e ≢ BundleFault.Memory → IsLimitFault limit.now e) }
 {
     match limit {

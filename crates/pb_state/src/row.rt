@@ -44,7 +44,6 @@ pub struct Finish {
 }
 
 /// A task that a host runs: what it has to do, and the ticket of its job if that is out.
-#[derive(Drop)]
 pub struct Running {
     /// The place's position in the play's tree.
     pub place: usize,
@@ -52,9 +51,19 @@ pub struct Running {
     pub out: Option<Ticket>,
 }
 
+impl Drop for Running {
+    fn drop(self) {
+        let Running {
+            place: _,
+            call,
+            out: _,
+        } = self;
+        drop(call);
+    }
+}
+
 /// One host: its answers in the open batch, its status, whether it takes part in the batch, what it runs and what it finished last,
 /// and its counts.
-#[derive(Drop)]
 pub struct Row {
     answers: Vec<Answer>,
     /// Whether all answers are known to be good.
@@ -64,6 +73,22 @@ pub struct Row {
     running: Option<Running>,
     last: Option<Finish>,
     counts: Counts,
+}
+
+impl Drop for Row {
+    fn drop(self) {
+        let Row {
+            answers,
+            is_straight: _,
+            status: _,
+            in_batch: _,
+            running,
+            last: _,
+            counts: _,
+        } = self;
+        drop(answers);
+        drop(running);
+    }
 }
 
 impl Model for Row {

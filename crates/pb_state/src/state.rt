@@ -5,7 +5,7 @@ ghost use Rattle.std.specs.Prelude.{◌-◌, ◌+◌, ◌^◌, ◌*◌};
 ghost use Rattle.std.specs.List.{list_any};
 ghost use Rattle.std.specs.Option.{option_copied, option_map_or};
 ghost use Rattle.pb_state.specs.Plan.{PlanOf};
-ghost use Rattle.pb_state.specs.Row.{left, finished, started};
+ghost use Rattle.pb_state.specs.Row.{left, finished, started, task_of};
 ghost use Rattle.pb_items.specs.declared.planned.Planned.TheVariants as Planned;
 ghost use Rattle.pb_state.specs.State.{State};
 
@@ -22,7 +22,7 @@ use crate::rows::{
 };
 use pb_ids::{HostNo, PlayNo, Ticket};
 use pb_items::planned::Planned;
-use pb_outcome::gather::TaskResult;
+use pb_outcome::gather::{ItemResult, TaskResult};
 use pb_outcome::job::{Call, Job, Report};
 use pb_planes::HostSet;
 use std::alloc::{AllocError, Global};
@@ -49,7 +49,6 @@ impl From<AllocError> for StepFault {
 }
 
 /// The state of a run.
-#[derive(Drop)]
 pub struct EngineState {
     alloc: Global,
     rows: Vec<Row>,
@@ -62,6 +61,26 @@ pub struct EngineState {
     stopped: bool,
     ended: bool,
     decided: Option<Decided>,
+}
+
+impl Drop for EngineState {
+    fn drop(self) {
+        let EngineState {
+            alloc: _,
+            rows,
+            play: _,
+            is_open: _,
+            place: _,
+            forks: _,
+            pool: _,
+            sends: _,
+            stopped: _,
+            ended: _,
+            decided,
+        } = self;
+        drop(rows);
+        drop(decided);
+    }
 }
 
 impl Model for EngineState {
@@ -229,7 +248,7 @@ impl EngineState {
 }
 
 impl EngineState {
-    ghost use Rattle.pb_state.specs.Machine.{after, opened_in, started_in, start_at, start_with, sent_in, reported_in, turned_in, closed, stopped, with_forks, first_state, ready, change, possible, may_open, may_start_in, may_send_in, may_report_in, open_play};
+    ghost use Rattle.pb_state.specs.Machine.{after, opened_in, started_in, start_at, start_with, sent_in, reported_in, turned_in, closed, stopped, with_forks, first_state, ready, change, possible, may_open, may_start_in, may_send_in, may_report_in, open_play, done_by};
     ghost use Rattle.pb_state.specs.Run.{is_command};
     ghost use Rattle.pb_state.specs.Work.{work};
 
@@ -375,20 +394,36 @@ impl EngineState {
         let planned = planned_at(self.alloc, plan, play, host, place)?;
         let is_new = !some_begun(&self.rows, place);
         match planned {
-            Planned::Decided(item) => {
-                let task = task_of(&item);
-                self.finish_at(host, play, place, task)?;
-                let done = Some(Done {
-                    result: item.result,
-                    task,
-                });
-                self.tell(place, is_new, done);
-            }
+            Planned::Decided(item) => self.decide_at(host, play, place, is_new, item),
             Planned::Sends(call) => {
                 self.begin_at(host, play, place, call);
                 self.tell(place, is_new, None);
+                Ok(())
             }
         }
+    }
+
+    /// A task is decided as it starts.
+    fn decide_at(
+        &mut self,
+        host: HostNo,
+        play: &PlanPlay,
+        place: usize,
+        is_new: bool,
+        item: ItemResult,
+    ) -> Result<(), AllocError>
+        requires open { self.old.is_open ≡ true }
+        requires may { may_start_in self.old host.0 play.now ≡ true }
+        ensures ok { OnOk result (self.new ≡ record self.old { rows = change self.old.rows host.0 (finished play.now.tree place (task_of item)); decided = Some (record { place = place; is_new = is_new; done = Some (done_by item) }) }) }
+        ensures err { OnErr result (self.new ≡ self.old) }
+    {
+        let task = task_of(&item);
+        self.finish_at(host, play, place, task)?;
+        let done = Some(Done {
+            result: item.result,
+            task,
+        });
+        self.tell(place, is_new, done);
         Ok(())
     }
 

@@ -10,5 +10,6 @@ pub returns-in-Err : goal.returns-in-Err
 returns-in-Err c =
     let not_memory : c.in-Err.fault ≢ Memory = grind (arith, common_steps) in record {
       value = tt;
+      taken = tt;
       fault = λ other. rw c.in-Some.is (subst (λ text. IsLimitFault (Some text) (Limit c.in-Err.fault)) c.as_str.ensures (limit_fault _ c.in-Err.fault (c.in-Err.ensures.fault not_memory)));
     }

@@ -10,6 +10,7 @@ pub returns-in-Err : goal.returns-in-Err
 returns-in-Err c =
     let not_memory : c.in-Err.fault ≢ Memory = grind (arith, common_steps) in record {
       value = tt;
+      taken = tt;
       limit = tt;
       fault = λ other. subst (λ bytes. IsPlaybookFault bytes (Playbook c.in-Err.fault)) c.as_slice.ensures (playbook_fault _ c.in-Err.fault (c.in-Err.ensures.fault not_memory));
     }
