@@ -152,7 +152,7 @@ uncommanded_more : (es : List Event) (e : Event) → IsUncommanded es → is_com
 uncommanded_more [] e a b = (b, tt)
 uncommanded_more (d ∷ es) e a b = (a.0, uncommanded_more es e a.1 b)
 
-lines_more : (plan : PlanOf) (s : State) (es : List Event) (e : Event) → lines_from plan s (es ++ e ∷ []) ≡ lines_from plan s es ++ lines_of plan (after plan (state_from plan s es) e) e
+pub lines_more : (plan : PlanOf) (s : State) (es : List Event) (e : Event) → lines_from plan s (es ++ e ∷ []) ≡ lines_from plan s es ++ lines_of plan (after plan (state_from plan s es) e) e
 lines_more plan s [] e = append-nil (lines_of plan (after plan s e) e)
 lines_more plan s (d ∷ es) e = ap (λ t. lines_of plan (after plan s d) d ++ t) (lines_more plan (after plan s d) es e) ∙ sym (append_assoc (lines_of plan (after plan s d) d) _ _)
 
@@ -160,7 +160,7 @@ last_is : (xs : List Event) (e : Event) (n : ℕ) → n ≡ length xs → slice_
 last_is [] e n h = rw h refl
 last_is (x ∷ xs) e n h = rw h (last_is xs e (length xs) refl)
 
-last_at : (old : EngineOf) (e : Event) → last_lines (taken old e) ≡ lines_of old.plan (after old.plan old.state e) e
+pub last_at : (old : EngineOf) (e : Event) → last_lines (taken old e) ≡ lines_of old.plan (after old.plan old.state e) e
 last_at old e =
     let there : length (old.trail ++ e ∷ []) - 1 ≡ length old.trail = simp length-append (omega arith) in
     rw (there, last_is old.trail e (length old.trail) refl) refl
@@ -235,11 +235,11 @@ same_same old new same sound = record { plan = ap (λ (v : EngineOf). v.plan) sa
 three_more : (t : Option (List ℕ)) (a b c : List ℕ) → with_more (with_more (with_more t a) b) c ≡ with_more t (a ++ b ++ c)
 three_more t a b c = ap (λ (u : Option (List ℕ)). with_more u c) (more_more t a b) ∙ more_more t (a ++ b) c
 
-none_more : (t : Option (List ℕ)) → t ≡ with_more t []
+pub none_more : (t : Option (List ℕ)) → t ≡ with_more t []
 none_more None = refl
 none_more (Some t) = ap Some (sym (append-nil t))
 
-fresh_lines : (old : EngineOf) (t : Option (List ℕ)) → IsFresh old → t ≡ with_more t (lines_of_trail old)
+pub fresh_lines : (old : EngineOf) (t : Option (List ℕ)) → IsFresh old → t ≡ with_more t (lines_of_trail old)
 fresh_lines old t fresh = rw fresh.1 (none_more t)
 
 pub empty_begun : (allows gives : Job → Form → Type 0) (plan : PlanOf) (pool : ℕ) → IsBegun allows gives plan pool []
@@ -279,7 +279,7 @@ made_at : (plan : PlanOf) (pool : ℕ) (engine : EngineOf) (b : Bool) (made : En
 made_at plan pool engine true made e = let wrong : false ≡ true = ap is_value e in cc
 made_at plan pool engine false made e = ap (λ r. value_or r engine) e
 
-made_of : (plan : PlanOf) (pool : ℕ) (engine : EngineOf) → engine_of plan pool ≡ Ok engine → (engine.plan ≡ plan) × (engine.pool ≡ pool)
+pub made_of : (plan : PlanOf) (pool : ℕ) (engine : EngineOf) → engine_of plan pool ≡ Ok engine → (engine.plan ≡ plan) × (engine.pool ≡ pool)
 made_of plan pool engine e =
     let same = made_at plan pool engine (nat_lt pool plan.forks) (record { plan = plan; pool = pool; state = first_state plan plan.forks pool; trail = [] }) e in
     (sym (ap (λ (v : EngineOf). v.plan) same), sym (ap (λ (v : EngineOf). v.pool) same))

@@ -10,6 +10,7 @@ ghost use Rattle.pb_engine.specs.EngineOf.{LessWork, IsSound};
 ghost use Rattle.pb_recap.specs.Recap.{recap};
 ghost use Rattle.pb_driver.specs.Taken.{with_more, one_more};
 ghost use Rattle.pb_driver.specs.Output.{output, end_lines};
+ghost use Rattle.pb_driver.specs.Cut.{IsPart, IsCut, Breaks};
 ghost use Rattle.pb_driver.specs.Driven.{IsSame, Keeps, TakesOne, HasBegun, last_lines, IsWholeRun, IsBegun, IsTold, IsFresh};
 
 use crate::line_out::{Failed, LineOut, put_all};
@@ -79,8 +80,10 @@ pub struct Ended {
 }
 
 /// Writes the lines of the last event.
+#[tactic(auto, using(crate::proofs::Cutting::part_none, crate::proofs::Cutting::part_as))]
 fn emit<W: LineOut>(alloc: Global, engine: &Engine, writer: &mut W) -> Result<(), RunFault>
     ensures took { OnOk result (W.taken writer.new ≡ with_more (W.taken writer.old) (last_lines engine.now)) }
+    ensures part { OnErr result (IsPart (W.taken writer.old) (W.taken writer.new) (last_lines engine.now)) }
     ensures quiet { OnOk result (W.failures writer.new ≡ W.failures writer.old) }
     ensures failed { IfErr result (λ e. e ≡ RunFault.Write → W.failures writer.new ≡ one_more (W.failures writer.old)) }
 {
@@ -156,7 +159,7 @@ fn advance<R: Runner, P: Picker>(
 }
 
 /// One event, with its lines. It answers whether there was one to take.
-#[tactic(auto, using(crate::proofs::Driving::keeps_one, crate::proofs::Driving::keeps_same, crate::proofs::Driving::same_one, crate::proofs::Driving::same_same, crate::proofs::Driving::begun_one, crate::proofs::Driving::begun_same))]
+#[tactic(auto, using(crate::proofs::Driving::keeps_one, crate::proofs::Driving::keeps_same, crate::proofs::Driving::same_one, crate::proofs::Driving::same_same, crate::proofs::Driving::begun_one, crate::proofs::Driving::begun_same, crate::proofs::Cutting::breaks_same))]
 fn turn<R: Runner, P: Picker, W: LineOut>(
     alloc: Global,
     engine: &mut Engine,
@@ -169,6 +172,7 @@ fn turn<R: Runner, P: Picker, W: LineOut>(
     ensures same { IsSame engine.old engine.new }
     ensures begun { HasBegun R.allows (R.gives runner.old) engine.new }
     ensures keeps { OnOk result (Keeps engine.old engine.new (W.taken writer.old) (W.taken writer.new)) }
+    ensures breaks { OnErr result (Breaks engine.old engine.new (W.taken writer.old) (W.taken writer.new)) }
     ensures more { result ≡ Ok true → LessWork engine.old engine.new }
     ensures over { result ≡ Ok false → IsFinished engine.new.plan engine.new.state }
     ensures quiet { OnOk result (W.failures writer.new ≡ W.failures writer.old) }
@@ -183,6 +187,7 @@ fn turn<R: Runner, P: Picker, W: LineOut>(
 }
 
 /// Writes the statistics and the recap of a finished run.
+#[tactic(auto, using(crate::proofs::Cutting::part_none, crate::proofs::Cutting::part_as))]
 fn emit_end<W: LineOut>(
     alloc: Global,
     engine: &Engine,
@@ -190,6 +195,7 @@ fn emit_end<W: LineOut>(
     writer: &mut W,
 ) -> Result<(), RunFault>
     ensures took { OnOk result (W.taken writer.new ≡ with_more (W.taken writer.old) (end_lines engine.now.plan recap.now)) }
+    ensures part { OnErr result (IsPart (W.taken writer.old) (W.taken writer.new) (end_lines engine.now.plan recap.now)) }
     ensures quiet { OnOk result (W.failures writer.new ≡ W.failures writer.old) }
     ensures failed { IfErr result (λ e. e ≡ RunFault.Write → W.failures writer.new ≡ one_more (W.failures writer.old)) }
 {
@@ -214,6 +220,7 @@ fn turn_all<R: Runner, P: Picker, W: LineOut>(
     ensures same { IsSame engine.old engine.new }
     ensures begun { HasBegun R.allows (R.gives runner.old) engine.new }
     ensures keeps { OnOk result (Keeps engine.old engine.new (W.taken writer.old) (W.taken writer.new)) }
+    ensures breaks { OnErr result (Breaks engine.old engine.new (W.taken writer.old) (W.taken writer.new)) }
     ensures over { OnOk result (IsFinished engine.new.plan engine.new.state) }
     ensures quiet { OnOk result (W.failures writer.new ≡ W.failures writer.old) }
     ensures failed { IfErr result (λ e. e ≡ RunFault.Write → W.failures writer.new ≡ one_more (W.failures writer.old)) }
@@ -242,6 +249,7 @@ fn run_engine<R: Runner, P: Picker, W: LineOut>(
     ensures recap { IfOk result (λ r. r ≡ recap engine.old.plan engine.old.pool engine.new.trail) }
     ensures same { IsSame engine.old engine.new }
     ensures begun { HasBegun R.allows (R.gives runner.old) engine.new }
+    ensures cut { OnErr result (IsCut engine.old.plan engine.old.pool engine.new.trail (W.taken writer.old) (W.taken writer.new)) }
     ensures quiet { OnOk result (W.failures writer.new ≡ W.failures writer.old) }
     ensures failed { IfErr result (λ e. e ≡ RunFault.Write → W.failures writer.new ≡ one_more (W.failures writer.old)) }
 {
@@ -258,7 +266,9 @@ fn run_engine<R: Runner, P: Picker, W: LineOut>(
 ///
 /// # Errors
 /// `Memory` where memory was refused, and `Write` where a call of the writer failed, each with the events so far, which are
-/// the beginning of such a run.
+/// the beginning of such a run. What was written is then a beginning of the output of these events, with the lines of all but
+/// the last whole.
+#[tactic(auto, using(crate::proofs::Cutting::cut_none))]
 pub fn run_plain<R: Runner, P: Picker, W: LineOut>(
     alloc: Global,
     plan: Plan,
@@ -269,6 +279,7 @@ pub fn run_plain<R: Runner, P: Picker, W: LineOut>(
     ensures run { IfOk result (λ ended. IsWholeRun R.allows (R.gives runner.old) plan 256 ended.trail.items (W.taken writer.old) (W.taken writer.new)) }
     ensures told { IfOk result (λ ended. IsTold plan 256 ended.trail.items ended.recap ended.status) }
     ensures begun { IfErr result (λ e. IsBegun R.allows (R.gives runner.old) plan 256 e.1.items) }
+    ensures cut { IfErr result (λ e. IsCut plan 256 e.1.items (W.taken writer.old) (W.taken writer.new)) }
     ensures quiet { OnOk result (W.failures writer.new ≡ W.failures writer.old) }
     ensures write { IfErr result (λ e. e.0 ≡ RunFault.Write → W.failures writer.new ≡ one_more (W.failures writer.old)) }
 {
