@@ -5,3 +5,4 @@ pub mod Listing
 pub mod Rows
 pub mod Played
 pub mod Warned
+pub mod Done

@@ -1,9 +1,10 @@
 //! The program, but for its words' and its streams' making.
 
-ghost use Rattle.std.specs.Prelude.{◌≡◌, ◌≢◌, ◌++◌, IfOk, IfErr, Ok, Err, string_bytes};
+ghost use Rattle.std.specs.Prelude.{◌≡◌, ◌≢◌, ◌⊎◌, ◌≤◌, ◌+◌, ◌++◌, IfOk, IfErr, IfSome, Ok, Err, is_some, length, map, string_bytes};
 ghost use Rattle.pb_state.specs.Plan.{PlanOf};
 ghost use Rattle.pb_state.specs.Bundle.{IsPlanOf, IsBundleFault};
 ghost use Rattle.pb_driver.specs.Taken.{with_more};
+ghost use Rattle.pb_cli.specs.Done.{IsBundleOf, is_too_long, IsUntold, IsShown, IsDone, IsHelped, IsAnswered};
 ghost use Rattle.pb_cli.specs.Listing.{listing};
 ghost use Rattle.pb_cli.specs.Played.{outcomes_of, IsPlayed, IsGiven};
 ghost use Rattle.pb_cli.specs.Warned.{ended, warning_text, IsWarned};
@@ -134,8 +135,9 @@ fn push_line(text: &mut String, line: &Text) -> Result<(), AllocError>
 /// hosts are listed, or nothing but `ok` is written. Warnings of the plan are written before that, on a writer of their own.
 ///
 /// # Errors
-/// `Bundle` with the bundle's first fault, where it has no plan, else `Outcomes` with the first fault of the outcomes, where it
-/// is run: nothing is written on `out` then. `Run` where memory was refused or the writer failed.
+/// `Bundle` with the bundle's first fault, where it has no plan: nothing is written on `out` then. `Outcomes` with the first fault
+/// of the outcomes, which are looked into only where there is a plan, its warnings are written, and it is to be run: nothing
+/// is written on `out` then. `Run` where memory was refused or the writer failed.
 pub fn play_bundle<O: LineOut, E: LineOut>(
     alloc: Global,
     bundle: &Bundle,
@@ -144,11 +146,9 @@ pub fn play_bundle<O: LineOut, E: LineOut>(
     out: &mut O,
     err: &mut E,
 ) -> Result<u8, PlayFault>
-    ensures answered { IfOk result (λ status. (plan : PlanOf) × IsPlanOf bundle.now plan
-        × IsGiven purpose plan outcomes.now (O.taken out.old) (O.taken out.new) status
-        × IsWarned plan.warnings (E.taken err.old) (E.taken err.new) (E.failures err.old) (E.failures err.new)) }
+    ensures answered { IfOk result (IsShown bundle.now purpose outcomes.now (O.taken out.old) (O.taken out.new) (E.taken err.old) (E.taken err.new) (E.failures err.old) (E.failures err.new)) }
     ensures refused { (e : BundleFault) → result ≡ Err (PlayFault.Bundle e) → (O.taken out.new ≡ O.taken out.old) × (e ≢ BundleFault.Memory → IsBundleFault bundle.now e) }
-    ensures untold { (e : TableFault) → result ≡ Err (PlayFault.Outcomes e) → (O.taken out.new ≡ O.taken out.old) × (e ≢ TableFault.Memory → outcomes_of outcomes.now ≡ Err e) }
+    ensures untold { (e : TableFault) → result ≡ Err (PlayFault.Outcomes e) → IsUntold bundle.now purpose outcomes.now e (O.taken out.old) (O.taken out.new) (E.taken err.old) (E.taken err.new) (E.failures err.old) (E.failures err.new) }
 {
     let plan = match Plan::of(alloc, bundle) {
         Ok(plan) => plan,
@@ -165,13 +165,16 @@ pub fn play_bundle<O: LineOut, E: LineOut>(
 }
 
 /// The program `pb-play`: what its words ask for, with its output on `out` and its faults on `err`. It answers the exit status:
-/// that of the run's recap, 0 where help was asked for, and 1 at a fault.
+/// that of the run's recap, 0 where help was asked for or nothing is run, and 1 at a fault, which is told on `err`.
 pub fn play<R: Files + AllocGlobal, O: LineOut, E: LineOut>(
     rt: &R,
     words: &[String],
     out: &mut O,
     err: &mut E,
-) -> u8 {
+) -> u8
+    ensures done { result ≢ 1 → IsHelped (map string_bytes words.now) (O.taken out.old) (O.taken out.new) result
+        ⊎ IsAnswered (map string_bytes words.now) (O.taken out.old) (O.taken out.new) (E.taken err.old) (E.taken err.new) (E.failures err.old) (E.failures err.new) result }
+{
     let alloc = rt.alloc();
     match read_words(alloc, words) {
         Ok(request) => play_request(rt, request, out, err),
@@ -185,11 +188,23 @@ pub fn play<R: Files + AllocGlobal, O: LineOut, E: LineOut>(
 }
 
 /// What was asked for, with the bytes of the files.
-#[derive(Drop)]
 struct Asked {
     bundle: Bundle,
     outcomes: Option<Items<u8>>,
     purpose: Purpose,
+}
+
+// (by hand: it is then dropped by one call, and not part by part at each exit)
+impl Drop for Asked {
+    fn drop(self) {
+        let Asked {
+            bundle,
+            outcomes,
+            purpose: _,
+        } = self;
+        drop(bundle);
+        drop(outcomes);
+    }
 }
 
 /// Reads the files that were asked for, and plays them.
@@ -198,7 +213,9 @@ fn play_request<R: Files + AllocGlobal, O: LineOut, E: LineOut>(
     request: Request,
     out: &mut O,
     err: &mut E,
-) -> u8 {
+) -> u8
+    ensures done { result ≢ 1 → IsDone request (O.taken out.old) (O.taken out.new) (E.taken err.old) (E.taken err.new) (E.failures err.old) (E.failures err.new) result }
+{
     let alloc = rt.alloc();
     let asked = match read_files(rt, request) {
         Ok(asked) => asked,
@@ -212,14 +229,19 @@ fn play_request<R: Files + AllocGlobal, O: LineOut, E: LineOut>(
             &"the outcomes have more than 64 MiB",
         );
     }
-    match play_bundle(
-        alloc,
-        &asked.bundle,
-        asked.purpose,
-        &asked.outcomes,
-        out,
-        err,
-    ) {
+    play_asked(alloc, &asked, out, err)
+}
+
+/// Plays what was asked for, and tells a fault.
+fn play_asked<O: LineOut, E: LineOut>(alloc: Global, asked: &Asked, out: &mut O, err: &mut E) -> u8
+    ensures done { result ≢ 1 → IsShown asked.now.bundle asked.now.purpose asked.now.outcomes (O.taken out.old) (O.taken out.new) (E.taken err.old) (E.taken err.new) (E.failures err.old) (E.failures err.new) result }
+{
+    let Asked {
+        bundle,
+        outcomes,
+        purpose,
+    } = asked;
+    match play_bundle(alloc, bundle, *purpose, outcomes, out, err) {
         Ok(status) => status,
         Err(PlayFault::Run(fault)) => told(alloc, err, Part::Run, &fault),
         Err(PlayFault::Outcomes(fault)) => told(alloc, err, Part::Outcomes, &fault),
@@ -228,7 +250,11 @@ fn play_request<R: Files + AllocGlobal, O: LineOut, E: LineOut>(
 }
 
 /// The files' bytes: of each as many as the bundle has room for, and one more where there are more.
-fn read_files<R: Files + AllocGlobal>(rt: &R, request: Request) -> io::Result<Asked> {
+fn read_files<R: Files + AllocGlobal>(rt: &R, request: Request) -> io::Result<Asked>
+    ensures bundle { IfOk result (λ asked. IsBundleOf request asked.bundle) }
+    ensures outcomes { IfOk result (λ asked. is_some asked.outcomes ≡ is_some request.outcomes) }
+    ensures purpose { IfOk result (λ asked. asked.purpose ≡ request.purpose) }
+{
     let Request {
         inventory,
         playbook,
@@ -260,7 +286,10 @@ fn read_files<R: Files + AllocGlobal>(rt: &R, request: Request) -> io::Result<As
 fn read_outcomes<R: Files + AllocGlobal>(
     rt: &R,
     path: &Option<Text>,
-) -> io::Result<Option<Items<u8>>> {
+) -> io::Result<Option<Items<u8>>>
+    ensures named { IfOk result (λ bytes. is_some bytes ≡ is_some path.now) }
+    ensures bound { IfOk result (λ bytes. IfSome bytes (λ bytes. length bytes ≤ 67108864 + 1)) }
+{
     match path {
         Some(path) => {
             let bytes = read_file(rt, path.as_str(), MAX_OUTCOMES)?;
@@ -271,7 +300,9 @@ fn read_outcomes<R: Files + AllocGlobal>(
 }
 
 /// Whether a file of outcomes has more than 64 MiB.
-fn is_too_long(outcomes: &Option<Items<u8>>) -> bool {
+fn is_too_long(outcomes: &Option<Items<u8>>) -> bool
+    ensures { result ≡ is_too_long outcomes.now }
+{
     match outcomes {
         Some(bytes) => bytes.len() > MAX_OUTCOMES,
         None => false,

@@ -1,0 +1,61 @@
+-- What the program has done where its status isn't that of a fault.
+use Rattle.std.specs.Prelude.{◌≡◌, ◌≢◌, ◌⊎◌, ◌≤◌, ◌+◌, ◌-◌, ℕ, Bool, false, List, Option, Some, None, Err, is_some, length, nat_lt}
+use Rattle.clap.specs.Words.{Text}
+use Rattle.pb_runner.specs.declared.fault.TableFault.{TableFault}
+use Rattle.pb_runner.specs.declared.fault.TableFault.TheVariants.{Memory}
+use Rattle.pb_state.specs.declared.bundle.Bundle.{Bundle}
+use Rattle.pb_state.specs.Plan.{PlanOf}
+use Rattle.pb_state.specs.Bundle.{IsPlanOf, max_bytes}
+use Rattle.pb_driver.specs.Taken.{with_more}
+use Rattle.pb_cli.specs.declared.words.Request.{Request}
+use Rattle.pb_cli.specs.declared.words.Purpose.{Purpose}
+use Rattle.pb_cli.specs.declared.words.Purpose.TheVariants.{Run}
+use Rattle.pb_cli.specs.declared.words.WordsFault.TheVariants.{Help}
+use Rattle.pb_cli.specs.CommandLine.{Asks, IsRefused}
+use Rattle.pb_cli.specs.Played.{outcomes_of, IsGiven}
+use Rattle.pb_cli.specs.Warned.{IsWarned}
+
+-- the bundle of a request: its forks, limit and extra variables, and of each file's bytes no more than there is room for, and one byte that tells that there are more
+pub record IsBundleOf (request : Request) (bundle : Bundle) : Type 0 where
+  pub forks : bundle.forks ≡ request.forks
+  pub limit : bundle.limit ≡ request.limit
+  pub extra : bundle.extra ≡ request.extra
+  pub inventory : length bundle.inventory ≤ max_bytes + 1
+  pub playbook : length bundle.playbook ≤ max_bytes - length bundle.inventory + 1
+
+-- a file of outcomes has at most 64 MiB
+abbrev pub is_too_long : Option (List ℕ) → Bool
+is_too_long None = false
+is_too_long (Some bytes) = nat_lt 67108864 (length bytes)
+
+-- the outcomes of a file aren't looked into before a plan stands, its warnings are written, and it is to be run; and standard output is as it was
+pub record IsUntold (bundle : Bundle) (purpose : Purpose) (outcomes : Option (List ℕ)) (e : TableFault) (out_before out_after err_before err_after : Option (List ℕ)) (failures failures_after : ℕ) : Type 0 where
+  pub plan : PlanOf
+  pub planned : IsPlanOf bundle plan
+  pub runs : purpose ≡ Run
+  pub warned : IsWarned plan.warnings err_before err_after failures failures_after
+  pub unwritten : out_after ≡ out_before
+  pub fault : e ≢ Memory → outcomes_of outcomes ≡ Err e
+
+-- a bundle has a plan, its warnings were written, and it was run, checked or listed
+abbrev pub IsShown : Bundle → Purpose → Option (List ℕ) → Option (List ℕ) → Option (List ℕ) → Option (List ℕ) → Option (List ℕ) → ℕ → ℕ → ℕ → Type 0
+IsShown bundle purpose outcomes out_before out_after err_before err_after failures failures_after status =
+    (plan : PlanOf) × IsPlanOf bundle plan × IsGiven purpose plan outcomes out_before out_after status × IsWarned plan.warnings err_before err_after failures failures_after
+
+-- what a request asks for was done, with a bundle of it, and with outcomes where it names a file of them
+pub record IsDone (request : Request) (out_before out_after err_before err_after : Option (List ℕ)) (failures failures_after : ℕ) (status : ℕ) : Type 0 where
+  pub bundle : Bundle
+  pub outcomes : Option (List ℕ)
+  pub asked : IsBundleOf request bundle
+  pub named : is_some outcomes ≡ is_some request.outcomes
+  pub short : is_too_long outcomes ≡ false
+  pub shown : IsShown bundle request.purpose outcomes out_before out_after err_before err_after failures failures_after status
+
+-- help was asked for and written
+abbrev pub IsHelped : List Text → Option (List ℕ) → Option (List ℕ) → ℕ → Type 0
+IsHelped words before after status = (text : List ℕ) × IsRefused words (Help text) × (after ≡ with_more before text) × (status ≡ 0)
+
+-- the words ask for a play, and it was done
+abbrev pub IsAnswered : List Text → Option (List ℕ) → Option (List ℕ) → Option (List ℕ) → Option (List ℕ) → ℕ → ℕ → ℕ → Type 0
+IsAnswered words out_before out_after err_before err_after failures failures_after status =
+    (request : Request) × Asks words request × IsDone request out_before out_after err_before err_after failures failures_after status
