@@ -1,5 +1,10 @@
-//! Tests alone: the limits of expressions and templates, on their public calls.
+//! Tests alone: the limits of expressions by the fault that each gives, and texts too long for a case, on public calls.
+//! What a run shows is said by the cases of pb_cases.
 #![tactic(auto)]
 
 #[cfg(test)]
-mod limits;
+mod parsed;
+#[cfg(test)]
+mod repeated;
+#[cfg(test)]
+mod texts;
