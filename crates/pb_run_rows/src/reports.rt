@@ -1,0 +1,83 @@
+//! Reports that are refused and handed back.
+
+use crate::trails::plan_of;
+use pb_engine::{Engine, Lowest, Next, Refusal};
+use pb_ids::{HostNo, Ticket};
+use pb_outcome::job::Report;
+use pb_outcome::outcome::Outcome;
+use pb_value::text::Text;
+use std::alloc::Global;
+use std::test::Fail;
+
+const COMMAND: &str =
+    "[{\"hosts\":\"all\",\"gather_facts\":false,\"tasks\":[{\"command\":\"run it\"}]}]";
+
+/// An engine over two hosts with a command, under one fork.
+fn engine_of(alloc: Global) -> Result<Engine, Fail> {
+    let plan = plan_of(alloc, COMMAND, 1)?;
+    match Engine::new(alloc, plan, 256) {
+        Ok(engine) => Ok(engine),
+        Err(_) => Err(Fail::new("an engine")),
+    }
+}
+
+/// Goes one event on. The job that went out by it, if one did: its ticket, and whether it is of host a.
+fn sent(engine: &mut Engine) -> Option<(Ticket, bool)> {
+    match engine.next(&mut Lowest) {
+        Ok(Next::Sent(job)) => Some((job.ticket, job.name.as_str() == "a")),
+        _ => None,
+    }
+}
+
+fn report_of(alloc: Global, ticket: u64, host: u32, item: u32) -> Result<Report, Fail> {
+    match Outcome::ran(0, Text::new(alloc), Text::new(alloc)) {
+        Ok(outcome) => Ok(Report {
+            ticket: Ticket(ticket),
+            host: HostNo(host),
+            item,
+            outcome,
+        }),
+        Err(_) => Err(Fail::new("an outcome")),
+    }
+}
+
+/// Gives the engine a report. Whether it is refused so and handed back with nothing changed, or taken as one event.
+fn is_answered(engine: &mut Engine, ticket: u64, report: Report, want: Option<Refusal>) -> bool {
+    let before = engine.trail().len();
+    match engine.absorb(report) {
+        Ok(()) => want.is_none() && engine.trail().len() == before.wrapping_add(1),
+        Err((back, refusal)) => {
+            Some(refusal) == want && back.ticket == Ticket(ticket) && engine.trail().len() == before
+        }
+    }
+}
+
+#[test]
+fn reports_that_are_refused(rt: HostRuntime) -> Result<(), Fail> {
+    let alloc = rt.alloc();
+    let mut engine = engine_of(alloc)?;
+    let mut jobs = 0u32;
+    for _ in 0..10 {
+        if let Some((ticket, is_of_a)) = sent(&mut engine) {
+            assert!(rt; ticket == Ticket(0) && is_of_a);
+            jobs = jobs.wrapping_add(1);
+        }
+    }
+    assert_eq!(rt; jobs, 1);
+    let cases = [
+        (9, 0, 0, Some(Refusal::UnknownTicket)),
+        (0, 0, 1, Some(Refusal::WrongItem)),
+        (0, 1, 0, Some(Refusal::WrongItem)),
+        (0, 0, 0, None),
+        (0, 0, 0, Some(Refusal::AlreadyReported)),
+        (1, 1, 0, Some(Refusal::UnknownTicket)),
+    ];
+    for (ticket, host, item, want) in &cases {
+        let report = report_of(alloc, *ticket, *host, *item)?;
+        assert!(rt;
+            is_answered(&mut engine, *ticket, report, *want),
+            "{ticket} {host} {item}"
+        );
+    }
+    Ok(())
+}
