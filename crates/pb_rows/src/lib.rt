@@ -1,16 +1,8 @@
-//! Tests alone: worked examples over the program's call `play` and the public calls below it, and what no contract says:
-//! printed bytes, files that can't be read, a writer that fails, the largest bundles.
+//! Tests alone, of plays of the program that no case shows: writers that fail or take little, files of outcomes that are cut at
+//! each byte.
 #![tactic(auto)]
 
 #[cfg(test)]
-mod jobs;
+mod cut;
 #[cfg(test)]
-mod kept;
-#[cfg(test)]
-mod limits;
-#[cfg(test)]
-mod patterns;
-#[cfg(test)]
-mod rows;
-#[cfg(test)]
-mod variables;
+mod writers;
