@@ -258,7 +258,7 @@ none_first (suc n) zero Rescued = refl
 none_first (suc n) zero Ignored = refl
 none_first (suc n) (suc k) kind = none_first n k kind
 
-seven : (counts : Counts) (a b c d e f g : ℕ) → counts.ok ≡ a → counts.changed ≡ b → counts.unreachable ≡ c → counts.failed ≡ d → counts.skipped ≡ e → counts.rescued ≡ f → counts.ignored ≡ g
+pub seven : (counts : Counts) (a b c d e f g : ℕ) → counts.ok ≡ a → counts.changed ≡ b → counts.unreachable ≡ c → counts.failed ≡ d → counts.skipped ≡ e → counts.rescued ≡ f → counts.ignored ≡ g
     → counts ≡ record { ok = a; changed = b; unreachable = c; failed = d; skipped = e; rescued = f; ignored = g }
 seven counts a b c d e f g p q r s t u v = rw (← p, ← q, ← r, ← s, ← t, ← u, ← v) refl
 

@@ -3,3 +3,4 @@ pub mod NoFloat
 pub mod Formed
 pub mod Counted
 pub mod Finishing
+pub mod Recounted

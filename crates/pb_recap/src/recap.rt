@@ -1,9 +1,10 @@
 //! The recap itself.
 
-ghost use Rattle.std.specs.Prelude.{◌≡◌, ◌<◌, ℕ, List, length, map, replicate, slice_get, sum_by, IfOk, IfSome, string_bytes};
+ghost use Rattle.std.specs.Prelude.{◌≡◌, ◌<◌, ◌++◌, ◌∷◌, [], ℕ, List, length, map, replicate, slice_get, sum_by, IfOk, IfSome, string_bytes};
 ghost use Rattle.pb_state.specs.Plan.{PlanOf};
 ghost use Rattle.pb_state.specs.Row.{HostRow, none_counted};
-ghost use Rattle.pb_state.specs.Run.{IsRun};
+ghost use Rattle.pb_state.specs.Run.{IsRun, IsStep};
+ghost use Rattle.pb_state.specs.State.{State};
 ghost use Rattle.pb_state.specs.declared.event.Event.{Event};
 ghost use Rattle.pb_recap.specs.Kinds.{count_of, count_at, has, status_of};
 ghost use Rattle.std.specs.List.{list_any};
@@ -48,9 +49,11 @@ impl Recap {
         })
     }
 
-    /// No counts: no host has finished a task.
+    /// No counts: no host has finished a task. It is the recap of a run before its first event.
+    #[tactic(auto, using(crate::proofs::Recounted::new_is_recap))]
     pub fn new(alloc: Global, plan: &Plan) -> Result<Recap, AllocError>
-        ensures { IfOk result (λ r. r ≡ replicate (length plan.now.hosts) none_counted) }
+        ensures none { IfOk result (λ r. r ≡ replicate (length plan.now.hosts) none_counted) }
+        ensures scratch { IfOk result (λ r. (pool : ℕ) → r ≡ recap plan.now pool []) }
     {
         let none = Counts {
             ok: 0,
@@ -66,10 +69,13 @@ impl Recap {
         })
     }
 
-    /// Counts the task that an event finished, by the state after the event. Limit: each count is below 2^64 - 1.
+    /// Counts the task that an event finished, by the state after the event. Counting the events of a run one after
+    /// another gives the recap of the run. Limit: each count is below 2^64 - 1.
     pub fn count(&mut self, plan: &Plan, state: &EngineState, event: &Event)
         requires { (h : ℕ) → IfSome (slice_get self.old h) HasRoom }
-        ensures { self.new ≡ with_finished (finished_in state.now event.now) self.old }
+        ensures finished { self.new ≡ with_finished (finished_in state.now event.now) self.old }
+        ensures scratch { (pool : ℕ) (trail : List Event) (before : State) → IsRun plan.now pool trail before → IsStep plan.now before event.now state.now
+            → self.old ≡ recap plan.now pool trail → self.new ≡ recap plan.now pool (trail ++ event.now ∷ []) }
     {
         let _plan = plan;
         count_event(self.counts.as_mut_slice(), state, event);
