@@ -3,32 +3,33 @@
 use Rattle.std.specs.Prelude.{ℕ, List, [], Result, Ok, Err, Option, Some, None, if◌then◌else◌}
 use Rattle.serde_json.specs.Data as json
 use Rattle.pb_value.specs.Bytes.{json_in}
-use Rattle.pb_value.specs.Datum.{Datum, put}
+use Rattle.pb_reading.specs.Reading.{Reading, Own, wrong, each_named_of}
+use Rattle.pb_reading.specs.Reading.{WrongShape as Wrong}
+use Rattle.pb_value.specs.Datum.{Datum}
 use Rattle.pb_value.specs.FromJson.{value_of}
-use Rattle.pb_value.specs.Reading.{and_then}
 use Rattle.pb_value.specs.Words.{is_name}
 use Rattle.pb_value.specs.declared.fault.ValFault.{ValFault}
 use Rattle.pb_variables.specs.declared.fault.ExtraFault.{ExtraFault}
 use Rattle.pb_variables.specs.declared.fault.ExtraFault.TheVariants.{NotJson, WrongShape}
 
--- a value that is refused is a fault under its key
-abbrev pub under_key : List ℕ → Result Datum ValFault → Result Datum ExtraFault
-under_key key (Ok v) = Ok v
-under_key key (Err e) = Err (WrongShape key)
+-- a value that is refused is a wrong shape
+abbrev pub found_value : List ℕ → Result Datum ValFault → Reading Datum ExtraFault
+found_value path (Ok v) = Ok v
+found_value path (Err e) = wrong path
 
--- the value under a key, which is the name of a variable; its texts stay as they are
-abbrev pub value_under : List ℕ → json.Data → Result Datum ExtraFault
-value_under key d = if is_name key then under_key key (value_of d) else Err (WrongShape key)
+-- a variable of the file, where its key is its path: that has to be a name; the value's texts stay as they are
+abbrev pub variable : List ℕ → json.Data → Reading Datum ExtraFault
+variable path d = if is_name path then found_value path (value_of d) else wrong path
 
--- the members one after another, and the variables that are known before them
-abbrev pub variables : json.Members → List (List ℕ × Datum) → Result (List (List ℕ × Datum)) ExtraFault
-variables json.no_members known = Ok known
-variables (json.member k d ms) known = and_then (value_under k d) (λ v. variables ms (put k v known))
+-- the fault of the file for that of a reading
+abbrev pub of_reading : Reading (List (List ℕ × Datum)) ExtraFault → Result (List (List ℕ × Datum)) ExtraFault
+of_reading (Ok extra) = Ok extra
+of_reading (Err (Wrong path)) = Err (WrongShape path)
+of_reading (Err (Own e)) = Err e
 
 -- the file is an object
 abbrev pub variables_in : json.Data → Result (List (List ℕ × Datum)) ExtraFault
-variables_in (json.object ms) = variables ms []
-variables_in d = Err (WrongShape [])
+variables_in d = of_reading (each_named_of variable [] d)
 
 abbrev pub of_json : Option json.Data → Result (List (List ℕ × Datum)) ExtraFault
 of_json None = Err NotJson

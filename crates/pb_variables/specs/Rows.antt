@@ -27,6 +27,16 @@ pub no_value : variables_in (json.object (json.member (codes "x") (json.number (
 unfolding value_of
 no_value = refl
 
+-- {"a":null,"b1":[{}],"y z":1}: all keys at once, of which the last is no name
+pub last_fault : variables_in (json.object (json.member (codes "a") json.null (json.member (codes "b1") (json.array (json.item (json.object json.no_members) json.no_items)) (json.member (codes "y z") (json.number (json.unsigned 1)) json.no_members))))
+    ≡ Err (WrongShape (codes "y z"))
+unfolding value_of
+last_fault = refl
+
+-- {"":1}: the empty key stands at the empty path
+pub empty_key : variables_in (json.object (json.member [] (json.number (json.unsigned 1)) json.no_members)) ≡ Err (WrongShape [])
+empty_key = refl
+
 -- []
 pub no_object : variables_in (json.array json.no_items) ≡ Err (WrongShape [])
 no_object = refl

@@ -1,8 +1,11 @@
 ghost use Rattle.std.specs.Prelude.{◌≡◌, ◌≢◌, IfOk, IfErr, Ok, Err};
 ghost use Rattle.serde_json.specs.View.{view};
-ghost use Rattle.pb_variables.specs.Extra.{value_under, variables_in, extra_of};
+ghost use Rattle.pb_variables.specs.Extra.{variable, variables_in, extra_of};
 
-use crate::fault::{ExtraFault, wrong_shape};
+use crate::fault::ExtraFault;
+use pb_reading::list::EachNamed;
+use pb_reading::reads::Reads;
+use pb_reading::stop::{Stop, wrong};
 use pb_value::fault::ValFault;
 use pb_value::read_json::{JsonFault, read_json};
 use pb_value::text::Text;
@@ -31,32 +34,30 @@ fn read_variables(alloc: Global, json: &Value) -> Result<Dict, ExtraFault>
     ensures value { IfOk result (λ extra. variables_in (view json.now) ≡ Ok extra) }
     ensures fault { IfErr result (λ e. e ≢ ExtraFault.Memory → variables_in (view json.now) ≡ Err e) }
 {
-    match json {
-        Value::Object(members) => {
-            let mut known = Dict::new(alloc);
-            for (key, member) in members.iter() {
-                let value = read_value(alloc, key.as_str(), member)?;
-                known.insert(key.clone()?, value)?;
-            }
-            Ok(known)
-        }
-        _ => Err(ExtraFault::WrongShape {
-            path: Text::new(alloc),
-        }),
+    match EachNamed::<Variable>::read(alloc, &Text::new(alloc), json) {
+        Ok(extra) => Ok(extra),
+        Err(Stop::Memory) => Err(ExtraFault::Memory),
+        Err(Stop::WrongShape { path }) => Err(ExtraFault::WrongShape { path }),
+        Err(Stop::Fault(fault)) => Err(fault),
     }
 }
 
-/// The value under a key, which has to be a name.
-fn read_value(alloc: Global, key: &str, json: &Value) -> Result<Val, ExtraFault>
-    ensures value { IfOk result (λ v. value_under key.now (view json.now) ≡ Ok v) }
-    ensures fault { IfErr result (λ e. e ≢ ExtraFault.Memory → value_under key.now (view json.now) ≡ Err e) }
-{
-    if !is_name(key) {
-        return Err(wrong_shape(alloc, key));
-    }
-    match Val::from_json(alloc, json) {
-        Ok(value) => Ok(value),
-        Err(ValFault::Memory) => Err(ExtraFault::Memory),
-        Err(_) => Err(wrong_shape(alloc, key)),
+/// Reads a variable of the whole file, where its key is its path: that has to be a name.
+struct Variable;
+
+impl Reads<ExtraFault> for Variable {
+    type Value = Val;
+
+    ghost reads = { variable };
+
+    fn read(alloc: Global, path: &Text, json: &Value) -> Result<Val, Stop<ExtraFault>> {
+        if !is_name(path.as_str()) {
+            return wrong(path);
+        }
+        match Val::from_json(alloc, json) {
+            Ok(value) => Ok(value),
+            Err(ValFault::Memory) => Err(Stop::Memory),
+            Err(_) => wrong(path),
+        }
     }
 }

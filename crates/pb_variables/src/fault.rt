@@ -1,8 +1,8 @@
 ghost use Rattle.pb_variables.specs.declared.fault.ExtraFault.TheVariants.{Memory};
-ghost use Rattle.std.specs.Prelude.{◌≡◌, ◌≢◌};
+ghost use Rattle.std.specs.Prelude.{◌≡◌};
 
 use pb_value::text::Text;
-use std::alloc::{AllocError, AllocFailed, Global};
+use std::alloc::{AllocError, AllocFailed};
 use thiserror::Error;
 
 /// Why bytes are no extra variables.
@@ -33,15 +33,5 @@ impl<T: Drop> From<AllocFailed<T>> for ExtraFault {
 
     fn from(_e: AllocFailed<T>) -> ExtraFault {
         ExtraFault::Memory
-    }
-}
-
-/// The fault of a wrong shape under the key.
-pub(crate) fn wrong_shape(alloc: Global, key: &str) -> ExtraFault
-    ensures { result ≢ ExtraFault.Memory → result ≡ ExtraFault.WrongShape key.now }
-{
-    match Text::from_str(alloc, key) {
-        Ok(path) => ExtraFault::WrongShape { path },
-        Err(_) => ExtraFault::Memory,
     }
 }
