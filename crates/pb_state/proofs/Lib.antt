@@ -1,6 +1,7 @@
 pub mod Least
 pub mod Opening
 pub mod Oldest
+pub mod OldestOut
 pub mod Good
 pub mod Steps
 pub mod WorkFalls

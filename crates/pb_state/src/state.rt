@@ -547,8 +547,9 @@ impl EngineState {
 }
 
 impl EngineState {
-    ghost use Rattle.pb_state.specs.Machine.{ready, open_play, has_room, is_out, has_ticket};
+    ghost use Rattle.pb_state.specs.Machine.{ready, open_play, has_room, is_out, has_ticket, at_row};
     ghost use Rattle.pb_state.specs.Jobs.{job_of};
+    ghost use Rattle.pb_ids.specs.declared.numbers.Ticket.{Ticket};
     ghost use Rattle.pb_state.specs.Oldest.{oldest_out};
 
     /// How many hosts there are.
@@ -599,7 +600,12 @@ impl EngineState {
 
     /// Of the jobs that are out the one that was sent first: its host and its ticket.
     pub fn oldest_out(&self) -> Option<(HostNo, Ticket)>
-        ensures { result ≡ oldest_out self.now.rows }
+        ensures value { result ≡ oldest_out self.now.rows }
+
+        // That host's job is out under that ticket, and none is out under a less one.
+        ensures out { IfSome result (λ p. at_row (has_ticket p.1) self.now.rows p.0.0 ≡ true) }
+        ensures least { IfSome result (λ p. (ticket : Ticket) → list_any (has_ticket ticket) self.now.rows ≡ true → p.1.0 ≤ ticket.0) }
+        ensures none { IfNone result (list_any is_out self.now.rows ≡ false) }
     {
         oldest_out(&self.rows)
     }
