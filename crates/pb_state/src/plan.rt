@@ -18,7 +18,6 @@ use std::marker::Model;
 
 /// A play: its name, its tree, the task at each place of the tree, in the order of places, the hosts that are its own, its variables, and
 /// those that the play gives by itself.
-#[derive(Drop)]
 pub struct PlanPlay {
     name: Text,
     tree: PlayTree,
@@ -26,6 +25,25 @@ pub struct PlanPlay {
     hosts: HostSet,
     vars: Dict,
     magic: Dict,
+}
+
+impl Drop for PlanPlay {
+    fn drop(self) {
+        let PlanPlay {
+            name,
+            tree,
+            tasks,
+            hosts,
+            vars,
+            magic,
+        } = self;
+        drop(name);
+        drop(tree);
+        drop(tasks);
+        drop(hosts);
+        drop(vars);
+        drop(magic);
+    }
 }
 
 impl Model for PlanPlay {
@@ -120,7 +138,6 @@ impl PlanPlay {
 
 /// The inventory, the plays in order, how many hosts may run at once, lines that tell what was odd in the bundle, the extra variables, and
 /// those that the plan gives by itself.
-#[derive(Drop)]
 pub struct Plan {
     inventory: Inventory,
     plays: Items<PlanPlay>,
@@ -128,6 +145,24 @@ pub struct Plan {
     warnings: Items<Text>,
     extra: Dict,
     magic: Dict,
+}
+
+impl Drop for Plan {
+    fn drop(self) {
+        let Plan {
+            inventory,
+            plays,
+            forks: _,
+            warnings,
+            extra,
+            magic,
+        } = self;
+        drop(inventory);
+        drop(plays);
+        drop(warnings);
+        drop(extra);
+        drop(magic);
+    }
 }
 
 impl Model for Plan {
