@@ -1,14 +1,14 @@
 -- Worked examples: each is proved by computing both sides.
-use Rattle.std.specs.Prelude.{◌≡◌, pos, Float, true, false, [], Ok, Err, Some, None, codes, refl}
+use Rattle.std.specs.Prelude.{◌≡◌, ℕ, zero, suc, pos, Float, true, false, [], Ok, Err, Some, None, codes, refl}
 use Rattle.serde_json.specs.Data as json
-use Rattle.pb_value.specs.Datum.{null, boolean, int, text, list, no_items, item}
+use Rattle.pb_value.specs.Datum.{Datum, null, boolean, int, text, list, no_items, item}
 use Rattle.pb_value.specs.Depth.{depth}
 use Rattle.pb_value.specs.FromJson.{value_of}
 use Rattle.pb_value.specs.Reading.{below}
 use Rattle.pb_value.specs.ToJson.{text_of}
 use Rattle.pb_value.specs.Truth.{truthy}
 use Rattle.pb_value.specs.Words.{is_name, switch_of}
-use Rattle.pb_value.specs.declared.fault.ValFault.TheVariants.{NotWhole, OutOfRange}
+use Rattle.pb_value.specs.declared.fault.ValFault.TheVariants.{NotWhole, OutOfRange, TooDeep}
 
 zero_is_false : truthy (int (pos 0)) ≡ false
 zero_is_false = refl
@@ -64,3 +64,20 @@ number_above = refl
 no_float : (f : Float) → value_of (json.number (json.float f)) ≡ Err NotWhole
 unfolding value_of
 no_float f = refl
+
+-- so many lists in one another
+abbrev nested : ℕ → json.Data
+nested zero = json.null
+nested (suc n) = json.array (json.item (nested n) json.no_items)
+
+abbrev lists : ℕ → Datum
+lists zero = null
+lists (suc n) = list (item (lists n) no_items)
+
+deepest : value_of (nested 64) ≡ Ok (lists 64)
+unfolding value_of
+deepest = refl
+
+one_too_deep : value_of (nested 65) ≡ Err TooDeep
+unfolding value_of
+one_too_deep = refl
