@@ -1,5 +1,5 @@
 -- What a parse by a command that reads as the program's says of the words.
-use Rattle.std.proofs.Common.{◌≡◌, ◌∙◌, List, [], Some, true, refl, sym, ap, subst, inl, inr}
+use Rattle.std.proofs.Common.{◌≡◌, ◌∙◌, List, [], Some, None, true, refl, sym, ap, subst, inl, inr}
 use Rattle.std.specs.Prelude.{Option, codes}
 use Rattle.clap.specs.Words.{App, HasKind, HasMatchesOf, IsAmong, Text, fault_of, first_of, first_value, found_of, is_simple, is_simple_and_free, kind_of}
 use Rattle.clap.specs.declared.error.Error.{Error}
@@ -9,7 +9,7 @@ use Rattle.clap.proofs.WalkLemmas.{first_value-rows}
 use Rattle.pb_cli.specs.CommandLine.{program, value_in, errors_in, is_true, purpose_of, purpose_in, NoForks, IsBadForks, IsRefused, TellsKind}
 use Rattle.pb_cli.specs.declared.words.Purpose.{Purpose}
 use Rattle.pb_cli.specs.declared.words.WordsFault.{WordsFault}
-use Rattle.pb_cli.specs.declared.words.WordsFault.TheVariants.{Help, Wrong, Memory}
+use Rattle.pb_cli.specs.declared.words.WordsFault.TheVariants.{Help, Wrong, Missing, Memory}
 
 program_simple : is_simple program ≡ true
 unfolding clap_on_literals
@@ -41,6 +41,7 @@ purpose_read app m words p is has e =
 bad_forks : (words : List Text) (w : WordsFault) → IsBadForks w → NoForks (value_in (codes "forks") words) → IsRefused words w
 bad_forks words (Help text) bad none = absurd bad
 bad_forks words (Wrong text) bad none = inr none
+bad_forks words Missing bad none = absurd bad
 bad_forks words Memory bad none = tt
 
 pub forks_refused : (app : App) (m : ArgMatches) (words : List Text) (found : Option Text) (w : WordsFault) → app ≡ program → HasMatchesOf app words m → found ≡ first_value (found_of m) (codes "forks")
@@ -56,6 +57,7 @@ refused words e (Help text) (inl memory) tells = cc
 refused words e (Help text) (inr among) tells = subst (λ k. IsAmong k (errors_in words)) tells among
 refused words e (Wrong text) (inl memory) tells = absurd (tells.1 memory)
 refused words e (Wrong text) (inr among) tells = inl (kind_of e, among, tells.0)
+refused words e Missing has tells = absurd tells
 refused words e Memory has tells = tt
 
 pub error_met : (app : App) (words : List Text) (e : Error) (w : WordsFault) → app ≡ program → (is_simple_and_free app ≡ true → HasKind (fault_of app words) e)
@@ -63,3 +65,10 @@ pub error_met : (app : App) (words : List Text) (e : Error) (w : WordsFault) →
 unfolding errors_in
 error_met app words e w is has tells =
     refused words e w (subst (λ (a : App). is_simple_and_free a ≡ true → HasKind (fault_of a words) e) is has program_free) tells
+
+-- a file that the words don't name
+pub inventory_missing : (app : App) (m : ArgMatches) (words : List Text) → app ≡ program → HasMatchesOf app words m → None ≡ first_value (found_of m) (codes "inventory") → IsRefused words Missing
+inventory_missing app m words is has none = inl (found_read app m words (codes "inventory") None is has none)
+
+pub playbook_missing : (app : App) (m : ArgMatches) (words : List Text) → app ≡ program → HasMatchesOf app words m → None ≡ first_value (found_of m) (codes "playbook") → IsRefused words Missing
+playbook_missing app m words is has none = inr (found_read app m words (codes "playbook") None is has none)

@@ -12,7 +12,7 @@ use Rattle.pb_cli.specs.declared.words.Request.{Request}
 use Rattle.pb_cli.specs.declared.words.Purpose.{Purpose}
 use Rattle.pb_cli.specs.declared.words.Purpose.TheVariants.{Run, CheckSyntax, ListHosts}
 use Rattle.pb_cli.specs.declared.words.WordsFault.{WordsFault}
-use Rattle.pb_cli.specs.declared.words.WordsFault.TheVariants.{Help, Wrong, Memory}
+use Rattle.pb_cli.specs.declared.words.WordsFault.TheVariants.{Help, Wrong, Missing, Memory}
 
 -- `-i FILE`, the inventory; 105 is `i`
 abbrev pub inventory : Rule
@@ -100,6 +100,7 @@ NoForks (Some text) = IsNoCount text
 abbrev pub IsBadForks : WordsFault → Type 0
 IsBadForks (Help text) = ⊥
 IsBadForks (Wrong text) = Unit
+IsBadForks Missing = ⊥
 IsBadForks Memory = Unit
 
 -- the words are the program's, and ask for these files, so many forks, this limit, these extra variables and this purpose
@@ -113,10 +114,12 @@ Asks words request = (errors_in words ≡ [])
 abbrev pub TellsKind : ErrorKind → WordsFault → Type 0
 TellsKind kind (Help text) = kind ≡ DisplayHelp
 TellsKind kind (Wrong text) = (kind ≢ DisplayHelp) × (kind ≢ OutOfMemory)
+TellsKind kind Missing = ⊥
 TellsKind kind Memory = Unit
 
 -- why the words ask for nothing to be played
 abbrev pub IsRefused : List Text → WordsFault → Type 0
 IsRefused words (Help text) = IsAmong DisplayHelp (errors_in words)
 IsRefused words (Wrong text) = ((kind : ErrorKind) × IsAmong kind (errors_in words) × (kind ≢ DisplayHelp)) ⊎ NoForks (value_in (codes "forks") words)
+IsRefused words Missing = (value_in (codes "inventory") words ≡ None) ⊎ (value_in (codes "playbook") words ≡ None)
 IsRefused words Memory = Unit

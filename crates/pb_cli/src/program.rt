@@ -183,6 +183,12 @@ pub fn play<R: Files + AllocGlobal, O: LineOut, E: LineOut>(
             Err(_) => told(alloc, err, Part::Run, &RunFault::Write),
         },
         Err(WordsFault::Wrong { text }) => told(alloc, err, Part::Words, &text),
+        Err(WordsFault::Missing) => told(
+            alloc,
+            err,
+            Part::Words,
+            &"the inventory or the playbook is missing",
+        ),
         Err(WordsFault::Memory) => told(alloc, err, Part::Words, &"out of memory"),
     }
 }

@@ -48,6 +48,8 @@ pub enum WordsFault {
     Help { text: Text },
     /// The words aren't the program's: a text that says why, for standard error, with no line end after it.
     Wrong { text: Text },
+    /// The inventory or the playbook isn't among the words. (clap tells it as `Wrong` before that.)
+    Missing,
     /// Memory was wanting.
     Memory,
 }
@@ -221,11 +223,11 @@ pub fn read_words(alloc: Global, words: &[String]) -> Result<Request, WordsFault
     let command = command(alloc)?;
     match command.try_get_matches_from(words) {
         Ok(matches) => {
-            let (Some(inventory), Some(playbook)) = (
-                matches.get_str("inventory"),
-                matches.get_str("playbook"),
-            ) else {
-                return Err(WordsFault::Memory);
+            let Some(inventory) = matches.get_str("inventory") else {
+                return Err(WordsFault::Missing);
+            };
+            let Some(playbook) = matches.get_str("playbook") else {
+                return Err(WordsFault::Missing);
             };
             let forks = match forks_in(alloc, &matches) {
                 Ok(forks) => forks,
