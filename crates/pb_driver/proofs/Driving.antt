@@ -20,7 +20,7 @@ use Rattle.pb_state.specs.Machine.{possible, after, first_state, is_out, open_pl
 use Rattle.pb_state.specs.Jobs.{job_of, job_in, row_job, placed_job, named_job, job_with}
 use Rattle.pb_state.specs.Oldest.{oldest_out}
 use Rattle.pb_tree.specs.Tree.{path_at}
-use Rattle.pb_state.specs.Run.{IsRun, IsEager, IsQuiet, IsFinished, legal_from, state_from, is_report, is_command}
+use Rattle.pb_state.specs.Run.{IsRun, IsEager, IsQuiet, legal_from, state_from, is_report, is_command}
 use Rattle.pb_state.specs.Once.{IsOnce}
 use Rattle.pb_state.proofs.Once.{nothing_twice}
 use Rattle.pb_engine.specs.EngineOf.{EngineOf, Takes, taken, IsSound, LessWork, engine_of}
@@ -30,14 +30,15 @@ use Rattle.pb_engine.specs.Choice.{NextIs, MovesBy, answer_of}
 use Rattle.pb_engine.specs.declared.engine.Next.{Next}
 use Rattle.pb_engine.specs.declared.engine.Next.TheVariants.{Sent, Moved, Waiting, Finished}
 use Rattle.pb_engine.proofs.Runs.{run_more, legal_more, state_more}
-use Rattle.pb_engine.proofs.Waits.{some_oldest, job_in_run, oldest_in_run}
+use Rattle.pb_state.proofs.OldestOut.{some_oldest}
+use Rattle.pb_engine.proofs.Waits.{job_in_run, oldest_in_run}
 use Rattle.pb_engine.specs.Refusals.{refusal_of}
 use Rattle.pb_engine.specs.declared.refusal.Refusal.{Refusal}
 use Rattle.pb_events.specs.Lines.{lines_of, start_line}
 use Rattle.pb_recap.specs.Recap.{recap}
 use Rattle.pb_driver.specs.Taken.{with_more}
 use Rattle.pb_driver.specs.Output.{lines_from, end_lines}
-use Rattle.pb_driver.specs.Driven.{IsAnswer, IsAnswerAt, IsAnswered, IsUncommanded, TakesOne, HasBegun, IsSame, IsFresh, IsBegun, IsWholeRun, Keeps, last_lines, lines_of_trail}
+use Rattle.pb_driver.specs.Driven.{IsAnswer, IsAnswerAt, IsAnswered, IsUncommanded, TakesOne, HasBegun, IsSame, IsFresh, IsBegun, HasEnded, IsWholeRun, Keeps, last_lines, lines_of_trail}
 use Rattle.pb_driver.proofs.Pieces.{more_more}
 
 -- an event that the machine takes by itself is no report and no command
@@ -95,8 +96,8 @@ less_sent picks old_picker new_picker old new job m = m.1.work
 pub less_next : {P : Type 0} (picks : P → List Bool → ℕ → P → Type 0) (old_picker new_picker : P) (old new : EngineOf) → NextIs picks old_picker new_picker old new Moved → LessWork old new
 less_next picks old_picker new_picker old new m = m.1.work
 
-pub over_next : {P : Type 0} (picks : P → List Bool → ℕ → P → Type 0) (old_picker new_picker : P) (old new : EngineOf) → NextIs picks old_picker new_picker old new Finished → (new ≡ old) × IsFinished old.plan old.state
-over_next picks old_picker new_picker old new m = (m.0, m.1)
+pub over_next : {P : Type 0} (picks : P → List Bool → ℕ → P → Type 0) (old_picker new_picker : P) (old new : EngineOf) → NextIs picks old_picker new_picker old new Finished → (new ≡ old) × HasEnded old.plan old.state
+over_next picks old_picker new_picker old new m = (m.0, record { finished = m.1; over = m.2 })
 
 -- where `next` waits the engine is as it was, a job is out, and the machine has nothing else to do
 pub waits_quiet : {P : Type 0} (picks : P → List Bool → ℕ → P → Type 0) (old_picker new_picker : P) (old new : EngineOf) → NextIs picks old_picker new_picker old new Waiting → IsQuiet new.plan new.state
@@ -249,8 +250,8 @@ pub fresh_begun : (allows gives : Job → Form → Type 0) (old : EngineOf) → 
 fresh_begun allows gives old fresh = rw fresh.1 (empty_begun allows gives old.plan old.pool)
 
 -- a run that is finished, with its end, is whole
-pub whole : (allows gives : Job → Form → Type 0) (old new : EngineOf) (t0 t1 t2 t3 : Option (List ℕ)) (counts : List Counts) → IsFresh old → t1 ≡ with_more t0 (start_line (length old.plan.plays)) → Keeps old new t1 t2 → HasBegun allows gives new → IsSame old new → IsFinished new.plan new.state → t3 ≡ with_more t2 (end_lines new.plan counts) → counts ≡ recap new.plan new.pool new.trail → IsWholeRun allows gives old.plan old.pool new.trail t0 t3
-whole allows gives old new t0 t1 t2 t3 counts fresh started keeps begun same over ended counted =
+pub whole : (allows gives : Job → Form → Type 0) (old new : EngineOf) (t0 t1 t2 t3 : Option (List ℕ)) (counts : List Counts) → IsFresh old → t1 ≡ with_more t0 (start_line (length old.plan.plays)) → Keeps old new t1 t2 → HasBegun allows gives new → IsSame old new → HasEnded new.plan new.state → t3 ≡ with_more t2 (end_lines new.plan counts) → counts ≡ recap new.plan new.pool new.trail → IsWholeRun allows gives old.plan old.pool new.trail t0 t3
+whole allows gives old new t0 t1 t2 t3 counts fresh started keeps begun same last ended counted =
     let lines = keeps t1 (fresh_lines old t1 fresh) in
     rw (← same.plan, ← same.pool)
     (record {
@@ -259,7 +260,8 @@ whole allows gives old new t0 t1 t2 t3 counts fresh started keeps begun same ove
       once = begun.once;
       answered = begun.answered;
       uncommanded = begun.uncommanded;
-      finished = rw same.run.ends over;
+      finished = rw same.run.ends last.finished;
+      over = rw same.run.ends last.over;
       written =
           ended ∙ ap (λ (c : List Counts). with_more t2 (end_lines new.plan c)) counted
           ∙ ap (λ (u : Option (List ℕ)). with_more u (end_lines new.plan (recap new.plan new.pool new.trail))) lines

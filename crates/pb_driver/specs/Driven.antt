@@ -15,6 +15,7 @@ use Rattle.pb_state.specs.Oldest.{oldest_out}
 use Rattle.pb_state.specs.Run.{IsRun, IsEager, IsQuiet, IsFinished, legal_from, state_from, is_report, is_command}
 use Rattle.pb_state.specs.Once.{IsOnce}
 use Rattle.pb_engine.specs.EngineOf.{EngineOf, Takes}
+use Rattle.pb_engine.specs.Over.{IsOver}
 use Rattle.pb_events.specs.Lines.{lines_of}
 use Rattle.pb_recap.specs.Recap.{recap}
 use Rattle.pb_recap.specs.Kinds.{status_of}
@@ -57,8 +58,13 @@ pub record IsBegun (allows gives : Job → Form → Type 0) (plan : PlanOf) (poo
   pub answered : IsAnswered allows gives plan (first_state plan plan.forks pool) trail
   pub uncommanded : IsUncommanded trail
 
--- a whole run: a legal, eager trail that does nothing twice, whose reports answer the jobs that were out and that ends in a finished state, and its output
--- and nothing else
+-- nothing is possible any more, since the run was stopped or ended early, or no batch is open and none is left to open
+pub record HasEnded (plan : PlanOf) (s : State) : Type 0 where
+  pub finished : IsFinished plan s
+  pub over : IsOver plan s
+
+-- a whole run: a legal, eager trail that does nothing twice, whose reports answer the jobs that were out and that ends in a finished state and isn't stuck
+-- there, and its output and nothing else
 pub record IsWholeRun (allows gives : Job → Form → Type 0) (plan : PlanOf) (pool : ℕ) (trail : List Event) (before after : Option (List ℕ)) : Type 0 where
   pub legal : legal_from plan (first_state plan plan.forks pool) trail ≡ true
   pub eager : IsEager plan (first_state plan plan.forks pool) trail
@@ -66,6 +72,7 @@ pub record IsWholeRun (allows gives : Job → Form → Type 0) (plan : PlanOf) (
   pub answered : IsAnswered allows gives plan (first_state plan plan.forks pool) trail
   pub uncommanded : IsUncommanded trail
   pub finished : IsFinished plan (state_from plan (first_state plan plan.forks pool) trail)
+  pub over : IsOver plan (state_from plan (first_state plan plan.forks pool) trail)
   pub written : after ≡ with_more before (output plan pool trail)
 
 -- the recap and the exit status of a trail

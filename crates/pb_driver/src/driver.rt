@@ -4,14 +4,14 @@ ghost use Rattle.std.specs.Prelude.{◌≡◌, ◌<◌, ◌≤◌, ◌++◌, ◌
 ghost use Rattle.std.specs.List.{list_any};
 ghost use Rattle.pb_outcome.specs.declared.job.Job.{Job};
 ghost use Rattle.pb_outcome.specs.declared.outcome.Form.{Form};
-ghost use Rattle.pb_state.specs.Run.{IsFinished, IsQuiet};
+ghost use Rattle.pb_state.specs.Run.{IsQuiet};
 ghost use Rattle.pb_state.specs.Machine.{first_state, is_out};
 ghost use Rattle.pb_engine.specs.EngineOf.{LessWork, IsSound};
 ghost use Rattle.pb_recap.specs.Recap.{recap};
 ghost use Rattle.pb_driver.specs.Taken.{with_more, one_more};
 ghost use Rattle.pb_driver.specs.Output.{output, end_lines};
 ghost use Rattle.pb_driver.specs.Cut.{IsPart, IsCut, Breaks};
-ghost use Rattle.pb_driver.specs.Driven.{IsSame, Keeps, TakesOne, HasBegun, last_lines, IsWholeRun, IsBegun, IsTold, IsFresh};
+ghost use Rattle.pb_driver.specs.Driven.{IsSame, Keeps, TakesOne, HasBegun, HasEnded, last_lines, IsWholeRun, IsBegun, IsTold, IsFresh};
 
 use crate::line_out::{Failed, LineOut, put_all};
 use pb_engine::{Engine, EngineFault, Next, Picker, Refusal};
@@ -142,7 +142,7 @@ fn advance<R: Runner, P: Picker>(
 ) -> Result<bool, RunFault>
     ensures took { result ≡ Ok true → TakesOne R.allows (R.gives runner.old) engine.old engine.new }
     ensures work { result ≡ Ok true → LessWork engine.old engine.new }
-    ensures over { result ≡ Ok false → (engine.new ≡ engine.old) × IsFinished engine.old.plan engine.old.state }
+    ensures over { result ≡ Ok false → (engine.new ≡ engine.old) × HasEnded engine.old.plan engine.old.state }
     ensures err { OnErr result (engine.new ≡ engine.old) }
     ensures fault { IfErr result (λ e. e ≡ RunFault.Memory) }
     ensures run { IsSound engine.new }
@@ -174,7 +174,7 @@ fn turn<R: Runner, P: Picker, W: LineOut>(
     ensures keeps { OnOk result (Keeps engine.old engine.new (W.taken writer.old) (W.taken writer.new)) }
     ensures breaks { OnErr result (Breaks engine.old engine.new (W.taken writer.old) (W.taken writer.new)) }
     ensures more { result ≡ Ok true → LessWork engine.old engine.new }
-    ensures over { result ≡ Ok false → IsFinished engine.new.plan engine.new.state }
+    ensures over { result ≡ Ok false → HasEnded engine.new.plan engine.new.state }
     ensures quiet { OnOk result (W.failures writer.new ≡ W.failures writer.old) }
     ensures failed { IfErr result (λ e. e ≡ RunFault.Write → W.failures writer.new ≡ one_more (W.failures writer.old)) }
     ensures lasting { (job : Job) (outcome : Form) → R.gives runner.new job outcome ↔ R.gives runner.old job outcome }
@@ -221,7 +221,7 @@ fn turn_all<R: Runner, P: Picker, W: LineOut>(
     ensures begun { HasBegun R.allows (R.gives runner.old) engine.new }
     ensures keeps { OnOk result (Keeps engine.old engine.new (W.taken writer.old) (W.taken writer.new)) }
     ensures breaks { OnErr result (Breaks engine.old engine.new (W.taken writer.old) (W.taken writer.new)) }
-    ensures over { OnOk result (IsFinished engine.new.plan engine.new.state) }
+    ensures over { OnOk result (HasEnded engine.new.plan engine.new.state) }
     ensures quiet { OnOk result (W.failures writer.new ≡ W.failures writer.old) }
     ensures failed { IfErr result (λ e. e ≡ RunFault.Write → W.failures writer.new ≡ one_more (W.failures writer.old)) }
 {

@@ -1,7 +1,8 @@
 //! Runs a plan to its end, and writes the lines of its run.
 //!
-//! For the layer above: `run_plain` answers Ok only with a legal, eager trail that ends in a finished state; what the writer
-//! took is that trail's output and nothing else, and the recap and the exit status are those of that trail.
+//! For the layer above: `run_plain` answers Ok only with a legal, eager trail that does nothing twice, ends in a finished
+//! state and isn't stuck there: the run was stopped or ended early, or no batch is open and none is left to open. What the
+//! writer took is that trail's output and nothing else, and the recap and the exit status are those of that trail.
 //! `LineOut` is where lines go.
 #![tactic(auto)]
 

@@ -6,6 +6,8 @@ use Rattle.pb_state.specs.Plan.{PlanOf}
 use Rattle.pb_state.specs.State.{State}
 use Rattle.pb_state.specs.Machine.{possible, after, first_state}
 use Rattle.pb_state.specs.Run.{legal_from, state_from, IsRun}
+use Rattle.pb_state.specs.Once.{IsOnce}
+use Rattle.pb_state.proofs.Once.{run_once}
 
 pub legal_more : (plan : PlanOf) (s : State) (es : List Event) (e : Event) → legal_from plan s es ≡ true → possible plan (state_from plan s es) e ≡ true → legal_from plan s (es ++ e ∷ []) ≡ true
 legal_more plan s [] e l p = rw p refl
@@ -31,3 +33,7 @@ run_more plan pool trail s e run p = record {
 pub run_on : {X Y : Type 0} (r : Result X Y) (plan : PlanOf) (pool : ℕ) (trail new_trail : List Event) (s new_s : State) (e : Event) → IsRun plan pool trail s → possible plan s e ≡ true → OnOk r ((new_s ≡ after plan s e) × (new_trail ≡ trail ++ e ∷ [])) → OnErr r ((new_s ≡ s) × (new_trail ≡ trail)) → IsRun plan pool new_trail new_s
 run_on (Ok x) plan pool trail new_trail s new_s e run p ok err = rw (ok.0, ok.1) (run_more plan pool trail s e run p)
 run_on (Err x) plan pool trail new_trail s new_s e run p ok err = rw (err.0, err.1) run
+
+-- a run does nothing twice
+pub once_in_run : (plan : PlanOf) (pool : ℕ) (trail : List Event) (s : State) → IsRun plan pool trail s → IsOnce plan (first_state plan plan.forks pool) trail
+once_in_run plan pool trail s run = run_once plan pool trail s run

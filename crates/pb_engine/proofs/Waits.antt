@@ -1,9 +1,9 @@
 -- Jobs that are out in a run.
-use Rattle.std.proofs.Common.{◌≡◌, ◌⊎◌, inl, inr, ℕ, zero, suc, ◌+◌, ◌<◌, ◌≤◌, Bool, true, false, ◌&&◌, ◌||◌, not, List, [], ◌∷◌, length, refl, sym, ◌∙◌, ap, subst, arith}
-use Rattle.std.specs.Prelude.{◌==◌, nat_lt, nat_le, Option, Some, None, slice_get, is_some, is_none, option_map, if◌then◌else◌}
+use Rattle.std.proofs.Common.{◌≡◌, ℕ, zero, suc, ◌<◌, ◌≤◌, Bool, true, false, ◌&&◌, ◌||◌, not, List, [], ◌∷◌, length, refl, ◌∙◌, ap, subst, arith}
+use Rattle.std.specs.Prelude.{◌==◌, nat_lt, Option, Some, None, slice_get, is_some, is_none, option_map, if◌then◌else◌}
 use Rattle.std.specs.List.{list_any}
 use Rattle.std.specs.Option.{option_map_or}
-use Rattle.std.proofs.lemmas.Bool.{lt-ltb, eqb-true, eq-eqb}
+use Rattle.std.proofs.lemmas.Bool.{lt-ltb, eqb-true}
 use Rattle.std.proofs.lemmas.Option.{slice_get_within}
 use Rattle.pb_ids.specs.declared.numbers.HostNo.{HostNo}
 use Rattle.pb_ids.specs.declared.numbers.Ticket.{Ticket}
@@ -18,10 +18,11 @@ use Rattle.pb_state.specs.declared.row.Running.{Running}
 use Rattle.pb_state.specs.Plan.{PlayOf, PlanOf}
 use Rattle.pb_state.specs.Row.{HostRow}
 use Rattle.pb_state.specs.State.{State}
-use Rattle.pb_state.specs.Machine.{possible, at_row, awaits, has_ticket, is_ticket, is_out, is_running, open_play, may_report_in, may_send_in, may_send_item, has_send}
+use Rattle.pb_state.specs.Machine.{possible, at_row, awaits, has_ticket, is_ticket, is_running, open_play, may_report_in, may_send_in, may_send_item, has_send}
 use Rattle.pb_state.specs.Jobs.{job_of, job_in, row_job, placed_job, named_job, job_with}
-use Rattle.pb_state.specs.Oldest.{oldest_from, oldest_out, older, out_at, out_of}
+use Rattle.pb_state.specs.Oldest.{oldest_out}
 use Rattle.pb_state.specs.Run.{is_move, IsRun}
+use Rattle.pb_state.proofs.OldestOut.{oldest_is_out}
 use Rattle.pb_engine.proofs.Held.{IsHeld, IsHeldTask, IsOutBelow, AreHeld, places_in, held_run}
 use Rattle.pb_engine.specs.declared.refusal.Refusal.TheVariants.{UnknownTicket, AlreadyReported, WrongItem}
 use Rattle.pb_engine.specs.declared.engine.Next.TheVariants.{Sent, Moved}
@@ -155,45 +156,7 @@ send_runs s h item ticket (Some play) e = at_runs (may_send_item item) (λ row f
 pub send_job : (plan : PlanOf) (s : State) (host : HostNo) (item : ℕ) (ticket : Ticket) → IsHeld plan s → option_map_or (may_send_in s host.0 item ticket) (open_play plan s) false ≡ true → is_some (job_of plan s host ticket) ≡ true
 send_job plan s host item ticket held e = runs_job plan s host ticket held (send_runs s host.0 item ticket (open_play plan s) e)
 
--- the oldest job that is out
-older_is : (a b : Option (HostNo × Ticket)) (p : HostNo × Ticket) → older a b ≡ Some p → (a ≡ Some p) ⊎ (b ≡ Some p)
-older_is None b p e = inr e
-older_is (Some a) None p e = inl e
-older_is (Some a) (Some b) p e = by_order (nat_le a.1.0 b.1.0) e
-  where
-    by_order : (c : Bool) → (if c then Some a else Some b) ≡ Some p → (Some a ≡ Some p) ⊎ (Some b ≡ Some p)
-    by_order true e = inl e
-    by_order false e = inr e
-
-older_none : (a b : Option (HostNo × Ticket)) → older a b ≡ None → (a ≡ None) × (b ≡ None)
-older_none None b e = (refl, e)
-older_none (Some a) None e = cc
-older_none (Some a) (Some b) e = by_order (nat_le a.1.0 b.1.0) e
-  where
-    by_order : (c : Bool) → (if c then Some a else Some b) ≡ None → (Some a ≡ None) × (Some b ≡ None)
-    by_order true e = cc
-    by_order false e = cc
-
-some_is : (a b : HostNo × Ticket) → Some a ≡ Some b → a ≡ b
-some_is a b e = cc
-
-out_some : (h : ℕ) (running : Option Running) (p : HostNo × Ticket) → option_map {U = HostNo × Ticket} (λ (ticket : Ticket). (record { 0 = h }, ticket)) (option_map_or out_of running None) ≡ Some p → (p.0.0 ≡ h) × (option_map_or (λ (r : Running). is_ticket p.1 r.out) running false ≡ true)
-out_some h None p e = cc
-out_some h (Some r) p e = of_out r.out e
-  where
-    of_out : (out : Option Ticket) → option_map {U = HostNo × Ticket} (λ (ticket : Ticket). (record { 0 = h }, ticket)) out ≡ Some p → (p.0.0 ≡ h) × (is_ticket p.1 out ≡ true)
-    of_out None e = cc
-    of_out (Some t) e =
-        let same = some_is (record { 0 = h }, t) p e in
-        (sym (ap (λ (q : HostNo × Ticket). q.0.0) same), eq-eqb t.0 p.1.0 (ap (λ (q : HostNo × Ticket). q.1.0) same))
-
-oldest_at : (h : ℕ) (rows : List HostRow) (p : HostNo × Ticket) → oldest_from h rows ≡ Some p → (k : ℕ) × (p.0.0 ≡ h + k) × (at_row (has_ticket p.1) rows k ≡ true)
-oldest_at h [] p e = cc
-oldest_at h (row ∷ rows) p e = elim (older_is (out_at h row) (oldest_from (h + 1) rows) p e) [
-  | inl here ↦ let found = out_some h row.running p here in (0, (let at : p.0.0 ≡ h + 0 = omega (arith, found.0) in at), found.1)
-  | inr rest ↦ let found = oldest_at (h + 1) rows p rest in (suc found.0, (let at : p.0.0 ≡ h + suc found.0 = omega (arith, found.1) in at), found.2)
-]
-
+-- a test that holds of one row holds of some
 any_at : (test : HostRow → Bool) (rows : List HostRow) (h : ℕ) → at_row test rows h ≡ true → list_any test rows ≡ true
 any_at test [] h e = cc
 any_at test (row ∷ rows) zero e = rw e refl
@@ -202,31 +165,6 @@ any_at test (row ∷ rows) (suc h) e = rw (any_at test rows h e) (or_true (test 
     or_true : (b : Bool) → (b || true) ≡ true
     or_true true = refl
     or_true false = refl
-
-pub oldest_is_out : (rows : List HostRow) (p : HostNo × Ticket) → oldest_out rows ≡ Some p → at_row (has_ticket p.1) rows p.0.0 ≡ true
-oldest_is_out rows p e = let found = oldest_at 0 rows p e in let at : found.0 ≡ p.0.0 = omega (arith, found.1) in rw (← at) found.2
-
-row_not_out : (h : ℕ) (running : Option Running) → option_map {U = HostNo × Ticket} (λ (ticket : Ticket). (record { 0 = h }, ticket)) (option_map_or out_of running None) ≡ None → option_map_or (λ (r : Running). is_some r.out) running false ≡ false
-row_not_out h None e = refl
-row_not_out h (Some r) e = of_out r.out e
-  where
-    of_out : (out : Option Ticket) → option_map {U = HostNo × Ticket} (λ (ticket : Ticket). (record { 0 = h }, ticket)) out ≡ None → is_some out ≡ false
-    of_out None e = refl
-    of_out (Some t) e = cc
-
-both_false : (a b : Bool) → a ≡ false → b ≡ false → (a || b) ≡ false
-both_false true b e f = e
-both_false false b e f = f
-
-none_oldest : (h : ℕ) (rows : List HostRow) → oldest_from h rows ≡ None → list_any is_out rows ≡ false
-none_oldest h [] e = refl
-none_oldest h (row ∷ rows) e =
-    let none = older_none (out_at h row) (oldest_from (h + 1) rows) e in
-    both_false (is_out row) (list_any is_out rows) (row_not_out h row.running none.0) (none_oldest (h + 1) rows none.1)
-
--- where a job is out there is an oldest one
-pub some_oldest : (rows : List HostRow) → oldest_out rows ≡ None → list_any is_out rows ≡ false
-some_oldest rows e = none_oldest 0 rows e
 
 has_runs : (ticket : Ticket) (running : Option Running) → option_map_or (λ (r : Running). is_ticket ticket r.out) running false ≡ true → is_some running ≡ true
 has_runs ticket None e = cc

@@ -3,7 +3,8 @@
 ghost use Rattle.std.specs.Prelude.{◌≡◌, ◌≢◌, ◌≤◌, ◌<◌, ◌++◌, ◌∷◌, [], length, true, false, IfOk, OnOk, OnErr, IfErr, Ok, Err, Some, None};
 ghost use Rattle.std.specs.Prelude.{◌-◌, slice_get};
 ghost use Rattle.std.specs.Option.{option_copied};
-ghost use Rattle.pb_state.specs.Machine.{possible, after};
+ghost use Rattle.pb_state.specs.Machine.{possible, after, first_state};
+ghost use Rattle.pb_state.specs.Once.{IsOnce};
 ghost use Rattle.pb_state.specs.Run.{IsRun, is_command};
 ghost use Rattle.pb_state.specs.Work.{work};
 ghost use Rattle.pb_recap.specs.Recap.{recap};
@@ -158,10 +159,11 @@ impl Engine {
         &self.state
     }
 
-    /// The events so far, in order.
+    /// The events so far, in order. They do nothing twice.
     pub fn trail(&self) -> &[Event]
         ensures value { result.now ≡ self.now.trail }
         ensures run { IsSound self.now }
+        ensures once { IsOnce self.now.plan (first_state self.now.plan self.now.plan.forks self.now.pool) self.now.trail }
     {
         self.trail.as_slice()
     }
@@ -183,10 +185,11 @@ impl Engine {
         Recap::of(alloc, &self.state)
     }
 
-    /// The events, of an engine that is needed no more. It takes no memory.
+    /// The events, which do nothing twice, of an engine that is needed no more. It takes no memory.
     pub fn into_trail(self) -> Vec<Event>
         ensures value { result.items ≡ self.trail }
         ensures run { IsSound self }
+        ensures once { IsOnce self.plan (first_state self.plan self.plan.forks self.pool) self.trail }
     {
         self.trail
     }
@@ -233,7 +236,11 @@ impl Engine {
         ensures err { OnErr result (self.new ≡ self.old) }
         ensures run { IsSound self.new }
     {
-        match self.answer(&event)? {
+        let answered = match self.answer(&event) {
+            Ok(answered) => answered,
+            Err(_) => return Err(without_event(event)),
+        };
+        match answered {
             Some(next) => match self.take(event) {
                 Ok(()) => Ok(next),
                 Err(_) => Err(EngineFault::Memory),
@@ -253,6 +260,14 @@ impl Engine {
     {
         record(&self.plan, &mut self.state, &mut self.trail, event)
     }
+}
+
+/// The fault for which an event isn't taken. The event is dropped.
+fn without_event(event: Event) -> EngineFault
+    ensures { result ≡ EngineFault.Memory }
+{
+    drop(event);
+    EngineFault::Memory
 }
 
 /// Takes a step, and writes the event down, or hands it back.

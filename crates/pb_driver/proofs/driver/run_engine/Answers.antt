@@ -39,5 +39,5 @@ returns-in_err-emit_end-clause-cut g c =
     let started : g.W.LineOut.taken c.put_all.new.writer ≡ with_more (g.W.LineOut.taken c.args.writer.now) (start_line (length c.args.engine.now.plan.plays)) = search rules in
     let new = c.turn_all.new.engine in
     let cut = cut_end c.args.engine.now c.turn_all.new.engine (g.W.LineOut.taken c.args.writer.now) (g.W.LineOut.taken c.put_all.new.writer) (g.W.LineOut.taken c.turn_all.new.writer) (g.W.LineOut.taken c.emit_end.new.writer) c.in_ok-recap.recap
-    c.requires.fresh started c.in_ok-turn_all.ensures.keeps c.in_ok-turn_all.ensures.over c.turn_all.ensures.same (c.in_ok-recap.ensures.scratch new.plan new.pool new.trail (rw c.state.ensures.value c.state.ensures.run)) c.in_err-emit_end.ensures.part in
+    c.requires.fresh started c.in_ok-turn_all.ensures.keeps c.in_ok-turn_all.ensures.over.finished c.turn_all.ensures.same (c.in_ok-recap.ensures.scratch new.plan new.pool new.trail (rw c.state.ensures.value c.state.ensures.run)) c.in_err-emit_end.ensures.part in
     search (rules, cut)
