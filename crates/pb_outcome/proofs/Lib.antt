@@ -1,3 +1,4 @@
 pub mod Cuts
 pub mod ReadsBack
+mod Steps
 pub mod Strips

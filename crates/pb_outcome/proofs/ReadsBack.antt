@@ -8,7 +8,8 @@ use Rattle.pb_value.specs.Depth.{depth, items_depth, members_depth}
 use Rattle.pb_value.specs.FromJson.{value_of, max_depth, int_of, read, read_items, read_members}
 use Rattle.pb_value.specs.ToJson.{json_of, items_json, members_json}
 use Rattle.pb_outcome.specs.Limits.{IsWithin, max_text}
-use Rattle.pb_outcome.specs.Reading.{outcome, outcome_of}
+use Rattle.pb_reading.specs.Fields.{field, others}
+use Rattle.pb_outcome.specs.Reading.{text as limited_text, status, facts, not_started, unreachable, whole, rest_of_outcome, outcome, of_reading, outcome_of}
 use Rattle.pb_outcome.specs.Whole.{fits_word, are_words, items_are_words, members_are_words, is_whole}
 use Rattle.pb_outcome.specs.Writing.{outcome_json}
 use Rattle.pb_outcome.specs.declared.cause.Cause.{Cause}
@@ -69,6 +70,7 @@ status_back (pos n) w = rw w refl
 status_back (negsuc n) w = refl
 
 cause_back : (path : List ℕ) (cause : Cause) → outcome path (outcome_json (NotStarted cause)) ≡ Ok (NotStarted cause)
+unfolding limited_text status facts not_started unreachable whole rest_of_outcome outcome field others
 cause_back path CannotStart = refl
 cause_back path KilledBySignal = refl
 cause_back path NotUtf8 = refl
@@ -77,6 +79,7 @@ cause_back path FactsNotObject = refl
 cause_back path OutOfMemory = refl
 
 outcome_back : (path : List ℕ) (form : Form) → IsWithin form → is_whole form ≡ true → outcome path (outcome_json form) ≡ Ok form
+unfolding limited_text status facts not_started unreachable whole rest_of_outcome outcome field others
 outcome_back path (Ran rc out err) h w = rw (not_large err h.1, not_large out h.0, status_back rc w) refl
 outcome_back path (Module v) h w = rw (value_back v h w) refl
 outcome_back path (Unreachable msg) h w = rw (not_large msg h) refl
@@ -84,4 +87,4 @@ outcome_back path (NotStarted cause) h w = cause_back path cause
 
 pub reads_back : (path : List ℕ) (form : Form) → IsWithin form → is_whole form ≡ true → outcome_of path (outcome_json form) ≡ Ok form
 unfolding outcome_of
-reads_back path form h w = outcome_back path form h w
+reads_back path form h w = ap of_reading (outcome_back path form h w)

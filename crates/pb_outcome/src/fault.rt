@@ -1,5 +1,5 @@
 ghost use Rattle.pb_outcome.specs.declared.fault.OutcomeFault.TheVariants.{Memory};
-ghost use Rattle.std.specs.Prelude.{◌≡◌, ◌≢◌};
+ghost use Rattle.std.specs.Prelude.{◌≡◌};
 
 use pb_value::text::Text;
 use std::alloc::{AllocError, AllocFailed};
@@ -31,15 +31,5 @@ impl<T: Drop> From<AllocFailed<T>> for OutcomeFault {
 
     fn from(_e: AllocFailed<T>) -> OutcomeFault {
         OutcomeFault::Memory
-    }
-}
-
-/// The fault of a shape that is wrong at the path.
-pub(crate) fn wrong_shape(path: &Text) -> OutcomeFault
-    ensures { result ≢ OutcomeFault.Memory → result ≡ OutcomeFault.WrongShape path.now }
-{
-    match path.try_clone() {
-        Ok(path) => OutcomeFault::WrongShape { path },
-        Err(_) => OutcomeFault::Memory,
     }
 }

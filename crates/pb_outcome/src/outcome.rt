@@ -22,7 +22,6 @@ pub struct Outcome {
 }
 
 /// What came of a job, by its kind.
-#[derive(Drop)]
 pub enum Form {
     /// The program ran to its end: its exit status, and what it wrote to standard output and to standard error.
     Ran { rc: i64, out: Text, err: Text },
@@ -32,6 +31,20 @@ pub enum Form {
     Unreachable { msg: Text },
     /// There is no answer of a program.
     NotStarted { cause: Cause },
+}
+
+impl Drop for Form {
+    fn drop(self) {
+        match self {
+            Form::Ran { rc: _, out, err } => {
+                drop(out);
+                drop(err);
+            }
+            Form::Module(value) => drop(value),
+            Form::Unreachable { msg } => drop(msg),
+            Form::NotStarted { cause: _ } => {}
+        }
+    }
 }
 
 impl Model for Outcome {

@@ -1,104 +1,190 @@
 ghost use Rattle.std.specs.Prelude.{◌≡◌, ◌≢◌, IfOk, IfErr, Ok, Err};
-ghost use Rattle.serde_json.specs.View.{view};
-ghost use Rattle.pb_outcome.specs.declared.outcome.Form.TheVariants.{Ran, Module, Unreachable, NotStarted};
-ghost use Rattle.pb_outcome.specs.Reading.{text, status, cause, facts, outcome_key, no_parts, with_err, with_out, with_rc, with_whole, first_stray, with_key, new_draft, ran, finished_form, finished, outcome, outcome_of};
+ghost use Rattle.serde_json.specs.Data as json;
+ghost use Rattle.serde_json.specs.View.{view, members_view};
+ghost use Rattle.pb_outcome.specs.declared.outcome.Form.TheVariants.{Ran};
+ghost use Rattle.pb_reading.specs.Ahead.{ahead};
+ghost use Rattle.pb_reading.specs.Fields.{value_of};
+ghost use Rattle.pb_reading.specs.Reading.{Gives};
+ghost use Rattle.pb_outcome.specs.Reading.{text, status, cause, facts, not_started, unreachable, told_by_unknown, no_unknown, ran, and_form, the_form, met_with, whole, rest_of_outcome, outcome, outcome_of};
 
 use crate::cause::Cause;
-use crate::fault::{OutcomeFault, wrong_shape};
+use crate::fault::OutcomeFault;
 use crate::outcome::{Form, Outcome};
-use crate::short::{FlatValue, ShortText};
+use crate::short::ShortText;
+use pb_reading::keys::{Keys, Others};
+use pb_reading::reads::Reads;
+use pb_reading::stop::{Stop, required, wrong};
 use pb_value::fault::ValFault;
-use pb_value::path::child;
 use pb_value::text::Text;
 use pb_value::val::Val;
-use serde_json::Value;
+use serde_json::{Map, Value};
 use std::alloc::Global;
 
-/// A key of an outcome.
-#[derive(Clone, Copy, Debug, PartialEq, Eq)]
-enum OutcomeKey {
-    Err,
-    Facts,
-    NotStarted,
-    Out,
-    Rc,
-    Unreachable,
-    Other,
+/// The first key that no form has, by its path.
+enum FirstUnknown {
+    NoKey,
+    At { path: Text },
 }
 
-/// The parts of a program's end that were met.
-#[derive(Drop)]
-struct RanDraft {
-    rc: Option<i64>,
-    out: Option<ShortText>,
-    err: Option<ShortText>,
+impl Drop for FirstUnknown {
+    fn drop(self) {
+        match self {
+            FirstUnknown::NoKey => {}
+            FirstUnknown::At { path } => drop(path),
+        }
+    }
 }
 
-/// What the known keys have told.
+impl Others for FirstUnknown {
+    type Fault = OutcomeFault;
+
+    ghost tells = { told_by_unknown };
+
+    #[tactic(auto, unfolding(crate::specs::Reading::told_by_unknown))]
+    fn tell(
+        &mut self,
+        _alloc: Global,
+        path: &Text,
+        _key: &str,
+        _json: &Value,
+    ) -> Result<(), Stop<OutcomeFault>> {
+        if matches!(self, FirstUnknown::NoKey) {
+            let path = path.try_clone()?;
+            *self = FirstUnknown::At { path };
+        }
+        Ok(())
+    }
+}
+
+impl FirstUnknown {
+    /// Refuses an unknown key.
+    fn finish(self) -> Result<(), Stop<OutcomeFault>>
+        ensures { Gives result (no_unknown self) }
+    {
+        match self {
+            FirstUnknown::NoKey => Ok(()),
+            FirstUnknown::At { path } => Err(Stop::WrongShape { path }),
+        }
+    }
+}
+
+/// Reads a text of at most 1,048,576 bytes.
+struct LimitedText;
+
+/// Reads an exit status.
+struct Status;
+
+/// Reads the value of a facts program, as its outcome.
+struct Facts;
+
+/// Reads a cause, as the outcome that has it.
+struct NoAnswer;
+
+/// Reads a connector's words, as the outcome of a target that can't be reached.
+struct Lost;
+
+impl Reads<OutcomeFault> for LimitedText {
+    type Value = ShortText;
+
+    ghost reads = { text };
+
+    #[tactic(auto, unfolding(crate::specs::Reading::text))]
+    fn read(alloc: Global, path: &Text, json: &Value) -> Result<ShortText, Stop<OutcomeFault>> {
+        match json {
+            Value::String(words) => match ShortText::of(alloc, words.as_str())? {
+                Some(words) => Ok(words),
+                None => wrong(path),
+            },
+            _ => wrong(path),
+        }
+    }
+}
+
+impl Reads<OutcomeFault> for Status {
+    type Value = i64;
+
+    ghost reads = { status };
+
+    #[tactic(auto, unfolding(crate::specs::Reading::status))]
+    fn read(_alloc: Global, path: &Text, json: &Value) -> Result<i64, Stop<OutcomeFault>> {
+        match json {
+            Value::Number(number) => required(path, number.as_i64()),
+            _ => wrong(path),
+        }
+    }
+}
+
+impl Reads<OutcomeFault> for Facts {
+    type Value = Outcome;
+
+    ghost reads = { facts };
+
+    #[tactic(auto, unfolding(crate::specs::Reading::facts))]
+    fn read(alloc: Global, path: &Text, json: &Value) -> Result<Outcome, Stop<OutcomeFault>> {
+        match Val::from_json(alloc, json) {
+            Ok(value) => Ok(Outcome {
+                form: Form::Module(value),
+            }),
+            Err(ValFault::Memory) => Err(Stop::Memory),
+            Err(_) => wrong(path),
+        }
+    }
+}
+
+fn read_cause(path: &Text, json: &Value) -> Result<Cause, Stop<OutcomeFault>>
+    ensures { Gives result (cause path.now (view json.now)) }
+{
+    match json {
+        Value::Number(number) => match number.as_u64() {
+            Some(number) => required(path, Cause::of_number(number)),
+            None => wrong(path),
+        },
+        _ => wrong(path),
+    }
+}
+
+impl Reads<OutcomeFault> for NoAnswer {
+    type Value = Outcome;
+
+    ghost reads = { not_started };
+
+    #[tactic(auto, unfolding(crate::specs::Reading::not_started))]
+    fn read(_alloc: Global, path: &Text, json: &Value) -> Result<Outcome, Stop<OutcomeFault>> {
+        Ok(Outcome::not_started(read_cause(path, json)?))
+    }
+}
+
+impl Reads<OutcomeFault> for Lost {
+    type Value = Outcome;
+
+    ghost reads = { unreachable };
+
+    #[tactic(auto, unfolding(crate::specs::Reading::unreachable))]
+    fn read(alloc: Global, path: &Text, json: &Value) -> Result<Outcome, Stop<OutcomeFault>> {
+        let msg = LimitedText::read(alloc, path, json)?.into_text();
+        Ok(Outcome {
+            form: Form::Unreachable { msg },
+        })
+    }
+}
+
+/// The forms whose keys were met.
 #[derive(Drop)]
-enum Found {
+enum Met {
     Nothing,
-    Parts(RanDraft),
-    Whole(Outcome),
-    /// Keys of two forms.
+    One(Outcome),
+    /// Keys of two forms, or some of a program's end.
     Mixed,
 }
 
-/// What the keys of an object have told, and the path of its first unknown key.
-#[derive(Drop)]
-struct Draft {
-    found: Found,
-    stray: Option<Text>,
-}
-
-impl OutcomeKey {
-    fn of(key: &str) -> OutcomeKey
-        ensures { result ≡ outcome_key key.now }
-    {
-        if key == "err" {
-            OutcomeKey::Err
-        } else if key == "facts" {
-            OutcomeKey::Facts
-        } else if key == "not_started" {
-            OutcomeKey::NotStarted
-        } else if key == "out" {
-            OutcomeKey::Out
-        } else if key == "rc" {
-            OutcomeKey::Rc
-        } else if key == "unreachable" {
-            OutcomeKey::Unreachable
-        } else {
-            OutcomeKey::Other
-        }
-    }
-}
-
-impl RanDraft {
-    fn new() -> RanDraft
-        ensures { result ≡ no_parts }
-    {
-        RanDraft {
-            rc: None,
-            out: None,
-            err: None,
-        }
-    }
-
-    fn finish(self, path: &Text) -> Result<Outcome, OutcomeFault>
-        ensures value { IfOk result (λ o. ran path.now self ≡ Ok o) }
-        ensures fault { IfErr result (λ e. e ≢ OutcomeFault.Memory → ran path.now self ≡ Err e) }
-    {
-        let RanDraft { rc, out, err } = self;
-        let Some(rc) = rc else {
-            return Err(wrong_shape(path));
-        };
-        let Some(out) = out else {
-            return Err(wrong_shape(path));
-        };
-        let Some(err) = err else {
-            return Err(wrong_shape(path));
-        };
-        Ok(ended(rc, out, err))
+/// A program's end has all its parts.
+fn ran(err: Option<ShortText>, out: Option<ShortText>, rc: Option<i64>) -> Met
+    ensures { result ≡ ran err out rc }
+{
+    match (err, out, rc) {
+        (Some(err), Some(out), Some(rc)) => Met::One(ended(rc, out, err)),
+        (None, None, None) => Met::Nothing,
+        _ => Met::Mixed,
     }
 }
 
@@ -114,139 +200,136 @@ fn ended(rc: i64, out: ShortText, err: ShortText) -> Outcome
     }
 }
 
-fn lost(msg: ShortText) -> Outcome
-    ensures { result ≡ Unreachable msg }
-{
-    Outcome {
-        form: Form::Unreachable {
-            msg: msg.into_text(),
-        },
-    }
-}
-
-fn told(value: FlatValue) -> Outcome
-    ensures { result ≡ Module value }
-{
-    Outcome {
-        form: Form::Module(value.into_value()),
-    }
-}
-
-impl Found {
-    fn with_err(self, err: ShortText) -> Found
-        ensures { result ≡ with_err err self }
+impl Met {
+    fn and(self, form: Option<Outcome>) -> Met
+        ensures { result ≡ and_form form self }
     {
-        let err = Some(err);
-        match self {
-            Found::Nothing => Found::Parts(RanDraft {
-                err,
-                ..RanDraft::new()
-            }),
-            Found::Parts(parts) => Found::Parts(RanDraft { err, ..parts }),
-            Found::Whole(_) | Found::Mixed => Found::Mixed,
-        }
-    }
-
-    fn with_out(self, out: ShortText) -> Found
-        ensures { result ≡ with_out out self }
-    {
-        let out = Some(out);
-        match self {
-            Found::Nothing => Found::Parts(RanDraft {
-                out,
-                ..RanDraft::new()
-            }),
-            Found::Parts(parts) => Found::Parts(RanDraft { out, ..parts }),
-            Found::Whole(_) | Found::Mixed => Found::Mixed,
-        }
-    }
-
-    fn with_rc(self, rc: i64) -> Found
-        ensures { result ≡ with_rc rc self }
-    {
-        let rc = Some(rc);
-        match self {
-            Found::Nothing => Found::Parts(RanDraft {
-                rc,
-                ..RanDraft::new()
-            }),
-            Found::Parts(parts) => Found::Parts(RanDraft { rc, ..parts }),
-            Found::Whole(_) | Found::Mixed => Found::Mixed,
-        }
-    }
-
-    fn with_whole(self, outcome: Outcome) -> Found
-        ensures { result ≡ with_whole outcome self }
-    {
-        match self {
-            Found::Nothing => Found::Whole(outcome),
-            Found::Parts(_) | Found::Whole(_) | Found::Mixed => Found::Mixed,
-        }
-    }
-
-    fn finish(self, path: &Text) -> Result<Outcome, OutcomeFault>
-        ensures value { IfOk result (λ o. finished_form path.now self ≡ Ok o) }
-        ensures fault { IfErr result (λ e. e ≢ OutcomeFault.Memory → finished_form path.now self ≡ Err e) }
-    {
-        match self {
-            Found::Nothing => Err(wrong_shape(path)),
-            Found::Parts(parts) => parts.finish(path),
-            Found::Whole(outcome) => Ok(outcome),
-            Found::Mixed => Err(wrong_shape(path)),
-        }
-    }
-}
-
-impl Draft {
-    fn new() -> Draft
-        ensures { result ≡ new_draft }
-    {
-        Draft {
-            found: Found::Nothing,
-            stray: None,
-        }
-    }
-
-    fn with_key(
-        self,
-        alloc: Global,
-        path: Text,
-        key: &str,
-        json: &Value,
-    ) -> Result<Draft, OutcomeFault>
-        ensures value { IfOk result
-            (λ draft. with_key (outcome_key key.now) path (view json.now) self ≡ Ok draft) }
-        ensures fault { IfErr result
-            (λ e. e ≢ OutcomeFault.Memory → with_key (outcome_key key.now) path (view json.now) self ≡ Err e) }
-    {
-        let Draft { found, stray } = self;
-        let found = match OutcomeKey::of(key) {
-            OutcomeKey::Err => found.with_err(read_text(alloc, &path, json)?),
-            OutcomeKey::Facts => found.with_whole(told(read_facts(alloc, &path, json)?)),
-            OutcomeKey::NotStarted => {
-                found.with_whole(Outcome::not_started(read_cause(&path, json)?))
-            }
-            OutcomeKey::Out => found.with_out(read_text(alloc, &path, json)?),
-            OutcomeKey::Rc => found.with_rc(read_status(&path, json)?),
-            OutcomeKey::Unreachable => found.with_whole(lost(read_text(alloc, &path, json)?)),
-            OutcomeKey::Other => {
-                let stray = Some(stray.unwrap_or(path));
-                return Ok(Draft { found, stray });
-            }
+        let Some(form) = form else {
+            return self;
         };
-        Ok(Draft { found, stray })
-    }
-
-    fn finish(self, path: &Text) -> Result<Outcome, OutcomeFault>
-        ensures value { IfOk result (λ o. finished path.now self ≡ Ok o) }
-        ensures fault { IfErr result (λ e. e ≢ OutcomeFault.Memory → finished path.now self ≡ Err e) }
-    {
-        let Draft { found, stray } = self;
-        match stray {
-            Some(path) => Err(OutcomeFault::WrongShape { path }),
-            None => found.finish(path),
+        match self {
+            Met::Nothing => Met::One(form),
+            Met::One(_) | Met::Mixed => Met::Mixed,
         }
     }
+
+    fn the_one(self, path: &Text) -> Result<Outcome, Stop<OutcomeFault>>
+        ensures { Gives result (the_form path.now self) }
+    {
+        match self {
+            Met::One(form) => Ok(form),
+            Met::Nothing | Met::Mixed => wrong(path),
+        }
+    }
+}
+
+/// What the keys up to `not_started` hold.
+struct FirstKeys {
+    err: Option<ShortText>,
+    facts: Option<Outcome>,
+    not_started: Option<Outcome>,
+}
+
+impl Drop for FirstKeys {
+    fn drop(self) {
+        let FirstKeys {
+            err,
+            facts,
+            not_started,
+        } = self;
+        drop(err);
+        drop(facts);
+        drop(not_started);
+    }
+}
+
+impl FirstKeys {
+    /// The forms whose keys were met, with what the keys behind these hold.
+    fn with(self, out: Option<ShortText>, rc: Option<i64>, unreachable: Option<Outcome>) -> Met
+        ensures { result ≡ met_with self out rc unreachable }
+    {
+        let FirstKeys {
+            err,
+            facts,
+            not_started,
+        } = self;
+        ran(err, out, rc)
+            .and(facts)
+            .and(not_started)
+            .and(unreachable)
+    }
+
+    /// The outcome, if there is no unknown key.
+    #[tactic(auto, unfolding(crate::specs::Reading::whole))]
+    fn finish(
+        self,
+        path: &Text,
+        out: Option<ShortText>,
+        rc: Option<i64>,
+        unreachable: Option<Outcome>,
+        unknown: FirstUnknown,
+    ) -> Result<Outcome, Stop<OutcomeFault>>
+        ensures { Gives result (whole path.now self out rc unreachable unknown) }
+    {
+        let met = self.with(out, rc, unreachable);
+        unknown.finish()?;
+        met.the_one(path)
+    }
+}
+
+/// Reads an outcome.
+struct AnOutcome;
+
+impl Reads<OutcomeFault> for AnOutcome {
+    type Value = Outcome;
+
+    ghost reads = { outcome };
+
+    #[tactic(auto, unfolding(crate::specs::Reading::outcome))]
+    fn read(alloc: Global, path: &Text, json: &Value) -> Result<Outcome, Stop<OutcomeFault>> {
+        match json {
+            Value::Object(members) => read_members(alloc, path, members),
+            _ => wrong(path),
+        }
+    }
+}
+
+/// The outcome that the members of an object make.
+#[tactic(auto, unfolding(crate::specs::Reading::outcome))]
+fn read_members(
+    alloc: Global,
+    path: &Text,
+    members: &Map<String, Value>,
+) -> Result<Outcome, Stop<OutcomeFault>>
+    ensures { Gives result (outcome path.now (json.object (members_view members.now.entries))) }
+{
+    let mut keys = Keys::of(path, members, FirstUnknown::NoKey);
+    let err = keys.field::<LimitedText>(alloc, "err")?;
+    let facts = keys.field::<Facts>(alloc, "facts")?;
+    let not_started = keys.field::<NoAnswer>(alloc, "not_started")?;
+    let first = FirstKeys {
+        err,
+        facts,
+        not_started,
+    };
+    read_rest(alloc, keys, path, first)
+}
+
+/// The outcome, from the keys behind `not_started` on.
+#[tactic(auto, unfolding(crate::specs::Reading::rest_of_outcome))]
+fn read_rest(
+    alloc: Global,
+    mut keys: Keys<'_, FirstUnknown>,
+    path: &Text,
+    first: FirstKeys,
+) -> Result<Outcome, Stop<OutcomeFault>>
+    ensures { Gives result (value_of (rest_of_outcome path.now first (ahead keys.entry))) }
+{
+    let out = keys.field::<LimitedText>(alloc, "out")?;
+    let rc = keys.field::<Status>(alloc, "rc")?;
+    let unreachable = keys.field::<Lost>(alloc, "unreachable")?;
+    let unknown = keys.others(alloc)?;
+    Ok(first.finish(path, out, rc, unreachable, unknown)?)
 }
 
 impl Outcome {
@@ -259,76 +342,11 @@ impl Outcome {
         ensures fault { IfErr result
             (λ e. e ≢ OutcomeFault.Memory → outcome_of path.now (view json.now) ≡ Err e) }
     {
-        Ok(read_outcome(alloc, path, json)?)
-    }
-}
-
-fn read_outcome(alloc: Global, path: &Text, json: &Value) -> Result<Outcome, OutcomeFault>
-    ensures value { IfOk result (λ o. outcome path.now (view json.now) ≡ Ok o) }
-    ensures fault { IfErr result (λ e. e ≢ OutcomeFault.Memory → outcome path.now (view json.now) ≡ Err e) }
-{
-    match json {
-        Value::Object(members) => {
-            let mut draft = Draft::new();
-            for (key, member) in members.iter() {
-                let here = child(alloc, path, key.as_str())?;
-                draft = draft.with_key(alloc, here, key.as_str(), member)?;
-            }
-            draft.finish(path)
+        match AnOutcome::read(alloc, path, json) {
+            Ok(outcome) => Ok(outcome),
+            Err(Stop::Memory) => Err(OutcomeFault::Memory),
+            Err(Stop::WrongShape { path }) => Err(OutcomeFault::WrongShape { path }),
+            Err(Stop::Fault(fault)) => Err(fault),
         }
-        _ => Err(wrong_shape(path)),
-    }
-}
-
-fn read_text(alloc: Global, path: &Text, json: &Value) -> Result<ShortText, OutcomeFault>
-    ensures value { IfOk result (λ s. text path.now (view json.now) ≡ Ok s) }
-    ensures fault { IfErr result (λ e. e ≢ OutcomeFault.Memory → text path.now (view json.now) ≡ Err e) }
-{
-    match json {
-        Value::String(words) => match ShortText::of(alloc, words.as_str())? {
-            Some(words) => Ok(words),
-            None => Err(wrong_shape(path)),
-        },
-        _ => Err(wrong_shape(path)),
-    }
-}
-
-fn read_status(path: &Text, json: &Value) -> Result<i64, OutcomeFault>
-    ensures value { IfOk result (λ z. status path.now (view json.now) ≡ Ok z) }
-    ensures fault { IfErr result (λ e. e ≢ OutcomeFault.Memory → status path.now (view json.now) ≡ Err e) }
-{
-    match json {
-        Value::Number(number) => match number.as_i64() {
-            Some(rc) => Ok(rc),
-            None => Err(wrong_shape(path)),
-        },
-        _ => Err(wrong_shape(path)),
-    }
-}
-
-fn read_cause(path: &Text, json: &Value) -> Result<Cause, OutcomeFault>
-    ensures value { IfOk result (λ c. cause path.now (view json.now) ≡ Ok c) }
-    ensures fault { IfErr result (λ e. e ≢ OutcomeFault.Memory → cause path.now (view json.now) ≡ Err e) }
-{
-    match json {
-        Value::Number(number) => match number.as_u64() {
-            Some(number) => match Cause::of_number(number) {
-                Some(cause) => Ok(cause),
-                None => Err(wrong_shape(path)),
-            },
-            None => Err(wrong_shape(path)),
-        },
-        _ => Err(wrong_shape(path)),
-    }
-}
-
-fn read_facts(alloc: Global, path: &Text, json: &Value) -> Result<FlatValue, OutcomeFault>
-    ensures value { IfOk result (λ v. facts path.now (view json.now) ≡ Ok v) }
-    ensures fault { IfErr result (λ e. e ≢ OutcomeFault.Memory → facts path.now (view json.now) ≡ Err e) }
-{
-    match Val::from_json(alloc, json) {
-        Ok(value) => Ok(FlatValue::of(value)),
-        Err(ValFault::Memory) => Err(OutcomeFault::Memory),
-        Err(_) => Err(wrong_shape(path)),
     }
 }

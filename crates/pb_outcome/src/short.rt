@@ -1,10 +1,8 @@
 ghost use Rattle.std.specs.Prelude.{◌≡◌, ◌≤◌, IfOk, Some, None, length, nat_lt, if◌then◌else◌};
-ghost use Rattle.pb_value.specs.Depth.{depth};
 ghost use Rattle.pb_outcome.specs.Limits.{max_text, short_text};
 
 use crate::outcome::is_large;
 use pb_value::text::Text;
-use pb_value::val::Val;
 use std::alloc::{AllocError, Global};
 use std::marker::Model;
 
@@ -22,27 +20,6 @@ impl Model for ShortText {
     ghost view = { λ s. s.text };
 
     ghost invariant = { λ s. length s.text ≤ 1048576 };
-}
-
-/// A value that nests at most 64 deep.
-#[derive(Drop)]
-pub(crate) struct FlatValue {
-    value: Val,
-}
-
-impl Model for FlatValue {
-    ghost use Rattle.std.specs.Prelude.{◌≤◌};
-    ghost use Rattle.pb_value.specs.Datum.{Datum};
-    ghost use Rattle.pb_value.specs.Code.{coded_datum};
-    ghost use Rattle.pb_value.specs.Depth.{depth};
-
-    ghost Value = { Datum };
-
-    ghost coded = { coded_datum };
-
-    ghost view = { λ v. v.value };
-
-    ghost invariant = { λ v. depth v.value ≤ 64 };
 }
 
 impl ShortText {
@@ -64,22 +41,5 @@ impl ShortText {
     {
         let ShortText { text } = self;
         text
-    }
-}
-
-impl FlatValue {
-    pub(crate) fn of(value: Val) -> FlatValue
-        requires { depth value ≤ 64 }
-        ensures { result ≡ value }
-    {
-        FlatValue { value }
-    }
-
-    pub(crate) fn into_value(self) -> Val
-        ensures is { result ≡ self }
-        ensures flat { depth result ≤ 64 }
-    {
-        let FlatValue { value } = self;
-        value
     }
 }
