@@ -1,0 +1,111 @@
+-- What a program on this machine is started with, and which outcome its end gives. What a program does is said nowhere.
+use Rattle.std.specs.Prelude.{◌≡◌, ◌≢◌, ◌⊎◌, ⊤, ℕ, ℤ, pos, negsuc, ◌+◌, ◌<◌, ◌++◌, ◌==◌, ◌||◌, Bool, true, false, List, [], ◌∷◌, length, Result, Ok, Err, Option, Some, None, codes, if◌then◌else◌}
+use Rattle.std.specs.Str.{IsUtf8}
+use Rattle.std.specs.Process.{command_program, command_args}
+use Rattle.std.specs.declared.process.command.Command.{Command}
+use Rattle.serde_json.specs.Data as json
+use Rattle.pb_value.specs.Bytes.{json_in}
+use Rattle.pb_value.specs.Datum.{Datum}
+use Rattle.pb_value.specs.FromJson.{value_of}
+use Rattle.pb_value.specs.declared.fault.ValFault.{ValFault}
+use Rattle.pb_outcome.specs.Output.{stripped}
+use Rattle.pb_outcome.specs.Results.{is_nonzero}
+use Rattle.pb_outcome.specs.declared.cause.Cause.{Cause}
+use Rattle.pb_outcome.specs.declared.cause.Cause.TheVariants.{KilledBySignal, NotUtf8, TooLarge, FactsNotObject, OutOfMemory}
+use Rattle.pb_outcome.specs.declared.job.Call.{Call}
+use Rattle.pb_outcome.specs.declared.job.Call.TheVariants as calls
+use Rattle.pb_outcome.specs.declared.job.Job.{Job}
+use Rattle.pb_outcome.specs.declared.outcome.Form.{Form}
+use Rattle.pb_outcome.specs.declared.outcome.Form.TheVariants.{Ran, Module, Unreachable, NotStarted}
+
+-- what may come of a job: a target is unreachable only behind a connector, and only setup gives facts
+abbrev pub LocalAllows : Job → Form → Type 0
+LocalAllows job (Ran rc out err) = ⊤
+LocalAllows job (Module value) = job.call ≡ calls.Setup
+LocalAllows job (Unreachable msg) = job.connector ≢ []
+LocalAllows job (NotStarted cause) = ⊤
+
+-- the words of a call, where this is the facts program
+abbrev pub own_words : Option (List ℕ) → Call → List (List ℕ)
+own_words facts (calls.Command words) = words
+own_words facts (calls.Shell text) = codes "/bin/sh" ∷ codes "-c" ∷ text ∷ []
+own_words (Some path) calls.Setup = path ∷ []
+own_words None calls.Setup = []
+
+-- a connector's words and the target's name come in front
+abbrev pub in_front : List (List ℕ) → List ℕ → List (List ℕ)
+in_front [] target = []
+in_front (word ∷ words) target = (word ∷ words) ++ target ∷ []
+
+abbrev pub words_of : Option (List ℕ) → Job → List (List ℕ)
+words_of facts job = in_front job.connector job.target ++ own_words facts job.call
+
+-- the words of a command
+abbrev pub command_words : {A : Type 0} → Option (Command A) → List (List ℕ)
+command_words (Some c) = command_program c ∷ command_args c
+command_words None = []
+
+-- what is kept of one stream: its bytes, or that they were too many, or that memory was wanting
+pub record Kept : Type 0 where
+  pub bytes : List ℕ
+  pub room : ℕ
+  pub over : Bool
+  pub lost : Bool
+
+abbrev pub KeepsBehind : Kept → List ℕ → Kept → Type 0
+KeepsBehind old more new = (new.lost ≡ true) ⊎ ((new.lost ≡ false) × (old.lost ≡ false) × (new.bytes ≡ old.bytes ++ more))
+
+-- more bytes came: too many for the room that is left, or they take some of it and are kept behind the others, where no memory was wanting
+abbrev pub Adds : Kept → List ℕ → Kept → Type 0
+Adds old more new =
+    ((new.over ≡ true) × ((old.over ≡ true) ⊎ (old.room < length more)))
+    ⊎ ((new.over ≡ false) × (old.over ≡ false) × (old.room ≡ new.room + length more) × KeepsBehind old more new)
+
+-- all of the stream is there
+abbrev pub IsWhole : Kept → Type 0
+IsWhole kept = (kept.over ≡ false) × (kept.lost ≡ false)
+
+-- the facts that a program wrote: a JSON object, each value of which is one of ours
+abbrev pub told : Result Datum ValFault → Form
+told (Ok value) = Module value
+told (Err e) = NotStarted FactsNotObject
+
+abbrev pub facts_in : Option json.Data → Form
+facts_in (Some (json.object ms)) = told (value_of (json.object ms))
+facts_in (Some (json.array ds)) = NotStarted FactsNotObject
+facts_in (Some (json.string s)) = NotStarted FactsNotObject
+facts_in (Some (json.number n)) = NotStarted FactsNotObject
+facts_in (Some (json.boolean b)) = NotStarted FactsNotObject
+facts_in (Some json.null) = NotStarted FactsNotObject
+facts_in None = NotStarted FactsNotObject
+
+-- status 255, by which a connector says that there is no target
+abbrev pub is_lost : ℤ → Bool
+is_lost (pos n) = n == 255
+is_lost (negsuc n) = false
+
+-- what the status and the texts of a program say
+abbrev pub own_answer : Call → ℤ → List ℕ → List ℕ → Form
+own_answer (calls.Command words) rc out err = Ran rc out err
+own_answer (calls.Shell text) rc out err = Ran rc out err
+own_answer calls.Setup rc out err = if is_nonzero rc then Ran rc out err else facts_in (json_in out)
+
+abbrev pub answer_behind : List (List ℕ) → Call → ℤ → List ℕ → List ℕ → Form
+answer_behind [] call rc out err = own_answer call rc out err
+answer_behind (word ∷ words) call rc out err = if is_lost rc then Unreachable (stripped err) else own_answer call rc out err
+
+abbrev pub answer : Job → ℤ → List ℕ → List ℕ → Form
+answer job rc out err = answer_behind job.connector job.call rc out err
+
+-- one of the two streams isn't text
+abbrev pub IsNoText : Kept → Kept → Type 0
+IsNoText out err = (¬ (IsUtf8 out.bytes)) ⊎ (¬ (IsUtf8 err.bytes))
+
+-- what the end of a program gives, by its status (none where a signal ended it) and its two streams: the first cause that fits, or its answer
+abbrev pub Ends : Job → Option ℤ → Kept → Kept → Form → Type 0
+Ends job None out err form = form ≡ NotStarted KilledBySignal
+Ends job (Some rc) out err form =
+    (((out.over || err.over) ≡ true) × (form ≡ NotStarted TooLarge))
+    ⊎ (((out.over || err.over) ≡ false) × IsNoText out err × (form ≡ NotStarted NotUtf8))
+    ⊎ (((out.over || err.over) ≡ false) × (form ≡ NotStarted OutOfMemory))
+    ⊎ (IsWhole out × IsWhole err × (form ≡ answer job rc out.bytes err.bytes))

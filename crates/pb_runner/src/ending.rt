@@ -1,0 +1,175 @@
+//! What the end of a program gives.
+ghost use Rattle.std.specs.Prelude.{◌≡◌, ◌≢◌, ◌≤◌, ◌<◌, ◌⊎◌, ◌↔◌, ◌||◌, true, IfOk, IfErr, IfSome, IfNone, IsTrue, length};
+ghost use Rattle.std.specs.Process.{exit_code};
+ghost use Rattle.pb_outcome.specs.Limits.{max_text};
+ghost use Rattle.pb_outcome.specs.Output.{stripped};
+ghost use Rattle.pb_outcome.specs.Results.{is_nonzero};
+ghost use Rattle.pb_outcome.specs.declared.cause.Cause.TheVariants.{NotUtf8, TooLarge, OutOfMemory};
+ghost use Rattle.pb_outcome.specs.declared.outcome.Form.TheVariants.{Ran, Module, Unreachable, NotStarted};
+ghost use Rattle.pb_value.specs.Depth.{depth};
+ghost use Rattle.pb_value.specs.FromJson.{max_depth};
+ghost use Rattle.pb_value.specs.Bytes.{json_in};
+ghost use Rattle.pb_runner.specs.Local.{LocalAllows, IsWhole, IsNoText, Ends, answer, facts_in, is_lost};
+
+use crate::caught::Caught;
+use pb_outcome::cause::Cause;
+use pb_outcome::job::{Call, Job};
+use pb_outcome::outcome::Outcome;
+use pb_value::fault::ValFault;
+use pb_value::read_json::{JsonFault, read_json};
+use pb_value::text::Text;
+use pb_value::val::Val;
+use serde_json::Value;
+use std::alloc::Global;
+use std::process::ExitStatus;
+
+/// What a program wrote to its two streams.
+#[derive(Drop)]
+struct Texts {
+    out: Text,
+    err: Text,
+}
+
+/// The outcome of a program's end: the first cause that fits, else its answer.
+pub(crate) fn ended(
+    alloc: Global,
+    job: &Job,
+    status: ExitStatus,
+    out: Caught,
+    err: Caught,
+) -> Outcome
+    ensures first { Ends job.now (exit_code status) out err result }
+    ensures allowed { LocalAllows job.now result }
+{
+    let Some(code) = status.code() else {
+        return Outcome::not_started(Cause::KilledBySignal);
+    };
+    match both_texts(out, err) {
+        Ok(texts) => answered(alloc, job, i64::from(code), texts),
+        Err(cause) => Outcome::not_started(cause),
+    }
+}
+
+/// The texts of both streams, or the first cause that fits.
+fn both_texts(out: Caught, err: Caught) -> Result<Texts, Cause>
+    ensures whole { IfOk result (λ t. IsWhole out × IsWhole err × (t.out ≡ out.bytes) × (t.err ≡ err.bytes)) }
+    ensures short { IfOk result (λ t. (length t.out ≤ max_text) × (length t.err ≤ max_text)) }
+    ensures large { IfErr result (λ c. (c ≡ TooLarge) ↔ ((out.over || err.over) ≡ true)) }
+    ensures others { IfErr result (λ c. c ≢ TooLarge → ((c ≡ NotUtf8) × IsNoText out err) ⊎ (c ≡ OutOfMemory)) }
+{
+    if out.is_over() || err.is_over() {
+        return Err(Cause::TooLarge);
+    }
+    match (out.into_text(), err.into_text()) {
+        (Ok(out), Ok(err)) => Ok(Texts { out, err }),
+        (Err(Cause::NotUtf8), _) | (_, Err(Cause::NotUtf8)) => Err(Cause::NotUtf8),
+        _ => Err(Cause::OutOfMemory),
+    }
+}
+
+/// The outcome of a program that ended by itself: status 255 behind a connector is that of the connector.
+fn answered(alloc: Global, job: &Job, rc: i64, texts: Texts) -> Outcome
+    requires { (length texts.out ≤ max_text) × (length texts.err ≤ max_text) }
+    ensures answer { (result ≡ answer job.now rc texts.out texts.err) ⊎ (result ≡ NotStarted OutOfMemory) }
+    ensures allowed { LocalAllows job.now result }
+{
+    if !job.connector.is_empty() && is_lost(rc) {
+        return unreachable(alloc, texts.err.as_str());
+    }
+    match &job.call {
+        Call::Command { words: _ } | Call::Shell { text: _ } => ran(rc, texts),
+        Call::Setup => {
+            if rc == 0 {
+                gathered(alloc, texts.out.as_str())
+            } else {
+                ran(rc, texts)
+            }
+        }
+    }
+}
+
+fn is_lost(rc: i64) -> bool
+    ensures { result ≡ is_lost rc }
+{
+    rc == 255
+}
+
+fn unreachable(alloc: Global, err: &str) -> Outcome
+    requires { length err.now ≤ max_text }
+    ensures { (result ≡ Unreachable (stripped err.now)) ⊎ (result ≡ NotStarted OutOfMemory) }
+{
+    let Ok(msg) = Text::from_str(alloc, stripped(err)) else {
+        return Outcome::not_started(Cause::OutOfMemory);
+    };
+    match Outcome::unreachable(msg) {
+        Ok(outcome) => outcome,
+        Err(_) => Outcome::not_started(Cause::TooLarge),
+    }
+}
+
+fn ran(rc: i64, texts: Texts) -> Outcome
+    requires { (length texts.out ≤ max_text) × (length texts.err ≤ max_text) }
+    ensures { result ≡ Ran rc texts.out texts.err }
+{
+    let Texts { out, err } = texts;
+    match Outcome::ran(rc, out, err) {
+        Ok(outcome) => outcome,
+        Err(_) => Outcome::not_started(Cause::TooLarge),
+    }
+}
+
+/// The facts that a program wrote.
+fn gathered(alloc: Global, out: &str) -> Outcome
+    ensures { (result ≡ facts_in (json_in out.now)) ⊎ (result ≡ NotStarted OutOfMemory) }
+{
+    let json = match read_json(alloc, out.as_bytes()) {
+        Ok(json) => json,
+        Err(JsonFault::NotJson) => return Outcome::not_started(Cause::FactsNotObject),
+        Err(JsonFault::Memory) => return Outcome::not_started(Cause::OutOfMemory),
+    };
+    let Value::Object(_) = &json else {
+        return Outcome::not_started(Cause::FactsNotObject);
+    };
+    match Val::from_json(alloc, &json) {
+        Ok(value) => facts(value),
+        Err(ValFault::Memory) => Outcome::not_started(Cause::OutOfMemory),
+        Err(_) => Outcome::not_started(Cause::FactsNotObject),
+    }
+}
+
+fn facts(value: Val) -> Outcome
+    requires { depth value ≤ max_depth }
+    ensures { result ≡ Module value }
+{
+    match Outcome::module(value) {
+        Ok(outcome) => outcome,
+        Err(_) => Outcome::not_started(Cause::FactsNotObject),
+    }
+}
+
+/// The text without the LF or CR that ends it.
+fn without_line_end(text: &str) -> Option<&str>
+    ensures some { IfSome result (λ rest. stripped text.now ≡ stripped rest.now) }
+    ensures shorter { IfSome result (λ rest. length rest.now < length text.now) }
+    ensures none { IfNone result (stripped text.now ≡ text.now) }
+{
+    match text.strip_suffix("\n") {
+        Some(rest) => Some(rest),
+        None => match text.strip_suffix("\r") {
+            Some(rest) => Some(rest),
+            None => None,
+        },
+    }
+}
+
+/// The text without the LFs and CRs at its end.
+fn stripped(text: &str) -> &str
+    ensures value { result.now ≡ stripped text.now }
+    ensures short { length result.now ≤ length text.now }
+{
+    let mut rest = text;
+    while let Some(shorter) = without_line_end(rest) {
+        rest = shorter;
+    }
+    rest
+}
