@@ -14,7 +14,7 @@ pub mod gather;
 pub mod job;
 pub mod judge;
 pub mod outcome;
-mod output;
+pub mod output;
 pub mod reading;
 mod short;
 pub mod writing;

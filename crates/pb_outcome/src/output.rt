@@ -1,4 +1,5 @@
-ghost use Rattle.std.specs.Prelude.{◌≡◌, ◌<◌, ◌∷◌, [], IfOk, IfSome, IfNone, length, map};
+//! What a program wrote: its end without line ends, and its lines.
+ghost use Rattle.std.specs.Prelude.{◌≡◌, ◌<◌, ◌≤◌, ◌∷◌, [], IfOk, IfSome, IfNone, length, map};
 ghost use Rattle.std.specs.List.{slice_split};
 ghost use Rattle.pb_value.specs.Datum.{text as text_of};
 ghost use Rattle.pb_outcome.specs.Output.{stripped, is_newline, line_values};
@@ -23,8 +24,9 @@ fn without_line_end(text: &str) -> Option<&str>
 }
 
 /// The text without the LFs and CRs at its end.
-pub(crate) fn stripped(text: &str) -> &str
-    ensures { result.now ≡ stripped text.now }
+pub fn stripped(text: &str) -> &str
+    ensures value { result.now ≡ stripped text.now }
+    ensures short { length result.now ≤ length text.now }
 {
     let mut rest = text;
     while let Some(shorter) = without_line_end(rest) {

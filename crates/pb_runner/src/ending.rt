@@ -1,5 +1,5 @@
 //! What the end of a program gives.
-ghost use Rattle.std.specs.Prelude.{◌≡◌, ◌≢◌, ◌≤◌, ◌<◌, ◌⊎◌, ◌↔◌, ◌||◌, true, IfOk, IfErr, IfSome, IfNone, IsTrue, length};
+ghost use Rattle.std.specs.Prelude.{◌≡◌, ◌≢◌, ◌≤◌, ◌⊎◌, ◌↔◌, ◌||◌, true, IfOk, IfErr, length};
 ghost use Rattle.std.specs.Process.{exit_code};
 ghost use Rattle.pb_outcome.specs.Limits.{max_text};
 ghost use Rattle.pb_outcome.specs.Output.{stripped};
@@ -15,6 +15,7 @@ use crate::caught::Caught;
 use pb_outcome::cause::Cause;
 use pb_outcome::job::{Call, Job};
 use pb_outcome::outcome::Outcome;
+use pb_outcome::output::stripped;
 use pb_value::fault::ValFault;
 use pb_value::read_json::{JsonFault, read_json};
 use pb_value::text::Text;
@@ -145,31 +146,4 @@ fn facts(value: Val) -> Outcome
         Ok(outcome) => outcome,
         Err(_) => Outcome::not_started(Cause::FactsNotObject),
     }
-}
-
-/// The text without the LF or CR that ends it.
-fn without_line_end(text: &str) -> Option<&str>
-    ensures some { IfSome result (λ rest. stripped text.now ≡ stripped rest.now) }
-    ensures shorter { IfSome result (λ rest. length rest.now < length text.now) }
-    ensures none { IfNone result (stripped text.now ≡ text.now) }
-{
-    match text.strip_suffix("\n") {
-        Some(rest) => Some(rest),
-        None => match text.strip_suffix("\r") {
-            Some(rest) => Some(rest),
-            None => None,
-        },
-    }
-}
-
-/// The text without the LFs and CRs at its end.
-fn stripped(text: &str) -> &str
-    ensures value { result.now ≡ stripped text.now }
-    ensures short { length result.now ≤ length text.now }
-{
-    let mut rest = text;
-    while let Some(shorter) = without_line_end(rest) {
-        rest = shorter;
-    }
-    rest
 }
