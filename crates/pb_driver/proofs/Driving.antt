@@ -17,6 +17,7 @@ use Rattle.pb_state.specs.Plan.{PlayOf, PlanOf}
 use Rattle.pb_state.specs.Row.{HostRow}
 use Rattle.pb_state.specs.State.{State}
 use Rattle.pb_state.specs.Machine.{possible, after, first_state, is_out, open_play}
+use Rattle.pb_variables.specs.Connector.{connector_of}
 use Rattle.pb_state.specs.Jobs.{job_of, job_in, row_job, placed_job, named_job, job_with}
 use Rattle.pb_state.specs.Oldest.{oldest_out}
 use Rattle.pb_tree.specs.Tree.{path_at}
@@ -110,7 +111,7 @@ pub waits_same : {P : Type 0} (picks : P → List Bool → ℕ → P → Type 0)
 waits_same picks old_picker new_picker old new m = m.0
 
 -- a job has the first item
-item_named : (plan : PlanOf) (number : ℕ) (host : HostNo) (ticket : Ticket) (r : Running) (path : Option (List ℕ)) (name : Option (List ℕ)) → option_map_or (λ (j : Job). j.item) (option_map_or (λ (p : List ℕ). option_map (λ (n : List ℕ). job_with number host ticket r n p) name) path None) 0 ≡ 0
+item_named : (plan : PlanOf) (number : ℕ) (host : HostNo) (ticket : Ticket) (r : Running) (path : Option (List ℕ)) (name : Option (List ℕ)) → option_map_or (λ (j : Job). j.item) (option_map_or (λ (p : List ℕ). option_map (λ (n : List ℕ). job_with number host ticket r n (connector_of plan.inventory host.0) p) name) path None) 0 ≡ 0
 item_named plan number host ticket r None name = refl
 item_named plan number host ticket r (Some path) None = refl
 item_named plan number host ticket r (Some path) (Some name) = refl

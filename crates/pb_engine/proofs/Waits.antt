@@ -19,6 +19,7 @@ use Rattle.pb_state.specs.Plan.{PlayOf, PlanOf}
 use Rattle.pb_state.specs.Row.{HostRow}
 use Rattle.pb_state.specs.State.{State}
 use Rattle.pb_state.specs.Machine.{possible, at_row, awaits, has_ticket, is_ticket, is_running, open_play, may_report_in, may_send_in, may_send_item, has_send}
+use Rattle.pb_variables.specs.Connector.{connector_of}
 use Rattle.pb_state.specs.Jobs.{job_of, job_in, row_job, placed_job, named_job, job_with}
 use Rattle.pb_state.specs.Oldest.{oldest_out}
 use Rattle.pb_state.specs.Run.{is_move, IsRun}
@@ -121,7 +122,7 @@ row_within test [] h e = cc
 row_within test (row ∷ rows) zero e = omega arith
 row_within test (row ∷ rows) (suc h) e = let rest = row_within test rows h e in omega (arith, rest)
 
-named_some : (plan : PlanOf) (number : ℕ) (host : HostNo) (ticket : Ticket) (r : Running) (path : Option (List ℕ)) (name : Option (List ℕ)) → is_some path ≡ true → is_some name ≡ true → is_some (option_map_or (λ (p : List ℕ). option_map (λ (n : List ℕ). job_with number host ticket r n p) name) path None) ≡ true
+named_some : (plan : PlanOf) (number : ℕ) (host : HostNo) (ticket : Ticket) (r : Running) (path : Option (List ℕ)) (name : Option (List ℕ)) → is_some path ≡ true → is_some name ≡ true → is_some (option_map_or (λ (p : List ℕ). option_map (λ (n : List ℕ). job_with number host ticket r n (connector_of plan.inventory host.0) p) name) path None) ≡ true
 named_some plan number host ticket r None name e f = cc
 named_some plan number host ticket r (Some path) None e f = cc
 named_some plan number host ticket r (Some path) (Some name) e f = refl

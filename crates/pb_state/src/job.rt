@@ -10,9 +10,10 @@ use pb_ids::{HostNo, Place, PlayNo, Ticket};
 use pb_outcome::job::Job;
 use pb_value::items::Items;
 use pb_value::text::Text;
+use pb_variables::connector::connector;
 use std::alloc::{AllocError, Global};
 
-/// The job of a host's running task: it runs on the host itself, under this ticket.
+/// The job of a host's running task: it runs on the host itself, by the host's connector, under this ticket.
 pub(crate) fn job_in(
     alloc: Global,
     plan: &Plan,
@@ -34,11 +35,12 @@ pub(crate) fn job_in(
         return Ok(None);
     }
     let name = plan.host_name(host);
-    let job = job_with(alloc, number, host, ticket, running, name, place)?;
+    let connector = connector(alloc, plan.inventory(), host)?;
+    let job = job_with(alloc, number, host, ticket, running, name, connector, place)?;
     Ok(Some(job))
 }
 
-/// The job of a task that runs at a place, on a host with this name.
+/// The job of a task that runs at a place, on a host with this name and connector.
 fn job_with(
     alloc: Global,
     number: PlayNo,
@@ -46,9 +48,10 @@ fn job_with(
     ticket: Ticket,
     running: &Running,
     name: &str,
+    connector: Items<Text>,
     place: &Place,
 ) -> Result<Job, AllocError>
-    ensures { IfOk result (λ job. job ≡ job_with number.0 host ticket running.now name.now place.now) }
+    ensures { IfOk result (λ job. job ≡ job_with number.0 host ticket running.now name.now connector place.now) }
 {
     Ok(Job {
         ticket,
@@ -58,7 +61,7 @@ fn job_with(
         place: place.try_clone()?,
         item: 0,
         target: Text::from_str(alloc, name)?,
-        connector: Items::new(alloc),
+        connector,
         call: running.call.try_clone(alloc)?,
     })
 }

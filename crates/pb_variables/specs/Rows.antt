@@ -6,6 +6,7 @@ use Rattle.pb_value.specs.FromJson.{value_of}
 use Rattle.pb_groups.specs.Members.{own_of as own}
 use Rattle.pb_groups.specs.Ways.{link}
 use Rattle.pb_inventory.specs.InventoryOf.{InventoryOf}
+use Rattle.pb_variables.specs.Connector.{connector_of}
 use Rattle.pb_variables.specs.Extra.{variables_in}
 use Rattle.pb_variables.specs.Magic.{plan_magic, play_magic, host_magic}
 use Rattle.pb_variables.specs.declared.fault.ExtraFault.TheVariants.{WrongShape}
@@ -88,3 +89,30 @@ magic_of_play = refl
 pub magic_of_host : host_magic two_hosts 0 ≡ (codes "group_names", row (text (codes "ungrouped") ∷ [])) ∷ (codes "inventory_hostname", text (codes "b")) ∷ []
 unfolding host_magic
 magic_of_host = refl
+
+-- a host's own connector stands before its group's, and a list with another value than texts, or another value than a list, is none
+abbrev pub connected : Datum → InventoryOf
+connected value = record {
+  hosts = codes "b" ∷ codes "a" ∷ [];
+  groups = codes "all" ∷ codes "ungrouped" ∷ codes "web" ∷ [];
+  own = own 2 1 ∷ own 2 0 ∷ own 0 0 ∷ own 0 1 ∷ [];
+  links = link 0 1 ∷ link 0 2 ∷ [];
+  group_vars =
+      (codes "web", record { priority = pos 1; vars = record { name = codes "pb_connector"; value = row (text (codes "far") ∷ text (codes "-x") ∷ []) } ∷ [] }) ∷ [];
+  host_vars = (codes "a", (codes "pb_connector", value) ∷ []) ∷ [];
+}
+
+pub connector_of_group : connector_of (connected (row [])) 0 ≡ codes "far" ∷ codes "-x" ∷ []
+connector_of_group = refl
+
+pub own_connector : connector_of (connected (row (text (codes "near") ∷ []))) 1 ≡ codes "near" ∷ []
+own_connector = refl
+
+pub no_connector : connector_of (connected (int (pos 1))) 1 ≡ []
+no_connector = refl
+
+pub no_texts : connector_of (connected (row (text (codes "near") ∷ int (pos 1) ∷ []))) 1 ≡ []
+no_texts = refl
+
+pub no_words : connector_of (connected (row [])) 1 ≡ []
+no_words = refl
