@@ -18,6 +18,7 @@ pub(crate) fn read_both<O: Read + AsRawFd, E: Read + AsRawFd>(
 ) -> io::Result<()> {
     let mut out_is_open = true;
     let mut err_is_open = true;
+    // (counted, so that it is proved to end; no machine lives for so many rounds)
     for _ in 0..u64::MAX {
         if !out_is_open && !err_is_open {
             return Ok(());
