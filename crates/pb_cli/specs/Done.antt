@@ -1,5 +1,5 @@
 -- What the program has done where its status isn't that of a fault.
-use Rattle.std.specs.Prelude.{◌≡◌, ◌≢◌, ◌⊎◌, ◌≤◌, ◌+◌, ◌-◌, ℕ, Bool, false, List, Option, Some, None, Err, is_some, length, nat_lt}
+use Rattle.std.specs.Prelude.{◌≡◌, ◌≢◌, ◌⊎◌, ◌≤◌, ◌+◌, ◌-◌, ℕ, Bool, false, List, Option, Some, None, is_some, length, nat_lt}
 use Rattle.clap.specs.Words.{Text}
 use Rattle.pb_runner.specs.declared.fault.TableFault.{TableFault}
 use Rattle.pb_runner.specs.declared.fault.TableFault.TheVariants.{Memory}
@@ -12,7 +12,7 @@ use Rattle.pb_cli.specs.declared.words.Purpose.{Purpose}
 use Rattle.pb_cli.specs.declared.words.Purpose.TheVariants.{Run}
 use Rattle.pb_cli.specs.declared.words.WordsFault.TheVariants.{Help}
 use Rattle.pb_cli.specs.CommandLine.{Asks, IsRefused}
-use Rattle.pb_cli.specs.Played.{outcomes_of, IsGiven}
+use Rattle.pb_cli.specs.Played.{IsBadTable, IsGiven}
 use Rattle.pb_cli.specs.Warned.{IsWarned}
 
 -- the bundle of a request: its forks, limit and extra variables, and of each file's bytes no more than there is room for, and one byte that tells that there are more
@@ -35,7 +35,7 @@ pub record IsUntold (bundle : Bundle) (purpose : Purpose) (outcomes : Option (Li
   pub runs : purpose ≡ Run
   pub warned : IsWarned plan.warnings err_before err_after failures failures_after
   pub unwritten : out_after ≡ out_before
-  pub fault : e ≢ Memory → outcomes_of outcomes ≡ Err e
+  pub fault : e ≢ Memory → IsBadTable outcomes e
 
 -- a bundle has a plan, its warnings were written, and it was run, checked or listed
 abbrev pub IsShown : Bundle → Purpose → Option (List ℕ) → Option (List ℕ) → Option (List ℕ) → Option (List ℕ) → Option (List ℕ) → ℕ → ℕ → ℕ → Type 0
@@ -51,7 +51,7 @@ pub record IsDone (request : Request) (out_before out_after err_before err_after
   pub short : is_too_long outcomes ≡ false
   pub shown : IsShown bundle request.purpose outcomes out_before out_after err_before err_after failures failures_after status
 
--- help was asked for and written
+-- the words ask for help, and a text was put out: which text it is, is clap's own
 abbrev pub IsHelped : List Text → Option (List ℕ) → Option (List ℕ) → ℕ → Type 0
 IsHelped words before after status = (text : List ℕ) × IsRefused words (Help text) × (after ≡ with_more before text) × (status ≡ 0)
 

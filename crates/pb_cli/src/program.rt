@@ -6,7 +6,8 @@ ghost use Rattle.pb_state.specs.Bundle.{IsPlanOf, IsBundleFault};
 ghost use Rattle.pb_driver.specs.Taken.{with_more};
 ghost use Rattle.pb_cli.specs.Done.{IsBundleOf, is_too_long, IsUntold, IsShown, IsDone, IsHelped, IsAnswered};
 ghost use Rattle.pb_cli.specs.Listing.{listing};
-ghost use Rattle.pb_cli.specs.Played.{outcomes_of, IsPlayed, IsGiven};
+ghost use Rattle.pb_cli.specs.Played.{IsBadTable, IsRunBy, IsTabled, IsPlayed, IsGiven};
+ghost use Rattle.pb_runner.specs.Reading.{table_of};
 ghost use Rattle.pb_cli.specs.Warned.{ended, warning_text, IsWarned};
 
 use crate::files::read_file;
@@ -15,9 +16,10 @@ use crate::messages::{Part, message};
 use crate::words::{Purpose, Request, WordsFault, read_words};
 use pb_driver::{LineOut, RunFault, put_all, run_plain};
 use pb_engine::Lowest;
-use pb_outcome::outcome::Outcome;
 use pb_runner::fault::TableFault;
-use pb_runner::table::{Table, TableRunner};
+use pb_runner::local::LocalRunner;
+use pb_runner::runner::Runner;
+use pb_runner::table::TableRunner;
 use pb_state::{Bundle, BundleFault, MAX_BYTES, Plan};
 use pb_value::items::Items;
 use pb_value::text::Text;
@@ -25,6 +27,7 @@ use std::alloc::{AllocError, Global};
 use std::fmt::Display;
 use std::fs::Files;
 use std::io;
+use std::process::{Processes, SystemProcess};
 
 /// The most bytes of a file of outcomes: 64 MiB.
 const MAX_OUTCOMES: usize = 67_108_864;
@@ -40,44 +43,62 @@ pub enum PlayFault {
     Run(RunFault),
 }
 
-/// What comes of the jobs: what the bytes of a file of outcomes say, and without them status 0 and no output of each.
-fn table_runner(alloc: Global, outcomes: &Option<Items<u8>>) -> Result<TableRunner, TableFault>
-    ensures value { IfOk result (λ t. outcomes_of outcomes.now ≡ Ok t) }
-    ensures fault { IfErr result (λ e. e ≢ TableFault.Memory → outcomes_of outcomes.now ≡ Err e) }
+/// Runs a plan by this runner, with its lines on a writer.
+fn run_by<N: Runner, O: LineOut>(
+    alloc: Global,
+    plan: Plan,
+    runner: &mut N,
+    out: &mut O,
+) -> Result<u8, RunFault>
+    ensures { IfOk result (IsRunBy N.allows (N.gives runner.old) plan (O.taken out.old) (O.taken out.new)) }
 {
-    match outcomes {
-        Some(bytes) => TableRunner::read(alloc, bytes.as_slice()),
-        None => match Outcome::ran(0, Text::new(alloc), Text::new(alloc)) {
-            Ok(default) => Ok(TableRunner::of(
-                alloc,
-                Table {
-                    default,
-                    rows: Items::new(alloc),
-                },
-            )?),
-            Err(_) => unreachable!(),
-        },
+    match run_plain(alloc, plan, runner, &mut Lowest, out) {
+        Ok(ended) => Ok(ended.status),
+        Err((fault, _)) => Err(fault),
     }
 }
 
-/// Runs a plan, with its lines on a writer. Jobs have the outcomes of the file's bytes.
-fn run_plan<O: LineOut>(
+/// Runs a plan, with its lines on a writer. Jobs have the outcomes of a file's bytes.
+fn run_tabled<O: LineOut>(
     alloc: Global,
+    plan: Plan,
+    bytes: &[u8],
+    out: &mut O,
+) -> Result<u8, PlayFault>
+    ensures run { IfOk result (IsTabled bytes.now plan (O.taken out.old) (O.taken out.new)) }
+    ensures planned { (e : BundleFault) → result ≢ Err (PlayFault.Bundle e) }
+    ensures untold { (e : TableFault) → result ≡ Err (PlayFault.Outcomes e) → (O.taken out.new ≡ O.taken out.old) × (e ≢ TableFault.Memory → table_of bytes.now ≡ Err e) }
+{
+    let mut runner = match TableRunner::read(alloc, bytes) {
+        Ok(runner) => runner,
+        Err(fault) => return Err(PlayFault::Outcomes(fault)),
+    };
+    match run_by(alloc, plan, &mut runner, out) {
+        Ok(status) => Ok(status),
+        Err(fault) => Err(PlayFault::Run(fault)),
+    }
+}
+
+/// Runs a plan, with its lines on a writer: the jobs' programs on this machine, or nothing where there are bytes of a file of
+/// outcomes, which say what comes of each job.
+#[tactic(auto, unfolding(crate::specs::Played::IsBadTable))]
+fn run_plan<R: AllocGlobal + Processes<Started = SystemProcess>, O: LineOut>(
+    rt: &R,
     plan: Plan,
     outcomes: &Option<Items<u8>>,
     out: &mut O,
 ) -> Result<u8, PlayFault>
     ensures played { IfOk result (IsPlayed plan outcomes.now (O.taken out.old) (O.taken out.new)) }
     ensures planned { (e : BundleFault) → result ≢ Err (PlayFault.Bundle e) }
-    ensures untold { (e : TableFault) → result ≡ Err (PlayFault.Outcomes e) → (O.taken out.new ≡ O.taken out.old) × (e ≢ TableFault.Memory → outcomes_of outcomes.now ≡ Err e) }
+    ensures untold { (e : TableFault) → result ≡ Err (PlayFault.Outcomes e) → (O.taken out.new ≡ O.taken out.old) × (e ≢ TableFault.Memory → IsBadTable outcomes.now e) }
 {
-    let mut runner = match table_runner(alloc, outcomes) {
-        Ok(runner) => runner,
-        Err(fault) => return Err(PlayFault::Outcomes(fault)),
-    };
-    match run_plain(alloc, plan, &mut runner, &mut Lowest, out) {
-        Ok(ended) => Ok(ended.status),
-        Err((fault, _)) => Err(PlayFault::Run(fault)),
+    if let Some(bytes) = outcomes {
+        return run_tabled(rt.alloc(), plan, bytes.as_slice(), out);
+    }
+    let mut runner = LocalRunner::new(rt, None);
+    match run_by(rt.alloc(), plan, &mut runner, out) {
+        Ok(status) => Ok(status),
+        Err(fault) => Err(PlayFault::Run(fault)),
     }
 }
 
@@ -133,13 +154,15 @@ fn push_line(text: &mut String, line: &Text) -> Result<(), AllocError>
 
 /// Makes the plan of a bundle and does with it what it is made for, on a writer, and answers the exit status: it is run, its
 /// hosts are listed, or nothing but `ok` is written. Warnings of the plan are written before that, on a writer of their own.
+/// Without outcomes each job's program is run on this machine, the oldest job first and one at a time; with them nothing is run,
+/// and they say what comes of each job.
 ///
 /// # Errors
 /// `Bundle` with the bundle's first fault, where it has no plan: nothing is written on `out` then. `Outcomes` with the first fault
 /// of the outcomes, which are looked into only where there is a plan, its warnings are written, and it is to be run: nothing
 /// is written on `out` then. `Run` where memory was refused or the writer failed.
-pub fn play_bundle<O: LineOut, E: LineOut>(
-    alloc: Global,
+pub fn play_bundle<R: AllocGlobal + Processes<Started = SystemProcess>, O: LineOut, E: LineOut>(
+    rt: &R,
     bundle: &Bundle,
     purpose: Purpose,
     outcomes: &Option<Items<u8>>,
@@ -150,6 +173,7 @@ pub fn play_bundle<O: LineOut, E: LineOut>(
     ensures refused { (e : BundleFault) → result ≡ Err (PlayFault.Bundle e) → (O.taken out.new ≡ O.taken out.old) × (e ≢ BundleFault.Memory → IsBundleFault bundle.now e) }
     ensures untold { (e : TableFault) → result ≡ Err (PlayFault.Outcomes e) → IsUntold bundle.now purpose outcomes.now e (O.taken out.old) (O.taken out.new) (E.taken err.old) (E.taken err.new) (E.failures err.old) (E.failures err.new) }
 {
+    let alloc = rt.alloc();
     let plan = match Plan::of(alloc, bundle) {
         Ok(plan) => plan,
         Err(fault) => return Err(PlayFault::Bundle(fault)),
@@ -160,13 +184,13 @@ pub fn play_bundle<O: LineOut, E: LineOut>(
     match purpose {
         Purpose::CheckSyntax => show(out, "ok\n"),
         Purpose::ListHosts => show_hosts(alloc, &plan, out),
-        Purpose::Run => run_plan(alloc, plan, outcomes, out),
+        Purpose::Run => run_plan(rt, plan, outcomes, out),
     }
 }
 
 /// The program `pb-play`: what its words ask for, with its output on `out` and its faults on `err`. It answers the exit status:
 /// that of the run's recap, 0 where help was asked for or nothing is run, and 1 at a fault, which is told on `err`.
-pub fn play<R: Files + AllocGlobal, O: LineOut, E: LineOut>(
+pub fn play<R: Files + AllocGlobal + Processes<Started = SystemProcess>, O: LineOut, E: LineOut>(
     rt: &R,
     words: &[String],
     out: &mut O,
@@ -214,12 +238,11 @@ impl Drop for Asked {
 }
 
 /// Reads the files that were asked for, and plays them.
-fn play_request<R: Files + AllocGlobal, O: LineOut, E: LineOut>(
-    rt: &R,
-    request: Request,
-    out: &mut O,
-    err: &mut E,
-) -> u8
+fn play_request<
+    R: Files + AllocGlobal + Processes<Started = SystemProcess>,
+    O: LineOut,
+    E: LineOut,
+>(rt: &R, request: Request, out: &mut O, err: &mut E) -> u8
     ensures done { result ≢ 1 → IsDone request (O.taken out.old) (O.taken out.new) (E.taken err.old) (E.taken err.new) (E.failures err.old) (E.failures err.new) result }
 {
     let alloc = rt.alloc();
@@ -235,11 +258,16 @@ fn play_request<R: Files + AllocGlobal, O: LineOut, E: LineOut>(
             &"the outcomes have more than 64 MiB",
         );
     }
-    play_asked(alloc, &asked, out, err)
+    play_asked(rt, &asked, out, err)
 }
 
 /// Plays what was asked for, and tells a fault.
-fn play_asked<O: LineOut, E: LineOut>(alloc: Global, asked: &Asked, out: &mut O, err: &mut E) -> u8
+fn play_asked<R: AllocGlobal + Processes<Started = SystemProcess>, O: LineOut, E: LineOut>(
+    rt: &R,
+    asked: &Asked,
+    out: &mut O,
+    err: &mut E,
+) -> u8
     ensures done { result ≢ 1 → IsShown asked.now.bundle asked.now.purpose asked.now.outcomes (O.taken out.old) (O.taken out.new) (E.taken err.old) (E.taken err.new) (E.failures err.old) (E.failures err.new) result }
 {
     let Asked {
@@ -247,7 +275,8 @@ fn play_asked<O: LineOut, E: LineOut>(alloc: Global, asked: &Asked, out: &mut O,
         outcomes,
         purpose,
     } = asked;
-    match play_bundle(alloc, bundle, *purpose, outcomes, out, err) {
+    let alloc = rt.alloc();
+    match play_bundle(rt, bundle, *purpose, outcomes, out, err) {
         Ok(status) => status,
         Err(PlayFault::Run(fault)) => told(alloc, err, Part::Run, &fault),
         Err(PlayFault::Outcomes(fault)) => told(alloc, err, Part::Outcomes, &fault),

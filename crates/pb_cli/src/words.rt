@@ -89,9 +89,7 @@ fn run_words<'a>(alloc: Global) -> Result<Command<'a>, AllocError>
     let outcomes = Arg::new(alloc, "outcomes")
         .long("outcomes")
         .value_name("FILE")
-        .help(
-            "What comes of the jobs, a JSON file; without it each job ends with status 0 and no output",
-        );
+        .help("What comes of the jobs, a JSON file; no program is run then");
     file_words(alloc)?.arg(forks)?.arg(outcomes)
 }
 

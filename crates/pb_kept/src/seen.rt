@@ -4,6 +4,7 @@ use crate::kept::Kept;
 use pb_cli::program::play;
 use std::alloc::{AllocError, Global};
 use std::fs::Files;
+use std::process::{Processes, SystemProcess};
 
 /// What a play showed: its standard output, its standard error and its exit status.
 pub struct Seen {
@@ -25,7 +26,11 @@ impl Drop for Seen {
 }
 
 /// Plays these words, the first of which is the program's name, with this writer as standard output.
-pub fn play_words<R: Files + AllocGlobal>(rt: &R, words: &[String], mut out: Kept) -> Seen {
+pub fn play_words<R: Files + AllocGlobal + Processes<Started = SystemProcess>>(
+    rt: &R,
+    words: &[String],
+    mut out: Kept,
+) -> Seen {
     let mut err = Kept::new(rt.alloc());
     let status = play(rt, words, &mut out, &mut err);
     Seen {
@@ -46,7 +51,7 @@ fn words_of(alloc: Global, texts: &[&str]) -> Result<Vec<String>, AllocError> {
 }
 
 /// Plays the words behind the program's name, with this writer as standard output.
-pub fn play_texts<R: Files + AllocGlobal>(
+pub fn play_texts<R: Files + AllocGlobal + Processes<Started = SystemProcess>>(
     rt: &R,
     texts: &[&str],
     out: Kept,
