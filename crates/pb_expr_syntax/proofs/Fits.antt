@@ -19,7 +19,7 @@ use Rattle.std.specs.Str.{bytes_eq}
 use Rattle.pb_expr_syntax.specs.Tree as tree
 use Rattle.pb_expr_syntax.specs.Tree.{Tree, trees_of}
 use Rattle.pb_expr_syntax.specs.Grammar as grammar
-use Rattle.pb_expr_syntax.specs.Grammar.{Tok, Part, One, Many, Called, rules, nth, taken, made_any, leaf, Reads}
+use Rattle.pb_expr_syntax.specs.Grammar.{Tok, Part, One, Many, Called, rules, nth, taken, made_any, leaf, Reads, IsSole, CanEnd}
 
 pub data Shape : Type 0 where
   S : Shape
@@ -225,44 +225,44 @@ sample k = record { kind = k; at = 0; text = codes "join"; number = pos 0 }
 
 -- a rule reads some tokens, and what it makes has the shapes u
 abbrev Completes : Rule → List Part → List Shape → Type 0
-Completes r vs u = (ts : List Tok) × (ws : List Part) × (shapes ws ≡ u) × ((ss : List Symbol) (more : List Tok) (us : List Part) → Reads true ss more ws us → Reads true (Go r ∷ ss) (ts ++ more) vs us)
+Completes r vs u = (ts : List Tok) × (ws : List Part) × (shapes ws ≡ u) × ((u : Tree) (ss : List Symbol) (more : List Tok) → Reads true (IsSole u) ss more ws → Reads true (IsSole u) (Go r ∷ ss) (ts ++ more) vs)
 
 -- reading a name
 abbrev ByName : Rule → Type 0
-ByName r = (vs : List Part) (ss : List Symbol) (more : List Tok) (us : List Part) → Reads true ss more (One (leaf (sample kind.Name)) ∷ vs) us → Reads true (Go r ∷ ss) (sample kind.Name ∷ more) vs us
+ByName r = (vs : List Part) (u : Tree) (ss : List Symbol) (more : List Tok) → Reads true (IsSole u) ss more (One (leaf (sample kind.Name)) ∷ vs) → Reads true (IsSole u) (Go r ∷ ss) (sample kind.Name ∷ more) vs
 
 by_atom : ByName rule.Atom
-by_atom vs ss more us rest = grammar.go 2 (Take kind.Name Leaf ∷ []) refl (grammar.take refl refl rest)
+by_atom vs u ss more rest = grammar.go 2 (Take kind.Name Leaf ∷ []) refl (grammar.take refl refl rest)
 
 by_post : ByName rule.Post
-by_post vs ss more us rest = grammar.go 0 (Go rule.Atom ∷ Go rule.Tails ∷ []) refl (by_atom vs (Go rule.Tails ∷ ss) more us (grammar.go 2 [] refl rest))
+by_post vs u ss more rest = grammar.go 0 (Go rule.Atom ∷ Go rule.Tails ∷ []) refl (by_atom vs u (Go rule.Tails ∷ ss) more (grammar.go 2 [] refl rest))
 
 by_signed : ByName rule.Signed
-by_signed vs ss more us rest = grammar.go 1 (Go rule.Post ∷ []) refl (by_post vs ss more us rest)
+by_signed vs u ss more rest = grammar.go 1 (Go rule.Post ∷ []) refl (by_post vs u ss more rest)
 
 by_unary : ByName rule.Unary
-by_unary vs ss more us rest = grammar.go 0 (Go rule.Signed ∷ Go rule.Filters ∷ []) refl (by_signed vs (Go rule.Filters ∷ ss) more us (grammar.go 2 [] refl rest))
+by_unary vs u ss more rest = grammar.go 0 (Go rule.Signed ∷ Go rule.Filters ∷ []) refl (by_signed vs u (Go rule.Filters ∷ ss) more (grammar.go 2 [] refl rest))
 
 by_cat : ByName rule.Cat
-by_cat vs ss more us rest = grammar.go 0 (Go rule.Unary ∷ Go rule.Cats ∷ []) refl (by_unary vs (Go rule.Cats ∷ ss) more us (grammar.go 1 [] refl rest))
+by_cat vs u ss more rest = grammar.go 0 (Go rule.Unary ∷ Go rule.Cats ∷ []) refl (by_unary vs u (Go rule.Cats ∷ ss) more (grammar.go 1 [] refl rest))
 
 by_sum : ByName rule.Sum
-by_sum vs ss more us rest = grammar.go 0 (Go rule.Cat ∷ Go rule.Sums ∷ []) refl (by_cat vs (Go rule.Sums ∷ ss) more us (grammar.go 2 [] refl rest))
+by_sum vs u ss more rest = grammar.go 0 (Go rule.Cat ∷ Go rule.Sums ∷ []) refl (by_cat vs u (Go rule.Sums ∷ ss) more (grammar.go 2 [] refl rest))
 
 by_cmp : ByName rule.Cmp
-by_cmp vs ss more us rest = grammar.go 0 (Go rule.Sum ∷ Go rule.Compared ∷ []) refl (by_sum vs (Go rule.Compared ∷ ss) more us (grammar.go 8 [] refl rest))
+by_cmp vs u ss more rest = grammar.go 0 (Go rule.Sum ∷ Go rule.Compared ∷ []) refl (by_sum vs u (Go rule.Compared ∷ ss) more (grammar.go 8 [] refl rest))
 
 by_not : ByName rule.Not
-by_not vs ss more us rest = grammar.go 1 (Go rule.Cmp ∷ []) refl (by_cmp vs ss more us rest)
+by_not vs u ss more rest = grammar.go 1 (Go rule.Cmp ∷ []) refl (by_cmp vs u ss more rest)
 
 by_and : ByName rule.And
-by_and vs ss more us rest = grammar.go 0 (Go rule.Not ∷ Go rule.Ands ∷ []) refl (by_not vs (Go rule.Ands ∷ ss) more us (grammar.go 1 [] refl rest))
+by_and vs u ss more rest = grammar.go 0 (Go rule.Not ∷ Go rule.Ands ∷ []) refl (by_not vs u (Go rule.Ands ∷ ss) more (grammar.go 1 [] refl rest))
 
 by_or : ByName rule.Or
-by_or vs ss more us rest = grammar.go 0 (Go rule.And ∷ Go rule.Ors ∷ []) refl (by_and vs (Go rule.Ors ∷ ss) more us (grammar.go 1 [] refl rest))
+by_or vs u ss more rest = grammar.go 0 (Go rule.And ∷ Go rule.Ors ∷ []) refl (by_and vs u (Go rule.Ors ∷ ss) more (grammar.go 1 [] refl rest))
 
 by_expr : ByName rule.Expr
-by_expr vs ss more us rest = grammar.go 0 (Go rule.Or ∷ []) refl (by_or vs ss more us rest)
+by_expr vs u ss more rest = grammar.go 0 (Go rule.Or ∷ []) refl (by_or vs u ss more rest)
 
 worked_same : (w : Work) (sh u : List Shape) → worked w sh ≡ Some u → (w ≡ Changes) ⊎ (w ≡ Extends) → sh ≡ u
 worked_same Adds sh u e k = elim k [ inl h ↦ cc | inr h ↦ cc ]
@@ -273,20 +273,20 @@ added : (r : Rule) (vs : List Part) (u : List Shape) → worked Adds (shapes vs)
 added r vs u e reads = let s : S ∷ shapes vs ≡ u = cc in (sample kind.Name ∷ [], One (leaf (sample kind.Name)) ∷ vs, s, reads vs)
 
 nothing : (r : Rule) (vs : List Part) (u : List Shape) (place : ℕ) → shapes vs ≡ u → nth (rules r) place ≡ Some [] → Completes r vs u
-nothing r vs u place e is = ([], vs, e, λ ss more us rest. grammar.go place [] is rest)
+nothing r vs u place e is = ([], vs, e, λ u ss more rest. grammar.go place [] is rest)
 
 defined : Tok
 defined = record { kind = kind.Name; at = 0; text = codes "defined"; number = pos 0 }
 
 present : (vs : List Part) (u : List Shape) → worked Changes (shapes vs) ≡ Some u → Completes rule.Presence vs u
 unfolding defined
-present (One x ∷ vs) u e = let s : S ∷ shapes vs ≡ u = cc in (defined ∷ [], One (tree.IsDefined x true) ∷ vs, s, λ ss more us rest. grammar.go 1 (Take kind.Name Defined ∷ Do (make.Present true) ∷ []) refl (grammar.take refl refl (grammar.do_make refl rest)))
+present (One x ∷ vs) u e = let s : S ∷ shapes vs ≡ u = cc in (defined ∷ [], One (tree.IsDefined x true) ∷ vs, s, λ u ss more rest. grammar.go 1 (Take kind.Name Defined ∷ Do (make.Present true) ∷ []) refl (grammar.take refl refl (grammar.do_make refl rest)))
 present [] u e = cc
 present (Many xs ∷ vs) u e = cc
 present (Called f at ∷ vs) u e = cc
 
 word : (vs : List Part) (u : List Shape) → worked Changes (shapes vs) ≡ Some u → Completes rule.Word vs u
-word (One x ∷ vs) u e = let s : S ∷ shapes vs ≡ u = cc in (sample kind.Name ∷ [], One (tree.Member x (codes "join")) ∷ vs, s, λ ss more us rest. grammar.go 0 (Take kind.Name Member ∷ []) refl (grammar.take refl refl rest))
+word (One x ∷ vs) u e = let s : S ∷ shapes vs ≡ u = cc in (sample kind.Name ∷ [], One (tree.Member x (codes "join")) ∷ vs, s, λ u ss more rest. grammar.go 0 (Take kind.Name Member ∷ []) refl (grammar.take refl refl rest))
 word [] u e = cc
 word (Many xs ∷ vs) u e = cc
 word (Called f at ∷ vs) u e = cc
@@ -334,8 +334,8 @@ takes_sample k Member (Called f at ∷ vs) u e = cc
 takes_sample k Defined vs u e = (record { kind = k; at = 0; text = codes "defined"; number = pos 0 }, vs, refl, refl)
 
 -- some tokens complete what fits
-pub completed : (ss : List Symbol) (vs : List Part) → Fits ss vs → (more : List Tok) × (t : Tree) × Reads true ss more vs (One t ∷ [])
-completed [] vs fit = let one = single vs fit in ([], one.0, subst (λ us. Reads true [] [] vs us) one.1 grammar.done)
+pub completed : (ss : List Symbol) (vs : List Part) → Fits ss vs → CanEnd ss vs
+completed [] vs fit = let one = single vs fit in ([], one.0, grammar.done (refl, one.1))
 completed (Take k how ∷ ss) vs fit =
     let one = on_some (moved_take how (shapes vs)) (moves ss) (S ∷ []) fit in
     let took = takes_sample k how vs one.0 one.1 in
@@ -351,7 +351,7 @@ completed (Go r ∷ ss) vs fit =
     let one = on_some (worked (work r) (shapes vs)) (moves ss) (S ∷ []) fit in
     let does = completes r vs one.0 one.1 in
     let rest = completed ss does.1 (ap (moves ss) does.2 ∙ one.2) in
-    (does.0 ++ rest.0, rest.1, does.3 ss rest.0 (One rest.1 ∷ []) rest.2)
+    (does.0 ++ rest.0, rest.1, does.3 rest.1 ss rest.0 rest.2)
 
 -- a step keeps that the symbols fit the parts
 pub fits_step : (tokens : List Tok) (symbol : Symbol) (old new : State) → Fits (symbol ∷ old.symbols) old.parts → StepsTo tokens symbol old new → Fits new.symbols new.parts

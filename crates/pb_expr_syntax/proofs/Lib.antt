@@ -1,9 +1,11 @@
 pub mod Tables
 pub mod Starts
 pub mod Leads
+pub mod Calls
 pub mod ViewLemmas
 pub mod Fuel
 pub mod Parsed
+pub mod OneFault
 pub mod Fits
 pub mod Lexing
 pub mod Contents

@@ -2,12 +2,13 @@
 use Rattle.std.proofs.Common.{◌≡◌, ℕ, zero, suc, ◌++◌, ◌&&◌, ◌||◌, nat_eq, Bool, true, false, List, [], ◌∷◌, Option, Some, None, refl, sym, ◌∙◌, ap, subst}
 use Rattle.pb_expr_syntax.specs.declared.grammar.Kind.{Kind}
 use Rattle.pb_expr_syntax.specs.declared.grammar.Kind.TheVariants as kind
+use Rattle.pb_expr_syntax.specs.declared.grammar.Rule.{Rule}
 use Rattle.pb_expr_syntax.specs.declared.grammar.Symbol.{Symbol}
 use Rattle.pb_expr_syntax.specs.declared.grammar.Symbol.TheVariants.{Take, Go, Do}
 use Rattle.pb_expr_syntax.specs.Grammar.{Tok, Part, rules, nth, Reads, done, take, go, do_make}
 use Rattle.pb_expr_syntax.specs.Machine.{head_of}
 use Rattle.pb_expr_syntax.specs.Looks.{look_code, looks}
-use Rattle.pb_expr_syntax.proofs.Tables.{member, nullable, first, every, implies, firsts, empties, keeps, is_right, picks, all_right}
+use Rattle.pb_expr_syntax.proofs.Tables.{member, nullable, first, every, implies, firsts, empties, is_plain, keeps, is_right, picks, all_right}
 
 pub and_left : (a b : Bool) → (a && b) ≡ true → a ≡ true
 and_left true b h = refl
@@ -119,17 +120,39 @@ or_weaker false true s false true h p q = h
 or_weaker false true s false false h p q = cc
 or_weaker false false s m n h p q = cc
 
+-- what is left is nothing, where no token is
+abbrev pub Sure : (List Symbol → List Part → Type 0) → List Tok → Type 0
+Sure Left [] = (ss : List Symbol) (vs : List Part) → Left ss vs → ss ≡ []
+Sure Left (t ∷ ts) = Unit {0}
+
+-- what the tests say of an alternative
+pub test_of : (r : Rule) (place : ℕ) (a : List Symbol) → nth (rules r) place ≡ Some a → is_right r a ≡ true
+test_of r place a is = every_nth (is_right r) (rules r) place a (and_left (every (is_right r) (rules r)) (every (picks r 0 (rules r)) looks) (all_right r)) is
+
+pub begins_of : (r : Rule) (a : List Symbol) (h : Option Kind) → is_right r a ≡ true → implies (firsts a h) (member (look_code h) (first r)) ≡ true
+begins_of r a h right = every_look (λ q. implies (firsts a q) (member (look_code q) (first r))) h (and_left (every (λ q. implies (firsts a q) (member (look_code q) (first r))) looks) (implies (empties a) (nullable r) && (is_plain a && keeps r a)) right)
+
+rest_of : (r : Rule) (a : List Symbol) → is_right r a ≡ true → (implies (empties a) (nullable r) && (is_plain a && keeps r a)) ≡ true
+rest_of r a right = and_right (every (λ q. implies (firsts a q) (member (look_code q) (first r))) looks) (implies (empties a) (nullable r) && (is_plain a && keeps r a)) right
+
+pub nullable_of : (r : Rule) (a : List Symbol) → is_right r a ≡ true → implies (empties a) (nullable r) ≡ true
+nullable_of r a right = and_left (implies (empties a) (nullable r)) (is_plain a && keeps r a) (rest_of r a right)
+
+pub plain_of : (r : Rule) (a : List Symbol) → is_right r a ≡ true → is_plain a ≡ true
+plain_of r a right = and_left (is_plain a) (keeps r a) (and_right (implies (empties a) (nullable r)) (is_plain a && keeps r a) (rest_of r a right))
+
+pub keeps_of : (r : Rule) (a : List Symbol) → is_right r a ≡ true → keeps r a ≡ true
+keeps_of r a right = and_right (is_plain a) (keeps r a) (and_right (implies (empties a) (nullable r)) (is_plain a && keeps r a) (rest_of r a right))
+
 -- symbols that read tokens may begin with the first
-pub starts_as_read : {any : Bool} {ss : List Symbol} {ts : List Tok} {vs us : List Part} → Reads any ss ts vs us → starts ss (head_of ts) ≡ true
-starts_as_read done = refl
-starts_as_read (take {k} {how} {ss} {t} e w r) = subst (λ q. nat_eq (look_code (Some q)) (look_code (Some k)) ≡ true) (sym e) (same_code k)
-starts_as_read (go {r} {ss} {ts} place alternative is reads) =
+pub starts_as_read : {Left : List Symbol → List Part → Type 0} {ss : List Symbol} {ts : List Tok} {vs : List Part} → Sure Left ts → Reads false Left ss ts vs → starts ss (head_of ts) ≡ true
+starts_as_read sure (done {ss} {vs} left) = subst (λ xs. starts xs None ≡ true) (sym (sure ss vs left)) refl
+starts_as_read sure (take {k} {how} {ss} {t} e w r) = subst (λ q. nat_eq (look_code (Some q)) (look_code (Some k)) ≡ true) (sym e) (same_code k)
+starts_as_read sure (go {r} {ss} {ts} place alternative is reads) =
     let h : Option Kind = head_of ts in
-    let right : is_right r alternative ≡ true = every_nth (is_right r) (rules r) place alternative (and_left (every (is_right r) (rules r)) (every (picks r 0 (rules r)) looks) (all_right r)) is in
-    let begins : every (λ q. implies (firsts alternative q) (member (look_code q) (first r))) looks ≡ true = and_left _ _ right in
-    let rest : (implies (empties alternative) (nullable r) && keeps r alternative) ≡ true = and_right (every (λ q. implies (firsts alternative q) (member (look_code q) (first r))) looks) _ right in
+    let right : is_right r alternative ≡ true = test_of r place alternative is in
     or_weaker (firsts alternative h) (empties alternative) (starts ss h) (member (look_code h) (first r)) (nullable r)
-    (sym (starts-append alternative ss h) ∙ starts_as_read reads)
-    (every_look (λ q. implies (firsts alternative q) (member (look_code q) (first r))) h begins)
-    (and_left (implies (empties alternative) (nullable r)) (keeps r alternative) rest)
-starts_as_read (do_make e reads) = starts_as_read reads
+    (sym (starts-append alternative ss h) ∙ starts_as_read sure reads)
+    (begins_of r alternative h right)
+    (nullable_of r alternative right)
+starts_as_read sure (do_make e reads) = starts_as_read sure reads

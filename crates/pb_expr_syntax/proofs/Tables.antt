@@ -1,7 +1,8 @@
 -- Which tokens begin and follow each rule, and the test that the tables are right.
-use Rattle.std.proofs.Common.{◌≡◌, ℕ, suc, ◌&&◌, ◌||◌, nat_eq, Bool, true, false, List, [], ◌∷◌, Option, Some, None, refl}
+use Rattle.std.proofs.Common.{◌≡◌, ℕ, suc, ◌&&◌, ◌||◌, nat_eq, Bool, true, false, List, [], ◌∷◌, Option, Some, refl}
 use Rattle.pb_expr_syntax.specs.declared.grammar.Kind.{Kind}
-use Rattle.pb_expr_syntax.specs.declared.grammar.Kind.TheVariants as kind
+use Rattle.pb_expr_syntax.specs.declared.grammar.Make.{Make}
+use Rattle.pb_expr_syntax.specs.declared.grammar.Make.TheVariants as make
 use Rattle.pb_expr_syntax.specs.declared.grammar.Rule.{Rule}
 use Rattle.pb_expr_syntax.specs.declared.grammar.Rule.TheVariants as rule
 use Rattle.pb_expr_syntax.specs.declared.grammar.Symbol.{Symbol}
@@ -90,6 +91,15 @@ follow rule.Tails = 0 ∷ 4 ∷ 5 ∷ 6 ∷ 7 ∷ 8 ∷ 12 ∷ 13 ∷ 14 ∷ 15 
 follow rule.Word = 0 ∷ 4 ∷ 5 ∷ 6 ∷ 7 ∷ 8 ∷ 12 ∷ 13 ∷ 14 ∷ 15 ∷ 16 ∷ 17 ∷ 18 ∷ 19 ∷ 20 ∷ 21 ∷ 22 ∷ 23 ∷ 25 ∷ 26 ∷ 27 ∷ []
 follow rule.Atom = 0 ∷ 4 ∷ 5 ∷ 6 ∷ 7 ∷ 8 ∷ 12 ∷ 13 ∷ 14 ∷ 15 ∷ 16 ∷ 17 ∷ 18 ∷ 19 ∷ 20 ∷ 21 ∷ 22 ∷ 23 ∷ 25 ∷ 26 ∷ 27 ∷ []
 
+-- the end of a filter
+abbrev pub is_call : Make → Bool
+is_call make.Filtered = true
+is_call _ = false
+
+abbrev pub is_args : Rule → Bool
+is_args rule.Args = true
+is_args _ = false
+
 abbrev pub every : {A : Type 0} → (A → Bool) → List A → Bool
 every p [] = true
 every p (x ∷ xs) = p x && every p xs
@@ -111,6 +121,21 @@ empties (Take k how ∷ ss) = false
 empties (Do m ∷ ss) = empties ss
 empties (Go r ∷ ss) = nullable r && empties ss
 
+-- whether a filter may end before another token is taken
+abbrev pub calls : List Symbol → Bool
+calls [] = false
+calls (Take k how ∷ ss) = false
+calls (Do m ∷ ss) = is_call m || calls ss
+calls (Go r ∷ ss) = nullable r && calls ss
+
+abbrev pub is_empty : List Symbol → Bool
+is_empty [] = true
+is_empty (x ∷ ss) = false
+
+-- an alternative takes a token, or is nothing
+abbrev pub is_plain : List Symbol → Bool
+is_plain a = implies (calls a || empties a) (is_empty a)
+
 abbrev pub follows : Rule → Option Kind → Bool
 follows r h = member (look_code h) (follow r)
 
@@ -118,17 +143,17 @@ follows r h = member (look_code h) (follow r)
 abbrev pub asks : Rule → List Symbol → Option Kind → Bool
 asks r alternative h = firsts alternative h || (empties alternative && follows r h)
 
--- in the alternative, each rule's followers are known
+-- in the alternative, each rule's followers are known, and only arguments stand before the end of a filter
 abbrev pub keeps : Rule → List Symbol → Bool
 keeps r [] = true
 keeps r (Take k how ∷ ss) = keeps r ss
 keeps r (Do m ∷ ss) = keeps r ss
-keeps r (Go q ∷ ss) = every (λ h. implies (asks r ss h) (follows q h)) looks && keeps r ss
+keeps r (Go q ∷ ss) = every (λ h. implies (asks r ss h) (follows q h)) looks && (implies (calls ss || (empties ss && is_args r)) (is_args q) && keeps r ss)
 
 abbrev pub is_right : Rule → List Symbol → Bool
 is_right r alternative =
     every (λ h. implies (firsts alternative h) (member (look_code h) (first r))) looks
-    && (implies (empties alternative) (nullable r) && keeps r alternative)
+    && (implies (empties alternative) (nullable r) && (is_plain alternative && keeps r alternative))
 
 -- the choice is the one alternative that the token asks for
 abbrev pub picks : Rule → ℕ → List (List Symbol) → Option Kind → Bool

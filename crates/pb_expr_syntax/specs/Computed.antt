@@ -1,16 +1,20 @@
--- The tree that a text spells, computed: what crates above build on where they speak of what a text means. `Expr::parse`
--- shows that it is the one tree that the text spells, and that there is none where the text spells none. At each rule the
--- next token asks for one alternative.
+-- The tree that a text spells, and the first fault of a text that spells none, computed: what crates above build on where they
+-- speak of what a text means. `Expr::parse` shows that they are the one tree that the text spells and its one first fault. At
+-- each rule the next token asks for one alternative.
 use Rattle.std.specs.Prelude.{ℕ, zero, suc, ◌+◌, ◌*◌, nat_le, List, [], ◌∷◌, Option, Some, None, Result, Ok, Err, length, drop, if◌then◌else◌}
 use Rattle.std.specs.Option.{option_map}
 use Rattle.pb_expr_syntax.specs.declared.fault.ExprFault.{ExprFault}
+use Rattle.pb_expr_syntax.specs.declared.fault.ExprFault.TheVariants as fault
+use Rattle.pb_expr_syntax.specs.declared.parser.Refusal.{Refusal}
+use Rattle.pb_expr_syntax.specs.declared.parser.Refusal.TheVariants.{Unexpected, End}
+use Rattle.pb_expr_syntax.specs.Spelling.{fault_of}
 use Rattle.pb_expr_syntax.specs.declared.grammar.How.{How}
 use Rattle.pb_expr_syntax.specs.declared.grammar.Kind.{Kind}
 use Rattle.pb_expr_syntax.specs.declared.grammar.Symbol.{Symbol}
 use Rattle.pb_expr_syntax.specs.declared.grammar.Symbol.TheVariants.{Take, Go, Do}
 use Rattle.pb_expr_syntax.specs.Choice.{choice}
 use Rattle.pb_expr_syntax.specs.Depth.{depth}
-use Rattle.pb_expr_syntax.specs.Grammar.{Tok, Part, One, begin, rules, nth, taken, made}
+use Rattle.pb_expr_syntax.specs.Grammar.{Tok, Part, One, Many, Called, begin, rules, nth, taken, made}
 use Rattle.pb_expr_syntax.specs.Looks.{is_kind}
 use Rattle.pb_expr_syntax.specs.Machine.{State, head_of, went, took, built}
 use Rattle.pb_expr_syntax.specs.Tokens.{tokens_of}
@@ -64,3 +68,54 @@ tree_of_result (Ok tokens) = not_deeper (tree_of_tokens tokens)
 -- the tree of a text, if it spells one
 unfoldable pub tree_of : List ℕ → Option Tree
 tree_of text = if nat_le (length text) 4096 then tree_of_result (tokens_of text) else None
+
+-- the fault where a symbol leads nowhere: at the next token or the end, or at the name of the filter
+abbrev pub pointed : List Tok → Refusal
+pointed [] = End
+pointed (t ∷ ts) = Unexpected t.at
+
+abbrev pub called : List Part → Refusal
+called (Many xs ∷ Called f at ∷ parts) = Unexpected at
+called _ = End
+
+abbrev pub stopped : List Tok → Symbol → State → Refusal
+stopped tokens (Go r) old = pointed (drop old.next tokens)
+stopped tokens (Take k how) old = pointed (drop old.next tokens)
+stopped tokens (Do m) old = called old.parts
+
+abbrev pub left_over : List Tok → Option Refusal
+left_over [] = None
+left_over (t ∷ ts) = Some (Unexpected t.at)
+
+abbrev pub stops : (State → Option Refusal) → Refusal → Option State → Option Refusal
+stops go e None = Some e
+stops go e (Some s) = go s
+
+-- by the first symbol, and then as go says
+abbrev pub stops_first : (State → Option Refusal) → List Tok → State → List Symbol → Option Refusal
+stops_first go tokens s [] = left_over (drop s.next tokens)
+stops_first go tokens s (x ∷ ss) = stops go (stopped tokens x (behind s ss)) (stepped tokens x (behind s ss))
+
+-- where the symbols stop in that many steps
+abbrev pub run_to_fault : ℕ → List Tok → State → Option Refusal
+run_to_fault zero tokens s = None
+run_to_fault (suc n) tokens s = stops_first (run_to_fault n tokens) tokens s s.symbols
+
+unfoldable pub fault_of_tokens : List Tok → Option Refusal
+fault_of_tokens tokens = run_to_fault (32 * length tokens + 32) tokens (record { next = 0; symbols = begin; parts = [] })
+
+abbrev pub deeper : Option Tree → Option ExprFault
+deeper None = None
+deeper (Some t) = if nat_le (depth t) 64 then None else Some fault.TooDeep
+
+abbrev pub fault_of_both : Option Refusal → Option Tree → Option ExprFault
+fault_of_both (Some refused) o = Some (fault_of refused)
+fault_of_both None o = deeper o
+
+abbrev pub fault_of_result : Result (List Tok) ExprFault → Option ExprFault
+fault_of_result (Err e) = Some e
+fault_of_result (Ok tokens) = fault_of_both (fault_of_tokens tokens) (tree_of_tokens tokens)
+
+-- the first fault of a text, if it spells no tree
+unfoldable pub first_fault_of : List ℕ → Option ExprFault
+first_fault_of text = if nat_le (length text) 4096 then fault_of_result (tokens_of text) else Some fault.TooDeep

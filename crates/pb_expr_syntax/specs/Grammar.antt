@@ -1,7 +1,6 @@
 -- The grammar of expressions, and what a list of tokens spells. It is the part of Jinja's expressions ("Template Designer
 -- Documentation", section "Expressions") that conditions and templates have here.
-use Rattle.std.specs.Prelude.{◌≡◌, ◌+◌, ℕ, zero, suc, ◌++◌, ◌==◌, ◌&&◌, ◌||◌, nat_eq, Bool, true, false, if◌then◌else◌, cond, List, [], ◌∷◌, Option, Some, None, option_map, codes, nat_le, length, drop}
-use Rattle.std.specs.Prelude as list
+use Rattle.std.specs.Prelude.{◌≡◌, ℕ, zero, suc, ◌++◌, ◌||◌, nat_eq, Bool, true, false, if◌then◌else◌, List, [], ◌∷◌, Option, Some, None, codes, nat_le, length}
 use Rattle.std.specs.Str.{bytes_eq}
 use Rattle.pb_expr_syntax.specs.declared.tree.Op.TheVariants as op
 use Rattle.pb_expr_syntax.specs.declared.tree.Filter.{Filter}
@@ -118,42 +117,47 @@ abbrev pub makes : Bool → Make → List Part → Option (List Part)
 makes true m parts = made_any m parts
 makes false m parts = made m parts
 
--- By the symbols, the tokens lead from the parts vs to the parts us: a rule goes by any of its alternatives.
--- Where any is true, a filter may have any number of arguments.
-pub data Reads (any : Bool) : List Symbol → List Tok → List Part → List Part → Type 0 where
-  done : {vs : List Part} → Reads any [] [] vs vs
-  take : {k : Kind} {how : How} {ss : List Symbol} {t : Tok} {ts : List Tok} {vs ws us : List Part} →
-      t.kind ≡ k → taken how t vs ≡ Some ws → Reads any ss ts ws us → Reads any (Take k how ∷ ss) (t ∷ ts) vs us
-  go : {r : Rule} {ss : List Symbol} {ts : List Tok} {vs us : List Part} (place : ℕ) (alternative : List Symbol) →
-      nth (rules r) place ≡ Some alternative → Reads any (alternative ++ ss) ts vs us → Reads any (Go r ∷ ss) ts vs us
-  do_make : {m : Make} {ss : List Symbol} {ts : List Tok} {vs ws us : List Part} →
-      makes any m vs ≡ Some ws → Reads any ss ts ws us → Reads any (Do m ∷ ss) ts vs us
+-- By the symbols, the tokens are read one after another, from the parts vs on: a rule goes by any of its alternatives. What is
+-- left of the symbols, and the parts, are then as Left says. Where any is true, a filter may have any number of arguments.
+pub data Reads (any : Bool) (Left : List Symbol → List Part → Type 0) : List Symbol → List Tok → List Part → Type 0 where
+  done : {ss : List Symbol} {vs : List Part} → Left ss vs → Reads any Left ss [] vs
+  take : {k : Kind} {how : How} {ss : List Symbol} {t : Tok} {ts : List Tok} {vs ws : List Part} →
+      t.kind ≡ k → taken how t vs ≡ Some ws → Reads any Left ss ts ws → Reads any Left (Take k how ∷ ss) (t ∷ ts) vs
+  go : {r : Rule} {ss : List Symbol} {ts : List Tok} {vs : List Part} (place : ℕ) (alternative : List Symbol) →
+      nth (rules r) place ≡ Some alternative → Reads any Left (alternative ++ ss) ts vs → Reads any Left (Go r ∷ ss) ts vs
+  do_make : {m : Make} {ss : List Symbol} {ts : List Tok} {vs ws : List Part} →
+      makes any m vs ≡ Some ws → Reads any Left ss ts ws → Reads any Left (Do m ∷ ss) ts vs
 
 abbrev pub begin : List Symbol
 begin = Go rule.Expr ∷ []
 
+-- just the tree is left
+abbrev pub IsSole : Tree → List Symbol → List Part → Type 0
+IsSole t ss vs = (ss ≡ []) × (vs ≡ One t ∷ [])
+
 -- the tokens spell the tree
 abbrev pub Spells : List Tok → Tree → Type 0
-Spells tokens t = Reads false begin tokens [] (One t ∷ [])
+Spells tokens t = Reads false (IsSole t) begin tokens []
 
--- the tokens begin what is an expression, but for the numbers of arguments
+-- more tokens make a tree of what is left, but for the numbers of arguments
+abbrev pub CanEnd : List Symbol → List Part → Type 0
+CanEnd ss vs = (more : List Tok) × (t : Tree) × Reads true (IsSole t) ss more vs
+
+-- The tokens begin what is an expression: each filter that ends in them has a right number of arguments, and those behind
+-- them may have any.
 abbrev pub Begins : List Tok → Type 0
-Begins tokens = (more : List Tok) × (t : Tree) × Reads true begin (tokens ++ more) [] (One t ∷ [])
+Begins tokens = Reads false CanEnd begin tokens []
 
--- no tree is spelt by tokens that begin as these, up to the next one or their end
-abbrev pub NoneGoesOn : Bool → List Tok → ℕ → Type 0
-NoneGoesOn any tokens next = (more : List Tok) (t : Tree) → list.take 1 more ≡ list.take 1 (drop next tokens) → Reads any begin (list.take next tokens ++ more) [] (One t ∷ []) → ⊥
-
--- By the rules, the tokens lead from the start to these symbols, still to be read, and these parts.
-pub data Runs : List Tok → List Symbol → List Part → Type 0 where
-  begun : Runs [] (Go rule.Expr ∷ []) []
-  took : {k : Kind} {how : How} {ss : List Symbol} (t : Tok) (ts : List Tok) {vs ws : List Part} →
-      Runs ts (Take k how ∷ ss) vs → t.kind ≡ k → taken how t vs ≡ Some ws → Runs (ts ++ t ∷ []) ss ws
-  went : {r : Rule} (ss : List Symbol) {ts : List Tok} {vs : List Part} (place : ℕ) (alternative : List Symbol) →
-      Runs ts (Go r ∷ ss) vs → nth (rules r) place ≡ Some alternative → Runs ts (alternative ++ ss) vs
-  built : {m : Make} {ss : List Symbol} {ts : List Tok} {vs ws : List Part} →
-      Runs ts (Do m ∷ ss) vs → made m vs ≡ Some ws → Runs ts ss ws
+-- what is left begins with the end of a filter, whose name stands at this place, with a wrong number of arguments
+abbrev pub IsWrong : ℕ → List Symbol → List Part → Type 0
+IsWrong at (Do make.Filtered ∷ ss) (Many xs ∷ Called f name ∷ One x ∷ vs) = (name ≡ at) × (takes f (length xs) ≡ false)
+IsWrong at _ _ = ⊥
 
 -- the tokens end in a filter, whose name stands at this place, with a wrong number of arguments
 abbrev pub WrongCall : List Tok → ℕ → Type 0
-WrongCall tokens at = (f : Filter) × (x : Tree) × (xs : List Tree) × (ss : List Symbol) × (vs : List Part) × Runs tokens (Do make.Filtered ∷ ss) (Many xs ∷ Called f at ∷ One x ∷ vs) × (takes f (length xs) ≡ false)
+WrongCall tokens at = Reads false (IsWrong at) begin tokens []
+
+-- No expression begins with the front and the next token; or, at the end, the front is none.
+abbrev pub IsStuck : List Tok → List Tok → Type 0
+IsStuck front [] = (t : Tree) → Spells front t → ⊥
+IsStuck front (t ∷ rest) = Begins (front ++ t ∷ []) → ⊥

@@ -1,12 +1,13 @@
 -- Worked examples: each is proved by computing both sides.
-use Rattle.std.specs.Prelude.{◌≡◌, ℕ, ℤ, pos, List, [], ◌∷◌, Ok, Err, Some, None, codes, refl}
-use Rattle.pb_expr_syntax.specs.Computed.{tree_of, tree_of_tokens}
+use Rattle.std.specs.Prelude.{◌≡◌, ℕ, ℤ, pos, List, [], ◌∷◌, Ok, Err, Some, None, codes, refl, false}
+use Rattle.pb_expr_syntax.specs.Computed.{tree_of, tree_of_tokens, first_fault_of, fault_of_tokens}
 use Rattle.pb_expr_syntax.specs.declared.fault.ExprFault.TheVariants.{Unexpected, End, NumberTooLarge}
 use Rattle.pb_expr_syntax.specs.declared.grammar.Kind.{Kind}
 use Rattle.pb_expr_syntax.specs.declared.grammar.Kind.TheVariants as kind
 use Rattle.pb_expr_syntax.specs.declared.token.Token.{Token}
+use Rattle.pb_expr_syntax.specs.declared.tree.Filter.TheVariants as filter
 use Rattle.pb_expr_syntax.specs.declared.tree.Op.TheVariants as op
-use Rattle.pb_expr_syntax.specs.Tree.{Int, Name, Not, Binary, ListOf, no_trees}
+use Rattle.pb_expr_syntax.specs.Tree.{Int, Name, Not, Binary, Apply, IsDefined, ListOf, no_trees, tree_and}
 use Rattle.pb_expr_syntax.specs.Depth.{depth}
 use Rattle.pb_expr_syntax.specs.Tokens.{tokens_of}
 
@@ -59,3 +60,63 @@ sum_of_text = refl
 chained : tree_of (codes "1 < 2 < 3") ≡ None
 unfolding tree_of tree_of_tokens
 chained = refl
+
+-- `or` binds weaker than `and`, and `not` stronger than both
+either : tree_of (codes "a or b and not c") ≡ Some (Binary op.Or (Name (codes "a")) (Binary op.And (Name (codes "b")) (Not (Name (codes "c")))))
+unfolding tree_of tree_of_tokens
+either = refl
+
+not_of_comparison : tree_of (codes "not a == 1") ≡ Some (Not (Binary op.Equal (Name (codes "a")) (Int (pos 1))))
+unfolding tree_of tree_of_tokens
+not_of_comparison = refl
+
+missing : tree_of (codes "a is not defined") ≡ Some (IsDefined (Name (codes "a")) false)
+unfolding tree_of tree_of_tokens
+missing = refl
+
+not_in : tree_of (codes "a not in []") ≡ Some (Binary op.NotIn (Name (codes "a")) (ListOf no_trees))
+unfolding tree_of tree_of_tokens
+not_in = refl
+
+two_arguments : tree_of (codes "a | default(d, f)") ≡ Some (Apply filter.Default (Name (codes "a")) (tree_and (Name (codes "d")) (tree_and (Name (codes "f")) no_trees)))
+unfolding tree_of tree_of_tokens
+two_arguments = refl
+
+grouped_left : tree_of (codes "3 - 2 - 1") ≡ Some (Binary op.Minus (Binary op.Minus (Int (pos 3)) (Int (pos 2))) (Int (pos 1)))
+unfolding tree_of tree_of_tokens
+grouped_left = refl
+
+-- the first fault that is computed for a text: at the second comparison; at the end of an unclosed text
+chained_at : first_fault_of (codes "1 < 2 < 3") ≡ Some (Unexpected 6)
+unfolding first_fault_of fault_of_tokens
+chained_at = refl
+
+unclosed_text : first_fault_of (codes "'a") ≡ Some End
+unfolding first_fault_of
+unclosed_text = refl
+
+stops_short : first_fault_of (codes "x |") ≡ Some End
+unfolding first_fault_of fault_of_tokens
+stops_short = refl
+
+-- a wrong number of arguments is told at the filter's name once its call is complete, before what stands behind it
+wrong_call_first : first_fault_of (codes "x | length(1) +") ≡ Some (Unexpected 4)
+unfolding first_fault_of fault_of_tokens
+wrong_call_first = refl
+
+wrong_call_before_token : first_fault_of (codes "x | default 5") ≡ Some (Unexpected 4)
+unfolding first_fault_of fault_of_tokens
+wrong_call_before_token = refl
+
+-- and after a fault within its arguments
+open_call : first_fault_of (codes "x | length(1 ]") ≡ Some (Unexpected 13)
+unfolding first_fault_of fault_of_tokens
+open_call = refl
+
+unknown_filter : first_fault_of (codes "x | upper") ≡ Some (Unexpected 4)
+unfolding first_fault_of fault_of_tokens
+unknown_filter = refl
+
+no_fault : first_fault_of (codes "a") ≡ None
+unfolding first_fault_of fault_of_tokens tree_of_tokens
+no_fault = refl

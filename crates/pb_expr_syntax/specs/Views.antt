@@ -1,5 +1,5 @@
 -- What the parser's values stand for.
-use Rattle.std.specs.Prelude.{◌≡◌, ℕ, List, [], ◌∷◌, length, take, drop, ◌⊎◌, true, false}
+use Rattle.std.specs.Prelude.{◌≡◌, ℕ, List, [], ◌∷◌, ◌++◌, length, drop, ◌⊎◌, false}
 use Rattle.pb_expr_syntax.specs.declared.grammar.Symbol.{Symbol}
 use Rattle.pb_expr_syntax.specs.declared.parser.Part as code
 use Rattle.pb_expr_syntax.specs.declared.parser.Machine.{Machine}
@@ -76,15 +76,11 @@ StopsWith tokens symbol old Memory = Unit {0}
 StopsWith tokens (Do m) old e = Stops tokens (Do m) old × CallFault e m old.parts
 StopsWith tokens symbol old e = Stops tokens symbol old × Points e (drop old.next tokens)
 
--- Where the tokens before next begin an expression, the fault is at the next one.
--- No expression begins with them and the next one, or is just these, whatever the numbers of arguments.
-abbrev pub IsStuck : List Tok → ℕ → Refusal → Type 0
-IsStuck tokens next e = grammar.NoneGoesOn true tokens next × Points e (drop next tokens)
+-- Between the front and the rest, the fault names the filter that ends there with a wrong number of arguments; where there is
+-- none, it names the next token or the end.
+abbrev pub Names : Refusal → List Tok → List Tok → Type 0
+Names e front rest = ((at : ℕ) × (e ≡ Unexpected at) × grammar.WrongCall front at) ⊎ (((at : ℕ) → grammar.WrongCall front at → ⊥) × Points e rest)
 
--- The first fault: the tokens before next begin an expression, but for the numbers of arguments. No such
--- expression begins with them and the next one (or is just these, at the end), and the fault names it;
--- or they end in a filter with a wrong number of arguments, and the fault names the filter.
+-- the first fault: where the longest front that begins an expression ends
 abbrev pub Refuses : List Tok → Refusal → Type 0
-Refuses tokens Memory = Unit {0}
-Refuses tokens End = (next : ℕ) × grammar.Begins (take next tokens) × IsStuck tokens next End
-Refuses tokens (Unexpected at) = (next : ℕ) × grammar.Begins (take next tokens) × (IsStuck tokens next (Unexpected at) ⊎ (grammar.WrongCall (take next tokens) at × grammar.NoneGoesOn false tokens next))
+Refuses tokens e = (front : List Tok) × (rest : List Tok) × (tokens ≡ front ++ rest) × grammar.Begins front × grammar.IsStuck front rest × Names e front rest

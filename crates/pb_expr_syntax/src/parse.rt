@@ -1,6 +1,6 @@
 //! Reads a text as an expression.
 ghost use Rattle.std.specs.Prelude.{◌≡◌, ◌≢◌, ◌≤◌, IfOk, IfErr, Ok, Some, None, length};
-ghost use Rattle.pb_expr_syntax.specs.Computed.{tree_of};
+ghost use Rattle.pb_expr_syntax.specs.Computed.{tree_of, first_fault_of};
 ghost use Rattle.pb_expr_syntax.specs.Tree.{Tree};
 ghost use Rattle.pb_expr_syntax.specs.Spelling.{spells, fault_of, FirstFault};
 
@@ -32,14 +32,17 @@ impl Expr {
     /// short; a tree deeper than 64. The grammar follows "Using filters to manipulate data" and
     /// "Tests" of Ansible's documentation and Jinja's template designer documentation.
     ///
-    /// `tree_of` computes the same tree, for what is said of texts in the crates above.
-    #[tactic(auto, using(crate::proofs::Computed::tree_is, crate::proofs::Computed::tree_is_none))]
+    /// No text has two first faults. `tree_of` computes the same tree and `first_fault_of` the same
+    /// fault, for what is said of texts in the crates above.
+    #[tactic(auto, using(crate::proofs::Computed::tree_is, crate::proofs::Computed::tree_is_none, crate::proofs::OneFault::one_fault))]
     pub fn parse(alloc: Global, text: &str) -> Result<Expr, ExprFault>
         ensures spelt { IfOk result (λ x. spells text.now x) }
         ensures only { IfOk result (λ x. (t : Tree) → spells text.now t → t ≡ x) }
         ensures none { IfErr result (λ e. e ≢ ExprFault.Memory → (t : Tree) → spells text.now t → ⊥) }
         ensures fault { IfErr result (λ e. e ≢ ExprFault.Memory → FirstFault text.now e) }
+        ensures first { IfErr result (λ e. e ≢ ExprFault.Memory → (other : ExprFault) → FirstFault text.now other → other ≡ e) }
         ensures computed { IfOk result (λ x. tree_of text.now ≡ Some x) }
+        ensures computed_fault { IfErr result (λ e. e ≢ ExprFault.Memory → first_fault_of text.now ≡ Some e) }
         ensures not_computed { IfErr result (λ e. e ≢ ExprFault.Memory → tree_of text.now ≡ None) }
     {
         if text.len() > MAX_BYTES {

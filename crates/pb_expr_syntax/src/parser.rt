@@ -416,7 +416,7 @@ pub fn parse_tokens(alloc: Global, tokens: &[Token]) -> Result<Expr, Refusal>
     ensures ok { IfOk result (λ x. Spells tokens.now x) }
     ensures only { IfOk result (λ x. (t : Tree) → Spells tokens.now t → t ≡ x) }
     ensures none { IfErr result (λ e. Faults e ((t : Tree) → Spells tokens.now t → ⊥)) }
-    ensures fault { IfErr result (λ e. Refuses tokens.now e) }
+    ensures fault { IfErr result (λ e. Faults e (Refuses tokens.now e)) }
 {
     let mut symbols = Vec::new(alloc);
     symbols.push(Symbol::Go(Rule::Expr))?;
