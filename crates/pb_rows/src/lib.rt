@@ -1,8 +1,21 @@
-//! Tests alone, of plays of the program that no case shows: writers that fail or take little, files of outcomes that are cut at
-//! each byte.
+//! Tests alone, of what no case shows: writers that fail or take little, files of outcomes that are cut at each byte, the largest
+//! bundles and files of outcomes that are taken with those that are one larger, the events of runs in their order, and reports
+//! that are refused and handed back.
 #![tactic(auto)]
 
 #[cfg(test)]
+mod bundles;
+#[cfg(test)]
 mod cut;
+#[cfg(test)]
+mod made;
+#[cfg(test)]
+mod outcomes;
+#[cfg(test)]
+mod reports;
+#[cfg(test)]
+mod silent;
+#[cfg(test)]
+mod trails;
 #[cfg(test)]
 mod writers;
