@@ -83,7 +83,7 @@ IsTold plan pool trail counts status = (counts ≡ recap plan pool trail) × (st
 abbrev pub HasBegun : (Job → Form → Type 0) → (Job → Form → Type 0) → EngineOf → Type 0
 HasBegun allows gives engine = IsBegun allows gives engine.plan engine.pool engine.trail
 
--- the engine took one event that isn't a command; where it is a report, nothing else was possible, and the job that was out is answered
+-- the engine took one event that isn't a command; where it is a report, nothing that the machine takes by itself was possible, and the job that was out is answered
 pub record TakesOne (allows gives : Job → Form → Type 0) (old new : EngineOf) : Type 0 where
   pub event : Event
   pub takes : Takes old new event

@@ -68,7 +68,7 @@ pub record IsRun (plan : PlanOf) (pool : ℕ) (trail : List Event) (s : State) :
   pub legal : legal_from plan (first_state plan plan.forks pool) trail ≡ true
   pub ends : state_from plan (first_state plan plan.forks pool) trail ≡ s
 
--- where a report stands, the machine had nothing else to take
+-- where a report stands, nothing that the machine takes by itself was possible
 abbrev pub IsEager : PlanOf → State → List Event → Type 0
 IsEager plan s [] = Unit {0}
 IsEager plan s (e ∷ es) = (is_report e ≡ true → IsQuiet plan s) × IsEager plan (after plan s e) es
