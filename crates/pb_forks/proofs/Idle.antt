@@ -1,12 +1,15 @@
 -- How many forks are idle.
 use Rattle.std.proofs.Common.{◌≡◌, ◌≢◌, ℕ, zero, suc, ◌+◌, ◌*◌, ◌%◌, ◌<◌, ◌≤◌, cond, eqb, List, [], ◌∷◌, length, take, get_or, set, replicate, refl, sym, ap, ◌∙◌, arith, length-set, get_or-set_same, eq-eqb, ne_eqb}
+use Rattle.std.specs.Prelude.{Result, Ok, Err, MatchResult}
 use mathlib.Core.Logic.{dite}
 use native.Mathlib.Decide.{ℕ_discrete}
 use Rattle.pb_outcome.specs.declared.job.Job.{Job}
 use Rattle.pb_outcome.specs.declared.job.Report.{Report}
 use Rattle.pb_outcome.specs.declared.outcome.Form.{Form}
 use Rattle.pb_forks.specs.declared.views.MainView.{MainView}
-use Rattle.pb_forks.specs.Views.{MainSees, CollectedLast, idle_words, idle_forks, offered_to, main_shut, start}
+use Rattle.pb_forks.specs.declared.pool.NoAnswer.{NoAnswer}
+use Rattle.pb_forks.specs.Logs.{FitsLast, offers_of}
+use Rattle.pb_forks.specs.Views.{MainSees, CollectedLast, idle_words, idle_forks, main_looked, offered_to, collected_from, main_shut, start}
 
 -- 1 for an idle word, else 0
 abbrev one_if : ℕ → ℕ
@@ -56,24 +59,43 @@ idle_shut j m n lt zero_seen e =
     let is : idle_forks n ≡ idle_words (set m.seen j 4) = ap idle_forks e in
     omega arith
 
+collected_one : (j : ℕ) (m : MainView) (r : Report) (n : MainView) → j < length m.seen → MainSees (get_or m.seen j 0) (4 * r.ticket.0 + 3) → n ≡ collected_from j r m → idle_forks n ≡ idle_forks m + 1
+collected_one j m r n lt sees e =
+    let w : ℕ = 4 * r.ticket.0 + 3 in
+    let ws = set m.seen j w in
+    let none_at = one_other w (λ z. omega arith) in
+    let none_before : one_if (get_or m.seen j 0) ≡ 0 = sym (same_idle (get_or m.seen j 0) w sees) ∙ none_at in
+    let one = idle_set m.seen j w (omega arith) in
+    let there : get_or ws j 0 ≡ w = get_or-set_same m.seen j w 0 (omega arith) in
+    let wide : length ws ≡ length m.seen = length-set m.seen j w in
+    let two = idle_set ws j 0 (omega arith) in
+    let none_there : one_if (get_or ws j 0) ≡ 0 = ap one_if there ∙ none_at in
+    let is : idle_forks n ≡ idle_words (set ws j 0) = ap idle_forks e in
+    omega arith
+
 pub idle_collected : (allows : Job → Form → Type 0) (j : ℕ) (m : MainView) (r : Report) (n : MainView) → j < length m.seen → CollectedLast allows j m r n → idle_forks n ≡ idle_forks m + 1
 idle_collected allows j m r n lt h =
     let b = h.0 in
     let st = h.1 in
     let long : length b.seen ≡ length m.seen = st.4 in
     let same : idle_words b.seen ≡ idle_words m.seen = idle_stays m.seen b.seen long st.6 in
-    let w : ℕ = 4 * r.ticket.0 + 3 in
-    let ws = set b.seen j w in
-    let some : get_or b.seen j 0 ≢ 0 = λ z. (let c : w ≡ get_or b.seen j 0 = h.2.0 (ap (λ k. k % 4) z) in omega arith) in
-    let one = idle_set b.seen j w (omega arith) in
-    let none_before = one_other (get_or b.seen j 0) some in
-    let none_at = one_other w (λ z. omega arith) in
-    let there : get_or ws j 0 ≡ w = get_or-set_same b.seen j w 0 (omega arith) in
-    let wide : length ws ≡ length b.seen = length-set b.seen j w in
-    let two = idle_set ws j 0 (omega arith) in
-    let none_there : one_if (get_or ws j 0) ≡ 0 = ap one_if there ∙ none_at in
-    let is : idle_forks n ≡ idle_words (set ws j 0) = ap idle_forks h.3 in
+    let more = collected_one j b r n (omega arith) h.2 h.3 in
     omega arith
+
+looked_at : (j w : ℕ) (m n : MainView) → j < length m.seen → MainSees (get_or m.seen j 0) w → n ≡ main_looked j w m → idle_forks n ≡ idle_forks m
+looked_at j w m n lt sees e =
+    let one = idle_set m.seen j w lt in
+    let same = same_idle (get_or m.seen j 0) w sees in
+    let is : idle_forks n ≡ idle_words (set m.seen j w) = ap idle_forks e in
+    omega arith
+
+-- what a look finds
+pub idle_found : (allows : Job → Form → Type 0) (j : ℕ) (m n : MainView) (found : Result Report NoAnswer) → j < length m.seen
+    → MatchResult found (λ r. (n ≡ collected_from j r m) × FitsLast allows (offers_of j m.log) r) (λ e. (e.word % 4 ≢ 3) × (n ≡ main_looked j e.word m))
+    → MatchResult found (λ r. MainSees (get_or m.seen j 0) (4 * r.ticket.0 + 3)) (λ e. MainSees (get_or m.seen j 0) e.word)
+    → MatchResult found (λ r. idle_forks n ≡ idle_forks m + 1) (λ e. idle_forks n ≡ idle_forks m)
+idle_found allows j m n (Ok r) lt h sees = collected_one j m r n lt sees h.0
+idle_found allows j m n (Err e) lt h sees = looked_at j e.word m n lt sees h.1
 
 -- the words so far, and one more
 pub idle_taken : (ws : List ℕ) (n : ℕ) → n < length ws → idle_words (take (n + 1) ws) ≡ idle_words (take n ws) + one_if (get_or ws n 0)

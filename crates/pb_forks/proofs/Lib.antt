@@ -6,3 +6,4 @@ pub mod Moves
 pub mod SplitsJoins
 pub mod Told
 pub mod Idle
+pub mod Out

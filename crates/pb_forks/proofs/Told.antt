@@ -1,9 +1,12 @@
 -- The table by the word follows from the rule, between any two steps and at the end.
-use Rattle.std.proofs.Common.{◌≡◌, inl, inr, Bool, true, false, true≢false, ℕ, zero, suc, ◌+◌, ◌*◌, ◌/◌, ◌%◌, ◌<◌, ◌≤◌, List, [], ◌∷◌, ◌++◌, map, length, length-set, get_or-set_same, get_or-set_other, get_or, None, refl, sym, ap, ◌∙◌, subst, arith, append-nil}
+use Rattle.std.proofs.Common.{◌≡◌, inl, inr, Bool, true, false, true≢false, ℕ, zero, suc, ◌+◌, ◌*◌, ◌/◌, ◌%◌, ◌<◌, ◌≤◌, ◌≢◌, ⊎_elim, cond, eqb, eq-eqb, ne_eqb, List, [], ◌∷◌, ◌++◌, map, set, length, length-set, get_or-set_same, get_or-set_other, get_or, None, refl, sym, ap, ◌∙◌, subst, arith, append-nil}
 use mathlib.Core.Option.{some}
 use native.Mathlib.Decide.{ℕ_discrete}
 use mathlib.Core.List.{map-append}
-use Rattle.std.proofs.lemmas.List.{length-map}
+use mathlib.Core.Logic.{dite}
+use Rattle.std.proofs.lemmas.Bool.{cases_lt}
+use Rattle.std.proofs.lemmas.List.Sorted.{sum_by-IsPermutation}
+use Rattle.std.proofs.lemmas.List.Sums.{sum_by-cons, sum_by_push}
 use lib.ListN.{get_elem?}
 use Rattle.atomic_table.specs.Table.{Final, Seen}
 use Rattle.pb_outcome.specs.declared.job.Job.{Job}
@@ -19,10 +22,10 @@ use Rattle.pb_forks.specs.Logs.{Rises, offers_of, collects_of, Answered, job_tic
 use Rattle.pb_forks.specs.Rule.{Phase, idle, offered, taken, answered, shut, word_of, Home, Slot, Lists, Empty, Stands, ForkOk, Kept}
 use Rattle.pb_forks.specs.Mailbox.{IsWord, Row, parcel_at, Lies, HasLists, IsMailbox, MailboxesHold, NothingFollowsShut}
 use Rattle.pb_forks.specs.Steps.{offer, take, answer, collect, shut as shuts}
-use Rattle.std.specs.Prelude.{All}
+use Rattle.std.specs.Prelude.{All, sum_by, IsPermutation}
 use Rattle.pb_forks.specs.Ends.{IsTold, IsJoined, HasEqualLists}
 use Rattle.pb_forks.specs.Views.{MainSees, fork_of, main_joined, upto}
-use Rattle.pb_forks.specs.Seats.{rejoin, number}
+use Rattle.pb_forks.specs.Seats.{rejoin, number, IsEachOnce}
 use Rattle.pb_forks.proofs.Keeps.{fork_at}
 
 pub rejoin_snoc : (xs : List ForkSeat) (s : ForkSeat) (m : MainView) → rejoin (xs ++ s ∷ []) m ≡ main_joined s.fork (fork_of s.seat.me.0) (rejoin xs m)
@@ -177,59 +180,99 @@ rejoin_parts : (xs : List ForkSeat) (m : MainView) → length (rejoin xs m).part
 rejoin_parts [] m = refl
 rejoin_parts (x ∷ xs) m = rejoin_parts xs (main_joined x.fork (fork_of x.seat.me.0) m) ∙ length-set m.parts x.fork (Here (fork_of x.seat.me.0))
 
--- seats with the numbers low, low + 1 and so on
-abbrev From : ℕ → List ForkSeat → Type 0
-From low [] = Unit {0}
-From low (x ∷ xs) = (x.fork ≡ low) × From (suc low) xs
+-- 1 where n is j, else 0
+abbrev hit : ℕ → ℕ → ℕ
+hit j n = cond (eqb n j) 1 0
 
-rejoin_below : (low j : ℕ) (xs : List ForkSeat) (m : MainView) → From low xs → j < low → get_or (rejoin xs m).parts j Away ≡ get_or m.parts j Away
-rejoin_below low j [] m h lt = refl
-rejoin_below low j (x ∷ xs) m h lt =
-    let n = h.0 in
-    rejoin_below (suc low) j xs (main_joined x.fork (fork_of x.seat.me.0) m) h.1 (omega arith) ∙ get_or-set_other m.parts x.fork j (Here (fork_of x.seat.me.0)) Away (λ c. omega arith)
+-- how often j stands in a list
+abbrev times : ℕ → List ℕ → ℕ
+times j ns = sum_by (hit j) ns
 
-joined_from : (low : ℕ) (xs : List ForkSeat) (m : MainView) → From low xs → low + length xs ≤ length m.parts → All (λ s. IsJoined (rejoin xs m) s.fork (fork_of s.seat.me.0)) xs
-joined_from low [] m h le i d lt = absurd (omega arith)
-joined_from low (x ∷ xs) m h le zero d lt =
-    let n = h.0 in
+one_here : (n j : ℕ) → n ≡ j → hit j n ≡ 1
+one_here n j e = ap (λ b. cond b 1 0) (eq-eqb n j e)
+
+none_here : (n j : ℕ) → n ≢ j → hit j n ≡ 0
+none_here n j ne = ap (λ b. cond b 1 0) (ne_eqb n j ne)
+
+times_cons : (j n : ℕ) (ns : List ℕ) → times j (n ∷ ns) ≡ hit j n + times j ns
+times_cons j n ns = sum_by-cons (hit j) n ns
+
+upto_none : (j k : ℕ) → k ≤ j → times j (upto k) ≡ 0
+upto_none j zero le = refl
+upto_none j (suc n) le =
+    let a = sum_by_push (hit j) (upto n) n in
+    let b = upto_none j n (omega arith) in
+    let c = none_here n j (λ e. omega arith) in
+    omega arith
+
+upto_once : (j k : ℕ) → j < k → times j (upto k) ≡ 1
+upto_once j zero lt = absurd (omega arith)
+upto_once j (suc n) lt =
+    let a = sum_by_push (hit j) (upto n) n in
+    dite (ℕ_discrete n j)
+    (λ e. let b = upto_none j n (omega arith) in let c = one_here n j e in omega arith)
+    (λ ne. let b = upto_once j n (omega arith) in let c = none_here n j ne in omega arith)
+
+-- a seat stands in the list as often as its number
+once : (k j : ℕ) (ns : List ℕ) → IsPermutation (upto k) ns → j < k → times j ns ≡ 1
+once k j ns e lt = sum_by-IsPermutation (hit j) (upto k) ns e ∙ upto_once j k lt
+
+never : (k j : ℕ) (ns : List ℕ) → IsPermutation (upto k) ns → k ≤ j → times j ns ≡ 0
+never k j ns e le = sum_by-IsPermutation (hit j) (upto k) ns e ∙ upto_none j k le
+
+rejoin_none : (j : ℕ) (xs : List ForkSeat) (m : MainView) → times j (map number xs) ≡ 0 → get_or (rejoin xs m).parts j Away ≡ get_or m.parts j Away
+rejoin_none j [] m e = refl
+rejoin_none j (x ∷ xs) m e =
+    let a = times_cons j x.fork (map number xs) in
+    let ne : x.fork ≢ j = λ is. (let b = one_here x.fork j is in omega arith) in
+    rejoin_none j xs (main_joined x.fork (fork_of x.seat.me.0) m) (omega arith) ∙ get_or-set_other m.parts x.fork j (Here (fork_of x.seat.me.0)) Away (λ c. ne (sym c))
+
+-- the seat of fork j stands in the list
+joined_once : (j : ℕ) (xs : List ForkSeat) (m : MainView) → times j (map number xs) ≡ 1 → j < length m.parts → (p : ForkView) × IsJoined (rejoin xs m) j p
+joined_once j [] m e lt = absurd (omega arith)
+joined_once j (x ∷ xs) m e lt =
     let p = fork_of x.seat.me.0 in
     let m' = main_joined x.fork p m in
-    rejoin_below (suc low) x.fork xs m' h.1 (omega arith) ∙ get_or-set_same m.parts x.fork (Here p) Away (omega arith)
-joined_from low (x ∷ xs) m h le (suc i) d lt =
-    let m' = main_joined x.fork (fork_of x.seat.me.0) m in
-    let long : length m'.parts ≡ length m.parts = length-set m.parts x.fork (Here (fork_of x.seat.me.0)) in
-    joined_from (suc low) xs m' h.1 (omega arith) i d (omega arith)
+    let a = times_cons j x.fork (map number xs) in
+    dite (ℕ_discrete x.fork j)
+    (λ is. let b = one_here x.fork j is in (p, rejoin_none j xs m' (omega arith) ∙ (ap (λ n. get_or (set m.parts n (Here p)) j Away) is ∙ get_or-set_same m.parts j (Here p) Away lt)))
+    (λ ne. let b = none_here x.fork j ne in let long : length m'.parts ≡ length m.parts = length-set m.parts x.fork (Here p) in joined_once j xs m' (omega arith) (omega arith))
 
-abbrev counted : ℕ → ℕ → List ℕ
-counted low zero = []
-counted low (suc n) = low ∷ counted (suc low) n
+-- numbers that stand once at most, each of them below n
+abbrev AreOnce : ℕ → List ForkSeat → Type 0
+AreOnce n xs = (j : ℕ) → (times j (map number xs) ≤ 1) × (n ≤ j → times j (map number xs) ≡ 0)
 
-counted_snoc : (low n : ℕ) → counted low n ++ (low + n) ∷ [] ≡ counted low (suc n)
-counted_snoc low zero = let e : low + zero ≡ low = omega arith in ap (λ z. z ∷ []) e
-counted_snoc low (suc n) = let e : low + suc n ≡ suc low + n = omega arith in ap (λ z. low ∷ (counted (suc low) n ++ z ∷ [])) e ∙ ap (λ l. low ∷ l) (counted_snoc (suc low) n)
+less_once : (n : ℕ) (x : ForkSeat) (xs : List ForkSeat) → AreOnce n (x ∷ xs) → AreOnce n xs
+less_once n x xs h j =
+    let a = times_cons j x.fork (map number xs) in
+    let b = (h j).0 in
+    (omega arith, λ le. (let c = (h j).1 le in omega arith))
 
-upto_counted : (k : ℕ) → upto k ≡ counted 0 k
-upto_counted zero = refl
-upto_counted (suc n) = let e : n ≡ 0 + n = omega arith in ap (λ l. l ++ n ∷ []) (upto_counted n) ∙ (ap (λ z. counted 0 n ++ z ∷ []) e ∙ counted_snoc 0 n)
+joined_each : (n : ℕ) (xs : List ForkSeat) (m : MainView) → AreOnce n xs → length m.parts ≡ n → All (λ s. IsJoined (rejoin xs m) s.fork (fork_of s.seat.me.0)) xs
+joined_each n [] m h long i d lt = absurd (omega arith)
+joined_each n (x ∷ xs) m h long zero d lt =
+    let p = fork_of x.seat.me.0 in
+    let a = times_cons x.fork x.fork (map number xs) in
+    let b = one_here x.fork x.fork refl in
+    let c = (h x.fork).0 in
+    let within : x.fork < n = ⊎_elim (λ l. l) (λ ge. let z = (h x.fork).1 ge in absurd (omega arith)) (cases_lt x.fork n) in
+    rejoin_none x.fork xs (main_joined x.fork p m) (omega arith) ∙ get_or-set_same m.parts x.fork (Here p) Away (omega arith)
+joined_each n (x ∷ xs) m h long (suc i) d lt =
+    let p = fork_of x.seat.me.0 in
+    joined_each n xs (main_joined x.fork p m) (less_once n x xs h) (length-set m.parts x.fork (Here p) ∙ long) i d (omega arith)
 
-from_counted : (low n : ℕ) (xs : List ForkSeat) → map number xs ≡ counted low n → From low xs
-from_counted low n [] e = tt
-from_counted low zero (x ∷ xs) e = absurd (let z : length (map number (x ∷ xs)) ≡ 0 = ap length e in omega arith)
-from_counted low (suc n) (x ∷ xs) e =
-    let h : x.fork ≡ low = cc in
-    let t : map number xs ≡ counted (suc low) n = cc in
-    (h, from_counted (suc low) n xs t)
+are_once : (k : ℕ) (xs : List ForkSeat) → IsEachOnce k xs → AreOnce k xs
+are_once k xs e j =
+    let le : times j (map number xs) ≤ 1 = ⊎_elim (λ lt. let a = once k j (map number xs) e lt in omega arith) (λ ge. let a = never k j (map number xs) e ge in omega arith) (cases_lt j k) in
+    (le, never k j (map number xs) e)
 
-counted_length : (low n : ℕ) → length (counted low n) ≡ n
-counted_length low zero = refl
-counted_length low (suc n) = ap suc (counted_length (suc low) n)
+pub joined_all : (xs : List ForkSeat) (k : ℕ) (m : MainView) → IsEachOnce k xs → length (rejoin xs m).parts ≡ k → All (λ s. IsJoined (rejoin xs m) s.fork (fork_of s.seat.me.0)) xs
+joined_all xs k m e long = joined_each k xs m (are_once k xs e) (sym (rejoin_parts xs m) ∙ long)
 
-pub joined_all : (xs : List ForkSeat) (k : ℕ) (m : MainView) → map number xs ≡ upto k → length (rejoin xs m).parts ≡ k → All (λ s. IsJoined (rejoin xs m) s.fork (fork_of s.seat.me.0)) xs
-joined_all xs k m e long =
-    let f = e ∙ upto_counted k in
+pub joined_at : (xs : List ForkSeat) (k : ℕ) (m : MainView) → IsEachOnce k xs → length (rejoin xs m).parts ≡ k → (j : ℕ) → j < k → (p : ForkView) × IsJoined (rejoin xs m) j p
+joined_at xs k m e long j lt =
     let same = rejoin_parts xs m in
-    let many : length xs ≡ k = sym (length-map xs number) ∙ (ap length f ∙ counted_length 0 k) in
-    joined_from 0 xs m (from_counted 0 k xs f) (omega arith)
+    joined_once j xs m (once k j (map number xs) e lt) (omega arith)
 
 pub parts_at_end : (allows : Job → Form → Type 0) (k : ℕ) (ws : List ℕ) (xs : List Slot) (id : ℕ) (v : View) (m : MainView) → v ≡ Main m → Final (Seen (Kept allows k) id v) ws xs → length m.parts ≡ k
 parts_at_end allows k ws xs id v m is f =

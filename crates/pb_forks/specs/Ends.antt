@@ -31,6 +31,10 @@ AreEqual offers takes answers collects = (offers ≡ takes) × (takes ≡ answer
 abbrev pub HasEqualLists : ℕ → MainView → ForkView → Type 0
 HasEqualLists j m p = AreEqual (job_tickets (offers_of j m.log)) (job_tickets p.takes) (report_tickets p.answers) (report_tickets (collects_of j m.log))
 
+-- fork j is shut, its seat's view was joined, and its four lists are equal
+abbrev pub EndedShut : ℕ → PoolEnd → Type 0
+EndedShut j e = (end_word e j ≡ 4) × (p : ForkView) × IsJoined (end_view e) j p × HasEqualLists j (end_view e) p
+
 -- what holds of fork j at the end
 pub record IsTold (allows : Job → Form → Type 0) (j w : ℕ) (m : MainView) (p : ForkView) : Type 0 where
   pub sees : MainSees (slice_index m.seen j) w

@@ -1,11 +1,11 @@
 -- What clauses say of a pool and of its seats.
-use Rattle.std.specs.Prelude.{◌≡◌, ℕ, List, [], ◌∷◌, slice_index}
+use Rattle.std.specs.Prelude.{◌≡◌, ℕ, List, [], ◌∷◌, map, slice_index, IsPermutation}
 use Rattle.pb_forks.specs.declared.views.MainView.{MainView}
 use Rattle.pb_forks.specs.declared.views.ForkView.{ForkView}
 use Rattle.pb_forks.specs.declared.seats.Pool.{Pool}
 use Rattle.pb_forks.specs.declared.seats.MainSeat.{MainSeat}
 use Rattle.pb_forks.specs.declared.seats.ForkSeat.{ForkSeat}
-use Rattle.pb_forks.specs.Views.{main_of, fork_of, main_joined, fresh}
+use Rattle.pb_forks.specs.Views.{main_of, fork_of, main_joined, fresh, upto}
 
 -- what the seats know
 abbrev pub main_view : MainSeat → MainView
@@ -37,6 +37,10 @@ module _ {A : Type 0} where
   -- it is one of this pool, and has done nothing
   abbrev pub IsFreshOf : Pool A → ForkSeat → Type 0
   IsFreshOf pool s = IsForkOf pool s × (fork_view s ≡ fresh)
+
+-- seats of k forks: each fork's once, in any order
+abbrev pub IsEachOnce : ℕ → List ForkSeat → Type 0
+IsEachOnce k seats = IsPermutation (upto k) (map number seats)
 
 -- it is a seat of the same pool
 abbrev pub IsSameMain : MainSeat → MainSeat → Type 0

@@ -1,5 +1,5 @@
 -- What the seats know, and how each call changes it. The word of a fork is 0 where it is idle, 4t+1 where ticket t is offered, 4t+2 where it is taken, 4t+3 where it is answered, and 4 where the fork is shut.
-use Rattle.std.specs.Prelude.{◌==◌, cond, ◌≡◌, ◌≢◌, ℕ, zero, suc, ◌+◌, ◌*◌, ◌/◌, ◌%◌, ◌<◌, ◌≤◌, Bool, true, false, List, [], ◌∷◌, ◌++◌, length, replicate, slice_index, slice_index_or, slice_set}
+use Rattle.std.specs.Prelude.{◌==◌, not, cond, count_by, ◌≡◌, ◌≢◌, ℕ, zero, suc, ◌+◌, ◌*◌, ◌/◌, ◌%◌, ◌<◌, ◌≤◌, Bool, true, false, List, [], ◌∷◌, ◌++◌, length, replicate, slice_index, slice_index_or, slice_set}
 use Rattle.pb_outcome.specs.declared.job.Job.{Job}
 use Rattle.pb_outcome.specs.declared.job.Report.{Report}
 use Rattle.pb_outcome.specs.declared.outcome.Form.{Form}
@@ -106,6 +106,14 @@ idle_words (w ∷ ws) = cond (w == 0) 1 0 + idle_words ws
 
 abbrev pub idle_forks : MainView → ℕ
 idle_forks m = idle_words m.seen
+
+-- a fork with this word is neither idle nor shut: its job is out
+abbrev pub is_out : ℕ → Bool
+is_out w = not (w % 4 == 0)
+
+-- how many jobs are out, as far as the main seat has seen. Only it sends a job out, and collects its report, so this is exact
+abbrev pub jobs_out : MainView → ℕ
+jobs_out m = count_by is_out m.seen
 
 -- the first n forks were shut, and nothing else was done
 abbrev pub WasShut : ℕ → MainView → MainView → Type 0

@@ -4,9 +4,9 @@ ghost use Rattle.std.specs.Mem.Slots.{slots_items, IsFull};
 ghost use Rattle.pb_forks.specs.declared.views.ForkView.{ForkView};
 ghost use Rattle.pb_forks.specs.declared.views.Lodged.TheVariants.{Here, Away};
 ghost use Rattle.pb_forks.specs.Logs.{Rises};
-ghost use Rattle.pb_forks.specs.Views.{first_main, fresh, deals, start, idle_forks, main_dealt, main_joined, upto};
-ghost use Rattle.pb_forks.specs.Seats.{main_view, fork_view, last_seen, number, forks_of, IsMainOf, IsForkOf, IsFreshOf, IsSameMain, rejoin};
-ghost use Rattle.pb_forks.specs.Ends.{end_word, end_view, IsJoined, IsTold, HasEqualLists};
+ghost use Rattle.pb_forks.specs.Views.{first_main, fresh, deals, start, idle_forks, jobs_out, main_dealt, main_joined, upto};
+ghost use Rattle.pb_forks.specs.Seats.{main_view, fork_view, last_seen, number, forks_of, IsMainOf, IsForkOf, IsFreshOf, IsEachOnce, IsSameMain, rejoin};
+ghost use Rattle.pb_forks.specs.Ends.{end_word, end_view, IsJoined, IsTold, EndedShut};
 
 use crate::closed::PoolEnd;
 use crate::parcel::Parcel;
@@ -41,7 +41,7 @@ impl<A: Allows> Pool<A> {
         requires fork { IsForkOf self.now fork }
         ensures { IsSameMain main.old main.new × (main_view main.new ≡ main_joined (number fork) (fork_view fork) (main_view main.old)) }
     {
-        let ForkSeat { seat, fork: _ } = fork;
+        let seat = fork.into_seat();
         self.table.shared.join_seat::<Joins>(&mut main.seat, seat);
     }
 
@@ -74,7 +74,7 @@ impl<A: Allows> Pool<A> {
     pub fn new(alloc: Global, forks: u32) -> Result<(Pool<A>, MainSeat, Vec<ForkSeat>), AllocError>
         requires { (0 < forks) × (forks ≤ 256) }
         ensures pool { IfOk result (λ r. (forks_of r.0 ≡ forks) × IsMainOf r.0 r.1 × (main_view r.1 ≡ start forks)) }
-        ensures idle { IfOk result (λ r. idle_forks (main_view r.1) ≡ forks) }
+        ensures idle { IfOk result (λ r. (idle_forks (main_view r.1) ≡ forks) × (jobs_out (main_view r.1) ≡ 0)) }
         ensures forks { IfOk result (λ r. All (IsFreshOf r.0) r.2.items × (map number r.2.items ≡ upto forks)) }
     {
         let mut seats = Vec::with_capacity(alloc, forks as usize)?;
@@ -95,20 +95,22 @@ impl<A: Allows> Pool<A> {
         main
     }
 
-    /// Joins the seats, drops what lies in the slots, and ends the pool. Of each fork whose seat was joined the end
-    /// tells the word and the four lists, and the tickets of all offers rise; where a fork was shut its four lists are
-    /// equal. Where the seats stand in the order in which `new` gave them, all forks are joined.
+    /// Joins the seats, each fork's once and in any order, drops what lies in the slots, and ends the pool. Of each
+    /// fork the end tells the word and the four lists, and the tickets of all offers rise; of each fork that was shut
+    /// the four lists are equal.
     pub fn close(self, main: MainSeat, forks: Vec<ForkSeat>) -> PoolEnd
         requires main { IsMainOf self main }
         requires forks { All (IsForkOf self) forks.items }
+        requires each_once { IsEachOnce (forks_of self) forks.items }
         ensures view { end_view result ≡ rejoin forks.items (main_view main) }
         ensures main { ((end_view result).log ≡ (main_view main).log) × ((end_view result).seen ≡ (main_view main).seen) }
         ensures rises { Rises 0 (end_view result).log }
-        ensures joined { map number forks.items ≡ upto (forks_of self) → All (λ s. IsJoined (end_view result) (number s) (fork_view s)) forks.items }
-        ensures shut { (j : ℕ) (p : ForkView) → j < forks_of self → last_seen (main_view main) j ≡ 4 → IsJoined (end_view result) j p → (end_word result j ≡ 4) × HasEqualLists j (end_view result) p }
-        ensures told { (j : ℕ) (p : ForkView) → j < forks_of self → IsJoined (end_view result) j p → IsTold A.allows j (end_word result j) (end_view result) p }
+        ensures joined { All (λ s. IsJoined (end_view result) (number s) (fork_view s)) forks.items }
+        ensures told { (j : ℕ) → j < forks_of self → (p : ForkView) × IsJoined (end_view result) j p × IsTold A.allows j (end_word result j) (end_view result) p }
+        ensures shut { (j : ℕ) → j < forks_of self → last_seen (main_view main) j ≡ 4 → EndedShut j result }
     {
-        let MainSeat { seat, seen: _ } = self.join_all(main, forks);
+        let joined = self.join_all(main, forks);
+        let seat = joined.into_seat();
         let table = self.into_table();
         let view = Snapshot::of(&seat);
         let closed = table.close_with(seat);

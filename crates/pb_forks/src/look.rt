@@ -1,6 +1,6 @@
 //! What a caller can ask of a pool and its seats. Nothing here takes a step.
-ghost use Rattle.std.specs.Prelude.{◌≡◌, ◌+◌, ◌<◌, ◌≤◌, IfSome, IfNone, length};
-ghost use Rattle.pb_forks.specs.Views.{idle_forks, idle_words, WasShut};
+ghost use Rattle.std.specs.Prelude.{◌≡◌, ◌+◌, ◌<◌, ◌≤◌, IfSome, IfNone, count_by, length};
+ghost use Rattle.pb_forks.specs.Views.{idle_forks, idle_words, is_out, jobs_out, WasShut};
 ghost use Rattle.pb_forks.specs.Seats.{main_view, last_seen, number, forks_of, IsMainOf, IsSameMain};
 
 use crate::seats::{ForkSeat, MainSeat, Pool};
@@ -28,6 +28,21 @@ fn busy_words(words: &[u64]) -> u32
         }
     }
     busy
+}
+
+/// How many words are those of a job that is out.
+#[tactic(auto, using(crate::proofs::Out::out_counted, crate::proofs::Out::other_counted))]
+fn words_out(words: &[u64]) -> u32
+    requires { length words.now ≤ 256 }
+    ensures { result ≡ count_by is_out words.now }
+{
+    let mut out = 0;
+    for word in words {
+        if *word % 4 != 0 {
+            out += 1;
+        }
+    }
+    out
 }
 
 impl<A: Allows> Pool<A> {
@@ -60,6 +75,14 @@ impl<A: Allows> Pool<A> {
         ensures { result + idle_forks (main_view main.now) ≡ forks_of self.now }
     {
         busy_words(main.seen.as_slice())
+    }
+
+    /// How many jobs are out: offered and not yet collected. A fork that is shut has none.
+    pub fn jobs_out(&self, main: &MainSeat) -> u32
+        requires { IsMainOf self.now main.now }
+        ensures { result ≡ jobs_out (main_view main.now) }
+    {
+        words_out(main.seen.as_slice())
     }
 
     /// Shuts all forks, each of which is idle.

@@ -1,11 +1,11 @@
 //! The calls on a pool that wait for nobody. Each is a load or an exchange of the fork's word; a load before or after
 //! it takes the slot or lays it down.
-ghost use Rattle.std.specs.Prelude.{◌≡◌, ℕ, ◌+◌, ◌*◌, ◌%◌, ◌^◌, ◌<◌, ◌≤◌, ◌≢◌, [], ◌∷◌, ◌++◌, MatchResult, Some};
+ghost use Rattle.std.specs.Prelude.{◌≡◌, ℕ, ◌+◌, ◌*◌, ◌%◌, ◌^◌, ◌<◌, ◌≤◌, ◌≢◌, [], ◌∷◌, ◌++◌, length, MatchResult, Some};
 ghost use Rattle.pb_outcome.specs.declared.job.Job.{Job};
 ghost use Rattle.pb_outcome.specs.declared.job.Report.{Report};
 ghost use Rattle.pb_forks.specs.declared.parcel.Parcel.TheVariants.{Work, Done};
 ghost use Rattle.pb_forks.specs.Logs.{IsAbove, FitsLast, offers_of};
-ghost use Rattle.pb_forks.specs.Views.{idle_forks, offered_to, collected_from, main_looked, main_shut, took_one, fork_looked, answered_one, MainSees, ForkSees};
+ghost use Rattle.pb_forks.specs.Views.{idle_forks, jobs_out, offered_to, collected_from, main_looked, main_shut, took_one, fork_looked, answered_one, MainSees, ForkSees};
 ghost use Rattle.pb_forks.specs.Seats.{main_view, fork_view, last_seen, forks_of, IsMainOf, IsForkOf, IsSameMain, IsSameFork};
 
 use crate::parcel::Parcel;
@@ -37,6 +37,7 @@ impl<A: Allows> Pool<A> {
         requires ticket { IsAbove (main_view main.old).log job.ticket.0 × (job.ticket.0 < 2 ^ 62) }
         ensures seat { IsSameMain main.old main.new }
         ensures idle { idle_forks (main_view main.new) + 1 ≡ idle_forks (main_view main.old) }
+        ensures out { jobs_out (main_view main.new) ≡ jobs_out (main_view main.old) + 1 }
         ensures above { (t : ℕ) → job.ticket.0 < t → IsAbove (main_view main.new).log t }
         ensures offered { main_view main.new ≡ offered_to fork job (main_view main.old) }
     {
@@ -100,6 +101,27 @@ impl<A: Allows> Pool<A> {
         ensures sees { MatchResult result
             (λ r. MainSees (last_seen (main_view main.old) fork) (4 * r.ticket.0 + 3))
             (λ e. MainSees (last_seen (main_view main.old) fork) e.word) }
+        ensures idle { MatchResult result
+            (λ r. idle_forks (main_view main.new) ≡ idle_forks (main_view main.old) + 1)
+            (λ e. idle_forks (main_view main.new) ≡ idle_forks (main_view main.old)) }
+        ensures out { MatchResult result
+            (λ r. jobs_out (main_view main.new) + 1 ≡ jobs_out (main_view main.old))
+            (λ e. jobs_out (main_view main.new) ≡ jobs_out (main_view main.old)) }
+    {
+        self.collect(main, fork)
+    }
+
+    fn collect(&self, main: &mut MainSeat, fork: u32) -> Result<Report, NoAnswer>
+        requires seat { IsMainOf self.now main.old }
+        requires fork { fork < forks_of self.now }
+        ensures seat { IsSameMain main.old main.new }
+        ensures wide { forks_of self.now ≡ length (main_view main.old).seen }
+        ensures looked { MatchResult result
+            (λ r. (main_view main.new ≡ collected_from fork r (main_view main.old)) × FitsLast A.allows (offers_of fork (main_view main.old).log) r)
+            (λ e. (e.word % 4 ≢ 3) × (main_view main.new ≡ main_looked fork e.word (main_view main.old))) }
+        ensures sees { MatchResult result
+            (λ r. MainSees (last_seen (main_view main.old) fork) (4 * r.ticket.0 + 3))
+            (λ e. MainSees (last_seen (main_view main.old) fork) e.word) }
     {
         let shared = &self.table.shared;
         let at = fork as usize;
@@ -122,6 +144,7 @@ impl<A: Allows> Pool<A> {
         requires idle { last_seen (main_view main.old) fork ≡ 0 }
         ensures seat { IsSameMain main.old main.new }
         ensures idle { idle_forks (main_view main.new) + 1 ≡ idle_forks (main_view main.old) }
+        ensures out { jobs_out (main_view main.new) ≡ jobs_out (main_view main.old) }
         ensures shut { main_view main.new ≡ main_shut fork (main_view main.old) }
     {
         let shared = &self.table.shared;

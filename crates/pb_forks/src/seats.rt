@@ -20,7 +20,6 @@ pub struct Pool<A: Allows> {
 }
 
 /// The seat that offers jobs and collects reports. It remembers the last word that it saw of each fork.
-#[derive(Drop)]
 pub struct MainSeat {
     pub(crate) seat: Seat<Option<Parcel>, View>,
     pub(crate) seen: Vec<u64>,
@@ -32,7 +31,6 @@ pub struct MainSeat {
 }
 
 /// The seat of one fork, which takes its jobs and answers them.
-#[derive(Drop)]
 pub struct ForkSeat {
     pub(crate) seat: Seat<Option<Parcel>, View>,
     pub(crate) fork: u32,
@@ -41,6 +39,40 @@ pub struct ForkSeat {
     pub ghost free: { (fork_of seat.me.0).holds ≡ false },
     pub ghost small: { (fork_of seat.me.0).seen < 2 ^ 64 },
     pub ghost within: { fork < seat.table_id.words },
+}
+
+impl Drop for MainSeat {
+    fn drop(self) {
+        let Self { seat, seen } = self;
+        drop(seat);
+        drop(seen);
+    }
+}
+
+impl Drop for ForkSeat {
+    fn drop(self) {
+        let Self { seat, fork: _ } = self;
+        drop(seat);
+    }
+}
+
+impl MainSeat {
+    pub(crate) fn into_seat(self) -> Seat<Option<Parcel>, View>
+        ensures { result ≡ self.seat }
+    {
+        let Self { seat, seen } = self;
+        drop(seen);
+        seat
+    }
+}
+
+impl ForkSeat {
+    pub(crate) fn into_seat(self) -> Seat<Option<Parcel>, View>
+        ensures { result ≡ self.seat }
+    {
+        let Self { seat, fork: _ } = self;
+        seat
+    }
 }
 
 impl<A: Allows> Drop for Pool<A> {

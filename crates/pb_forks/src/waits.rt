@@ -1,7 +1,7 @@
 //! The two calls that wait.
 ghost use Rattle.std.specs.Prelude.{◌≡◌, ℕ, ◌+◌, ◌<◌, length, MatchOption};
 ghost use Rattle.pb_forks.specs.Logs.{IsAbove};
-ghost use Rattle.pb_forks.specs.Views.{TookLast, SawShut, CollectedLast, idle_forks};
+ghost use Rattle.pb_forks.specs.Views.{TookLast, SawShut, CollectedLast, idle_forks, jobs_out};
 ghost use Rattle.pb_forks.specs.Seats.{main_view, fork_view, forks_of, IsMainOf, IsForkOf, IsSameMain, IsSameFork};
 
 use crate::seats::{ForkSeat, MainSeat, Pool};
@@ -36,12 +36,13 @@ impl<A: Allows> Pool<A> {
         unreachable!()
     }
 
-    /// Tries the forks whose jobs are out in turn, and yields after each round, until it collects a report. With no
-    /// job out it never returns.
+    /// Tries the forks whose jobs are out in turn, and yields after each round, until it collects a report. A job is out.
     pub fn wait_any<R: Wait>(&self, rt: &R, main: &mut MainSeat) -> (u32, Report)
-        requires { IsMainOf self.now main.old }
+        requires seat { IsMainOf self.now main.old }
+        requires out { 0 < jobs_out (main_view main.old) }
         ensures seat { IsSameMain main.old main.new }
         ensures idle { idle_forks (main_view main.new) ≡ idle_forks (main_view main.old) + 1 }
+        ensures out { jobs_out (main_view main.new) + 1 ≡ jobs_out (main_view main.old) }
         ensures above { (t : ℕ) → IsAbove (main_view main.old).log t → IsAbove (main_view main.new).log t }
         ensures collected { (result.0 < forks_of self.now) × CollectedLast A.allows result.0 (main_view main.old) result.1 (main_view main.new) }
     {

@@ -3,6 +3,7 @@ use Rattle.pb_forks.specs.Views.{main_of, main_hand, main_did}
 use Rattle.pb_forks.specs.declared.views.Entry.TheVariants.{Offered}
 use Rattle.pb_forks.proofs.Above.{above_offered}
 use Rattle.pb_forks.proofs.Idle.{idle_offered}
+use Rattle.pb_forks.proofs.Out.{out_offered}
 use Rattle.pb_forks.proofs.Carry.{put_in, is_main}
 use Rattle.pb_forks.proofs.Moves.{main_grabs, main_offers}
 use Rattle.pb_forks.proofs.seats.Pool.offer.Goals as goal
@@ -44,6 +45,18 @@ returns-clause-idle g c =
     let words : main.seat.table_id.words ≡ c.args.self.now.table.shared.table_id.words = ap (λ z. z.words) c.requires.seat in
     let sized = c.args.self.now.sized.0 in
     idle_offered c.args.fork c.args.job (main_of main.seat.me.0) _ (omega arith) c.requires.idle
+    (ap main_of told.0 ∙ ap (λ z. main_did c.args.fork (4 * c.args.job.ticket.0 + 1) 0 (Offered c.args.fork c.args.job) (main_of z)) held.0)
+
+pub returns-clause-out : goal.returns-clause-out
+returns-clause-out g c =
+    let main = c.args.main.now in
+    let f = c.requires.fork in
+    let held = put_in _ _ _ _ _ _ _ c.load.ensures.2.0 c.load.ensures.2.1 main.bare c.exchange.ensures.3 in
+    let told = c.swap.ensures.2 c.args.job held.1 in
+    let wide : length (main_of main.seat.me.0).seen ≡ main.seat.table_id.words = ap length main.remembers ∙ main.sees_all in
+    let words : main.seat.table_id.words ≡ c.args.self.now.table.shared.table_id.words = ap (λ z. z.words) c.requires.seat in
+    let sized = c.args.self.now.sized.0 in
+    out_offered c.args.fork c.args.job (main_of main.seat.me.0) _ (omega arith) c.requires.idle
     (ap main_of told.0 ∙ ap (λ z. main_did c.args.fork (4 * c.args.job.ticket.0 + 1) 0 (Offered c.args.fork c.args.job) (main_of z)) held.0)
 
 pub returns-clause-above : goal.returns-clause-above
