@@ -1,8 +1,11 @@
+//! What a worker's thread does.
 ghost use Rattle.std.specs.Prelude.{◌≡◌};
 ghost use Rattle.pb_forks.specs.Seats.{fork_view, IsForkOf, IsSameFork};
 
-use crate::runner::{Runner, report_of};
+use crate::jobs::report_of;
 use pb_forks::{ForkSeat, Pool};
+use pb_runner::runner::Runner;
+use std::alloc::Global;
 use std::sync::Wait;
 
 /// A pool as its workers see it: what a fork's thread does with its seat and its runner.
@@ -12,7 +15,7 @@ pub trait Workplace<N> {
     /// Whether the seat is one of this pool.
     ghost seats: { Self → ForkSeat → Type 0 };
 
-    fn work<R: Wait>(&self, rt: &R, seat: ForkSeat, runner: &mut N) -> ForkSeat
+    fn work<R: Wait>(&self, rt: &R, alloc: Global, seat: ForkSeat, runner: &mut N) -> ForkSeat
         requires { seats self.now seat }
         ensures { IsSameFork seat result };
 }
@@ -20,14 +23,15 @@ pub trait Workplace<N> {
 impl<N: Runner> Workplace<N> for Pool<N> {
     ghost seats = { λ pool seat. IsForkOf pool seat };
 
-    fn work<R: Wait>(&self, rt: &R, seat: ForkSeat, runner: &mut N) -> ForkSeat {
-        serve(rt, self, seat, runner)
+    fn work<R: Wait>(&self, rt: &R, alloc: Global, seat: ForkSeat, runner: &mut N) -> ForkSeat {
+        serve(rt, alloc, self, seat, runner)
     }
 }
 
 /// Runs the jobs of a fork until it is shut.
 pub fn serve<N: Runner, R: Wait>(
     rt: &R,
+    alloc: Global,
     pool: &Pool<N>,
     mut seat: ForkSeat,
     runner: &mut N,
@@ -40,7 +44,7 @@ pub fn serve<N: Runner, R: Wait>(
         let Some(job) = pool.wait_offer(rt, &mut seat) else {
             return seat;
         };
-        let outcome = runner.run(&job);
+        let outcome = runner.run(alloc, &job);
         pool.answer(&mut seat, report_of(&job, outcome));
     }
     unreachable!()

@@ -1,10 +1,11 @@
+use crate::jobs::{job, report_of};
 use crate::row::one_job;
 use crate::run::run;
-use crate::runner::{Runner, job, report_of};
 use pb_forks::Pool;
 use pb_outcome::cause::Cause;
 use pb_outcome::job::{Allows, Job};
 use pb_outcome::outcome::Outcome;
+use pb_runner::runner::Runner;
 use pb_value::text::Text;
 use std::alloc::Global;
 use std::process::Abort;
@@ -27,7 +28,9 @@ impl<'a> Allows for Gate<'a> {
 }
 
 impl<'a> Runner for Gate<'a> {
-    fn run(&mut self, _job: &Job) -> Outcome {
+    ghost gives = { λ _ _ _. Unit {0} };
+
+    fn run(&mut self, _alloc: Global, _job: &Job) -> Outcome {
         self.begun.fetch_add(1, Ordering::SeqCst);
         for _ in 0..10_000_000u64 {
             if self.begun.load(Ordering::SeqCst) >= self.all {
@@ -85,7 +88,9 @@ impl Allows for Silent {
 }
 
 impl Runner for Silent {
-    fn run(&mut self, _job: &Job) -> Outcome {
+    ghost gives = { λ _ _ _. Unit {0} };
+
+    fn run(&mut self, _alloc: Global, _job: &Job) -> Outcome {
         Outcome::not_started(Cause::CannotStart)
     }
 }

@@ -1,4 +1,3 @@
-use Rattle.std.proofs.Common.{◌≡◌}
 use Rattle.pb_forks.specs.Seats.{IsSameFork}
 use Rattle.pb_forks_rows.proofs.serve.serve.Given as goal
 
