@@ -1,3 +1,4 @@
+pub mod ByName
 pub mod Connector
 pub mod Extra
 pub mod Magic

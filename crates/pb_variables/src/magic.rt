@@ -1,8 +1,9 @@
-ghost use Rattle.std.specs.Prelude.{◌≡◌, ◌<◌, [], ◌∷◌, ◌++◌, length, if◌then◌else◌, IfOk, OnOk};
+ghost use Rattle.std.specs.Prelude.{◌≡◌, ◌<◌, ℕ, List, [], ◌∷◌, ◌++◌, length, codes, if◌then◌else◌, IfOk, OnOk};
 ghost use Rattle.pb_planes.specs.Set.{is_in};
-ghost use Rattle.pb_value.specs.Datum.{dict, members_of, put};
+ghost use Rattle.pb_value.specs.Datum.{dict, members_of, put, value_at};
 ghost use Rattle.pb_inventory.specs.Vars.{group_name, host_name, names_of_hosts};
 ghost use Rattle.pb_variables.specs.Magic.{texts, groups_map, variables_of, hostvars_map, names_in, plan_magic, play_magic, host_magic};
+ghost use Rattle.pb_variables.specs.ByName.{value_in, hosts_under, variables_under, variable_of_host};
 
 use crate::put::{put, put_all, texts};
 use pb_ids::{GroupNo, HostNo};
@@ -18,8 +19,20 @@ use std::alloc::{AllocError, Global};
 /// each host's name to the dict of its variables as they are stored: those from its groups, over
 /// them its own, and over these the extra variables (Ansible's documentation, "Special variables").
 /// Each host's dict has its own copy of the extra variables. The only error is want of memory.
-#[tactic(auto, unfolding(crate::specs::Magic::plan_magic))]
+#[tactic(auto, using(crate::proofs::Named::groups_by_name, crate::proofs::Named::hostvars_by_name, crate::proofs::Named::variables_by_name))]
 pub fn plan_magic(alloc: Global, inventory: &Inventory, extra: &Dict) -> Result<Dict, AllocError>
+    ensures value { IfOk result (λ known. known ≡ plan_magic inventory.now extra.now) }
+
+    // Under each group's name stand its hosts, under each host's name its variables, and under no other name anything.
+    ensures groups { IfOk result (λ known. (name : List ℕ) → value_in name (value_at (codes "groups") known) ≡ hosts_under inventory.now name) }
+    ensures hosts { IfOk result (λ known. (name : List ℕ) → value_in name (value_at (codes "hostvars") known) ≡ variables_under inventory.now extra.now name) }
+    ensures variables { (host : ℕ) (name : List ℕ) → value_at name (variables_of inventory.now extra.now host) ≡ variable_of_host inventory.now extra.now host name }
+{
+    plan_maps(alloc, inventory, extra)
+}
+
+#[tactic(auto, unfolding(crate::specs::Magic::plan_magic))]
+fn plan_maps(alloc: Global, inventory: &Inventory, extra: &Dict) -> Result<Dict, AllocError>
     ensures { IfOk result (λ known. known ≡ plan_magic inventory.now extra.now) }
 {
     let groups = groups_map(alloc, inventory)?;
