@@ -2,7 +2,7 @@
 use Rattle.std.proofs.Common.{◌≡◌, ℕ, zero, suc, ◌+◌, Bool, List, [], ◌∷◌, ◌++◌, drop, length, refl, sym, ap, ◌∙◌, append_assoc, add-one}
 use Rattle.std.specs.Prelude.{Some, slice_get}
 use Rattle.pb_planes.specs.Set.{is_in}
-use Rattle.pb_state.specs.Plan.{PlayOf}
+use Rattle.pb_plan.specs.Plan.{PlayOf}
 use Rattle.pb_cli.specs.Listing.{host_if, host_lines, play_lines, plays_from}
 
 lines_none : (names : List (List ℕ)) → host_lines names [] ≡ []

@@ -3,9 +3,9 @@ use Rattle.std.specs.Prelude.{◌≡◌, ◌≢◌, ◌⊎◌, ◌≤◌, ◌+�
 use Rattle.clap.specs.Words.{Text}
 use Rattle.pb_runner.specs.declared.fault.TableFault.{TableFault}
 use Rattle.pb_runner.specs.declared.fault.TableFault.TheVariants.{Memory}
-use Rattle.pb_state.specs.declared.bundle.Bundle.{Bundle}
-use Rattle.pb_state.specs.Plan.{PlanOf}
-use Rattle.pb_state.specs.Bundle.{IsPlanOf, max_bytes}
+use Rattle.pb_plan.specs.declared.bundle.Bundle.{Bundle}
+use Rattle.pb_plan.specs.Plan.{PlanOf}
+use Rattle.pb_plan.specs.Bundle.{IsPlanOf, max_bytes}
 use Rattle.pb_driver.specs.Taken.{with_more}
 use Rattle.pb_cli.specs.declared.words.Request.{Request}
 use Rattle.pb_cli.specs.declared.words.Purpose.{Purpose}

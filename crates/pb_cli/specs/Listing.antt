@@ -1,6 +1,6 @@
 -- What `--list-hosts` prints: of each play its number, how many hosts it has, and their names in host order. See ansible-playbook's `--list-hosts`.
 use Rattle.std.specs.Prelude.{ℕ, ◌+◌, Bool, List, [], ◌∷◌, ◌++◌, codes, decimal, count_by, if◌then◌else◌}
-use Rattle.pb_state.specs.Plan.{PlayOf, PlanOf}
+use Rattle.pb_plan.specs.Plan.{PlayOf, PlanOf}
 
 abbrev pub heading : ℕ → ℕ → List ℕ
 heading number count = codes "play " ++ decimal number ++ codes " (" ++ decimal count ++ codes " hosts)\n"

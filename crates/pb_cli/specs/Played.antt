@@ -8,7 +8,7 @@ use Rattle.pb_runner.specs.Local.{LocalAllows}
 use Rattle.pb_runner.specs.Reading.{table_of}
 use Rattle.pb_runner.specs.Table.{TableGives}
 use Rattle.pb_state.specs.declared.event.Event.{Event}
-use Rattle.pb_state.specs.Plan.{PlanOf}
+use Rattle.pb_plan.specs.Plan.{PlanOf}
 use Rattle.pb_recap.specs.Recap.{recap}
 use Rattle.pb_recap.specs.Kinds.{status_of}
 use Rattle.pb_driver.specs.Driven.{IsWholeRun}

@@ -1,8 +1,8 @@
 //! The program, but for its words' and its streams' making.
 
 ghost use Rattle.std.specs.Prelude.{◌≡◌, ◌≢◌, ◌⊎◌, ◌≤◌, ◌+◌, ◌++◌, IfOk, IfErr, IfSome, Ok, Err, is_some, length, map, string_bytes};
-ghost use Rattle.pb_state.specs.Plan.{PlanOf};
-ghost use Rattle.pb_state.specs.Bundle.{IsPlanOf, IsBundleFault};
+ghost use Rattle.pb_plan.specs.Plan.{PlanOf};
+ghost use Rattle.pb_plan.specs.Bundle.{IsPlanOf, IsBundleFault};
 ghost use Rattle.pb_driver.specs.Taken.{with_more};
 ghost use Rattle.pb_cli.specs.Done.{IsBundleOf, is_too_long, IsUntold, IsShown, IsDone, IsHelped, IsAnswered};
 ghost use Rattle.pb_cli.specs.Listing.{listing};

@@ -1,7 +1,7 @@
 -- What a run has written that couldn't go on.
 use Rattle.std.specs.Prelude.{◌≡◌, ◌≤◌, ◌<◌, ◌-◌, ℕ, List, [], ◌∷◌, ◌++◌, length, take, Option}
 use Rattle.pb_state.specs.declared.event.Event.{Event}
-use Rattle.pb_state.specs.Plan.{PlanOf}
+use Rattle.pb_plan.specs.Plan.{PlanOf}
 use Rattle.pb_state.specs.Machine.{first_state}
 use Rattle.pb_state.specs.Run.{state_from, IsFinished}
 use Rattle.pb_engine.specs.EngineOf.{EngineOf}

@@ -7,7 +7,7 @@ use Rattle.pb_outcome.specs.declared.outcome.Form.{Form}
 use Rattle.pb_state.specs.declared.event.Event.{Event}
 use Rattle.pb_state.specs.declared.event.Event.TheVariants.{Open, Start, Send, Report as Reported, Turn, Close, Stop, Forks}
 use Rattle.pb_state.specs.declared.row.Counts.{Counts}
-use Rattle.pb_state.specs.Plan.{PlanOf}
+use Rattle.pb_plan.specs.Plan.{PlanOf}
 use Rattle.pb_state.specs.State.{State}
 use Rattle.pb_state.specs.Machine.{after, first_state}
 use Rattle.pb_state.specs.Jobs.{job_of}

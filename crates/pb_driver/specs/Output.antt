@@ -2,7 +2,7 @@
 use Rattle.std.specs.Prelude.{ℕ, List, [], ◌∷◌, ◌++◌, length}
 use Rattle.pb_state.specs.declared.event.Event.{Event}
 use Rattle.pb_state.specs.declared.row.Counts.{Counts}
-use Rattle.pb_state.specs.Plan.{PlanOf}
+use Rattle.pb_plan.specs.Plan.{PlanOf}
 use Rattle.pb_state.specs.State.{State}
 use Rattle.pb_state.specs.Machine.{after, first_state}
 use Rattle.pb_events.specs.Lines.{lines_of, start_line}

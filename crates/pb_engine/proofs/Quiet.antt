@@ -12,7 +12,7 @@ use Rattle.pb_state.specs.declared.event.Event.{Event}
 use Rattle.pb_state.specs.declared.event.Event.TheVariants.{Open, Start, Send, Report as Reported, Turn, Close, Stop, Forks}
 use Rattle.pb_state.specs.declared.row.Running.{Running}
 use Rattle.pb_outcome.specs.declared.job.Report.{Report}
-use Rattle.pb_state.specs.Plan.{PlayOf, PlanOf}
+use Rattle.pb_plan.specs.Plan.{PlayOf, PlanOf}
 use Rattle.pb_state.specs.Row.{HostRow}
 use Rattle.pb_state.specs.State.{State}
 use Rattle.pb_state.specs.Machine.{possible, ready, ready_in, is_ready, at_row, may_open, may_start_in, may_send_in, may_send_item, may_report_in, may_turn_in, may_close_in, has_room, has_send, has_ticket, is_ticket, is_out, awaits, stands_at, open_play}

@@ -6,7 +6,7 @@ use Rattle.pb_planes.specs.Set.{has_some}
 use Rattle.pb_outcome.specs.declared.job.Job.{Job}
 use Rattle.pb_state.specs.declared.event.Event.{Event}
 use Rattle.pb_state.specs.declared.event.Event.TheVariants.{Open, Start, Send, Report as Reported, Turn, Close, Stop, Forks}
-use Rattle.pb_state.specs.Plan.{PlanOf}
+use Rattle.pb_plan.specs.Plan.{PlanOf}
 use Rattle.pb_state.specs.State.{State}
 use Rattle.pb_state.specs.Machine.{possible, ready, is_out}
 use Rattle.pb_state.specs.Jobs.{job_of}

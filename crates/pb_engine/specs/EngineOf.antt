@@ -1,7 +1,7 @@
 -- An engine: a plan, the size of the pool, the state of the run, and the trail that led to it.
 use Rattle.std.specs.Prelude.{◌≡◌, ◌<◌, ℕ, nat_lt, List, [], ◌∷◌, ◌++◌, true, Result, Ok, Err, if◌then◌else◌}
 use Rattle.pb_state.specs.declared.event.Event.{Event}
-use Rattle.pb_state.specs.Plan.{PlanOf}
+use Rattle.pb_plan.specs.Plan.{PlanOf}
 use Rattle.pb_state.specs.State.{State}
 use Rattle.pb_state.specs.Machine.{possible, after, first_state}
 use Rattle.pb_state.specs.Run.{IsRun}

@@ -1,7 +1,7 @@
 -- A run is never stuck: where nothing is possible, it was stopped or ended early, or no batch is open and none is left to open.
 use Rattle.std.specs.Prelude.{◌≡◌, ◌⊎◌, Bool, true, false, drop, Option, Some, None}
 use Rattle.std.specs.List.{list_any}
-use Rattle.pb_state.specs.Plan.{PlayOf, PlanOf}
+use Rattle.pb_plan.specs.Plan.{PlayOf, PlanOf}
 use Rattle.pb_state.specs.State.{State}
 use Rattle.pb_state.specs.Machine.{has_hosts, is_running, least_place, open_play}
 

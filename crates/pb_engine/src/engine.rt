@@ -49,7 +49,7 @@ pub struct Engine {
 
 impl Model for Engine {
     ghost use Rattle.pb_engine.specs.EngineOf.{EngineOf};
-    ghost use Rattle.pb_state.specs.contracts.plan.Plan as the_plan;
+    ghost use Rattle.pb_plan.specs.contracts.plan.Plan as the_plan;
     ghost use Rattle.pb_state.specs.contracts.state.EngineState as the_state;
     ghost use Rattle.pb_value.specs.contracts.val.Val as val;
     ghost use Rattle.std.specs.Coded.{codes};

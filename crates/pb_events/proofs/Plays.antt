@@ -1,7 +1,7 @@
 -- What stands in a list, and what doesn't.
 use Rattle.std.proofs.Common.{◌≡◌, ℕ, zero, suc, ◌<◌, ◌≤◌, List, [], ◌∷◌, length, refl, sym, arith}
 use Rattle.std.specs.Prelude.{Option, Some, None, IfSome, slice_get}
-use Rattle.pb_state.specs.Plan.{PlayOf}
+use Rattle.pb_plan.specs.Plan.{PlayOf}
 
 here : (plays : List PlayOf) (n : ℕ) (play : PlayOf) → slice_get plays n ≡ Some play → n < length plays
 here [] n play e = cc

@@ -10,9 +10,9 @@ use Rattle.pb_play.specs.declared.modules.Module.{Module}
 use Rattle.pb_play.specs.declared.modules.Module.TheVariants.{Debug, Fail, Shell}
 use Rattle.pb_state.specs.declared.event.Event.{Event}
 use Rattle.pb_state.specs.declared.event.Event.TheVariants.{Open, Start, Send, Report as Reported, Turn, Close, Stop, Forks}
-use Rattle.pb_state.specs.Bundle.{tree_for}
+use Rattle.pb_plan.specs.Bundle.{tree_for}
 use Rattle.pb_state.specs.Machine.{first_state}
-use Rattle.pb_state.specs.Plan.{PlayOf, PlanOf, bare_play, bare_plan}
+use Rattle.pb_plan.specs.Plan.{PlayOf, PlanOf, bare_play, bare_plan}
 use Rattle.pb_state.specs.Results.{on_tasks}
 use Rattle.pb_state.specs.Run.{state_from}
 use Rattle.pb_state.specs.State.{State}

@@ -14,7 +14,7 @@ use Rattle.pb_items.specs.declared.planned.Planned.{Planned}
 use Rattle.pb_items.specs.declared.planned.Planned.TheVariants.{Decided as DecidedItem, Sends}
 use Rattle.pb_state.specs.declared.row.Counts.{Counts}
 use Rattle.pb_state.specs.declared.row.Running.{Running}
-use Rattle.pb_state.specs.Plan.{PlayOf, PlanOf}
+use Rattle.pb_plan.specs.Plan.{PlayOf, PlanOf}
 use Rattle.pb_state.specs.Row.{HostRow, first_row, left, started, sent, reported, reported_running, task_of, item_of}
 use Rattle.pb_state.specs.State.{State}
 use Rattle.pb_state.specs.Results.{planned_at}

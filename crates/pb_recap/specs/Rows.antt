@@ -10,8 +10,8 @@ use Rattle.pb_play.specs.declared.modules.Module.TheVariants.{Debug, Shell}
 use Rattle.pb_state.specs.declared.event.Event.{Event}
 use Rattle.pb_state.specs.declared.event.Event.TheVariants.{Open, Start, Send, Report as Reported, Turn, Close}
 use Rattle.pb_state.specs.declared.row.Counts.{Counts}
-use Rattle.pb_state.specs.Bundle.{tree_for}
-use Rattle.pb_state.specs.Plan.{PlanOf, bare_play, bare_plan}
+use Rattle.pb_plan.specs.Bundle.{tree_for}
+use Rattle.pb_plan.specs.Plan.{PlanOf, bare_play, bare_plan}
 use Rattle.pb_state.specs.Machine.{first_state}
 use Rattle.pb_state.specs.Row.{none_counted}
 use Rattle.pb_state.specs.Results.{on_tasks}

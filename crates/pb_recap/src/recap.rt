@@ -1,7 +1,7 @@
 //! The recap itself.
 
 ghost use Rattle.std.specs.Prelude.{◌≡◌, ◌<◌, ◌++◌, ◌∷◌, [], ℕ, List, length, map, replicate, slice_get, sum_by, IfOk, IfSome, string_bytes};
-ghost use Rattle.pb_state.specs.Plan.{PlanOf};
+ghost use Rattle.pb_plan.specs.Plan.{PlanOf};
 ghost use Rattle.pb_state.specs.Row.{HostRow, none_counted};
 ghost use Rattle.pb_state.specs.Run.{IsRun, IsStep};
 ghost use Rattle.pb_state.specs.State.{State};

@@ -8,6 +8,4 @@ pub mod WorkFalls
 pub mod Walked
 pub mod Within
 pub mod Told
-pub mod Trees
 pub mod Once
-pub mod Plans

@@ -4,7 +4,7 @@ use Rattle.std.specs.Prelude.{Some, slice_get, if◌then◌else◌}
 use Rattle.std.proofs.lemmas.List.{drop_more, set_at, take_more}
 use Rattle.std.proofs.Math.Seq.{get_or-append_seam}
 use Rattle.pb_planes.specs.Set.{is_in as is_member}
-use Rattle.pb_state.specs.Plan.{PlayOf, PlanOf}
+use Rattle.pb_plan.specs.Plan.{PlayOf, PlanOf}
 use Rattle.pb_state.specs.Row.{HostRow, joined}
 use Rattle.pb_state.specs.State.{State}
 use Rattle.pb_state.specs.Machine.{has_hosts, first_play, next_play, joined_in}

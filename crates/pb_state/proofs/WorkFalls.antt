@@ -19,7 +19,7 @@ use Rattle.pb_items.specs.declared.planned.Planned.TheVariants.{Decided, Sends}
 use Rattle.pb_state.specs.declared.row.Running.{Running}
 use Rattle.pb_state.specs.declared.event.Event.{Event}
 use Rattle.pb_state.specs.declared.event.Event.TheVariants.{Open, Start, Send, Report as Reported, Turn, Close, Stop, Forks}
-use Rattle.pb_state.specs.Plan.{PlayOf, PlanOf}
+use Rattle.pb_plan.specs.Plan.{PlayOf, PlanOf}
 use Rattle.pb_state.specs.Row.{HostRow, joined, left, finished, started, sent, sent_running, reported, reported_running, item_of, task_of}
 use Rattle.pb_state.specs.State.{State}
 use Rattle.pb_state.specs.Machine.{possible, after, change, at_row, open_play, next_place, least_place, lesser, same_place, stands_at, has_room, may_open, next_play, may_start_in, may_turn_in, may_close_in, some_may_start, joined_in, opened_in, opened_at, started_in, start_at, turned_in, closed, is_running, running_count, is_ticket, may_send_item, awaits, may_send_in, may_report_in, sent_in, reported_in}

@@ -7,7 +7,7 @@ use Rattle.pb_tree.specs.Tree.{path_at}
 use Rattle.pb_variables.specs.Connector.{connector_of}
 use Rattle.pb_outcome.specs.declared.job.Job.{Job}
 use Rattle.pb_state.specs.declared.row.Running.{Running}
-use Rattle.pb_state.specs.Plan.{PlayOf, PlanOf}
+use Rattle.pb_plan.specs.Plan.{PlayOf, PlanOf}
 use Rattle.pb_state.specs.Row.{HostRow}
 use Rattle.pb_state.specs.State.{State}
 use Rattle.pb_state.specs.Machine.{open_play}

@@ -1,4 +1,3 @@
-pub mod Plan
 pub mod Row
 pub mod State
 pub mod Results
@@ -9,5 +8,4 @@ pub mod Run
 pub mod Once
 pub mod Work
 pub mod Bounds
-pub mod Bundle
 pub mod Rows

@@ -19,7 +19,7 @@ use Rattle.pb_state.specs.declared.row.Finish.{Finish}
 use Rattle.pb_state.specs.declared.row.Running.{Running}
 use Rattle.pb_state.specs.declared.decided.Decided.{Decided}
 use Rattle.pb_state.specs.declared.decided.Done.{Done as DoneTask}
-use Rattle.pb_state.specs.Plan.{PlayOf, PlanOf}
+use Rattle.pb_plan.specs.Plan.{PlayOf, PlanOf}
 use Rattle.pb_state.specs.Row.{HostRow, first_row, is_active, started, sent, reported, joined, left, item_of, task_of}
 use Rattle.pb_state.specs.State.{State}
 use Rattle.pb_state.specs.Results.{planned_at}

@@ -11,7 +11,7 @@ use Rattle.pb_items.specs.declared.planned.Planned.TheVariants.{Decided}
 use Rattle.pb_outcome.specs.declared.gather.Ending.TheVariants.{Skipped}
 use Rattle.pb_outcome.specs.declared.gather.ItemResult.{ItemResult}
 use Rattle.pb_play.specs.declared.task.Task.{Task}
-use Rattle.pb_state.specs.Plan.{PlayOf, PlanOf}
+use Rattle.pb_plan.specs.Plan.{PlayOf, PlanOf}
 
 -- The variables that a task of a play sees on a host: of its groups, of the host itself, of the play, of the task and the extra ones, each over
 -- those before it, and the magic ones over all; no play has roles, blocks, loops or facts yet

@@ -5,9 +5,9 @@ use Rattle.pb_tree.specs.declared.tree.Status.TheVariants.{Failed}
 use Rattle.pb_play.specs.declared.modules.Module.TheVariants.{Debug}
 use Rattle.pb_state.specs.declared.event.Event.{Event}
 use Rattle.pb_state.specs.declared.event.Event.TheVariants.{Open, Start, Turn, Close}
-use Rattle.pb_state.specs.Bundle.{tree_for}
+use Rattle.pb_plan.specs.Bundle.{tree_for}
 use Rattle.pb_state.specs.Results.{on_tasks}
-use Rattle.pb_state.specs.Plan.{PlayOf, PlanOf, bare_play, bare_plan}
+use Rattle.pb_plan.specs.Plan.{PlayOf, PlanOf, bare_play, bare_plan}
 use Rattle.pb_state.specs.Row.{HostRow, first_row}
 use Rattle.pb_state.specs.State.{State}
 use Rattle.pb_state.specs.Machine.{possible, first_state, first_play}

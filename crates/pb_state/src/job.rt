@@ -4,7 +4,7 @@ ghost use Rattle.std.specs.Prelude.{◌≡◌, ◌<◌, IfOk, slice_get, length}
 ghost use Rattle.std.specs.Option.{option_copied, option_map_or};
 ghost use Rattle.pb_state.specs.Jobs.{row_job, job_with};
 
-use crate::plan::{Plan, PlanPlay};
+use pb_plan::{Plan, PlanPlay};
 use crate::row::{Row, Running};
 use pb_ids::{HostNo, Place, PlayNo, Ticket};
 use pb_outcome::job::Job;

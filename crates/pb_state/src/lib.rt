@@ -2,23 +2,19 @@
 //!
 //! For the layers above: `EngineState` is the state of the strategy machine, and `step` takes exactly the events that
 //! may happen in it, each with exactly its effect; an event that may not happen is `Illegal` and changes nothing.
-//! `Plan` is what the machine reads of a bundle.
+//! `Plan` (pb_plan) is what the machine reads of a bundle.
 #![tactic(auto)]
 
-mod bundle;
 mod decided;
 mod event;
 mod job;
-mod plan;
 mod planned;
-mod planning;
 mod row;
 mod rows;
 mod state;
 
-pub use bundle::{Bundle, BundleFault, MAX_BYTES, RoleFault};
 pub use decided::{Decided, Done};
 pub use event::{Event, Trail};
-pub use plan::{Plan, PlanPlay};
+pub use pb_plan::{Bundle, BundleFault, MAX_BYTES, Plan, PlanPlay, RoleFault};
 pub use row::{Counts, Finish, Row, Running};
 pub use state::{EngineState, StepFault};

@@ -5,7 +5,7 @@ ghost use Rattle.std.specs.Option.{option_copied};
 ghost use Rattle.pb_state.specs.Results.{planned_at, planned_for, task_for};
 ghost use Rattle.pb_state.specs.Row.{task_of};
 
-use crate::plan::{Plan, PlanPlay};
+use pb_plan::{Plan, PlanPlay};
 use pb_ids::HostNo;
 use pb_items::planned::Planned;
 use pb_items::planning::planned;

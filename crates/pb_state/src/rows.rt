@@ -11,7 +11,7 @@ ghost use Rattle.pb_state.specs.Oldest.{oldest_out, out_at, older};
 ghost use Rattle.pb_state.specs.Machine.{is_ready, stands_at, is_in, is_running, has_send, is_out, has_ticket, has_begun, least_place, lesser, change, report_decides, some_own, has_hosts, first_play, joined_in};
 
 use crate::decided::Decided;
-use crate::plan::PlanPlay;
+use pb_plan::PlanPlay;
 use crate::row::Row;
 use pb_ids::{HostNo, Ticket};
 use pb_outcome::gather::TaskResult;

@@ -4,7 +4,7 @@ ghost use Rattle.std.specs.Prelude.{◌≡◌, ◌≤◌, ◌<◌, length, map, 
 ghost use Rattle.std.specs.Prelude.{◌-◌, ◌+◌, ◌^◌, ◌*◌};
 ghost use Rattle.std.specs.List.{list_any};
 ghost use Rattle.std.specs.Option.{option_copied, option_map_or};
-ghost use Rattle.pb_state.specs.Plan.{PlanOf};
+ghost use Rattle.pb_plan.specs.Plan.{PlanOf};
 ghost use Rattle.pb_state.specs.Row.{left, finished, started, task_of};
 ghost use Rattle.pb_items.specs.declared.planned.Planned.TheVariants as Planned;
 ghost use Rattle.pb_state.specs.State.{State};
@@ -12,7 +12,7 @@ ghost use Rattle.pb_state.specs.State.{State};
 use crate::decided::{Decided, Done, decide};
 use crate::event::Event;
 use crate::job::job_in;
-use crate::plan::{Plan, PlanPlay};
+use pb_plan::{Plan, PlanPlay};
 use crate::planned::{planned_at, task_of};
 use crate::row::Row;
 use crate::rows::{

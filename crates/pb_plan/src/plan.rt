@@ -1,0 +1,300 @@
+//! What the machine reads of a bundle.
+
+ghost use Rattle.std.specs.Prelude.{◌≡◌, ◌<◌, ◌≤◌, length, slice_get, option_map, IfOk, Some};
+ghost use Rattle.std.specs.Option.{option_copied};
+ghost use Rattle.pb_tree.specs.Plain.{IsPlain};
+ghost use Rattle.pb_tree.specs.Tree.{size_of};
+
+use pb_ids::{HostNo, PlayNo};
+use pb_inventory::inventory::Inventory;
+use pb_planes::HostSet;
+use pb_play::task::Task;
+use pb_tree::PlayTree;
+use pb_value::items::Items;
+use pb_value::text::Text;
+use pb_value::val::Dict;
+use std::alloc::{AllocError, Global};
+use std::marker::Model;
+
+/// A play: its name, its tree, the task at each place of the tree, in the order of places, the hosts that are its own, its variables, and
+/// those that the play gives by itself.
+pub struct PlanPlay {
+    name: Text,
+    tree: PlayTree,
+    tasks: Items<Task>,
+    hosts: HostSet,
+    vars: Dict,
+    magic: Dict,
+}
+
+impl Drop for PlanPlay {
+    fn drop(self) {
+        let PlanPlay {
+            name,
+            tree,
+            tasks,
+            hosts,
+            vars,
+            magic,
+        } = self;
+        drop(name);
+        drop(tree);
+        drop(tasks);
+        drop(hosts);
+        drop(vars);
+        drop(magic);
+    }
+}
+
+impl Model for PlanPlay {
+    ghost use Rattle.pb_plan.specs.Plan.{PlayOf};
+    ghost use Rattle.pb_value.specs.contracts.val.Val as val;
+    ghost use Rattle.pb_expr_syntax.specs.contracts.tree.Expr as expr;
+    ghost use Rattle.pb_tree.specs.contracts.tree.PlayTree as play_tree;
+    ghost use Rattle.std.specs.Coded.{codes};
+
+    ghost Value = { PlayOf };
+
+    ghost coded = { Prim.hlevel (codes, val.the_row.coded, expr.the_row.coded, play_tree.the_row.coded) };
+
+    ghost view = { λ p. record { name = p.name; tree = p.tree; tasks = p.tasks; hosts = p.hosts; vars = p.vars; magic = p.magic } };
+
+    ghost use Rattle.std.specs.Prelude.{◌≡◌, ◌≤◌, length};
+    ghost use Rattle.pb_tree.specs.Plain.{IsPlain};
+    ghost use Rattle.pb_tree.specs.Tree.{size_of};
+
+    ghost invariant = { λ p. IsPlain p.tree × (size_of p.tree ≤ 16384) × (length p.tasks ≡ size_of p.tree) };
+}
+
+impl PlanPlay {
+    /// A play of these parts.
+    pub(crate) fn of(
+        name: Text,
+        tree: PlayTree,
+        tasks: Items<Task>,
+        hosts: HostSet,
+        vars: Dict,
+        magic: Dict,
+    ) -> PlanPlay
+        requires plain { IsPlain tree }
+        requires bound { size_of tree ≤ 16384 }
+        requires places { length tasks ≡ size_of tree }
+        ensures { result ≡ record { name = name; tree = tree; tasks = tasks; hosts = hosts; vars = vars; magic = magic } }
+    {
+        PlanPlay {
+            name,
+            tree,
+            tasks,
+            hosts,
+            vars,
+            magic,
+        }
+    }
+
+    /// The play's name, as it is printed.
+    pub fn name(&self) -> &Text
+        ensures { result.now ≡ self.now.name }
+    {
+        &self.name
+    }
+
+    /// The play's tree.
+    pub fn tree(&self) -> &PlayTree
+        ensures value { result.now ≡ self.now.tree }
+        ensures plain { IsPlain self.now.tree }
+        ensures bound { size_of self.now.tree ≤ 16384 }
+    {
+        &self.tree
+    }
+
+    /// The task at a place, by the place's position in the tree.
+    pub fn task(&self, place: usize) -> Option<&Task>
+        ensures { option_copied result ≡ slice_get self.now.tasks place }
+    {
+        self.tasks.get(place)
+    }
+
+    /// The hosts that are the play's own.
+    pub fn hosts(&self) -> &HostSet
+        ensures { result.now ≡ self.now.hosts }
+    {
+        &self.hosts
+    }
+
+    /// The play's variables, as they are written.
+    pub fn vars(&self) -> &Dict
+        ensures { result.now ≡ self.now.vars }
+    {
+        &self.vars
+    }
+
+    /// The variables that the play gives by itself.
+    pub fn magic(&self) -> &Dict
+        ensures { result.now ≡ self.now.magic }
+    {
+        &self.magic
+    }
+}
+
+/// The inventory, the plays in order, how many hosts may run at once, lines that tell what was odd in the bundle, the extra variables, and
+/// those that the plan gives by itself.
+pub struct Plan {
+    inventory: Inventory,
+    plays: Items<PlanPlay>,
+    forks: u32,
+    warnings: Items<Text>,
+    extra: Dict,
+    magic: Dict,
+}
+
+impl Drop for Plan {
+    fn drop(self) {
+        let Plan {
+            inventory,
+            plays,
+            forks: _,
+            warnings,
+            extra,
+            magic,
+        } = self;
+        drop(inventory);
+        drop(plays);
+        drop(warnings);
+        drop(extra);
+        drop(magic);
+    }
+}
+
+impl Model for Plan {
+    ghost use Rattle.pb_plan.specs.Plan.{PlanOf};
+    ghost use Rattle.pb_value.specs.contracts.val.Val as val;
+    ghost use Rattle.pb_expr_syntax.specs.contracts.tree.Expr as expr;
+    ghost use Rattle.pb_tree.specs.contracts.tree.PlayTree as play_tree;
+    ghost use Rattle.std.specs.Coded.{codes};
+
+    ghost Value = { PlanOf };
+
+    ghost coded = { Prim.hlevel (codes, val.the_row.coded, expr.the_row.coded, play_tree.the_row.coded) };
+
+    ghost view = { λ p. record {
+      hosts = p.inventory.hosts;
+      plays = p.plays;
+      forks = p.forks;
+      warnings = p.warnings;
+      inventory = p.inventory;
+      extra = p.extra;
+      magic = p.magic;
+    } };
+
+    ghost use Rattle.std.specs.Prelude.{◌<◌, ◌≤◌, length};
+
+    ghost invariant = { λ p. (length p.plays ≤ 256) × (0 < p.forks) × (p.forks ≤ 256) };
+}
+
+impl Plan {
+    ghost use Rattle.std.specs.Prelude.{◌<◌};
+
+    /// A plan of these parts.
+    pub(crate) fn from_parts(
+        inventory: Inventory,
+        plays: Items<PlanPlay>,
+        forks: u32,
+        warnings: Items<Text>,
+        extra: Dict,
+        magic: Dict,
+    ) -> Plan
+        requires plays { length plays ≤ 256 }
+        requires some { 0 < forks }
+        requires bound { forks ≤ 256 }
+        ensures { result ≡ record {
+          hosts = inventory.hosts;
+          plays = plays;
+          forks = forks;
+          warnings = warnings;
+          inventory = inventory;
+          extra = extra;
+          magic = magic;
+        } }
+    {
+        Plan {
+            inventory,
+            plays,
+            forks,
+            warnings,
+            extra,
+            magic,
+        }
+    }
+
+    /// How many hosts there are: at most 65,536.
+    pub fn host_count(&self) -> u32
+        ensures value { result ≡ length self.now.hosts }
+        ensures bound { length self.now.hosts ≤ 65536 }
+    {
+        self.inventory.hosts()
+    }
+
+    /// The name of a host.
+    pub fn host_name(&self, host: HostNo) -> &str
+        requires { host.0 < length self.now.hosts }
+        ensures { slice_get self.now.hosts host.0 ≡ Some result.now }
+    {
+        self.inventory.name(host)
+    }
+
+    /// The plays, in order.
+    pub fn plays(&self) -> &[PlanPlay]
+        ensures value { result.now ≡ self.now.plays }
+        ensures bound { length self.now.plays ≤ 256 }
+    {
+        self.plays.as_slice()
+    }
+
+    /// The hosts that the pattern of a play and the limit select.
+    pub fn hosts(&self, alloc: Global, play: PlayNo) -> Result<HostSet, AllocError>
+        requires { play.0 < length self.now.plays }
+        ensures { IfOk result (λ set. option_map (λ p. p.hosts) (slice_get self.now.plays play.0) ≡ Some set) }
+    {
+        self.plays.as_slice()[play.0 as usize]
+            .hosts()
+            .try_clone(alloc)
+    }
+
+    /// How many hosts may run at once: 1 to 256.
+    pub fn forks(&self) -> u32
+        ensures value { result ≡ self.now.forks }
+        ensures some { 0 < self.now.forks }
+        ensures bound { self.now.forks ≤ 256 }
+    {
+        self.forks
+    }
+
+    /// The inventory, with its variables.
+    pub fn inventory(&self) -> &Inventory
+        ensures value { result.now ≡ self.now.inventory }
+        ensures hosts { self.now.inventory.hosts ≡ self.now.hosts }
+    {
+        &self.inventory
+    }
+
+    /// The extra variables, as they are given.
+    pub fn extra(&self) -> &Dict
+        ensures { result.now ≡ self.now.extra }
+    {
+        &self.extra
+    }
+
+    /// The variables that the plan gives by itself.
+    pub fn magic(&self) -> &Dict
+        ensures { result.now ≡ self.now.magic }
+    {
+        &self.magic
+    }
+
+    /// Lines that tell what was odd in the bundle.
+    pub fn warnings(&self) -> &[Text]
+        ensures { result.now ≡ self.now.warnings }
+    {
+        self.warnings.as_slice()
+    }
+}
