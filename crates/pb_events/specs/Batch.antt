@@ -1,10 +1,13 @@
 -- The names of the hosts in the open batch, in host order.
-use Rattle.std.specs.Prelude.{ℕ, List, [], ◌∷◌, ◌++◌, Option, Some, None, if◌then◌else◌}
+use Rattle.std.specs.Prelude.{ℕ, Bool, List, [], ◌∷◌, ◌++◌, Option, Some, None, option_map, if◌then◌else◌}
 use Rattle.pb_state.specs.Row.{HostRow}
 
+abbrev pub name_if : List ℕ → Option Bool → List (List ℕ)
+name_if name None = []
+name_if name (Some is_in) = if is_in then name ∷ [] else []
+
 abbrev pub name_if_in : List ℕ → Option HostRow → List (List ℕ)
-name_if_in name None = []
-name_if_in name (Some row) = if row.in_batch then name ∷ [] else []
+name_if_in name row = name_if name (option_map (λ (r : HostRow). r.in_batch) row)
 
 abbrev pub batch_names : List (List ℕ) → List HostRow → List (List ℕ)
 batch_names [] rows = []

@@ -69,7 +69,7 @@ fn opened(alloc: Global, plan: &Plan, state: &EngineState) -> Result<Vec<u8>, Al
 {
     match play_at(plan, state.play()) {
         Some(play) => {
-            let hosts = batch_names(alloc, plan, state.rows())?;
+            let hosts = batch_names(alloc, plan, state)?;
             play_start(alloc, state.play() as u32, play.name().as_str(), hosts)
         }
         None => Ok(Vec::new(alloc)),

@@ -17,7 +17,7 @@ use crate::counting::count_event;
 use crate::kind::CountKind;
 use crate::{stats, text};
 use pb_ids::HostNo;
-use pb_state::{Counts, EngineState, Event, Plan, Row};
+use pb_state::{Counts, EngineState, Event, Plan};
 use std::alloc::{AllocError, Global};
 use std::marker::Model;
 
@@ -45,7 +45,7 @@ impl Recap {
         ensures scratch { IfOk result (λ r. (plan : PlanOf) (pool : ℕ) (trail : List Event) → IsRun plan pool trail state.now → r ≡ recap plan pool trail) }
     {
         Ok(Recap {
-            counts: counts_of(alloc, state.rows())?,
+            counts: state.counts(alloc)?,
         })
     }
 
@@ -122,17 +122,6 @@ impl Recap {
     {
         stats::line_of(alloc, plan, &self.counts)
     }
-}
-
-/// The counts of each row.
-fn counts_of(alloc: Global, rows: &[Row]) -> Result<Vec<Counts>, AllocError>
-    ensures { IfOk result (λ counts. counts.items ≡ map (λ (row : HostRow). row.counts) rows.now) }
-{
-    let mut counts = Vec::with_capacity(alloc, rows.len())?;
-    for row in rows {
-        counts.push(row.counts())?;
-    }
-    Ok(counts)
 }
 
 /// Whether some host has a count of a kind.

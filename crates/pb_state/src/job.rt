@@ -4,10 +4,10 @@ ghost use Rattle.std.specs.Prelude.{◌≡◌, ◌<◌, IfOk, slice_get, length}
 ghost use Rattle.std.specs.Option.{option_copied, option_map_or};
 ghost use Rattle.pb_state.specs.Jobs.{row_job, job_with};
 
-use pb_plan::{Plan, PlanPlay};
 use crate::row::{Row, Running};
 use pb_ids::{HostNo, Place, PlayNo, Ticket};
 use pb_outcome::job::Job;
+use pb_plan::{Plan, PlanPlay};
 use pb_value::items::Items;
 use pb_value::text::Text;
 use pb_variables::connector::connector;

@@ -16,5 +16,5 @@ mod state;
 pub use decided::{Decided, Done};
 pub use event::{Event, Trail};
 pub use pb_plan::{Bundle, BundleFault, MAX_BYTES, Plan, PlanPlay, RoleFault};
-pub use row::{Counts, Finish, Row, Running};
+pub use row::Counts;
 pub use state::{EngineState, StepFault};

@@ -5,13 +5,13 @@ ghost use Rattle.std.specs.Option.{option_copied};
 ghost use Rattle.pb_state.specs.Results.{planned_at, planned_for, task_for};
 ghost use Rattle.pb_state.specs.Row.{task_of};
 
-use pb_plan::{Plan, PlanPlay};
 use pb_ids::HostNo;
 use pb_items::planned::Planned;
 use pb_items::planning::planned;
 use pb_layers::layers::{Layers, Magic};
 use pb_layers::scope::Scope;
 use pb_outcome::gather::{Ending, ItemResult, TaskResult};
+use pb_plan::{Plan, PlanPlay};
 use pb_play::task::Task;
 use pb_value::val::{Dict, Node, Val};
 use pb_variables::magic::host_magic;

@@ -5,18 +5,18 @@ ghost use Rattle.std.specs.List.{list_any};
 ghost use Rattle.std.specs.Option.{option_map_or};
 ghost use Rattle.pb_planes.specs.Set.{is_in as is_member};
 ghost use Rattle.pb_tree.specs.Plain.{IsPlain};
-ghost use Rattle.pb_state.specs.Row.{first_row, left, finished, sent, reported};
+ghost use Rattle.pb_state.specs.Row.{HostRow, first_row, left, finished, sent, reported};
 ghost use Rattle.pb_state.specs.Bounds.{IsAtMost};
 ghost use Rattle.pb_state.specs.Oldest.{oldest_out, out_at, older};
 ghost use Rattle.pb_state.specs.Machine.{is_ready, stands_at, is_in, is_running, has_send, is_out, has_ticket, has_begun, least_place, lesser, change, report_decides, some_own, has_hosts, first_play, joined_in};
 
 use crate::decided::Decided;
-use pb_plan::PlanPlay;
-use crate::row::Row;
+use crate::row::{Counts, Row};
 use pb_ids::{HostNo, Ticket};
 use pb_outcome::gather::TaskResult;
 use pb_outcome::job::Call;
 use pb_outcome::outcome::Outcome;
+use pb_plan::PlanPlay;
 use pb_planes::HostSet;
 use pb_tree::PlayTree;
 use std::alloc::{AllocError, Global};
@@ -293,4 +293,15 @@ pub fn none_into(set: &mut HostSet)
     for i in 0..width {
         set.remove(HostNo(i));
     }
+}
+
+/// How each host's finished tasks count.
+pub fn counts_of(alloc: Global, rows: &[Row]) -> Result<Vec<Counts>, AllocError>
+    ensures { IfOk result (λ counts. counts.items ≡ map (λ (row : HostRow). row.counts) rows.now) }
+{
+    let mut counts = Vec::with_capacity(alloc, rows.len())?;
+    for row in rows {
+        counts.push(row.counts())?;
+    }
+    Ok(counts)
 }

@@ -1,29 +1,29 @@
 //! The state of a run, and its steps.
 
-ghost use Rattle.std.specs.Prelude.{◌≡◌, ◌≤◌, ◌<◌, length, map, OnOk, OnErr, IfOk, IfSome, IfNone, slice_get, true, false, ◌&&◌, None, Some};
+ghost use Rattle.std.specs.Prelude.{◌≡◌, ◌≤◌, ◌<◌, length, map, OnOk, OnErr, IfOk, IfSome, IfNone, slice_get, option_map, true, false, ◌&&◌, None, Some};
 ghost use Rattle.std.specs.Prelude.{◌-◌, ◌+◌, ◌^◌, ◌*◌};
 ghost use Rattle.std.specs.List.{list_any};
 ghost use Rattle.std.specs.Option.{option_copied, option_map_or};
 ghost use Rattle.pb_plan.specs.Plan.{PlanOf};
-ghost use Rattle.pb_state.specs.Row.{left, finished, started, task_of};
+ghost use Rattle.pb_state.specs.Row.{HostRow, left, finished, started, task_of};
 ghost use Rattle.pb_items.specs.declared.planned.Planned.TheVariants as Planned;
 ghost use Rattle.pb_state.specs.State.{State};
 
 use crate::decided::{Decided, Done, decide};
 use crate::event::Event;
 use crate::job::job_in;
-use pb_plan::{Plan, PlanPlay};
 use crate::planned::{planned_at, task_of};
-use crate::row::Row;
+use crate::row::{Counts, Row};
 use crate::rows::{
-    begin_row, finish_row, first_play, first_rows, join_all, least_place, leave_all, none_into,
-    oldest_out, ready_into, report_row, running_count, send_row, some_begun, some_in, some_out,
-    some_running, some_stands, some_ticket,
+    begin_row, counts_of, finish_row, first_play, first_rows, join_all, least_place, leave_all,
+    none_into, oldest_out, ready_into, report_row, running_count, send_row, some_begun, some_in,
+    some_out, some_running, some_stands, some_ticket,
 };
 use pb_ids::{HostNo, PlayNo, Ticket};
 use pb_items::planned::Planned;
 use pb_outcome::gather::{ItemResult, TaskResult};
 use pb_outcome::job::{Call, Job, Report};
+use pb_plan::{Plan, PlanPlay};
 use pb_planes::HostSet;
 use std::alloc::{AllocError, Global};
 use std::marker::Model;
@@ -650,10 +650,20 @@ impl EngineState {
         self.play
     }
 
-    /// The hosts, by their numbers.
-    pub fn rows(&self) -> &[Row]
-        ensures { result.now ≡ self.now.rows }
+    /// Whether a host takes part in the open batch; none where there is no such host.
+    pub fn in_batch(&self, host: HostNo) -> Option<bool>
+        ensures { result ≡ option_map (λ (row : HostRow). row.in_batch) (slice_get self.now.rows host.0) }
     {
-        self.rows.as_slice()
+        match self.rows.get(host.0 as usize) {
+            Some(row) => Some(row.in_batch()),
+            None => None,
+        }
+    }
+
+    /// How each host's finished tasks count, in the order of hosts. The only error is want of memory.
+    pub fn counts(&self, alloc: Global) -> Result<Vec<Counts>, AllocError>
+        ensures { IfOk result (λ counts. counts.items ≡ map (λ (row : HostRow). row.counts) self.now.rows) }
+    {
+        counts_of(alloc, self.rows.as_slice())
     }
 }
