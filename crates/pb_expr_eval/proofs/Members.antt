@@ -22,6 +22,14 @@ pub map_ok-append : {A : Type 0} (out : List A) (x : A) (r : Result (List A) Eva
 map_ok-append out x (Ok xs) = ap Ok (sym (append_assoc out (x ∷ []) xs))
 map_ok-append out x (Err e) = refl
 
+pub map_ok_none : (r : Result (List ℕ) EvalFault) → r ≡ map_ok (λ t. [] ++ t) r
+map_ok_none (Ok t) = refl
+map_ok_none (Err e) = refl
+
+pub map_ok_joined : (front s : List ℕ) (r : Result (List ℕ) EvalFault) → map_ok (λ t. front ++ t) (map_ok (λ t. s ++ t) r) ≡ map_ok (λ t. (front ++ s) ++ t) r
+map_ok_joined front s (Ok t) = ap Ok (sym (append_assoc front s t))
+map_ok_joined front s (Err e) = refl
+
 pub rendered_members-step : (names : Names) (m : Entry) (ms : List Entry) (out : List (List ℕ × Datum)) (x : Datum) → rendered names m.1 ≡ Ok x
     → map_ok (λ xs. out ++ xs) (rendered_members names (members_of (named (m ∷ ms)))) ≡ map_ok (λ xs. (out ++ (string_bytes m.0, x) ∷ []) ++ xs) (rendered_members names (members_of (named ms)))
 rendered_members-step names m ms out x ok = rw ok (map_ok-append out (string_bytes m.0, x) (rendered_members names (members_of (named ms))))

@@ -1,35 +1,36 @@
 -- What templates give, where it is told what names stand for.
-use Rattle.std.specs.Prelude.{ℕ, List, [], ◌∷◌, ◌++◌, Option, Some, None, Result, Ok, Err, length, nat_le, if◌then◌else◌}
+use Rattle.std.specs.Prelude.{ℕ, List, [], ◌∷◌, ◌++◌, Option, Some, None, Result, Ok, Err}
 use Rattle.pb_value.specs.Datum.{Datum, text, list, dict, items_of, members_of, Items, no_items, item, Members, no_members, member}
 use Rattle.pb_value.specs.Reading.{and_then, map_ok}
 use Rattle.pb_value.specs.ToJson.{text_of}
+use Rattle.pb_expr_syntax.specs.Tree.{Tree}
 use Rattle.pb_template.specs.Computed.{template_of}
 use Rattle.pb_template.specs.declared.template.Part.{Part}
 use Rattle.pb_template.specs.declared.template.Part.TheVariants.{Plain, Code}
 use Rattle.pb_operators.specs.declared.fault.EvalFault.{EvalFault}
-use Rattle.pb_operators.specs.declared.fault.EvalFault.TheVariants.{TooLarge, BadTemplate}
-use Rattle.pb_operators.specs.Values.{Value, max_text}
+use Rattle.pb_operators.specs.declared.fault.EvalFault.TheVariants.{BadTemplate}
+use Rattle.pb_operators.specs.Values.{Value, text_within, finished}
 use Rattle.pb_expr_eval.specs.Value.{Names, value}
+
+-- the value of an expression, measured at its end wherever the expression stands: it nests at most 64 levels, and a text has at most 1 MiB
+abbrev pub measured : Names → Tree → Value
+measured names t = and_then (value names t) finished
 
 -- the text of a part
 abbrev pub text_in : Names → Part → Result (List ℕ) EvalFault
 text_in names (Plain s) = Ok s
-text_in names (Code t) = map_ok text_of (value names t)
+text_in names (Code t) = map_ok text_of (measured names t)
 
--- two texts in one of at most 1 MiB
-abbrev pub joined_within : List ℕ → List ℕ → Result (List ℕ) EvalFault
-joined_within s t = if nat_le (length (s ++ t)) max_text then Ok (s ++ t) else Err TooLarge
+-- the texts of parts in one: all parts are read, from the first on
+abbrev pub shown : Names → List Part → Result (List ℕ) EvalFault
+shown names [] = Ok []
+shown names (p ∷ ps) = and_then (text_in names p) (λ s. map_ok (λ t. s ++ t) (shown names ps))
 
--- a text with those of the parts behind it, one after the other
-abbrev pub shown : Names → List ℕ → List Part → Result (List ℕ) EvalFault
-shown names front [] = Ok front
-shown names front (p ∷ ps) = and_then (text_in names p) (λ s. and_then (joined_within front s) (λ t. shown names t ps))
-
--- What a template gives: the value itself of a single expression, else the texts of the parts joined.
+-- What a template gives: the value itself of a single expression, else the texts of its parts in one, which is measured when all are read.
 abbrev pub render : Names → List Part → Value
 render names [] = Ok (text [])
-render names (Code t ∷ []) = value names t
-render names (p ∷ ps) = map_ok (λ s. text s) (and_then (text_in names p) (λ s. shown names s ps))
+render names (Code t ∷ []) = measured names t
+render names (p ∷ ps) = and_then (shown names (p ∷ ps)) text_within
 
 -- what a text gives, if it is a template
 abbrev pub templated : Names → Option (List Part) → Value

@@ -7,8 +7,8 @@ use Rattle.pb_layers.specs.Scope.{Map, found, has_templates}
 use Rattle.pb_template.specs.declared.template.Part.{Part}
 use Rattle.pb_operators.specs.declared.fault.EvalFault.TheVariants.{Undefined, TooLarge}
 use Rattle.pb_operators.specs.Values.{Value, finished}
-use Rattle.pb_expr_eval.specs.Value.{Names, value}
-use Rattle.pb_expr_eval.specs.Rendering.{render, rendered}
+use Rattle.pb_expr_eval.specs.Value.{Names}
+use Rattle.pb_expr_eval.specs.Rendering.{measured, render, rendered}
 
 -- a stored value as it is read: rendered, where the texts of its layer are templates
 abbrev pub read_as : (Datum → Value) → List ℕ → Option (ℕ × Datum) → Value
@@ -24,12 +24,12 @@ names_in scope (suc levels) name = read_as (rendered (names_in scope levels)) na
 abbrev pub max_look_ups : ℕ
 max_look_ups = 16
 
--- the value of an expression, and what a template gives
+-- the value of an expression, and what a template gives, both measured
 unfoldable pub eval_of : List Map → Tree → Value
-eval_of scope t = and_then (value (names_in scope max_look_ups) t) finished
+eval_of scope t = measured (names_in scope max_look_ups) t
 
 unfoldable pub render_of : List Map → List Part → Value
-render_of scope parts = and_then (render (names_in scope max_look_ups) parts) finished
+render_of scope parts = render (names_in scope max_look_ups) parts
 
 -- a value with its texts rendered, in lists and dicts too
 unfoldable pub rendered_of : List Map → Datum → Value

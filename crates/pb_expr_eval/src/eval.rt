@@ -4,7 +4,7 @@ ghost use Rattle.pb_operators.specs.declared.fault.EvalFault.TheVariants as faul
 ghost use Rattle.pb_value.specs.Datum.{text};
 ghost use Rattle.pb_expr_eval.specs.Scoped.{eval_of, render_of, rendered_of};
 
-use crate::reading::{rendered, rendered_parts, templated, value};
+use crate::reading::{measured, rendered, rendered_parts, templated};
 use pb_expr_syntax::tree::Expr;
 use pb_layers::scope::Scope;
 use pb_operators::fault::EvalFault;
@@ -24,23 +24,18 @@ pub fn eval(alloc: Global, expr: &Expr, scope: &Scope) -> Result<Val, EvalFault>
     ensures value { IfOk result (λ v. eval_of scope.now expr.now ≡ Ok v) }
     ensures fault { IfErr result (λ e. e ≢ fault.Memory → eval_of scope.now expr.now ≡ Err e) }
 {
-    match value(alloc, scope, MAX_LOOK_UPS, expr) {
-        Ok(value) => finished(value),
-        Err(fault) => Err(fault),
-    }
+    measured(alloc, scope, MAX_LOOK_UPS, expr)
 }
 
 /// What a template gives in a scope, or its first fault: the value itself of a single expression,
-/// else the texts of its parts joined, with the limits of `eval`.
+/// else the texts of its parts in one. Each expression has the limits of `eval`; the whole text is measured when all parts
+/// are read.
 #[tactic(auto, unfolding(crate::specs::Scoped::render_of))]
 pub fn render(alloc: Global, template: &Template, scope: &Scope) -> Result<Val, EvalFault>
     ensures value { IfOk result (λ v. render_of scope.now template.now.parts ≡ Ok v) }
     ensures fault { IfErr result (λ e. e ≢ fault.Memory → render_of scope.now template.now.parts ≡ Err e) }
 {
-    match rendered_parts(alloc, scope, MAX_LOOK_UPS, template.parts.as_slice()) {
-        Ok(value) => finished(value),
-        Err(fault) => Err(fault),
-    }
+    rendered_parts(alloc, scope, MAX_LOOK_UPS, template.parts.as_slice())
 }
 
 /// A value with its texts rendered, in lists and dicts too, or its first fault, with the limits of

@@ -1,16 +1,14 @@
 //! The forms of expressions that ask of their operands no more than their values.
-ghost use Rattle.std.specs.Prelude.{◌≡◌, ◌≢◌, ◌++◌, IfOk, IfErr, Ok, Err, string_bytes};
+ghost use Rattle.std.specs.Prelude.{◌≡◌, ◌≢◌, IfOk, IfErr, Ok, Err, string_bytes};
 ghost use Rattle.pb_operators.specs.declared.fault.EvalFault.TheVariants as fault;
 ghost use Rattle.pb_value.specs.Reading.{map_ok};
 ghost use Rattle.pb_value.specs.ToJson.{text_of};
 ghost use Rattle.pb_expr_eval.specs.Value.{decides, apply, is_defined};
-ghost use Rattle.pb_expr_eval.specs.Rendering.{joined_within};
 
 use pb_expr_syntax::tree::{Filter, Op};
 use pb_operators::convert::{length, to_bool, to_int};
 use pb_operators::fault::EvalFault;
 use pb_operators::join::join;
-use pb_operators::operators::MAX_TEXT;
 use pb_value::text::Text;
 use pb_value::val::Val;
 use std::alloc::Global;
@@ -51,19 +49,6 @@ pub(crate) fn is_defined(outcome: Result<Val, EvalFault>, present: bool) -> Resu
         Err(EvalFault::Undefined { name: _ }) => Ok(Val::boolean(!present)),
         Err(fault) => Err(fault),
     }
-}
-
-/// Two texts in one of at most 1 MiB.
-pub(crate) fn joined_within(front: String, back: &str) -> Result<String, EvalFault>
-    ensures value { IfOk result (λ s. joined_within (string_bytes front) back.now ≡ Ok (string_bytes s)) }
-    ensures fault { IfErr result (λ e. e ≢ fault.Memory → joined_within (string_bytes front) back.now ≡ Err e) }
-{
-    let mut text = front;
-    if text.len() > MAX_TEXT || back.len() > MAX_TEXT - text.len() {
-        return Err(EvalFault::TooLarge);
-    }
-    text.push_str(back)?;
-    Ok(text)
 }
 
 /// The text of what was read, or its fault.

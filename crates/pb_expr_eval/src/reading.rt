@@ -7,15 +7,15 @@ ghost use Rattle.pb_expr_syntax.specs.Tree.{trees_of};
 ghost use Rattle.pb_operators.specs.declared.fault.EvalFault.TheVariants as fault;
 ghost use Rattle.pb_expr_eval.specs.Value.{value, values, each, defaulted, apply};
 ghost use Rattle.pb_template.specs.Computed.{template_of};
-ghost use Rattle.pb_expr_eval.specs.Rendering.{templated, text_in, shown, render, rendered, rendered_items, rendered_members};
+ghost use Rattle.pb_expr_eval.specs.Rendering.{measured, templated, text_in, shown, render, rendered, rendered_items, rendered_members};
 ghost use Rattle.pb_expr_eval.specs.Scoped.{names_in};
 
-use crate::forms::{apply, decides, is_defined, joined_within, text_of};
+use crate::forms::{apply, decides, is_defined, text_of};
 use pb_expr_syntax::fault::ExprFault;
 use pb_expr_syntax::tree::{Expr, Filter, Form, Op};
 use pb_layers::scope::{Scope, has_templates};
 use pb_operators::fault::EvalFault;
-use pb_operators::operators::{binary, negate};
+use pb_operators::operators::{binary, finished, negate, text_within};
 use pb_operators::parts::{index, member, undefined};
 use pb_template::template::{Part, Template};
 use pb_value::text::Text;
@@ -26,12 +26,7 @@ use std::collections::BTreeMap;
 /// The value of an expression.
 #[cycle(reading)]
 #[inline(never)]
-pub(crate) fn value(
-    alloc: Global,
-    scope: &Scope,
-    levels: u32,
-    expr: &Expr,
-) -> Result<Val, EvalFault>
+fn value(alloc: Global, scope: &Scope, levels: u32, expr: &Expr) -> Result<Val, EvalFault>
     ensures value { IfOk result (λ v. value (names_in scope.now levels) expr.now ≡ Ok v) }
     ensures fault { IfErr result (λ e. e ≢ fault.Memory → value (names_in scope.now levels) expr.now ≡ Err e) }
 {
@@ -281,32 +276,23 @@ pub(crate) fn rendered_parts(
 {
     match parts {
         [] => Ok(Val::text(Text::new(alloc))),
-        [Part::Code(expr)] => value(alloc, scope, levels, expr),
-        [first, rest @ ..] => {
-            let front = text_in(alloc, scope, levels, first)?;
-            let text = shown(alloc, scope, levels, front, rest)?;
-            Ok(Val::text(Text::from_string(text)))
-        }
+        [Part::Code(expr)] => measured(alloc, scope, levels, expr),
+        [_, ..] => text_within(shown(alloc, scope, levels, parts)?),
     }
 }
 
-/// A text with those of the parts behind it.
+/// The texts of parts in one.
 #[cycle(reading)]
 #[inline(never)]
-fn shown(
-    alloc: Global,
-    scope: &Scope,
-    levels: u32,
-    front: String,
-    parts: &[Part],
-) -> Result<String, EvalFault>
-    ensures value { IfOk result (λ s. shown (names_in scope.now levels) (string_bytes front) parts.now ≡ Ok (string_bytes s)) }
-    ensures fault { IfErr result (λ e. e ≢ fault.Memory → shown (names_in scope.now levels) (string_bytes front) parts.now ≡ Err e) }
+#[tactic(auto, using(crate::proofs::Members::map_ok_none, crate::proofs::Members::map_ok_joined))]
+fn shown(alloc: Global, scope: &Scope, levels: u32, parts: &[Part]) -> Result<String, EvalFault>
+    ensures value { IfOk result (λ s. shown (names_in scope.now levels) parts.now ≡ Ok (string_bytes s)) }
+    ensures fault { IfErr result (λ e. e ≢ fault.Memory → shown (names_in scope.now levels) parts.now ≡ Err e) }
 {
-    let mut text = front;
+    let mut text = String::new(alloc);
     for part in parts {
         let more = text_in(alloc, scope, levels, part)?;
-        text = joined_within(text, more.as_str())?;
+        text.push_str(more.as_str())?;
     }
     Ok(text)
 }
@@ -320,6 +306,21 @@ fn text_in(alloc: Global, scope: &Scope, levels: u32, part: &Part) -> Result<Str
 {
     match part {
         Part::Plain(text) => Ok(String::from_str(alloc, text.as_str())?),
-        Part::Code(expr) => text_of(alloc, value(alloc, scope, levels, expr)),
+        Part::Code(expr) => text_of(alloc, measured(alloc, scope, levels, expr)),
     }
+}
+
+/// The value of a whole expression, measured at its end.
+#[cycle(reading)]
+#[inline(never)]
+pub(crate) fn measured(
+    alloc: Global,
+    scope: &Scope,
+    levels: u32,
+    expr: &Expr,
+) -> Result<Val, EvalFault>
+    ensures value { IfOk result (λ v. measured (names_in scope.now levels) expr.now ≡ Ok v) }
+    ensures fault { IfErr result (λ e. e ≢ fault.Memory → measured (names_in scope.now levels) expr.now ≡ Err e) }
+{
+    finished(value(alloc, scope, levels, expr)?)
 }

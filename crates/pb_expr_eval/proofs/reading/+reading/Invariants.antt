@@ -51,6 +51,9 @@ decreases-rendered_parts l = spent l.scope.now l.levels + (4 * parts_weight l.pa
 abbrev pub decreases-shown : goal.decreases-shown
 decreases-shown l = spent l.scope.now l.levels + (4 * parts_weight l.parts.now + 2)
 
+abbrev pub decreases-measured : goal.decreases-measured
+decreases-measured l = spent l.scope.now l.levels + (4 * nodes l.expr.now + 1)
+
 abbrev pub decreases-text_in : goal.decreases-text_in
 decreases-text_in l = spent l.scope.now l.levels + (4 * part_weight l.part.now + 1)
 
@@ -70,4 +73,4 @@ invariant-rendered_members-loop-key l =
 
 abbrev pub invariant-shown-loop-part : goal.invariant-shown-loop-part
 invariant-shown-loop-part l =
-    shown (names_in l.scope l.levels) (string_bytes l.fn.front) l.parts ≡ shown (names_in l.scope l.levels) (string_bytes l.text) (drop l.part-index l.parts)
+    shown (names_in l.scope l.levels) l.parts ≡ map_ok (λ t. string_bytes l.text ++ t) (shown (names_in l.scope l.levels) (drop l.part-index l.parts))
