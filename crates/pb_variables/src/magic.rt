@@ -19,7 +19,7 @@ use std::alloc::{AllocError, Global};
 /// each host's name to the dict of its variables as they are stored: those from its groups, over
 /// them its own, and over these the extra variables (Ansible's documentation, "Special variables").
 /// Each host's dict has its own copy of the extra variables. The only error is want of memory.
-#[tactic(auto, using(crate::proofs::Named::groups_by_name, crate::proofs::Named::hostvars_by_name, crate::proofs::Named::variables_by_name))]
+#[tactic(auto, using(crate::proofs::Named::variables_by_name))]
 pub fn plan_magic(alloc: Global, inventory: &Inventory, extra: &Dict) -> Result<Dict, AllocError>
     ensures value { IfOk result (λ known. known ≡ plan_magic inventory.now extra.now) }
 
