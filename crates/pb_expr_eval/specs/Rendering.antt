@@ -13,7 +13,7 @@ use Rattle.pb_operators.specs.Values.{Value, text_within, finished}
 use Rattle.pb_expr_eval.specs.Value.{Names, value}
 
 -- the value of an expression, measured at its end wherever the expression stands: it nests at most 64 levels, and a text has at most 1 MiB
-abbrev pub measured : Names → Tree → Value
+unfoldable pub measured : Names → Tree → Value
 measured names t = and_then (value names t) finished
 
 -- the text of a part

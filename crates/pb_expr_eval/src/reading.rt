@@ -313,6 +313,7 @@ fn text_in(alloc: Global, scope: &Scope, levels: u32, part: &Part) -> Result<Str
 /// The value of a whole expression, measured at its end.
 #[cycle(reading)]
 #[inline(never)]
+#[tactic(auto, unfolding(crate::specs::Rendering::measured))]
 pub(crate) fn measured(
     alloc: Global,
     scope: &Scope,

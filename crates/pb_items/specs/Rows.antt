@@ -9,6 +9,7 @@ use Rattle.pb_expr_syntax.specs.Computed.{tree_of, tree_of_tokens}
 use Rattle.pb_expr_syntax.specs.Tree as tree
 use Rattle.pb_expr_syntax.specs.declared.tree.Op.TheVariants.{Plus}
 use Rattle.pb_template.specs.Computed.{template_of}
+use Rattle.pb_expr_eval.specs.Rendering.{measured}
 use Rattle.pb_expr_eval.specs.Scoped.{eval_of, rendered_of}
 use Rattle.pb_outcome.specs.Decided.{faulty_result, debug_result, shown_result, fail_result}
 use Rattle.pb_outcome.specs.declared.job.Call.TheVariants as call
@@ -19,7 +20,7 @@ use Rattle.pb_items.specs.declared.planned.Planned.TheVariants.{Decided, Sends}
 
 -- what computes the values of templates and the words of texts
 unfoldable on_items : ⊤
-unfolding chars encode_utf8 digits template_of tree_of tree_of_tokens eval_of rendered_of planned_by
+unfolding chars encode_utf8 digits template_of tree_of tree_of_tokens eval_of rendered_of measured planned_by
 on_items = tt
 
 -- a host where a play gives x this value
