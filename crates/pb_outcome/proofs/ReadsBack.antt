@@ -10,7 +10,8 @@ use Rattle.pb_value.specs.ToJson.{json_of, items_json, members_json}
 use Rattle.pb_outcome.specs.Limits.{IsWithin, max_text}
 use Rattle.pb_reading.specs.Fields.{field, others}
 use Rattle.pb_outcome.specs.Reading.{text as limited_text, status, facts, not_started, unreachable, whole, rest_of_outcome, outcome, of_reading, outcome_of}
-use Rattle.pb_outcome.specs.Whole.{fits_word, are_words, items_are_words, members_are_words, is_whole}
+use Rattle.pb_value.specs.Numbers.{fits_word, are_words, items_are_words, members_are_words}
+use Rattle.pb_outcome.specs.Whole.{is_whole}
 use Rattle.pb_outcome.specs.Writing.{outcome_json}
 use Rattle.pb_outcome.specs.declared.cause.Cause.{Cause}
 use Rattle.pb_outcome.specs.declared.cause.Cause.TheVariants.{CannotStart, KilledBySignal, NotUtf8, TooLarge, FactsNotObject, OutOfMemory}

@@ -1,5 +1,6 @@
-ghost use Rattle.std.specs.Prelude.{◌≡◌, ◌≢◌, IfOk, IfErr, Ok, Err, nat_lt, length};
+ghost use Rattle.std.specs.Prelude.{◌≡◌, ◌≢◌, true, IfOk, IfErr, Ok, Err, nat_lt, length};
 ghost use Rattle.pb_outcome.specs.declared.outcome.Form.TheVariants.{Ran, Module, Unreachable, NotStarted};
+ghost use Rattle.pb_outcome.specs.Whole.{is_whole};
 ghost use Rattle.pb_outcome.specs.Limits.{IsWithin, max_text, ran_of, module_of, unreachable_of};
 
 use crate::cause::Cause;
@@ -56,11 +57,13 @@ impl Model for Outcome {
 
     ghost coded = { coded_form };
 
+    ghost use Rattle.std.specs.Prelude.{◌≡◌, true};
     ghost use Rattle.pb_outcome.specs.Limits.{IsWithin};
+    ghost use Rattle.pb_outcome.specs.Whole.{is_whole};
 
     ghost view = { λ o. o.form };
 
-    ghost invariant = { λ o. IsWithin o.form };
+    ghost invariant = { λ o. IsWithin o.form × (is_whole o.form ≡ true) };
 }
 
 pub(crate) fn is_large(text: &str) -> bool
@@ -119,6 +122,7 @@ impl Outcome {
     pub fn form(&self) -> &Form
         ensures is { result.now ≡ self.now }
         ensures within { IsWithin self.now }
+        ensures whole { is_whole self.now ≡ true }
     {
         &self.form
     }

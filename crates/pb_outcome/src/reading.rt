@@ -122,9 +122,10 @@ impl Reads<OutcomeFault> for Facts {
     #[tactic(auto, unfolding(crate::specs::Reading::facts))]
     fn read(alloc: Global, path: &Text, json: &Value) -> Result<Outcome, Stop<OutcomeFault>> {
         match Val::from_json(alloc, json) {
-            Ok(value) => Ok(Outcome {
-                form: Form::Module(value),
-            }),
+            Ok(value) => match Outcome::module(value) {
+                Ok(outcome) => Ok(outcome),
+                Err(_) => wrong(path),
+            },
             Err(ValFault::Memory) => Err(Stop::Memory),
             Err(_) => wrong(path),
         }

@@ -1,9 +1,8 @@
-ghost use Rattle.std.specs.Prelude.{◌≡◌, ℕ, List, true, IfOk, Ok};
+ghost use Rattle.std.specs.Prelude.{◌≡◌, ℕ, List, IfOk, Ok};
 ghost use Rattle.serde_json.specs.Data.{string, object, member, no_members};
 ghost use Rattle.serde_json.specs.View.{view};
 ghost use Rattle.pb_outcome.specs.declared.outcome.Form.TheVariants.{Ran};
 ghost use Rattle.pb_outcome.specs.Reading.{outcome_of};
-ghost use Rattle.pb_outcome.specs.Whole.{is_whole};
 ghost use Rattle.pb_outcome.specs.Writing.{outcome_json};
 
 use crate::outcome::{Form, Outcome};
@@ -15,8 +14,7 @@ impl Outcome {
     /// The outcome as JSON: an object with the keys of its form. `Outcome::read` reads it as the same outcome.
     pub fn to_json(&self, alloc: Global) -> Result<Value, AllocError>
         ensures json { IfOk result (λ j. view j ≡ outcome_json self.now) }
-        ensures reads_back { IfOk result
-            (λ j. is_whole self.now ≡ true → (path : List ℕ) → outcome_of path (view j) ≡ Ok self.now) }
+        ensures reads_back { IfOk result (λ j. (path : List ℕ) → outcome_of path (view j) ≡ Ok self.now) }
     {
         let form = self.form();
         let json = form_json(alloc, form)?;
