@@ -1,0 +1,11 @@
+//! Where each host of a play stands: its answers, and a cursor that stands where they lead.
+//!
+//! `HostWalk` is one host, `Cursors` all hosts of a play with the play's plan. An answer leads a host's cursor on and walks no
+//! tree; `reach`, `status` and `pending` say what the walk of the host's whole list of answers says (`pb_tree`).
+#![tactic(auto)]
+
+pub mod cursors;
+pub mod walk;
+
+pub use cursors::Cursors;
+pub use walk::HostWalk;

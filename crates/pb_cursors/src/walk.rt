@@ -1,0 +1,100 @@
+ghost use Rattle.std.specs.Prelude.{◌≡◌, ◌∷◌, ◌++◌, [], IfOk, OnOk, OnErr};
+ghost use Rattle.pb_tree.specs.Tree.{TreeOf};
+ghost use Rattle.pb_tree.specs.Walk.{reach, status_of, marks_of};
+ghost use Rattle.pb_flat.specs.Seen.{PlanOf, LaysOut};
+ghost use Rattle.pb_cursors.specs.Tracked.{IsTracked};
+
+use pb_flat::{Cursor, FlatPlan};
+use pb_tree::{Answer, Reach, Status};
+use std::alloc::{AllocError, Global};
+use std::marker::Model;
+
+/// A host's answers, and the cursor that stands where they lead.
+#[derive(Debug, Drop)]
+pub struct HostWalk {
+    answers: Vec<Answer>,
+    cursor: Cursor,
+}
+
+impl Model for HostWalk {
+    ghost use Rattle.pb_cursors.specs.Walks.{WalkOf};
+
+    ghost Value = { WalkOf };
+
+    ghost view = { λ w. record { answers = w.answers.items; cursor = w.cursor } };
+}
+
+impl HostWalk {
+    /// A host that gave no answer yet.
+    pub fn first(alloc: Global, plan: &FlatPlan) -> Result<HostWalk, AllocError>
+        ensures none { IfOk result (λ w. w.answers ≡ []) }
+        ensures tracked { IfOk result (λ w. IsTracked plan.now w) }
+    {
+        let cursor = Cursor::first(alloc, plan)?;
+        Ok(HostWalk {
+            answers: Vec::new(alloc),
+            cursor,
+        })
+    }
+
+    /// A copy of it.
+    pub fn try_clone(&self, alloc: Global) -> Result<HostWalk, AllocError>
+        ensures { IfOk result (λ w. w ≡ self.now) }
+    {
+        let answers = copy_all(alloc, self.answers.as_slice())?;
+        let cursor = self.cursor.try_clone(alloc)?;
+        Ok(HostWalk { answers, cursor })
+    }
+
+    /// Takes one answer more. An `Err` changes nothing.
+    pub fn answer(&mut self, plan: &FlatPlan, answer: Answer) -> Result<(), AllocError>
+        ensures ok { OnOk result (self.new.answers ≡ self.old.answers ++ answer ∷ []) }
+        ensures tracked { IsTracked plan.now self.old → IsTracked plan.now self.new }
+        ensures err { OnErr result (self.new ≡ self.old) }
+    {
+        self.answers.reserve(1)?;
+        self.cursor.advance(plan, &answer);
+        match self.answers.push(answer) {
+            Ok(()) => Ok(()),
+            Err(_) => unreachable!(),
+        }
+    }
+
+    /// The answers so far.
+    pub fn answers(&self) -> &[Answer]
+        ensures { result.now ≡ self.now.answers }
+    {
+        self.answers.as_slice()
+    }
+
+    /// Where the host is: at the next place, or done.
+    pub fn reach(&self) -> Reach
+        ensures { (plan : PlanOf) (tree : TreeOf) → IsTracked plan self.now → LaysOut plan tree → result ≡ reach tree self.now.answers }
+    {
+        self.cursor.reach()
+    }
+
+    /// What the host is for the plays that follow.
+    pub fn status(&self) -> Status
+        ensures { (plan : PlanOf) (tree : TreeOf) → IsTracked plan self.now → LaysOut plan tree → result ≡ status_of tree self.now.answers }
+    {
+        self.cursor.status()
+    }
+
+    /// For each handler whether it is pending: notified, and not run since.
+    pub fn pending(&self) -> &[bool]
+        ensures { (plan : PlanOf) (tree : TreeOf) → IsTracked plan self.now → LaysOut plan tree → result.now ≡ marks_of tree self.now.answers }
+    {
+        self.cursor.pending()
+    }
+}
+
+fn copy_all(alloc: Global, answers: &[Answer]) -> Result<Vec<Answer>, AllocError>
+    ensures { IfOk result (λ copies. copies.items ≡ answers.now) }
+{
+    let mut copies = Vec::new(alloc);
+    for answer in answers {
+        copies.push(answer.try_clone(alloc)?)?;
+    }
+    Ok(copies)
+}
