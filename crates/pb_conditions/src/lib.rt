@@ -1,0 +1,7 @@
+//! Conditions: whether each of a list of expressions holds in a scope.
+//!
+//! For the layer above: `holds` reads the conditions in order up to the first that doesn't hold, and gives whether all of them do,
+//! or the first fault that is met on the way (`specs/Conditions.antt`). Only want of memory may come in place of the answer.
+#![tactic(auto)]
+
+pub mod holds;
