@@ -1,17 +1,16 @@
 -- What the program has done where its status isn't that of a fault.
 use Rattle.std.specs.Prelude.{◌≡◌, ◌≢◌, ◌⊎◌, ◌≤◌, ◌+◌, ◌-◌, ℕ, Bool, false, List, Option, Some, None, is_some, length, nat_lt}
-use Rattle.clap.specs.Words.{Text}
 use Rattle.pb_runner.specs.declared.fault.TableFault.{TableFault}
 use Rattle.pb_runner.specs.declared.fault.TableFault.TheVariants.{Memory}
 use Rattle.pb_plan.specs.declared.bundle.Bundle.{Bundle}
 use Rattle.pb_plan.specs.Plan.{PlanOf}
 use Rattle.pb_plan.specs.Bundle.{IsPlanOf, max_bytes}
 use Rattle.pb_driver.specs.Taken.{with_more}
-use Rattle.pb_cli.specs.declared.words.Request.{Request}
-use Rattle.pb_cli.specs.declared.words.Purpose.{Purpose}
-use Rattle.pb_cli.specs.declared.words.Purpose.TheVariants.{Run}
-use Rattle.pb_cli.specs.declared.words.WordsFault.TheVariants.{Help}
-use Rattle.pb_cli.specs.CommandLine.{Asks, IsRefused}
+use Rattle.pb_command_line.specs.declared.words.Request.{Request}
+use Rattle.pb_command_line.specs.declared.words.Purpose.{Purpose}
+use Rattle.pb_command_line.specs.declared.words.Purpose.TheVariants.{Run}
+use Rattle.pb_command_line.specs.declared.words.WordsFault.TheVariants.{Help}
+use Rattle.pb_command_line.specs.CommandLine.{Asks, IsRefused}
 use Rattle.pb_cli.specs.Played.{IsBadTable, IsGiven}
 use Rattle.pb_cli.specs.Warned.{IsWarned}
 
@@ -52,10 +51,10 @@ pub record IsDone (request : Request) (out_before out_after err_before err_after
   pub shown : IsShown bundle request.purpose outcomes out_before out_after err_before err_after failures failures_after status
 
 -- the words ask for help, and a text was put out: which text it is, is clap's own
-abbrev pub IsHelped : List Text → Option (List ℕ) → Option (List ℕ) → ℕ → Type 0
+abbrev pub IsHelped : List (List ℕ) → Option (List ℕ) → Option (List ℕ) → ℕ → Type 0
 IsHelped words before after status = (text : List ℕ) × IsRefused words (Help text) × (after ≡ with_more before text) × (status ≡ 0)
 
 -- the words ask for a play, and it was done
-abbrev pub IsAnswered : List Text → Option (List ℕ) → Option (List ℕ) → Option (List ℕ) → Option (List ℕ) → ℕ → ℕ → ℕ → Type 0
+abbrev pub IsAnswered : List (List ℕ) → Option (List ℕ) → Option (List ℕ) → Option (List ℕ) → Option (List ℕ) → ℕ → ℕ → ℕ → Type 0
 IsAnswered words out_before out_after err_before err_after failures failures_after status =
     (request : Request) × Asks words request × IsDone request out_before out_after err_before err_after failures failures_after status

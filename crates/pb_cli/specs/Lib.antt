@@ -1,8 +1,6 @@
-pub mod CommandLine
 pub mod Files
 pub mod Messages
 pub mod Listing
-pub mod Rows
 pub mod Played
 pub mod Warned
 pub mod Done

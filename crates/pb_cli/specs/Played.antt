@@ -13,8 +13,8 @@ use Rattle.pb_recap.specs.Recap.{recap}
 use Rattle.pb_recap.specs.Kinds.{status_of}
 use Rattle.pb_driver.specs.Driven.{IsWholeRun}
 use Rattle.pb_driver.specs.Taken.{with_more}
-use Rattle.pb_cli.specs.declared.words.Purpose.{Purpose}
-use Rattle.pb_cli.specs.declared.words.Purpose.TheVariants.{Run, CheckSyntax, ListHosts}
+use Rattle.pb_command_line.specs.declared.words.Purpose.{Purpose}
+use Rattle.pb_command_line.specs.declared.words.Purpose.TheVariants.{Run, CheckSyntax, ListHosts}
 use Rattle.pb_cli.specs.Listing.{listing}
 
 -- a table may give every outcome

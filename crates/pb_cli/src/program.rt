@@ -13,7 +13,7 @@ ghost use Rattle.pb_cli.specs.Warned.{ended, warning_text, IsWarned};
 use crate::files::read_file;
 use crate::listing::listing;
 use crate::messages::{Part, message};
-use crate::words::{Purpose, Request, WordsFault, read_words};
+use pb_command_line::words::{Purpose, Request, WordsFault, read_words};
 use pb_driver::{LineOut, RunFault, put_all, run_plain};
 use pb_engine::Lowest;
 use pb_runner::fault::TableFault;

@@ -1,8 +1,8 @@
 use Rattle.std.proofs.Common.{rules, ◌∙◌, Some, ap, codes, refl, sym, subst}
 use Rattle.std.specs.Prelude.{ℕ, List, Option}
-use Rattle.pb_cli.specs.CommandLine.{AreForks}
-use Rattle.pb_cli.proofs.Parsed.{found_read, value_read, none_met, error_met, forks_refused, purpose_read, inventory_missing, playbook_missing}
-use Rattle.pb_cli.proofs.words.read_words.Goals as goal
+use Rattle.pb_command_line.specs.CommandLine.{AreForks}
+use Rattle.pb_command_line.proofs.Parsed.{found_read, value_read, none_met, error_met, forks_refused, purpose_read, inventory_missing, playbook_missing}
+use Rattle.pb_command_line.proofs.words.read_words.Goals as goal
 
 pub returns-in_ok-from_str-in-Ok-2-clause-value : goal.returns-in_ok-from_str-in-Ok-2-clause-value
 returns-in_ok-from_str-in-Ok-2-clause-value c =

@@ -2,8 +2,8 @@
 use Rattle.std.specs.Prelude.{◌≡◌, ⊤, None, Some, [], ◌∷◌, codes, refl}
 use Rattle.clap.proofs.OnLiterals.{clap_on_literals}
 use Rattle.clap.specs.declared.error.kind.ErrorKind.TheVariants.{DisplayHelp, MissingRequiredArgument, UnknownArgument}
-use Rattle.pb_cli.specs.CommandLine.{errors_in, value_in, Asks}
-use Rattle.pb_cli.specs.declared.words.Purpose.TheVariants.{Run, CheckSyntax, ListHosts}
+use Rattle.pb_command_line.specs.CommandLine.{errors_in, value_in, Asks}
+use Rattle.pb_command_line.specs.declared.words.Purpose.TheVariants.{Run, CheckSyntax, ListHosts}
 
 -- what computes a row from its words
 unfoldable on_literals : ⊤

@@ -1,7 +1,7 @@
-ghost use Rattle.pb_cli.specs.declared.words.WordsFault.TheVariants.{Memory};
+ghost use Rattle.pb_command_line.specs.declared.words.WordsFault.TheVariants.{Memory};
 ghost use Rattle.std.specs.Prelude.{◌≡◌, ◌⊎◌, IfOk, IfErr, map, codes, string_bytes};
 ghost use Rattle.clap.specs.Words.{app_of, kind_of, found_of, first_value};
-ghost use Rattle.pb_cli.specs.CommandLine.{file_program, run_program, limited_program, program, is_true, purpose_of, Asks, IsCount, IsNoCount, AreForks, NoForks, IsBadForks, IsRefused, TellsKind};
+ghost use Rattle.pb_command_line.specs.CommandLine.{file_program, run_program, limited_program, program, is_true, purpose_of, Asks, IsCount, IsNoCount, AreForks, NoForks, IsBadForks, IsRefused, TellsKind};
 
 use clap::error::ErrorKind;
 use clap::{Arg, ArgAction, ArgMatches, Command, Error};

@@ -8,11 +8,11 @@ use Rattle.clap.specs.Words.{App, IsAmong, Kinds, Rule, Text, fault_of, first_of
 use Rattle.clap.specs.declared.error.kind.ErrorKind.{ErrorKind}
 use Rattle.clap.specs.declared.error.kind.ErrorKind.TheVariants.{DisplayHelp, OutOfMemory}
 use Rattle.clap.specs.declared.builder.action.ArgAction.TheVariants.{SetTrue}
-use Rattle.pb_cli.specs.declared.words.Request.{Request}
-use Rattle.pb_cli.specs.declared.words.Purpose.{Purpose}
-use Rattle.pb_cli.specs.declared.words.Purpose.TheVariants.{Run, CheckSyntax, ListHosts}
-use Rattle.pb_cli.specs.declared.words.WordsFault.{WordsFault}
-use Rattle.pb_cli.specs.declared.words.WordsFault.TheVariants.{Help, Wrong, Missing, Memory}
+use Rattle.pb_command_line.specs.declared.words.Request.{Request}
+use Rattle.pb_command_line.specs.declared.words.Purpose.{Purpose}
+use Rattle.pb_command_line.specs.declared.words.Purpose.TheVariants.{Run, CheckSyntax, ListHosts}
+use Rattle.pb_command_line.specs.declared.words.WordsFault.{WordsFault}
+use Rattle.pb_command_line.specs.declared.words.WordsFault.TheVariants.{Help, Wrong, Missing, Memory}
 
 -- `-i FILE`, the inventory; 105 is `i`
 abbrev pub inventory : Rule

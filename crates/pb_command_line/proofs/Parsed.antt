@@ -6,10 +6,10 @@ use Rattle.clap.specs.declared.error.Error.{Error}
 use Rattle.clap.specs.declared.parser.matches.ArgMatches.{ArgMatches}
 use Rattle.clap.proofs.OnLiterals.{clap_on_literals}
 use Rattle.clap.proofs.WalkLemmas.{first_value-rows}
-use Rattle.pb_cli.specs.CommandLine.{program, value_in, errors_in, is_true, purpose_of, purpose_in, NoForks, IsBadForks, IsRefused, TellsKind}
-use Rattle.pb_cli.specs.declared.words.Purpose.{Purpose}
-use Rattle.pb_cli.specs.declared.words.WordsFault.{WordsFault}
-use Rattle.pb_cli.specs.declared.words.WordsFault.TheVariants.{Help, Wrong, Missing, Memory}
+use Rattle.pb_command_line.specs.CommandLine.{program, value_in, errors_in, is_true, purpose_of, purpose_in, NoForks, IsBadForks, IsRefused, TellsKind}
+use Rattle.pb_command_line.specs.declared.words.Purpose.{Purpose}
+use Rattle.pb_command_line.specs.declared.words.WordsFault.{WordsFault}
+use Rattle.pb_command_line.specs.declared.words.WordsFault.TheVariants.{Help, Wrong, Missing, Memory}
 
 program_simple : is_simple program ≡ true
 unfolding clap_on_literals
