@@ -5,14 +5,13 @@ use Rattle.std.specs.Str.{IsUtf8, IsCharBoundary}
 use Rattle.std.proofs.lemmas.List.{get_or-drop}
 use Rattle.std.proofs.Math.Seq.{drop-cons}
 use Rattle.std.proofs.lemmas.Str.{IsCharBoundary-before_ascii, IsCharBoundary-after_ascii}
-use Rattle.pb_value.specs.Reading.{and_then, map_ok}
 use Rattle.pb_expr_syntax.specs.declared.fault.ExprFault.{ExprFault}
 use Rattle.pb_expr_syntax.specs.declared.fault.ExprFault.TheVariants as fault
 use Rattle.pb_template.specs.declared.pieces.Front.{Front}
 use Rattle.pb_template.specs.declared.pieces.Piece.{Piece}
 use Rattle.pb_template.specs.declared.pieces.State.{State}
 use Rattle.pb_template.specs.declared.pieces.State.TheVariants as state
-use Rattle.pb_template.specs.Pieces.{begins_one, begins_two, begins_open, begins_refused, begins_special, plain_size, plain_front, moved, closes, code_size, code_with, code_front, front_at, pieces_from}
+use Rattle.pb_template.specs.Pieces.{begins_one, begins_two, begins_open, begins_refused, begins_special, plain_size, plain_front, moved, closes, code_size, code_with, code_front, front_at, Pieces, before, pieces_by, pieces_from}
 
 -- what is special begins with `{` or `-`
 either : (x y p q r s t : Bool) → ((x && p) || ((((x && q) || (x && r)) || (x && s)) || (y && t))) ≡ true → (x || y) ≡ true
@@ -126,28 +125,31 @@ pieces_past zero at bs = let e : at ≡ at + 0 = omega arith in ap (λ n. pieces
 pieces_past (suc k) at [] = refl
 pieces_past (suc k) at (b ∷ bs) = let e : at + 1 + k ≡ at + suc k = omega arith in pieces_past k (at + 1) bs ∙ ap (λ n. pieces_from 0 n (drop k bs)) e
 
-next_good : (at : ℕ) (rest : List ℕ) (f : Front) → 0 < length rest → front_at at rest ≡ Ok f → pieces_from 0 at rest ≡ map_ok (λ ps. f.piece ∷ ps) (pieces_from 0 (at + f.size) (drop f.size rest))
+next_good : (at : ℕ) (rest : List ℕ) (f : Front) → 0 < length rest → front_at at rest ≡ Ok f → pieces_from 0 at rest ≡ before f.piece (pieces_from 0 (at + f.size) (drop f.size rest))
 next_good at [] f lt h = absurd (omega arith)
 next_good at (b ∷ bs) f lt h =
     let some : 0 < f.size = front_some at (b ∷ bs) f lt h in
     let e : at + 1 + (f.size - 1) ≡ at + f.size = omega arith in
     let s : suc (f.size - 1) ≡ f.size = omega arith in
-    ap (λ (r : Result Front ExprFault). and_then r (λ f. map_ok (λ ps. f.piece ∷ ps) (pieces_from (f.size - 1) (at + 1) bs))) h
-    ∙ ap (map_ok (λ ps. f.piece ∷ ps)) (pieces_past (f.size - 1) (at + 1) bs ∙ (λ i. pieces_from 0 (e i) (drop (s i) (b ∷ bs))))
+    ap (λ (r : Result Front ExprFault). pieces_by r (λ size. pieces_from (size - 1) (at + 1) bs)) h
+    ∙ ap (before f.piece) (pieces_past (f.size - 1) (at + 1) bs ∙ (λ i. pieces_from 0 (e i) (drop (s i) (b ∷ bs))))
 
-mapped_twice : (before : List Piece) (p : Piece) (r : Result (List Piece) ExprFault) → map_ok (λ ps. before ++ ps) (map_ok (λ ps. p ∷ ps) r) ≡ map_ok (λ ps. (before ++ p ∷ []) ++ ps) r
-mapped_twice before p (Err e) = refl
-mapped_twice before p (Ok ps) = ap Ok (sym (append_assoc before (p ∷ []) ps))
+-- pieces found before others
+abbrev pub found : List Piece → Pieces → Pieces
+found ps rest = (ps ++ rest.0, rest.1)
+
+found_more : (ps : List Piece) (p : Piece) (rest : Pieces) → found ps (before p rest) ≡ found (ps ++ p ∷ []) rest
+found_more ps p rest = ap (λ (qs : List Piece). (qs, rest.1)) (sym (append_assoc ps (p ∷ []) rest.0))
 
 -- the loop over a text: what was found before, and the piece at the front of the rest
-pub step_good : (text rest : List ℕ) (before : List Piece) (f : Front) → 0 < length rest → length rest ≤ length text → f.size ≤ length rest → front_at (length text - length rest) rest ≡ Ok f →
-    pieces_from 0 0 text ≡ map_ok (λ ps. before ++ ps) (pieces_from 0 (length text - length rest) rest) →
-    pieces_from 0 0 text ≡ map_ok (λ ps. (before ++ f.piece ∷ []) ++ ps) (pieces_from 0 (length text - length (drop f.size rest)) (drop f.size rest))
-step_good text rest before f lt within size h so =
+pub step_good : (text rest : List ℕ) (ps : List Piece) (f : Front) → 0 < length rest → length rest ≤ length text → f.size ≤ length rest → front_at (length text - length rest) rest ≡ Ok f →
+    pieces_from 0 0 text ≡ found ps (pieces_from 0 (length text - length rest) rest) →
+    pieces_from 0 0 text ≡ found (ps ++ f.piece ∷ []) (pieces_from 0 (length text - length (drop f.size rest)) (drop f.size rest))
+step_good text rest ps f lt within size h so =
     let left : length (drop f.size rest) ≡ length rest - f.size = length-drop f.size rest in
     let at : length text - length rest + f.size ≡ length text - length (drop f.size rest) = omega arith in
-    so ∙ ap (map_ok (λ ps. before ++ ps)) (next_good (length text - length rest) rest f lt h) ∙ mapped_twice before f.piece _
-    ∙ ap (λ n. map_ok (λ ps. (before ++ f.piece ∷ []) ++ ps) (pieces_from 0 n (drop f.size rest))) at
+    so ∙ ap (found ps) (next_good (length text - length rest) rest f lt h) ∙ found_more ps f.piece _
+    ∙ ap (λ n. found (ps ++ f.piece ∷ []) (pieces_from 0 n (drop f.size rest))) at
 
 pub nonempty : (rest : List ℕ) → (length rest == 0) ≡ false → 0 < length rest
 nonempty [] e = cc

@@ -1,8 +1,9 @@
--- The parts of a template's text, computed: what crates above build on where they speak of what a template means.
--- `Template::parse` shows that they are the text's parts, and that a text without parts has none here.
-use Rattle.std.specs.Prelude.{ℕ, List, [], ◌∷◌, Option, Some, None, Result, Ok, Err}
+-- The parts of a template's text, and the first fault of a text that has none, computed: what crates above build on where they
+-- speak of what a template means. `Template::parse` shows that they are the text's parts, and that a text without parts has none here.
+use Rattle.std.specs.Prelude.{ℕ, List, [], ◌∷◌, Option, Some, None}
 use Rattle.std.specs.Option.{option_map}
-use Rattle.pb_expr_syntax.specs.Computed.{tree_of}
+use Rattle.pb_expr_syntax.specs.Computed.{tree_of, first_fault_of}
+use Rattle.pb_expr_syntax.specs.Tree.{Tree}
 use Rattle.pb_expr_syntax.specs.declared.fault.ExprFault.{ExprFault}
 use Rattle.pb_template.specs.declared.pieces.Piece.{Piece}
 use Rattle.pb_template.specs.declared.pieces.Piece.TheVariants as piece
@@ -23,10 +24,31 @@ abbrev pub parts_in : List Piece → Option (List Part)
 parts_in [] = Some []
 parts_in (p ∷ ps) = some_with (part_in p) (parts_in ps)
 
-abbrev pub parts_by : Result (List Piece) ExprFault → Option (List Part)
-parts_by (Err e) = None
-parts_by (Ok pieces) = parts_in pieces
+abbrev pub unless_bad : Option ExprFault → Option (List Part) → Option (List Part)
+unless_bad None parts = parts
+unless_bad (Some e) parts = None
 
 -- the parts of a text, if it is a template
 unfoldable pub template_of : List ℕ → Option (List Part)
-template_of text = parts_by (pieces_of text)
+template_of text = unless_bad (pieces_of text).1 (parts_in (pieces_of text).0)
+
+-- the fault of an expression that spells no tree
+abbrev pub fault_without : Option Tree → Option ExprFault → Option ExprFault
+fault_without None e = e
+fault_without (Some t) e = None
+
+abbrev pub fault_in : Piece → Option ExprFault
+fault_in (piece.Plain s) = None
+fault_in (piece.Code s) = fault_without (tree_of s) (first_fault_of s)
+
+abbrev pub first_of : Option ExprFault → Option ExprFault → Option ExprFault
+first_of None later = later
+first_of (Some e) later = Some e
+
+abbrev pub first_among : List Piece → Option ExprFault
+first_among [] = None
+first_among (p ∷ ps) = first_of (fault_in p) (first_among ps)
+
+-- the first fault of a text that is no template: of its pieces from left to right, and then of the place at which no piece can begin
+unfoldable pub template_fault_of : List ℕ → Option ExprFault
+template_fault_of text = first_of (first_among (pieces_of text).0) (pieces_of text).1

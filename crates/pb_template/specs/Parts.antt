@@ -1,5 +1,5 @@
 -- Which parts a template's text has, and the first fault of a text that has none.
-use Rattle.std.specs.Prelude.{◌≡◌, ℕ, ◌⊎◌, List, [], ◌∷◌, ◌++◌, Option, Some, None, Ok, Err}
+use Rattle.std.specs.Prelude.{◌≡◌, ℕ, ◌⊎◌, List, [], ◌∷◌, ◌++◌, Option, Some, None}
 use Rattle.pb_expr_syntax.specs.declared.fault.ExprFault.{ExprFault}
 use Rattle.pb_expr_syntax.specs.Tree.{Tree}
 use Rattle.pb_expr_syntax.specs.Spelling.{spells, FirstFault}
@@ -22,7 +22,7 @@ AreParts _ _ = ⊥
 
 -- the text has these parts
 abbrev pub IsTemplate : List ℕ → List Part → Type 0
-IsTemplate text parts = (pieces : List Piece) × (pieces_of text ≡ Ok pieces) × AreParts pieces parts
+IsTemplate text parts = ((pieces_of text).1 ≡ None) × AreParts (pieces_of text).0 parts
 
 -- the piece is an expression with this first fault
 abbrev pub IsBad : Piece → ExprFault → Type 0
@@ -33,9 +33,10 @@ IsBad (piece.Code s) e = FirstFault s e
 abbrev pub HasBad : List Piece → ExprFault → Type 0
 HasBad pieces e = (front : List Piece) × (bad : Piece) × (rest : List Piece) × (parts : List Part) × (pieces ≡ front ++ bad ∷ rest) × AreParts front parts × IsBad bad e
 
--- the first fault: of the text's pieces, or of the first expression that has one
+-- the first fault in the order of the text: of the first expression that has one, or, where all pieces before it are parts, of the place
+-- at which no piece can begin
 abbrev pub FirstBad : List ℕ → ExprFault → Type 0
-FirstBad text e = (pieces_of text ≡ Err e) ⊎ ((pieces : List Piece) × (pieces_of text ≡ Ok pieces) × HasBad pieces e)
+FirstBad text e = HasBad (pieces_of text).0 e ⊎ ((parts : List Part) × AreParts (pieces_of text).0 parts × ((pieces_of text).1 ≡ Some e))
 
 -- the one expression of a text that is just an expression
 abbrev pub single_of : List Part → Option Tree

@@ -1,6 +1,5 @@
 -- How a template's text is cut into plain pieces and expressions.
 use Rattle.std.specs.Prelude.{ℕ, zero, suc, ◌+◌, ◌-◌, Bool, false, ◌==◌, ◌&&◌, ◌||◌, List, [], ◌∷◌, Option, Some, None, option_map, Result, Ok, Err, take, drop, if◌then◌else◌}
-use Rattle.pb_value.specs.Reading.{and_then, map_ok}
 use Rattle.pb_expr_syntax.specs.declared.fault.ExprFault.{ExprFault}
 use Rattle.pb_expr_syntax.specs.declared.fault.ExprFault.TheVariants.{Unexpected, End}
 use Rattle.pb_template.specs.declared.pieces.Front.{Front}
@@ -68,11 +67,23 @@ code_front bs = code_with (drop 2 bs) (code_size Outside (drop 2 bs))
 abbrev pub front_at : ℕ → List ℕ → Result Front ExprFault
 front_at at bs = if begins_refused bs then Err (Unexpected at) else if begins_open bs then code_front bs else Ok (plain_front bs)
 
--- the pieces behind the next few bytes, which are taken
-abbrev pub pieces_from : ℕ → ℕ → List ℕ → Result (List Piece) ExprFault
-pieces_from taken at [] = Ok []
-pieces_from (suc taken) at (b ∷ bs) = pieces_from taken (at + 1) bs
-pieces_from zero at (b ∷ bs) = and_then (front_at at (b ∷ bs)) (λ f. map_ok (λ ps. f.piece ∷ ps) (pieces_from (f.size - 1) (at + 1) bs))
+-- a text is cut into its pieces: all of them, or those before the first place at which no piece can begin, and the fault there
+abbrev pub Pieces : Type 0
+Pieces = List Piece × Option ExprFault
 
-abbrev pub pieces_of : List ℕ → Result (List Piece) ExprFault
+-- one piece before others
+abbrev pub before : Piece → Pieces → Pieces
+before p rest = (p ∷ rest.0, rest.1)
+
+abbrev pub pieces_by : Result Front ExprFault → (ℕ → Pieces) → Pieces
+pieces_by (Err e) behind = ([], Some e)
+pieces_by (Ok f) behind = before f.piece (behind f.size)
+
+-- the pieces behind the next few bytes, which are taken
+abbrev pub pieces_from : ℕ → ℕ → List ℕ → Pieces
+pieces_from taken at [] = ([], None)
+pieces_from (suc taken) at (b ∷ bs) = pieces_from taken (at + 1) bs
+pieces_from zero at (b ∷ bs) = pieces_by (front_at at (b ∷ bs)) (λ size. pieces_from (size - 1) (at + 1) bs)
+
+abbrev pub pieces_of : List ℕ → Pieces
 pieces_of text = pieces_from 0 0 text

@@ -1,5 +1,5 @@
 //! Cuts a text into plain pieces and expressions.
-ghost use Rattle.std.specs.Prelude.{true, ◌≡◌, ◌≢◌, ◌≤◌, ◌<◌, ◌+◌, ◌^◌, ◌∷◌, [], Ok, Err, IfOk, IfErr, length, drop};
+ghost use Rattle.std.specs.Prelude.{true, ◌≡◌, ◌≢◌, ◌≤◌, ◌<◌, ◌+◌, ◌^◌, ◌∷◌, [], Ok, Err, Some, None, IfOk, IfErr, length, drop};
 ghost use Rattle.std.specs.Str.{IsCharBoundary};
 ghost use Rattle.pb_expr_syntax.specs.declared.fault.ExprFault.{ExprFault};
 ghost use Rattle.pb_expr_syntax.specs.declared.fault.ExprFault.TheVariants as fault;
@@ -17,6 +17,15 @@ pub enum Piece {
     Plain(Text),
     /// What stands between `{{` and `}}`.
     Code(Text),
+}
+
+/// A text cut into its pieces.
+#[derive(Drop)]
+pub struct Pieces {
+    /// All of them, or those before the first place at which no piece can begin.
+    pub pieces: Vec<Piece>,
+    /// The fault at that place.
+    pub fault: Option<ExprFault>,
 }
 
 /// The piece at the front of a text, and how many bytes it takes with its braces.
@@ -194,10 +203,10 @@ fn front_at(alloc: Global, at: usize, text: &str) -> Result<Front, ExprFault>
     }
 }
 
-/// The pieces of a text, or its first fault.
-pub fn pieces_of(alloc: Global, text: &str) -> Result<Vec<Piece>, ExprFault>
-    ensures value { IfOk result (λ ps. pieces_of text.now ≡ Ok ps.items) }
-    ensures fault { IfErr result (λ e. e ≢ fault.Memory → pieces_of text.now ≡ Err e) }
+/// The pieces of a text, as far as it can be cut. The one error is want of memory.
+pub fn pieces_of(alloc: Global, text: &str) -> Result<Pieces, ExprFault>
+    ensures value { IfOk result (λ cut. pieces_of text.now ≡ (cut.pieces.items, cut.fault)) }
+    ensures fault { IfErr result (λ e. e ≡ fault.Memory) }
 {
     let mut pieces = Vec::new(alloc);
     let mut rest = text;
@@ -207,8 +216,13 @@ pub fn pieces_of(alloc: Global, text: &str) -> Result<Vec<Piece>, ExprFault>
                 pieces.push(front.piece)?;
                 rest = &rest[front.size..];
             }
-            Err(fault) => return Err(fault),
+            Err(ExprFault::Memory) => return Err(ExprFault::Memory),
+            Err(fault) => {
+                let fault = Some(fault);
+                return Ok(Pieces { pieces, fault });
+            }
         }
     }
-    Ok(pieces)
+    let fault = None;
+    Ok(Pieces { pieces, fault })
 }

@@ -1,6 +1,6 @@
 //! Templates and their parts.
 ghost use Rattle.std.specs.Prelude.{◌≡◌, ◌≢◌, List, IfOk, IfErr, Some, None};
-ghost use Rattle.pb_template.specs.Computed.{part_in, parts_in, template_of};
+ghost use Rattle.pb_template.specs.Computed.{part_in, parts_in, fault_in, first_among, template_of, template_fault_of};
 ghost use Rattle.std.specs.Option.{option_copied};
 ghost use Rattle.pb_expr_syntax.specs.declared.fault.ExprFault.TheVariants as fault;
 ghost use Rattle.pb_template.specs.declared.template.Part.{Part};
@@ -35,6 +35,8 @@ fn part_of(alloc: Global, piece: &Piece) -> Result<Part, ExprFault>
     ensures fault { IfErr result (λ e. e ≢ fault.Memory → IsBad piece.now e) }
     ensures computed { IfOk result (λ p. part_in piece.now ≡ Some p) }
     ensures not_computed { IfErr result (λ e. e ≢ fault.Memory → part_in piece.now ≡ None) }
+    ensures no_fault { IfOk result (λ p. fault_in piece.now ≡ None) }
+    ensures computed_fault { IfErr result (λ e. e ≢ fault.Memory → fault_in piece.now ≡ Some e) }
 {
     match piece {
         Piece::Plain(text) => Ok(Part::Plain(text.try_clone()?)),
@@ -46,14 +48,15 @@ fn part_of(alloc: Global, piece: &Piece) -> Result<Part, ExprFault>
 }
 
 impl Template {
-    /// The parts of a text, or its first fault: one of its pieces (`{{-`, `{%`, `{#` or `-}}` in
-    /// a plain part is Unexpected at its byte, and an expression without `}}` is End), else that of
-    /// the first expression which has one, counted from behind its `{{`. The `}}` that ends an
-    /// expression is the first outside of the expression's texts. The meaning of the braces is
-    /// Jinja's, as in "Templating (Jinja2)" of Ansible's documentation.
+    /// The parts of a text, or the fault that stands first in it: `{{-`, `{%`, `{#` or `-}}` outside
+    /// of expressions is Unexpected at its byte, an expression without `}}` is End, and the fault
+    /// of another expression counts from behind its `{{`. The `}}` that ends an expression is the
+    /// first outside of the expression's texts. The meaning of the braces is Jinja's, as in
+    /// "Templating (Jinja2)" of Ansible's documentation.
     ///
-    /// `template_of` computes the same parts, for what is said of texts in the crates above.
-    #[tactic(auto, unfolding(crate::specs::Computed::template_of))]
+    /// `template_of` computes the same parts and `template_fault_of` the same fault, for what is said
+    /// of texts in the crates above.
+    #[tactic(auto, unfolding(crate::specs::Computed::template_of, crate::specs::Computed::template_fault_of))]
     pub fn parse(alloc: Global, text: &str) -> Result<Template, ExprFault>
         ensures parts { IfOk result (λ t. IsTemplate text.now t.parts) }
         ensures only { IfOk result (λ t. (parts : List Part) → IsTemplate text.now parts → parts ≡ t.parts) }
@@ -61,18 +64,22 @@ impl Template {
         ensures fault { IfErr result (λ e. e ≢ fault.Memory → FirstBad text.now e) }
         ensures computed { IfOk result (λ t. template_of text.now ≡ Some t.parts) }
         ensures not_computed { IfErr result (λ e. e ≢ fault.Memory → template_of text.now ≡ None) }
+        ensures computed_fault { IfErr result (λ e. e ≢ fault.Memory → template_fault_of text.now ≡ Some e) }
     {
-        let pieces = match pieces_of(alloc, text) {
-            Ok(pieces) => pieces,
+        let cut = match pieces_of(alloc, text) {
+            Ok(cut) => cut,
             Err(fault) => return Err(fault),
         };
-        let parts = match parts_of(alloc, pieces.as_slice()) {
+        let parts = match parts_of(alloc, cut.pieces.as_slice()) {
             Ok(parts) => parts,
             Err(fault) => return Err(fault),
         };
-        Ok(Template {
-            parts: Items::from_vec(parts),
-        })
+        match cut.fault {
+            Some(fault) => Err(fault),
+            None => Ok(Template {
+                parts: Items::from_vec(parts),
+            }),
+        }
     }
 
     /// The expression of a text that is just one, whose value such a template gives.
@@ -93,6 +100,8 @@ fn parts_of(alloc: Global, pieces: &[Piece]) -> Result<Vec<Part>, ExprFault>
     ensures fault { IfErr result (λ e. e ≢ fault.Memory → HasBad pieces.now e) }
     ensures computed { IfOk result (λ ps. parts_in pieces.now ≡ Some ps.items) }
     ensures not_computed { IfErr result (λ e. e ≢ fault.Memory → parts_in pieces.now ≡ None) }
+    ensures no_fault { IfOk result (λ ps. first_among pieces.now ≡ None) }
+    ensures computed_fault { IfErr result (λ e. e ≢ fault.Memory → first_among pieces.now ≡ Some e) }
 {
     let mut parts = Vec::new(alloc);
     for piece in pieces {
