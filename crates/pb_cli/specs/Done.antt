@@ -50,7 +50,7 @@ pub record IsDone (request : Request) (out_before out_after err_before err_after
   pub short : is_too_long outcomes ≡ false
   pub shown : IsShown bundle request.purpose outcomes out_before out_after err_before err_after failures failures_after status
 
--- the words ask for help, and a text was put out: which text it is, is clap's own
+-- a call for help is among what the words are refused for, and a text was put out; the clause doesn't say which text
 abbrev pub IsHelped : List (List ℕ) → Option (List ℕ) → Option (List ℕ) → ℕ → Type 0
 IsHelped words before after status = (text : List ℕ) × IsRefused words (Help text) × (after ≡ with_more before text) × (status ≡ 0)
 
