@@ -1,7 +1,7 @@
 ghost use Rattle.std.specs.Prelude.{◌≡◌, ℕ, ◌<◌, ◌≤◌, ◌+◌, ◌*◌, ◌/◌, ◌&&◌, ◌||◌, length, replicate, false, true, not, slice_get, slice_set, Some, IfOk, IfSome, IfNone, count_by, vec_len, nat_lt};
 ghost use Rattle.std.specs.Simd.Lanes.{zip2};
 ghost use Rattle.pb_planes.specs.Words.{bools, combined_bits, has_at};
-ghost use Rattle.pb_planes.specs.Set.{has_some, IsNextFrom, HasNoneFrom, IsMemberAfter};
+ghost use Rattle.pb_planes.specs.Set.{has_some, is_in, IsNextFrom, HasNoneFrom, IsMemberAfter};
 
 use crate::words::{self, Combine};
 use pb_ids::HostNo;
@@ -92,6 +92,13 @@ impl HostSet {
         ensures { slice_get self.now host.0 ≡ Some result }
     {
         words::bit_in(self.words.as_slice(), host.0)
+    }
+
+    /// Whether the host is in the set, with any number: none is beyond the width.
+    pub fn contains(&self, host: HostNo) -> bool
+        ensures { result ≡ is_in self.now host.0 }
+    {
+        host.0 < self.width() && self.has(host)
     }
 
     /// Adds a host.

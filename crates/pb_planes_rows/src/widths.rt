@@ -92,14 +92,19 @@ fn set_of(alloc: Global, members: Members, width: u32) -> Result<HostSet, Fail> 
     Ok(set)
 }
 
-/// Whether `width` and `has` say what the list says.
+/// Whether `width`, `has` and `contains` say what the list says.
 fn has_the_same(set: &HostSet, list: &[bool]) -> bool {
     for number in 0..set.width() {
         if list.get(number as usize) != Some(&set.has(HostNo(number))) {
             return false;
         }
+        if set.contains(HostNo(number)) != set.has(HostNo(number)) {
+            return false;
+        }
     }
     set.width() as usize == list.len()
+        && !set.contains(HostNo(set.width()))
+        && !set.contains(HostNo(u32::MAX))
 }
 
 /// Whether `next_at` answers from each number what stands next in the list, and nothing from the width on.
