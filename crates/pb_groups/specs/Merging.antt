@@ -1,6 +1,6 @@
 -- The order in which groups merge (Ansible's documentation, "How variables are merged"): those that lie deeper come later, of equal depth
 -- those of higher priority, and of equal priority those of higher number. So later groups override earlier ones.
-use Rattle.std.specs.Prelude.{◌≡◌, ℕ, zero, suc, ℤ, pos, Bool, true, ◌&&◌, ◌||◌, ◌==◌, List, [], filter, slice_index_or, ◌↔◌, if◌then◌else◌}
+use Rattle.std.specs.Prelude.{◌≡◌, ℕ, zero, suc, ℤ, pos, Bool, true, ◌&&◌, ◌==◌, List, [], filter, slice_index_or, ◌↔◌, if◌then◌else◌}
 use Rattle.std.specs.declared.cmp.Ordering.{Ordering}
 use Rattle.std.specs.Ordering.{nat_cmp, int_cmp, ordering_then}
 use Rattle.std.specs.BTreeSet.{insert_key}
@@ -8,10 +8,10 @@ use Rattle.std.specs.List.{list_any}
 use Rattle.std.specs.List.Sorted.{IsStrictlySortedBy}
 use Rattle.pb_ids.specs.declared.numbers.GroupNo.{GroupNo}
 use Rattle.pb_groups.specs.declared.links.ChildLink.{ChildLink}
-use Rattle.pb_groups.specs.declared.links.OwnHost.{OwnHost}
 use Rattle.pb_groups.specs.declared.merging.MergeKey.{MergeKey}
 use Rattle.pb_groups.specs.GroupsOf.{GroupsOf}
 use Rattle.pb_groups.specs.Members.{IsMember}
+use Rattle.pb_groups.specs.MemberSets.{belongs}
 
 -- whether a way of so many steps from parent to child ends at the group
 abbrev pub ends_way : List ChildLink → ℕ → ℕ → Bool
@@ -27,16 +27,9 @@ longest links (suc steps) group = if ends_way links (suc steps) group then suc s
 abbrev pub depth_of : GroupsOf → ℕ → ℕ
 depth_of groups group = longest groups.links groups.groups group
 
-abbrev pub is_own : List OwnHost → ℕ → ℕ → Bool
-is_own own group host = list_any (λ o. (o.group.0 == group) && (o.host.0 == host)) own
-
--- whether the host is among the group's own hosts, or a member of a child, over so many steps
-abbrev pub is_member : List ChildLink → List OwnHost → ℕ → ℕ → ℕ → Bool
-is_member links own zero group host = is_own own group host
-is_member links own (suc steps) group host = is_own own group host || list_any (λ l. (l.parent.0 == group) && is_member links own steps l.child.0 host) links
-
+-- whether the host belongs to the group
 abbrev pub has_member : GroupsOf → ℕ → ℕ → Bool
-has_member groups group host = is_member groups.links groups.own groups.groups group host
+has_member groups group host = belongs groups.links groups.own groups.groups group host
 
 -- what decides where a group stands in the order
 abbrev pub key_of : GroupsOf → List ℤ → ℕ → MergeKey

@@ -207,7 +207,8 @@ impl Groups {
         ensures rising { IfOk result (λ order. IsInOrder self.now priorities.now order.items) }
         ensures groups { IfOk result (λ order. AreGroupsOf self.now host.0 order.items) }
     {
-        let _ = &self.own;
+        // (the invariant is known to the proof once a field is read)
+        let _own = &self.own;
         let order = self.in_order(alloc, priorities)?;
         Ok(self.with_host(alloc, order.as_slice(), host)?)
     }
