@@ -1,9 +1,8 @@
 -- The result of a task from the results of its items: it is unreachable if an item is, else failed if some item is failed or faulty, else
 -- skipped if all items are; it is changed if some item is. Its failure is ignored where it says so and no item is faulty.
 -- See Ansible's documentation, "Error handling in playbooks" and "Loops".
-use Rattle.std.specs.Prelude.{Bool, true, false, not, ◌&&◌, List, [], ◌∷◌, Option, Some, None}
+use Rattle.std.specs.Prelude.{Bool, true, false, not, ◌&&◌, List}
 use Rattle.std.specs.List.{list_any, list_all}
-use Rattle.pb_value.specs.Datum.{Datum}
 use Rattle.pb_outcome.specs.declared.gather.Ending.{Ending}
 use Rattle.pb_outcome.specs.declared.gather.Ending.TheVariants.{Skipped, Faulty, Unreachable, NotStarted, Ran}
 use Rattle.pb_outcome.specs.declared.gather.ItemResult.{ItemResult}
@@ -47,8 +46,3 @@ gathered ignore_errors items =
       changed = list_any (λ (item : ItemResult). is_changed item.ending) items;
       ignored = task_failed items && (ignore_errors && not (list_any (λ (item : ItemResult). is_faulty item.ending) items));
     }
-
--- what a task without a loop registers: the result of its only item
-abbrev pub registered : List ItemResult → Option Datum
-registered [] = None
-registered (item ∷ items) = Some item.result

@@ -1,9 +1,8 @@
-ghost use Rattle.std.specs.Prelude.{◌≡◌, IfOk};
+ghost use Rattle.std.specs.Prelude.{◌≡◌};
 ghost use Rattle.std.specs.List.{list_any, list_all};
-ghost use Rattle.pb_outcome.specs.Gathered.{is_unreachable, is_failed, is_faulty, is_skipped, is_changed, gathered, registered};
+ghost use Rattle.pb_outcome.specs.Gathered.{is_unreachable, is_failed, is_faulty, is_skipped, is_changed, gathered};
 
 use pb_value::val::Val;
-use std::alloc::{AllocError, Global};
 
 /// How one item of a task ended.
 #[derive(Clone, Copy, Debug, PartialEq, Eq)]
@@ -150,15 +149,5 @@ pub fn gather(items: &[ItemResult], ignore_errors: bool) -> TaskResult
         skipped,
         changed,
         ignored,
-    }
-}
-
-/// What a task without a loop registers, and shows as its result: the result of its only item, once it has one.
-pub fn registered(alloc: Global, items: &[ItemResult]) -> Result<Option<Val>, AllocError>
-    ensures { IfOk result (λ v. v ≡ registered items.now) }
-{
-    match items {
-        [] => Ok(None),
-        [item, ..] => Ok(Some(item.result.try_clone(alloc)?)),
     }
 }

@@ -10,12 +10,13 @@ use pb_items::planned::Planned;
 use pb_items::planning::planned;
 use pb_layers::layers::{Layers, Magic};
 use pb_layers::scope::Scope;
-use pb_outcome::gather::{Ending, ItemResult, TaskResult};
+use pb_outcome::gather::{Ending, ItemResult, TaskResult, gather};
 use pb_plan::{Plan, PlanPlay};
 use pb_play::task::Task;
 use pb_value::val::{Dict, Node, Val};
 use pb_variables::magic::host_magic;
 use std::alloc::{AllocError, Global};
+use std::slice;
 
 /// What a task does on a host, with the variables that it sees there.
 fn planned_for(
@@ -89,14 +90,5 @@ pub(crate) fn planned_at(
 pub(crate) fn task_of(item: &ItemResult) -> TaskResult
     ensures { result ≡ task_of item.now }
 {
-    let unreachable = item.ending.is_unreachable();
-    let failed = !unreachable && item.ending.is_failed();
-    let skipped = !unreachable && !failed && item.ending.is_skipped();
-    TaskResult {
-        unreachable,
-        failed,
-        skipped,
-        changed: item.ending.is_changed(),
-        ignored: false,
-    }
+    gather(slice::from_ref(item), false)
 }
