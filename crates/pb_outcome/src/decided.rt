@@ -2,7 +2,6 @@ ghost use Rattle.std.specs.Prelude.{◌≡◌, IfOk};
 ghost use Rattle.pb_outcome.specs.Decided.{said, faulty_result, debug_result, shown_result, fail_result};
 
 use crate::gather::{Ending, ItemResult};
-use crate::judge::put_value;
 use pb_value::text::Text;
 use pb_value::val::{Dict, Val};
 use std::alloc::{AllocError, Global};
@@ -11,9 +10,9 @@ fn said(alloc: Global, failed: bool, msg: Val) -> Result<Val, AllocError>
     ensures { IfOk result (λ v. v ≡ said failed msg) }
 {
     let mut members = Dict::new(alloc);
-    put_value(alloc, &mut members, "changed", Val::boolean(false))?;
-    put_value(alloc, &mut members, "failed", Val::boolean(failed))?;
-    put_value(alloc, &mut members, "msg", msg)?;
+    members.put(alloc, "changed", Val::boolean(false))?;
+    members.put(alloc, "failed", Val::boolean(failed))?;
+    members.put(alloc, "msg", msg)?;
     Ok(Val::dict(members))
 }
 
@@ -48,9 +47,9 @@ pub fn shown_result(alloc: Global, name: &str, value: &Val) -> Result<ItemResult
     ensures { IfOk result (λ r. r ≡ shown_result name.now value.now) }
 {
     let mut members = Dict::new(alloc);
-    put_value(alloc, &mut members, name, value.try_clone(alloc)?)?;
-    put_value(alloc, &mut members, "changed", Val::boolean(false))?;
-    put_value(alloc, &mut members, "failed", Val::boolean(false))?;
+    members.put(alloc, name, value.try_clone(alloc)?)?;
+    members.put(alloc, "changed", Val::boolean(false))?;
+    members.put(alloc, "failed", Val::boolean(false))?;
     Ok(ItemResult {
         ending: Ending::Ran {
             changed: false,

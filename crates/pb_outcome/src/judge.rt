@@ -1,5 +1,5 @@
-ghost use Rattle.std.specs.Prelude.{◌≡◌, IfOk, OnOk, true};
-ghost use Rattle.pb_value.specs.Datum.{text, list, dict, items_of, members_of, put};
+ghost use Rattle.std.specs.Prelude.{◌≡◌, IfOk, true};
+ghost use Rattle.pb_value.specs.Datum.{text, list, dict, items_of, members_of};
 ghost use Rattle.pb_outcome.specs.Output.{stripped, line_values};
 ghost use Rattle.pb_outcome.specs.Results.{is_nonzero, rc_message, shown_lines, ran_members, ran_result, unanswered, does_not_fit, lost, gathered_facts, facts_ran, judged_command, judged_setup, judged};
 
@@ -57,18 +57,6 @@ fn is_nonzero(rc: i64) -> bool
     rc != 0
 }
 
-/// Puts a value under a key of a result.
-pub(crate) fn put_value(
-    alloc: Global,
-    members: &mut Dict,
-    key: &str,
-    value: Val,
-) -> Result<(), AllocError>
-    ensures { OnOk result (members.new ≡ put key.now value members.old) }
-{
-    members.insert(String::from_str(alloc, key)?, value)
-}
-
 /// A text as a value.
 fn text_value(alloc: Global, words: &str) -> Result<Val, AllocError>
     ensures { IfOk result (λ v. v ≡ text words.now) }
@@ -106,29 +94,14 @@ fn ran_members(
     let out = stripped(out);
     let err = stripped(err);
     let mut members = Dict::new(alloc);
-    put_value(alloc, &mut members, "changed", Val::boolean(changed))?;
-    put_value(alloc, &mut members, "failed", Val::boolean(is_nonzero(rc)))?;
-    put_value(
-        alloc,
-        &mut members,
-        "msg",
-        text_value(alloc, rc_message(rc))?,
-    )?;
-    put_value(alloc, &mut members, "rc", Val::int(rc))?;
-    put_value(alloc, &mut members, "stderr", text_value(alloc, err)?)?;
-    put_value(
-        alloc,
-        &mut members,
-        "stderr_lines",
-        lines_value(alloc, err)?,
-    )?;
-    put_value(alloc, &mut members, "stdout", text_value(alloc, out)?)?;
-    put_value(
-        alloc,
-        &mut members,
-        "stdout_lines",
-        lines_value(alloc, out)?,
-    )?;
+    members.put(alloc, "changed", Val::boolean(changed))?;
+    members.put(alloc, "failed", Val::boolean(is_nonzero(rc)))?;
+    members.put(alloc, "msg", text_value(alloc, rc_message(rc))?)?;
+    members.put(alloc, "rc", Val::int(rc))?;
+    members.put(alloc, "stderr", text_value(alloc, err)?)?;
+    members.put(alloc, "stderr_lines", lines_value(alloc, err)?)?;
+    members.put(alloc, "stdout", text_value(alloc, out)?)?;
+    members.put(alloc, "stdout_lines", lines_value(alloc, out)?)?;
     Ok(members)
 }
 
@@ -153,9 +126,9 @@ fn unanswered(alloc: Global, msg: &str) -> Result<ItemResult, AllocError>
     ensures { IfOk result (λ r. r ≡ unanswered msg.now) }
 {
     let mut members = Dict::new(alloc);
-    put_value(alloc, &mut members, "changed", Val::boolean(false))?;
-    put_value(alloc, &mut members, "failed", Val::boolean(true))?;
-    put_value(alloc, &mut members, "msg", text_value(alloc, msg)?)?;
+    members.put(alloc, "changed", Val::boolean(false))?;
+    members.put(alloc, "failed", Val::boolean(true))?;
+    members.put(alloc, "msg", text_value(alloc, msg)?)?;
     Ok(ItemResult {
         ending: Ending::NotStarted,
         result: Val::dict(members),
@@ -172,10 +145,10 @@ fn lost(alloc: Global, msg: &Text) -> Result<ItemResult, AllocError>
     ensures { IfOk result (λ r. r ≡ lost msg.now) }
 {
     let mut members = Dict::new(alloc);
-    put_value(alloc, &mut members, "changed", Val::boolean(false))?;
-    put_value(alloc, &mut members, "failed", Val::boolean(false))?;
-    put_value(alloc, &mut members, "msg", text_value(alloc, msg.as_str())?)?;
-    put_value(alloc, &mut members, "unreachable", Val::boolean(true))?;
+    members.put(alloc, "changed", Val::boolean(false))?;
+    members.put(alloc, "failed", Val::boolean(false))?;
+    members.put(alloc, "msg", text_value(alloc, msg.as_str())?)?;
+    members.put(alloc, "unreachable", Val::boolean(true))?;
     Ok(ItemResult {
         ending: Ending::Unreachable,
         result: Val::dict(members),
@@ -197,9 +170,9 @@ fn facts_result(alloc: Global, facts: Val) -> Result<ItemResult, AllocError>
     ensures { IfOk result (λ r. r ≡ facts_result facts) }
 {
     let mut members = Dict::new(alloc);
-    put_value(alloc, &mut members, "ansible_facts", facts)?;
-    put_value(alloc, &mut members, "changed", Val::boolean(false))?;
-    put_value(alloc, &mut members, "failed", Val::boolean(false))?;
+    members.put(alloc, "ansible_facts", facts)?;
+    members.put(alloc, "changed", Val::boolean(false))?;
+    members.put(alloc, "failed", Val::boolean(false))?;
     Ok(ItemResult {
         ending: Ending::Ran {
             changed: false,
