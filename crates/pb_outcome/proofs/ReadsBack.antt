@@ -5,9 +5,10 @@ use Rattle.std.proofs.lemmas.Bool.Decides.{nat_tests}
 use Rattle.serde_json.specs.Find.{of_integer, as_i64}
 use Rattle.pb_value.specs.Datum.{Datum, null, boolean, int, text, list, dict, Items, no_items, item, Members, no_members, member, items_of, members_of, list_of, entries_of}
 use Rattle.pb_value.specs.Depth.{depth, items_depth, members_depth}
-use Rattle.pb_value.specs.FromJson.{value_of, max_depth, int_of, read, read_items, read_members}
+use Rattle.pb_value.specs.FromJson.{value_of, int_of, read, read_items, read_members}
 use Rattle.pb_value.specs.ToJson.{json_of, items_json, members_json}
-use Rattle.pb_outcome.specs.Limits.{IsWithin, max_text}
+use Rattle.pb_value.specs.Limits.{max_text, max_depth}
+use Rattle.pb_outcome.specs.Limits.{IsWithin}
 use Rattle.pb_reading.specs.Fields.{field, others}
 use Rattle.pb_outcome.specs.Reading.{text as limited_text, status, facts, not_started, unreachable, whole, rest_of_outcome, outcome, of_reading, outcome_of}
 use Rattle.pb_value.specs.Numbers.{fits_word, are_words, items_are_words, members_are_words}

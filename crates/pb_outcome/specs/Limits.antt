@@ -2,15 +2,11 @@
 use Rattle.std.specs.Prelude.{ℕ, ℤ, ◌≤◌, ◌||◌, ⊤, List, length, nat_lt, nat_le, Result, Ok, Err, Option, Some, None, if◌then◌else◌}
 use Rattle.pb_value.specs.Datum.{Datum}
 use Rattle.pb_value.specs.Depth.{depth}
-use Rattle.pb_value.specs.FromJson.{max_depth}
+use Rattle.pb_value.specs.Limits.{max_text, max_depth}
 use Rattle.pb_outcome.specs.declared.fault.OutcomeFault.{OutcomeFault}
 use Rattle.pb_outcome.specs.declared.fault.OutcomeFault.TheVariants.{TooLarge}
 use Rattle.pb_outcome.specs.declared.outcome.Form.{Form}
 use Rattle.pb_outcome.specs.declared.outcome.Form.TheVariants.{Ran, Module, Unreachable, NotStarted}
-
--- how many bytes a text of an outcome may have: 1 MiB
-abbrev pub max_text : ℕ
-max_text = 1048576
 
 abbrev pub IsWithin : Form → Type 0
 IsWithin (Ran rc out err) = (length out ≤ max_text) × (length err ≤ max_text)

@@ -10,7 +10,7 @@ use Rattle.pb_value.specs.declared.fault.ValFault.{ValFault}
 use Rattle.pb_reading.specs.Fields.{◌>>=◌, Part, Telling, field, others, object, rule}
 use Rattle.pb_reading.specs.Reading.{Reading, WrongShape, Own, wrong, required}
 use Rattle.pb_outcome.specs.Causes.{cause_of}
-use Rattle.pb_outcome.specs.Limits.{max_text}
+use Rattle.pb_value.specs.Limits.{max_text}
 use Rattle.pb_outcome.specs.declared.cause.Cause.{Cause}
 use Rattle.pb_outcome.specs.declared.fault.OutcomeFault.{OutcomeFault}
 use Rattle.pb_outcome.specs.declared.fault.OutcomeFault.TheVariants as outcome_fault

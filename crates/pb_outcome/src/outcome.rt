@@ -1,20 +1,16 @@
 ghost use Rattle.std.specs.Prelude.{◌≡◌, ◌≢◌, true, IfOk, IfErr, Ok, Err, nat_lt, length};
 ghost use Rattle.pb_outcome.specs.declared.outcome.Form.TheVariants.{Ran, Module, Unreachable, NotStarted};
 ghost use Rattle.pb_outcome.specs.Whole.{is_whole};
-ghost use Rattle.pb_outcome.specs.Limits.{IsWithin, max_text, ran_of, module_of, unreachable_of};
+ghost use Rattle.pb_outcome.specs.Limits.{IsWithin, ran_of, module_of, unreachable_of};
+ghost use Rattle.pb_value.specs.Limits.{max_text};
 
 use crate::cause::Cause;
 use crate::fault::OutcomeFault;
+use pb_value::limits::{MAX_DEPTH, MAX_TEXT};
 use pb_value::text::Text;
 use pb_value::val::Val;
 use std::alloc::{AllocError, Global};
 use std::marker::Model;
-
-/// How many bytes each text of an outcome may have.
-const MAX_TEXT: usize = 1048576;
-
-/// How many levels of lists and dicts the value of an outcome may have.
-const MAX_DEPTH: u32 = 64;
 
 /// What came of a job. Its texts have at most 1,048,576 bytes each, and its value nests at most 64 deep.
 #[derive(Drop)]

@@ -1,5 +1,6 @@
 ghost use Rattle.std.specs.Prelude.{◌≡◌, ◌≤◌, IfOk, Some, None, length, nat_lt, if◌then◌else◌};
-ghost use Rattle.pb_outcome.specs.Limits.{max_text, short_text};
+ghost use Rattle.pb_outcome.specs.Limits.{short_text};
+ghost use Rattle.pb_value.specs.Limits.{max_text};
 
 use crate::outcome::is_large;
 use pb_value::text::Text;
@@ -19,7 +20,9 @@ impl Model for ShortText {
 
     ghost view = { λ s. s.text };
 
-    ghost invariant = { λ s. length s.text ≤ 1048576 };
+    ghost use Rattle.pb_value.specs.Limits.{max_text};
+
+    ghost invariant = { λ s. length s.text ≤ max_text };
 }
 
 impl ShortText {

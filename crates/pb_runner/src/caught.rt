@@ -1,17 +1,15 @@
 //! What is kept of one stream of a program.
 ghost use Rattle.std.specs.Prelude.{◌≡◌, ◌≤◌, ◌⊎◌, [], false, true, length, IfOk, IfErr};
 ghost use Rattle.std.specs.Str.{IsUtf8};
-ghost use Rattle.pb_outcome.specs.Limits.{max_text};
+ghost use Rattle.pb_value.specs.Limits.{max_text};
 ghost use Rattle.pb_outcome.specs.declared.cause.Cause.TheVariants.{NotUtf8, OutOfMemory};
 ghost use Rattle.pb_runner.specs.Local.{Kept, Adds, IsWhole};
 
 use pb_outcome::cause::Cause;
+use pb_value::limits::MAX_TEXT;
 use pb_value::text::Text;
 use std::alloc::Global;
 use std::marker::Model;
-
-/// How many bytes of a stream are kept: what a text of an outcome may have.
-const MAX_OUTPUT: usize = 1048576;
 
 /// The bytes of a stream, while they are at most 1,048,576 and memory suffices.
 #[derive(Drop)]
@@ -25,7 +23,7 @@ pub(crate) struct Caught {
 
 impl Model for Caught {
     ghost use Rattle.std.specs.Prelude.{◌≡◌, ◌≤◌, ◌+◌, false, length};
-    ghost use Rattle.pb_outcome.specs.Limits.{max_text};
+    ghost use Rattle.pb_value.specs.Limits.{max_text};
     ghost use Rattle.pb_runner.specs.Local.{Kept};
 
     ghost Value = { Kept };
@@ -42,7 +40,7 @@ impl Caught {
     {
         Caught {
             bytes: Vec::new(alloc),
-            room: MAX_OUTPUT,
+            room: MAX_TEXT,
             over: false,
             lost: false,
         }

@@ -1,13 +1,12 @@
 //! What the end of a program gives.
 ghost use Rattle.std.specs.Prelude.{◌≡◌, ◌≢◌, ◌≤◌, ◌⊎◌, ◌↔◌, ◌||◌, true, IfOk, IfErr, length};
 ghost use Rattle.std.specs.Process.{exit_code};
-ghost use Rattle.pb_outcome.specs.Limits.{max_text};
 ghost use Rattle.pb_outcome.specs.Output.{stripped};
 ghost use Rattle.pb_outcome.specs.Results.{is_nonzero};
 ghost use Rattle.pb_outcome.specs.declared.cause.Cause.TheVariants.{NotUtf8, TooLarge, OutOfMemory};
 ghost use Rattle.pb_outcome.specs.declared.outcome.Form.TheVariants.{Ran, Module, Unreachable, NotStarted};
 ghost use Rattle.pb_value.specs.Depth.{depth};
-ghost use Rattle.pb_value.specs.FromJson.{max_depth};
+ghost use Rattle.pb_value.specs.Limits.{max_text, max_depth};
 ghost use Rattle.pb_value.specs.Bytes.{json_in};
 ghost use Rattle.pb_runner.specs.Local.{LocalAllows, IsWhole, IsNoText, Ends, answer, facts_in, is_lost};
 

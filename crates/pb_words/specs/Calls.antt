@@ -4,7 +4,7 @@ use Rattle.std.specs.Prelude.{ℕ, List, [], ◌∷◌, Result, Ok, Err, codes, 
 use Rattle.pb_value.specs.Datum.{Datum}
 use Rattle.pb_value.specs.Reading.{and_then, map_ok}
 use Rattle.pb_value.specs.ToJson.{text_of}
-use Rattle.pb_outcome.specs.Limits.{max_text}
+use Rattle.pb_value.specs.Limits.{max_text}
 use Rattle.pb_words.specs.Words.{some_word, words_of}
 use Rattle.pb_words.specs.declared.fault.CallFault.{CallFault}
 use Rattle.pb_words.specs.declared.fault.CallFault.TheVariants.{UnclosedQuote, NoCommand, TooLarge, Memory}

@@ -1,17 +1,15 @@
 ghost use Rattle.std.specs.Prelude.{◌≡◌, ◌≢◌, IfOk, IfErr, Ok, Err, length, nat_lt};
-ghost use Rattle.pb_outcome.specs.Limits.{max_text};
+ghost use Rattle.pb_value.specs.Limits.{max_text};
 ghost use Rattle.pb_words.specs.Calls.{within_limit, word_of, each_word, line_call, argv_call, shell_call};
 
 use crate::fault::CallFault;
 use crate::words::{some_words, words_of};
 use pb_outcome::job::Call;
 use pb_value::items::Items;
+use pb_value::limits::MAX_TEXT;
 use pb_value::text::Text;
 use pb_value::val::Val;
 use std::alloc::Global;
-
-/// How many bytes a text of a call may have.
-const MAX_TEXT: usize = 1048576;
 
 fn is_large(text: &str) -> bool
     ensures { result ≡ nat_lt max_text (length text.now) }
