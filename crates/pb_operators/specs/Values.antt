@@ -6,6 +6,7 @@ use Rattle.std.specs.Cmp.Lexicographic.{slice_cmp}
 use Rattle.std.specs.Str.{bytes_eq}
 use Rattle.pb_value.specs.Datum.{Datum, null, boolean, int, text, list, dict, items_of, Items, no_items, item, Members, no_members, member}
 use Rattle.pb_value.specs.Depth.{depth}
+use Rattle.pb_value.specs.Limits.{max_text, max_depth}
 use Rattle.pb_operators.specs.declared.fault.EvalFault.{EvalFault}
 use Rattle.pb_operators.specs.declared.fault.EvalFault.TheVariants.{WrongKind, Overflow, TooLarge}
 
@@ -22,9 +23,6 @@ abbrev pub int_within : ℤ → Value
 int_within z = if fits z then Ok (int z) else Err Overflow
 
 -- a text that is made has at most 1 MiB
-abbrev pub max_text : ℕ
-max_text = 1048576
-
 abbrev pub text_within : List ℕ → Value
 text_within s = if nat_le (length s) max_text then Ok (text s) else Err TooLarge
 
@@ -38,7 +36,7 @@ list_within ds = if nat_le (length ds) max_members then Ok (list (items_of ds)) 
 -- a final value nests at most 64 levels, and a final text has at most 1 MiB
 abbrev pub is_final : Datum → Bool
 is_final (text s) = nat_le (length s) max_text
-is_final d = nat_le (depth d) 64
+is_final d = nat_le (depth d) max_depth
 
 abbrev pub finished : Datum → Value
 finished d = if is_final d then Ok d else Err TooLarge

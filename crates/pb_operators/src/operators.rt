@@ -7,18 +7,13 @@ ghost use Rattle.pb_operators.specs.Operators.{plus, minus, negated, tilde, bina
 use crate::compare::{contains, is_same, order_of};
 use crate::fault::EvalFault;
 use pb_expr_syntax::tree::Op;
+use pb_value::limits::{MAX_DEPTH, MAX_TEXT};
 use pb_value::text::Text;
 use pb_value::val::{Node, Val, ValList};
 use std::alloc::Global;
 
-/// The most bytes of a text that is made.
-pub const MAX_TEXT: usize = 1048576;
-
 /// The most members of a list that is made.
 pub const MAX_MEMBERS: usize = 1048576;
-
-/// The most levels of a final value.
-pub const MAX_LEVELS: u32 = 64;
 
 /// A text as a value, if it has at most 1 MiB.
 pub fn text_within(text: String) -> Result<Val, EvalFault>
@@ -50,7 +45,7 @@ fn is_final(value: &Val) -> bool
 {
     match &value.node {
         Node::Text(text) => text.len() <= MAX_TEXT,
-        _ => value.is_within(MAX_LEVELS),
+        _ => value.is_within(MAX_DEPTH),
     }
 }
 
