@@ -2,9 +2,10 @@
 use Rattle.std.specs.Prelude.{◌≡◌, ◌≢◌, ◌⊎◌, ◌≤◌, ◌+◌, ◌-◌, ℕ, Bool, false, List, Option, Some, None, is_some, length, nat_lt}
 use Rattle.pb_runner.specs.declared.fault.TableFault.{TableFault}
 use Rattle.pb_runner.specs.declared.fault.TableFault.TheVariants.{Memory}
+use Rattle.pb_value.specs.Limits.{max_bytes}
 use Rattle.pb_plan.specs.declared.bundle.Bundle.{Bundle}
 use Rattle.pb_plan.specs.Plan.{PlanOf}
-use Rattle.pb_plan.specs.Bundle.{IsPlanOf, max_bytes}
+use Rattle.pb_plan.specs.Bundle.{IsPlanOf}
 use Rattle.pb_driver.specs.Taken.{with_more}
 use Rattle.pb_command_line.specs.declared.words.Request.{Request}
 use Rattle.pb_command_line.specs.declared.words.Purpose.{Purpose}
@@ -25,7 +26,7 @@ pub record IsBundleOf (request : Request) (bundle : Bundle) : Type 0 where
 -- a file of outcomes has at most 64 MiB
 abbrev pub is_too_long : Option (List ℕ) → Bool
 is_too_long None = false
-is_too_long (Some bytes) = nat_lt 67108864 (length bytes)
+is_too_long (Some bytes) = nat_lt max_bytes (length bytes)
 
 -- the outcomes of a file aren't looked into before a plan stands, its warnings are written, and it is to be run; and standard output is as it was
 pub record IsUntold (bundle : Bundle) (purpose : Purpose) (outcomes : Option (List ℕ)) (e : TableFault) (out_before out_after err_before err_after : Option (List ℕ)) (failures failures_after : ℕ) : Type 0 where

@@ -1,6 +1,7 @@
 //! The program, but for its words' and its streams' making.
 
 ghost use Rattle.std.specs.Prelude.{◌≡◌, ◌≢◌, ◌⊎◌, ◌≤◌, ◌+◌, ◌++◌, IfOk, IfErr, IfSome, Ok, Err, is_some, length, map, string_bytes};
+ghost use Rattle.pb_value.specs.Limits.{max_bytes};
 ghost use Rattle.pb_plan.specs.Plan.{PlanOf};
 ghost use Rattle.pb_plan.specs.Bundle.{IsPlanOf, IsBundleFault};
 ghost use Rattle.pb_driver.specs.Taken.{with_more};
@@ -28,9 +29,6 @@ use std::fmt::Display;
 use std::fs::Files;
 use std::io;
 use std::process::{Processes, SystemProcess};
-
-/// The most bytes of a file of outcomes: 64 MiB.
-const MAX_OUTCOMES: usize = 67_108_864;
 
 /// Why a bundle wasn't played to its end.
 #[derive(Drop)]
@@ -323,11 +321,11 @@ fn read_outcomes<R: Files + AllocGlobal>(
     path: &Option<Text>,
 ) -> io::Result<Option<Items<u8>>>
     ensures named { IfOk result (λ bytes. is_some bytes ≡ is_some path.now) }
-    ensures bound { IfOk result (λ bytes. IfSome bytes (λ bytes. length bytes ≤ 67108864 + 1)) }
+    ensures bound { IfOk result (λ bytes. IfSome bytes (λ bytes. length bytes ≤ max_bytes + 1)) }
 {
     match path {
         Some(path) => {
-            let bytes = read_file(rt, path.as_str(), MAX_OUTCOMES)?;
+            let bytes = read_file(rt, path.as_str(), MAX_BYTES)?;
             Ok(Some(Items::from_vec(bytes)))
         }
         None => Ok(None),
@@ -339,7 +337,7 @@ fn is_too_long(outcomes: &Option<Items<u8>>) -> bool
     ensures { result ≡ is_too_long outcomes.now }
 {
     match outcomes {
-        Some(bytes) => bytes.len() > MAX_OUTCOMES,
+        Some(bytes) => bytes.len() > MAX_BYTES,
         None => false,
     }
 }

@@ -3,6 +3,7 @@ use Rattle.std.specs.Prelude.{◌≡◌, ◌⊎◌, ℕ, zero, suc, ◌+◌, Boo
 use Rattle.std.specs.List.{list_any}
 use Rattle.std.specs.Option.{option_map_or}
 use Rattle.std.specs.Simd.Lanes.{zip2}
+use Rattle.pb_value.specs.Limits.{max_bytes}
 use Rattle.pb_value.specs.Reading.{and_then, map_ok}
 use Rattle.pb_inventory.specs.InventoryOf.{InventoryOf}
 use Rattle.pb_inventory.specs.Reading.{inventory_of}
@@ -64,10 +65,6 @@ play_with inventory hosts play =
 
 abbrev pub has_too_many_places : Play → Bool
 has_too_many_places play = nat_lt max_places (size_of (play_tree play))
-
--- the bytes of a bundle, all together: 64 MiB
-abbrev pub max_bytes : ℕ
-max_bytes = 67108864
 
 abbrev pub bytes_in : Option (List ℕ) → ℕ
 bytes_in given = option_map_or length given 0

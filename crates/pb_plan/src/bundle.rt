@@ -2,7 +2,8 @@
 
 ghost use Rattle.std.specs.Prelude.{◌≡◌, ◌≢◌, [], ◌∷◌, ◌++◌, length, replicate, false, nat_lt, IfOk, IfErr, Ok, Err};
 ghost use Rattle.pb_tree.specs.View.{tree_of};
-ghost use Rattle.pb_plan.specs.Bundle.{play_with, has_too_many_places, tree_for, play_nodes, max_bytes, bundle_bytes, bytes_in};
+ghost use Rattle.pb_plan.specs.Bundle.{play_with, has_too_many_places, tree_for, play_nodes, bundle_bytes, bytes_in};
+ghost use Rattle.pb_value.specs.Limits.{max_bytes};
 
 use crate::plan::PlanPlay;
 use pb_inventory::fault::InvFault;
@@ -14,14 +15,12 @@ use pb_play::play::Play;
 use pb_play::task::Task;
 use pb_tree::{Node, PlayTree};
 use pb_value::items::Items;
+use pb_value::limits::MAX_BYTES;
 use pb_value::text::Text;
 use pb_variables::fault::ExtraFault;
 use pb_variables::magic::play_magic;
 use std::alloc::{AllocError, AllocFailed, Global};
 use thiserror::Error;
-
-/// The most bytes of a bundle, all together: 64 MiB.
-pub const MAX_BYTES: usize = 67_108_864;
 
 /// The most places of a play.
 const MAX_PLACES: u64 = 16_384;

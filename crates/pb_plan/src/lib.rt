@@ -9,5 +9,6 @@ mod bundle;
 mod plan;
 mod planning;
 
-pub use bundle::{Bundle, BundleFault, MAX_BYTES, RoleFault};
+pub use bundle::{Bundle, BundleFault, RoleFault};
+pub use pb_value::limits::MAX_BYTES;
 pub use plan::{Plan, PlanPlay};
