@@ -1,5 +1,6 @@
 -- The tree of a play that has tasks alone, in its three lists.
-use Rattle.std.proofs.Common.{◌≡◌, ℕ, zero, suc, ◌+◌, true, List, [], ◌∷◌, ◌++◌, refl, ap, ◌∙◌, append_assoc, length, length-append, arith}
+use Rattle.std.proofs.Common.{◌≡◌, ℕ, zero, suc, ◌+◌, true, List, [], ◌∷◌, ◌++◌, map, refl, ap, ◌∙◌, append_assoc, length, length-append, arith}
+use Rattle.std.proofs.lemmas.List.{length-map, map-append}
 use Rattle.std.specs.Prelude.{replicate}
 use Rattle.pb_tree.specs.declared.tree.Node.{Node, roll-Node}
 use Rattle.pb_tree.specs.declared.tree.Node.TheVariants.{Task as OneTask, Flush as OneFlush}
@@ -9,6 +10,7 @@ use Rattle.pb_play.specs.declared.task.Task.{Task as PlayTask}
 use Rattle.pb_tree.specs.Tree.{Nodes, Nothing, Task, Flush, TreeOf, size, size_of}
 use Rattle.pb_tree.specs.View.{tree_of, node_of, node_step}
 use Rattle.pb_tree.specs.Plain.{is_plain_list, IsPlain}
+use Rattle.pb_places.specs.Place.{PlaceOf, place_of}
 use Rattle.pb_plan.specs.Bundle.{tasks_then, play_nodes, tree_for}
 
 node_task : (rest : Nodes) → node_of OneTask rest ≡ Task rest
@@ -64,11 +66,18 @@ pub size_tree : (pre tasks post : ℕ) → size_of (tree_for pre tasks post) ≡
 size_tree pre tasks post =
     omega (arith, size_then pre (Flush (tasks_then tasks (Flush (tasks_then post (Flush Nothing))))), size_then tasks (Flush (tasks_then post (Flush Nothing))), size_then post (Flush Nothing))
 
-length_of_three : (before middle after : List PlayTask) → length (before ++ middle ++ after) ≡ length before + length middle + length after
-length_of_three before middle after = simp length-append refl
+-- the places of the three lists, each put behind those before it
+pub places_are : (pre tasks post : List PlayTask) (none before between after all : List PlaceOf) → none ≡ [] → before ≡ none ++ map place_of pre → between ≡ before ++ map place_of tasks → after ≡ between ++ map place_of post → all ≡ after → all ≡ map place_of (pre ++ tasks ++ post)
+places_are pre tasks post none before between after all z e f g a = rw (a, g, f, e, z) (three_places pre tasks post)
+  where
+    three_places : (one two three : List PlayTask) → (map place_of one ++ map place_of two) ++ map place_of three ≡ map place_of (one ++ two ++ three)
+    three_places one two three = simp (map-append, append_assoc) refl
+
+length_of_three : (before middle after : List PlayTask) → length (map place_of (before ++ middle ++ after)) ≡ length before + length middle + length after
+length_of_three before middle after = simp (length-map, length-append) refl
 
 -- each place of a play has its task
-pub all_have_places : (before middle after all : List PlayTask) (pre tasks post : ℕ) (tree : TreeOf) → all ≡ before ++ middle ++ after → tree ≡ tree_for pre tasks post → pre ≡ length before → tasks ≡ length middle → post ≡ length after → length all ≡ size_of tree
+pub all_have_places : (before middle after : List PlayTask) (all : List PlaceOf) (pre tasks post : ℕ) (tree : TreeOf) → all ≡ map place_of (before ++ middle ++ after) → tree ≡ tree_for pre tasks post → pre ≡ length before → tasks ≡ length middle → post ≡ length after → length all ≡ size_of tree
 all_have_places before middle after all pre tasks post tree a t p m b =
     let sizes = size_tree pre tasks post in
     let lengths = length_of_three before middle after in

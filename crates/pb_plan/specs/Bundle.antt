@@ -23,6 +23,7 @@ use Rattle.pb_play.specs.declared.task.Task.{Task as OneTask}
 use Rattle.pb_play.specs.declared.playbook.Playbook.{Playbook}
 use Rattle.pb_play.specs.Playbooks.{playbook_of, expressions_of_book}
 use Rattle.pb_tree.specs.Tree.{Nodes, Nothing, Task, Flush, TreeOf, size_of}
+use Rattle.pb_places.specs.Place.{PlaceOf, place_of}
 use Rattle.pb_plan.specs.declared.bundle.Bundle.{Bundle}
 use Rattle.pb_plan.specs.declared.bundle.BundleFault.{BundleFault}
 use Rattle.pb_plan.specs.declared.bundle.BundleFault.TheVariants.{Inventory, Playbook as InPlaybook, Roles, Limit, Extra, BadForks, TooLarge}
@@ -54,6 +55,10 @@ play_tree play = tree_for (length play.pre_tasks) (length play.tasks) (length pl
 abbrev pub all_tasks : Play → List OneTask
 all_tasks play = play.pre_tasks ++ play.tasks ++ play.post_tasks
 
+-- what stands at its places: no play has blocks, roles or handlers yet
+abbrev pub all_places : Play → List PlaceOf
+all_places play = map place_of (all_tasks play)
+
 -- a play has at most so many places
 abbrev pub max_places : ℕ
 max_places = 16384
@@ -61,7 +66,7 @@ max_places = 16384
 -- a play whose own hosts are these
 abbrev pub play_with : InventoryOf → List Bool → Play → PlayOf
 play_with inventory hosts play =
-    record { name = play.name; tree = play_tree play; tasks = all_tasks play; hosts = hosts; vars = play.vars; magic = play_magic inventory hosts }
+    record { name = play.name; tree = play_tree play; places = all_places play; hosts = hosts; vars = play.vars; magic = play_magic inventory hosts }
 
 abbrev pub has_too_many_places : Play → Bool
 has_too_many_places play = nat_lt max_places (size_of (play_tree play))

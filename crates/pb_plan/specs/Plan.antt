@@ -3,14 +3,14 @@ use Rattle.std.specs.Prelude.{ℕ, Bool, List, []}
 use Rattle.pb_tree.specs.Tree.{TreeOf}
 use Rattle.pb_inventory.specs.InventoryOf.{InventoryOf}
 use Rattle.pb_layers.specs.Scope.{Map}
-use Rattle.pb_play.specs.declared.task.Task.{Task}
+use Rattle.pb_places.specs.Place.{PlaceOf}
 
--- a play: its name, its tree, the task at each place of the tree, of each host by its number whether it is one of the play's own, its
+-- a play: its name, its tree, what stands at each place of the tree, of each host by its number whether it is one of the play's own, its
 -- variables, and those that the play gives by itself
 pub record PlayOf : Type 0 where
   pub name : List ℕ
   pub tree : TreeOf
-  pub tasks : List Task
+  pub places : List PlaceOf
   pub hosts : List Bool
   pub vars : Map
   pub magic : Map
@@ -30,8 +30,8 @@ pub record PlanOf : Type 0 where
 abbrev pub bare_inventory : List (List ℕ) → InventoryOf
 bare_inventory hosts = record { hosts = hosts; groups = []; own = []; links = []; group_vars = []; host_vars = [] }
 
-abbrev pub bare_play : List ℕ → TreeOf → List Task → List Bool → PlayOf
-bare_play name tree tasks hosts = record { name = name; tree = tree; tasks = tasks; hosts = hosts; vars = []; magic = [] }
+abbrev pub bare_play : List ℕ → TreeOf → List PlaceOf → List Bool → PlayOf
+bare_play name tree places hosts = record { name = name; tree = tree; places = places; hosts = hosts; vars = []; magic = [] }
 
 abbrev pub bare_plan : List (List ℕ) → List PlayOf → PlanOf
 bare_plan hosts plays = record { hosts = hosts; plays = plays; forks = 5; warnings = []; inventory = bare_inventory hosts; extra = []; magic = [] }

@@ -1,7 +1,8 @@
 //! What a run is made of, and its plan.
 
-ghost use Rattle.std.specs.Prelude.{◌≡◌, ◌≢◌, [], ◌∷◌, ◌++◌, length, replicate, false, nat_lt, IfOk, IfErr, Ok, Err};
+ghost use Rattle.std.specs.Prelude.{◌≡◌, ◌≢◌, [], ◌∷◌, ◌++◌, map, length, replicate, false, nat_lt, IfOk, IfErr, Ok, Err};
 ghost use Rattle.pb_tree.specs.View.{tree_of};
+ghost use Rattle.pb_places.specs.Place.{place_of};
 ghost use Rattle.pb_plan.specs.Bundle.{play_with, has_too_many_places, tree_for, play_nodes, bundle_bytes, bytes_in};
 ghost use Rattle.pb_value.specs.Limits.{max_bytes};
 
@@ -9,6 +10,7 @@ use crate::plan::PlanPlay;
 use pb_inventory::fault::InvFault;
 use pb_inventory::inventory::Inventory;
 use pb_patterns::fault::PatFault;
+use pb_places::Place;
 use pb_planes::HostSet;
 use pb_play::fault::LoadFault;
 use pb_play::play::Play;
@@ -139,29 +141,30 @@ fn tree_for(
     Ok(PlayTree::of(alloc, nodes, 0, false)?)
 }
 
-/// The tasks of both lists, those of the first in front.
-fn joined(first: Items<Task>, second: Items<Task>) -> Result<Items<Task>, BundleFault>
-    ensures value { IfOk result (λ all. all ≡ first ++ second) }
-    ensures fault { IfErr result (λ e. e ≡ BundleFault.Memory) }
+/// The places, and behind them those of these tasks.
+fn push_places(places: Vec<Place>, tasks: Items<Task>) -> Result<Vec<Place>, AllocError>
+    ensures { IfOk result (λ all. all.items ≡ places.items ++ map place_of tasks) }
 {
-    let mut all = first.into_vec();
-    for task in second.into_vec() {
-        all.push(task)?;
+    let mut all = places;
+    for task in tasks.into_vec() {
+        all.push(Place::of(task))?;
     }
-    Ok(Items::from_vec(all))
+    Ok(all)
 }
 
-/// The tasks of the three lists of a play, in the order of their places.
-fn all_tasks(
+/// What stands at the places of a play: the tasks of its three lists, in order.
+fn all_places(
+    alloc: Global,
     pre_tasks: Items<Task>,
     tasks: Items<Task>,
     post_tasks: Items<Task>,
-) -> Result<Items<Task>, BundleFault>
-    ensures value { IfOk result (λ all. all ≡ pre_tasks ++ tasks ++ post_tasks) }
-    ensures fault { IfErr result (λ e. e ≡ BundleFault.Memory) }
+) -> Result<Items<Place>, AllocError>
+    ensures { IfOk result (λ all. all ≡ map place_of (pre_tasks ++ tasks ++ post_tasks)) }
 {
-    let later = joined(tasks, post_tasks)?;
-    joined(pre_tasks, later)
+    let before = push_places(Vec::new(alloc), pre_tasks)?;
+    let between = push_places(before, tasks)?;
+    let after = push_places(between, post_tasks)?;
+    Ok(Items::from_vec(after))
 }
 
 /// Whether a play has more than 16,384 places.
@@ -196,9 +199,9 @@ pub(crate) fn play_with(
         play.tasks.len(),
         play.post_tasks.len(),
     )?;
-    let tasks = all_tasks(play.pre_tasks, play.tasks, play.post_tasks)?;
+    let places = all_places(alloc, play.pre_tasks, play.tasks, play.post_tasks)?;
     let magic = play_magic(alloc, inventory, &hosts)?;
-    Ok(PlanPlay::of(play.name, tree, tasks, hosts, play.vars, magic))
+    Ok(PlanPlay::of(play.name, tree, places, hosts, play.vars, magic))
 }
 
 /// How many bytes a text has that may be given.

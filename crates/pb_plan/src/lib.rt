@@ -1,7 +1,7 @@
 //! What a run is made of, and its plan.
 //!
 //! For the layers above: a `Bundle` has the bytes of a run's files and what its words give. `Plan::of` makes its plan: the hosts
-//! and their variables, and of each play its name, its tree, the task at each place and the hosts that its pattern and the limit
+//! and their variables, and of each play its name, its tree, what stands at each place and the hosts that its pattern and the limit
 //! select; or it answers the bundle's first fault, both as `specs/Bundle.antt` says (`IsPlanOf`, `IsBundleFault`).
 #![tactic(auto)]
 

@@ -7,8 +7,8 @@ ghost use Rattle.pb_tree.specs.Tree.{size_of};
 
 use pb_ids::{HostNo, PlayNo};
 use pb_inventory::inventory::Inventory;
+use pb_places::Place;
 use pb_planes::HostSet;
-use pb_play::task::Task;
 use pb_tree::PlayTree;
 use pb_value::items::Items;
 use pb_value::text::Text;
@@ -16,12 +16,12 @@ use pb_value::val::Dict;
 use std::alloc::{AllocError, Global};
 use std::marker::Model;
 
-/// A play: its name, its tree, the task at each place of the tree, in the order of places, the hosts that are its own, its variables, and
+/// A play: its name, its tree, what stands at each place of the tree, in the order of places, the hosts that are its own, its variables, and
 /// those that the play gives by itself.
 pub struct PlanPlay {
     name: Text,
     tree: PlayTree,
-    tasks: Items<Task>,
+    places: Items<Place>,
     hosts: HostSet,
     vars: Dict,
     magic: Dict,
@@ -32,14 +32,14 @@ impl Drop for PlanPlay {
         let PlanPlay {
             name,
             tree,
-            tasks,
+            places,
             hosts,
             vars,
             magic,
         } = self;
         drop(name);
         drop(tree);
-        drop(tasks);
+        drop(places);
         drop(hosts);
         drop(vars);
         drop(magic);
@@ -51,19 +51,20 @@ impl Model for PlanPlay {
     ghost use Rattle.pb_value.specs.contracts.val.Val as val;
     ghost use Rattle.pb_expr_syntax.specs.contracts.tree.Expr as expr;
     ghost use Rattle.pb_tree.specs.contracts.tree.PlayTree as play_tree;
+    ghost use Rattle.pb_places.specs.contracts.place.Place as place;
     ghost use Rattle.std.specs.Coded.{codes};
 
     ghost Value = { PlayOf };
 
-    ghost coded = { Prim.hlevel (codes, val.the_row.coded, expr.the_row.coded, play_tree.the_row.coded) };
+    ghost coded = { Prim.hlevel (codes, val.the_row.coded, expr.the_row.coded, play_tree.the_row.coded, place.the_row.coded) };
 
-    ghost view = { λ p. record { name = p.name; tree = p.tree; tasks = p.tasks; hosts = p.hosts; vars = p.vars; magic = p.magic } };
+    ghost view = { λ p. record { name = p.name; tree = p.tree; places = p.places; hosts = p.hosts; vars = p.vars; magic = p.magic } };
 
     ghost use Rattle.std.specs.Prelude.{◌≡◌, ◌≤◌, length};
     ghost use Rattle.pb_tree.specs.Plain.{IsPlain};
     ghost use Rattle.pb_tree.specs.Tree.{size_of};
 
-    ghost invariant = { λ p. IsPlain p.tree × (size_of p.tree ≤ 16384) × (length p.tasks ≡ size_of p.tree) };
+    ghost invariant = { λ p. IsPlain p.tree × (size_of p.tree ≤ 16384) × (length p.places ≡ size_of p.tree) };
 }
 
 impl PlanPlay {
@@ -71,20 +72,20 @@ impl PlanPlay {
     pub(crate) fn of(
         name: Text,
         tree: PlayTree,
-        tasks: Items<Task>,
+        places: Items<Place>,
         hosts: HostSet,
         vars: Dict,
         magic: Dict,
     ) -> PlanPlay
         requires plain { IsPlain tree }
         requires bound { size_of tree ≤ 16384 }
-        requires places { length tasks ≡ size_of tree }
-        ensures { result ≡ record { name = name; tree = tree; tasks = tasks; hosts = hosts; vars = vars; magic = magic } }
+        requires places { length places ≡ size_of tree }
+        ensures { result ≡ record { name = name; tree = tree; places = places; hosts = hosts; vars = vars; magic = magic } }
     {
         PlanPlay {
             name,
             tree,
-            tasks,
+            places,
             hosts,
             vars,
             magic,
@@ -107,11 +108,11 @@ impl PlanPlay {
         &self.tree
     }
 
-    /// The task at a place, by the place's position in the tree.
-    pub fn task(&self, place: usize) -> Option<&Task>
-        ensures { option_copied result ≡ slice_get self.now.tasks place }
+    /// What stands at a place, by the place's position in the tree.
+    pub fn place(&self, place: usize) -> Option<&Place>
+        ensures { option_copied result ≡ slice_get self.now.places place }
     {
-        self.tasks.get(place)
+        self.places.get(place)
     }
 
     /// The hosts that are the play's own.
@@ -170,11 +171,12 @@ impl Model for Plan {
     ghost use Rattle.pb_value.specs.contracts.val.Val as val;
     ghost use Rattle.pb_expr_syntax.specs.contracts.tree.Expr as expr;
     ghost use Rattle.pb_tree.specs.contracts.tree.PlayTree as play_tree;
+    ghost use Rattle.pb_places.specs.contracts.place.Place as place;
     ghost use Rattle.std.specs.Coded.{codes};
 
     ghost Value = { PlanOf };
 
-    ghost coded = { Prim.hlevel (codes, val.the_row.coded, expr.the_row.coded, play_tree.the_row.coded) };
+    ghost coded = { Prim.hlevel (codes, val.the_row.coded, expr.the_row.coded, play_tree.the_row.coded, place.the_row.coded) };
 
     ghost view = { λ p. record {
       hosts = p.inventory.hosts;

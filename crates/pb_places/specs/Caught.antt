@@ -1,0 +1,16 @@
+-- Where a failure is caught: in the body of a block that has a rescue (Ansible's documentation, "Blocks").
+use Rattle.std.specs.Prelude.{ℕ, Bool, true, false, ◌||◌, not, List, [], ◌∷◌, ◌++◌, replicate}
+use Rattle.pb_tree.specs.Tree.{Nodes, Nothing, Task, Block, Flush, TreeOf}
+use Rattle.pb_tree.specs.Walk.{is_empty}
+
+-- of each place of these nodes whether a failure there is caught
+abbrev pub caught_in : ℕ → Bool → Nodes → List Bool
+caught_in handlers is_caught Nothing = []
+caught_in handlers is_caught (Task rest) = is_caught ∷ caught_in handlers is_caught rest
+caught_in handlers is_caught (Block body rescue always rest) =
+    caught_in handlers (is_caught || not (is_empty rescue)) body ++ caught_in handlers is_caught rescue ++ caught_in handlers is_caught always
+    ++ caught_in handlers is_caught rest
+caught_in handlers is_caught (Flush rest) = replicate handlers is_caught ++ caught_in handlers is_caught rest
+
+abbrev pub caught_places : TreeOf → List Bool
+caught_places t = caught_in t.handlers false t.nodes

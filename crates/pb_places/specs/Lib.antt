@@ -1,0 +1,4 @@
+pub mod Place
+pub mod Within
+pub mod Caught
+pub mod Rows

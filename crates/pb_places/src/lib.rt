@@ -1,0 +1,12 @@
+//! What stands at a place of a play's tree: a task, with all that it has from its own keys, the blocks round it, its role and its play.
+//!
+//! For the layers above: a `Place` is one of these, as `specs/Place.antt` says. `Place::of` is the place of a plain task, which has nothing
+//! beside the task; `Place::within` is that of a task in its surroundings. What a place doesn't have takes no memory: a plain task's place is
+//! its task and one pointer, and blocks and roles share their variables among their places.
+#![tactic(auto)]
+
+mod place;
+mod surroundings;
+
+pub use place::Place;
+pub use surroundings::{Role, Surroundings};

@@ -1,0 +1,204 @@
+//! What stands at a place of a play's tree.
+
+ghost use Rattle.std.specs.Prelude.{◌≡◌, [], IfOk, option_copied};
+ghost use Rattle.pb_places.specs.Place.{place_of, no_role};
+ghost use Rattle.pb_places.specs.Within.{placed};
+
+use crate::surroundings::{Role, Surroundings};
+use pb_expr_syntax::tree::Expr;
+use pb_play::task::Task;
+use pb_value::text::Text;
+use pb_value::val::Dict;
+use std::alloc::{AllocError, Global};
+use std::marker::Model;
+
+/// What stands at a place: a task, with all that it has from its own keys, the blocks round it, its role and its play.
+pub struct Place {
+    task: Task,
+    /// None where the task stands alone.
+    surroundings: Option<Box<Surroundings>>,
+}
+
+impl Drop for Place {
+    fn drop(self) {
+        let Place { task, surroundings } = self;
+        drop(task);
+        drop(surroundings);
+    }
+}
+
+impl Model for Place {
+    ghost use Rattle.std.specs.Coded.{codes};
+    ghost use Rattle.pb_value.specs.contracts.val.Val as val;
+    ghost use Rattle.pb_expr_syntax.specs.contracts.tree.Expr as expr;
+    ghost use Rattle.pb_places.specs.Place.{PlaceOf};
+    ghost use Rattle.pb_places.specs.Within.{placed_in};
+
+    ghost Value = { PlaceOf };
+
+    ghost coded = { Prim.hlevel (codes, val.the_row.coded, expr.the_row.coded) };
+
+    ghost view = { λ p. placed_in p.task p.surroundings };
+}
+
+impl Place {
+    /// The place of a plain task, which has nothing beside the task. It takes no memory.
+    pub fn of(task: Task) -> Place
+        ensures { result ≡ place_of task }
+    {
+        Place {
+            task,
+            surroundings: None,
+        }
+    }
+
+    /// The place of a task in its surroundings. The only error is want of memory.
+    pub fn within(
+        alloc: Global,
+        task: Task,
+        surroundings: Surroundings,
+    ) -> Result<Place, AllocError>
+        ensures { IfOk result (λ place. place ≡ placed task surroundings) }
+    {
+        let surroundings = Box::new(alloc, surroundings)?;
+        Ok(Place {
+            task,
+            surroundings: Some(surroundings),
+        })
+    }
+
+    /// The task.
+    pub fn task(&self) -> &Task
+        ensures { result.now ≡ self.now.task }
+    {
+        &self.task
+    }
+
+    /// The conditions that have to hold for it to run: those of the role, of the outer blocks, of the inner blocks, and the task's own.
+    pub fn conditions(&self) -> &[Expr]
+        ensures { result.now ≡ self.now.conditions }
+    {
+        match &self.surroundings {
+            Some(given) => given.conditions.as_slice(),
+            None => &[],
+        }
+    }
+
+    /// The variables of the blocks round it, the inner over the outer: layer 7 of those that a task sees (`pb_layers`). Where the place has
+    /// none, `none` stands for them, a dict without names.
+    pub fn block_vars<'a>(&'a self, none: &'a Dict) -> &'a Dict
+        ensures { none.now ≡ [] → result.now ≡ self.now.block_vars }
+    {
+        match &self.surroundings {
+            Some(given) => match &given.block_vars {
+                Some(vars) => vars.as_ref(),
+                None => none,
+            },
+            None => none,
+        }
+    }
+
+    /// The variables of the role that the task comes from: layers 1, 6 and 10. Where it comes from none, `none` stands for it, a role without
+    /// variables.
+    pub fn role<'a>(&'a self, none: &'a Role) -> &'a Role
+        ensures { none.now ≡ no_role → result.now ≡ self.now.role }
+    {
+        match &self.surroundings {
+            Some(given) => match &given.role {
+                Some(role) => role.as_ref(),
+                None => none,
+            },
+            None => none,
+        }
+    }
+
+    /// Whether a failure of the task is ignored.
+    pub fn ignore_errors(&self) -> bool
+        ensures { result ≡ self.now.ignore_errors }
+    {
+        match &self.surroundings {
+            Some(given) => given.ignore_errors,
+            None => false,
+        }
+    }
+
+    /// Whether a failure on one host ends the play for all.
+    pub fn any_errors_fatal(&self) -> bool
+        ensures { result ≡ self.now.any_errors_fatal }
+    {
+        match &self.surroundings {
+            Some(given) => given.any_errors_fatal,
+            None => false,
+        }
+    }
+
+    /// How many hosts may run the task at once; 0 is any number.
+    pub fn throttle(&self) -> u32
+        ensures { result ≡ self.now.throttle }
+    {
+        match &self.surroundings {
+            Some(given) => given.throttle,
+            None => 0,
+        }
+    }
+
+    /// Whether the first host of a batch runs the task for all.
+    pub fn run_once(&self) -> bool
+        ensures { result ≡ self.now.run_once }
+    {
+        match &self.surroundings {
+            Some(given) => given.run_once,
+            None => false,
+        }
+    }
+
+    /// The template of the name of the host that runs the task in place of the host itself.
+    pub fn delegate_to(&self) -> Option<&Text>
+        ensures { option_copied result ≡ self.now.delegate_to }
+    {
+        match &self.surroundings {
+            Some(given) => given.delegate_to.as_ref(),
+            None => None,
+        }
+    }
+
+    /// Whether the facts of a delegated task are those of the host that ran it.
+    pub fn delegate_facts(&self) -> bool
+        ensures { result ≡ self.now.delegate_facts }
+    {
+        match &self.surroundings {
+            Some(given) => given.delegate_facts,
+            None => false,
+        }
+    }
+
+    /// Whether a block round the place has it in its body and has a rescue.
+    pub fn is_caught(&self) -> bool
+        ensures { result ≡ self.now.is_caught }
+    {
+        match &self.surroundings {
+            Some(given) => given.is_caught,
+            None => false,
+        }
+    }
+
+    /// The numbers of the play's handlers that the task notifies, in order.
+    pub fn notifies(&self) -> &[u32]
+        ensures { result.now ≡ self.now.notifies }
+    {
+        match &self.surroundings {
+            Some(given) => given.notifies.as_slice(),
+            None => &[],
+        }
+    }
+
+    /// In a Flush, the number of the handler whose place it is.
+    pub fn handler(&self) -> Option<u32>
+        ensures { result ≡ self.now.handler }
+    {
+        match &self.surroundings {
+            Some(given) => given.handler,
+            None => None,
+        }
+    }
+}
