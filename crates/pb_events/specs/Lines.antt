@@ -4,7 +4,7 @@ use Rattle.std.specs.Option.{option_map_or}
 use Rattle.pb_value.specs.Datum.{Datum, text, int, boolean, list, items_of}
 use Rattle.pb_ids.specs.Dotted.{dotted}
 use Rattle.pb_tree.specs.Tree.{path_at}
-use Rattle.pb_play.specs.declared.task.Task.{Task}
+use Rattle.pb_places.specs.Place.{PlaceOf}
 use Rattle.pb_state.specs.declared.event.Event.{Event}
 use Rattle.pb_state.specs.declared.event.Event.TheVariants.{Open, Start, Send, Report as Reported, Turn, Close, Stop, Forks}
 use Rattle.pb_state.specs.declared.decided.Decided.{Decided}
@@ -70,13 +70,13 @@ task_text starts play decided host name place = start_text starts decided.is_new
 abbrev pub task_lines : Bool → ℕ → Decided → List ℕ → List ℕ → List ℕ → List ℕ
 task_lines starts play decided host name path = task_text starts play decided host name (dotted path)
 
--- of this task: its place is printed by its path in the play's tree
-abbrev pub at_task : Bool → PlayOf → ℕ → Decided → List ℕ → Task → List ℕ
-at_task starts play number decided host task = option_map_or (task_lines starts number decided host task.name) (path_at play.tree decided.place) []
+-- of the task at this place, which is printed by its path in the play's tree
+abbrev pub of_place : Bool → PlayOf → ℕ → Decided → List ℕ → PlaceOf → List ℕ
+of_place starts play number decided host place = option_map_or (task_lines starts number decided host place.task.name) (path_at play.tree decided.place) []
 
 -- of a host with this name
 abbrev pub for_host : Bool → PlayOf → ℕ → Decided → List ℕ → List ℕ
-for_host starts play number decided host = option_map_or (at_task starts play number decided host) (slice_get play.tasks decided.place) []
+for_host starts play number decided host = option_map_or (of_place starts play number decided host) (slice_get play.places decided.place) []
 
 -- of the host with this number, in a play, and of what was decided for it
 abbrev pub in_play : Bool → PlanOf → State → ℕ → PlayOf → Decided → List ℕ

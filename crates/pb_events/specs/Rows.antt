@@ -10,6 +10,7 @@ use Rattle.pb_play.specs.declared.modules.Module.{Module}
 use Rattle.pb_play.specs.declared.modules.Module.TheVariants.{Debug, Fail, Shell}
 use Rattle.pb_state.specs.declared.event.Event.{Event}
 use Rattle.pb_state.specs.declared.event.Event.TheVariants.{Open, Start, Send, Report as Reported, Turn, Close, Stop, Forks}
+use Rattle.pb_places.specs.Place.{bare_place}
 use Rattle.pb_plan.specs.Bundle.{tree_for}
 use Rattle.pb_state.specs.Machine.{first_state}
 use Rattle.pb_plan.specs.Plan.{PlayOf, PlanOf, bare_play, bare_plan}
@@ -27,7 +28,7 @@ on_literals = tt
 abbrev one_task : Module → PlanOf
 one_task called =
     bare_plan (codes "a" ∷ codes "b" ∷ [])
-    (bare_play (codes "all") (tree_for 0 1 0) (record { name = codes "hi"; vars = []; «module» = called } ∷ []) (true ∷ true ∷ []) ∷ [])
+    (bare_play (codes "all") (tree_for 0 1 0) (bare_place (codes "hi") called ∷ []) (true ∷ true ∷ []) ∷ [])
 
 abbrev two_hosts : PlanOf
 two_hosts = one_task (Debug (text (codes "hello")))
@@ -129,7 +130,7 @@ has_other_forks = refl
 
 -- three plays for two hosts: the first has both, the second none, and the third the second host
 abbrev with_hosts : List ℕ → List Bool → PlayOf
-with_hosts name hosts = bare_play name (tree_for 0 1 0) (record { name = codes "hi"; vars = []; «module» = Debug (text (codes "hello")) } ∷ []) hosts
+with_hosts name hosts = bare_play name (tree_for 0 1 0) (bare_place (codes "hi") (Debug (text (codes "hello"))) ∷ []) hosts
 
 abbrev three_plays : PlanOf
 three_plays =

@@ -4,13 +4,13 @@ ghost use Rattle.std.specs.Prelude.{◌≡◌, ◌<◌, ◌^◌, ◌∷◌, ◌+
 ghost use Rattle.std.specs.Option.{option_copied, option_map_or};
 ghost use Rattle.pb_value.specs.Datum.{text, int};
 ghost use Rattle.pb_ids.specs.Dotted.{dotted};
-ghost use Rattle.pb_events.specs.Lines.{start_line, play_start, task_start, host_start, start_text, task_text, at_task, for_host, in_play, told_in, told_of, opened_in, lines_of};
+ghost use Rattle.pb_events.specs.Lines.{start_line, play_start, task_start, host_start, start_text, task_text, of_place, for_host, in_play, told_in, told_of, opened_in, lines_of};
 
 use crate::batch::batch_names;
 use crate::end::done_text;
 use crate::line::{at_host, at_place, line, put_text, put_value};
 use pb_ids::HostNo;
-use pb_play::task::Task;
+use pb_places::Place;
 use pb_state::{Decided, EngineState, Event, Plan, PlanPlay};
 use pb_value::val::{Dict, Val, ValList};
 use std::alloc::{AllocError, Global};
@@ -165,28 +165,28 @@ fn for_host(
 ) -> Result<Vec<u8>, AllocError>
     ensures { IfOk result (λ bytes. bytes.items ≡ for_host starts play.now number decided.now host.now) }
 {
-    match play.task(decided.place) {
-        Some(task) => at_task(alloc, starts, play, number, decided, host, task),
+    match play.place(decided.place) {
+        Some(place) => of_place(alloc, starts, play, number, decided, host, place),
         None => Ok(Vec::new(alloc)),
     }
 }
 
-/// The lines of the host's task.
-fn at_task(
+/// The lines of the host's task, which stands at a place.
+fn of_place(
     alloc: Global,
     starts: bool,
     play: &PlanPlay,
     number: u32,
     decided: &Decided,
     host: &str,
-    task: &Task,
+    place: &Place,
 ) -> Result<Vec<u8>, AllocError>
-    ensures { IfOk result (λ bytes. bytes.items ≡ at_task starts play.now number decided.now host.now task.now) }
+    ensures { IfOk result (λ bytes. bytes.items ≡ of_place starts play.now number decided.now host.now place.now) }
 {
     match play.tree().place(decided.place) {
-        Some(place) => {
-            let path = place.text(alloc)?;
-            let name = task.name.as_str();
+        Some(at) => {
+            let path = at.text(alloc)?;
+            let name = place.task().name.as_str();
             task_lines(alloc, starts, number, decided, host, name, path.as_str())
         }
         None => Ok(Vec::new(alloc)),
