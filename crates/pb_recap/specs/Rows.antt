@@ -10,6 +10,7 @@ use Rattle.pb_play.specs.declared.modules.Module.TheVariants.{Debug, Shell}
 use Rattle.pb_state.specs.declared.event.Event.{Event}
 use Rattle.pb_state.specs.declared.event.Event.TheVariants.{Open, Start, Send, Report as Reported, Turn, Close}
 use Rattle.pb_state.specs.declared.row.Counts.{Counts}
+use Rattle.pb_places.specs.Place.{bare_place}
 use Rattle.pb_plan.specs.Bundle.{tree_for}
 use Rattle.pb_plan.specs.Plan.{PlanOf, bare_play, bare_plan}
 use Rattle.pb_state.specs.Machine.{first_state}
@@ -31,7 +32,7 @@ on_literals = tt
 abbrev two_hosts : PlanOf
 two_hosts =
     bare_plan (codes "b" ∷ codes "a" ∷ [])
-    (bare_play (codes "all") (tree_for 0 1 0) (record { name = codes "hi"; vars = []; «module» = Debug (text (codes "hello")) } ∷ []) (true ∷ true ∷ []) ∷ [])
+    (bare_play (codes "all") (tree_for 0 1 0) (bare_place (codes "hi") (Debug (text (codes "hello"))) ∷ []) (true ∷ true ∷ []) ∷ [])
 
 abbrev one_okay : Counts
 one_okay = record none_counted { ok = 1 }
@@ -91,7 +92,7 @@ abbrev commanded : PlanOf
 commanded =
     bare_plan (codes "a" ∷ codes "b" ∷ [])
     (bare_play (codes "all") (tree_for 0 2 0)
-    (record { name = codes "one"; vars = []; «module» = Shell (codes "true") } ∷ record { name = codes "two"; vars = []; «module» = Debug (text (codes "hello")) } ∷ [])
+    (bare_place (codes "one") (Shell (codes "true")) ∷ bare_place (codes "two") (Debug (text (codes "hello"))) ∷ [])
     (true ∷ true ∷ []) ∷ [])
 
 abbrev comes : ℕ → Form → Event
