@@ -1,5 +1,5 @@
 -- The tree of a play that has tasks alone, in its three lists.
-use Rattle.std.proofs.Common.{◌≡◌, ℕ, zero, suc, ◌+◌, true, List, [], ◌∷◌, ◌++◌, map, refl, ap, ◌∙◌, append_assoc, length, length-append, arith}
+use Rattle.std.proofs.Common.{◌≡◌, ℕ, zero, suc, ◌+◌, false, List, [], ◌∷◌, ◌++◌, map, refl, ap, ◌∙◌, append_assoc, length, length-append, arith}
 use Rattle.std.proofs.lemmas.List.{length-map, map-append}
 use Rattle.std.specs.Prelude.{replicate}
 use Rattle.pb_tree.specs.declared.tree.Node.{Node, roll-Node}
@@ -9,8 +9,8 @@ use Rattle.pb_tree.specs.declared.tree.Node.TheFolds.{fold-roll-Node}
 use Rattle.pb_play.specs.declared.task.Task.{Task as PlayTask}
 use Rattle.pb_tree.specs.Tree.{Nodes, Nothing, Task, Flush, TreeOf, size, size_of}
 use Rattle.pb_tree.specs.View.{tree_of, node_of, node_step}
-use Rattle.pb_tree.specs.Plain.{is_plain_list, IsPlain}
 use Rattle.pb_places.specs.Place.{PlaceOf, place_of}
+use Rattle.pb_flat.specs.Deep.{always_depth}
 use Rattle.pb_plan.specs.Bundle.{tasks_then, play_nodes, tree_for}
 
 node_task : (rest : Nodes) → node_of OneTask rest ≡ Task rest
@@ -51,12 +51,16 @@ nodes_are pre tasks post none before between nodes z e f g =
     let third : nodes ≡ (section pre ++ section tasks) ++ section post = behind between nodes post g ∙ ap (λ t. t ++ section post) second in
     ap tree_of third ∙ three_are pre tasks post
 
-plain_then : (n : ℕ) (rest : Nodes) → is_plain_list 0 rest ≡ true → is_plain_list 0 (tasks_then n rest) ≡ true
-plain_then zero rest e = e
-plain_then (suc n) rest e = plain_then n rest e
+pub unforced_tree : (pre tasks post : ℕ) (tree : TreeOf) → tree ≡ tree_for pre tasks post → tree.force_handlers ≡ false
+unforced_tree pre tasks post tree e = ap (λ (t : TreeOf). t.force_handlers) e
 
-pub plain_tree : (pre tasks post : ℕ) (tree : TreeOf) → tree ≡ tree_for pre tasks post → IsPlain tree
-plain_tree pre tasks post tree e = rw e (plain_then pre _ (plain_then tasks _ (plain_then post (Flush Nothing) refl)))
+depth_then : (n : ℕ) (rest : Nodes) → always_depth rest ≡ 0 → always_depth (tasks_then n rest) ≡ 0
+depth_then zero rest e = e
+depth_then (suc n) rest e = depth_then n rest e
+
+-- no part of it is an always part
+pub no_depth : (pre tasks post : ℕ) (tree : TreeOf) → tree ≡ tree_for pre tasks post → always_depth tree.nodes ≡ 0
+no_depth pre tasks post tree e = rw e (depth_then pre _ (depth_then tasks _ (depth_then post (Flush Nothing) refl)))
 
 size_then : (n : ℕ) (rest : Nodes) → size 0 (tasks_then n rest) ≡ n + size 0 rest
 size_then zero rest = omega arith

@@ -1,12 +1,15 @@
 //! What a run is made of, and its plan.
 
-ghost use Rattle.std.specs.Prelude.{◌≡◌, ◌≢◌, [], ◌∷◌, ◌++◌, map, length, replicate, false, nat_lt, IfOk, IfErr, Ok, Err};
+ghost use Rattle.std.specs.Prelude.{◌≡◌, ◌≢◌, ◌<◌, [], ◌∷◌, ◌++◌, map, length, replicate, false, nat_lt, IfOk, IfErr, Ok, Err};
+ghost use Rattle.pb_flat.specs.Deep.{always_depth};
 ghost use Rattle.pb_tree.specs.View.{tree_of};
 ghost use Rattle.pb_places.specs.Place.{place_of};
 ghost use Rattle.pb_plan.specs.Bundle.{play_with, has_too_many_places, tree_for, play_nodes, bundle_bytes, bytes_in};
 ghost use Rattle.pb_value.specs.Limits.{max_bytes};
 
 use crate::plan::PlanPlay;
+use pb_cursors::LaidTree;
+use pb_flat::FlatFault;
 use pb_inventory::fault::InvFault;
 use pb_inventory::inventory::Inventory;
 use pb_patterns::fault::PatFault;
@@ -22,6 +25,7 @@ use pb_value::text::Text;
 use pb_variables::fault::ExtraFault;
 use pb_variables::magic::play_magic;
 use std::alloc::{AllocError, AllocFailed, Global};
+use std::rc::Rc;
 use thiserror::Error;
 
 /// The most places of a play.
@@ -141,6 +145,38 @@ fn tree_for(
     Ok(PlayTree::of(alloc, nodes, 0, false)?)
 }
 
+/// A play's tree, laid out for its hosts. A tree in which always parts stand in one another, more than 32 deep, is too large.
+fn laid_out(alloc: Global, tree: PlayTree) -> Result<Rc<LaidTree>, BundleFault>
+    ensures value { IfOk result (λ laid. laid.value.tree ≡ tree) }
+    ensures deep { IfErr result (λ e. e ≢ BundleFault.Memory → 32 < always_depth tree.nodes) }
+    ensures fault { IfErr result (λ e. e ≢ BundleFault.Memory → e ≡ BundleFault.Roles RoleFault.TooLarge) }
+{
+    match LaidTree::of(alloc, tree) {
+        Ok(laid) => Ok(Rc::new(alloc, laid)?),
+        Err(FlatFault::TooDeep) => Err(BundleFault::Roles(RoleFault::TooLarge)),
+        Err(FlatFault::Memory) => Err(BundleFault::Memory),
+    }
+}
+
+/// The tree of a play with this many tasks in each of its three lists, laid out for its hosts. It has no always part.
+#[tactic(auto, using(crate::proofs::Trees::no_depth))]
+fn laid_tree_for(
+    alloc: Global,
+    pre_tasks: usize,
+    tasks: usize,
+    post_tasks: usize,
+) -> Result<Rc<LaidTree>, BundleFault>
+    ensures value { IfOk result (λ laid. laid.value.tree ≡ tree_for pre_tasks tasks post_tasks) }
+    ensures fault { IfErr result (λ e. e ≡ BundleFault.Memory) }
+{
+    let tree = tree_for(alloc, pre_tasks, tasks, post_tasks)?;
+    match laid_out(alloc, tree) {
+        Ok(laid) => Ok(laid),
+        Err(BundleFault::Memory) => Err(BundleFault::Memory),
+        Err(_) => unreachable!(),
+    }
+}
+
 /// The places, and behind them those of these tasks.
 fn push_places(places: Vec<Place>, tasks: Items<Task>) -> Result<Vec<Place>, AllocError>
     ensures { IfOk result (λ all. all.items ≡ places.items ++ map place_of tasks) }
@@ -181,7 +217,7 @@ pub(crate) fn has_too_many_places(play: &Play) -> bool
 }
 
 /// A play with its tree, whose own hosts are these.
-#[tactic(auto, using(crate::proofs::Trees::plain_tree))]
+#[tactic(auto, using(crate::proofs::Trees::unforced_tree))]
 pub(crate) fn play_with(
     alloc: Global,
     inventory: &Inventory,
@@ -193,7 +229,7 @@ pub(crate) fn play_with(
     ensures value { IfOk result (λ p. p ≡ play_with inventory.now hosts play) }
     ensures fault { IfErr result (λ e. e ≡ BundleFault.Memory) }
 {
-    let tree = tree_for(
+    let laid = laid_tree_for(
         alloc,
         play.pre_tasks.len(),
         play.tasks.len(),
@@ -201,7 +237,7 @@ pub(crate) fn play_with(
     )?;
     let places = all_places(alloc, play.pre_tasks, play.tasks, play.post_tasks)?;
     let magic = play_magic(alloc, inventory, &hosts)?;
-    Ok(PlanPlay::of(play.name, tree, places, hosts, play.vars, magic))
+    Ok(PlanPlay::of(play.name, laid, places, hosts, play.vars, magic))
 }
 
 /// How many bytes a text has that may be given.

@@ -1,10 +1,10 @@
 //! What the machine reads of a bundle.
 
-ghost use Rattle.std.specs.Prelude.{◌≡◌, ◌<◌, ◌≤◌, length, slice_get, option_map, IfOk, Some};
+ghost use Rattle.std.specs.Prelude.{◌≡◌, ◌<◌, ◌≤◌, length, slice_get, option_map, false, IfOk, Some};
 ghost use Rattle.std.specs.Option.{option_copied};
-ghost use Rattle.pb_tree.specs.Plain.{IsPlain};
 ghost use Rattle.pb_tree.specs.Tree.{size_of};
 
+use pb_cursors::LaidTree;
 use pb_ids::{HostNo, PlayNo};
 use pb_inventory::inventory::Inventory;
 use pb_places::Place;
@@ -15,12 +15,13 @@ use pb_value::text::Text;
 use pb_value::val::Dict;
 use std::alloc::{AllocError, Global};
 use std::marker::Model;
+use std::rc::Rc;
 
 /// A play: its name, its tree, what stands at each place of the tree, in the order of places, the hosts that are its own, its variables, and
 /// those that the play gives by itself.
 pub struct PlanPlay {
     name: Text,
-    tree: PlayTree,
+    laid: Rc<LaidTree>,
     places: Items<Place>,
     hosts: HostSet,
     vars: Dict,
@@ -31,14 +32,14 @@ impl Drop for PlanPlay {
     fn drop(self) {
         let PlanPlay {
             name,
-            tree,
+            laid,
             places,
             hosts,
             vars,
             magic,
         } = self;
         drop(name);
-        drop(tree);
+        drop(laid);
         drop(places);
         drop(hosts);
         drop(vars);
@@ -58,33 +59,32 @@ impl Model for PlanPlay {
 
     ghost coded = { Prim.hlevel (codes, val.the_row.coded, expr.the_row.coded, play_tree.the_row.coded, place.the_row.coded) };
 
-    ghost view = { λ p. record { name = p.name; tree = p.tree; places = p.places; hosts = p.hosts; vars = p.vars; magic = p.magic } };
+    ghost view = { λ p. record { name = p.name; tree = p.laid.value.tree; places = p.places; hosts = p.hosts; vars = p.vars; magic = p.magic } };
 
-    ghost use Rattle.std.specs.Prelude.{◌≡◌, ◌≤◌, length};
-    ghost use Rattle.pb_tree.specs.Plain.{IsPlain};
+    ghost use Rattle.std.specs.Prelude.{◌≡◌, ◌≤◌, length, false};
     ghost use Rattle.pb_tree.specs.Tree.{size_of};
 
-    ghost invariant = { λ p. IsPlain p.tree × (size_of p.tree ≤ 16384) × (length p.places ≡ size_of p.tree) };
+    ghost invariant = { λ p. (p.laid.value.tree.force_handlers ≡ false) × (size_of p.laid.value.tree ≤ 16384) × (length p.places ≡ size_of p.laid.value.tree) };
 }
 
 impl PlanPlay {
     /// A play of these parts.
     pub(crate) fn of(
         name: Text,
-        tree: PlayTree,
+        laid: Rc<LaidTree>,
         places: Items<Place>,
         hosts: HostSet,
         vars: Dict,
         magic: Dict,
     ) -> PlanPlay
-        requires plain { IsPlain tree }
-        requires bound { size_of tree ≤ 16384 }
-        requires places { length places ≡ size_of tree }
-        ensures { result ≡ record { name = name; tree = tree; places = places; hosts = hosts; vars = vars; magic = magic } }
+        requires unforced { laid.value.tree.force_handlers ≡ false }
+        requires bound { size_of laid.value.tree ≤ 16384 }
+        requires places { length places ≡ size_of laid.value.tree }
+        ensures { result ≡ record { name = name; tree = laid.value.tree; places = places; hosts = hosts; vars = vars; magic = magic } }
     {
         PlanPlay {
             name,
-            tree,
+            laid,
             places,
             hosts,
             vars,
@@ -102,10 +102,18 @@ impl PlanPlay {
     /// The play's tree.
     pub fn tree(&self) -> &PlayTree
         ensures value { result.now ≡ self.now.tree }
-        ensures plain { IsPlain self.now.tree }
         ensures bound { size_of self.now.tree ≤ 16384 }
     {
-        &self.tree
+        self.laid.tree()
+    }
+
+    /// The play's tree with the plan that it is laid out as, for the walks of all hosts. No play runs its handlers after a failure too.
+    pub fn laid(&self) -> &Rc<LaidTree>
+        ensures value { result.now.value.tree ≡ self.now.tree }
+        ensures bound { size_of self.now.tree ≤ 16384 }
+        ensures unforced { self.now.tree.force_handlers ≡ false }
+    {
+        &self.laid
     }
 
     /// What stands at a place, by the place's position in the tree.
