@@ -18,12 +18,13 @@ use Rattle.pb_items.specs.declared.planned.Planned.{Planned}
 use Rattle.pb_items.specs.declared.planned.Planned.TheVariants.{Decided, Sends}
 use Rattle.pb_state.specs.declared.row.Running.{Running}
 use Rattle.pb_plan.specs.Plan.{PlayOf, PlanOf}
-use Rattle.pb_state.specs.Row.{HostRow, first_row, started, sent, sent_running, reported, left}
+use Rattle.pb_state.specs.Row.{HostRow, first_row, place_of, next_place, started, sent, sent_running, reported, left}
 use Rattle.pb_state.specs.State.{State}
-use Rattle.pb_state.specs.Machine.{possible, after, change, at_row, open_play, is_in, next_place, place_of, same_place, stands_at, has_room, may_start_in, may_send_in, next_play, joined_in, opened_in, opened_at, started_in, start_at, sent_in, reported_in, turned_in, first_state}
+use Rattle.pb_state.specs.Machine.{possible, after, change, at_row, open_play, same_place, stands_at, has_room, may_start_in, may_send_in, next_play, joined_in, opened_in, opened_at, started_in, start_at, sent_in, reported_in, turned_in, first_state}
 use Rattle.pb_state.specs.Results.{planned_at}
 use Rattle.pb_state.specs.Run.{legal_from, state_from, IsRun}
 use Rattle.pb_state.proofs.Opening.{length-joined}
+use Rattle.pb_state.proofs.Walks.{IsIn, AllIn, IsOfPlan, step_of, first_of}
 
 and_left : (a b : Bool) → (a && b) ≡ true → a ≡ true
 and_left true b e = refl
@@ -61,9 +62,9 @@ none_run : (f : HostRow → HostRow) → ((row : HostRow) → (f row).running �
 none_run f idle size sends [] = tt
 none_run f idle size sends (row ∷ rows) = (rw (idle row) tt, none_run f idle size sends rows)
 
-none_joins : (size sends h : ℕ) (hosts : List Bool) (rows : List HostRow) → AreHeld size sends (joined_in hosts h rows)
-none_joins size sends h hosts [] = tt
-none_joins size sends h hosts (row ∷ rows) = (tt, none_joins size sends (h + 1) hosts rows)
+none_joins : (size sends h : ℕ) (tree : TreeOf) (hosts : List Bool) (rows : List HostRow) → AreHeld size sends (joined_in tree hosts h rows)
+none_joins size sends h tree hosts [] = tt
+none_joins size sends h tree hosts (row ∷ rows) = (tt, none_joins size sends (h + 1) tree hosts rows)
 
 none_first : (size sends n : ℕ) → AreHeld size sends (replicate n first_row)
 none_first size sends zero = tt
@@ -101,9 +102,9 @@ held_more size sends [] held = tt
 held_more size sends (row ∷ rows) held = (task_more size sends row.running held.0, held_more size sends rows held.1)
 
 -- a start
-started_held : (tree : TreeOf) (p size sends : ℕ) (planned : Planned) (row : HostRow) → p < size → IsHeldTask size sends (started tree p planned row).running
-started_held tree p size sends (Decided item) row below = tt
-started_held tree p size sends (Sends call) row below = (below, tt)
+started_held : (p size sends : ℕ) (planned : Planned) (row : HostRow) → p < size → IsHeldTask size sends (started p planned row).running
+started_held p size sends (Decided item) row below = tt
+started_held p size sends (Sends call) row below = (below, tt)
 
 same_is : (a b : Option ℕ) → same_place a b ≡ true → a ≡ b
 same_is (Some p) (Some q) e = ap Some (eqb-true p q e)
@@ -114,33 +115,36 @@ place_below : (tree : TreeOf) (row : HostRow) (p : ℕ) (reached : Reach) → re
 place_below tree row p (At q) r e = let b = (places_bounded tree row.answers q r).0 in let same : q ≡ p = cc in rw (← same) b
 place_below tree row p (Done ending) r e = cc
 
-next_below : (tree : TreeOf) (row : HostRow) (p : ℕ) (b : Bool) → (if b then place_of (reach tree row.answers) else None) ≡ Some p → p < size_of tree
-next_below tree row p true e = place_below tree row p (reach tree row.answers) refl e
-next_below tree row p false e = cc
+next_below : (tree : TreeOf) (row : HostRow) (p : ℕ) → IsIn tree row → next_place row ≡ Some p → p < size_of tree
+next_below tree row p is e = by_batch row.in_batch refl e
+  where
+    by_batch : (b : Bool) → row.in_batch ≡ b → (if b then place_of (reach row.tree row.answers) else None) ≡ Some p → p < size_of tree
+    by_batch true i n = subst (λ (t : TreeOf). p < size_of t) (is i) (place_below row.tree row p (reach row.tree row.answers) refl n)
+    by_batch false i n = cc
 
-place_at : (tree : TreeOf) (p : ℕ) (rows : List HostRow) (h : ℕ) → at_row (stands_at tree (Some p)) rows h ≡ true → p < size_of tree
-place_at tree p [] h e = cc
-place_at tree p (row ∷ rows) zero e = next_below tree row p (is_in row) (same_is (next_place tree row) (Some p) (and_right _ _ e))
-place_at tree p (row ∷ rows) (suc h) e = place_at tree p rows h e
+place_at : (tree : TreeOf) (p : ℕ) (rows : List HostRow) (h : ℕ) → AllIn tree rows → at_row (stands_at (Some p)) rows h ≡ true → p < size_of tree
+place_at tree p [] h all e = cc
+place_at tree p (row ∷ rows) zero all e = next_below tree row p all.0 (same_is (next_place row) (Some p) (and_right _ _ e))
+place_at tree p (row ∷ rows) (suc h) all e = place_at tree p rows h all.1 e
 
 start_open : (plan : PlanOf) (s : State) (h : ℕ) (play : PlayOf) (place : Option ℕ) → open_play plan (option_map_or (start_at plan s h play) place s) ≡ open_play plan s
 start_open plan s h play None = refl
 start_open plan s h play (Some p) = refl
 
-start_tasks : (plan : PlanOf) (s : State) (h : ℕ) (play : PlayOf) (place : Option ℕ) → AreHeld (size_of play.tree) s.sends s.rows → at_row (stands_at play.tree place) s.rows h ≡ true → AreHeld (size_of play.tree) (option_map_or (start_at plan s h play) place s).sends (option_map_or (start_at plan s h play) place s).rows
-start_tasks plan s h play None held e = held
-start_tasks plan s h play (Some p) held e =
-    held_change (size_of play.tree) s.sends (started play.tree p (planned_at plan play h p)) (λ row held. started_held play.tree p (size_of play.tree) s.sends (planned_at plan play h p) row (place_at play.tree p s.rows h e)) s.rows h held
+start_tasks : (plan : PlanOf) (s : State) (h : ℕ) (play : PlayOf) (place : Option ℕ) → AreHeld (size_of play.tree) s.sends s.rows → AllIn play.tree s.rows → at_row (stands_at place) s.rows h ≡ true → AreHeld (size_of play.tree) (option_map_or (start_at plan s h play) place s).sends (option_map_or (start_at plan s h play) place s).rows
+start_tasks plan s h play None held all e = held
+start_tasks plan s h play (Some p) held all e =
+    held_change (size_of play.tree) s.sends (started p (planned_at plan play h p)) (λ row held. started_held p (size_of play.tree) s.sends (planned_at plan play h p) row (place_at play.tree p s.rows h all e)) s.rows h held
 
 start_hosts : (plan : PlanOf) (s : State) (h : ℕ) (play : PlayOf) (place : Option ℕ) → length (option_map_or (start_at plan s h play) place s).rows ≡ length s.rows
 start_hosts plan s h play None = refl
 start_hosts plan s h play (Some p) = length-change s.rows h _
 
-started_in_held : (plan : PlanOf) (s : State) (h : ℕ) (found : Option PlayOf) → open_play plan s ≡ found → IsHeld plan s → option_map_or (may_start_in s h) found false ≡ true → IsHeld plan (option_map_or (started_in plan s h) found s)
-started_in_held plan s h None o held e = held
-started_in_held plan s h (Some play) o held e = record {
+started_in_held : (plan : PlanOf) (s : State) (h : ℕ) (found : Option PlayOf) → open_play plan s ≡ found → IsOfPlan plan s → IsHeld plan s → option_map_or (may_start_in s h) found false ≡ true → IsHeld plan (option_map_or (started_in plan s h) found s)
+started_in_held plan s h None o trees held e = held
+started_in_held plan s h (Some play) o trees held e = record {
   hosts = start_hosts plan s h play s.place ∙ held.hosts;
-  tasks = rw (start_open plan s h play s.place, o) (start_tasks plan s h play s.place (rw o at held.tasks) (and_right (has_room s) _ e));
+  tasks = rw (start_open plan s h play s.place, o) (start_tasks plan s h play s.place (rw o at held.tasks) (trees play o) (and_right (has_room s) _ e));
 }
 
 -- a send
@@ -161,26 +165,26 @@ sent_in_held plan s h item ticket (Some play) o held e =
     }
 
 -- a report
-reported_none : (tree : TreeOf) (outcome : Form) (row : HostRow) (running : Option Running) → row.running ≡ running → (reported tree outcome row).running ≡ None
-reported_none tree outcome row None e = rw e refl
-reported_none tree outcome row (Some r) e = rw e refl
+reported_none : (outcome : Form) (row : HostRow) (running : Option Running) → row.running ≡ running → (reported outcome row).running ≡ None
+reported_none outcome row None e = rw e refl
+reported_none outcome row (Some r) e = rw e refl
 
-reported_held : (tree : TreeOf) (outcome : Form) (size sends : ℕ) (row : HostRow) → IsHeldTask size sends (reported tree outcome row).running
-reported_held tree outcome size sends row = rw (reported_none tree outcome row row.running refl) tt
+reported_held : (outcome : Form) (size sends : ℕ) (row : HostRow) → IsHeldTask size sends (reported outcome row).running
+reported_held outcome size sends row = rw (reported_none outcome row row.running refl) tt
 
 reported_in_held : (plan : PlanOf) (s : State) (r : Report) (found : Option PlayOf) → open_play plan s ≡ found → IsHeld plan s → IsHeld plan (option_map_or (reported_in s r) found s)
 reported_in_held plan s r None o held = held
 reported_in_held plan s r (Some play) o held = record {
-  hosts = length-change s.rows r.host.0 (reported play.tree r.outcome) ∙ held.hosts;
-  tasks = held_change (places_in (open_play plan s)) s.sends (reported play.tree r.outcome) (λ row held. reported_held play.tree r.outcome (places_in (open_play plan s)) s.sends row) s.rows r.host.0 held.tasks;
+  hosts = length-change s.rows r.host.0 (reported r.outcome) ∙ held.hosts;
+  tasks = held_change (places_in (open_play plan s)) s.sends (reported r.outcome) (λ row held. reported_held r.outcome (places_in (open_play plan s)) s.sends row) s.rows r.host.0 held.tasks;
 }
 
 -- the others
 opened_held : (plan : PlanOf) (s : State) (n : ℕ) (found : Option PlayOf) → IsHeld plan s → IsHeld plan (option_map_or (opened_in s n) found s)
 opened_held plan s n None held = held
 opened_held plan s n (Some play) held = record {
-  hosts = length-joined play.hosts 0 s.rows ∙ held.hosts;
-  tasks = none_joins _ s.sends 0 play.hosts s.rows;
+  hosts = length-joined play.tree play.hosts 0 s.rows ∙ held.hosts;
+  tasks = none_joins _ s.sends 0 play.tree play.hosts s.rows;
 }
 
 next_held : (plan : PlanOf) (s : State) (next : Option ℕ) → IsHeld plan s → IsHeld plan (option_map_or (opened_at plan s) next s)
@@ -191,22 +195,23 @@ turned_held : (plan : PlanOf) (s : State) (found : Option PlayOf) → IsHeld pla
 turned_held plan s None held = held
 turned_held plan s (Some play) held = record { hosts = held.hosts; tasks = held.tasks }
 
-pub step_held : (plan : PlanOf) (s : State) (e : Event) → possible plan s e ≡ true → IsHeld plan s → IsHeld plan (after plan s e)
-step_held plan s Open may held = next_held plan s (next_play plan s) held
-step_held plan s (Start h) may held = started_in_held plan s h.0 (open_play plan s) refl held may
-step_held plan s (Send h item ticket) may held = sent_in_held plan s h.0 item ticket (open_play plan s) refl held may
-step_held plan s (Reported r) may held = reported_in_held plan s r (open_play plan s) refl held
-step_held plan s Turn may held = turned_held plan s (open_play plan s) held
-step_held plan s Close may held = record { hosts = length-map s.rows left ∙ held.hosts; tasks = none_run left (λ row. refl) _ s.sends s.rows }
-step_held plan s Stop may held = record { hosts = held.hosts; tasks = held.tasks }
-step_held plan s (Forks n) may held = record { hosts = held.hosts; tasks = held.tasks }
+pub step_held : (plan : PlanOf) (s : State) (e : Event) → possible plan s e ≡ true → IsOfPlan plan s → IsHeld plan s → IsHeld plan (after plan s e)
+step_held plan s Open may trees held = next_held plan s (next_play plan s) held
+step_held plan s (Start h) may trees held = started_in_held plan s h.0 (open_play plan s) refl trees held may
+step_held plan s (Send h item ticket) may trees held = sent_in_held plan s h.0 item ticket (open_play plan s) refl held may
+step_held plan s (Reported r) may trees held = reported_in_held plan s r (open_play plan s) refl held
+step_held plan s Turn may trees held = turned_held plan s (open_play plan s) held
+step_held plan s Close may trees held = record { hosts = length-map s.rows left ∙ held.hosts; tasks = none_run left (λ row. refl) _ s.sends s.rows }
+step_held plan s Stop may trees held = record { hosts = held.hosts; tasks = held.tasks }
+step_held plan s (Forks n) may trees held = record { hosts = held.hosts; tasks = held.tasks }
 
-held_from : (plan : PlanOf) (s : State) (es : List Event) → legal_from plan s es ≡ true → IsHeld plan s → IsHeld plan (state_from plan s es)
-held_from plan s [] legal held = held
-held_from plan s (e ∷ es) legal held =
-    held_from plan (after plan s e) es (and_right (possible plan s e) (legal_from plan (after plan s e) es) legal) (step_held plan s e (and_left (possible plan s e) (legal_from plan (after plan s e) es) legal) held)
+held_from : (plan : PlanOf) (s : State) (es : List Event) → legal_from plan s es ≡ true → IsOfPlan plan s → IsHeld plan s → IsHeld plan (state_from plan s es)
+held_from plan s [] legal trees held = held
+held_from plan s (e ∷ es) legal trees held =
+    held_from plan (after plan s e) es (and_right (possible plan s e) (legal_from plan (after plan s e) es) legal) (step_of plan s e trees)
+    (step_held plan s e (and_left (possible plan s e) (legal_from plan (after plan s e) es) legal) trees held)
 
 pub held_run : (plan : PlanOf) (pool : ℕ) (trail : List Event) (s : State) → IsRun plan pool trail s → IsHeld plan s
 held_run plan pool trail s run =
     subst (IsHeld plan) run.ends
-    (held_from plan (first_state plan plan.forks pool) trail run.legal (record { hosts = length-replicate (length plan.hosts) first_row; tasks = none_first _ 0 (length plan.hosts) }))
+    (held_from plan (first_state plan plan.forks pool) trail run.legal (first_of plan plan.forks pool) (record { hosts = length-replicate (length plan.hosts) first_row; tasks = none_first _ 0 (length plan.hosts) }))

@@ -46,11 +46,11 @@ none_at p q imp [] h e = refl
 none_at p q imp (row ∷ rows) zero e = imp row (or_left (q row) (has_some (map q rows)) e)
 none_at p q imp (row ∷ rows) (suc h) e = none_at p q imp rows h (or_right (q row) (has_some (map q rows)) e)
 
-none_starts : (s : State) (play : PlayOf) (h : ℕ) (room : Bool) → has_room s ≡ room → has_some (ready_in s play) ≡ false → (room && at_row (stands_at play.tree s.place) s.rows h) ≡ false
+none_starts : (s : State) (play : PlayOf) (h : ℕ) (room : Bool) → has_room s ≡ room → has_some (ready_in s play) ≡ false → (room && at_row (stands_at s.place) s.rows h) ≡ false
 none_starts s play h false r e = refl
 none_starts s play h true r e =
-    none_at (stands_at play.tree s.place) (is_ready (not s.stopped) (has_room s) play.tree s.place)
-    (λ row q. let free : (true && stands_at play.tree s.place row) ≡ false = rw r at (or_right (not s.stopped && has_send row) (has_room s && stands_at play.tree s.place row) q) in free) s.rows h e
+    none_at (stands_at s.place) (is_ready (not s.stopped) (has_room s) s.place)
+    (λ row q. let free : (true && stands_at s.place row) ≡ false = rw r at (or_right (not s.stopped && has_send row) (has_room s && stands_at s.place row) q) in free) s.rows h e
 
 none_starts_in : (s : State) (h : ℕ) (found : Option PlayOf) → has_some (option_map_or (ready_in s) found (replicate (length s.rows) false)) ≡ false → option_map_or (may_start_in s h) found false ≡ false
 none_starts_in s h None e = refl
@@ -59,8 +59,8 @@ none_starts_in s h (Some play) e = none_starts s play h (has_room s) refl e
 none_sends : (s : State) (play : PlayOf) (h item : ℕ) (stopped : Bool) → s.stopped ≡ stopped → has_some (ready_in s play) ≡ false → (not stopped && at_row (may_send_item item) s.rows h) ≡ false
 none_sends s play h item true st e = refl
 none_sends s play h item false st e =
-    none_at (may_send_item item) (is_ready (not s.stopped) (has_room s) play.tree s.place)
-    (λ row q. let free : (true && has_send row) ≡ false = rw st at (or_left (not s.stopped && has_send row) (has_room s && stands_at play.tree s.place row) q) in rw free (and_false (item == 0))) s.rows h e
+    none_at (may_send_item item) (is_ready (not s.stopped) (has_room s) s.place)
+    (λ row q. let free : (true && has_send row) ≡ false = rw st at (or_left (not s.stopped && has_send row) (has_room s && stands_at s.place row) q) in rw free (and_false (item == 0))) s.rows h e
 
 no_send : (a b c : Bool) → (a && c) ≡ false → (a && b && c) ≡ false
 no_send false b c e = refl
@@ -150,7 +150,7 @@ no_start false b c d e = refl
 start_in : (s : State) (play : PlayOf) (h : ℕ) (ticket : Ticket) → ticket.0 ≡ s.sends → slice_get (ready_in s play) h ≡ Some true → may_send_in s h 0 ticket play ≡ false → may_start_in s h play ≡ true
 start_in s play h ticket t e f =
     let unsent : (not s.stopped && at_row has_send s.rows h) ≡ false = rw (← first_item s.rows h) (no_start (not s.stopped) (ticket.0 == s.sends) (at_row (may_send_item 0) s.rows h) (eq-eqb ticket.0 s.sends t) f) in
-    starts_at (not s.stopped) (has_room s) has_send (stands_at play.tree s.place) s.rows h (some_at (is_ready (not s.stopped) (has_room s) play.tree s.place) s.rows h e) unsent
+    starts_at (not s.stopped) (has_room s) has_send (stands_at s.place) s.rows h (some_at (is_ready (not s.stopped) (has_room s) s.place) s.rows h e) unsent
 
 ready_there : (s : State) (h : ℕ) (ticket : Ticket) (found : Option PlayOf) → ticket.0 ≡ s.sends → slice_get (option_map_or (ready_in s) found (replicate (length s.rows) false)) h ≡ Some true → option_map_or (may_send_in s h 0 ticket) found false ≡ false → option_map_or (may_start_in s h) found false ≡ true
 ready_there s h ticket None t e f = none_of (length s.rows) h e

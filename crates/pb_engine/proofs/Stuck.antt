@@ -5,6 +5,7 @@ use Rattle.std.specs.List.{list_any}
 use Rattle.std.specs.Option.{option_map_or}
 use Rattle.pb_planes.specs.Set.{has_some}
 use Rattle.pb_ids.specs.declared.numbers.Ticket.{Ticket}
+use Rattle.pb_tree.specs.Tree.{TreeOf}
 use Rattle.pb_outcome.specs.declared.job.Report.{Report}
 use Rattle.pb_state.specs.declared.event.Event.{Event}
 use Rattle.pb_state.specs.declared.event.Event.TheVariants.{Open, Start, Send, Report as Reported, Turn, Close, Stop, Forks}
@@ -60,11 +61,11 @@ idle_awaits item ticket (Some r) e = cc
 -- each event keeps it that an open batch has its play, and its least place where no host runs
 opened_placed : (plan : PlanOf) (s : State) (n : ℕ) (found : Option PlayOf) → slice_get plan.plays n ≡ found → IsPlaced plan s → IsPlaced plan (option_map_or (opened_in s n) found s)
 opened_placed plan s n None e placed = placed
-opened_placed plan s n (Some play) e placed = rw e (λ none. (none, idle play.hosts 0 s.rows))
+opened_placed plan s n (Some play) e placed = rw e (λ none. (none, idle play.tree play.hosts 0 s.rows))
   where
-    idle : (hosts : List Bool) (h : ℕ) (rows : List HostRow) → list_any is_running (joined_in hosts h rows) ≡ false
-    idle hosts h [] = refl
-    idle hosts h (row ∷ rows) = idle hosts (h + 1) rows
+    idle : (tree : TreeOf) (hosts : List Bool) (h : ℕ) (rows : List HostRow) → list_any is_running (joined_in tree hosts h rows) ≡ false
+    idle tree hosts h [] = refl
+    idle tree hosts h (row ∷ rows) = idle tree hosts (h + 1) rows
 
 next_placed : (plan : PlanOf) (s : State) (next : Option ℕ) → IsPlaced plan s → IsPlaced plan (option_map_or (opened_at plan s) next s)
 next_placed plan s None placed = placed
@@ -164,8 +165,8 @@ never_both (Some p) least stopped running may st r m placed t c = rw (st, r, m) 
 closed_in : (s : State) (found : Option PlayOf) → s.stopped ≡ false → IsPlacedIn s found → list_any is_out s.rows ≡ false → has_some (option_map_or (ready_in s) found (replicate (length s.rows) false)) ≡ false → option_map_or (may_turn_in s) found false ≡ false → option_map_or (may_close_in s) found false ≡ false → s.is_open ≡ false
 closed_in s None st placed out r t c = placed
 closed_in s (Some play) st placed out r t c =
-    let idle = none_running (not s.stopped) (has_room s) (stands_at play.tree s.place) s.rows (rw st refl) r out in
-    let wrong = never_both s.place (least_place play.tree s.rows) s.stopped (list_any is_running s.rows) (has_room s && list_any (stands_at play.tree s.place) s.rows) st idle (none_stands (not s.stopped) (has_room s) (stands_at play.tree s.place) s.rows r) (λ none. (placed none).0) t c in
+    let idle = none_running (not s.stopped) (has_room s) (stands_at s.place) s.rows (rw st refl) r out in
+    let wrong = never_both s.place (least_place s.rows) s.stopped (list_any is_running s.rows) (has_room s && list_any (stands_at s.place) s.rows) st idle (none_stands (not s.stopped) (has_room s) (stands_at s.place) s.rows r) (λ none. (placed none).0) t c in
     cc
 
 -- a play opens next where one is left that has hosts

@@ -15,7 +15,7 @@ IsOver plan s = (s.stopped ≡ true) ⊎ (s.ended ≡ true) ⊎ ((s.is_open ≡ 
 -- an open batch has its play, and in a batch without a place no host runs or is at one
 abbrev pub IsPlacedIn : State → Option PlayOf → Type 0
 IsPlacedIn s None = s.is_open ≡ false
-IsPlacedIn s (Some play) = s.place ≡ None → (least_place play.tree s.rows ≡ None) × (list_any is_running s.rows ≡ false)
+IsPlacedIn s (Some play) = s.place ≡ None → (least_place s.rows ≡ None) × (list_any is_running s.rows ≡ false)
 
 abbrev pub IsPlaced : PlanOf → State → Type 0
 IsPlaced plan s = IsPlacedIn s (open_play plan s)

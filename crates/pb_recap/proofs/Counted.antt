@@ -15,10 +15,10 @@ use Rattle.pb_items.specs.declared.planned.Planned.TheVariants.{Decided as Decid
 use Rattle.pb_state.specs.declared.row.Counts.{Counts}
 use Rattle.pb_state.specs.declared.row.Running.{Running}
 use Rattle.pb_plan.specs.Plan.{PlayOf, PlanOf}
-use Rattle.pb_state.specs.Row.{HostRow, first_row, left, started, sent, reported, reported_running, task_of, item_of}
+use Rattle.pb_state.specs.Row.{HostRow, first_row, next_place, left, started, sent, reported, reported_running, task_of, item_of}
 use Rattle.pb_state.specs.State.{State}
 use Rattle.pb_state.specs.Results.{planned_at}
-use Rattle.pb_state.specs.Machine.{change, open_play, possible, after, first_state, next_play, joined_in, opened_in, opened_at, started_in, start_at, start_with, sent_in, reported_in, report_decides, decided_by, turned_in, may_start_in, may_report_in, at_row, stands_at, next_place, same_place, has_room}
+use Rattle.pb_state.specs.Machine.{change, open_play, possible, after, first_state, next_play, joined_in, opened_in, opened_at, started_in, start_at, start_with, sent_in, reported_in, report_decides, decided_by, turned_in, may_start_in, may_report_in, at_row, stands_at, same_place, has_room}
 use Rattle.pb_state.specs.Run.{legal_from, state_from, IsRun}
 use Rattle.pb_state.proofs.Opening.{length-joined}
 use Rattle.pb_recap.specs.declared.kind.CountKind.{CountKind}
@@ -36,10 +36,10 @@ row_count kind [] h = 0
 row_count kind (row ∷ rows) zero = count_of kind row.counts
 row_count kind (row ∷ rows) (suc h) = row_count kind rows h
 
-joined_keeps : (kind : CountKind) (hosts : List Bool) (h : ℕ) (rows : List HostRow) (k : ℕ) → row_count kind (joined_in hosts h rows) k ≡ row_count kind rows k
-joined_keeps kind hosts h [] k = refl
-joined_keeps kind hosts h (row ∷ rows) zero = refl
-joined_keeps kind hosts h (row ∷ rows) (suc k) = joined_keeps kind hosts (h + 1) rows k
+joined_keeps : (kind : CountKind) (tree : TreeOf) (hosts : List Bool) (h : ℕ) (rows : List HostRow) (k : ℕ) → row_count kind (joined_in tree hosts h rows) k ≡ row_count kind rows k
+joined_keeps kind tree hosts h [] k = refl
+joined_keeps kind tree hosts h (row ∷ rows) zero = refl
+joined_keeps kind tree hosts h (row ∷ rows) (suc k) = joined_keeps kind tree hosts (h + 1) rows k
 
 left_keeps : (kind : CountKind) (rows : List HostRow) (k : ℕ) → row_count kind (map left rows) k ≡ row_count kind rows k
 left_keeps kind [] k = refl
@@ -83,9 +83,9 @@ abbrev start_adds : CountKind → Planned → ℕ
 start_adds kind (DecidedItem item) = one (counts_under kind (task_of item))
 start_adds kind (Sends call) = 0
 
-start_row : (kind : CountKind) (tree : TreeOf) (p : ℕ) (planned : Planned) (row : HostRow) → count_of kind (started tree p planned row).counts ≡ start_adds kind planned + count_of kind row.counts
-start_row kind tree p (DecidedItem item) row = task_counts item row.counts kind
-start_row kind tree p (Sends call) row = none_more (count_of kind row.counts)
+start_row : (kind : CountKind) (p : ℕ) (planned : Planned) (row : HostRow) → count_of kind (started p planned row).counts ≡ start_adds kind planned + count_of kind row.counts
+start_row kind p (DecidedItem item) row = task_counts item row.counts kind
+start_row kind p (Sends call) row = none_more (count_of kind row.counts)
 
 start_told : (kind : CountKind) (s : State) (h k : ℕ) (play : PlayOf) (p : ℕ) (planned : Planned) → counted k kind (ended_in (start_with s h play p planned) h) ≡ added (start_adds kind planned) h k
 start_told kind s h k play p (DecidedItem item) = if_both (h == k) (counts_under kind (task_of item))
@@ -94,7 +94,7 @@ start_told kind s h k play p (Sends call) = none_if (h == k)
 start_with_counts : (kind : CountKind) (s : State) (h k : ℕ) (play : PlayOf) (p : ℕ) (planned : Planned) → k < length s.rows
     → row_count kind (start_with s h play p planned).rows k ≡ counted k kind (ended_in (start_with s h play p planned) h) + row_count kind s.rows k
 start_with_counts kind s h k play p planned b =
-    changed_count kind (started play.tree p planned) (start_adds kind planned) s.rows h k b (λ row e. start_row kind play.tree p planned row)
+    changed_count kind (started p planned) (start_adds kind planned) s.rows h k b (λ row e. start_row kind p planned row)
     ∙ ap (λ n. n + row_count kind s.rows k) (sym (start_told kind s h k play p planned))
 
 -- no host starts where there is no place
@@ -103,14 +103,14 @@ no_same false q e = cc
 no_same true None e = cc
 no_same true (Some p) e = cc
 
-no_start : (a : Bool) (tree : TreeOf) (found : Option HostRow) → (a && option_map_or (stands_at tree None) found false) ≡ true → ⊥
-no_start false tree found e = cc
-no_start true tree None e = cc
-no_start true tree (Some row) e = no_same _ (next_place tree row) e
+no_start : (a : Bool) (found : Option HostRow) → (a && option_map_or (stands_at None) found false) ≡ true → ⊥
+no_start false found e = cc
+no_start true None e = cc
+no_start true (Some row) e = no_same _ (next_place row) e
 
-start_counts : (kind : CountKind) (plan : PlanOf) (s : State) (h k : ℕ) (play : PlayOf) (place : Option ℕ) → k < length s.rows → (has_room s && at_row (stands_at play.tree place) s.rows h) ≡ true
+start_counts : (kind : CountKind) (plan : PlanOf) (s : State) (h k : ℕ) (play : PlayOf) (place : Option ℕ) → k < length s.rows → (has_room s && at_row (stands_at place) s.rows h) ≡ true
     → row_count kind (option_map_or (start_at plan s h play) place s).rows k ≡ counted k kind (ended_in (option_map_or (start_at plan s h play) place s) h) + row_count kind s.rows k
-start_counts kind plan s h k play None b may = absurd (no_start (has_room s) play.tree (slice_get s.rows h) may)
+start_counts kind plan s h k play None b may = absurd (no_start (has_room s) (slice_get s.rows h) may)
 start_counts kind plan s h k play (Some p) b may = start_with_counts kind s h k play p (planned_at plan play h p) b
 
 started_counts : (kind : CountKind) (plan : PlanOf) (s : State) (h k : ℕ) (found : Option PlayOf) → k < length s.rows → option_map_or (may_start_in s h) found false ≡ true
@@ -132,32 +132,32 @@ abbrev report_adds : CountKind → Form → Option Running → ℕ
 report_adds kind outcome None = 0
 report_adds kind outcome (Some r) = one (counts_under kind (task_of (item_of outcome r)))
 
-report_row : (kind : CountKind) (tree : TreeOf) (outcome : Form) (row : HostRow) (running : Option Running)
-    → count_of kind (option_map_or (reported_running tree outcome row) running row).counts ≡ report_adds kind outcome running + count_of kind row.counts
-report_row kind tree outcome row None = none_more (count_of kind row.counts)
-report_row kind tree outcome row (Some r) = task_counts (item_of outcome r) row.counts kind
+report_row : (kind : CountKind) (outcome : Form) (row : HostRow) (running : Option Running)
+    → count_of kind (option_map_or (reported_running outcome row) running row).counts ≡ report_adds kind outcome running + count_of kind row.counts
+report_row kind outcome row None = none_more (count_of kind row.counts)
+report_row kind outcome row (Some r) = task_counts (item_of outcome r) row.counts kind
 
 report_told : (kind : CountKind) (outcome : Form) (h k : ℕ) (running : Option Running)
     → counted k kind (option_map_or (ended_by h) (option_map (decided_by outcome) running) None) ≡ added (report_adds kind outcome running) h k
 report_told kind outcome h k None = none_if (h == k)
 report_told kind outcome h k (Some r) = if_both (h == k) (counts_under kind (task_of (item_of outcome r)))
 
-report_counts : (kind : CountKind) (tree : TreeOf) (outcome : Form) (rows : List HostRow) (h k : ℕ) (found : Option HostRow) → slice_get rows h ≡ found → k < length rows
-    → row_count kind (change rows h (reported tree outcome)) k ≡ counted k kind (option_map_or (ended_by h) (option_map_or (report_decides outcome) found None) None) + row_count kind rows k
-report_counts kind tree outcome rows h k None e b = rw (change_none rows h (reported tree outcome) e) (none_more (row_count kind rows k))
-report_counts kind tree outcome rows h k (Some row) e b =
-    changed_count kind (reported tree outcome) (report_adds kind outcome row.running) rows h k b
-    (λ r q. let same : r ≡ row = cc in rw same (report_row kind tree outcome row row.running))
+report_counts : (kind : CountKind) (outcome : Form) (rows : List HostRow) (h k : ℕ) (found : Option HostRow) → slice_get rows h ≡ found → k < length rows
+    → row_count kind (change rows h (reported outcome)) k ≡ counted k kind (option_map_or (ended_by h) (option_map_or (report_decides outcome) found None) None) + row_count kind rows k
+report_counts kind outcome rows h k None e b = rw (change_none rows h (reported outcome) e) (none_more (row_count kind rows k))
+report_counts kind outcome rows h k (Some row) e b =
+    changed_count kind (reported outcome) (report_adds kind outcome row.running) rows h k b
+    (λ r q. let same : r ≡ row = cc in rw same (report_row kind outcome row row.running))
     ∙ ap (λ n. n + row_count kind rows k) (sym (report_told kind outcome h k row.running))
 
 reported_counts : (kind : CountKind) (s : State) (r : Report) (k : ℕ) (found : Option PlayOf) → k < length s.rows → option_map_or (may_report_in s r) found false ≡ true
     → row_count kind (option_map_or (reported_in s r) found s).rows k ≡ counted k kind (ended_in (option_map_or (reported_in s r) found s) r.host.0) + row_count kind s.rows k
 reported_counts kind s r k None b may = cc
-reported_counts kind s r k (Some play) b may = report_counts kind play.tree r.outcome s.rows r.host.0 k (slice_get s.rows r.host.0) refl b
+reported_counts kind s r k (Some play) b may = report_counts kind r.outcome s.rows r.host.0 k (slice_get s.rows r.host.0) refl b
 
 opened_counts : (kind : CountKind) (s : State) (n k : ℕ) (found : Option PlayOf) → row_count kind (option_map_or (opened_in s n) found s).rows k ≡ row_count kind s.rows k
 opened_counts kind s n k None = refl
-opened_counts kind s n k (Some play) = joined_keeps kind play.hosts 0 s.rows k
+opened_counts kind s n k (Some play) = joined_keeps kind play.tree play.hosts 0 s.rows k
 
 next_counts : (kind : CountKind) (plan : PlanOf) (s : State) (k : ℕ) (next : Option ℕ) → row_count kind (option_map_or (opened_at plan s) next s).rows k ≡ row_count kind s.rows k
 next_counts kind plan s k None = refl
@@ -189,7 +189,7 @@ change_hosts rows h f = changed_hosts rows h f (slice_get rows h)
 
 start_hosts : (plan : PlanOf) (s : State) (h : ℕ) (play : PlayOf) (place : Option ℕ) → length (option_map_or (start_at plan s h play) place s).rows ≡ length s.rows
 start_hosts plan s h play None = refl
-start_hosts plan s h play (Some p) = change_hosts s.rows h (started play.tree p (planned_at plan play h p))
+start_hosts plan s h play (Some p) = change_hosts s.rows h (started p (planned_at plan play h p))
 
 started_hosts : (plan : PlanOf) (s : State) (h : ℕ) (found : Option PlayOf) → length (option_map_or (started_in plan s h) found s).rows ≡ length s.rows
 started_hosts plan s h None = refl
@@ -201,11 +201,11 @@ sent_hosts s h ticket (Some play) = change_hosts s.rows h (sent ticket)
 
 reported_hosts : (s : State) (r : Report) (found : Option PlayOf) → length (option_map_or (reported_in s r) found s).rows ≡ length s.rows
 reported_hosts s r None = refl
-reported_hosts s r (Some play) = change_hosts s.rows r.host.0 (reported play.tree r.outcome)
+reported_hosts s r (Some play) = change_hosts s.rows r.host.0 (reported r.outcome)
 
 opened_hosts : (s : State) (n : ℕ) (found : Option PlayOf) → length (option_map_or (opened_in s n) found s).rows ≡ length s.rows
 opened_hosts s n None = refl
-opened_hosts s n (Some play) = length-joined play.hosts 0 s.rows
+opened_hosts s n (Some play) = length-joined play.tree play.hosts 0 s.rows
 
 next_hosts : (plan : PlanOf) (s : State) (next : Option ℕ) → length (option_map_or (opened_at plan s) next s).rows ≡ length s.rows
 next_hosts plan s None = refl

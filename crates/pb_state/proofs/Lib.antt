@@ -2,10 +2,10 @@ pub mod Least
 pub mod Opening
 pub mod Oldest
 pub mod OldestOut
-pub mod Good
 pub mod Steps
 pub mod WorkFalls
 pub mod Walked
 pub mod Within
 pub mod Told
 pub mod Once
+pub mod Walks

@@ -9,6 +9,7 @@ use Rattle.pb_ids.specs.declared.numbers.Ticket.{Ticket}
 use Rattle.pb_tree.specs.declared.answer.Kind.TheVariants.{Gone}
 use Rattle.pb_tree.specs.declared.tree.Reach.{Reach}
 use Rattle.pb_tree.specs.declared.tree.Reach.TheVariants.{At, Done}
+use Rattle.pb_planes.specs.Set.{is_in as is_member}
 use Rattle.pb_tree.specs.Tree.{TreeOf}
 use Rattle.pb_tree.specs.Answer.{AnswerOf}
 use Rattle.pb_tree.specs.Laws.{counts, IsAbove}
@@ -23,10 +24,10 @@ use Rattle.pb_items.specs.declared.planned.Planned.{Planned}
 use Rattle.pb_items.specs.declared.planned.Planned.TheVariants.{Decided, Sends}
 use Rattle.pb_state.specs.declared.row.Running.{Running}
 use Rattle.pb_plan.specs.Plan.{PlayOf, PlanOf}
-use Rattle.pb_state.specs.Row.{HostRow, failed_kind, kind_of, answer_of, finished, started, sent, sent_running, reported, reported_running, task_of, item_of}
+use Rattle.pb_state.specs.Row.{HostRow, place_of, next_place, joined, failed_kind, kind_of, answer_of, finished, started, sent, sent_running, reported, reported_running, task_of, item_of}
 use Rattle.pb_state.specs.State.{State}
 use Rattle.pb_state.specs.Results.{planned_at}
-use Rattle.pb_state.specs.Machine.{possible, after, change, at_row, open_play, next_play, place_of, next_place, same_place, stands_at, is_running, is_in, has_room, has_send, may_send_item, may_start_in, may_send_in, may_report_in, joined_in, opened_in, opened_at as opened_from, started_in, start_at, sent_in, reported_in, turned_in, first_state}
+use Rattle.pb_state.specs.Machine.{possible, after, change, at_row, open_play, next_play, same_place, stands_at, is_running, is_in, has_room, has_send, may_send_item, may_start_in, may_send_in, may_report_in, joined_in, opened_in, opened_at as opened_from, started_in, start_at, sent_in, reported_in, turned_in, first_state}
 use Rattle.pb_state.specs.Run.{legal_from, IsRun}
 use Rattle.pb_state.proofs.Opening.{next_is}
 use Rattle.pb_state.specs.Once.{StartOf, SendOf, running_place, place_run_by, starts_from, sends_from, IsNotIn, NoTwice, IsOnce, NothingTwice}
@@ -53,24 +54,16 @@ abbrev behind : Option Ticket → ℕ
 behind None = 1
 behind (Some ticket) = 2
 
-abbrev RunsFrom : ℕ → TreeOf → List AnswerOf → Option Running → Type 0
-RunsFrom n tree answers None = IsFrom n (reach tree answers)
-RunsFrom n tree answers (Some r) = (reach tree answers ≡ At r.place) × (n ≤ 2 * r.place + behind r.out)
+abbrev RunsFrom : ℕ → HostRow → Option Running → Type 0
+RunsFrom n row None = IsFrom n (reach row.tree row.answers)
+RunsFrom n row (Some r) = (reach row.tree row.answers ≡ At r.place) × (n ≤ 2 * r.place + behind r.out)
 
-abbrev RowFrom : ℕ → TreeOf → HostRow → Type 0
-RowFrom n tree row = RunsFrom n tree row.answers row.running
+abbrev RowFrom : ℕ → HostRow → Type 0
+RowFrom n row = RunsFrom n row row.running
 
-abbrev FoundFrom : ℕ → TreeOf → Option HostRow → Type 0
-FoundFrom n tree None = Unit {0}
-FoundFrom n tree (Some row) = RowFrom n tree row
-
-from_less : (m n : ℕ) (r : Reach) → m ≤ n → IsFrom n r → IsFrom m r
-from_less m n (At place) l w = omega (arith, l, w)
-from_less m n (Done ending) l w = tt
-
-runs_less : (m n : ℕ) (tree : TreeOf) (answers : List AnswerOf) (running : Option Running) → m ≤ n → RunsFrom n tree answers running → RunsFrom m tree answers running
-runs_less m n tree answers None l w = from_less m n (reach tree answers) l w
-runs_less m n tree answers (Some r) l w = (w.0, omega (arith, l, w.1))
+abbrev FoundFrom : ℕ → Option HostRow → Type 0
+FoundFrom n None = Unit {0}
+FoundFrom n (Some row) = RowFrom n row
 
 above_from : (n p : ℕ) (r : Reach) → IsAbove p r → n ≤ 2 * p + 2 → IsFrom n r
 above_from n p (At place) a l = omega (arith, a, l)
@@ -89,13 +82,13 @@ all_count false halted e = refl
 answer_counts : (answers : List AnswerOf) (task : TaskResult) → counts answers (answer_of task) ≡ true
 answer_counts answers task = all_count (list_any (λ (b : AnswerOf). is_halted b.kind) answers) (is_halted (kind_of task)) (kind_counts task.unreachable (task.failed && not task.ignored))
 
-finished_from : (n : ℕ) (tree : TreeOf) (p : ℕ) (task : TaskResult) (row : HostRow) → reach tree row.answers ≡ At p → n ≤ 2 * p + 2 → RowFrom n tree (finished tree p task row)
-finished_from n tree p task row e l =
-    above_from n p (reach tree (row.answers ++ answer_of task ∷ [])) (places_rise tree row.answers (answer_of task) p e (answer_counts row.answers task)) l
+finished_from : (n p : ℕ) (task : TaskResult) (row : HostRow) → reach row.tree row.answers ≡ At p → n ≤ 2 * p + 2 → RowFrom n (finished p task row)
+finished_from n p task row e l =
+    above_from n p (reach row.tree (row.answers ++ answer_of task ∷ [])) (places_rise row.tree row.answers (answer_of task) p e (answer_counts row.answers task)) l
 
-started_from : (n : ℕ) (tree : TreeOf) (p : ℕ) (planned : Planned) (row : HostRow) → reach tree row.answers ≡ At p → n ≤ 2 * p + 1 → RowFrom n tree (started tree p planned row)
-started_from n tree p (Decided item) row e l = finished_from n tree p (task_of item) row e (omega (arith, l))
-started_from n tree p (Sends call) row e l = (e, l)
+started_from : (n p : ℕ) (planned : Planned) (row : HostRow) → reach row.tree row.answers ≡ At p → n ≤ 2 * p + 1 → RowFrom n (started p planned row)
+started_from n p (Decided item) row e l = finished_from n p (task_of item) row e (omega (arith, l))
+started_from n p (Sends call) row e l = (e, l)
 
 same_is : (a b : Option ℕ) → same_place a b ≡ true → (p : ℕ) × (a ≡ Some p) × (b ≡ Some p)
 same_is (Some p) (Some q) e = (p, refl, ap Some (sym (eqb-true p q e)))
@@ -107,39 +100,39 @@ place_at (At q) true p e = ap At (let same : q ≡ p = cc in same)
 place_at (Done ending) true p e = cc
 place_at r false p e = cc
 
-stands : (tree : TreeOf) (p : ℕ) (row : HostRow) → stands_at tree (Some p) row ≡ true → reach tree row.answers ≡ At p
-stands tree p row e =
-    let stood = same_is (next_place tree row) (Some p) (and_right (not (is_running row)) _ e) in
-    let here : next_place tree row ≡ Some p = stood.1 ∙ sym stood.2 in
-    place_at (reach tree row.answers) (is_in row) p here
+stands : (p : ℕ) (row : HostRow) → stands_at (Some p) row ≡ true → reach row.tree row.answers ≡ At p
+stands p row e =
+    let stood = same_is (next_place row) (Some p) (and_right (not (is_running row)) _ e) in
+    let here : next_place row ≡ Some p = stood.1 ∙ sym stood.2 in
+    place_at (reach row.tree row.answers) row.in_batch p here
 
 -- the number of a start, and of a send
-start_number : (n : ℕ) (tree : TreeOf) (p : ℕ) (row : HostRow) → stands_at tree (Some p) row ≡ true → RowFrom n tree row → n ≤ 2 * p
-start_number n tree p row e w = by_running row.running (not_false (is_running row) (and_left (not (is_running row)) _ e)) w
+start_number : (n p : ℕ) (row : HostRow) → stands_at (Some p) row ≡ true → RowFrom n row → n ≤ 2 * p
+start_number n p row e w = by_running row.running (not_false (is_running row) (and_left (not (is_running row)) _ e)) w
   where
     from_at : (r : Reach) → r ≡ At p → IsFrom n r → n ≤ 2 * p
     from_at (At q) f v = let same : q ≡ p = cc in omega (arith, v, same)
     from_at (Done ending) f v = cc
 
-    by_running : (running : Option Running) → is_some running ≡ false → RunsFrom n tree row.answers running → n ≤ 2 * p
-    by_running None none v = from_at (reach tree row.answers) (stands tree p row e) v
+    by_running : (running : Option Running) → is_some running ≡ false → RunsFrom n row running → n ≤ 2 * p
+    by_running None none v = from_at (reach row.tree row.answers) (stands p row e) v
     by_running (Some r) none v = cc
 
-send_number : (n : ℕ) (tree : TreeOf) (p item : ℕ) (row : HostRow) → may_send_item item row ≡ true → running_place row ≡ Some p → RowFrom n tree row → n ≤ 2 * p + 1
-send_number n tree p item row e at w = by_running row.running (and_right (nat_eq item 0) (has_send row) e) at w
+send_number : (n p item : ℕ) (row : HostRow) → may_send_item item row ≡ true → running_place row ≡ Some p → RowFrom n row → n ≤ 2 * p + 1
+send_number n p item row e at w = by_running row.running (and_right (nat_eq item 0) (has_send row) e) at w
   where
     by_out : (place : ℕ) (out : Option Ticket) → is_none out ≡ true → n ≤ 2 * place + behind out → n ≤ 2 * place + 1
     by_out place None none l = l
     by_out place (Some ticket) none l = cc
 
-    by_running : (running : Option Running) → option_map_or (λ (r : Running). is_none r.out) running false ≡ true → option_map (λ (r : Running). r.place) running ≡ Some p → RunsFrom n tree row.answers running → n ≤ 2 * p + 1
+    by_running : (running : Option Running) → option_map_or (λ (r : Running). is_none r.out) running false ≡ true → option_map (λ (r : Running). r.place) running ≡ Some p → RunsFrom n row running → n ≤ 2 * p + 1
     by_running None s a v = cc
     by_running (Some r) s a v = let same : r.place ≡ p = cc in let most = by_out r.place r.out s v.1 in omega (arith, most, same)
 
-sent_from : (m n : ℕ) (tree : TreeOf) (ticket : Ticket) (row : HostRow) → has_send row ≡ true → ((p : ℕ) → running_place row ≡ Some p → n ≤ 2 * p + 2) → RowFrom m tree row → RowFrom n tree (sent ticket row)
-sent_from m n tree ticket row e most w = by_running row.running e most w
+sent_from : (m n : ℕ) (ticket : Ticket) (row : HostRow) → has_send row ≡ true → ((p : ℕ) → running_place row ≡ Some p → n ≤ 2 * p + 2) → RowFrom m row → RowFrom n (sent ticket row)
+sent_from m n ticket row e most w = by_running row.running e most w
   where
-    by_running : (running : Option Running) → option_map_or (λ (r : Running). is_none r.out) running false ≡ true → ((p : ℕ) → option_map (λ (r : Running). r.place) running ≡ Some p → n ≤ 2 * p + 2) → RunsFrom m tree row.answers running → RunsFrom n tree row.answers (option_map (sent_running ticket) running)
+    by_running : (running : Option Running) → option_map_or (λ (r : Running). is_none r.out) running false ≡ true → ((p : ℕ) → option_map (λ (r : Running). r.place) running ≡ Some p → n ≤ 2 * p + 2) → RunsFrom m row running → RunsFrom n row (option_map (sent_running ticket) running)
     by_running None s k v = cc
     by_running (Some r) s k v = (v.0, k r.place refl)
 
@@ -147,12 +140,12 @@ behind_most : (out : Option Ticket) → behind out ≤ 2
 behind_most None = omega arith
 behind_most (Some ticket) = omega arith
 
-reported_from : (n : ℕ) (tree : TreeOf) (outcome : Form) (row : HostRow) → RowFrom n tree row → RowFrom n tree (reported tree outcome row)
-reported_from n tree outcome row w = by_running row.running w
+reported_from : (n : ℕ) (outcome : Form) (row : HostRow) → RowFrom n row → RowFrom n (reported outcome row)
+reported_from n outcome row w = by_running row.running w
   where
-    by_running : (running : Option Running) → RunsFrom n tree row.answers running → RowFrom n tree (option_map_or (reported_running tree outcome row) running row)
+    by_running : (running : Option Running) → RunsFrom n row running → RowFrom n (option_map_or (reported_running outcome row) running row)
     by_running None v = w
-    by_running (Some r) v = let most = behind_most r.out in finished_from n tree r.place (task_of (item_of outcome r)) row v.0 (omega (arith, v.1, most))
+    by_running (Some r) v = let most = behind_most r.out in finished_from n r.place (task_of (item_of outcome r)) row v.0 (omega (arith, v.1, most))
 
 -- ---- the rows
 change_on : (row : HostRow) (rows : List HostRow) (h : ℕ) (f : HostRow → HostRow) (found : Option HostRow) → slice_get rows h ≡ found → change (row ∷ rows) (suc h) f ≡ row ∷ change rows h f
@@ -160,18 +153,18 @@ change_on row rows h f None e = rw e refl
 change_on row rows h f (Some r) e = rw e refl
 
 -- a change of one host's row that keeps what holds of it
-change_keeps : (n : ℕ) (tree : TreeOf) (f : HostRow → HostRow) (rows : List HostRow) (k h : ℕ) → ((row : HostRow) → slice_get rows k ≡ Some row → RowFrom n tree row → RowFrom n tree (f row)) → FoundFrom n tree (slice_get rows h) → FoundFrom n tree (slice_get (change rows k f) h)
-change_keeps n tree f [] k h each w = tt
-change_keeps n tree f (row ∷ rows) zero zero each w = each row refl w
-change_keeps n tree f (row ∷ rows) zero (suc h) each w = w
-change_keeps n tree f (row ∷ rows) (suc k) zero each w = rw (change_on row rows k f (slice_get rows k) refl) w
-change_keeps n tree f (row ∷ rows) (suc k) (suc h) each w = rw (change_on row rows k f (slice_get rows k) refl) (change_keeps n tree f rows k h each w)
+change_keeps : (n : ℕ) (f : HostRow → HostRow) (rows : List HostRow) (k h : ℕ) → ((row : HostRow) → slice_get rows k ≡ Some row → RowFrom n row → RowFrom n (f row)) → FoundFrom n (slice_get rows h) → FoundFrom n (slice_get (change rows k f) h)
+change_keeps n f [] k h each w = tt
+change_keeps n f (row ∷ rows) zero zero each w = each row refl w
+change_keeps n f (row ∷ rows) zero (suc h) each w = w
+change_keeps n f (row ∷ rows) (suc k) zero each w = rw (change_on row rows k f (slice_get rows k) refl) w
+change_keeps n f (row ∷ rows) (suc k) (suc h) each w = rw (change_on row rows k f (slice_get rows k) refl) (change_keeps n f rows k h each w)
 
 -- and one that raises it
-change_raises : (m n : ℕ) (tree : TreeOf) (f : HostRow → HostRow) (rows : List HostRow) (h : ℕ) → ((row : HostRow) → slice_get rows h ≡ Some row → RowFrom m tree row → RowFrom n tree (f row)) → FoundFrom m tree (slice_get rows h) → FoundFrom n tree (slice_get (change rows h f) h)
-change_raises m n tree f [] h each w = tt
-change_raises m n tree f (row ∷ rows) zero each w = each row refl w
-change_raises m n tree f (row ∷ rows) (suc h) each w = rw (change_on row rows h f (slice_get rows h) refl) (change_raises m n tree f rows h each w)
+change_raises : (m n : ℕ) (f : HostRow → HostRow) (rows : List HostRow) (h : ℕ) → ((row : HostRow) → slice_get rows h ≡ Some row → RowFrom m row → RowFrom n (f row)) → FoundFrom m (slice_get rows h) → FoundFrom n (slice_get (change rows h f) h)
+change_raises m n f [] h each w = tt
+change_raises m n f (row ∷ rows) zero each w = each row refl w
+change_raises m n f (row ∷ rows) (suc h) each w = rw (change_on row rows h f (slice_get rows h) refl) (change_raises m n f rows h each w)
 
 found_test : (test : HostRow → Bool) (row : HostRow) (found : Option HostRow) → found ≡ Some row → option_map_or test found false ≡ true → test row ≡ true
 found_test test row None is e = cc
@@ -181,118 +174,97 @@ zero_from : (r : Reach) → IsFrom 0 r
 zero_from (At place) = omega arith
 zero_from (Done ending) = tt
 
-joined_from : (tree : TreeOf) (hosts : List Bool) (n : ℕ) (rows : List HostRow) (h : ℕ) → FoundFrom 0 tree (slice_get (joined_in hosts n rows) h)
+joined_from : (tree : TreeOf) (hosts : List Bool) (n : ℕ) (rows : List HostRow) (h : ℕ) → FoundFrom 0 (slice_get (joined_in tree hosts n rows) h)
 joined_from tree hosts n [] h = tt
-joined_from tree hosts n (row ∷ rows) zero = zero_from (reach tree [])
+joined_from tree hosts n (row ∷ rows) zero = zero_from (reach (joined tree (is_member hosts n) row).tree [])
 joined_from tree hosts n (row ∷ rows) (suc h) = joined_from tree hosts (n + 1) rows h
 
 -- ---- the states
--- the next step of a host in the open play has at least the number n
-abbrev HostFrom : PlanOf → State → ℕ → ℕ → Type 0
-HostFrom plan s h n = (play : PlayOf) → slice_get plan.plays s.play ≡ Some play → FoundFrom n play.tree (slice_get s.rows h)
-
 -- a host that runs is at its next place
-abbrev IsSound : PlanOf → State → Type 0
-IsSound plan s = s.is_open ≡ true → (h : ℕ) → HostFrom plan s h 0
+abbrev IsSound : State → Type 0
+IsSound s = s.is_open ≡ true → (h : ℕ) → FoundFrom 0 (slice_get s.rows h)
 
 -- each further step of a host is in a later play, or has at least the number n in this one
-abbrev IsPast : PlanOf → State → ℕ → ℕ → ℕ → Type 0
-IsPast plan s h play n = (play < s.play) ⊎ ((play ≡ s.play) × (s.is_open ≡ true) × HostFrom plan s h n)
+abbrev IsPast : State → ℕ → ℕ → ℕ → Type 0
+IsPast s h play n = (play < s.play) ⊎ ((play ≡ s.play) × (s.is_open ≡ true) × FoundFrom n (slice_get s.rows h))
 
 -- what an event does to the batch: it stays, opens or closes
-abbrev Stays : PlanOf → State → State → Type 0
-Stays plan s new =
-    (new.play ≡ s.play) × (new.is_open ≡ s.is_open)
-    × ((h n : ℕ) (play : PlayOf) → slice_get plan.plays s.play ≡ Some play → FoundFrom n play.tree (slice_get s.rows h) → FoundFrom n play.tree (slice_get new.rows h))
+abbrev Stays : State → State → Type 0
+Stays s new = (new.play ≡ s.play) × (new.is_open ≡ s.is_open) × ((h n : ℕ) → FoundFrom n (slice_get s.rows h) → FoundFrom n (slice_get new.rows h))
 
 abbrev Opens : State → State → Type 0
-Opens s new = (s.is_open ≡ false) × (s.play ≤ new.play) × ((h : ℕ) (tree : TreeOf) → FoundFrom 0 tree (slice_get new.rows h))
+Opens s new = (s.is_open ≡ false) × (s.play ≤ new.play) × ((h : ℕ) → FoundFrom 0 (slice_get new.rows h))
 
 abbrev Closes : State → State → Type 0
 Closes s new = (new.play ≡ s.play + 1) × (new.is_open ≡ false)
 
-abbrev Moves : PlanOf → State → State → Type 0
-Moves plan s new = Stays plan s new ⊎ (Opens s new ⊎ Closes s new)
+abbrev Moves : State → State → Type 0
+Moves s new = Stays s new ⊎ (Opens s new ⊎ Closes s new)
 
-past_kept : (plan : PlanOf) (s new : State) (h play n : ℕ) → Moves plan s new → IsPast plan s h play n → IsPast plan new h play n
-past_kept plan s new h play n (inl stays) (inl l) = inl (omega (arith, l, stays.0))
-past_kept plan s new h play n (inl stays) (inr w) =
-    inr (w.0 ∙ sym stays.0, stays.1 ∙ w.1, λ pl is. let old : slice_get plan.plays s.play ≡ Some pl = ap (slice_get plan.plays) (sym stays.0) ∙ is in stays.2 h n pl old (w.2 pl old))
-past_kept plan s new h play n (inr (inl opens)) (inl l) = inl (omega (arith, l, opens.1))
-past_kept plan s new h play n (inr (inl opens)) (inr w) = absurd (let closed = opens.0 in let opened = w.1 in cc)
-past_kept plan s new h play n (inr (inr closes)) (inl l) = inl (omega (arith, l, closes.0))
-past_kept plan s new h play n (inr (inr closes)) (inr w) = inl (omega (arith, w.0, closes.0))
+past_kept : (s new : State) (h play n : ℕ) → Moves s new → IsPast s h play n → IsPast new h play n
+past_kept s new h play n (inl stays) (inl l) = inl (omega (arith, l, stays.0))
+past_kept s new h play n (inl stays) (inr w) = inr (w.0 ∙ sym stays.0, stays.1 ∙ w.1, stays.2 h n w.2)
+past_kept s new h play n (inr (inl opens)) (inl l) = inl (omega (arith, l, opens.1))
+past_kept s new h play n (inr (inl opens)) (inr w) = absurd (let closed = opens.0 in let opened = w.1 in cc)
+past_kept s new h play n (inr (inr closes)) (inl l) = inl (omega (arith, l, closes.0))
+past_kept s new h play n (inr (inr closes)) (inr w) = inl (omega (arith, w.0, closes.0))
 
-sound_kept : (plan : PlanOf) (s new : State) → Moves plan s new → IsSound plan s → IsSound plan new
-sound_kept plan s new (inl stays) w = λ o h pl is. let old : slice_get plan.plays s.play ≡ Some pl = ap (slice_get plan.plays) (sym stays.0) ∙ is in stays.2 h 0 pl old (w (sym stays.1 ∙ o) h pl old)
-sound_kept plan s new (inr (inl opens)) w = λ o h pl is. opens.2 h pl.tree
-sound_kept plan s new (inr (inr closes)) w = λ o. absurd (let closed = closes.1 in cc)
+sound_kept : (s new : State) → Moves s new → IsSound s → IsSound new
+sound_kept s new (inl stays) w = λ o h. stays.2 h 0 (w (sym stays.1 ∙ o) h)
+sound_kept s new (inr (inl opens)) w = λ o h. opens.2 h
+sound_kept s new (inr (inr closes)) w = λ o. absurd (let closed = closes.1 in cc)
 
 -- ---- the events
--- the open play is the play at its number
-open_is : (plays : Option PlayOf) (b : Bool) (play pl : PlayOf) → (if b then plays else None) ≡ Some play → plays ≡ Some pl → play ≡ pl
-open_is None b play pl o is = cc
-open_is (Some q) true play pl o is = let one : q ≡ play = cc in let two : q ≡ pl = cc in sym one ∙ two
-open_is (Some q) false play pl o is = cc
-
-opened_at : (plays : Option PlayOf) (b : Bool) (play : PlayOf) → (if b then plays else None) ≡ Some play → plays ≡ Some play
-opened_at plays true play e = e
-opened_at plays false play e = cc
-
+-- an open play is open
 is_opened : (plan : PlanOf) (s : State) (b : Bool) (play : PlayOf) → s.is_open ≡ b → (if b then slice_get plan.plays s.play else None) ≡ Some play → b ≡ true
 is_opened plan s true play e o = refl
 is_opened plan s false play e o = cc
 
--- what holds of the open play
-of_play : (plan : PlanOf) (s new : State) (h m n : ℕ) (play : PlayOf) → open_play plan s ≡ Some play → (FoundFrom m play.tree (slice_get s.rows h) → FoundFrom n play.tree (slice_get new.rows h)) → (pl : PlayOf) → slice_get plan.plays s.play ≡ Some pl → FoundFrom m pl.tree (slice_get s.rows h) → FoundFrom n pl.tree (slice_get new.rows h)
-of_play plan s new h m n play o f pl is =
-    subst (λ (q : PlayOf). FoundFrom m q.tree (slice_get s.rows h) → FoundFrom n q.tree (slice_get new.rows h)) (open_is (slice_get plan.plays s.play) s.is_open play pl o is) f
+stays_in : (s new : State) → new.play ≡ s.play → new.is_open ≡ s.is_open → ((h n : ℕ) → FoundFrom n (slice_get s.rows h) → FoundFrom n (slice_get new.rows h)) → Moves s new
+stays_in s new p b f = inl (p, b, f)
 
-stays_in : (plan : PlanOf) (s new : State) (play : PlayOf) → open_play plan s ≡ Some play → new.play ≡ s.play → new.is_open ≡ s.is_open → ((h n : ℕ) → FoundFrom n play.tree (slice_get s.rows h) → FoundFrom n play.tree (slice_get new.rows h)) → Moves plan s new
-stays_in plan s new play o p b f = inl (p, b, λ h n pl is. of_play plan s new h n n play o (f h n) pl is)
+same_rows : (s new : State) → new.play ≡ s.play → new.is_open ≡ s.is_open → new.rows ≡ s.rows → Moves s new
+same_rows s new p b r = inl (p, b, λ h n w. rw r w)
 
-same_rows : (plan : PlanOf) (s new : State) → new.play ≡ s.play → new.is_open ≡ s.is_open → new.rows ≡ s.rows → Moves plan s new
-same_rows plan s new p b r = inl (p, b, λ h n pl is w. rw r w)
-
-start_at_moves : (plan : PlanOf) (s : State) (k : ℕ) (play : PlayOf) (place : Option ℕ) → open_play plan s ≡ Some play → at_row (stands_at play.tree place) s.rows k ≡ true → Moves plan s (option_map_or (start_at plan s k play) place s)
-start_at_moves plan s k play None o e = same_rows plan s s refl refl refl
+start_at_moves : (plan : PlanOf) (s : State) (k : ℕ) (play : PlayOf) (place : Option ℕ) → open_play plan s ≡ Some play → at_row (stands_at place) s.rows k ≡ true → Moves s (option_map_or (start_at plan s k play) place s)
+start_at_moves plan s k play None o e = same_rows s s refl refl refl
 start_at_moves plan s k play (Some p) o e =
-    stays_in plan s (start_at plan s k play p) play o refl refl
-    (λ h n w. change_keeps n play.tree (started play.tree p (planned_at plan play k p)) s.rows k h
-    (λ row is v. let at = found_test (stands_at play.tree (Some p)) row (slice_get s.rows k) is e in
-    let least = start_number n play.tree p row at v in
-    started_from n play.tree p (planned_at plan play k p) row (stands play.tree p row at) (omega (arith, least)))
+    stays_in s (start_at plan s k play p) refl refl
+    (λ h n w. change_keeps n (started p (planned_at plan play k p)) s.rows k h
+    (λ row is v. let at = found_test (stands_at (Some p)) row (slice_get s.rows k) is e in
+    let least = start_number n p row at v in
+    started_from n p (planned_at plan play k p) row (stands p row at) (omega (arith, least)))
     w)
 
-start_moves : (plan : PlanOf) (s : State) (k : ℕ) (found : Option PlayOf) → open_play plan s ≡ found → option_map_or (may_start_in s k) found false ≡ true → Moves plan s (option_map_or (started_in plan s k) found s)
+start_moves : (plan : PlanOf) (s : State) (k : ℕ) (found : Option PlayOf) → open_play plan s ≡ found → option_map_or (may_start_in s k) found false ≡ true → Moves s (option_map_or (started_in plan s k) found s)
 start_moves plan s k None o e = cc
 start_moves plan s k (Some play) o e = start_at_moves plan s k play s.place o (and_right (has_room s) _ e)
 
-send_moves : (plan : PlanOf) (s : State) (k item : ℕ) (ticket : Ticket) (found : Option PlayOf) → open_play plan s ≡ found → option_map_or (may_send_in s k item ticket) found false ≡ true → Moves plan s (option_map_or (sent_in s k ticket) found s)
+send_moves : (plan : PlanOf) (s : State) (k item : ℕ) (ticket : Ticket) (found : Option PlayOf) → open_play plan s ≡ found → option_map_or (may_send_in s k item ticket) found false ≡ true → Moves s (option_map_or (sent_in s k ticket) found s)
 send_moves plan s k item ticket None o e = cc
 send_moves plan s k item ticket (Some play) o e =
-    stays_in plan s (sent_in s k ticket play) play o refl refl
-    (λ h n w. change_keeps n play.tree (sent ticket) s.rows k h
+    stays_in s (sent_in s k ticket play) refl refl
+    (λ h n w. change_keeps n (sent ticket) s.rows k h
     (λ row is v. let at = found_test (may_send_item item) row (slice_get s.rows k) is (and_right (not s.stopped && nat_eq ticket.0 s.sends) _ e) in
-    sent_from n n play.tree ticket row (and_right (nat_eq item 0) (has_send row) at) (λ p here. let least = send_number n play.tree p item row at here v in omega (arith, least)) v)
+    sent_from n n ticket row (and_right (nat_eq item 0) (has_send row) at) (λ p here. let least = send_number n p item row at here v in omega (arith, least)) v)
     w)
 
-report_moves : (plan : PlanOf) (s : State) (r : Report) (found : Option PlayOf) → open_play plan s ≡ found → option_map_or (may_report_in s r) found false ≡ true → Moves plan s (option_map_or (reported_in s r) found s)
+report_moves : (plan : PlanOf) (s : State) (r : Report) (found : Option PlayOf) → open_play plan s ≡ found → option_map_or (may_report_in s r) found false ≡ true → Moves s (option_map_or (reported_in s r) found s)
 report_moves plan s r None o e = cc
 report_moves plan s r (Some play) o e =
-    stays_in plan s (reported_in s r play) play o refl refl
-    (λ h n w. change_keeps n play.tree (reported play.tree r.outcome) s.rows r.host.0 h (λ row is v. reported_from n play.tree r.outcome row v) w)
+    stays_in s (reported_in s r play) refl refl
+    (λ h n w. change_keeps n (reported r.outcome) s.rows r.host.0 h (λ row is v. reported_from n r.outcome row v) w)
 
-turn_moves : (plan : PlanOf) (s : State) (found : Option PlayOf) → Moves plan s (option_map_or (turned_in s) found s)
-turn_moves plan s None = same_rows plan s s refl refl refl
-turn_moves plan s (Some play) = same_rows plan s (turned_in s play) refl refl refl
+turn_moves : (plan : PlanOf) (s : State) (found : Option PlayOf) → Moves s (option_map_or (turned_in s) found s)
+turn_moves plan s None = same_rows s s refl refl refl
+turn_moves plan s (Some play) = same_rows s (turned_in s play) refl refl refl
 
-opened_moves : (plan : PlanOf) (s : State) (n : ℕ) (found : Option PlayOf) → s.is_open ≡ false → s.play ≤ n → Moves plan s (option_map_or (opened_in s n) found s)
-opened_moves plan s n None c l = same_rows plan s s refl refl refl
-opened_moves plan s n (Some play) c l = inr (inl (c, l, λ h tree. joined_from tree play.hosts 0 s.rows h))
+opened_moves : (plan : PlanOf) (s : State) (n : ℕ) (found : Option PlayOf) → s.is_open ≡ false → s.play ≤ n → Moves s (option_map_or (opened_in s n) found s)
+opened_moves plan s n None c l = same_rows s s refl refl refl
+opened_moves plan s n (Some play) c l = inr (inl (c, l, λ h. joined_from play.tree play.hosts 0 s.rows h))
 
-open_moves : (plan : PlanOf) (s : State) (next : Option ℕ) → next_play plan s ≡ next → s.is_open ≡ false → Moves plan s (option_map_or (opened_from plan s) next s)
-open_moves plan s None f c = same_rows plan s s refl refl refl
+open_moves : (plan : PlanOf) (s : State) (next : Option ℕ) → next_play plan s ≡ next → s.is_open ≡ false → Moves s (option_map_or (opened_from plan s) next s)
+open_moves plan s None f c = same_rows s s refl refl refl
 open_moves plan s (Some n) f c = opened_moves plan s n (slice_get plan.plays n) c (next_is plan s n f).least
 
 may_open_closed : (stopped opened ended more : Bool) → (not stopped && not opened && not ended && more) ≡ true → opened ≡ false
@@ -302,36 +274,36 @@ may_open_closed stopped true ended more e =
     absurd (let no = and_right (not stopped) false one in cc)
 may_open_closed stopped false ended more e = refl
 
-moves : (plan : PlanOf) (s : State) (e : Event) → possible plan s e ≡ true → Moves plan s (after plan s e)
+moves : (plan : PlanOf) (s : State) (e : Event) → possible plan s e ≡ true → Moves s (after plan s e)
 moves plan s Open p = open_moves plan s (next_play plan s) refl (may_open_closed s.stopped s.is_open s.ended _ p)
 moves plan s (Start host) p = start_moves plan s host.0 (open_play plan s) refl p
 moves plan s (Send host item ticket) p = send_moves plan s host.0 item ticket (open_play plan s) refl p
 moves plan s (Reported r) p = report_moves plan s r (open_play plan s) refl p
 moves plan s Turn p = turn_moves plan s (open_play plan s)
 moves plan s Close p = inr (inr (refl, refl))
-moves plan s Stop p = same_rows plan s (after plan s Stop) refl refl refl
-moves plan s (Forks n) p = same_rows plan s (after plan s (Forks n)) refl refl refl
+moves plan s Stop p = same_rows s (after plan s Stop) refl refl refl
+moves plan s (Forks n) p = same_rows s (after plan s (Forks n)) refl refl refl
 
 -- ---- starts
 none_same : (a : Option ℕ) → same_place a None ≡ false
 none_same (Some p) = refl
 none_same None = refl
 
-none_stands : (tree : TreeOf) (found : Option HostRow) → option_map_or (stands_at tree None) found false ≡ true → ⊥
-none_stands tree None e = cc
-none_stands tree (Some row) e = let same = and_right (not (is_running row)) _ e in let no = none_same (next_place tree row) in cc
+none_stands : (found : Option HostRow) → option_map_or (stands_at None) found false ≡ true → ⊥
+none_stands None e = cc
+none_stands (Some row) e = let same = and_right (not (is_running row)) _ e in let no = none_same (next_place row) in cc
 
 -- a start is at a place
-start_place_in : (s : State) (k : ℕ) (play : PlayOf) (place : Option ℕ) → at_row (stands_at play.tree place) s.rows k ≡ true → (p : ℕ) × (place ≡ Some p)
+start_place_in : (s : State) (k : ℕ) (play : PlayOf) (place : Option ℕ) → at_row (stands_at place) s.rows k ≡ true → (p : ℕ) × (place ≡ Some p)
 start_place_in s k play (Some p) e = (p, refl)
-start_place_in s k play None e = absurd (none_stands play.tree (slice_get s.rows k) e)
+start_place_in s k play None e = absurd (none_stands (slice_get s.rows k) e)
 
 start_place : (plan : PlanOf) (s : State) (k : ℕ) (found : Option PlayOf) → option_map_or (may_start_in s k) found false ≡ true → (p : ℕ) × (s.place ≡ Some p)
 start_place plan s k None e = cc
 start_place plan s k (Some play) e = start_place_in s k play s.place (and_right (has_room s) _ e)
 
 -- after a start the host is past it
-start_at_raises : (plan : PlanOf) (s : State) (k : ℕ) (play : PlayOf) (place : Option ℕ) (p : ℕ) → IsSound plan s → open_play plan s ≡ Some play → place ≡ Some p → at_row (stands_at play.tree place) s.rows k ≡ true → IsPast plan (option_map_or (start_at plan s k play) place s) k s.play (2 * p + 1)
+start_at_raises : (plan : PlanOf) (s : State) (k : ℕ) (play : PlayOf) (place : Option ℕ) (p : ℕ) → IsSound s → open_play plan s ≡ Some play → place ≡ Some p → at_row (stands_at place) s.rows k ≡ true → IsPast (option_map_or (start_at plan s k play) place s) k s.play (2 * p + 1)
 start_at_raises plan s k play None p w o f e = cc
 start_at_raises plan s k play (Some q) p w o f e =
     let same : q ≡ p = cc in
@@ -339,60 +311,57 @@ start_at_raises plan s k play (Some q) p w o f e =
     inr (
       refl,
       opened,
-      λ pl is. of_play plan s (start_at plan s k play q) k 0 (2 * p + 1) play o
-          (λ v. change_raises 0 (2 * p + 1) play.tree (started play.tree q (planned_at plan play k q)) s.rows k
-          (λ row here u. let at = found_test (stands_at play.tree (Some q)) row (slice_get s.rows k) here e in
-          started_from (2 * p + 1) play.tree q (planned_at plan play k q) row (stands play.tree q row at) (omega (arith, same)))
-          v) pl is (w opened k pl is),
+      change_raises 0 (2 * p + 1) (started q (planned_at plan play k q)) s.rows k
+          (λ row here u. let at = found_test (stands_at (Some q)) row (slice_get s.rows k) here e in
+          started_from (2 * p + 1) q (planned_at plan play k q) row (stands q row at) (omega (arith, same)))
+          (w opened k),
     )
 
-start_raises : (plan : PlanOf) (s : State) (k p : ℕ) (found : Option PlayOf) → IsSound plan s → open_play plan s ≡ found → s.place ≡ Some p → option_map_or (may_start_in s k) found false ≡ true → IsPast plan (option_map_or (started_in plan s k) found s) k s.play (2 * p + 1)
+start_raises : (plan : PlanOf) (s : State) (k p : ℕ) (found : Option PlayOf) → IsSound s → open_play plan s ≡ found → s.place ≡ Some p → option_map_or (may_start_in s k) found false ≡ true → IsPast (option_map_or (started_in plan s k) found s) k s.play (2 * p + 1)
 start_raises plan s k p None w o f e = cc
 start_raises plan s k p (Some play) w o f e = start_at_raises plan s k play s.place p w o f (and_right (has_room s) _ e)
 
 -- a host that is past a start doesn't start there
-found_start : (n : ℕ) (tree : TreeOf) (p : ℕ) (found : Option HostRow) → option_map_or (stands_at tree (Some p)) found false ≡ true → FoundFrom n tree found → n ≤ 2 * p
-found_start n tree p None e w = cc
-found_start n tree p (Some row) e w = start_number n tree p row e w
+found_start : (n p : ℕ) (found : Option HostRow) → option_map_or (stands_at (Some p)) found false ≡ true → FoundFrom n found → n ≤ 2 * p
+found_start n p None e w = cc
+found_start n p (Some row) e w = start_number n p row e w
 
-start_least : (plan : PlanOf) (s : State) (k n p : ℕ) (found : Option PlayOf) → open_play plan s ≡ found → s.place ≡ Some p → option_map_or (may_start_in s k) found false ≡ true → HostFrom plan s k n → n ≤ 2 * p
-start_least plan s k n p None o f e w = cc
-start_least plan s k n p (Some play) o f e w =
-    found_start n play.tree p (slice_get s.rows k)
-    (subst (λ (place : Option ℕ). at_row (stands_at play.tree place) s.rows k ≡ true) f (and_right (has_room s) _ e))
-    (w play (opened_at (slice_get plan.plays s.play) s.is_open play o))
+start_least : (s : State) (k n p : ℕ) (found : Option PlayOf) → s.place ≡ Some p → option_map_or (may_start_in s k) found false ≡ true → FoundFrom n (slice_get s.rows k) → n ≤ 2 * p
+start_least s k n p None f e w = cc
+start_least s k n p (Some play) f e w =
+    found_start n p (slice_get s.rows k) (subst (λ (place : Option ℕ). at_row (stands_at place) s.rows k ≡ true) f (and_right (has_room s) _ e)) w
 
-start_again : (plan : PlanOf) (s : State) (h play p : ℕ) (k : HostNo) → h ≡ k.0 → play ≡ s.play → s.place ≡ Some p → possible plan s (Start k) ≡ true → IsPast plan s h play (2 * p + 1) → ⊥
+start_again : (plan : PlanOf) (s : State) (h play p : ℕ) (k : HostNo) → h ≡ k.0 → play ≡ s.play → s.place ≡ Some p → possible plan s (Start k) ≡ true → IsPast s h play (2 * p + 1) → ⊥
 start_again plan s h play p k same now here e (inl l) = omega (arith, l, now)
 start_again plan s h play p k same now here e (inr w) =
-    let least = start_least plan s k.0 (2 * p + 1) p (open_play plan s) refl here e (subst (λ (j : ℕ). HostFrom plan s j (2 * p + 1)) same w.2) in
+    let least = start_least s k.0 (2 * p + 1) p (open_play plan s) here e (subst (λ (j : ℕ). FoundFrom (2 * p + 1) (slice_get s.rows j)) same w.2) in
     omega (arith, least)
 
-other_start : (plan : PlanOf) (s : State) (x : StartOf) (p : ℕ) (k : HostNo) → x.place ≡ Some p → possible plan s (Start k) ≡ true → IsPast plan s x.host.0 x.play (2 * p + 1) → x ≢ record { host = k; play = s.play; place = s.place }
+other_start : (plan : PlanOf) (s : State) (x : StartOf) (p : ℕ) (k : HostNo) → x.place ≡ Some p → possible plan s (Start k) ≡ true → IsPast s x.host.0 x.play (2 * p + 1) → x ≢ record { host = k; play = s.play; place = s.place }
 other_start plan s x p k at e w = λ same.
     start_again plan s x.host.0 x.play p k (ap (λ (y : StartOf). y.host.0) same) (ap (λ (y : StartOf). y.play) same) (sym (ap (λ (y : StartOf). y.place) same) ∙ at) e w
 
-later_starts : (plan : PlanOf) (s : State) (x : StartOf) (p : ℕ) (es : List Event) → x.place ≡ Some p → legal_from plan s es ≡ true → IsPast plan s x.host.0 x.play (2 * p + 1) → IsNotIn x (starts_from plan s es)
+later_starts : (plan : PlanOf) (s : State) (x : StartOf) (p : ℕ) (es : List Event) → x.place ≡ Some p → legal_from plan s es ≡ true → IsPast s x.host.0 x.play (2 * p + 1) → IsNotIn x (starts_from plan s es)
 later_starts plan s x p [] at l w = tt
 later_starts plan s x p (Start k ∷ es) at l w =
     let now = and_left (possible plan s (Start k)) _ l in (
       other_start plan s x p k at now w,
-      later_starts plan (after plan s (Start k)) x p es at (and_right (possible plan s (Start k)) _ l) (past_kept plan s (after plan s (Start k)) x.host.0 x.play (2 * p + 1) (moves plan s (Start k) now) w),
+      later_starts plan (after plan s (Start k)) x p es at (and_right (possible plan s (Start k)) _ l) (past_kept s (after plan s (Start k)) x.host.0 x.play (2 * p + 1) (moves plan s (Start k) now) w),
     )
 later_starts plan s x p (e ∷ es) at l w =
-    later_starts plan (after plan s e) x p es at (and_right (possible plan s e) _ l) (past_kept plan s (after plan s e) x.host.0 x.play (2 * p + 1) (moves plan s e (and_left (possible plan s e) _ l)) w)
+    later_starts plan (after plan s e) x p es at (and_right (possible plan s e) _ l) (past_kept s (after plan s e) x.host.0 x.play (2 * p + 1) (moves plan s e (and_left (possible plan s e) _ l)) w)
 
-starts_once : (plan : PlanOf) (s : State) (es : List Event) → IsSound plan s → legal_from plan s es ≡ true → NoTwice (starts_from plan s es)
+starts_once : (plan : PlanOf) (s : State) (es : List Event) → IsSound s → legal_from plan s es ≡ true → NoTwice (starts_from plan s es)
 starts_once plan s [] w l = tt
 starts_once plan s (Start k ∷ es) w l =
     let now = and_left (possible plan s (Start k)) _ l in
     let rest = and_right (possible plan s (Start k)) _ l in
     let at = start_place plan s k.0 (open_play plan s) now in (
       later_starts plan (after plan s (Start k)) (record { host = k; play = s.play; place = s.place }) at.0 es at.1 rest (start_raises plan s k.0 at.0 (open_play plan s) w refl at.1 now),
-      starts_once plan (after plan s (Start k)) es (sound_kept plan s (after plan s (Start k)) (moves plan s (Start k) now) w) rest,
+      starts_once plan (after plan s (Start k)) es (sound_kept s (after plan s (Start k)) (moves plan s (Start k) now) w) rest,
     )
 starts_once plan s (e ∷ es) w l =
-    starts_once plan (after plan s e) es (sound_kept plan s (after plan s e) (moves plan s e (and_left (possible plan s e) _ l)) w) (and_right (possible plan s e) _ l)
+    starts_once plan (after plan s e) es (sound_kept s (after plan s e) (moves plan s e (and_left (possible plan s e) _ l)) w) (and_right (possible plan s e) _ l)
 
 -- ---- sends
 -- a send is at a place
@@ -416,65 +385,63 @@ found_place row p None is e = cc
 found_place row p (Some r) is e = let same : r ≡ row = cc in rw (← same) e
 
 -- after a send the host is past it
-send_raises : (plan : PlanOf) (s : State) (k : HostNo) (item p : ℕ) (ticket : Ticket) (found : Option PlayOf) → IsSound plan s → open_play plan s ≡ found → place_run_by s k ≡ Some p → option_map_or (may_send_in s k.0 item ticket) found false ≡ true → IsPast plan (option_map_or (sent_in s k.0 ticket) found s) k.0 s.play (2 * p + 2)
+send_raises : (plan : PlanOf) (s : State) (k : HostNo) (item p : ℕ) (ticket : Ticket) (found : Option PlayOf) → IsSound s → open_play plan s ≡ found → place_run_by s k ≡ Some p → option_map_or (may_send_in s k.0 item ticket) found false ≡ true → IsPast (option_map_or (sent_in s k.0 ticket) found s) k.0 s.play (2 * p + 2)
 send_raises plan s k item p ticket None w o f e = cc
 send_raises plan s k item p ticket (Some play) w o f e =
     let opened = is_opened plan s s.is_open play refl o in
     inr (
       refl,
       opened,
-      λ pl is. of_play plan s (sent_in s k.0 ticket play) k.0 0 (2 * p + 2) play o
-          (λ v. change_raises 0 (2 * p + 2) play.tree (sent ticket) s.rows k.0
+      change_raises 0 (2 * p + 2) (sent ticket) s.rows k.0
           (λ row here u. let at = found_test (may_send_item item) row (slice_get s.rows k.0) here (send_test s k.0 item ticket play e) in
           let runs : running_place row ≡ Some p = found_place row p (slice_get s.rows k.0) here f in
-          sent_from 0 (2 * p + 2) play.tree ticket row (and_right (nat_eq item 0) (has_send row) at) (λ q there. let same : q ≡ p = cc in omega (arith, same)) u)
-          v) pl is (w opened k.0 pl is),
+          sent_from 0 (2 * p + 2) ticket row (and_right (nat_eq item 0) (has_send row) at) (λ q there. let same : q ≡ p = cc in omega (arith, same)) u)
+          (w opened k.0),
     )
 
 -- a host that is past a send doesn't send there
-send_least_in : (n : ℕ) (tree : TreeOf) (p item : ℕ) (found : Option HostRow) → option_map_or (may_send_item item) found false ≡ true → option_map_or running_place found None ≡ Some p → FoundFrom n tree found → n ≤ 2 * p + 1
-send_least_in n tree p item None e f w = cc
-send_least_in n tree p item (Some row) e f w = send_number n tree p item row e f w
+send_least_in : (n p item : ℕ) (found : Option HostRow) → option_map_or (may_send_item item) found false ≡ true → option_map_or running_place found None ≡ Some p → FoundFrom n found → n ≤ 2 * p + 1
+send_least_in n p item None e f w = cc
+send_least_in n p item (Some row) e f w = send_number n p item row e f w
 
-send_least : (plan : PlanOf) (s : State) (k : HostNo) (item n p : ℕ) (ticket : Ticket) (found : Option PlayOf) → open_play plan s ≡ found → place_run_by s k ≡ Some p → option_map_or (may_send_in s k.0 item ticket) found false ≡ true → HostFrom plan s k.0 n → n ≤ 2 * p + 1
-send_least plan s k item n p ticket None o f e w = cc
-send_least plan s k item n p ticket (Some play) o f e w =
-    send_least_in n play.tree p item (slice_get s.rows k.0) (send_test s k.0 item ticket play e) f (w play (opened_at (slice_get plan.plays s.play) s.is_open play o))
+send_least : (s : State) (k : HostNo) (item n p : ℕ) (ticket : Ticket) (found : Option PlayOf) → place_run_by s k ≡ Some p → option_map_or (may_send_in s k.0 item ticket) found false ≡ true → FoundFrom n (slice_get s.rows k.0) → n ≤ 2 * p + 1
+send_least s k item n p ticket None f e w = cc
+send_least s k item n p ticket (Some play) f e w = send_least_in n p item (slice_get s.rows k.0) (send_test s k.0 item ticket play e) f w
 
-send_again : (plan : PlanOf) (s : State) (h play p item : ℕ) (k : HostNo) (ticket : Ticket) → h ≡ k.0 → play ≡ s.play → place_run_by s k ≡ Some p → possible plan s (Send k item ticket) ≡ true → IsPast plan s h play (2 * p + 2) → ⊥
+send_again : (plan : PlanOf) (s : State) (h play p item : ℕ) (k : HostNo) (ticket : Ticket) → h ≡ k.0 → play ≡ s.play → place_run_by s k ≡ Some p → possible plan s (Send k item ticket) ≡ true → IsPast s h play (2 * p + 2) → ⊥
 send_again plan s h play p item k ticket same now here e (inl l) = omega (arith, l, now)
 send_again plan s h play p item k ticket same now here e (inr w) =
-    let least = send_least plan s k item (2 * p + 2) p ticket (open_play plan s) refl here e (subst (λ (j : ℕ). HostFrom plan s j (2 * p + 2)) same w.2) in
+    let least = send_least s k item (2 * p + 2) p ticket (open_play plan s) here e (subst (λ (j : ℕ). FoundFrom (2 * p + 2) (slice_get s.rows j)) same w.2) in
     omega (arith, least)
 
-other_send : (plan : PlanOf) (s : State) (x : SendOf) (p item : ℕ) (k : HostNo) (ticket : Ticket) → x.place ≡ Some p → possible plan s (Send k item ticket) ≡ true → IsPast plan s x.host.0 x.play (2 * p + 2) → x ≢ record { host = k; play = s.play; place = place_run_by s k; item = item }
+other_send : (plan : PlanOf) (s : State) (x : SendOf) (p item : ℕ) (k : HostNo) (ticket : Ticket) → x.place ≡ Some p → possible plan s (Send k item ticket) ≡ true → IsPast s x.host.0 x.play (2 * p + 2) → x ≢ record { host = k; play = s.play; place = place_run_by s k; item = item }
 other_send plan s x p item k ticket at e w = λ same.
     send_again plan s x.host.0 x.play p item k ticket (ap (λ (y : SendOf). y.host.0) same) (ap (λ (y : SendOf). y.play) same) (sym (ap (λ (y : SendOf). y.place) same) ∙ at) e w
 
-later_sends : (plan : PlanOf) (s : State) (x : SendOf) (p : ℕ) (es : List Event) → x.place ≡ Some p → legal_from plan s es ≡ true → IsPast plan s x.host.0 x.play (2 * p + 2) → IsNotIn x (sends_from plan s es)
+later_sends : (plan : PlanOf) (s : State) (x : SendOf) (p : ℕ) (es : List Event) → x.place ≡ Some p → legal_from plan s es ≡ true → IsPast s x.host.0 x.play (2 * p + 2) → IsNotIn x (sends_from plan s es)
 later_sends plan s x p [] at l w = tt
 later_sends plan s x p (Send k item ticket ∷ es) at l w =
     let now = and_left (possible plan s (Send k item ticket)) _ l in (
       other_send plan s x p item k ticket at now w,
-      later_sends plan (after plan s (Send k item ticket)) x p es at (and_right (possible plan s (Send k item ticket)) _ l) (past_kept plan s (after plan s (Send k item ticket)) x.host.0 x.play (2 * p + 2) (moves plan s (Send k item ticket) now) w),
+      later_sends plan (after plan s (Send k item ticket)) x p es at (and_right (possible plan s (Send k item ticket)) _ l) (past_kept s (after plan s (Send k item ticket)) x.host.0 x.play (2 * p + 2) (moves plan s (Send k item ticket) now) w),
     )
 later_sends plan s x p (e ∷ es) at l w =
-    later_sends plan (after plan s e) x p es at (and_right (possible plan s e) _ l) (past_kept plan s (after plan s e) x.host.0 x.play (2 * p + 2) (moves plan s e (and_left (possible plan s e) _ l)) w)
+    later_sends plan (after plan s e) x p es at (and_right (possible plan s e) _ l) (past_kept s (after plan s e) x.host.0 x.play (2 * p + 2) (moves plan s e (and_left (possible plan s e) _ l)) w)
 
-sends_once : (plan : PlanOf) (s : State) (es : List Event) → IsSound plan s → legal_from plan s es ≡ true → NoTwice (sends_from plan s es)
+sends_once : (plan : PlanOf) (s : State) (es : List Event) → IsSound s → legal_from plan s es ≡ true → NoTwice (sends_from plan s es)
 sends_once plan s [] w l = tt
 sends_once plan s (Send k item ticket ∷ es) w l =
     let now = and_left (possible plan s (Send k item ticket)) _ l in
     let rest = and_right (possible plan s (Send k item ticket)) _ l in
     let at = send_place s k item ticket (open_play plan s) now in (
       later_sends plan (after plan s (Send k item ticket)) (record { host = k; play = s.play; place = place_run_by s k; item = item }) at.0 es at.1 rest (send_raises plan s k item at.0 ticket (open_play plan s) w refl at.1 now),
-      sends_once plan (after plan s (Send k item ticket)) es (sound_kept plan s (after plan s (Send k item ticket)) (moves plan s (Send k item ticket) now) w) rest,
+      sends_once plan (after plan s (Send k item ticket)) es (sound_kept s (after plan s (Send k item ticket)) (moves plan s (Send k item ticket) now) w) rest,
     )
 sends_once plan s (e ∷ es) w l =
-    sends_once plan (after plan s e) es (sound_kept plan s (after plan s e) (moves plan s e (and_left (possible plan s e) _ l)) w) (and_right (possible plan s e) _ l)
+    sends_once plan (after plan s e) es (sound_kept s (after plan s e) (moves plan s e (and_left (possible plan s e) _ l)) w) (and_right (possible plan s e) _ l)
 
 -- ---- runs
-first_sound : (plan : PlanOf) (forks pool : ℕ) → IsSound plan (first_state plan forks pool)
+first_sound : (plan : PlanOf) (forks pool : ℕ) → IsSound (first_state plan forks pool)
 first_sound plan forks pool = λ o. cc
 
 pub nothing_twice : NothingTwice

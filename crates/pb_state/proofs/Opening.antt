@@ -1,9 +1,9 @@
 -- The play that opens next, and the hosts as its batch opens.
-use Rattle.std.proofs.Common.{◌≡◌, ℕ, zero, suc, ◌+◌, ◌<◌, ◌≤◌, Bool, true, false, List, [], ◌∷◌, ◌++◌, length, take, drop, set, get_or, refl, sym, ◌∙◌, ap, arith, append_assoc, length-take}
+use Rattle.std.proofs.Common.{◌≡◌, ℕ, zero, suc, ◌+◌, ◌<◌, ◌≤◌, Bool, true, false, List, [], ◌∷◌, ◌++◌, length, take, drop, get_or, refl, sym, ◌∙◌, ap, arith, length-take}
 use Rattle.std.specs.Prelude.{Some, slice_get, if◌then◌else◌}
-use Rattle.std.proofs.lemmas.List.{drop_more, set_at, take_more}
-use Rattle.std.proofs.Math.Seq.{get_or-append_seam}
+use Rattle.std.proofs.lemmas.List.{take_more}
 use Rattle.pb_planes.specs.Set.{is_in as is_member}
+use Rattle.pb_tree.specs.Tree.{TreeOf}
 use Rattle.pb_plan.specs.Plan.{PlayOf, PlanOf}
 use Rattle.pb_state.specs.Row.{HostRow, joined}
 use Rattle.pb_state.specs.State.{State}
@@ -49,32 +49,26 @@ next_is plan s n e =
     }
 
 -- the hosts of a batch are all hosts
-pub length-joined : (hosts : List Bool) (h : ℕ) (rows : List HostRow) → length (joined_in hosts h rows) ≡ length rows
-length-joined hosts h [] = refl
-length-joined hosts h (row ∷ rows) = ap suc (length-joined hosts (h + 1) rows)
+pub length-joined : (tree : TreeOf) (hosts : List Bool) (h : ℕ) (rows : List HostRow) → length (joined_in tree hosts h rows) ≡ length rows
+length-joined tree hosts h [] = refl
+length-joined tree hosts h (row ∷ rows) = ap suc (length-joined tree hosts (h + 1) rows)
 
-joined_append : (hosts : List Bool) (h : ℕ) (front back : List HostRow) → joined_in hosts h (front ++ back) ≡ joined_in hosts h front ++ joined_in hosts (h + length front) back
-joined_append hosts h [] back = ap (λ n. joined_in hosts n back) (let same : h ≡ h + 0 = omega arith in same)
-joined_append hosts h (row ∷ front) back =
-    ap (λ rest. joined (is_member hosts h) row ∷ rest)
-    (joined_append hosts (h + 1) front back ∙ ap (λ n. joined_in hosts (h + 1) front ++ joined_in hosts n back) (let same : (h + 1) + length front ≡ h + suc (length front) = omega arith in same))
+joined_append : (tree : TreeOf) (hosts : List Bool) (h : ℕ) (front back : List HostRow) → joined_in tree hosts h (front ++ back) ≡ joined_in tree hosts h front ++ joined_in tree hosts (h + length front) back
+joined_append tree hosts h [] back = ap (λ n. joined_in tree hosts n back) (let same : h ≡ h + 0 = omega arith in same)
+joined_append tree hosts h (row ∷ front) back =
+    ap (λ rest. joined tree (is_member hosts h) row ∷ rest)
+    (joined_append tree hosts (h + 1) front back ∙ ap (λ n. joined_in tree hosts (h + 1) front ++ joined_in tree hosts n back) (let same : (h + 1) + length front ≡ h + suc (length front) = omega arith in same))
 
-front_more : (hosts : List Bool) (rows : List HostRow) (i : ℕ) (row : HostRow) → i < length rows → joined_in hosts 0 (take (i + 1) rows) ≡ joined_in hosts 0 (take i rows) ++ joined (is_member hosts i) (get_or rows i row) ∷ []
-front_more hosts rows i row inside =
+front_more : (tree : TreeOf) (hosts : List Bool) (rows : List HostRow) (i : ℕ) (row : HostRow) → i < length rows → joined_in tree hosts 0 (take (i + 1) rows) ≡ joined_in tree hosts 0 (take i rows) ++ joined tree (is_member hosts i) (get_or rows i row) ∷ []
+front_more tree hosts rows i row inside =
     let width : 0 + length (take i rows) ≡ i = simp length-take (omega arith) in
-    ap (joined_in hosts 0) (take_more rows i row inside)
-    ∙ joined_append hosts 0 (take i rows) (get_or rows i row ∷ [])
-    ∙ ap (λ n. joined_in hosts 0 (take i rows) ++ joined (is_member hosts n) (get_or rows i row) ∷ []) width
+    ap (joined_in tree hosts 0) (take_more rows i row inside)
+    ∙ joined_append tree hosts 0 (take i rows) (get_or rows i row ∷ [])
+    ∙ ap (λ n. joined_in tree hosts 0 (take i rows) ++ joined tree (is_member hosts n) (get_or rows i row) ∷ []) width
 
 -- one host more joins
-pub joined_more : (hosts : List Bool) (rows new : List HostRow) (i : ℕ) (row : HostRow) → i < length rows → new ≡ joined_in hosts 0 (take i rows) ++ drop i rows → row ≡ get_or new i row → set new i (joined (is_member hosts i) row) ≡ joined_in hosts 0 (take (i + 1) rows) ++ drop (i + 1) rows
-joined_more hosts rows new i row inside told e =
-    let front : List HostRow = joined_in hosts 0 (take i rows) in
-    let width : length front ≡ i = length-joined hosts 0 (take i rows) ∙ simp length-take (omega arith) in
-    let now : new ≡ front ++ get_or rows i row ∷ drop (i + 1) rows = told ∙ ap (λ t. front ++ t) (drop_more rows i row inside) in
-    let same : row ≡ get_or rows i row = e ∙ ap (λ t. get_or t i row) now ∙ ap (λ n. get_or (front ++ get_or rows i row ∷ drop (i + 1) rows) n row) (sym width) ∙ get_or-append_seam front (get_or rows i row) (drop (i + 1) rows) row in
-    ap (λ t. set t i (joined (is_member hosts i) row)) now
-    ∙ set_at front (get_or rows i row) (drop (i + 1) rows) (joined (is_member hosts i) row) i width
-    ∙ ap (λ r. front ++ joined (is_member hosts i) r ∷ drop (i + 1) rows) same
-    ∙ sym (append_assoc front (joined (is_member hosts i) (get_or rows i row) ∷ []) (drop (i + 1) rows))
-    ∙ ap (λ t. t ++ drop (i + 1) rows) (sym (front_more hosts rows i row inside))
+pub one_more_joins : (tree : TreeOf) (hosts : List Bool) (rows all : List HostRow) (i : ℕ) (row : HostRow) → i < length rows → all ≡ joined_in tree hosts 0 (take i rows) → row ≡ get_or rows i row → all ++ joined tree (is_member hosts i) row ∷ [] ≡ joined_in tree hosts 0 (take (i + 1) rows)
+one_more_joins tree hosts rows all i row inside e is =
+    ap (λ t. t ++ joined tree (is_member hosts i) row ∷ []) e
+    ∙ ap (λ r. joined_in tree hosts 0 (take i rows) ++ joined tree (is_member hosts i) r ∷ []) is
+    ∙ sym (front_more tree hosts rows i row inside)

@@ -33,7 +33,7 @@ same_sends old new h f s = record { hosts = h; forks = f; least = omega (arith, 
 
 opened_keeps : (s : State) (n : ℕ) (found : Option PlayOf) → Keeps s (option_map_or (opened_in s n) found s)
 opened_keeps s n None = same_sends s s refl refl refl
-opened_keeps s n (Some play) = same_sends s (opened_in s n play) (length-joined play.hosts 0 s.rows) refl refl
+opened_keeps s n (Some play) = same_sends s (opened_in s n play) (length-joined play.tree play.hosts 0 s.rows) refl refl
 
 open_keeps : (plan : PlanOf) (s : State) (next : Option ℕ) → Keeps s (option_map_or (opened_at plan s) next s)
 open_keeps plan s None = same_sends s s refl refl refl

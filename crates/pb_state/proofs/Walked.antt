@@ -1,5 +1,5 @@
 -- What the walk of a host allows.
-use Rattle.std.proofs.Common.{◌≡◌, ℕ, ◌+◌, ◌<◌, Bool, true, false, ◌&&◌, not, List, [], ◌∷◌, ◌++◌, length, refl, sym, ap, arith}
+use Rattle.std.proofs.Common.{◌≡◌, ℕ, ◌+◌, ◌<◌, Bool, true, false, ◌&&◌, not, List, [], ◌∷◌, ◌++◌, length, refl, sym, ◌∙◌, ap, arith}
 use Rattle.std.specs.Prelude.{Option, Some, None, if◌then◌else◌}
 use Rattle.std.proofs.lemmas.Bool.{eqb-true}
 use Rattle.pb_tree.specs.declared.tree.Reach.{Reach}
@@ -8,10 +8,11 @@ use Rattle.pb_tree.specs.declared.answer.Kind.TheVariants.{Gone}
 use Rattle.pb_outcome.specs.declared.gather.TaskResult.{TaskResult}
 use Rattle.pb_tree.specs.Tree.{TreeOf, size_of}
 use Rattle.pb_tree.specs.Answer.{AnswerOf}
-use Rattle.pb_tree.specs.Walk.{reach, one_halted, without_halted, is_halted}
+use Rattle.pb_tree.specs.declared.tree.Status.{Status}
+use Rattle.pb_tree.specs.Walk.{reach, status_of, one_halted, without_halted, is_halted}
 use Rattle.pb_tree.proofs.Rise.{places_bounded}
-use Rattle.pb_state.specs.Row.{HostRow, kind_of, failed_kind, answer_of}
-use Rattle.pb_state.specs.Machine.{next_place, place_of, same_place, stands_at, is_in, is_running}
+use Rattle.pb_state.specs.Row.{HostRow, kind_of, failed_kind, answer_of, is_active, place_of, next_place, unforced, status_at}
+use Rattle.pb_state.specs.Machine.{same_place, stands_at, is_running}
 
 -- the walk takes an answer at most for each place
 pub at_below : (tree : TreeOf) (answers : List AnswerOf) (p : ℕ) → reach tree answers ≡ At p → length (one_halted answers) < size_of tree
@@ -61,7 +62,28 @@ and_right true b e = e
 and_right false b e = cc
 
 -- a host that stands somewhere has answers to give
-pub stands_below : (tree : TreeOf) (place : Option ℕ) (row : HostRow) → stands_at tree place row ≡ true → length (one_halted row.answers) < size_of tree
-stands_below tree place row e =
-    let stood = same_is (next_place tree row) place (and_right (not (is_running row)) _ e) in
-    at_below tree row.answers stood.0 (place_at (reach tree row.answers) (is_in row) stood.0 stood.1)
+pub stands_below : (place : Option ℕ) (row : HostRow) → stands_at place row ≡ true → length (one_halted row.answers) < size_of row.tree
+stands_below place row e =
+    let stood = same_is (next_place row) place (and_right (not (is_running row)) _ e) in
+    at_below row.tree row.answers stood.0 (place_at (reach row.tree row.answers) row.in_batch stood.0 stood.1)
+
+-- and is in the batch
+in_if : (b : Bool) (next : Option ℕ) (p : ℕ) → (if b then next else None) ≡ Some p → b ≡ true
+in_if true next p e = refl
+in_if false next p e = cc
+
+pub stands_in : (place : Option ℕ) (row : HostRow) → stands_at place row ≡ true → row.in_batch ≡ true
+stands_in place row e =
+    let stood = same_is (next_place row) place (and_right (not (is_running row)) _ e) in
+    in_if row.in_batch (place_of (reach row.tree row.answers)) stood.0 stood.1
+
+-- where no handlers are forced, a status is what it would be if none were
+unforced_is : (tree : TreeOf) → tree.force_handlers ≡ false → unforced tree ≡ tree
+unforced_is tree e = λ i. record { nodes = tree.nodes; handlers = tree.handlers; force_handlers = sym e i }
+
+either_way : (b : Bool) (s t : Status) → s ≡ t → t ≡ (if b then s else t)
+either_way true s t e = sym e
+either_way false s t e = refl
+
+pub unforced_status : (tree : TreeOf) (answers : List AnswerOf) → tree.force_handlers ≡ false → status_of tree answers ≡ status_at tree answers
+unforced_status tree answers e = either_way (is_active (status_of tree answers)) (status_of (unforced tree) answers) (status_of tree answers) (ap (λ (t : TreeOf). status_of t answers) (unforced_is tree e))

@@ -1,6 +1,6 @@
 -- Each step keeps the state's numbers within their bounds.
 use Rattle.std.proofs.Common.{◌≡◌, ℕ, zero, suc, ◌+◌, ◌-◌, ◌*◌, ◌^◌, ◌<◌, ◌≤◌, Bool, true, false, ◌&&◌, List, [], ◌∷◌, length, map, replicate, refl, ap, subst, arith, suc-mul}
-use Rattle.std.specs.Prelude.{Option, Some, None, IfSome, slice_get, sum_by, option_map, is_none, not, ◌==◌}
+use Rattle.std.specs.Prelude.{Option, Some, None, IfSome, slice_get, sum_by, option_map, is_none, not, ◌==◌, if◌then◌else◌}
 use Rattle.std.specs.Option.{option_map_or}
 use Rattle.std.proofs.lemmas.List.{length-map, length-replicate}
 use Rattle.std.proofs.lemmas.List.Sums.{sum_by-cons}
@@ -14,11 +14,11 @@ use Rattle.pb_tree.specs.Walk.{one_halted}
 use Rattle.pb_items.specs.declared.planned.Planned.TheVariants.{Sends}
 use Rattle.pb_state.specs.declared.row.Counts.{Counts}
 use Rattle.pb_state.specs.declared.row.Running.{Running}
-use Rattle.pb_state.specs.Row.{HostRow, first_row, joined, left, finished, started, sent, sent_running, reported, reported_running, counted, more, task_of, item_of}
+use Rattle.pb_state.specs.Row.{HostRow, no_tree, first_row, joins, joined, left, finished, started, sent, sent_running, reported, reported_running, counted, more, task_of, item_of}
 use Rattle.pb_state.specs.Machine.{change, at_row, stands_at, awaits, may_send_item, is_running, joined_in}
 use Rattle.pb_state.specs.Bounds.{IsAtMost, run_places, out_jobs, running_jobs, IsWithin, AllWithin, most_jobs, IsBounded}
 use Rattle.pb_state.proofs.Opening.{length-joined}
-use Rattle.pb_state.proofs.Walked.{stands_below, one_halted_answer}
+use Rattle.pb_state.proofs.Walked.{stands_below, stands_in, one_halted_answer}
 
 -- counts
 more_at_most : (b : Bool) (n m : ℕ) → n ≤ m → more b n ≤ m + 1
@@ -103,34 +103,34 @@ none_running : (row : HostRow) (found : Option Running) → row.running ≡ foun
 none_running row None e n = e
 none_running row (Some r) e n = let yes : is_running row ≡ true = rw e refl in cc
 
-finished_within : (play : ℕ) (tree : TreeOf) (p : ℕ) (task : TaskResult) (row : HostRow) → length (one_halted row.answers) < 16384 → IsWithin true play row → IsWithin true play (finished tree p task row)
-finished_within play tree p task row b w =
+finished_within : (play p : ℕ) (task : TaskResult) (row : HostRow) → length (one_halted row.answers) < 16384 → IsWithin true play row → IsWithin true play (finished p task row)
+finished_within play p task row b w =
     let more = one_halted_answer row.answers task in
-    (at_most_to (counted task row.counts) _ _ (omega (arith, more)) (counted_at_most task row.counts _ w.0), omega (arith, more, b))
+    (at_most_to (counted task row.counts) _ _ (omega (arith, more)) (counted_at_most task row.counts _ w.0), omega (arith, more, b), w.2)
 
 -- a host that starts has a place left
-start_left : (tree : TreeOf) (place : Option ℕ) (row : HostRow) → size_of tree ≤ 16384 → stands_at tree place row ≡ true → length (one_halted row.answers) < 16384
-start_left tree place row s e = omega (arith, s, stands_below tree place row e)
+start_left : (place : Option ℕ) (row : HostRow) → size_of row.tree ≤ 16384 → stands_at place row ≡ true → length (one_halted row.answers) < 16384
+start_left place row s e = omega (arith, s, stands_below place row e)
 
 not_true : (b : Bool) → not b ≡ true → b ≡ false
 not_true true e = cc
 not_true false e = refl
 
-stands_idle : (tree : TreeOf) (place : Option ℕ) (row : HostRow) → stands_at tree place row ≡ true → row.running ≡ None
-stands_idle tree place row e = none_running row row.running refl (not_true (is_running row) (and_left (not (is_running row)) _ e))
+stands_idle : (place : Option ℕ) (row : HostRow) → stands_at place row ≡ true → row.running ≡ None
+stands_idle place row e = none_running row row.running refl (not_true (is_running row) (and_left (not (is_running row)) _ e))
 
-finish_keeps : (play : ℕ) (tree : TreeOf) (place : Option ℕ) (p : ℕ) (task : TaskResult) → size_of tree ≤ 16384 → Keeps play (finished tree p task) (stands_at tree place) 0
-finish_keeps play tree place p task s =
+finish_keeps : (play : ℕ) (place : Option ℕ) (p : ℕ) (task : TaskResult) → Keeps play (finished p task) (stands_at place) 0
+finish_keeps play place p task =
     record {
-      within = λ row e w. finished_within play tree p task row (start_left tree place row s e) w;
-      jobs = λ row e. let more = one_halted_answer row.answers task in let idle = stands_idle tree place row e in rw idle (omega (arith, more));
+      within = λ row e w. finished_within play p task row (start_left place row w.2 e) w;
+      jobs = λ row e. let more = one_halted_answer row.answers task in let idle = stands_idle place row e in rw idle (omega (arith, more));
     }
 
-begin_keeps : (play : ℕ) (tree : TreeOf) (place : Option ℕ) (p : ℕ) (call : Call) → size_of tree ≤ 16384 → Keeps play (started tree p (Sends call)) (stands_at tree place) 0
-begin_keeps play tree place p call s =
+begin_keeps : (play : ℕ) (place : Option ℕ) (p : ℕ) (call : Call) → Keeps play (started p (Sends call)) (stands_at place) 0
+begin_keeps play place p call =
     record {
-      within = λ row e w. (w.0, omega (arith, start_left tree place row s e));
-      jobs = λ row e. let idle = stands_idle tree place row e in rw idle (omega arith);
+      within = λ row e w. (w.0, omega (arith, start_left place row w.2 e), w.2);
+      jobs = λ row e. let idle = stands_idle place row e in rw idle (omega arith);
     }
 
 -- a host that has a job to send runs, and no job of it is out
@@ -149,29 +149,29 @@ one_more_out ticket (Some r) e = out r.out e
 send_keeps : (play item : ℕ) (ticket : Ticket) → Keeps play (sent ticket) (may_send_item item) 1
 send_keeps play item ticket =
     record {
-      within = λ row e w. (w.0, rw (sent_runs ticket row.running) w.1);
+      within = λ row e w. (w.0, rw (sent_runs ticket row.running) w.1, w.2);
       jobs = λ row e. let more = one_more_out ticket row.running (and_right (item == 0) _ e) in omega (arith, more);
     }
 
 -- a host whose job is out runs
-report_keeps : (play item : ℕ) (tree : TreeOf) (outcome : Form) (ticket : Ticket) → Keeps play (reported tree outcome) (awaits ticket item) 0
-report_keeps play item tree outcome ticket =
+report_keeps : (play item : ℕ) (outcome : Form) (ticket : Ticket) → Keeps play (reported outcome) (awaits ticket item) 0
+report_keeps play item outcome ticket =
     record {
       within = λ row e w. reported_within row row.running refl w;
       jobs = λ row e. reported_jobs row row.running refl;
     }
   where
-    reported_within : (row : HostRow) (found : Option Running) → row.running ≡ found → IsWithin true play row → IsWithin true play (option_map_or (reported_running tree outcome row) found row)
+    reported_within : (row : HostRow) (found : Option Running) → row.running ≡ found → IsWithin true play row → IsWithin true play (option_map_or (reported_running outcome row) found row)
     reported_within row None f w = w
     reported_within row (Some r) f w =
         let bound = subst (λ (v : Option Running). length (one_halted row.answers) + run_places v ≤ 16384) f w.1 in
-        finished_within play tree r.place (task_of (item_of outcome r)) row (omega (arith, bound)) w
+        finished_within play r.place (task_of (item_of outcome r)) row (omega (arith, bound)) w
 
     at_most_one : (o : Option Ticket) → out_jobs o ≤ 1
     at_most_one None = omega arith
     at_most_one (Some t) = omega arith
 
-    reported_jobs : (row : HostRow) (found : Option Running) → row.running ≡ found → most_jobs true play row + 0 ≤ most_jobs true play (option_map_or (reported_running tree outcome row) found row)
+    reported_jobs : (row : HostRow) (found : Option Running) → row.running ≡ found → most_jobs true play row + 0 ≤ most_jobs true play (option_map_or (reported_running outcome row) found row)
     reported_jobs row None f = omega arith
     reported_jobs row (Some r) f =
         let more = one_halted_answer row.answers (task_of (item_of outcome r)) in
@@ -183,21 +183,30 @@ changed_so : (play sends by h : ℕ) (is_open : Bool) (f : HostRow → HostRow) 
 changed_so play sends by h true f test rows new more m o k e b n = rw (m, n) (changed_bounded play sends by h f test rows k e b)
 changed_so play sends by h false f test rows new more m o k e b n = cc
 
-pub finish_bounded : (play sends h : ℕ) (is_open room : Bool) (tree : TreeOf) (place : Option ℕ) (p : ℕ) (task : TaskResult) (rows new : List HostRow) → IsBounded is_open play sends rows → is_open ≡ true → size_of tree ≤ 16384 → (room && at_row (stands_at tree place) rows h) ≡ true → new ≡ change rows h (finished tree p task) → IsBounded is_open play sends new
-finish_bounded play sends h is_open room tree place p task rows new b o s e n =
-    changed_so play sends 0 h is_open (finished tree p task) (stands_at tree place) rows new sends (omega arith) o (finish_keeps play tree place p task s) (and_right room _ e) b n
+pub finish_bounded : (play sends h : ℕ) (is_open room : Bool) (place : Option ℕ) (p : ℕ) (task : TaskResult) (rows new : List HostRow) → IsBounded is_open play sends rows → is_open ≡ true → (room && at_row (stands_at place) rows h) ≡ true → new ≡ change rows h (finished p task) → IsBounded is_open play sends new
+finish_bounded play sends h is_open room place p task rows new b o e n =
+    changed_so play sends 0 h is_open (finished p task) (stands_at place) rows new sends (omega arith) o (finish_keeps play place p task) (and_right room _ e) b n
 
-pub begin_bounded : (play sends h : ℕ) (is_open room : Bool) (tree : TreeOf) (place : Option ℕ) (p : ℕ) (call : Call) (rows new : List HostRow) → IsBounded is_open play sends rows → is_open ≡ true → size_of tree ≤ 16384 → (room && at_row (stands_at tree place) rows h) ≡ true → new ≡ change rows h (started tree p (Sends call)) → IsBounded is_open play sends new
-begin_bounded play sends h is_open room tree place p call rows new b o s e n =
-    changed_so play sends 0 h is_open (started tree p (Sends call)) (stands_at tree place) rows new sends (omega arith) o (begin_keeps play tree place p call s) (and_right room _ e) b n
+pub begin_bounded : (play sends h : ℕ) (is_open room : Bool) (place : Option ℕ) (p : ℕ) (call : Call) (rows new : List HostRow) → IsBounded is_open play sends rows → is_open ≡ true → (room && at_row (stands_at place) rows h) ≡ true → new ≡ change rows h (started p (Sends call)) → IsBounded is_open play sends new
+begin_bounded play sends h is_open room place p call rows new b o e n =
+    changed_so play sends 0 h is_open (started p (Sends call)) (stands_at place) rows new sends (omega arith) o (begin_keeps play place p call) (and_right room _ e) b n
+
+-- a host that may start is in the batch
+pub start_in_batch : (h : ℕ) (room : Bool) (place : Option ℕ) (rows : List HostRow) → (room && at_row (stands_at place) rows h) ≡ true → IfSome (slice_get rows h) (λ row. row.in_batch ≡ true)
+start_in_batch h room place rows e = at_found rows h (and_right room _ e)
+  where
+    at_found : (rows : List HostRow) (h : ℕ) → at_row (stands_at place) rows h ≡ true → IfSome (slice_get rows h) (λ row. row.in_batch ≡ true)
+    at_found [] h e = tt
+    at_found (row ∷ rows) zero e = stands_in place row e
+    at_found (row ∷ rows) (suc h) e = at_found rows h e
 
 pub send_bounded : (play sends h item : ℕ) (is_open may : Bool) (ticket : Ticket) (rows new : List HostRow) → IsBounded is_open play sends rows → is_open ≡ true → (may && at_row (may_send_item item) rows h) ≡ true → new ≡ change rows h (sent ticket) → IsBounded is_open play (sends + 1) new
 send_bounded play sends h item is_open may ticket rows new b o e n =
     changed_so play sends 1 h is_open (sent ticket) (may_send_item item) rows new (sends + 1) refl o (send_keeps play item ticket) (and_right may _ e) b n
 
-pub report_bounded : (play sends h item : ℕ) (is_open : Bool) (tree : TreeOf) (ticket : Ticket) (outcome : Form) (rows new : List HostRow) → IsBounded is_open play sends rows → is_open ≡ true → at_row (awaits ticket item) rows h ≡ true → new ≡ change rows h (reported tree outcome) → IsBounded is_open play sends new
-report_bounded play sends h item is_open tree ticket outcome rows new b o e n =
-    changed_so play sends 0 h is_open (reported tree outcome) (awaits ticket item) rows new sends (omega arith) o (report_keeps play item tree outcome ticket) e b n
+pub report_bounded : (play sends h item : ℕ) (is_open : Bool) (ticket : Ticket) (outcome : Form) (rows new : List HostRow) → IsBounded is_open play sends rows → is_open ≡ true → at_row (awaits ticket item) rows h ≡ true → new ≡ change rows h (reported outcome) → IsBounded is_open play sends new
+report_bounded play sends h item is_open ticket outcome rows new b o e n =
+    changed_so play sends 0 h is_open (reported outcome) (awaits ticket item) rows new sends (omega arith) o (report_keeps play item outcome ticket) e b n
 
 -- the most that rows can have sent stays far below a number's end
 most_at_most : (play : ℕ) (rows : List HostRow) → play ≤ 256 → AllWithin true play rows → sum_by (most_jobs true play) rows ≤ length rows * 4210689
@@ -232,25 +241,30 @@ room_at play sends h true rows o b = room_in play h rows b.plays b.counts
 room_at play sends h false rows o b = cc
 
 -- an open, a close and the beginning
-joined_all : (play n h : ℕ) (hosts : List Bool) (rows : List HostRow) → play ≤ n → AllWithin false play rows → AllWithin true n (joined_in hosts h rows)
-joined_all play n h hosts [] l w = tt
-joined_all play n h hosts (row ∷ rows) l w = ((at_most_to row.counts _ _ (omega (arith, l)) w.0, omega arith), joined_all play n (h + 1) hosts rows l w.1)
+joined_size : (tree : TreeOf) (b : Bool) → size_of tree ≤ 16384 → size_of (if b then tree else no_tree) ≤ 16384
+joined_size tree true s = s
+joined_size tree false s = omega arith
 
-joined_jobs : (play n h : ℕ) (hosts : List Bool) (rows : List HostRow) → play ≤ n → sum_by (most_jobs false play) rows ≤ sum_by (most_jobs true n) (joined_in hosts h rows)
-joined_jobs play n h hosts [] l = omega arith
-joined_jobs play n h hosts (row ∷ rows) l =
-    let rest = joined_jobs play n (h + 1) hosts rows l in
-    omega (arith, l, rest, sum_by-cons (most_jobs false play) row rows, sum_by-cons (most_jobs true n) (joined (is_member hosts h) row) (joined_in hosts (h + 1) rows))
+joined_all : (play n h : ℕ) (tree : TreeOf) (hosts : List Bool) (rows : List HostRow) → size_of tree ≤ 16384 → play ≤ n → AllWithin false play rows → AllWithin true n (joined_in tree hosts h rows)
+joined_all play n h tree hosts [] s l w = tt
+joined_all play n h tree hosts (row ∷ rows) s l w =
+    ((at_most_to row.counts _ _ (omega (arith, l)) w.0, omega arith, joined_size tree (joins (is_member hosts h) row) s), joined_all play n (h + 1) tree hosts rows s l w.1)
 
-pub open_bounded : (play n sends : ℕ) (is_open : Bool) (hosts : List Bool) (rows new : List HostRow) → IsBounded is_open play sends rows → is_open ≡ false → play ≤ n → n < 256 → new ≡ joined_in hosts 0 rows → IsBounded true n sends new
-open_bounded play n sends true hosts rows new b f l p e = cc
-open_bounded play n sends false hosts rows new b f l p e =
+joined_jobs : (play n h : ℕ) (tree : TreeOf) (hosts : List Bool) (rows : List HostRow) → play ≤ n → sum_by (most_jobs false play) rows ≤ sum_by (most_jobs true n) (joined_in tree hosts h rows)
+joined_jobs play n h tree hosts [] l = omega arith
+joined_jobs play n h tree hosts (row ∷ rows) l =
+    let rest = joined_jobs play n (h + 1) tree hosts rows l in
+    omega (arith, l, rest, sum_by-cons (most_jobs false play) row rows, sum_by-cons (most_jobs true n) (joined tree (is_member hosts h) row) (joined_in tree hosts (h + 1) rows))
+
+pub open_bounded : (play n sends : ℕ) (is_open : Bool) (tree : TreeOf) (hosts : List Bool) (rows new : List HostRow) → IsBounded is_open play sends rows → size_of tree ≤ 16384 → is_open ≡ false → play ≤ n → n < 256 → new ≡ joined_in tree hosts 0 rows → IsBounded true n sends new
+open_bounded play n sends true tree hosts rows new b s f l p e = cc
+open_bounded play n sends false tree hosts rows new b s f l p e =
     rw e (record {
-      counts = joined_all play n 0 hosts rows l b.counts;
+      counts = joined_all play n 0 tree hosts rows s l b.counts;
       plays = omega (arith, p);
       opened = p;
-      hosts = rw (length-joined hosts 0 rows) b.hosts;
-      jobs = let more = joined_jobs play n 0 hosts rows l in omega (arith, more, b.jobs);
+      hosts = rw (length-joined tree hosts 0 rows) b.hosts;
+      jobs = let more = joined_jobs play n 0 tree hosts rows l in omega (arith, more, b.jobs);
     })
 
 left_all : (play : ℕ) (rows : List HostRow) → AllWithin true play rows → AllWithin false (play + 1) (map left rows)

@@ -20,9 +20,9 @@ use Rattle.pb_state.specs.declared.row.Running.{Running}
 use Rattle.pb_state.specs.declared.event.Event.{Event}
 use Rattle.pb_state.specs.declared.event.Event.TheVariants.{Open, Start, Send, Report as Reported, Turn, Close, Stop, Forks}
 use Rattle.pb_plan.specs.Plan.{PlayOf, PlanOf}
-use Rattle.pb_state.specs.Row.{HostRow, joined, left, finished, started, sent, sent_running, reported, reported_running, item_of, task_of}
+use Rattle.pb_state.specs.Row.{HostRow, no_tree, next_place, joins, joined, left, finished, started, sent, sent_running, reported, reported_running, item_of, task_of}
 use Rattle.pb_state.specs.State.{State}
-use Rattle.pb_state.specs.Machine.{possible, after, change, at_row, open_play, next_place, least_place, lesser, same_place, stands_at, has_room, may_open, next_play, may_start_in, may_turn_in, may_close_in, some_may_start, joined_in, opened_in, opened_at, started_in, start_at, turned_in, closed, is_running, running_count, is_ticket, may_send_item, awaits, may_send_in, may_report_in, sent_in, reported_in}
+use Rattle.pb_state.specs.Machine.{possible, after, change, at_row, open_play, least_place, lesser, same_place, stands_at, has_room, may_open, next_play, may_start_in, may_turn_in, may_close_in, some_may_start, joined_in, opened_in, opened_at, started_in, start_at, turned_in, closed, is_running, running_count, is_ticket, may_send_item, awaits, may_send_in, may_report_in, sent_in, reported_in}
 use Rattle.pb_state.specs.Results.{planned_at}
 use Rattle.pb_state.specs.Run.{is_command}
 use Rattle.pb_state.specs.Work.{places_left, place_work, out_work, running_work, row_work, later_work, turn_work, is_place, work_in, work}
@@ -43,54 +43,54 @@ not_false true e = cc
 not_false false e = refl
 
 -- a finished task is one answer more
-finished_at : (tree : TreeOf) (row : HostRow) (p : ℕ) (task : TaskResult) (next : Option ℕ) → place_work tree (finished tree p task row) next ≤ 3 * (places_left tree row - 1)
-finished_at tree row p task None = omega arith
-finished_at tree row p task (Some q) = omega (arith, one_halted_answer row.answers task)
+finished_at : (row : HostRow) (p : ℕ) (task : TaskResult) (next : Option ℕ) → place_work (finished p task row) next ≤ 3 * (places_left row - 1)
+finished_at row p task None = omega arith
+finished_at row p task (Some q) = omega (arith, one_halted_answer row.answers task)
 
-finished_less : (tree : TreeOf) (row : HostRow) (p : ℕ) (task : TaskResult) → row_work tree (finished tree p task row) ≤ 3 * (places_left tree row - 1)
-finished_less tree row p task = finished_at tree row p task (next_place tree (finished tree p task row))
+finished_less : (row : HostRow) (p : ℕ) (task : TaskResult) → row_work (finished p task row) ≤ 3 * (places_left row - 1)
+finished_less row p task = finished_at row p task (next_place (finished p task row))
 
 -- a start
-started_less : (tree : TreeOf) (p : ℕ) (planned : Planned) (row : HostRow) → row_work tree (started tree p planned row) ≤ 2 + 3 * (places_left tree row - 1)
-started_less tree p (Decided item) row = let less = finished_less tree row p (task_of item) in omega (arith, less)
-started_less tree p (Sends call) row = omega arith
+started_less : (p : ℕ) (planned : Planned) (row : HostRow) → row_work (started p planned row) ≤ 2 + 3 * (places_left row - 1)
+started_less p (Decided item) row = let less = finished_less row p (task_of item) in omega (arith, less)
+started_less p (Sends call) row = omega arith
 
-not_running : (tree : TreeOf) (row : HostRow) (running : Option Running) → not (is_some running) ≡ true → running_work tree row running ≡ place_work tree row (next_place tree row)
-not_running tree row None e = refl
-not_running tree row (Some r) e = cc
+not_running : (row : HostRow) (running : Option Running) → not (is_some running) ≡ true → running_work row running ≡ place_work row (next_place row)
+not_running row None e = refl
+not_running row (Some r) e = cc
 
-start_less : (tree : TreeOf) (place : Option ℕ) (p : ℕ) (planned : Planned) (row : HostRow) → stands_at tree place row ≡ true → row_work tree (started tree p planned row) < row_work tree row
-start_less tree place p planned row e =
-    let stood = same_is (next_place tree row) place (and_right (not (is_running row)) _ e) in
-    let idle : row_work tree row ≡ place_work tree row (next_place tree row) = not_running tree row row.running (and_left _ _ e) in
-    let now : place_work tree row (next_place tree row) ≡ 3 * places_left tree row = ap (place_work tree row) stood.1 in
-    omega (arith, idle, now, stands_below tree place row e, started_less tree p planned row)
+start_less : (place : Option ℕ) (p : ℕ) (planned : Planned) (row : HostRow) → stands_at place row ≡ true → row_work (started p planned row) < row_work row
+start_less place p planned row e =
+    let stood = same_is (next_place row) place (and_right (not (is_running row)) _ e) in
+    let idle : row_work row ≡ place_work row (next_place row) = not_running row row.running (and_left _ _ e) in
+    let now : place_work row (next_place row) ≡ 3 * places_left row = ap (place_work row) stood.1 in
+    omega (arith, idle, now, stands_below place row e, started_less p planned row)
 
 -- a send
 out_less : (out : Option Ticket) → is_none out ≡ true → 1 < out_work out
 out_less None e = omega arith
 out_less (Some ticket) e = cc
 
-sending : (tree : TreeOf) (ticket : Ticket) (row : HostRow) (running : Option Running) → option_map_or (λ (r : Running). is_none r.out) running false ≡ true → running_work tree (sent ticket row) (option_map (sent_running ticket) running) < running_work tree row running
-sending tree ticket row None e = cc
-sending tree ticket row (Some r) e = omega (arith, out_less r.out e)
+sending : (ticket : Ticket) (row : HostRow) (running : Option Running) → option_map_or (λ (r : Running). is_none r.out) running false ≡ true → running_work (sent ticket row) (option_map (sent_running ticket) running) < running_work row running
+sending ticket row None e = cc
+sending ticket row (Some r) e = omega (arith, out_less r.out e)
 
-send_less : (tree : TreeOf) (item : ℕ) (ticket : Ticket) (row : HostRow) → may_send_item item row ≡ true → row_work tree (sent ticket row) < row_work tree row
-send_less tree item ticket row e = sending tree ticket row row.running (and_right (item == 0) _ e)
+send_less : (item : ℕ) (ticket : Ticket) (row : HostRow) → may_send_item item row ≡ true → row_work (sent ticket row) < row_work row
+send_less item ticket row e = sending ticket row row.running (and_right (item == 0) _ e)
 
 -- a report
 out_one : (ticket : Ticket) (out : Option Ticket) → is_ticket ticket out ≡ true → out_work out ≡ 1
 out_one ticket None e = cc
 out_one ticket (Some t) e = refl
 
-reporting : (tree : TreeOf) (outcome : Form) (ticket : Ticket) (row : HostRow) (running : Option Running) → option_map_or (λ (r : Running). is_ticket ticket r.out) running false ≡ true → row_work tree (option_map_or (reported_running tree outcome row) running row) < running_work tree row running
-reporting tree outcome ticket row None e = cc
-reporting tree outcome ticket row (Some r) e =
-    let less = finished_less tree row r.place (task_of (item_of outcome r)) in
+reporting : (outcome : Form) (ticket : Ticket) (row : HostRow) (running : Option Running) → option_map_or (λ (r : Running). is_ticket ticket r.out) running false ≡ true → row_work (option_map_or (reported_running outcome row) running row) < running_work row running
+reporting outcome ticket row None e = cc
+reporting outcome ticket row (Some r) e =
+    let less = finished_less row r.place (task_of (item_of outcome r)) in
     omega (arith, less, out_one ticket r.out e)
 
-report_less : (tree : TreeOf) (outcome : Form) (ticket : Ticket) (item : ℕ) (row : HostRow) → awaits ticket item row ≡ true → row_work tree (reported tree outcome row) < row_work tree row
-report_less tree outcome ticket item row e = reporting tree outcome ticket row row.running (and_right (item == 0) _ e)
+report_less : (outcome : Form) (ticket : Ticket) (item : ℕ) (row : HostRow) → awaits ticket item row ≡ true → row_work (reported outcome row) < row_work row
+report_less outcome ticket item row e = reporting outcome ticket row row.running (and_right (item == 0) _ e)
 
 abbrev one_if : Bool → ℕ
 one_if b = if b then 1 else 0
@@ -122,10 +122,10 @@ no_turn : (p : Option ℕ) → turn_work p p ≡ 0
 no_turn p = rw (place_same p) refl
 
 -- an event that changes one row of the open batch
-row_event : (plan : PlanOf) (s : State) (play : PlayOf) (h sends : ℕ) (decided : Option DecidedOf) (f : HostRow → HostRow) (test : HostRow → Bool) → open_play plan s ≡ Some play → ((row : HostRow) → test row ≡ true → row_work play.tree (f row) < row_work play.tree row) → at_row test s.rows h ≡ true → work plan (record s { rows = change s.rows h f; sends = sends; decided = decided }) < work plan s
+row_event : (plan : PlanOf) (s : State) (play : PlayOf) (h sends : ℕ) (decided : Option DecidedOf) (f : HostRow → HostRow) (test : HostRow → Bool) → open_play plan s ≡ Some play → ((row : HostRow) → test row ≡ true → row_work (f row) < row_work row) → at_row test s.rows h ≡ true → work plan (record s { rows = change s.rows h f; sends = sends; decided = decided }) < work plan s
 row_event plan s play h sends decided f test o less e =
-    let rows = change_less (row_work play.tree) f test less s.rows h e in
-    let turn = turn_work_at_most s.place (least_place play.tree (change s.rows h f)) in
+    let rows = change_less (row_work) f test less s.rows h e in
+    let turn = turn_work_at_most s.place (least_place (change s.rows h f)) in
     let same : later_work (length (change s.rows h f)) (drop (s.play + 1) plan.plays) ≡ later_work (length s.rows) (drop (s.play + 1) plan.plays) = rw (length-change s.rows h f) refl in
     let old : work plan s ≡ work_in plan s (Some play) = ap (work_in plan s) o in
     let changed : State = record s { rows = change s.rows h f; sends = sends; decided = decided } in
@@ -136,21 +136,21 @@ none_same : (a : Option ℕ) → same_place a None ≡ false
 none_same (Some p) = refl
 none_same None = refl
 
-none_stands_at : (tree : TreeOf) (row : HostRow) → stands_at tree None row ≡ true → ⊥
-none_stands_at tree row e =
+none_stands_at : (row : HostRow) → stands_at None row ≡ true → ⊥
+none_stands_at row e =
     let same = and_right (not (is_running row)) _ e in
-    let no = none_same (next_place tree row) in cc
+    let no = none_same (next_place row) in cc
 
-none_at : (tree : TreeOf) (rows : List HostRow) (h : ℕ) → at_row (stands_at tree None) rows h ≡ true → ⊥
-none_at tree [] h e = cc
-none_at tree (row ∷ rows) zero e = none_stands_at tree row e
-none_at tree (row ∷ rows) (suc h) e = none_at tree rows h e
+none_at : (rows : List HostRow) (h : ℕ) → at_row (stands_at None) rows h ≡ true → ⊥
+none_at [] h e = cc
+none_at (row ∷ rows) zero e = none_stands_at row e
+none_at (row ∷ rows) (suc h) e = none_at rows h e
 
-start_at_less : (plan : PlanOf) (s : State) (h : ℕ) (play : PlayOf) (place : Option ℕ) → open_play plan s ≡ Some play → at_row (stands_at play.tree place) s.rows h ≡ true → work plan (option_map_or (start_at plan s h play) place s) < work plan s
-start_at_less plan s h play None o e = absurd (none_at play.tree s.rows h e)
+start_at_less : (plan : PlanOf) (s : State) (h : ℕ) (play : PlayOf) (place : Option ℕ) → open_play plan s ≡ Some play → at_row (stands_at place) s.rows h ≡ true → work plan (option_map_or (start_at plan s h play) place s) < work plan s
+start_at_less plan s h play None o e = absurd (none_at s.rows h e)
 start_at_less plan s h play (Some p) o e =
     let planned : Planned = planned_at plan play h p in
-    row_event plan s play h s.sends (start_at plan s h play p).decided (started play.tree p planned) (stands_at play.tree (Some p)) o (λ row may. start_less play.tree (Some p) p planned row may) e
+    row_event plan s play h s.sends (start_at plan s h play p).decided (started p planned) (stands_at (Some p)) o (λ row may. start_less (Some p) p planned row may) e
 
 start_in_less : (plan : PlanOf) (s : State) (h : ℕ) (found : Option PlayOf) → open_play plan s ≡ found → option_map_or (may_start_in s h) found false ≡ true → work plan (option_map_or (started_in plan s h) found s) < work plan s
 start_in_less plan s h None o e = cc
@@ -159,12 +159,12 @@ start_in_less plan s h (Some play) o e = start_at_less plan s h play s.place o (
 send_in_less : (plan : PlanOf) (s : State) (h item : ℕ) (ticket : Ticket) (found : Option PlayOf) → open_play plan s ≡ found → option_map_or (may_send_in s h item ticket) found false ≡ true → work plan (option_map_or (sent_in s h ticket) found s) < work plan s
 send_in_less plan s h item ticket None o e = cc
 send_in_less plan s h item ticket (Some play) o e =
-    row_event plan s play h (s.sends + 1) None (sent ticket) (may_send_item item) o (λ row may. send_less play.tree item ticket row may) (and_right (not s.stopped && (ticket.0 == s.sends)) _ e)
+    row_event plan s play h (s.sends + 1) None (sent ticket) (may_send_item item) o (λ row may. send_less item ticket row may) (and_right (not s.stopped && (ticket.0 == s.sends)) _ e)
 
 report_in_less : (plan : PlanOf) (s : State) (r : Report) (found : Option PlayOf) → open_play plan s ≡ found → option_map_or (may_report_in s r) found false ≡ true → work plan (option_map_or (reported_in s r) found s) < work plan s
 report_in_less plan s r None o e = cc
 report_in_less plan s r (Some play) o e =
-    row_event plan s play r.host.0 s.sends (reported_in s r play).decided (reported play.tree r.outcome) (awaits r.ticket r.item) o (λ row may. report_less play.tree r.outcome r.ticket r.item row may) e
+    row_event plan s play r.host.0 s.sends (reported_in s r play).decided (reported r.outcome) (awaits r.ticket r.item) o (λ row may. report_less r.outcome r.ticket r.item row may) e
 
 -- a turn
 min_is : (a b : ℕ) (t : Bool) → nat_le a b ≡ t → (min a b ≡ a) ⊎ (min a b ≡ b)
@@ -188,14 +188,14 @@ or_right true b e = cc
 or_right false b e = e
 
 -- where none runs and none stands at a place, it isn't the least
-least_stands : (tree : TreeOf) (p : ℕ) (rows : List HostRow) → list_any is_running rows ≡ false → list_any (stands_at tree (Some p)) rows ≡ false → least_place tree rows ≡ Some p → ⊥
-least_stands tree p [] c n e = cc
-least_stands tree p (row ∷ rows) c n e =
-    elim (lesser_is (next_place tree row) (least_place tree rows) p e) [
-      | inl here ↦ (let no : stands_at tree (Some p) row ≡ false = or_left (stands_at tree (Some p) row) _ n in
+least_stands : (p : ℕ) (rows : List HostRow) → list_any is_running rows ≡ false → list_any (stands_at (Some p)) rows ≡ false → least_place rows ≡ Some p → ⊥
+least_stands p [] c n e = cc
+least_stands p (row ∷ rows) c n e =
+    elim (lesser_is (next_place row) (least_place rows) p e) [
+      | inl here ↦ (let no : stands_at (Some p) row ≡ false = or_left (stands_at (Some p) row) _ n in
           let idle : is_running row ≡ false = or_left (is_running row) _ c in
-          let yes : stands_at tree (Some p) row ≡ true = rw (idle, same_some (next_place tree row) p here) refl in cc)
-      | inr there ↦ least_stands tree p rows (or_right (is_running row) _ c) (or_right (stands_at tree (Some p) row) _ n) there
+          let yes : stands_at (Some p) row ≡ true = rw (idle, same_some (next_place row) p here) refl in cc)
+      | inr there ↦ least_stands p rows (or_right (is_running row) _ c) (or_right (stands_at (Some p) row) _ n) there
     ]
 
 none_counted : (rows : List HostRow) → list_any is_running rows ≡ false → running_count rows ≡ 0
@@ -221,25 +221,25 @@ none_stands : (room : Bool) (b : Bool) → room ≡ true → (room && b) ≡ fal
 none_stands true b r e = e
 none_stands false b r e = cc
 
-turn_due : (s : State) (play : PlayOf) (b : Bool) → 0 < s.forks → may_turn_in s play ≡ true → is_place s.place (least_place play.tree s.rows) ≡ b → turn_work s.place (least_place play.tree s.rows) ≡ 1
+turn_due : (s : State) (play : PlayOf) (b : Bool) → 0 < s.forks → may_turn_in s play ≡ true → is_place s.place (least_place s.rows) ≡ b → turn_work s.place (least_place s.rows) ≡ 1
 turn_due s play false f e t = rw t refl
 turn_due s play true f e t =
     let three = and_left (not s.stopped && is_some s.place && not (list_any is_running s.rows)) _ e in
     let two = and_left (not s.stopped && is_some s.place) _ three in
     let at = is_some_some s.place (and_right (not s.stopped) _ two) in
     let idle = not_false (list_any is_running s.rows) (and_right (not s.stopped && is_some s.place) _ three) in
-    let no_start = not_false (some_may_start s play) (and_right (not s.stopped && is_some s.place && not (list_any is_running s.rows)) _ e) in
-    let none = none_stands (has_room s) (list_any (stands_at play.tree s.place) s.rows) (room_now s (and_left (not s.stopped) _ two) idle f) no_start in
-    let stands : list_any (stands_at play.tree (Some at.0)) s.rows ≡ false = rw (← at.1) none in
-    absurd (least_stands play.tree at.0 s.rows idle stands (is_place_some s.place _ at.0 at.1 t))
+    let no_start = not_false (some_may_start s) (and_right (not s.stopped && is_some s.place && not (list_any is_running s.rows)) _ e) in
+    let none = none_stands (has_room s) (list_any (stands_at s.place) s.rows) (room_now s (and_left (not s.stopped) _ two) idle f) no_start in
+    let stands : list_any (stands_at (Some at.0)) s.rows ≡ false = rw (← at.1) none in
+    absurd (least_stands at.0 s.rows idle stands (is_place_some s.place _ at.0 at.1 t))
 
 turn_in_less : (plan : PlanOf) (s : State) (found : Option PlayOf) → 0 < s.forks → open_play plan s ≡ found → option_map_or (may_turn_in s) found false ≡ true → work plan (option_map_or (turned_in s) found s) < work plan s
 turn_in_less plan s None f o e = cc
 turn_in_less plan s (Some play) f o e =
-    let due = turn_due s play (is_place s.place (least_place play.tree s.rows)) f e refl in
+    let due = turn_due s play (is_place s.place (least_place s.rows)) f e refl in
     let old : work plan s ≡ work_in plan s (Some play) = ap (work_in plan s) o in
     let new : work plan (turned_in s play) ≡ work_in plan (turned_in s play) (Some play) = ap (work_in plan (turned_in s play)) o in
-    omega (arith, due, no_turn (least_place play.tree s.rows), old, new)
+    omega (arith, due, no_turn (least_place s.rows), old, new)
 
 -- a close
 open_is : (plan : PlanOf) (s : State) (play : PlayOf) (b : Bool) → s.is_open ≡ b → open_play plan s ≡ Some play → b ≡ true
@@ -254,19 +254,23 @@ close_in_less plan s (Some play) o e =
     omega (arith, same, old)
 
 -- an open
-fresh : (tree : TreeOf) (own : Bool) (row : HostRow) → row_work tree (joined own row) ≤ 3 * size_of tree
-fresh tree own row = most (next_place tree (joined own row))
-  where
-    most : (next : Option ℕ) → place_work tree (joined own row) next ≤ 3 * size_of tree
-    most None = omega arith
-    most (Some p) = omega arith
+smaller : (tree : TreeOf) (b : Bool) → size_of (if b then tree else no_tree) ≤ size_of tree
+smaller tree true = omega arith
+smaller tree false = omega arith
 
-fresh_all : (tree : TreeOf) (hosts : List Bool) (h : ℕ) (rows : List HostRow) → sum_by (row_work tree) (joined_in hosts h rows) ≤ length rows * (3 * size_of tree)
+fresh : (tree : TreeOf) (own : Bool) (row : HostRow) → row_work (joined tree own row) ≤ 3 * size_of tree
+fresh tree own row = most (next_place (joined tree own row))
+  where
+    most : (next : Option ℕ) → place_work (joined tree own row) next ≤ 3 * size_of tree
+    most None = omega arith
+    most (Some p) = omega (arith, smaller tree (joins own row))
+
+fresh_all : (tree : TreeOf) (hosts : List Bool) (h : ℕ) (rows : List HostRow) → sum_by row_work (joined_in tree hosts h rows) ≤ length rows * (3 * size_of tree)
 fresh_all tree hosts h [] = omega arith
 fresh_all tree hosts h (row ∷ rows) =
     let one = fresh tree (is_member hosts h) row in
     let rest = fresh_all tree hosts (h + 1) rows in
-    omega (arith, sum_by-cons (row_work tree) (joined (is_member hosts h) row) (joined_in hosts (h + 1) rows), one, rest, suc-mul (length rows) (3 * size_of tree))
+    omega (arith, sum_by-cons row_work (joined tree (is_member hosts h) row) (joined_in tree hosts (h + 1) rows), one, rest, suc-mul (length rows) (3 * size_of tree))
 
 later_at : (n : ℕ) (plays : List PlayOf) (i : ℕ) (play : PlayOf) → slice_get plays i ≡ Some play → later_work n (drop i plays) ≡ 3 + 2 * (n * (3 * size_of play.tree)) + later_work n (drop (i + 1) plays)
 later_at n plays i play e =
@@ -292,8 +296,8 @@ open_in_less : (plan : PlanOf) (s : State) (n : ℕ) (play : PlayOf) → s.is_op
 open_in_less plan s n play o l e =
     let old : work plan s ≡ work_in plan s None = ap (λ (v : Bool). work_in plan s (if v then slice_get plan.plays s.play else None)) o in
     let new : work plan (opened_in s n play) ≡ work_in plan (opened_in s n play) (Some play) = ap (work_in plan (opened_in s n play)) e in
-    let same : later_work (length (joined_in play.hosts 0 s.rows)) (drop (n + 1) plan.plays) ≡ later_work (length s.rows) (drop (n + 1) plan.plays) = rw (length-joined play.hosts 0 s.rows) refl in
-    omega (arith, old, new, same, fresh_all play.tree play.hosts 0 s.rows, later_at (length s.rows) plan.plays n play e, fewer (length s.rows) plan.plays s.play n l, no_turn (least_place play.tree (joined_in play.hosts 0 s.rows)))
+    let same : later_work (length (joined_in play.tree play.hosts 0 s.rows)) (drop (n + 1) plan.plays) ≡ later_work (length s.rows) (drop (n + 1) plan.plays) = rw (length-joined play.tree play.hosts 0 s.rows) refl in
+    omega (arith, old, new, same, fresh_all play.tree play.hosts 0 s.rows, later_at (length s.rows) plan.plays n play e, fewer (length s.rows) plan.plays s.play n l, no_turn (least_place (joined_in play.tree play.hosts 0 s.rows)))
 
 open_next_less : (plan : PlanOf) (s : State) (next : Option ℕ) → next_play plan s ≡ next → s.is_open ≡ false → is_some next ≡ true → work plan (option_map_or (opened_at plan s) next s) < work plan s
 open_next_less plan s None f o e = cc

@@ -1,6 +1,7 @@
 -- How far a state's numbers can have come: a host counts each place of a play once, and sends one job at most there.
 use Rattle.std.specs.Prelude.{ℕ, ◌+◌, ◌*◌, ◌≤◌, ◌<◌, Bool, true, false, List, [], ◌∷◌, length, sum_by, Option, Some, None}
 use Rattle.std.specs.Bool.{OnTrue}
+use Rattle.pb_tree.specs.Tree.{size_of}
 use Rattle.pb_tree.specs.Walk.{one_halted}
 use Rattle.pb_ids.specs.declared.numbers.Ticket.{Ticket}
 use Rattle.pb_state.specs.declared.row.Counts.{Counts}
@@ -32,7 +33,9 @@ running_jobs (Some r) = out_jobs r.out
 
 -- in an open batch, and where none is open
 abbrev pub IsWithin : Bool → ℕ → HostRow → Type 0
-IsWithin true play row = IsAtMost row.counts (16384 * play + length (one_halted row.answers)) × (length (one_halted row.answers) + run_places row.running ≤ 16384)
+IsWithin true play row =
+    IsAtMost row.counts (16384 * play + length (one_halted row.answers)) × (length (one_halted row.answers) + run_places row.running ≤ 16384)
+    × (size_of row.tree ≤ 16384)
 IsWithin false play row = IsAtMost row.counts (16384 * play)
 
 abbrev pub AllWithin : Bool → ℕ → List HostRow → Type 0

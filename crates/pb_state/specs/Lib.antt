@@ -1,4 +1,5 @@
 pub mod Row
+pub mod Walking
 pub mod State
 pub mod Results
 pub mod Machine
@@ -6,6 +7,7 @@ pub mod Jobs
 pub mod Oldest
 pub mod Run
 pub mod Once
+pub mod Walks
 pub mod Work
 pub mod Bounds
 pub mod Rows

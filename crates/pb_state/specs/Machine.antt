@@ -4,10 +4,7 @@ use Rattle.std.specs.List.{list_any}
 use Rattle.std.specs.Option.{option_map_or}
 use Rattle.pb_ids.specs.declared.numbers.Ticket.{Ticket}
 use Rattle.pb_planes.specs.Set.{is_in as is_member}
-use Rattle.pb_tree.specs.declared.tree.Reach.{Reach}
-use Rattle.pb_tree.specs.declared.tree.Reach.TheVariants.{At, Done}
 use Rattle.pb_tree.specs.Tree.{TreeOf}
-use Rattle.pb_tree.specs.Walk.{reach}
 use Rattle.pb_outcome.specs.declared.gather.ItemResult.{ItemResult}
 use Rattle.pb_outcome.specs.declared.job.Report.{Report}
 use Rattle.pb_outcome.specs.declared.outcome.Form.{Form}
@@ -20,17 +17,13 @@ use Rattle.pb_state.specs.declared.row.Running.{Running}
 use Rattle.pb_state.specs.declared.decided.Decided.{Decided}
 use Rattle.pb_state.specs.declared.decided.Done.{Done as DoneTask}
 use Rattle.pb_plan.specs.Plan.{PlayOf, PlanOf}
-use Rattle.pb_state.specs.Row.{HostRow, first_row, is_active, started, sent, reported, joined, left, item_of, task_of}
+use Rattle.pb_state.specs.Row.{HostRow, first_row, is_active, next_place, started, sent, reported, joined, left, item_of, task_of}
 use Rattle.pb_state.specs.State.{State}
 use Rattle.pb_state.specs.Results.{planned_at}
 
 -- the play whose batch is open
 abbrev pub open_play : PlanOf → State → Option PlayOf
 open_play plan s = if s.is_open then slice_get plan.plays s.play else None
-
-abbrev pub place_of : Reach → Option ℕ
-place_of (At p) = Some p
-place_of (Done ending) = None
 
 -- a host of the batch that is active
 abbrev pub is_in : HostRow → Bool
@@ -43,18 +36,14 @@ is_running row = is_some row.running
 abbrev pub running_count : List HostRow → ℕ
 running_count rows = count_by is_running rows
 
--- the next place of a host of the batch
-abbrev pub next_place : TreeOf → HostRow → Option ℕ
-next_place tree row = if is_in row then place_of (reach tree row.answers) else None
-
 abbrev pub same_place : Option ℕ → Option ℕ → Bool
 same_place (Some p) (Some q) = p == q
 same_place (Some p) None = false
 same_place None q = false
 
 -- under the linear strategy a host may start where it doesn't run and its next place is the current one
-abbrev pub stands_at : TreeOf → Option ℕ → HostRow → Bool
-stands_at tree place row = not (is_running row) && same_place (next_place tree row) place
+abbrev pub stands_at : Option ℕ → HostRow → Bool
+stands_at place row = not (is_running row) && same_place (next_place row) place
 
 abbrev pub at_row : (HostRow → Bool) → List HostRow → ℕ → Bool
 at_row test rows h = option_map_or test (slice_get rows h) false
@@ -65,9 +54,9 @@ lesser None q = q
 lesser (Some p) None = Some p
 lesser (Some p) (Some q) = Some (min p q)
 
-abbrev pub least_place : TreeOf → List HostRow → Option ℕ
-least_place tree [] = None
-least_place tree (row ∷ rows) = lesser (next_place tree row) (least_place tree rows)
+abbrev pub least_place : List HostRow → Option ℕ
+least_place [] = None
+least_place (row ∷ rows) = lesser (next_place row) (least_place rows)
 
 -- hosts that run are counted, and not jobs: there is room where they are fewer than the forks
 abbrev pub has_room : State → Bool
@@ -118,7 +107,7 @@ abbrev pub may_open : PlanOf → State → Bool
 may_open plan s = not s.stopped && not s.is_open && not s.ended && is_some (next_play plan s)
 
 abbrev pub may_start_in : State → ℕ → PlayOf → Bool
-may_start_in s h play = has_room s && at_row (stands_at play.tree s.place) s.rows h
+may_start_in s h play = has_room s && at_row (stands_at s.place) s.rows h
 
 abbrev pub may_send_in : State → ℕ → ℕ → Ticket → PlayOf → Bool
 may_send_in s h item ticket play = not s.stopped && (ticket.0 == s.sends) && at_row (may_send_item item) s.rows h
@@ -126,14 +115,14 @@ may_send_in s h item ticket play = not s.stopped && (ticket.0 == s.sends) && at_
 abbrev pub may_report_in : State → Report → PlayOf → Bool
 may_report_in s r play = at_row (awaits r.ticket r.item) s.rows r.host.0
 
-abbrev pub some_may_start : State → PlayOf → Bool
-some_may_start s play = has_room s && list_any (stands_at play.tree s.place) s.rows
+abbrev pub some_may_start : State → Bool
+some_may_start s = has_room s && list_any (stands_at s.place) s.rows
 
 abbrev pub may_turn_in : State → PlayOf → Bool
-may_turn_in s play = not s.stopped && is_some s.place && not (list_any is_running s.rows) && not (some_may_start s play)
+may_turn_in s play = not s.stopped && is_some s.place && not (list_any is_running s.rows) && not (some_may_start s)
 
 abbrev pub may_close_in : State → PlayOf → Bool
-may_close_in s play = not s.stopped && is_none s.place && not (list_any is_running s.rows) && is_none (least_place play.tree s.rows)
+may_close_in s play = not s.stopped && is_none s.place && not (list_any is_running s.rows) && is_none (least_place s.rows)
 
 -- what may happen
 abbrev pub possible : PlanOf → State → Event → Bool
@@ -147,11 +136,11 @@ possible plan s Stop = true
 possible plan s (Forks n) = nat_le 1 n && nat_le n s.pool
 
 -- the hosts that have a send or a start
-abbrev pub is_ready : Bool → Bool → TreeOf → Option ℕ → HostRow → Bool
-is_ready sends room tree place row = (sends && has_send row) || (room && stands_at tree place row)
+abbrev pub is_ready : Bool → Bool → Option ℕ → HostRow → Bool
+is_ready sends room place row = (sends && has_send row) || (room && stands_at place row)
 
 abbrev pub ready_in : State → PlayOf → List Bool
-ready_in s play = map (is_ready (not s.stopped) (has_room s) play.tree s.place) s.rows
+ready_in s play = map (is_ready (not s.stopped) (has_room s) s.place) s.rows
 
 abbrev pub ready : PlanOf → State → List Bool
 ready plan s = option_map_or (ready_in s) (open_play plan s) (replicate (length s.rows) false)
@@ -178,17 +167,17 @@ abbrev pub done_at_once : Planned → Option DoneTask
 done_at_once (DecidedItem item) = Some (done_by item)
 done_at_once (Sends call) = None
 
--- these hosts, whose first has the number h, as the batch of a play opens whose own hosts are in this set
-abbrev pub joined_in : List Bool → ℕ → List HostRow → List HostRow
-joined_in hosts h [] = []
-joined_in hosts h (row ∷ rows) = joined (is_member hosts h) row ∷ joined_in hosts (h + 1) rows
+-- these hosts, whose first has the number h, as the batch of a play opens that has this tree and whose own hosts are in this set
+abbrev pub joined_in : TreeOf → List Bool → ℕ → List HostRow → List HostRow
+joined_in tree hosts h [] = []
+joined_in tree hosts h (row ∷ rows) = joined tree (is_member hosts h) row ∷ joined_in tree hosts (h + 1) rows
 
 -- what each event leads to
 abbrev pub opened_with : State → ℕ → List HostRow → PlayOf → State
-opened_with s n rows play = record s { rows = rows; play = n; is_open = true; place = least_place play.tree rows; decided = None }
+opened_with s n rows play = record s { rows = rows; play = n; is_open = true; place = least_place rows; decided = None }
 
 abbrev pub opened_in : State → ℕ → PlayOf → State
-opened_in s n play = opened_with s n (joined_in play.hosts 0 s.rows) play
+opened_in s n play = opened_with s n (joined_in play.tree play.hosts 0 s.rows) play
 
 abbrev pub opened_at : PlanOf → State → ℕ → State
 opened_at plan s n = option_map_or (opened_in s n) (slice_get plan.plays n) s
@@ -196,7 +185,7 @@ opened_at plan s n = option_map_or (opened_in s n) (slice_get plan.plays n) s
 abbrev pub start_with : State → ℕ → PlayOf → ℕ → Planned → State
 start_with s h play p planned =
     record s {
-      rows = change s.rows h (started play.tree p planned);
+      rows = change s.rows h (started p planned);
       decided = Some (record { place = p; is_new = not (list_any (has_begun p) s.rows); done = done_at_once planned });
     }
 
@@ -219,13 +208,13 @@ report_decides outcome row = option_map (decided_by outcome) row.running
 abbrev pub reported_in : State → Report → PlayOf → State
 reported_in s r play =
     record s {
-      rows = change s.rows r.host.0 (reported play.tree r.outcome);
+      rows = change s.rows r.host.0 (reported r.outcome);
       decided = option_map_or (report_decides r.outcome) (slice_get s.rows r.host.0) None;
     }
 
 -- the current place becomes the least next place of the batch
 abbrev pub turned_in : State → PlayOf → State
-turned_in s play = record s { place = least_place play.tree s.rows; decided = None }
+turned_in s play = record s { place = least_place s.rows; decided = None }
 
 abbrev pub closed : State → State
 closed s = record s { rows = map left s.rows; play = s.play + 1; is_open = false; ended = not (list_any is_in s.rows); decided = None }

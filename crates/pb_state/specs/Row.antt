@@ -6,9 +6,11 @@ use Rattle.pb_tree.specs.declared.answer.Kind.{Kind}
 use Rattle.pb_tree.specs.declared.answer.Kind.TheVariants.{Good, Bad, Gone}
 use Rattle.pb_tree.specs.declared.tree.Status.{Status}
 use Rattle.pb_tree.specs.declared.tree.Status.TheVariants.{Active, Failed, Halted as Stopped, Gone as Lost}
-use Rattle.pb_tree.specs.Tree.{TreeOf}
+use Rattle.pb_tree.specs.declared.tree.Reach.{Reach}
+use Rattle.pb_tree.specs.declared.tree.Reach.TheVariants.{At, Done}
+use Rattle.pb_tree.specs.Tree.{TreeOf, Nothing}
 use Rattle.pb_tree.specs.Answer.{AnswerOf}
-use Rattle.pb_tree.specs.Walk.{status_of}
+use Rattle.pb_tree.specs.Walk.{reach, status_of}
 use Rattle.pb_outcome.specs.declared.gather.ItemResult.{ItemResult}
 use Rattle.pb_outcome.specs.declared.gather.TaskResult.{TaskResult}
 use Rattle.pb_outcome.specs.declared.outcome.Form.{Form}
@@ -21,6 +23,8 @@ use Rattle.pb_items.specs.declared.planned.Planned.{Planned}
 use Rattle.pb_items.specs.declared.planned.Planned.TheVariants.{Decided, Sends}
 
 pub record HostRow : Type 0 where
+  -- the tree of the play in whose batch the host is; it is empty where the host is in none
+  pub tree : TreeOf
   -- what the host answered in the open batch, place after place
   pub answers : List AnswerOf
   pub status : Status
@@ -35,14 +39,34 @@ pub record HostRow : Type 0 where
 abbrev pub none_counted : Counts
 none_counted = record { ok = 0; changed = 0; unreachable = 0; failed = 0; skipped = 0; rescued = 0; ignored = 0 }
 
+abbrev pub no_tree : TreeOf
+no_tree = record { nodes = Nothing; handlers = 0; force_handlers = false }
+
 abbrev pub first_row : HostRow
-first_row = record { answers = []; status = Active; in_batch = false; running = None; last = None; counts = none_counted }
+first_row = record { tree = no_tree; answers = []; status = Active; in_batch = false; running = None; last = None; counts = none_counted }
 
 abbrev pub is_active : Status → Bool
 is_active Active = true
 is_active Failed = false
 is_active Stopped = false
 is_active Lost = false
+
+-- the next place of a host of the batch: where its answers lead it in its play's tree
+abbrev pub place_of : Reach → Option ℕ
+place_of (At p) = Some p
+place_of (Done ending) = None
+
+abbrev pub next_place : HostRow → Option ℕ
+next_place row = if row.in_batch then place_of (reach row.tree row.answers) else None
+
+-- What answers make of a host. One whose walk went bad before the handlers that are forced is out at once: it is what it would be if none were
+-- forced, unless one of those handlers found it gone
+-- (Ansible's documentation, "Error handling in playbooks").
+abbrev pub unforced : TreeOf → TreeOf
+unforced tree = record tree { force_handlers = false }
+
+abbrev pub status_at : TreeOf → List AnswerOf → Status
+status_at tree answers = if is_active (status_of tree answers) then status_of (unforced tree) answers else status_of tree answers
 
 -- what a task's result is for the walk: a host that can't be reached is gone, and a failure that isn't ignored is bad
 abbrev pub failed_kind : Bool → Kind
@@ -77,26 +101,23 @@ counted task counts =
       ignored = more (task.failed && task.ignored) counts.ignored;
     }
 
+-- one answer more
+abbrev pub answered : AnswerOf → HostRow → HostRow
+answered answer row = record row { answers = row.answers ++ answer ∷ []; status = status_at row.tree (row.answers ++ answer ∷ []) }
+
 -- the task at a place ends with this result
-abbrev pub finished : TreeOf → ℕ → TaskResult → HostRow → HostRow
-finished tree place task row =
-    record {
-      answers = row.answers ++ answer_of task ∷ [];
-      status = status_of tree (row.answers ++ answer_of task ∷ []);
-      in_batch = row.in_batch;
-      running = None;
-      last = Some (record { place = place; kind = kind_of task });
-      counts = counted task row.counts;
-    }
+abbrev pub finished : ℕ → TaskResult → HostRow → HostRow
+finished place task row =
+    record (answered (answer_of task) row) { running = None; last = Some (record { place = place; kind = kind_of task }); counts = counted task row.counts }
 
 -- a task without a loop has one item; no task is told to ignore its failure
 abbrev pub task_of : ItemResult → TaskResult
 task_of item = gathered false (item ∷ [])
 
 -- a task starts: what is decided at once ends it, and a job is sent for the rest
-abbrev pub started : TreeOf → ℕ → Planned → HostRow → HostRow
-started tree place (Decided item) row = finished tree place (task_of item) row
-started tree place (Sends call) row = record row { running = Some (record { place = place; call = call; out = None }) }
+abbrev pub started : ℕ → Planned → HostRow → HostRow
+started place (Decided item) row = finished place (task_of item) row
+started place (Sends call) row = record row { running = Some (record { place = place; call = call; out = None }) }
 
 -- a job goes out under this ticket
 abbrev pub sent_running : Ticket → Running → Running
@@ -109,17 +130,21 @@ sent ticket row = record row { running = option_map (sent_running ticket) row.ru
 abbrev pub item_of : Form → Running → ItemResult
 item_of outcome r = judged r.call outcome
 
-abbrev pub reported_running : TreeOf → Form → HostRow → Running → HostRow
-reported_running tree outcome row r = finished tree r.place (task_of (item_of outcome r)) row
+abbrev pub reported_running : Form → HostRow → Running → HostRow
+reported_running outcome row r = finished r.place (task_of (item_of outcome r)) row
 
 -- the outcome of the job that is out ends the task
-abbrev pub reported : TreeOf → Form → HostRow → HostRow
-reported tree outcome row = option_map_or (reported_running tree outcome row) row.running row
+abbrev pub reported : Form → HostRow → HostRow
+reported outcome row = option_map_or (reported_running outcome row) row.running row
 
--- a host as a batch opens: it takes part where it is one of the play's own and active
-abbrev pub joined : Bool → HostRow → HostRow
-joined own row = record { answers = []; status = row.status; in_batch = own && is_active row.status; running = None; last = None; counts = row.counts }
+-- a host as the batch of a play with this tree opens: it takes part where it is one of the play's own and active
+abbrev pub joins : Bool → HostRow → Bool
+joins own row = own && is_active row.status
+
+abbrev pub joined : TreeOf → Bool → HostRow → HostRow
+joined tree own row =
+    record row { tree = if joins own row then tree else no_tree; answers = []; in_batch = joins own row; running = None; last = None }
 
 -- a host as its batch closes
 abbrev pub left : HostRow → HostRow
-left row = record { answers = []; status = row.status; in_batch = false; running = None; last = None; counts = row.counts }
+left row = record row { tree = no_tree; answers = []; in_batch = false; running = None; last = None }

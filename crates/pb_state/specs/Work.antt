@@ -1,33 +1,33 @@
 -- How much is left to be done: a number that falls at each event but a command.
 use Rattle.std.specs.Prelude.{ℕ, ◌+◌, ◌-◌, ◌*◌, Bool, true, false, List, [], ◌∷◌, length, drop, Option, Some, None, sum_by, if◌then◌else◌}
 use Rattle.pb_ids.specs.declared.numbers.Ticket.{Ticket}
-use Rattle.pb_tree.specs.Tree.{TreeOf, size_of}
+use Rattle.pb_tree.specs.Tree.{size_of}
 use Rattle.pb_tree.specs.Walk.{one_halted}
 use Rattle.pb_state.specs.declared.row.Running.{Running}
 use Rattle.pb_plan.specs.Plan.{PlayOf, PlanOf}
-use Rattle.pb_state.specs.Row.{HostRow}
+use Rattle.pb_state.specs.Row.{HostRow, next_place}
 use Rattle.pb_state.specs.State.{State}
-use Rattle.pb_state.specs.Machine.{open_play, next_place, least_place, same_place}
+use Rattle.pb_state.specs.Machine.{open_play, least_place, same_place}
 
--- of one host: an answer at most for each place of the tree, and three events at most for an answer: its start, its send and its report
-abbrev pub places_left : TreeOf → HostRow → ℕ
-places_left tree row = size_of tree - length (one_halted row.answers)
+-- of one host: an answer at most for each place of its tree, and three events at most for an answer: its start, its send and its report
+abbrev pub places_left : HostRow → ℕ
+places_left row = size_of row.tree - length (one_halted row.answers)
 
-abbrev pub place_work : TreeOf → HostRow → Option ℕ → ℕ
-place_work tree row None = 0
-place_work tree row (Some p) = 3 * places_left tree row
+abbrev pub place_work : HostRow → Option ℕ → ℕ
+place_work row None = 0
+place_work row (Some p) = 3 * places_left row
 
 -- of a task that runs: its send and its report, and what is behind it
 abbrev pub out_work : Option Ticket → ℕ
 out_work None = 2
 out_work (Some ticket) = 1
 
-abbrev pub running_work : TreeOf → HostRow → Option Running → ℕ
-running_work tree row None = place_work tree row (next_place tree row)
-running_work tree row (Some r) = out_work r.out + 3 * (places_left tree row - 1)
+abbrev pub running_work : HostRow → Option Running → ℕ
+running_work row None = place_work row (next_place row)
+running_work row (Some r) = out_work r.out + 3 * (places_left row - 1)
 
-abbrev pub row_work : TreeOf → HostRow → ℕ
-row_work tree row = running_work tree row row.running
+abbrev pub row_work : HostRow → ℕ
+row_work row = running_work row row.running
 
 -- of plays that haven't opened, for n hosts
 abbrev pub later_work : ℕ → List PlayOf → ℕ
@@ -46,7 +46,7 @@ turn_work place least = if is_place place least then 0 else 1
 abbrev pub work_in : PlanOf → State → Option PlayOf → ℕ
 work_in plan s None = later_work (length s.rows) (drop s.play plan.plays)
 work_in plan s (Some play) =
-    2 * sum_by (row_work play.tree) s.rows + 1 + turn_work s.place (least_place play.tree s.rows) + later_work (length s.rows) (drop (s.play + 1) plan.plays)
+    2 * sum_by row_work s.rows + 1 + turn_work s.place (least_place s.rows) + later_work (length s.rows) (drop (s.play + 1) plan.plays)
 
 abbrev pub work : PlanOf → State → ℕ
 work plan s = work_in plan s (open_play plan s)

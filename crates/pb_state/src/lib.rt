@@ -5,6 +5,8 @@
 //! `Plan` (pb_plan) is what the machine reads of a bundle.
 #![tactic(auto)]
 
+ghost use Rattle.pb_state.specs.Walks.{WalksLead};
+
 mod decided;
 mod event;
 mod job;
@@ -18,3 +20,9 @@ pub use event::{Event, Trail};
 pub use pb_plan::{Bundle, BundleFault, MAX_BYTES, Plan, PlanPlay, RoleFault};
 pub use row::Counts;
 pub use state::{EngineState, StepFault};
+
+/// What holds of every run: each host of the open batch is at the place to which its answers lead in the play's tree, and no other host
+/// is at a place.
+pub fn walks_lead()
+    ensures { WalksLead }
+{}

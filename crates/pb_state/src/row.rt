@@ -1,19 +1,22 @@
 //! What the state keeps of one host.
 
-ghost use Rattle.std.specs.Prelude.{◌≡◌, ◌<◌, ◌-◌, ◌^◌, OnOk, OnErr, IfOk, true};
+ghost use Rattle.std.specs.Prelude.{◌≡◌, ◌<◌, ◌-◌, ◌^◌, ◌∷◌, ◌++◌, [], OnOk, OnErr, IfOk, IfSome, Some, None, option_map, true, false, if◌then◌else◌};
 ghost use Rattle.std.specs.Option.{option_copied};
-ghost use Rattle.pb_tree.specs.Plain.{IsPlain};
+ghost use Rattle.pb_tree.specs.Answer.{AnswerOf};
+ghost use Rattle.pb_cursors.specs.Walks.{walk_from, walk_after};
 
 use crate::decided::{Decided, Done};
 use crate::planned::task_of;
+use pb_cursors::{LaidTree, PlayWalk};
 use pb_ids::Ticket;
 use pb_outcome::gather::TaskResult;
 use pb_outcome::job::Call;
 use pb_outcome::judge::judge;
 use pb_outcome::outcome::Outcome;
-use pb_tree::{Answer, Kind, PlayTree, Reach, Status};
+use pb_tree::{Answer, Kind, Reach, Status};
 use std::alloc::{AllocError, Global};
 use std::marker::Model;
+use std::rc::Rc;
 
 /// How a host's finished tasks count in the recap (Ansible's documentation, "Return Values").
 #[derive(Clone, Copy, Debug, PartialEq, Eq)]
@@ -62,14 +65,11 @@ impl Drop for Running {
     }
 }
 
-/// One host: its answers in the open batch, its status, whether it takes part in the batch, what it runs and what it finished last,
+/// One host: its walk through the open batch's play, where it takes part in that, its status, what it runs and what it finished last,
 /// and its counts.
 pub struct Row {
-    answers: Vec<Answer>,
-    /// Whether all answers are known to be good.
-    is_straight: bool,
+    walk: Option<PlayWalk>,
     status: Status,
-    in_batch: bool,
     running: Option<Running>,
     last: Option<Finish>,
     counts: Counts,
@@ -78,30 +78,41 @@ pub struct Row {
 impl Drop for Row {
     fn drop(self) {
         let Row {
-            answers,
-            is_straight: _,
+            walk,
             status: _,
-            in_batch: _,
             running,
             last: _,
             counts: _,
         } = self;
-        drop(answers);
+        drop(walk);
         drop(running);
     }
 }
 
 impl Model for Row {
+    ghost use Rattle.std.specs.Prelude.{is_some};
+    ghost use Rattle.pb_tree.specs.contracts.tree.PlayTree as play_tree;
+    ghost use Rattle.pb_value.specs.contracts.val.Val as val;
+    ghost use Rattle.std.specs.Coded.{codes};
     ghost use Rattle.pb_state.specs.Row.{HostRow};
 
     ghost Value = { HostRow };
 
-    ghost view = { λ r. record { answers = r.answers.items; status = r.status; in_batch = r.in_batch; running = r.running; last = r.last; counts = r.counts } };
+    ghost coded = { Prim.hlevel (codes, val.the_row.coded, play_tree.the_row.coded) };
 
-    ghost use Rattle.std.specs.Prelude.{◌≡◌, true};
-    ghost use Rattle.pb_tree.specs.Plain.{all_good};
+    ghost use Rattle.pb_state.specs.Walking.{tree_in, answers_in, AreUnforced, RunsInBatch};
 
-    ghost invariant = { λ r. r.is_straight ≡ true → all_good r.answers.items ≡ true };
+    ghost view = { λ r. record {
+      tree = tree_in r.walk;
+      answers = answers_in r.walk;
+      status = r.status;
+      in_batch = is_some r.walk;
+      running = r.running;
+      last = r.last;
+      counts = r.counts;
+    } };
+
+    ghost invariant = { λ r. AreUnforced r.walk × RunsInBatch r.running r.walk };
 }
 
 /// Whether a host still takes part.
@@ -111,7 +122,7 @@ pub fn is_active(status: Status) -> bool
     matches!(status, Status::Active)
 }
 
-ghost use Rattle.pb_state.specs.Row.{is_active, more, counted, is_okay, kind_of};
+ghost use Rattle.pb_state.specs.Row.{is_active, more, counted, is_okay, kind_of, status_at, place_of};
 ghost use Rattle.pb_state.specs.Bounds.{IsAtMost};
 
 fn more(counts: bool, n: u64) -> u64
@@ -152,6 +163,47 @@ fn counted(counts: Counts, task: TaskResult) -> Counts
     }
 }
 
+/// A host that takes part starts its walk.
+fn walk_if(alloc: Global, joins: bool, laid: &Rc<LaidTree>) -> Result<Option<PlayWalk>, AllocError>
+    ensures { IfOk result (λ walk. walk ≡ (if joins then Some (walk_from laid.now.value.tree) else None)) }
+{
+    if joins {
+        let walk = PlayWalk::first(alloc, laid)?;
+        Ok(Some(walk))
+    } else {
+        Ok(None)
+    }
+}
+
+/// The walk takes one answer more. An `Err` changes nothing.
+#[tactic(auto, using(crate::proofs::Walked::unforced_status))]
+fn go_on(walk: &mut PlayWalk, answer: Answer) -> Result<Status, AllocError>
+    requires { walk.old.tree.force_handlers ≡ false }
+    ensures ok { OnOk result (walk.new ≡ walk_after answer walk.old) }
+    ensures status { IfOk result (λ status. status ≡ status_at walk.old.tree (walk.old.answers ++ answer ∷ [])) }
+    ensures err { OnErr result (walk.new ≡ walk.old) }
+{
+    walk.answer(answer)?;
+    Ok(walk.status())
+}
+
+/// Puts an end to a host's walk.
+fn leave(slot: &mut Option<PlayWalk>)
+    ensures { slot.new ≡ None }
+{
+    *slot = None;
+}
+
+/// The place that is reached.
+fn place_of(reach: Reach) -> Option<usize>
+    ensures { result ≡ place_of reach }
+{
+    match reach {
+        Reach::At(place) => Some(place),
+        Reach::Done(_) => None,
+    }
+}
+
 /// Puts down what a host runs.
 fn run(slot: &mut Option<Running>, running: Option<Running>)
     ensures { slot.new ≡ running }
@@ -165,14 +217,12 @@ impl Row {
     ghost use Rattle.pb_items.specs.declared.planned.Planned.TheVariants.{Sends};
 
     /// A host before the run.
-    pub fn new(alloc: Global) -> Row
+    pub fn new() -> Row
         ensures { result ≡ first_row }
     {
         Row {
-            answers: Vec::new(alloc),
-            is_straight: true,
+            walk: None,
             status: Status::Active,
-            in_batch: false,
             running: None,
             last: None,
             counts: Counts {
@@ -188,23 +238,22 @@ impl Row {
     }
 
     /// The task at a place ends. An `Err` changes nothing.
-    #[tactic(auto, using(crate::proofs::Good::one_more))]
     pub fn finish(
         &mut self,
         alloc: Global,
-        tree: &PlayTree,
         place: usize,
         task: TaskResult,
     ) -> Result<(), AllocError>
-        requires plain { IsPlain tree.now }
+        requires batch { self.old.in_batch ≡ true }
         requires room { IsAtMost self.old.counts (2 ^ 64 - 2) }
-        ensures ok { OnOk result (self.new ≡ finished tree.now place task self.old) }
+        ensures ok { OnOk result (self.new ≡ finished place task self.old) }
         ensures err { OnErr result (self.new ≡ self.old) }
     {
         let kind = kind_of(task);
-        self.answers.push(Answer::of(kind, Vec::new(alloc)))?;
-        self.is_straight = self.is_straight && matches!(kind, Kind::Good);
-        self.status = tree.status_flat(&self.answers);
+        let Some(walk) = &mut self.walk else {
+            unreachable!();
+        };
+        self.status = go_on(walk, Answer::plain(alloc, kind))?;
         run(&mut self.running, None);
         self.last = Some(Finish { place, kind });
         self.counts = counted(self.counts, task);
@@ -213,6 +262,7 @@ impl Row {
 
     /// The task at a place starts, and waits for a job.
     pub fn begin(&mut self, place: usize, call: Call)
+        requires { self.old.in_batch ≡ true }
         ensures { self.new ≡ record self.old { running = Some (record { place = place; call = call; out = None }) } }
     {
         run(
@@ -238,12 +288,10 @@ impl Row {
     pub fn report(
         &mut self,
         alloc: Global,
-        tree: &PlayTree,
         outcome: &Outcome,
     ) -> Result<Option<Decided>, AllocError>
-        requires plain { IsPlain tree.now }
-        requires room { IsAtMost self.old.counts (2 ^ 64 - 2) }
-        ensures row { OnOk result (self.new ≡ reported tree.now outcome.now self.old) }
+        requires { IsAtMost self.old.counts (2 ^ 64 - 2) }
+        ensures row { OnOk result (self.new ≡ reported outcome.now self.old) }
         ensures decides { IfOk result (λ decided. decided ≡ report_decides outcome.now self.old) }
         ensures err { OnErr result (self.new ≡ self.old) }
     {
@@ -253,7 +301,7 @@ impl Row {
                 let place = running.place;
                 let item = judge(alloc, &running.call, outcome)?;
                 let task = task_of(&item);
-                self.finish(alloc, tree, place, task)?;
+                self.finish(alloc, place, task)?;
                 Ok(Some(Decided {
                     place,
                     is_new: false,
@@ -266,31 +314,34 @@ impl Row {
         }
     }
 
-    /// A batch opens. `own` tells whether the host is one of the play's own.
-    pub fn join(&mut self, own: bool)
-        ensures { self.new ≡ joined own self.old }
+    /// The host as the batch of a play with this tree opens. `own` tells whether the host is one of the play's own.
+    pub fn joined(&self, alloc: Global, own: bool, laid: &Rc<LaidTree>) -> Result<Row, AllocError>
+        requires { laid.now.value.tree.force_handlers ≡ false }
+        ensures { IfOk result (λ row. row ≡ joined laid.now.value.tree own self.now) }
     {
-        self.answers.clear();
-        self.is_straight = true;
-        self.in_batch = own && is_active(self.status);
-        run(&mut self.running, None);
-        self.last = None;
+        let walk = walk_if(alloc, own && is_active(self.status), laid)?;
+        Ok(Row {
+            walk,
+            status: self.status,
+            running: None,
+            last: None,
+            counts: self.counts,
+        })
     }
 
     /// The batch closes.
     pub fn leave(&mut self)
         ensures { self.new ≡ left self.old }
     {
-        self.answers.clear();
-        self.is_straight = true;
-        self.in_batch = false;
+        leave(&mut self.walk);
         run(&mut self.running, None);
         self.last = None;
     }
 }
 
 impl Row {
-    ghost use Rattle.pb_state.specs.Machine.{is_ready, next_place, stands_at, is_in, is_running, has_send, is_out, has_ticket, has_begun, is_last_at, runs_at, is_ticket};
+    ghost use Rattle.pb_state.specs.Row.{next_place};
+    ghost use Rattle.pb_state.specs.Machine.{is_ready, stands_at, is_in, is_running, has_send, is_out, has_ticket, has_begun, is_last_at, runs_at, is_ticket};
 
     /// Whether the host still takes part in the playbook.
     pub fn is_host_active(&self) -> bool
@@ -303,7 +354,7 @@ impl Row {
     pub fn is_in(&self) -> bool
         ensures { result ≡ is_in self.now }
     {
-        self.in_batch && is_active(self.status)
+        self.in_batch() && is_active(self.status)
     }
 
     /// Whether the host runs a task.
@@ -350,52 +401,34 @@ impl Row {
         }
     }
 
-    /// Where the host is after its answers.
-    fn reach(&self, tree: &PlayTree) -> Reach
-        requires { IsPlain tree.now }
-        ensures { result ≡ reach tree.now self.now.answers }
+    /// The next place of a host of the batch. It walks no tree.
+    pub fn next_place(&self) -> Option<usize>
+        ensures { result ≡ next_place self.now }
     {
-        if self.is_straight {
-            tree.reach_plain(&self.answers)
-        } else {
-            tree.reach_flat(&self.answers)
-        }
-    }
-
-    /// The next place of a host of the batch.
-    pub fn next_place(&self, tree: &PlayTree) -> Option<usize>
-        requires { IsPlain tree.now }
-        ensures { result ≡ next_place tree.now self.now }
-    {
-        if !self.is_in() {
-            return None;
-        }
-        match self.reach(tree) {
-            Reach::At(place) => Some(place),
-            Reach::Done(_) => None,
+        match &self.walk {
+            Some(walk) => place_of(walk.reach()),
+            None => None,
         }
     }
 
     /// Whether the host doesn't run and its next place is the current one.
-    pub fn stands_at(&self, tree: &PlayTree, place: Option<usize>) -> bool
-        requires { IsPlain tree.now }
-        ensures { result ≡ stands_at tree.now place self.now }
+    pub fn stands_at(&self, place: Option<usize>) -> bool
+        ensures { result ≡ stands_at place self.now }
     {
         if self.is_running() {
             return false;
         }
-        match (self.next_place(tree), place) {
+        match (self.next_place(), place) {
             (Some(next), Some(current)) => next == current,
             _ => false,
         }
     }
 
     /// Whether the host has a job to send, where jobs are sent, or may start at the current place, where there is room.
-    pub fn is_ready(&self, sends: bool, room: bool, tree: &PlayTree, place: Option<usize>) -> bool
-        requires { IsPlain tree.now }
-        ensures { result ≡ is_ready sends room tree.now place self.now }
+    pub fn is_ready(&self, sends: bool, room: bool, place: Option<usize>) -> bool
+        ensures { result ≡ is_ready sends room place self.now }
     {
-        sends && self.has_send() || room && self.stands_at(tree, place)
+        sends && self.has_send() || room && self.stands_at(place)
     }
 
     /// Whether the host runs the task at this place.
@@ -429,7 +462,7 @@ impl Row {
     pub fn in_batch(&self) -> bool
         ensures { result ≡ self.now.in_batch }
     {
-        self.in_batch
+        self.walk.is_some()
     }
 
     /// How the host's finished tasks count.
@@ -440,7 +473,6 @@ impl Row {
     }
 }
 
-ghost use Rattle.pb_tree.specs.Walk.{reach};
 ghost use Rattle.pb_state.specs.Machine.{is_ticket};
 
 fn is_ticket(ticket: Ticket, out: Option<Ticket>) -> bool

@@ -4,22 +4,22 @@ ghost use Rattle.std.specs.Prelude.{◌≡◌, ◌&&◌, ◌<◌, ◌≤◌, ◌
 ghost use Rattle.std.specs.List.{list_any};
 ghost use Rattle.std.specs.Option.{option_map_or};
 ghost use Rattle.pb_planes.specs.Set.{is_in as is_member};
-ghost use Rattle.pb_tree.specs.Plain.{IsPlain};
-ghost use Rattle.pb_state.specs.Row.{HostRow, first_row, left, finished, sent, reported};
+ghost use Rattle.pb_state.specs.Row.{HostRow, first_row, next_place, left, finished, sent, reported};
 ghost use Rattle.pb_state.specs.Bounds.{IsAtMost};
 ghost use Rattle.pb_state.specs.Oldest.{oldest_out, out_at, older};
 ghost use Rattle.pb_state.specs.Machine.{is_ready, stands_at, is_in, is_running, has_send, is_out, has_ticket, has_begun, least_place, lesser, change, report_decides, some_own, has_hosts, first_play, joined_in};
 
 use crate::decided::Decided;
 use crate::row::{Counts, Row};
+use pb_cursors::LaidTree;
 use pb_ids::{HostNo, Ticket};
 use pb_outcome::gather::TaskResult;
 use pb_outcome::job::Call;
 use pb_outcome::outcome::Outcome;
 use pb_plan::PlanPlay;
 use pb_planes::HostSet;
-use pb_tree::PlayTree;
 use std::alloc::{AllocError, Global};
+use std::rc::Rc;
 
 /// A row for each host.
 pub fn first_rows(alloc: Global, hosts: usize) -> Result<Vec<Row>, AllocError>
@@ -27,7 +27,7 @@ pub fn first_rows(alloc: Global, hosts: usize) -> Result<Vec<Row>, AllocError>
 {
     let mut rows = Vec::new(alloc);
     for _ in 0..hosts {
-        rows.push(Row::new(alloc))?;
+        rows.push(Row::new())?;
     }
     Ok(rows)
 }
@@ -109,11 +109,10 @@ pub fn running_count(rows: &[Row]) -> usize
 }
 
 /// Whether a host of the batch is at this place.
-pub fn some_stands(rows: &[Row], tree: &PlayTree, place: Option<usize>) -> bool
-    requires { IsPlain tree.now }
-    ensures { result ≡ list_any (stands_at tree.now place) rows.now }
+pub fn some_stands(rows: &[Row], place: Option<usize>) -> bool
+    ensures { result ≡ list_any (stands_at place) rows.now }
 {
-    rows.iter().any(|row| row.stands_at(tree, place))
+    rows.iter().any(|row| row.stands_at(place))
 }
 
 /// A host finishes the task at a place. An `Err` changes nothing.
@@ -121,23 +120,23 @@ pub fn finish_row(
     alloc: Global,
     rows: &mut Vec<Row>,
     host: HostNo,
-    tree: &PlayTree,
     place: usize,
     task: TaskResult,
 ) -> Result<(), AllocError>
-    requires plain { IsPlain tree.now }
+    requires batch { IfSome (slice_get rows.old.items host.0) (λ row. row.in_batch ≡ true) }
     requires room { IfSome (slice_get rows.old.items host.0) (λ row. IsAtMost row.counts (2 ^ 64 - 2)) }
-    ensures ok { OnOk result (rows.new.items ≡ change rows.old.items host.0 (finished tree.now place task)) }
+    ensures ok { OnOk result (rows.new.items ≡ change rows.old.items host.0 (finished place task)) }
     ensures err { OnErr result (rows.new.items ≡ rows.old.items) }
 {
     if let Some(row) = rows.get_mut(host.0 as usize) {
-        row.finish(alloc, tree, place, task)?;
+        row.finish(alloc, place, task)?;
     }
     Ok(())
 }
 
 /// A host starts the task at a place, which waits for a job.
 pub fn begin_row(rows: &mut Vec<Row>, host: HostNo, place: usize, call: Call)
+    requires { IfSome (slice_get rows.old.items host.0) (λ row. row.in_batch ≡ true) }
     ensures { rows.new.items ≡ change rows.old.items host.0 (λ row. record row { running = Some (record { place = place; call = call; out = None }) }) }
 {
     if let Some(row) = rows.get_mut(host.0 as usize) {
@@ -159,17 +158,15 @@ pub fn report_row(
     alloc: Global,
     rows: &mut Vec<Row>,
     host: HostNo,
-    tree: &PlayTree,
     outcome: &Outcome,
 ) -> Result<Option<Decided>, AllocError>
-    requires plain { IsPlain tree.now }
-    requires room { IfSome (slice_get rows.old.items host.0) (λ row. IsAtMost row.counts (2 ^ 64 - 2)) }
-    ensures rows { OnOk result (rows.new.items ≡ change rows.old.items host.0 (reported tree.now outcome.now)) }
+    requires { IfSome (slice_get rows.old.items host.0) (λ row. IsAtMost row.counts (2 ^ 64 - 2)) }
+    ensures rows { OnOk result (rows.new.items ≡ change rows.old.items host.0 (reported outcome.now)) }
     ensures decides { IfOk result (λ decided. decided ≡ option_map_or (report_decides outcome.now) (slice_get rows.old.items host.0) None) }
     ensures err { OnErr result (rows.new.items ≡ rows.old.items) }
 {
     match rows.get_mut(host.0 as usize) {
-        Some(row) => row.report(alloc, tree, outcome),
+        Some(row) => row.report(alloc, outcome),
         None => Ok(None),
     }
 }
@@ -210,12 +207,31 @@ fn older(a: Option<(HostNo, Ticket)>, b: Option<(HostNo, Ticket)>) -> Option<(Ho
     }
 }
 
-/// Each host of a set joins the batch if it is active.
-pub fn join_all(rows: &mut Vec<Row>, hosts: &HostSet)
-    requires { length rows.old.items ≤ 65536 }
-    ensures { rows.new.items ≡ joined_in hosts.now 0 rows.old.items }
+/// The rows as the batch of a play opens that has this tree and whose own hosts are in this set.
+pub fn joined_rows(
+    alloc: Global,
+    rows: &[Row],
+    hosts: &HostSet,
+    laid: &Rc<LaidTree>,
+) -> Result<Vec<Row>, AllocError>
+    requires width { length rows.now ≤ 65536 }
+    requires unforced { laid.now.value.tree.force_handlers ≡ false }
+    ensures { IfOk result (λ all. all.items ≡ joined_in laid.now.value.tree hosts.now 0 rows.now) }
 {
-    join_each(rows.as_mut_slice(), hosts);
+    let mut all = Vec::with_capacity(alloc, rows.len())?;
+    for (i, row) in rows.iter().enumerate() {
+        let own = is_member(hosts, HostNo(i as u32));
+        let joined = row.joined(alloc, own, laid)?;
+        all.push(joined)?;
+    }
+    Ok(all)
+}
+
+/// Puts down the rows of all hosts.
+pub fn put_rows(slot: &mut Vec<Row>, rows: Vec<Row>)
+    ensures { slot.new.items ≡ rows.items }
+{
+    *slot = rows;
 }
 
 /// Each host leaves the batch.
@@ -223,15 +239,6 @@ pub fn leave_all(rows: &mut Vec<Row>)
     ensures { rows.new.items ≡ map left rows.old.items }
 {
     leave_each(rows.as_mut_slice());
-}
-
-fn join_each(rows: &mut [Row], hosts: &HostSet)
-    requires { length rows.old ≤ 65536 }
-    ensures { rows.new ≡ joined_in hosts.now 0 rows.old }
-{
-    for (i, row) in rows.iter_mut().enumerate() {
-        row.join(is_member(hosts, HostNo(i as u32)));
-    }
 }
 
 fn leave_each(rows: &mut [Row])
@@ -244,13 +251,12 @@ fn leave_each(rows: &mut [Row])
 
 /// The least place at which a host of the batch is.
 #[tactic(auto, using(crate::proofs::Least::lesser_assoc, crate::proofs::Least::lesser_none))]
-pub fn least_place(rows: &[Row], tree: &PlayTree) -> Option<usize>
-    requires { IsPlain tree.now }
-    ensures { result ≡ least_place tree.now rows.now }
+pub fn least_place(rows: &[Row]) -> Option<usize>
+    ensures { result ≡ least_place rows.now }
 {
     let mut least = None;
     for row in rows {
-        least = lesser(least, row.next_place(tree));
+        least = lesser(least, row.next_place());
     }
     least
 }
@@ -266,21 +272,13 @@ fn lesser(a: Option<usize>, b: Option<usize>) -> Option<usize>
 }
 
 /// Puts the hosts that have a job to send or may start into a set.
-pub fn ready_into(
-    rows: &[Row],
-    tree: &PlayTree,
-    place: Option<usize>,
-    sends: bool,
-    room: bool,
-    set: &mut HostSet,
-)
-    requires plain { IsPlain tree.now }
-    requires width { length set.old ≡ length rows.now }
-    ensures { set.new ≡ map (is_ready sends room tree.now place) rows.now }
+pub fn ready_into(rows: &[Row], place: Option<usize>, sends: bool, room: bool, set: &mut HostSet)
+    requires { length set.old ≡ length rows.now }
+    ensures { set.new ≡ map (is_ready sends room place) rows.now }
 {
     let width = set.width();
     for i in 0..width {
-        let is_in = rows[i as usize].is_ready(sends, room, tree, place);
+        let is_in = rows[i as usize].is_ready(sends, room, place);
         set.put(HostNo(i), is_in);
     }
 }

@@ -15,9 +15,9 @@ use crate::job::job_in;
 use crate::planned::{planned_at, task_of};
 use crate::row::{Counts, Row};
 use crate::rows::{
-    begin_row, counts_of, finish_row, first_play, first_rows, join_all, least_place, leave_all,
-    none_into, oldest_out, ready_into, report_row, running_count, send_row, some_begun, some_in,
-    some_out, some_running, some_stands, some_ticket,
+    begin_row, counts_of, finish_row, first_play, first_rows, joined_rows, least_place, leave_all,
+    none_into, oldest_out, put_rows, ready_into, report_row, running_count, send_row, some_begun,
+    some_in, some_out, some_running, some_stands, some_ticket,
 };
 use pb_ids::{HostNo, PlayNo, Ticket};
 use pb_items::planned::Planned;
@@ -85,12 +85,13 @@ impl Drop for EngineState {
 
 impl Model for EngineState {
     ghost use Rattle.pb_state.specs.State.{State};
+    ghost use Rattle.pb_tree.specs.contracts.tree.PlayTree as play_tree;
     ghost use Rattle.pb_value.specs.contracts.val.Val as val;
     ghost use Rattle.std.specs.Coded.{codes};
 
     ghost Value = { State };
 
-    ghost coded = { Prim.hlevel (codes, val.the_row.coded) };
+    ghost coded = { Prim.hlevel (codes, val.the_row.coded, play_tree.the_row.coded) };
 
     ghost view = { λ s. record { rows = s.rows.items; play = s.play; is_open = s.is_open; place = s.place; forks = s.forks; pool = s.pool; sends = s.sends; stopped = s.stopped; ended = s.ended; decided = s.decided } };
 
@@ -140,8 +141,9 @@ impl EngineState {
     fn may_start_in(&self, host: HostNo, play: &PlanPlay) -> bool
         ensures { result ≡ may_start_in self.now host.0 play.now }
     {
+        let _play = play;
         match self.rows.get(host.0 as usize) {
-            Some(row) => self.has_room() && row.stands_at(play.tree(), self.place),
+            Some(row) => self.has_room() && row.stands_at(self.place),
             None => false,
         }
     }
@@ -209,10 +211,11 @@ impl EngineState {
     fn may_turn_in(&self, play: &PlanPlay) -> bool
         ensures { result ≡ may_turn_in self.now play.now }
     {
+        let _play = play;
         !self.stopped
             && self.place.is_some()
             && !some_running(&self.rows)
-            && !(self.has_room() && some_stands(&self.rows, play.tree(), self.place))
+            && !(self.has_room() && some_stands(&self.rows, self.place))
     }
 
     /// Whether the batch can close.
@@ -220,11 +223,11 @@ impl EngineState {
         ensures { result ≡ option_map_or (may_close_in self.now) (open_play plan.now self.now) false }
     {
         match self.open_play(plan) {
-            Some(play) => {
+            Some(_) => {
                 !self.stopped
                     && self.place.is_none()
                     && !some_running(&self.rows)
-                    && least_place(&self.rows, play.tree()).is_none()
+                    && least_place(&self.rows).is_none()
             }
             None => false,
         }
@@ -282,10 +285,7 @@ impl EngineState {
         ensures err { OnErr result (self.new ≡ self.old) }
     {
         match event {
-            Event::Open => {
-                self.open(plan);
-                Ok(())
-            }
+            Event::Open => self.open(plan),
             Event::Start(host) => self.start(plan, *host),
             Event::Send { host, item, ticket } => {
                 self.send(plan, *host, *item, *ticket);
@@ -313,45 +313,52 @@ impl EngineState {
         }
     }
 
-    fn open(&mut self, plan: &Plan)
+    fn open(&mut self, plan: &Plan) -> Result<(), AllocError>
         requires { may_open plan.now self.old ≡ true }
-        ensures { self.new ≡ after plan.now self.old Event.Open }
+        ensures ok { OnOk result (self.new ≡ after plan.now self.old Event.Open) }
+        ensures err { OnErr result (self.new ≡ self.old) }
     {
         let plays = plan.plays();
-        if let Some(number) = self.next_play(plan) {
-            self.open_at(number, plays);
+        match self.next_play(plan) {
+            Some(number) => self.open_at(number, plays),
+            None => Ok(()),
         }
     }
 
-    fn open_at(&mut self, number: usize, plays: &[PlanPlay])
+    fn open_at(&mut self, number: usize, plays: &[PlanPlay]) -> Result<(), AllocError>
         requires closed { self.old.is_open ≡ false }
         requires least { self.old.play ≤ number }
         requires most { length plays.now ≤ 256 }
-        ensures { self.new ≡ option_map_or (opened_in self.old number) (slice_get plays.now number) self.old }
+        ensures ok { OnOk result (self.new ≡ option_map_or (opened_in self.old number) (slice_get plays.now number) self.old) }
+        ensures err { OnErr result (self.new ≡ self.old) }
     {
-        if let Some(play) = plays.get(number) {
-            self.open_in(number, play);
+        match plays.get(number) {
+            Some(play) => self.open_in(number, play),
+            None => Ok(()),
         }
     }
 
-    fn open_in(&mut self, number: usize, play: &PlanPlay)
+    fn open_in(&mut self, number: usize, play: &PlanPlay) -> Result<(), AllocError>
         requires closed { self.old.is_open ≡ false }
         requires least { self.old.play ≤ number }
         requires below { number < 256 }
-        ensures { self.new ≡ opened_in self.old number play.now }
+        ensures ok { OnOk result (self.new ≡ opened_in self.old number play.now) }
+        ensures err { OnErr result (self.new ≡ self.old) }
     {
-        join_all(&mut self.rows, play.hosts());
+        let rows = joined_rows(self.alloc, &self.rows, play.hosts(), play.laid())?;
+        put_rows(&mut self.rows, rows);
         self.play = number;
         self.is_open = true;
-        self.place = least_place(&self.rows, play.tree());
+        self.place = least_place(&self.rows);
         decide(&mut self.decided, None);
+        Ok(())
     }
 
     fn turn(&mut self, plan: &Plan)
         ensures { self.new ≡ after plan.now self.old Event.Turn }
     {
-        if let Some(play) = self.open_play(plan) {
-            self.place = least_place(&self.rows, play.tree());
+        if let Some(_) = self.open_play(plan) {
+            self.place = least_place(&self.rows);
             decide(&mut self.decided, None);
         }
     }
@@ -414,7 +421,7 @@ impl EngineState {
     ) -> Result<(), AllocError>
         requires open { self.old.is_open ≡ true }
         requires may { may_start_in self.old host.0 play.now ≡ true }
-        ensures ok { OnOk result (self.new ≡ record self.old { rows = change self.old.rows host.0 (finished play.now.tree place (task_of item)); decided = Some (record { place = place; is_new = is_new; done = Some (done_by item) }) }) }
+        ensures ok { OnOk result (self.new ≡ record self.old { rows = change self.old.rows host.0 (finished place (task_of item)); decided = Some (record { place = place; is_new = is_new; done = Some (done_by item) }) }) }
         ensures err { OnErr result (self.new ≡ self.old) }
     {
         let task = task_of(&item);
@@ -437,10 +444,11 @@ impl EngineState {
     ) -> Result<(), AllocError>
         requires open { self.old.is_open ≡ true }
         requires may { may_start_in self.old host.0 play.now ≡ true }
-        ensures ok { OnOk result (self.new ≡ record self.old { rows = change self.old.rows host.0 (finished play.now.tree place task) }) }
+        ensures ok { OnOk result (self.new ≡ record self.old { rows = change self.old.rows host.0 (finished place task) }) }
         ensures err { OnErr result (self.new ≡ self.old) }
     {
-        finish_row(self.alloc, &mut self.rows, host, play.tree(), place, task)?;
+        let _play = play;
+        finish_row(self.alloc, &mut self.rows, host, place, task)?;
         Ok(())
     }
 
@@ -448,9 +456,9 @@ impl EngineState {
     fn begin_at(&mut self, host: HostNo, play: &PlanPlay, place: usize, call: Call)
         requires open { self.old.is_open ≡ true }
         requires may { may_start_in self.old host.0 play.now ≡ true }
-        ensures { self.new ≡ record self.old { rows = change self.old.rows host.0 (started play.now.tree place (Planned.Sends call)) } }
+        ensures { self.new ≡ record self.old { rows = change self.old.rows host.0 (started place (Planned.Sends call)) } }
     {
-        let _tree = play.tree();
+        let _play = play;
         begin_row(&mut self.rows, host, place, call);
     }
 
@@ -506,13 +514,8 @@ impl EngineState {
         ensures ok { OnOk result (self.new ≡ reported_in self.old report.now play.now) }
         ensures err { OnErr result (self.new ≡ self.old) }
     {
-        let decided = report_row(
-            self.alloc,
-            &mut self.rows,
-            report.host,
-            play.tree(),
-            &report.outcome,
-        )?;
+        let _play = play;
+        let decided = report_row(self.alloc, &mut self.rows, report.host, &report.outcome)?;
         decide(&mut self.decided, decided);
         Ok(())
     }
@@ -565,14 +568,7 @@ impl EngineState {
         ensures { set.new ≡ ready plan.now self.now }
     {
         match self.open_play(plan) {
-            Some(play) => ready_into(
-                &self.rows,
-                play.tree(),
-                self.place,
-                !self.stopped,
-                self.has_room(),
-                set,
-            ),
+            Some(_) => ready_into(&self.rows, self.place, !self.stopped, self.has_room(), set),
             None => none_into(set),
         }
     }

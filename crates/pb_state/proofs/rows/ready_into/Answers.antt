@@ -5,10 +5,10 @@ use Rattle.pb_state.proofs.rows.ready_into.Goals as goal
 
 pub loop-i-preserved : goal.loop-i-preserved
 loop-i-preserved c =
-    let inside : c.loop-i.i < length c.args.rows.now = omega (arith, c.requires.width) in
+    let inside : c.loop-i.i < length c.args.rows.now = omega (arith, c.requires) in
     record {
       width = rw c.put.ensures (simp length-set c.loop-i.invariant.width);
       told =
           rw (c.put.ensures, c.is_ready-is_in.ensures)
-          (told_more (is_ready c.args.sends c.args.room c.args.tree.now c.args.place) c.args.rows.now c.args.set.now c.loop-i.set c.loop-i.i c.index-rows-i.result inside c.requires.width c.loop-i.invariant.told c.index-rows-i.is);
+          (told_more (is_ready c.args.sends c.args.room c.args.place) c.args.rows.now c.args.set.now c.loop-i.set c.loop-i.i c.index-rows-i.result inside c.requires c.loop-i.invariant.told c.index-rows-i.is);
     }

@@ -1,18 +1,16 @@
 use Rattle.std.proofs.Common.{◌≡◌, true, subst, sym}
-use Rattle.pb_tree.specs.Tree.{TreeOf}
-use Rattle.pb_state.specs.Row.{reported}
 use Rattle.pb_state.specs.State.{State}
-use Rattle.pb_state.specs.Machine.{change, may_report_in}
+use Rattle.pb_state.specs.Machine.{may_report_in}
 use Rattle.pb_state.proofs.Within.{room_at, report_bounded}
 use Rattle.pb_state.proofs.state.EngineState.report_in.Goals as goal
 
-pub report_row-requires-clause-room : goal.report_row-requires-clause-room
-report_row-requires-clause-room c =
+pub report_row-requires : goal.report_row-requires
+report_row-requires c =
     room_at c.self.inside.play c.self.inside.sends c.args.report.now.host.0 c.self.inside.is_open c.self.inside.rows.items (subst (λ (v : State). v.is_open ≡ true) (sym c.self.view_is) c.requires.open) c.self.invariant
 
 pub invariant_of-self-2 : goal.invariant_of-self-2
 invariant_of-self-2 c =
-    report_bounded c.self.inside.play c.self.inside.sends c.args.report.now.host.0 c.args.report.now.item c.self.inside.is_open c.args.play.now.tree c.args.report.now.ticket c.args.report.now.outcome c.self.inside.rows.items c.report_row.new.rows.items c.self.invariant
+    report_bounded c.self.inside.play c.self.inside.sends c.args.report.now.host.0 c.args.report.now.item c.self.inside.is_open c.args.report.now.ticket c.args.report.now.outcome c.self.inside.rows.items c.report_row.new.rows.items c.self.invariant
     (subst (λ (v : State). v.is_open ≡ true) (sym c.self.view_is) c.requires.open)
     (subst (λ (v : State). may_report_in v c.args.report.now c.args.play.now ≡ true) (sym c.self.view_is) c.requires.may)
-    (subst (λ (t : TreeOf). c.report_row.new.rows.items ≡ change c.self.inside.rows.items c.args.report.now.host.0 (reported t c.args.report.now.outcome)) c.tree.ensures.value c.in_ok-decided.ensures.rows)
+    c.in_ok-decided.ensures.rows

@@ -1,0 +1,153 @@
+-- In every run the hosts of the open batch are where their answers lead in the play's tree.
+use Rattle.std.proofs.Common.{◌≡◌, ℕ, zero, suc, ◌+◌, Bool, true, false, List, [], ◌∷◌, refl, sym, ◌∙◌, ap, subst}
+use Rattle.std.specs.Prelude.{Option, Some, None, slice_get, if◌then◌else◌}
+use Rattle.std.specs.Option.{option_map_or}
+use Rattle.pb_planes.specs.Set.{is_in as is_member}
+use Rattle.pb_ids.specs.declared.numbers.Ticket.{Ticket}
+use Rattle.pb_tree.specs.Tree.{TreeOf}
+use Rattle.pb_tree.specs.Walk.{reach}
+use Rattle.pb_outcome.specs.declared.job.Report.{Report}
+use Rattle.pb_outcome.specs.declared.outcome.Form.{Form}
+use Rattle.pb_state.specs.declared.event.Event.{Event}
+use Rattle.pb_state.specs.declared.event.Event.TheVariants.{Open, Start, Send, Report as Reported, Turn, Close, Stop, Forks}
+use Rattle.pb_items.specs.declared.planned.Planned.{Planned}
+use Rattle.pb_items.specs.declared.planned.Planned.TheVariants.{Decided, Sends}
+use Rattle.pb_state.specs.declared.row.Running.{Running}
+use Rattle.pb_plan.specs.Plan.{PlayOf, PlanOf}
+use Rattle.pb_state.specs.Row.{HostRow, no_tree, place_of, next_place, started, sent, reported, reported_running, joins, joined, left}
+use Rattle.pb_state.specs.State.{State}
+use Rattle.pb_state.specs.Results.{planned_at}
+use Rattle.pb_state.specs.Machine.{after, change, open_play, next_play, joined_in, opened_in, opened_at, started_in, start_at, sent_in, reported_in, turned_in, first_state}
+use Rattle.pb_state.specs.Run.{state_from, IsRun}
+use Rattle.pb_state.specs.Walks.{walks_in, IsWalked, AreWalked, IsTracked, WalksLead}
+
+-- a host of the batch walks this tree
+abbrev pub IsIn : TreeOf → HostRow → Type 0
+IsIn tree row = row.in_batch ≡ true → row.tree ≡ tree
+
+abbrev pub AllIn : TreeOf → List HostRow → Type 0
+AllIn tree [] = Unit {0}
+AllIn tree (row ∷ rows) = IsIn tree row × AllIn tree rows
+
+abbrev pub IsOfPlan : PlanOf → State → Type 0
+IsOfPlan plan s = (play : PlayOf) → open_play plan s ≡ Some play → AllIn play.tree s.rows
+
+-- one row changed
+change_on : (row : HostRow) (rows : List HostRow) (h : ℕ) (f : HostRow → HostRow) (found : Option HostRow) → slice_get rows h ≡ found → change (row ∷ rows) (suc h) f ≡ row ∷ change rows h f
+change_on row rows h f None e = rw e refl
+change_on row rows h f (Some r) e = rw e refl
+
+in_change : (tree : TreeOf) (f : HostRow → HostRow) → ((row : HostRow) → IsIn tree row → IsIn tree (f row)) → (rows : List HostRow) (h : ℕ) → AllIn tree rows → AllIn tree (change rows h f)
+in_change tree f keeps [] h all = tt
+in_change tree f keeps (row ∷ rows) zero all = (keeps row all.0, all.1)
+in_change tree f keeps (row ∷ rows) (suc h) all = rw (change_on row rows h f (slice_get rows h) refl) (all.0, in_change tree f keeps rows h all.1)
+
+started_in_tree : (tree : TreeOf) (p : ℕ) (planned : Planned) (row : HostRow) → IsIn tree row → IsIn tree (started p planned row)
+started_in_tree tree p (Decided item) row is = is
+started_in_tree tree p (Sends call) row is = is
+
+reported_in_tree : (tree : TreeOf) (outcome : Form) (row : HostRow) → IsIn tree row → IsIn tree (reported outcome row)
+reported_in_tree tree outcome row is = by_running row.running
+  where
+    by_running : (running : Option Running) → IsIn tree (option_map_or (reported_running outcome row) running row)
+    by_running None = is
+    by_running (Some r) = is
+
+joined_in_tree : (tree : TreeOf) (hosts : List Bool) (h : ℕ) (rows : List HostRow) → AllIn tree (joined_in tree hosts h rows)
+joined_in_tree tree hosts h [] = tt
+joined_in_tree tree hosts h (row ∷ rows) = (λ e. chosen (joins (is_member hosts h) row) e, joined_in_tree tree hosts (h + 1) rows)
+  where
+    chosen : (b : Bool) → b ≡ true → (if b then tree else no_tree) ≡ tree
+    chosen true e = refl
+    chosen false e = cc
+
+-- a step in the play that is open
+record Goes (plan : PlanOf) (s new : State) : Type 0 where
+  same : open_play plan new ≡ open_play plan s
+  keeps : (tree : TreeOf) → AllIn tree s.rows → AllIn tree new.rows
+
+goes_on : (plan : PlanOf) (s new : State) → Goes plan s new → IsOfPlan plan s → IsOfPlan plan new
+goes_on plan s new goes is = λ play o. goes.keeps play.tree (is play (sym goes.same ∙ o))
+
+stays : (plan : PlanOf) (s : State) → Goes plan s s
+stays plan s = record { same = refl; keeps = λ tree all. all }
+
+start_goes : (plan : PlanOf) (s : State) (h : ℕ) (play : PlayOf) (place : Option ℕ) → Goes plan s (option_map_or (start_at plan s h play) place s)
+start_goes plan s h play None = stays plan s
+start_goes plan s h play (Some p) =
+    record { same = refl; keeps = λ tree all. in_change tree (started p (planned_at plan play h p)) (λ row is. started_in_tree tree p (planned_at plan play h p) row is) s.rows h all }
+
+started_goes : (plan : PlanOf) (s : State) (h : ℕ) (found : Option PlayOf) → Goes plan s (option_map_or (started_in plan s h) found s)
+started_goes plan s h None = stays plan s
+started_goes plan s h (Some play) = start_goes plan s h play s.place
+
+sent_goes : (plan : PlanOf) (s : State) (h : ℕ) (ticket : Ticket) (found : Option PlayOf) → Goes plan s (option_map_or (sent_in s h ticket) found s)
+sent_goes plan s h ticket None = stays plan s
+sent_goes plan s h ticket (Some play) = record { same = refl; keeps = λ tree all. in_change tree (sent ticket) (λ row is. is) s.rows h all }
+
+reported_goes : (plan : PlanOf) (s : State) (r : Report) (found : Option PlayOf) → Goes plan s (option_map_or (reported_in s r) found s)
+reported_goes plan s r None = stays plan s
+reported_goes plan s r (Some play) =
+    record { same = refl; keeps = λ tree all. in_change tree (reported r.outcome) (λ row is. reported_in_tree tree r.outcome row is) s.rows r.host.0 all }
+
+turned_goes : (plan : PlanOf) (s : State) (found : Option PlayOf) → Goes plan s (option_map_or (turned_in s) found s)
+turned_goes plan s None = stays plan s
+turned_goes plan s (Some play) = record { same = refl; keeps = λ tree all. all }
+
+-- an open
+opened_of : (plan : PlanOf) (s : State) (n : ℕ) (found : Option PlayOf) → slice_get plan.plays n ≡ found → IsOfPlan plan s → IsOfPlan plan (option_map_or (opened_in s n) found s)
+opened_of plan s n None e is = is
+opened_of plan s n (Some play) e is = λ other o.
+    let same : play ≡ other = some_same play other (sym e ∙ o) in
+    subst (λ (p : PlayOf). AllIn p.tree (joined_in play.tree play.hosts 0 s.rows)) same (joined_in_tree play.tree play.hosts 0 s.rows)
+  where
+    some_same : (a b : PlayOf) → Some a ≡ Some b → a ≡ b
+    some_same a b e = cc
+
+next_of : (plan : PlanOf) (s : State) (next : Option ℕ) → IsOfPlan plan s → IsOfPlan plan (option_map_or (opened_at plan s) next s)
+next_of plan s None is = is
+next_of plan s (Some n) is = opened_of plan s n (slice_get plan.plays n) refl is
+
+pub step_of : (plan : PlanOf) (s : State) (e : Event) → IsOfPlan plan s → IsOfPlan plan (after plan s e)
+step_of plan s Open is = next_of plan s (next_play plan s) is
+step_of plan s (Start h) is = goes_on plan s _ (started_goes plan s h.0 (open_play plan s)) is
+step_of plan s (Send h item ticket) is = goes_on plan s _ (sent_goes plan s h.0 ticket (open_play plan s)) is
+step_of plan s (Reported r) is = goes_on plan s _ (reported_goes plan s r (open_play plan s)) is
+step_of plan s Turn is = goes_on plan s _ (turned_goes plan s (open_play plan s)) is
+step_of plan s Close is = λ play o. cc
+step_of plan s Stop is = is
+step_of plan s (Forks n) is = is
+
+of_from : (plan : PlanOf) (s : State) (es : List Event) → IsOfPlan plan s → IsOfPlan plan (state_from plan s es)
+of_from plan s [] is = is
+of_from plan s (e ∷ es) is = of_from plan (after plan s e) es (step_of plan s e is)
+
+-- so a next place is where the answers lead
+walked_row : (tree : TreeOf) (row : HostRow) → IsIn tree row → IsWalked tree row
+walked_row tree row is =
+    record {
+      next = λ e. in_if row.in_batch (place_of (reach row.tree row.answers)) e ∙ ap (λ t. walks_in t row) (is e);
+      whose = is;
+      away = λ e. out_if row.in_batch (place_of (reach row.tree row.answers)) e;
+    }
+  where
+    in_if : (b : Bool) (next : Option ℕ) → b ≡ true → (if b then next else None) ≡ next
+    in_if true next e = refl
+    in_if false next e = cc
+
+    out_if : (b : Bool) (next : Option ℕ) → b ≡ false → (if b then next else None) ≡ None
+    out_if true next e = cc
+    out_if false next e = refl
+
+walked_rows : (tree : TreeOf) (rows : List HostRow) → AllIn tree rows → AreWalked tree rows
+walked_rows tree [] all = tt
+walked_rows tree (row ∷ rows) all = (walked_row tree row all.0, walked_rows tree rows all.1)
+
+pub first_of : (plan : PlanOf) (forks pool : ℕ) → IsOfPlan plan (first_state plan forks pool)
+first_of plan forks pool = λ play none. cc
+
+pub walks_lead : WalksLead
+walks_lead plan forks pool trail = λ play o. walked_rows play.tree _ (of_from plan (first_state plan forks pool) trail (first_of plan forks pool) play o)
+
+pub run_walks : (plan : PlanOf) (pool : ℕ) (trail : List Event) (s : State) → IsRun plan pool trail s → IsTracked plan s
+run_walks plan pool trail s run = subst (IsTracked plan) run.ends (walks_lead plan plan.forks pool trail)

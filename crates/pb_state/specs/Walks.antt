@@ -1,0 +1,32 @@
+-- Where the hosts of a batch are: each at the place to which its answers lead in the tree of the play that is open
+-- (Ansible's documentation, "Controlling playbook execution: strategies").
+use Rattle.std.specs.Prelude.{◌≡◌, ℕ, true, false, List, [], ◌∷◌, Option, Some, None}
+use Rattle.pb_tree.specs.Tree.{TreeOf}
+use Rattle.pb_tree.specs.Walk.{reach}
+use Rattle.pb_state.specs.declared.event.Event.{Event}
+use Rattle.pb_plan.specs.Plan.{PlayOf, PlanOf}
+use Rattle.pb_state.specs.Row.{HostRow, place_of, next_place}
+use Rattle.pb_state.specs.State.{State}
+use Rattle.pb_state.specs.Machine.{open_play, first_state}
+use Rattle.pb_state.specs.Run.{state_from}
+
+abbrev pub walks_in : TreeOf → HostRow → Option ℕ
+walks_in tree row = place_of (reach tree row.answers)
+
+-- a host of the batch is where its answers lead in this tree, and any other is nowhere
+pub record IsWalked (tree : TreeOf) (row : HostRow) : Type 0 where
+  pub next : row.in_batch ≡ true → next_place row ≡ walks_in tree row
+  pub whose : row.in_batch ≡ true → row.tree ≡ tree
+  pub away : row.in_batch ≡ false → next_place row ≡ None
+
+abbrev pub AreWalked : TreeOf → List HostRow → Type 0
+AreWalked tree [] = Unit {0}
+AreWalked tree (row ∷ rows) = IsWalked tree row × AreWalked tree rows
+
+-- in the play whose batch is open
+abbrev pub IsTracked : PlanOf → State → Type 0
+IsTracked plan s = (play : PlayOf) → open_play plan s ≡ Some play → AreWalked play.tree s.rows
+
+-- wherever events lead from the first state on
+abbrev pub WalksLead : Type 0
+WalksLead = (plan : PlanOf) (forks pool : ℕ) (trail : List Event) → IsTracked plan (state_from plan (first_state plan forks pool) trail)
