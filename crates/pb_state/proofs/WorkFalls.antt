@@ -122,13 +122,13 @@ no_turn : (p : Option ℕ) → turn_work p p ≡ 0
 no_turn p = rw (place_same p) refl
 
 -- an event that changes one row of the open batch
-row_event : (plan : PlanOf) (s : State) (play : PlayOf) (h sends : ℕ) (decided : Option DecidedOf) (f : HostRow → HostRow) (test : HostRow → Bool) → open_play plan s ≡ Some play → ((row : HostRow) → test row ≡ true → row_work (f row) < row_work row) → at_row test s.rows h ≡ true → work plan (record s { rows = change s.rows h f; sends = sends; decided = decided }) < work plan s
-row_event plan s play h sends decided f test o less e =
+row_event : (plan : PlanOf) (s : State) (play : PlayOf) (h sends : ℕ) (begun : List Bool) (decided : Option DecidedOf) (f : HostRow → HostRow) (test : HostRow → Bool) → open_play plan s ≡ Some play → ((row : HostRow) → test row ≡ true → row_work (f row) < row_work row) → at_row test s.rows h ≡ true → work plan (record s { rows = change s.rows h f; begun = begun; sends = sends; decided = decided }) < work plan s
+row_event plan s play h sends begun decided f test o less e =
     let rows = change_less (row_work) f test less s.rows h e in
     let turn = turn_work_at_most s.place (least_place (change s.rows h f)) in
     let same : later_work (length (change s.rows h f)) (drop (s.play + 1) plan.plays) ≡ later_work (length s.rows) (drop (s.play + 1) plan.plays) = rw (length-change s.rows h f) refl in
     let old : work plan s ≡ work_in plan s (Some play) = ap (work_in plan s) o in
-    let changed : State = record s { rows = change s.rows h f; sends = sends; decided = decided } in
+    let changed : State = record s { rows = change s.rows h f; begun = begun; sends = sends; decided = decided } in
     let new : work plan changed ≡ work_in plan changed (Some play) = ap (work_in plan changed) o in
     omega (arith, rows, turn, same, old, new)
 
@@ -150,7 +150,7 @@ start_at_less : (plan : PlanOf) (s : State) (h : ℕ) (play : PlayOf) (place : O
 start_at_less plan s h play None o e = absurd (none_at s.rows h e)
 start_at_less plan s h play (Some p) o e =
     let planned : Planned = planned_at plan play h p in
-    row_event plan s play h s.sends (start_at plan s h play p).decided (started p planned) (stands_at (Some p)) o (λ row may. start_less (Some p) p planned row may) e
+    row_event plan s play h s.sends (start_at plan s h play p).begun (start_at plan s h play p).decided (started p planned) (stands_at (Some p)) o (λ row may. start_less (Some p) p planned row may) e
 
 start_in_less : (plan : PlanOf) (s : State) (h : ℕ) (found : Option PlayOf) → open_play plan s ≡ found → option_map_or (may_start_in s h) found false ≡ true → work plan (option_map_or (started_in plan s h) found s) < work plan s
 start_in_less plan s h None o e = cc
@@ -159,12 +159,12 @@ start_in_less plan s h (Some play) o e = start_at_less plan s h play s.place o (
 send_in_less : (plan : PlanOf) (s : State) (h item : ℕ) (ticket : Ticket) (found : Option PlayOf) → open_play plan s ≡ found → option_map_or (may_send_in s h item ticket) found false ≡ true → work plan (option_map_or (sent_in s h ticket) found s) < work plan s
 send_in_less plan s h item ticket None o e = cc
 send_in_less plan s h item ticket (Some play) o e =
-    row_event plan s play h (s.sends + 1) None (sent ticket) (may_send_item item) o (λ row may. send_less item ticket row may) (and_right (not s.stopped && (ticket.0 == s.sends)) _ e)
+    row_event plan s play h (s.sends + 1) s.begun None (sent ticket) (may_send_item item) o (λ row may. send_less item ticket row may) (and_right (not s.stopped && (ticket.0 == s.sends)) _ e)
 
 report_in_less : (plan : PlanOf) (s : State) (r : Report) (found : Option PlayOf) → open_play plan s ≡ found → option_map_or (may_report_in s r) found false ≡ true → work plan (option_map_or (reported_in s r) found s) < work plan s
 report_in_less plan s r None o e = cc
 report_in_less plan s r (Some play) o e =
-    row_event plan s play r.host.0 s.sends (reported_in s r play).decided (reported r.outcome) (awaits r.ticket r.item) o (λ row may. report_less r.outcome r.ticket r.item row may) e
+    row_event plan s play r.host.0 s.sends s.begun (reported_in s r play).decided (reported r.outcome) (awaits r.ticket r.item) o (λ row may. report_less r.outcome r.ticket r.item row may) e
 
 -- a turn
 min_is : (a b : ℕ) (t : Bool) → nat_le a b ≡ t → (min a b ≡ a) ⊎ (min a b ≡ b)

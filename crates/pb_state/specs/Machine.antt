@@ -4,7 +4,7 @@ use Rattle.std.specs.List.{list_any}
 use Rattle.std.specs.Option.{option_map_or}
 use Rattle.pb_ids.specs.declared.numbers.Ticket.{Ticket}
 use Rattle.pb_planes.specs.Set.{is_in as is_member}
-use Rattle.pb_tree.specs.Tree.{TreeOf}
+use Rattle.pb_tree.specs.Tree.{TreeOf, size_of}
 use Rattle.pb_outcome.specs.declared.gather.ItemResult.{ItemResult}
 use Rattle.pb_outcome.specs.declared.job.Report.{Report}
 use Rattle.pb_outcome.specs.declared.outcome.Form.{Form}
@@ -12,7 +12,6 @@ use Rattle.pb_state.specs.declared.event.Event.{Event}
 use Rattle.pb_state.specs.declared.event.Event.TheVariants.{Open, Start, Send, Report as Reported, Turn, Close, Stop, Forks}
 use Rattle.pb_items.specs.declared.planned.Planned.{Planned}
 use Rattle.pb_items.specs.declared.planned.Planned.TheVariants.{Decided as DecidedItem, Sends}
-use Rattle.pb_state.specs.declared.row.Finish.{Finish}
 use Rattle.pb_state.specs.declared.row.Running.{Running}
 use Rattle.pb_state.specs.declared.decided.Decided.{Decided}
 use Rattle.pb_state.specs.declared.decided.Done.{Done as DoneTask}
@@ -149,16 +148,6 @@ ready plan s = option_map_or (ready_in s) (open_play plan s) (replicate (length 
 abbrev pub change : List HostRow → ℕ → (HostRow → HostRow) → List HostRow
 change rows h f = option_map_or (λ row. slice_set rows h (f row)) (slice_get rows h) rows
 
--- whether the host runs the task at a place, or finished it last
-abbrev pub runs_at : ℕ → HostRow → Bool
-runs_at p row = option_map_or (λ (r : Running). r.place == p) row.running false
-
-abbrev pub is_last_at : ℕ → HostRow → Bool
-is_last_at p row = option_map_or (λ (e : Finish). e.place == p) row.last false
-
-abbrev pub has_begun : ℕ → HostRow → Bool
-has_begun p row = runs_at p row || is_last_at p row
-
 -- a task that this result ends
 abbrev pub done_by : ItemResult → DoneTask
 done_by item = record { result = item.result; task = task_of item }
@@ -174,7 +163,8 @@ joined_in tree hosts h (row ∷ rows) = joined tree (is_member hosts h) row ∷ 
 
 -- what each event leads to
 abbrev pub opened_with : State → ℕ → List HostRow → PlayOf → State
-opened_with s n rows play = record s { rows = rows; play = n; is_open = true; place = least_place rows; decided = None }
+opened_with s n rows play =
+    record s { rows = rows; play = n; is_open = true; place = least_place rows; begun = replicate (size_of play.tree) false; decided = None }
 
 abbrev pub opened_in : State → ℕ → PlayOf → State
 opened_in s n play = opened_with s n (joined_in play.tree play.hosts 0 s.rows) play
@@ -186,7 +176,8 @@ abbrev pub start_with : State → ℕ → PlayOf → ℕ → Planned → State
 start_with s h play p planned =
     record s {
       rows = change s.rows h (started p planned);
-      decided = Some (record { place = p; is_new = not (list_any (has_begun p) s.rows); done = done_at_once planned });
+      begun = slice_set s.begun p true;
+      decided = Some (record { place = p; is_new = not (is_member s.begun p); done = done_at_once planned });
     }
 
 abbrev pub start_at : PlanOf → State → ℕ → PlayOf → ℕ → State
@@ -217,7 +208,7 @@ abbrev pub turned_in : State → PlayOf → State
 turned_in s play = record s { place = least_place s.rows; decided = None }
 
 abbrev pub closed : State → State
-closed s = record s { rows = map left s.rows; play = s.play + 1; is_open = false; ended = not (list_any is_in s.rows); decided = None }
+closed s = record s { rows = map left s.rows; play = s.play + 1; is_open = false; begun = []; ended = not (list_any is_in s.rows); decided = None }
 
 abbrev pub stopped : State → State
 stopped s = record s { stopped = true; decided = None }
@@ -242,6 +233,7 @@ first_state plan forks pool =
       play = 0;
       is_open = false;
       place = None;
+      begun = [];
       forks = forks;
       pool = pool;
       sends = 0;

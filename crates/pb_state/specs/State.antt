@@ -10,6 +10,8 @@ pub record State : Type 0 where
   pub is_open : Bool
   -- the place at which the hosts of the batch are, by its position in the play's tree
   pub place : Option ℕ
+  -- of each place of the tree whether a host of the batch has started there
+  pub begun : List Bool
   pub forks : ℕ
   pub pool : ℕ
   -- how many jobs were sent: the next one has this number as its ticket

@@ -341,7 +341,7 @@ impl Row {
 
 impl Row {
     ghost use Rattle.pb_state.specs.Row.{next_place};
-    ghost use Rattle.pb_state.specs.Machine.{is_ready, stands_at, is_in, is_running, has_send, is_out, has_ticket, has_begun, is_last_at, runs_at, is_ticket};
+    ghost use Rattle.pb_state.specs.Machine.{is_ready, stands_at, is_in, is_running, has_send, is_out, has_ticket, is_ticket};
 
     /// Whether the host still takes part in the playbook.
     pub fn is_host_active(&self) -> bool
@@ -429,33 +429,6 @@ impl Row {
         ensures { result ≡ is_ready sends room place self.now }
     {
         sends && self.has_send() || room && self.stands_at(place)
-    }
-
-    /// Whether the host runs the task at this place.
-    fn runs_at(&self, place: usize) -> bool
-        ensures { result ≡ runs_at place self.now }
-    {
-        match &self.running {
-            Some(running) => running.place == place,
-            None => false,
-        }
-    }
-
-    /// Whether the host finished the task at this place last.
-    fn is_last_at(&self, place: usize) -> bool
-        ensures { result ≡ is_last_at place self.now }
-    {
-        match self.last {
-            Some(finish) => finish.place == place,
-            None => false,
-        }
-    }
-
-    /// Whether the host runs the task at this place, or finished it last.
-    pub fn has_begun(&self, place: usize) -> bool
-        ensures { result ≡ has_begun place self.now }
-    {
-        self.runs_at(place) || self.is_last_at(place)
     }
 
     /// Whether the host takes part in the open batch.

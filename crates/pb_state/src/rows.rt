@@ -7,7 +7,7 @@ ghost use Rattle.pb_planes.specs.Set.{is_in as is_member};
 ghost use Rattle.pb_state.specs.Row.{HostRow, first_row, next_place, left, finished, sent, reported};
 ghost use Rattle.pb_state.specs.Bounds.{IsAtMost};
 ghost use Rattle.pb_state.specs.Oldest.{oldest_out, out_at, older};
-ghost use Rattle.pb_state.specs.Machine.{is_ready, stands_at, is_in, is_running, has_send, is_out, has_ticket, has_begun, least_place, lesser, change, report_decides, some_own, has_hosts, first_play, joined_in};
+ghost use Rattle.pb_state.specs.Machine.{is_ready, stands_at, is_in, is_running, has_send, is_out, has_ticket, least_place, lesser, change, report_decides, some_own, has_hosts, first_play, joined_in};
 
 use crate::decided::Decided;
 use crate::row::{Counts, Row};
@@ -71,13 +71,6 @@ pub fn some_in(rows: &[Row]) -> bool
     ensures { result ≡ list_any is_in rows.now }
 {
     rows.iter().any(|row| row.is_in())
-}
-
-/// Whether a host runs the task at this place, or finished it last.
-pub fn some_begun(rows: &[Row], place: usize) -> bool
-    ensures { result ≡ list_any (has_begun place) rows.now }
-{
-    rows.iter().any(|row| row.has_begun(place))
 }
 
 /// Whether a host runs.

@@ -1,9 +1,10 @@
 //! The state of a run, and its steps.
 
 ghost use Rattle.std.specs.Prelude.{◌≡◌, ◌≤◌, ◌<◌, length, map, OnOk, OnErr, IfOk, IfSome, IfNone, slice_get, option_map, true, false, ◌&&◌, None, Some};
-ghost use Rattle.std.specs.Prelude.{◌-◌, ◌+◌, ◌^◌, ◌*◌};
+ghost use Rattle.std.specs.Prelude.{◌-◌, ◌+◌, ◌^◌, ◌*◌, not, replicate, slice_set};
 ghost use Rattle.std.specs.List.{list_any};
 ghost use Rattle.std.specs.Option.{option_copied, option_map_or};
+ghost use Rattle.pb_planes.specs.Set.{is_in as is_member};
 ghost use Rattle.pb_plan.specs.Plan.{PlanOf};
 ghost use Rattle.pb_state.specs.Row.{HostRow, left, finished, started, task_of};
 ghost use Rattle.pb_items.specs.declared.planned.Planned.TheVariants as Planned;
@@ -16,8 +17,8 @@ use crate::planned::{planned_at, task_of};
 use crate::row::{Counts, Row};
 use crate::rows::{
     begin_row, counts_of, finish_row, first_play, first_rows, joined_rows, least_place, leave_all,
-    none_into, oldest_out, put_rows, ready_into, report_row, running_count, send_row, some_begun,
-    some_in, some_out, some_running, some_stands, some_ticket,
+    none_into, oldest_out, put_rows, ready_into, report_row, running_count, send_row, some_in,
+    some_out, some_running, some_stands, some_ticket,
 };
 use pb_ids::{HostNo, PlayNo, Ticket};
 use pb_items::planned::Planned;
@@ -55,6 +56,7 @@ pub struct EngineState {
     play: usize,
     is_open: bool,
     place: Option<usize>,
+    begun: Vec<bool>,
     forks: u32,
     pool: u32,
     sends: u64,
@@ -71,6 +73,7 @@ impl Drop for EngineState {
             play: _,
             is_open: _,
             place: _,
+            begun,
             forks: _,
             pool: _,
             sends: _,
@@ -79,6 +82,7 @@ impl Drop for EngineState {
             decided,
         } = self;
         drop(rows);
+        drop(begun);
         drop(decided);
     }
 }
@@ -93,7 +97,7 @@ impl Model for EngineState {
 
     ghost coded = { Prim.hlevel (codes, val.the_row.coded, play_tree.the_row.coded) };
 
-    ghost view = { λ s. record { rows = s.rows.items; play = s.play; is_open = s.is_open; place = s.place; forks = s.forks; pool = s.pool; sends = s.sends; stopped = s.stopped; ended = s.ended; decided = s.decided } };
+    ghost view = { λ s. record { rows = s.rows.items; play = s.play; is_open = s.is_open; place = s.place; begun = s.begun.items; forks = s.forks; pool = s.pool; sends = s.sends; stopped = s.stopped; ended = s.ended; decided = s.decided } };
 
     ghost use Rattle.pb_state.specs.Bounds.{IsBounded};
 
@@ -345,8 +349,10 @@ impl EngineState {
         ensures ok { OnOk result (self.new ≡ opened_in self.old number play.now) }
         ensures err { OnErr result (self.new ≡ self.old) }
     {
+        let begun = none_begun(self.alloc, play.tree().places())?;
         let rows = joined_rows(self.alloc, &self.rows, play.hosts(), play.laid())?;
         put_rows(&mut self.rows, rows);
+        self.begun = begun;
         self.play = number;
         self.is_open = true;
         self.place = least_place(&self.rows);
@@ -371,6 +377,7 @@ impl EngineState {
         leave_all(&mut self.rows);
         self.play += 1;
         self.is_open = false;
+        self.begun.clear();
         decide(&mut self.decided, None);
     }
 
@@ -399,12 +406,11 @@ impl EngineState {
         ensures err { OnErr result (self.new ≡ self.old) }
     {
         let planned = planned_at(self.alloc, plan, play, host, place)?;
-        let is_new = !some_begun(&self.rows, place);
         match planned {
-            Planned::Decided(item) => self.decide_at(host, play, place, is_new, item),
+            Planned::Decided(item) => self.decide_at(host, play, place, item),
             Planned::Sends(call) => {
                 self.begin_at(host, play, place, call);
-                self.tell(place, is_new, None);
+                self.tell(place, None);
                 Ok(())
             }
         }
@@ -416,12 +422,11 @@ impl EngineState {
         host: HostNo,
         play: &PlanPlay,
         place: usize,
-        is_new: bool,
         item: ItemResult,
     ) -> Result<(), AllocError>
         requires open { self.old.is_open ≡ true }
         requires may { may_start_in self.old host.0 play.now ≡ true }
-        ensures ok { OnOk result (self.new ≡ record self.old { rows = change self.old.rows host.0 (finished place (task_of item)); decided = Some (record { place = place; is_new = is_new; done = Some (done_by item) }) }) }
+        ensures ok { OnOk result (self.new ≡ record self.old { rows = change self.old.rows host.0 (finished place (task_of item)); begun = slice_set self.old.begun place true; decided = Some (record { place = place; is_new = not (is_member self.old.begun place); done = Some (done_by item) }) }) }
         ensures err { OnErr result (self.new ≡ self.old) }
     {
         let task = task_of(&item);
@@ -430,7 +435,7 @@ impl EngineState {
             result: item.result,
             task,
         });
-        self.tell(place, is_new, done);
+        self.tell(place, done);
         Ok(())
     }
 
@@ -462,10 +467,12 @@ impl EngineState {
         begin_row(&mut self.rows, host, place, call);
     }
 
-    /// Puts down what the start of a task decided.
-    fn tell(&mut self, place: usize, is_new: bool, done: Option<Done>)
-        ensures { self.new ≡ record self.old { decided = Some (record { place = place; is_new = is_new; done = done }) } }
+    /// Puts down that a host started at a place, and what that decided.
+    fn tell(&mut self, place: usize, done: Option<Done>)
+        ensures { self.new ≡ record self.old { begun = slice_set self.old.begun place true; decided = Some (record { place = place; is_new = not (is_member self.old.begun place); done = done }) } }
     {
+        let is_new = !has_place(self.begun.as_slice(), place);
+        begin_at_place(self.begun.as_mut_slice(), place);
         decide(
             &mut self.decided,
             Some(Decided {
@@ -539,6 +546,7 @@ impl EngineState {
             play: 0,
             is_open: false,
             place: None,
+            begun: Vec::new(alloc),
             forks,
             pool,
             sends: 0,
@@ -661,5 +669,31 @@ impl EngineState {
         ensures { IfOk result (λ counts. counts.items ≡ map (λ (row : HostRow). row.counts) self.now.rows) }
     {
         counts_of(alloc, self.rows.as_slice())
+    }
+}
+
+/// No place of this many has begun.
+fn none_begun(alloc: Global, places: usize) -> Result<Vec<bool>, AllocError>
+    ensures { IfOk result (λ begun. begun.items ≡ replicate places false) }
+{
+    Ok(vec![in alloc; false; places]?)
+}
+
+/// Whether a place has begun; none beyond the end has.
+fn has_place(begun: &[bool], place: usize) -> bool
+    ensures { result ≡ is_member begun.now place }
+{
+    match begun.get(place) {
+        Some(has) => *has,
+        None => false,
+    }
+}
+
+/// A place begins.
+fn begin_at_place(begun: &mut [bool], place: usize)
+    ensures { begun.new ≡ slice_set begun.old place true }
+{
+    if place < begun.len() {
+        begun[place] = true;
     }
 }
