@@ -1,8 +1,8 @@
 -- What every run keeps: there is a row for each host, a task that runs is at a place of the open play, and a job that is out was sent.
-use Rattle.std.proofs.Common.{◌≡◌, ℕ, zero, suc, ◌+◌, ◌<◌, Bool, true, false, ◌&&◌, List, [], ◌∷◌, length, map, replicate, refl, ◌∙◌, ap, subst, arith}
+use Rattle.std.proofs.Common.{◌≡◌, ℕ, zero, suc, ◌+◌, ◌<◌, Bool, true, false, ◌&&◌, List, [], ◌∷◌, length, map, refl, ◌∙◌, ap, subst, arith}
 use Rattle.std.specs.Prelude.{◌==◌, Option, Some, None, slice_get, slice_set, option_map, if◌then◌else◌}
 use Rattle.std.specs.Option.{option_map_or}
-use Rattle.std.proofs.lemmas.List.{length-map, length-set, length-replicate}
+use Rattle.std.proofs.lemmas.List.{length-map, length-set}
 use Rattle.std.proofs.lemmas.Bool.{eqb-true}
 use Rattle.pb_ids.specs.declared.numbers.Ticket.{Ticket}
 use Rattle.pb_tree.specs.declared.tree.Reach.{Reach}
@@ -18,12 +18,12 @@ use Rattle.pb_items.specs.declared.planned.Planned.{Planned}
 use Rattle.pb_items.specs.declared.planned.Planned.TheVariants.{Decided, Sends}
 use Rattle.pb_state.specs.declared.row.Running.{Running}
 use Rattle.pb_plan.specs.Plan.{PlayOf, PlanOf}
-use Rattle.pb_state.specs.Row.{HostRow, first_row, place_of, next_place, started, sent, sent_running, reported, left}
+use Rattle.pb_state.specs.Row.{HostRow, first_rows, joined, place_of, next_place, started, sent, sent_running, reported, left}
 use Rattle.pb_state.specs.State.{State}
-use Rattle.pb_state.specs.Machine.{possible, after, change, at_row, open_play, same_place, stands_at, has_room, may_start_in, may_send_in, next_play, joined_in, opened_in, opened_at, started_in, start_at, sent_in, reported_in, turned_in, first_state}
+use Rattle.pb_state.specs.Machine.{possible, after, change, at_row, open_play, same_place, stands_at, has_room, may_start_in, may_send_in, next_play, opened_in, opened_at, started_in, start_at, sent_in, reported_in, turned_in, first_state}
 use Rattle.pb_state.specs.Results.{planned_at}
 use Rattle.pb_state.specs.Run.{legal_from, state_from, IsRun}
-use Rattle.pb_state.proofs.Opening.{length-joined}
+use Rattle.pb_state.proofs.Opening.{length-first}
 use Rattle.pb_state.proofs.Walks.{IsIn, AllIn, IsOfPlan, step_of, first_of}
 
 and_left : (a b : Bool) → (a && b) ≡ true → a ≡ true
@@ -62,13 +62,9 @@ none_run : (f : HostRow → HostRow) → ((row : HostRow) → (f row).running �
 none_run f idle size sends [] = tt
 none_run f idle size sends (row ∷ rows) = (rw (idle row) tt, none_run f idle size sends rows)
 
-none_joins : (size sends h : ℕ) (tree : TreeOf) (hosts : List Bool) (rows : List HostRow) → AreHeld size sends (joined_in tree hosts h rows)
-none_joins size sends h tree hosts [] = tt
-none_joins size sends h tree hosts (row ∷ rows) = (tt, none_joins size sends (h + 1) tree hosts rows)
-
-none_first : (size sends n : ℕ) → AreHeld size sends (replicate n first_row)
-none_first size sends zero = tt
-none_first size sends (suc n) = (tt, none_first size sends n)
+none_first : (size sends h n : ℕ) → AreHeld size sends (first_rows h n)
+none_first size sends h zero = tt
+none_first size sends h (suc n) = (tt, none_first size sends (h + 1) n)
 
 -- one row changed
 length-changed : (rows : List HostRow) (h : ℕ) (f : HostRow → HostRow) (found : Option HostRow) → length (option_map_or (λ row. slice_set rows h (f row)) found rows) ≡ length rows
@@ -183,8 +179,8 @@ reported_in_held plan s r (Some play) o held = record {
 opened_held : (plan : PlanOf) (s : State) (n : ℕ) (found : Option PlayOf) → IsHeld plan s → IsHeld plan (option_map_or (opened_in s n) found s)
 opened_held plan s n None held = held
 opened_held plan s n (Some play) held = record {
-  hosts = length-joined play.tree play.hosts 0 s.rows ∙ held.hosts;
-  tasks = none_joins _ s.sends 0 play.tree play.hosts s.rows;
+  hosts = length-map s.rows (joined play.tree play.hosts) ∙ held.hosts;
+  tasks = none_run (joined play.tree play.hosts) (λ row. refl) _ s.sends s.rows;
 }
 
 next_held : (plan : PlanOf) (s : State) (next : Option ℕ) → IsHeld plan s → IsHeld plan (option_map_or (opened_at plan s) next s)
@@ -214,4 +210,4 @@ held_from plan s (e ∷ es) legal trees held =
 pub held_run : (plan : PlanOf) (pool : ℕ) (trail : List Event) (s : State) → IsRun plan pool trail s → IsHeld plan s
 held_run plan pool trail s run =
     subst (IsHeld plan) run.ends
-    (held_from plan (first_state plan plan.forks pool) trail run.legal (first_of plan plan.forks pool) (record { hosts = length-replicate (length plan.hosts) first_row; tasks = none_first _ 0 (length plan.hosts) }))
+    (held_from plan (first_state plan plan.forks pool) trail run.legal (first_of plan plan.forks pool) (record { hosts = length-first 0 (length plan.hosts); tasks = none_first _ 0 0 (length plan.hosts) }))

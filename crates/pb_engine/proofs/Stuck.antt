@@ -11,9 +11,9 @@ use Rattle.pb_state.specs.declared.event.Event.{Event}
 use Rattle.pb_state.specs.declared.event.Event.TheVariants.{Open, Start, Send, Report as Reported, Turn, Close, Stop, Forks}
 use Rattle.pb_state.specs.declared.row.Running.{Running}
 use Rattle.pb_plan.specs.Plan.{PlayOf, PlanOf}
-use Rattle.pb_state.specs.Row.{HostRow}
+use Rattle.pb_state.specs.Row.{HostRow, joined}
 use Rattle.pb_state.specs.State.{State}
-use Rattle.pb_state.specs.Machine.{possible, after, at_row, ready, ready_in, is_running, is_out, has_send, is_ticket, may_send_item, awaits, may_open, may_send_in, may_report_in, may_turn_in, may_close_in, has_room, has_hosts, first_play, next_play, stands_at, least_place, open_play, joined_in, opened_in, opened_at, started_in, start_at, sent_in, reported_in, turned_in, first_state}
+use Rattle.pb_state.specs.Machine.{possible, after, at_row, ready, ready_in, is_running, is_out, has_send, is_ticket, may_send_item, awaits, may_open, may_send_in, may_report_in, may_turn_in, may_close_in, has_room, has_hosts, first_play, next_play, stands_at, least_place, open_play, opened_in, opened_at, started_in, start_at, sent_in, reported_in, turned_in, first_state}
 use Rattle.pb_state.specs.Run.{legal_from, state_from, IsRun}
 use Rattle.pb_engine.specs.Over.{IsOver, IsPlaced, IsPlacedIn}
 
@@ -61,11 +61,11 @@ idle_awaits item ticket (Some r) e = cc
 -- each event keeps it that an open batch has its play, and its least place where no host runs
 opened_placed : (plan : PlanOf) (s : State) (n : ℕ) (found : Option PlayOf) → slice_get plan.plays n ≡ found → IsPlaced plan s → IsPlaced plan (option_map_or (opened_in s n) found s)
 opened_placed plan s n None e placed = placed
-opened_placed plan s n (Some play) e placed = rw e (λ none. (none, idle play.tree play.hosts 0 s.rows))
+opened_placed plan s n (Some play) e placed = rw e (λ none. (none, idle play.tree play.hosts s.rows))
   where
-    idle : (tree : TreeOf) (hosts : List Bool) (h : ℕ) (rows : List HostRow) → list_any is_running (joined_in tree hosts h rows) ≡ false
-    idle tree hosts h [] = refl
-    idle tree hosts h (row ∷ rows) = idle tree hosts (h + 1) rows
+    idle : (tree : TreeOf) (hosts : List Bool) (rows : List HostRow) → list_any is_running (map (joined tree hosts) rows) ≡ false
+    idle tree hosts [] = refl
+    idle tree hosts (row ∷ rows) = idle tree hosts rows
 
 next_placed : (plan : PlanOf) (s : State) (next : Option ℕ) → IsPlaced plan s → IsPlaced plan (option_map_or (opened_at plan s) next s)
 next_placed plan s None placed = placed

@@ -3,7 +3,7 @@ use Rattle.std.proofs.Common.{◌≡◌, ℕ, zero, suc, ◌+◌, ◌<◌, Bool,
 use Rattle.std.specs.Prelude.{◌==◌, Option, Some, None, option_map, slice_get, slice_set, if◌then◌else◌}
 use Rattle.std.specs.Option.{option_map_or}
 use Rattle.std.proofs.Math.Dec.{eqb-suc-zero, eqb-zero-suc, eqb-suc-suc}
-use Rattle.std.proofs.lemmas.List.{length-map, length-set, length-replicate}
+use Rattle.std.proofs.lemmas.List.{length-map, length-set}
 use Rattle.pb_ids.specs.declared.numbers.Ticket.{Ticket}
 use Rattle.pb_outcome.specs.declared.job.Report.{Report}
 use Rattle.pb_outcome.specs.declared.outcome.Form.{Form}
@@ -15,12 +15,12 @@ use Rattle.pb_items.specs.declared.planned.Planned.TheVariants.{Decided as Decid
 use Rattle.pb_state.specs.declared.row.Counts.{Counts}
 use Rattle.pb_state.specs.declared.row.Running.{Running}
 use Rattle.pb_plan.specs.Plan.{PlayOf, PlanOf}
-use Rattle.pb_state.specs.Row.{HostRow, first_row, next_place, left, started, sent, reported, reported_running, task_of, item_of}
+use Rattle.pb_state.specs.Row.{HostRow, first_rows, next_place, joined, left, started, sent, reported, reported_running, task_of, item_of}
 use Rattle.pb_state.specs.State.{State}
 use Rattle.pb_state.specs.Results.{planned_at}
-use Rattle.pb_state.specs.Machine.{change, open_play, possible, after, first_state, next_play, joined_in, opened_in, opened_at, started_in, start_at, start_with, sent_in, reported_in, report_decides, decided_by, turned_in, may_start_in, may_report_in, at_row, stands_at, same_place, has_room}
+use Rattle.pb_state.specs.Machine.{change, open_play, possible, after, first_state, next_play, opened_in, opened_at, started_in, start_at, start_with, sent_in, reported_in, report_decides, decided_by, turned_in, may_start_in, may_report_in, at_row, stands_at, same_place, has_room}
 use Rattle.pb_state.specs.Run.{legal_from, state_from, IsRun}
-use Rattle.pb_state.proofs.Opening.{length-joined}
+use Rattle.pb_state.proofs.Opening.{length-first}
 use Rattle.pb_recap.specs.declared.kind.CountKind.{CountKind}
 use Rattle.pb_recap.specs.declared.kind.CountKind.TheVariants.{Okay, Changed, Unreachable, Failed, Skipped, Rescued, Ignored}
 use Rattle.pb_recap.specs.Kinds.{count_of}
@@ -36,10 +36,10 @@ row_count kind [] h = 0
 row_count kind (row ∷ rows) zero = count_of kind row.counts
 row_count kind (row ∷ rows) (suc h) = row_count kind rows h
 
-joined_keeps : (kind : CountKind) (tree : TreeOf) (hosts : List Bool) (h : ℕ) (rows : List HostRow) (k : ℕ) → row_count kind (joined_in tree hosts h rows) k ≡ row_count kind rows k
-joined_keeps kind tree hosts h [] k = refl
-joined_keeps kind tree hosts h (row ∷ rows) zero = refl
-joined_keeps kind tree hosts h (row ∷ rows) (suc k) = joined_keeps kind tree hosts (h + 1) rows k
+joined_keeps : (kind : CountKind) (tree : TreeOf) (hosts : List Bool) (rows : List HostRow) (k : ℕ) → row_count kind (map (joined tree hosts) rows) k ≡ row_count kind rows k
+joined_keeps kind tree hosts [] k = refl
+joined_keeps kind tree hosts (row ∷ rows) zero = refl
+joined_keeps kind tree hosts (row ∷ rows) (suc k) = joined_keeps kind tree hosts rows k
 
 left_keeps : (kind : CountKind) (rows : List HostRow) (k : ℕ) → row_count kind (map left rows) k ≡ row_count kind rows k
 left_keeps kind [] k = refl
@@ -157,7 +157,7 @@ reported_counts kind s r k (Some play) b may = report_counts kind r.outcome s.ro
 
 opened_counts : (kind : CountKind) (s : State) (n k : ℕ) (found : Option PlayOf) → row_count kind (option_map_or (opened_in s n) found s).rows k ≡ row_count kind s.rows k
 opened_counts kind s n k None = refl
-opened_counts kind s n k (Some play) = joined_keeps kind play.tree play.hosts 0 s.rows k
+opened_counts kind s n k (Some play) = joined_keeps kind play.tree play.hosts s.rows k
 
 next_counts : (kind : CountKind) (plan : PlanOf) (s : State) (k : ℕ) (next : Option ℕ) → row_count kind (option_map_or (opened_at plan s) next s).rows k ≡ row_count kind s.rows k
 next_counts kind plan s k None = refl
@@ -205,7 +205,7 @@ reported_hosts s r (Some play) = change_hosts s.rows r.host.0 (reported r.outcom
 
 opened_hosts : (s : State) (n : ℕ) (found : Option PlayOf) → length (option_map_or (opened_in s n) found s).rows ≡ length s.rows
 opened_hosts s n None = refl
-opened_hosts s n (Some play) = length-joined play.tree play.hosts 0 s.rows
+opened_hosts s n (Some play) = length-map s.rows (joined play.tree play.hosts)
 
 next_hosts : (plan : PlanOf) (s : State) (next : Option ℕ) → length (option_map_or (opened_at plan s) next s).rows ≡ length s.rows
 next_hosts plan s None = refl
@@ -247,16 +247,16 @@ trail_counts plan s (e ∷ es) k kind legal b =
       step_counts plan s e k kind b (both_left (possible plan s e) _ legal),
     )
 
-none_first : (n k : ℕ) (kind : CountKind) → row_count kind (replicate n first_row) k ≡ 0
-none_first zero k kind = refl
-none_first (suc n) zero Okay = refl
-none_first (suc n) zero Changed = refl
-none_first (suc n) zero Unreachable = refl
-none_first (suc n) zero Failed = refl
-none_first (suc n) zero Skipped = refl
-none_first (suc n) zero Rescued = refl
-none_first (suc n) zero Ignored = refl
-none_first (suc n) (suc k) kind = none_first n k kind
+none_first : (h n k : ℕ) (kind : CountKind) → row_count kind (first_rows h n) k ≡ 0
+none_first h zero k kind = refl
+none_first h (suc n) zero Okay = refl
+none_first h (suc n) zero Changed = refl
+none_first h (suc n) zero Unreachable = refl
+none_first h (suc n) zero Failed = refl
+none_first h (suc n) zero Skipped = refl
+none_first h (suc n) zero Rescued = refl
+none_first h (suc n) zero Ignored = refl
+none_first h (suc n) (suc k) kind = none_first (h + 1) n k kind
 
 pub seven : (counts : Counts) (a b c d e f g : ℕ) → counts.ok ≡ a → counts.changed ≡ b → counts.unreachable ≡ c → counts.failed ≡ d → counts.skipped ≡ e → counts.rescued ≡ f → counts.ignored ≡ g
     → counts ≡ record { ok = a; changed = b; unreachable = c; failed = d; skipped = e; rescued = f; ignored = g }
@@ -282,9 +282,9 @@ run_counts : (plan : PlanOf) (pool : ℕ) (trail : List Event) → legal_from pl
     → map (λ (row : HostRow). row.counts) (state_from plan (first_state plan plan.forks pool) trail).rows ≡ recap plan pool trail
 run_counts plan pool trail legal =
     let s : State = first_state plan plan.forks pool in
-    let hosts : length (state_from plan s trail).rows ≡ length plan.hosts = trail_hosts plan s trail ∙ length-replicate (length plan.hosts) first_row in
+    let hosts : length (state_from plan s trail).rows ≡ length plan.hosts = trail_hosts plan s trail ∙ length-first 0 (length plan.hosts) in
     each_host plan s trail (state_from plan s trail).rows plan.hosts 0 hosts
-    (λ k kind b. omega (arith, trail_counts plan s trail k kind legal (omega (arith, b, trail_hosts plan s trail)), none_first (length plan.hosts) k kind, ap (λ n. count_from plan s trail n kind) (let at : 0 + k ≡ k = omega arith in at)))
+    (λ k kind b. omega (arith, trail_counts plan s trail k kind legal (omega (arith, b, trail_hosts plan s trail)), none_first 0 (length plan.hosts) k kind, ap (λ n. count_from plan s trail n kind) (let at : 0 + k ≡ k = omega arith in at)))
 
 -- the counts at the end of a legal run are the recap of its events
 pub recap_of_run : (plan : PlanOf) (pool : ℕ) (trail : List Event) (s : State) → IsRun plan pool trail s → map (λ (row : HostRow). row.counts) s.rows ≡ recap plan pool trail

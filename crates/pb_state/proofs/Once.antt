@@ -1,5 +1,5 @@
 -- No run does anything twice: what a host has yet to start or send in a play lies behind what it started and sent.
-use Rattle.std.proofs.Common.{◌≡◌, ◌≢◌, ℕ, zero, suc, ◌+◌, ◌*◌, ◌<◌, ◌≤◌, Bool, true, false, ◌&&◌, not, List, [], ◌∷◌, ◌++◌, refl, sym, ◌∙◌, ap, arith, subst, ◌⊎◌, inl, inr}
+use Rattle.std.proofs.Common.{◌≡◌, ◌≢◌, ℕ, zero, suc, ◌+◌, ◌*◌, ◌<◌, ◌≤◌, Bool, true, false, ◌&&◌, not, List, [], ◌∷◌, ◌++◌, map, refl, sym, ◌∙◌, ap, arith, subst, ◌⊎◌, inl, inr}
 use Rattle.std.specs.Prelude.{Option, Some, None, option_map, slice_get, is_none, is_some, nat_eq, if◌then◌else◌}
 use Rattle.std.specs.List.{list_any}
 use Rattle.std.specs.Option.{option_map_or}
@@ -9,7 +9,6 @@ use Rattle.pb_ids.specs.declared.numbers.Ticket.{Ticket}
 use Rattle.pb_tree.specs.declared.answer.Kind.TheVariants.{Gone}
 use Rattle.pb_tree.specs.declared.tree.Reach.{Reach}
 use Rattle.pb_tree.specs.declared.tree.Reach.TheVariants.{At, Done}
-use Rattle.pb_planes.specs.Set.{is_in as is_member}
 use Rattle.pb_tree.specs.Tree.{TreeOf}
 use Rattle.pb_tree.specs.Answer.{AnswerOf}
 use Rattle.pb_tree.specs.Laws.{counts, IsAbove}
@@ -27,7 +26,7 @@ use Rattle.pb_plan.specs.Plan.{PlayOf, PlanOf}
 use Rattle.pb_state.specs.Row.{HostRow, place_of, next_place, joined, failed_kind, kind_of, answer_of, finished, started, sent, sent_running, reported, reported_running, task_of, item_of}
 use Rattle.pb_state.specs.State.{State}
 use Rattle.pb_state.specs.Results.{planned_at}
-use Rattle.pb_state.specs.Machine.{possible, after, change, at_row, open_play, next_play, same_place, stands_at, is_running, is_in, has_room, has_send, may_send_item, may_start_in, may_send_in, may_report_in, joined_in, opened_in, opened_at as opened_from, started_in, start_at, sent_in, reported_in, turned_in, first_state}
+use Rattle.pb_state.specs.Machine.{possible, after, change, at_row, open_play, next_play, same_place, stands_at, is_running, is_in, has_room, has_send, may_send_item, may_start_in, may_send_in, may_report_in, opened_in, opened_at as opened_from, started_in, start_at, sent_in, reported_in, turned_in, first_state}
 use Rattle.pb_state.specs.Run.{legal_from, IsRun}
 use Rattle.pb_state.proofs.Opening.{next_is}
 use Rattle.pb_state.specs.Once.{StartOf, SendOf, running_place, place_run_by, starts_from, sends_from, IsNotIn, NoTwice, IsOnce, NothingTwice}
@@ -174,10 +173,10 @@ zero_from : (r : Reach) → IsFrom 0 r
 zero_from (At place) = omega arith
 zero_from (Done ending) = tt
 
-joined_from : (tree : TreeOf) (hosts : List Bool) (n : ℕ) (rows : List HostRow) (h : ℕ) → FoundFrom 0 (slice_get (joined_in tree hosts n rows) h)
-joined_from tree hosts n [] h = tt
-joined_from tree hosts n (row ∷ rows) zero = zero_from (reach (joined tree (is_member hosts n) row).tree [])
-joined_from tree hosts n (row ∷ rows) (suc h) = joined_from tree hosts (n + 1) rows h
+joined_from : (tree : TreeOf) (hosts : List Bool) (rows : List HostRow) (h : ℕ) → FoundFrom 0 (slice_get (map (joined tree hosts) rows) h)
+joined_from tree hosts [] h = tt
+joined_from tree hosts (row ∷ rows) zero = zero_from (reach (joined tree hosts row).tree [])
+joined_from tree hosts (row ∷ rows) (suc h) = joined_from tree hosts rows h
 
 -- ---- the states
 -- a host that runs is at its next place
@@ -261,7 +260,7 @@ turn_moves plan s (Some play) = same_rows s (turned_in s play) refl refl refl
 
 opened_moves : (plan : PlanOf) (s : State) (n : ℕ) (found : Option PlayOf) → s.is_open ≡ false → s.play ≤ n → Moves s (option_map_or (opened_in s n) found s)
 opened_moves plan s n None c l = same_rows s s refl refl refl
-opened_moves plan s n (Some play) c l = inr (inl (c, l, λ h. joined_from play.tree play.hosts 0 s.rows h))
+opened_moves plan s n (Some play) c l = inr (inl (c, l, λ h. joined_from play.tree play.hosts s.rows h))
 
 open_moves : (plan : PlanOf) (s : State) (next : Option ℕ) → next_play plan s ≡ next → s.is_open ≡ false → Moves s (option_map_or (opened_from plan s) next s)
 open_moves plan s None f c = same_rows s s refl refl refl

@@ -1,13 +1,10 @@
--- The play that opens next, and the hosts as its batch opens.
-use Rattle.std.proofs.Common.{◌≡◌, ℕ, zero, suc, ◌+◌, ◌<◌, ◌≤◌, Bool, true, false, List, [], ◌∷◌, ◌++◌, length, take, drop, get_or, refl, sym, ◌∙◌, ap, arith, length-take}
+-- The play that opens next, and the rows of all hosts before the run.
+use Rattle.std.proofs.Common.{◌≡◌, ℕ, zero, suc, ◌+◌, ◌≤◌, Bool, true, false, List, [], ◌∷◌, ◌++◌, length, drop, refl, sym, ◌∙◌, ap, arith}
 use Rattle.std.specs.Prelude.{Some, slice_get, if◌then◌else◌}
-use Rattle.std.proofs.lemmas.List.{take_more}
-use Rattle.pb_planes.specs.Set.{is_in as is_member}
-use Rattle.pb_tree.specs.Tree.{TreeOf}
 use Rattle.pb_plan.specs.Plan.{PlayOf, PlanOf}
-use Rattle.pb_state.specs.Row.{HostRow, joined}
+use Rattle.pb_state.specs.Row.{HostRow, first_row, first_rows}
 use Rattle.pb_state.specs.State.{State}
-use Rattle.pb_state.specs.Machine.{has_hosts, first_play, next_play, joined_in}
+use Rattle.pb_state.specs.Machine.{has_hosts, first_play, next_play}
 
 -- one of the plays from the number m on, and the first of them that has hosts
 pub record IsNext (rows : List HostRow) (plays : List PlayOf) (m n : ℕ) : Type 0 where
@@ -48,27 +45,14 @@ next_is plan s n e =
       some = first.some;
     }
 
--- the hosts of a batch are all hosts
-pub length-joined : (tree : TreeOf) (hosts : List Bool) (h : ℕ) (rows : List HostRow) → length (joined_in tree hosts h rows) ≡ length rows
-length-joined tree hosts h [] = refl
-length-joined tree hosts h (row ∷ rows) = ap suc (length-joined tree hosts (h + 1) rows)
+-- a row for each host
+pub length-first : (h n : ℕ) → length (first_rows h n) ≡ n
+length-first h zero = refl
+length-first h (suc n) = ap suc (length-first (h + 1) n)
 
-joined_append : (tree : TreeOf) (hosts : List Bool) (h : ℕ) (front back : List HostRow) → joined_in tree hosts h (front ++ back) ≡ joined_in tree hosts h front ++ joined_in tree hosts (h + length front) back
-joined_append tree hosts h [] back = ap (λ n. joined_in tree hosts n back) (let same : h ≡ h + 0 = omega arith in same)
-joined_append tree hosts h (row ∷ front) back =
-    ap (λ rest. joined tree (is_member hosts h) row ∷ rest)
-    (joined_append tree hosts (h + 1) front back ∙ ap (λ n. joined_in tree hosts (h + 1) front ++ joined_in tree hosts n back) (let same : (h + 1) + length front ≡ h + suc (length front) = omega arith in same))
+first_end : (h n : ℕ) → first_rows h (suc n) ≡ first_rows h n ++ first_row (h + n) ∷ []
+first_end h zero = ap (λ k. first_row k ∷ []) (let same : h ≡ h + 0 = omega arith in same)
+first_end h (suc n) = ap (λ rest. first_row h ∷ rest) (first_end (h + 1) n ∙ ap (λ k. first_rows (h + 1) n ++ first_row k ∷ []) (let same : (h + 1) + n ≡ h + suc n = omega arith in same))
 
-front_more : (tree : TreeOf) (hosts : List Bool) (rows : List HostRow) (i : ℕ) (row : HostRow) → i < length rows → joined_in tree hosts 0 (take (i + 1) rows) ≡ joined_in tree hosts 0 (take i rows) ++ joined tree (is_member hosts i) (get_or rows i row) ∷ []
-front_more tree hosts rows i row inside =
-    let width : 0 + length (take i rows) ≡ i = simp length-take (omega arith) in
-    ap (joined_in tree hosts 0) (take_more rows i row inside)
-    ∙ joined_append tree hosts 0 (take i rows) (get_or rows i row ∷ [])
-    ∙ ap (λ n. joined_in tree hosts 0 (take i rows) ++ joined tree (is_member hosts n) (get_or rows i row) ∷ []) width
-
--- one host more joins
-pub one_more_joins : (tree : TreeOf) (hosts : List Bool) (rows all : List HostRow) (i : ℕ) (row : HostRow) → i < length rows → all ≡ joined_in tree hosts 0 (take i rows) → row ≡ get_or rows i row → all ++ joined tree (is_member hosts i) row ∷ [] ≡ joined_in tree hosts 0 (take (i + 1) rows)
-one_more_joins tree hosts rows all i row inside e is =
-    ap (λ t. t ++ joined tree (is_member hosts i) row ∷ []) e
-    ∙ ap (λ r. joined_in tree hosts 0 (take i rows) ++ joined tree (is_member hosts i) r ∷ []) is
-    ∙ sym (front_more tree hosts rows i row inside)
+pub first_more : (n : ℕ) → first_rows 0 (n + 1) ≡ first_rows 0 n ++ first_row n ∷ []
+first_more n = ap (first_rows 0) (let one : n + 1 ≡ suc n = omega arith in one) ∙ first_end 0 n

@@ -9,10 +9,9 @@ use Rattle.pb_outcome.specs.declared.job.Report.{Report}
 use Rattle.pb_state.specs.declared.event.Event.{Event}
 use Rattle.pb_state.specs.declared.event.Event.TheVariants.{Open, Start, Send, Report as Reported, Turn, Close, Stop, Forks}
 use Rattle.pb_plan.specs.Plan.{PlayOf, PlanOf}
-use Rattle.pb_state.specs.Row.{HostRow, left}
+use Rattle.pb_state.specs.Row.{HostRow, joined, left}
 use Rattle.pb_state.specs.State.{State}
 use Rattle.pb_state.specs.Machine.{possible, after, change, open_play, next_play, opened_in, opened_at, started_in, start_at, sent_in, reported_in, turned_in, closed, stopped}
-use Rattle.pb_state.proofs.Opening.{length-joined}
 
 length-changed : (rows : List HostRow) (h : ℕ) (f : HostRow → HostRow) (found : Option HostRow) → length (option_map_or (λ row. set rows h (f row)) found rows) ≡ length rows
 length-changed rows h f None = refl
@@ -33,7 +32,7 @@ same_sends old new h f s = record { hosts = h; forks = f; least = omega (arith, 
 
 opened_keeps : (s : State) (n : ℕ) (found : Option PlayOf) → Keeps s (option_map_or (opened_in s n) found s)
 opened_keeps s n None = same_sends s s refl refl refl
-opened_keeps s n (Some play) = same_sends s (opened_in s n play) (length-joined play.tree play.hosts 0 s.rows) refl refl
+opened_keeps s n (Some play) = same_sends s (opened_in s n play) (length-map s.rows (joined play.tree play.hosts)) refl refl
 
 open_keeps : (plan : PlanOf) (s : State) (next : Option ℕ) → Keeps s (option_map_or (opened_at plan s) next s)
 open_keeps plan s None = same_sends s s refl refl refl

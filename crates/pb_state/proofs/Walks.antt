@@ -1,8 +1,7 @@
 -- In every run the hosts of the open batch are where their answers lead in the play's tree.
-use Rattle.std.proofs.Common.{◌≡◌, ℕ, zero, suc, ◌+◌, Bool, true, false, List, [], ◌∷◌, refl, sym, ◌∙◌, ap, subst}
+use Rattle.std.proofs.Common.{◌≡◌, ℕ, zero, suc, Bool, true, false, List, [], ◌∷◌, map, refl, sym, ◌∙◌, ap, subst}
 use Rattle.std.specs.Prelude.{Option, Some, None, slice_get, if◌then◌else◌}
 use Rattle.std.specs.Option.{option_map_or}
-use Rattle.pb_planes.specs.Set.{is_in as is_member}
 use Rattle.pb_ids.specs.declared.numbers.Ticket.{Ticket}
 use Rattle.pb_tree.specs.Tree.{TreeOf}
 use Rattle.pb_tree.specs.Walk.{reach}
@@ -14,10 +13,10 @@ use Rattle.pb_items.specs.declared.planned.Planned.{Planned}
 use Rattle.pb_items.specs.declared.planned.Planned.TheVariants.{Decided, Sends}
 use Rattle.pb_state.specs.declared.row.Running.{Running}
 use Rattle.pb_plan.specs.Plan.{PlayOf, PlanOf}
-use Rattle.pb_state.specs.Row.{HostRow, no_tree, place_of, next_place, started, sent, reported, reported_running, joins, joined, left}
+use Rattle.pb_state.specs.Row.{HostRow, no_tree, place_of, next_place, started, sent, reported, reported_running, is_called, joined}
 use Rattle.pb_state.specs.State.{State}
 use Rattle.pb_state.specs.Results.{planned_at}
-use Rattle.pb_state.specs.Machine.{after, change, open_play, next_play, joined_in, opened_in, opened_at, started_in, start_at, sent_in, reported_in, turned_in, first_state}
+use Rattle.pb_state.specs.Machine.{after, change, open_play, next_play, opened_in, opened_at, started_in, start_at, sent_in, reported_in, turned_in, first_state}
 use Rattle.pb_state.specs.Run.{state_from, IsRun}
 use Rattle.pb_state.specs.Walks.{walks_in, IsWalked, AreWalked, IsTracked, WalksLead}
 
@@ -53,9 +52,9 @@ reported_in_tree tree outcome row is = by_running row.running
     by_running None = is
     by_running (Some r) = is
 
-joined_in_tree : (tree : TreeOf) (hosts : List Bool) (h : ℕ) (rows : List HostRow) → AllIn tree (joined_in tree hosts h rows)
-joined_in_tree tree hosts h [] = tt
-joined_in_tree tree hosts h (row ∷ rows) = (λ e. chosen (joins (is_member hosts h) row) e, joined_in_tree tree hosts (h + 1) rows)
+joined_in_tree : (tree : TreeOf) (hosts : List Bool) (rows : List HostRow) → AllIn tree (map (joined tree hosts) rows)
+joined_in_tree tree hosts [] = tt
+joined_in_tree tree hosts (row ∷ rows) = (λ e. chosen (is_called hosts row) e, joined_in_tree tree hosts rows)
   where
     chosen : (b : Bool) → b ≡ true → (if b then tree else no_tree) ≡ tree
     chosen true e = refl
@@ -99,7 +98,7 @@ opened_of : (plan : PlanOf) (s : State) (n : ℕ) (found : Option PlayOf) → sl
 opened_of plan s n None e is = is
 opened_of plan s n (Some play) e is = λ other o.
     let same : play ≡ other = some_same play other (sym e ∙ o) in
-    subst (λ (p : PlayOf). AllIn p.tree (joined_in play.tree play.hosts 0 s.rows)) same (joined_in_tree play.tree play.hosts 0 s.rows)
+    subst (λ (p : PlayOf). AllIn p.tree (map (joined play.tree play.hosts) s.rows)) same (joined_in_tree play.tree play.hosts s.rows)
   where
     some_same : (a b : PlayOf) → Some a ≡ Some b → a ≡ b
     some_same a b e = cc

@@ -1,23 +1,22 @@
 -- Each step keeps the state's numbers within their bounds.
-use Rattle.std.proofs.Common.{◌≡◌, ℕ, zero, suc, ◌+◌, ◌-◌, ◌*◌, ◌^◌, ◌<◌, ◌≤◌, Bool, true, false, ◌&&◌, List, [], ◌∷◌, length, map, replicate, refl, ap, subst, arith, suc-mul}
+use Rattle.std.proofs.Common.{◌≡◌, ℕ, zero, suc, ◌+◌, ◌-◌, ◌*◌, ◌^◌, ◌<◌, ◌≤◌, Bool, true, false, ◌&&◌, List, [], ◌∷◌, length, map, refl, ap, subst, arith, suc-mul}
 use Rattle.std.specs.Prelude.{Option, Some, None, IfSome, slice_get, sum_by, option_map, is_none, not, ◌==◌, if◌then◌else◌}
 use Rattle.std.specs.Option.{option_map_or}
-use Rattle.std.proofs.lemmas.List.{length-map, length-replicate}
+use Rattle.std.proofs.lemmas.List.{length-map}
 use Rattle.std.proofs.lemmas.List.Sums.{sum_by-cons}
 use Rattle.pb_ids.specs.declared.numbers.Ticket.{Ticket}
 use Rattle.pb_outcome.specs.declared.gather.TaskResult.{TaskResult}
 use Rattle.pb_outcome.specs.declared.job.Call.{Call}
 use Rattle.pb_outcome.specs.declared.outcome.Form.{Form}
-use Rattle.pb_planes.specs.Set.{is_in as is_member}
 use Rattle.pb_tree.specs.Tree.{TreeOf, size_of}
 use Rattle.pb_tree.specs.Walk.{one_halted}
 use Rattle.pb_items.specs.declared.planned.Planned.TheVariants.{Sends}
 use Rattle.pb_state.specs.declared.row.Counts.{Counts}
 use Rattle.pb_state.specs.declared.row.Running.{Running}
-use Rattle.pb_state.specs.Row.{HostRow, no_tree, first_row, joins, joined, left, finished, started, sent, sent_running, reported, reported_running, counted, more, task_of, item_of}
-use Rattle.pb_state.specs.Machine.{change, at_row, stands_at, awaits, may_send_item, is_running, joined_in}
+use Rattle.pb_state.specs.Row.{HostRow, no_tree, none_counted, first_rows, is_called, joined, left, finished, started, sent, sent_running, reported, reported_running, counted, more, task_of, item_of}
+use Rattle.pb_state.specs.Machine.{change, at_row, stands_at, awaits, may_send_item, is_running}
 use Rattle.pb_state.specs.Bounds.{IsAtMost, run_places, out_jobs, running_jobs, IsWithin, AllWithin, most_jobs, IsBounded}
-use Rattle.pb_state.proofs.Opening.{length-joined}
+use Rattle.pb_state.proofs.Opening.{length-first}
 use Rattle.pb_state.proofs.Walked.{stands_below, stands_in, one_halted_answer}
 
 -- counts
@@ -49,7 +48,7 @@ at_most_to counts n m e a =
       ignored = omega (arith, e, a.ignored);
     }
 
-none_at_most : (n : ℕ) → IsAtMost (first_row).counts n
+none_at_most : (n : ℕ) → IsAtMost none_counted n
 none_at_most n = record { ok = omega arith; changed = omega arith; unreachable = omega arith; failed = omega arith; skipped = omega arith; rescued = omega arith; ignored = omega arith }
 
 pub change_on : (row : HostRow) (rows : List HostRow) (h : ℕ) (f : HostRow → HostRow) (found : Option HostRow) → slice_get rows h ≡ found → change (row ∷ rows) (suc h) f ≡ row ∷ change rows h f
@@ -245,26 +244,26 @@ joined_size : (tree : TreeOf) (b : Bool) → size_of tree ≤ 16384 → size_of 
 joined_size tree true s = s
 joined_size tree false s = omega arith
 
-joined_all : (play n h : ℕ) (tree : TreeOf) (hosts : List Bool) (rows : List HostRow) → size_of tree ≤ 16384 → play ≤ n → AllWithin false play rows → AllWithin true n (joined_in tree hosts h rows)
-joined_all play n h tree hosts [] s l w = tt
-joined_all play n h tree hosts (row ∷ rows) s l w =
-    ((at_most_to row.counts _ _ (omega (arith, l)) w.0, omega arith, joined_size tree (joins (is_member hosts h) row) s), joined_all play n (h + 1) tree hosts rows s l w.1)
+joined_all : (play n : ℕ) (tree : TreeOf) (hosts : List Bool) (rows : List HostRow) → size_of tree ≤ 16384 → play ≤ n → AllWithin false play rows → AllWithin true n (map (joined tree hosts) rows)
+joined_all play n tree hosts [] s l w = tt
+joined_all play n tree hosts (row ∷ rows) s l w =
+    ((at_most_to row.counts _ _ (omega (arith, l)) w.0, omega arith, joined_size tree (is_called hosts row) s), joined_all play n tree hosts rows s l w.1)
 
-joined_jobs : (play n h : ℕ) (tree : TreeOf) (hosts : List Bool) (rows : List HostRow) → play ≤ n → sum_by (most_jobs false play) rows ≤ sum_by (most_jobs true n) (joined_in tree hosts h rows)
-joined_jobs play n h tree hosts [] l = omega arith
-joined_jobs play n h tree hosts (row ∷ rows) l =
-    let rest = joined_jobs play n (h + 1) tree hosts rows l in
-    omega (arith, l, rest, sum_by-cons (most_jobs false play) row rows, sum_by-cons (most_jobs true n) (joined tree (is_member hosts h) row) (joined_in tree hosts (h + 1) rows))
+joined_jobs : (play n : ℕ) (tree : TreeOf) (hosts : List Bool) (rows : List HostRow) → play ≤ n → sum_by (most_jobs false play) rows ≤ sum_by (most_jobs true n) (map (joined tree hosts) rows)
+joined_jobs play n tree hosts [] l = omega arith
+joined_jobs play n tree hosts (row ∷ rows) l =
+    let rest = joined_jobs play n tree hosts rows l in
+    omega (arith, l, rest, sum_by-cons (most_jobs false play) row rows, sum_by-cons (most_jobs true n) (joined tree hosts row) (map (joined tree hosts) rows))
 
-pub open_bounded : (play n sends : ℕ) (is_open : Bool) (tree : TreeOf) (hosts : List Bool) (rows new : List HostRow) → IsBounded is_open play sends rows → size_of tree ≤ 16384 → is_open ≡ false → play ≤ n → n < 256 → new ≡ joined_in tree hosts 0 rows → IsBounded true n sends new
+pub open_bounded : (play n sends : ℕ) (is_open : Bool) (tree : TreeOf) (hosts : List Bool) (rows new : List HostRow) → IsBounded is_open play sends rows → size_of tree ≤ 16384 → is_open ≡ false → play ≤ n → n < 256 → new ≡ map (joined tree hosts) rows → IsBounded true n sends new
 open_bounded play n sends true tree hosts rows new b s f l p e = cc
 open_bounded play n sends false tree hosts rows new b s f l p e =
     rw e (record {
-      counts = joined_all play n 0 tree hosts rows s l b.counts;
+      counts = joined_all play n tree hosts rows s l b.counts;
       plays = omega (arith, p);
       opened = p;
-      hosts = rw (length-joined tree hosts 0 rows) b.hosts;
-      jobs = let more = joined_jobs play n 0 tree hosts rows l in omega (arith, more, b.jobs);
+      hosts = rw (length-map rows (joined tree hosts)) b.hosts;
+      jobs = let more = joined_jobs play n tree hosts rows l in omega (arith, more, b.jobs);
     })
 
 left_all : (play : ℕ) (rows : List HostRow) → AllWithin true play rows → AllWithin false (play + 1) (map left rows)
@@ -296,10 +295,10 @@ close_bounded play sends true rows new b o e =
     })
 close_bounded play sends false rows new b o e = cc
 
-first_all : (n : ℕ) → AllWithin false 0 (replicate n first_row)
-first_all zero = tt
-first_all (suc n) = (none_at_most 0, first_all n)
+first_all : (h n : ℕ) → AllWithin false 0 (first_rows h n)
+first_all h zero = tt
+first_all h (suc n) = (none_at_most 0, first_all (h + 1) n)
 
-pub first_bounded : (rows : List HostRow) (n : ℕ) → n ≤ 65536 → rows ≡ replicate n first_row → IsBounded false 0 0 rows
+pub first_bounded : (rows : List HostRow) (n : ℕ) → n ≤ 65536 → rows ≡ first_rows 0 n → IsBounded false 0 0 rows
 first_bounded rows n m e =
-    rw e (record { counts = first_all n; plays = omega arith; opened = tt; hosts = rw (length-replicate n first_row) m; jobs = omega arith })
+    rw e (record { counts = first_all 0 n; plays = omega arith; opened = tt; hosts = rw (length-first 0 n) m; jobs = omega arith })

@@ -7,7 +7,6 @@ use Rattle.std.proofs.lemmas.List.{drop_more, length-map}
 use Rattle.std.proofs.lemmas.List.Sums.{sum_by-cons}
 use Rattle.std.proofs.lemmas.Option.{slice_get_within, get_or_from_slice_get}
 use Rattle.std.proofs.lemmas.Bool.{lt-ltb, leb-true, leb-false, eq-eqb}
-use Rattle.pb_planes.specs.Set.{is_in as is_member}
 use Rattle.pb_tree.specs.Tree.{TreeOf, size_of}
 use Rattle.pb_ids.specs.declared.numbers.Ticket.{Ticket}
 use Rattle.pb_outcome.specs.declared.gather.TaskResult.{TaskResult}
@@ -20,13 +19,13 @@ use Rattle.pb_state.specs.declared.row.Running.{Running}
 use Rattle.pb_state.specs.declared.event.Event.{Event}
 use Rattle.pb_state.specs.declared.event.Event.TheVariants.{Open, Start, Send, Report as Reported, Turn, Close, Stop, Forks}
 use Rattle.pb_plan.specs.Plan.{PlayOf, PlanOf}
-use Rattle.pb_state.specs.Row.{HostRow, no_tree, next_place, joins, joined, left, finished, started, sent, sent_running, reported, reported_running, item_of, task_of}
+use Rattle.pb_state.specs.Row.{HostRow, no_tree, next_place, is_called, joined, left, finished, started, sent, sent_running, reported, reported_running, item_of, task_of}
 use Rattle.pb_state.specs.State.{State}
-use Rattle.pb_state.specs.Machine.{possible, after, change, at_row, open_play, least_place, lesser, same_place, stands_at, has_room, may_open, next_play, may_start_in, may_turn_in, may_close_in, some_may_start, joined_in, opened_in, opened_at, started_in, start_at, turned_in, closed, is_running, running_count, is_ticket, may_send_item, awaits, may_send_in, may_report_in, sent_in, reported_in}
+use Rattle.pb_state.specs.Machine.{possible, after, change, at_row, open_play, least_place, lesser, same_place, stands_at, has_room, may_open, next_play, may_start_in, may_turn_in, may_close_in, some_may_start, opened_in, opened_at, started_in, start_at, turned_in, closed, is_running, running_count, is_ticket, may_send_item, awaits, may_send_in, may_report_in, sent_in, reported_in}
 use Rattle.pb_state.specs.Results.{planned_at}
 use Rattle.pb_state.specs.Run.{is_command}
 use Rattle.pb_state.specs.Work.{places_left, place_work, out_work, running_work, row_work, later_work, turn_work, is_place, work_in, work}
-use Rattle.pb_state.proofs.Opening.{next_is, length-joined}
+use Rattle.pb_state.proofs.Opening.{next_is}
 use Rattle.pb_state.proofs.Steps.{length-change}
 use Rattle.pb_state.proofs.Walked.{stands_below, one_halted_answer, same_is}
 
@@ -258,19 +257,19 @@ smaller : (tree : TreeOf) (b : Bool) → size_of (if b then tree else no_tree) �
 smaller tree true = omega arith
 smaller tree false = omega arith
 
-fresh : (tree : TreeOf) (own : Bool) (row : HostRow) → row_work (joined tree own row) ≤ 3 * size_of tree
-fresh tree own row = most (next_place (joined tree own row))
+fresh : (tree : TreeOf) (hosts : List Bool) (row : HostRow) → row_work (joined tree hosts row) ≤ 3 * size_of tree
+fresh tree hosts row = most (next_place (joined tree hosts row))
   where
-    most : (next : Option ℕ) → place_work (joined tree own row) next ≤ 3 * size_of tree
+    most : (next : Option ℕ) → place_work (joined tree hosts row) next ≤ 3 * size_of tree
     most None = omega arith
-    most (Some p) = omega (arith, smaller tree (joins own row))
+    most (Some p) = omega (arith, smaller tree (is_called hosts row))
 
-fresh_all : (tree : TreeOf) (hosts : List Bool) (h : ℕ) (rows : List HostRow) → sum_by row_work (joined_in tree hosts h rows) ≤ length rows * (3 * size_of tree)
-fresh_all tree hosts h [] = omega arith
-fresh_all tree hosts h (row ∷ rows) =
-    let one = fresh tree (is_member hosts h) row in
-    let rest = fresh_all tree hosts (h + 1) rows in
-    omega (arith, sum_by-cons row_work (joined tree (is_member hosts h) row) (joined_in tree hosts (h + 1) rows), one, rest, suc-mul (length rows) (3 * size_of tree))
+fresh_all : (tree : TreeOf) (hosts : List Bool) (rows : List HostRow) → sum_by row_work (map (joined tree hosts) rows) ≤ length rows * (3 * size_of tree)
+fresh_all tree hosts [] = omega arith
+fresh_all tree hosts (row ∷ rows) =
+    let one = fresh tree hosts row in
+    let rest = fresh_all tree hosts rows in
+    omega (arith, sum_by-cons row_work (joined tree hosts row) (map (joined tree hosts) rows), one, rest, suc-mul (length rows) (3 * size_of tree))
 
 later_at : (n : ℕ) (plays : List PlayOf) (i : ℕ) (play : PlayOf) → slice_get plays i ≡ Some play → later_work n (drop i plays) ≡ 3 + 2 * (n * (3 * size_of play.tree)) + later_work n (drop (i + 1) plays)
 later_at n plays i play e =
@@ -296,8 +295,8 @@ open_in_less : (plan : PlanOf) (s : State) (n : ℕ) (play : PlayOf) → s.is_op
 open_in_less plan s n play o l e =
     let old : work plan s ≡ work_in plan s None = ap (λ (v : Bool). work_in plan s (if v then slice_get plan.plays s.play else None)) o in
     let new : work plan (opened_in s n play) ≡ work_in plan (opened_in s n play) (Some play) = ap (work_in plan (opened_in s n play)) e in
-    let same : later_work (length (joined_in play.tree play.hosts 0 s.rows)) (drop (n + 1) plan.plays) ≡ later_work (length s.rows) (drop (n + 1) plan.plays) = rw (length-joined play.tree play.hosts 0 s.rows) refl in
-    omega (arith, old, new, same, fresh_all play.tree play.hosts 0 s.rows, later_at (length s.rows) plan.plays n play e, fewer (length s.rows) plan.plays s.play n l, no_turn (least_place (joined_in play.tree play.hosts 0 s.rows)))
+    let same : later_work (length (map (joined play.tree play.hosts) s.rows)) (drop (n + 1) plan.plays) ≡ later_work (length s.rows) (drop (n + 1) plan.plays) = rw (length-map s.rows (joined play.tree play.hosts)) refl in
+    omega (arith, old, new, same, fresh_all play.tree play.hosts s.rows, later_at (length s.rows) plan.plays n play e, fewer (length s.rows) plan.plays s.play n l, no_turn (least_place (map (joined play.tree play.hosts) s.rows)))
 
 open_next_less : (plan : PlanOf) (s : State) (next : Option ℕ) → next_play plan s ≡ next → s.is_open ≡ false → is_some next ≡ true → work plan (option_map_or (opened_at plan s) next s) < work plan s
 open_next_less plan s None f o e = cc

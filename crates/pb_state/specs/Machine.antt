@@ -16,7 +16,7 @@ use Rattle.pb_state.specs.declared.row.Running.{Running}
 use Rattle.pb_state.specs.declared.decided.Decided.{Decided}
 use Rattle.pb_state.specs.declared.decided.Done.{Done as DoneTask}
 use Rattle.pb_plan.specs.Plan.{PlayOf, PlanOf}
-use Rattle.pb_state.specs.Row.{HostRow, first_row, is_active, next_place, started, sent, reported, joined, left, item_of, task_of}
+use Rattle.pb_state.specs.Row.{HostRow, first_rows, is_active, is_called, next_place, started, sent, reported, joined, left, item_of, task_of}
 use Rattle.pb_state.specs.State.{State}
 use Rattle.pb_state.specs.Results.{planned_at}
 
@@ -83,14 +83,9 @@ may_send_item item row = (item == 0) && has_send row
 abbrev pub awaits : Ticket → ℕ → HostRow → Bool
 awaits ticket item row = (item == 0) && has_ticket ticket row
 
--- whether one of these hosts, whose first has the number h, is active and in a set; none is in it beyond its end
-abbrev pub some_own : List Bool → ℕ → List HostRow → Bool
-some_own hosts h [] = false
-some_own hosts h (row ∷ rows) = (is_member hosts h && is_active row.status) || some_own hosts (h + 1) rows
-
 -- a play has hosts where one of its own is active
 abbrev pub has_hosts : List HostRow → PlayOf → Bool
-has_hosts rows play = some_own play.hosts 0 rows
+has_hosts rows play = list_any (is_called play.hosts) rows
 
 -- the number of the first of these plays that has hosts; their first has the number n
 abbrev pub first_play : List HostRow → ℕ → List PlayOf → Option ℕ
@@ -156,18 +151,13 @@ abbrev pub done_at_once : Planned → Option DoneTask
 done_at_once (DecidedItem item) = Some (done_by item)
 done_at_once (Sends call) = None
 
--- these hosts, whose first has the number h, as the batch of a play opens that has this tree and whose own hosts are in this set
-abbrev pub joined_in : TreeOf → List Bool → ℕ → List HostRow → List HostRow
-joined_in tree hosts h [] = []
-joined_in tree hosts h (row ∷ rows) = joined tree (is_member hosts h) row ∷ joined_in tree hosts (h + 1) rows
-
 -- what each event leads to
 abbrev pub opened_with : State → ℕ → List HostRow → PlayOf → State
 opened_with s n rows play =
     record s { rows = rows; play = n; is_open = true; place = least_place rows; begun = replicate (size_of play.tree) false; decided = None }
 
 abbrev pub opened_in : State → ℕ → PlayOf → State
-opened_in s n play = opened_with s n (joined_in play.tree play.hosts 0 s.rows) play
+opened_in s n play = opened_with s n (map (joined play.tree play.hosts) s.rows) play
 
 abbrev pub opened_at : PlanOf → State → ℕ → State
 opened_at plan s n = option_map_or (opened_in s n) (slice_get plan.plays n) s
@@ -229,7 +219,7 @@ after plan s (Forks n) = with_forks s n
 abbrev pub first_state : PlanOf → ℕ → ℕ → State
 first_state plan forks pool =
     record {
-      rows = replicate (length plan.hosts) first_row;
+      rows = first_rows 0 (length plan.hosts);
       play = 0;
       is_open = false;
       place = None;

@@ -1,7 +1,8 @@
 -- What the state keeps of one host, and what a step does to it alone.
-use Rattle.std.specs.Prelude.{ℕ, ◌+◌, Bool, true, false, ◌&&◌, not, List, [], ◌∷◌, ◌++◌, Option, Some, None, option_map, if◌then◌else◌}
+use Rattle.std.specs.Prelude.{ℕ, zero, suc, ◌+◌, Bool, true, false, ◌&&◌, not, List, [], ◌∷◌, ◌++◌, Option, Some, None, option_map, if◌then◌else◌}
 use Rattle.std.specs.Option.{option_map_or}
 use Rattle.pb_ids.specs.declared.numbers.Ticket.{Ticket}
+use Rattle.pb_planes.specs.Set.{is_in as is_member}
 use Rattle.pb_tree.specs.declared.answer.Kind.{Kind}
 use Rattle.pb_tree.specs.declared.answer.Kind.TheVariants.{Good, Bad, Gone}
 use Rattle.pb_tree.specs.declared.tree.Status.{Status}
@@ -23,6 +24,8 @@ use Rattle.pb_items.specs.declared.planned.Planned.{Planned}
 use Rattle.pb_items.specs.declared.planned.Planned.TheVariants.{Decided, Sends}
 
 pub record HostRow : Type 0 where
+  -- the host's number
+  pub host : ℕ
   -- the tree of the play in whose batch the host is; it is empty where the host is in none
   pub tree : TreeOf
   -- what the host answered in the open batch, place after place
@@ -42,8 +45,13 @@ none_counted = record { ok = 0; changed = 0; unreachable = 0; failed = 0; skippe
 abbrev pub no_tree : TreeOf
 no_tree = record { nodes = Nothing; handlers = 0; force_handlers = false }
 
-abbrev pub first_row : HostRow
-first_row = record { tree = no_tree; answers = []; status = Active; in_batch = false; running = None; last = None; counts = none_counted }
+abbrev pub first_row : ℕ → HostRow
+first_row host = record { host = host; tree = no_tree; answers = []; status = Active; in_batch = false; running = None; last = None; counts = none_counted }
+
+-- this many hosts, whose first has the number h
+abbrev pub first_rows : ℕ → ℕ → List HostRow
+first_rows h zero = []
+first_rows h (suc n) = first_row h ∷ first_rows (h + 1) n
 
 abbrev pub is_active : Status → Bool
 is_active Active = true
@@ -137,13 +145,14 @@ reported_running outcome row r = finished r.place (task_of (item_of outcome r)) 
 abbrev pub reported : Form → HostRow → HostRow
 reported outcome row = option_map_or (reported_running outcome row) row.running row
 
--- a host as the batch of a play with this tree opens: it takes part where it is one of the play's own and active
-abbrev pub joins : Bool → HostRow → Bool
-joins own row = own && is_active row.status
+-- a host is called where it is one of a play's own hosts and active; none is one of them beyond their end
+abbrev pub is_called : List Bool → HostRow → Bool
+is_called hosts row = is_member hosts row.host && is_active row.status
 
-abbrev pub joined : TreeOf → Bool → HostRow → HostRow
-joined tree own row =
-    record row { tree = if joins own row then tree else no_tree; answers = []; in_batch = joins own row; running = None; last = None }
+-- a host as the batch of a play opens that has this tree and these hosts: it takes part where it is called
+abbrev pub joined : TreeOf → List Bool → HostRow → HostRow
+joined tree hosts row =
+    record row { tree = if is_called hosts row then tree else no_tree; answers = []; in_batch = is_called hosts row; running = None; last = None }
 
 -- a host as its batch closes
 abbrev pub left : HostRow → HostRow

@@ -65,10 +65,10 @@ no_play_left = refl
 
 -- so is a play whose hosts failed
 abbrev failed_row : HostRow
-failed_row = record first_row { status = Failed }
+failed_row = record (first_row 0) { status = Failed }
 
-passes_failed : first_play (failed_row ∷ first_row ∷ []) 0 (play_on (true ∷ []) ∷ play_on (true ∷ true ∷ []) ∷ []) ≡ Some 1
+passes_failed : first_play (failed_row ∷ first_row 1 ∷ []) 0 (play_on (true ∷ []) ∷ play_on (true ∷ true ∷ []) ∷ []) ≡ Some 1
 passes_failed = refl
 
-no_hosts : first_play (failed_row ∷ first_row ∷ []) 0 (play_on (true ∷ false ∷ []) ∷ []) ≡ None
+no_hosts : first_play (failed_row ∷ first_row 1 ∷ []) 0 (play_on (true ∷ false ∷ []) ∷ []) ≡ None
 no_hosts = refl

@@ -3,16 +3,18 @@
 ghost use Rattle.std.specs.Prelude.{◌≡◌, ◌<◌, ◌-◌, ◌^◌, ◌∷◌, ◌++◌, [], OnOk, OnErr, IfOk, IfSome, Some, None, option_map, true, false, if◌then◌else◌};
 ghost use Rattle.std.specs.Option.{option_copied};
 ghost use Rattle.pb_tree.specs.Answer.{AnswerOf};
+ghost use Rattle.pb_planes.specs.Set.{is_in as is_member};
 ghost use Rattle.pb_cursors.specs.Walks.{walk_from, walk_after};
 
 use crate::decided::{Decided, Done};
 use crate::planned::task_of;
 use pb_cursors::{LaidTree, PlayWalk};
-use pb_ids::Ticket;
+use pb_ids::{HostNo, Ticket};
 use pb_outcome::gather::TaskResult;
 use pb_outcome::job::Call;
 use pb_outcome::judge::judge;
 use pb_outcome::outcome::Outcome;
+use pb_planes::HostSet;
 use pb_tree::{Answer, Kind, Reach, Status};
 use std::alloc::{AllocError, Global};
 use std::marker::Model;
@@ -65,9 +67,10 @@ impl Drop for Running {
     }
 }
 
-/// One host: its walk through the open batch's play, where it takes part in that, its status, what it runs and what it finished last,
+/// One host: its number, its walk through the open batch's play, where it takes part in that, its status, what it runs and what it finished last,
 /// and its counts.
 pub struct Row {
+    host: HostNo,
     walk: Option<PlayWalk>,
     status: Status,
     running: Option<Running>,
@@ -78,6 +81,7 @@ pub struct Row {
 impl Drop for Row {
     fn drop(self) {
         let Row {
+            host: _,
             walk,
             status: _,
             running,
@@ -103,6 +107,7 @@ impl Model for Row {
     ghost use Rattle.pb_state.specs.Walking.{tree_in, answers_in, AreUnforced, RunsInBatch};
 
     ghost view = { λ r. record {
+      host = r.host.0;
       tree = tree_in r.walk;
       answers = answers_in r.walk;
       status = r.status;
@@ -163,6 +168,13 @@ fn counted(counts: Counts, task: TaskResult) -> Counts
     }
 }
 
+/// Whether a host is in a set: none is beyond its end.
+fn is_member(set: &HostSet, host: HostNo) -> bool
+    ensures { result ≡ is_member set.now host.0 }
+{
+    host.0 < set.width() && set.has(host)
+}
+
 /// A host that takes part starts its walk.
 fn walk_if(alloc: Global, joins: bool, laid: &Rc<LaidTree>) -> Result<Option<PlayWalk>, AllocError>
     ensures { IfOk result (λ walk. walk ≡ (if joins then Some (walk_from laid.now.value.tree) else None)) }
@@ -217,10 +229,11 @@ impl Row {
     ghost use Rattle.pb_items.specs.declared.planned.Planned.TheVariants.{Sends};
 
     /// A host before the run.
-    pub fn new() -> Row
-        ensures { result ≡ first_row }
+    pub fn new(host: HostNo) -> Row
+        ensures { result ≡ first_row host.0 }
     {
         Row {
+            host,
             walk: None,
             status: Status::Active,
             running: None,
@@ -314,13 +327,19 @@ impl Row {
         }
     }
 
-    /// The host as the batch of a play with this tree opens. `own` tells whether the host is one of the play's own.
-    pub fn joined(&self, alloc: Global, own: bool, laid: &Rc<LaidTree>) -> Result<Row, AllocError>
+    /// The host as the batch of a play opens that has this tree and these hosts of its own.
+    pub fn joined(
+        &self,
+        alloc: Global,
+        hosts: &HostSet,
+        laid: &Rc<LaidTree>,
+    ) -> Result<Row, AllocError>
         requires { laid.now.value.tree.force_handlers ≡ false }
-        ensures { IfOk result (λ row. row ≡ joined laid.now.value.tree own self.now) }
+        ensures { IfOk result (λ row. row ≡ joined laid.now.value.tree hosts.now self.now) }
     {
-        let walk = walk_if(alloc, own && is_active(self.status), laid)?;
+        let walk = walk_if(alloc, self.is_called(hosts), laid)?;
         Ok(Row {
+            host: self.host,
             walk,
             status: self.status,
             running: None,
@@ -340,7 +359,7 @@ impl Row {
 }
 
 impl Row {
-    ghost use Rattle.pb_state.specs.Row.{next_place};
+    ghost use Rattle.pb_state.specs.Row.{is_called, next_place};
     ghost use Rattle.pb_state.specs.Machine.{is_ready, stands_at, is_in, is_running, has_send, is_out, has_ticket, is_ticket};
 
     /// Whether the host still takes part in the playbook.
@@ -348,6 +367,13 @@ impl Row {
         ensures { result ≡ is_active self.now.status }
     {
         is_active(self.status)
+    }
+
+    /// Whether the host is one of these and active.
+    pub fn is_called(&self, hosts: &HostSet) -> bool
+        ensures { result ≡ is_called hosts.now self.now }
+    {
+        is_member(hosts, self.host) && is_active(self.status)
     }
 
     /// Whether the host is in the batch and active.

@@ -3,11 +3,10 @@
 ghost use Rattle.std.specs.Prelude.{◌≡◌, ◌&&◌, ◌<◌, ◌≤◌, ◌-◌, ◌^◌, length, map, drop, replicate, slice_get, count_by, true, false, IfOk, IfSome, IfNone, OnOk, OnErr, Some, None};
 ghost use Rattle.std.specs.List.{list_any};
 ghost use Rattle.std.specs.Option.{option_map_or};
-ghost use Rattle.pb_planes.specs.Set.{is_in as is_member};
-ghost use Rattle.pb_state.specs.Row.{HostRow, first_row, next_place, left, finished, sent, reported};
+ghost use Rattle.pb_state.specs.Row.{HostRow, first_rows, next_place, is_called, joined, left, finished, sent, reported};
 ghost use Rattle.pb_state.specs.Bounds.{IsAtMost};
 ghost use Rattle.pb_state.specs.Oldest.{oldest_out, out_at, older};
-ghost use Rattle.pb_state.specs.Machine.{is_ready, stands_at, is_in, is_running, has_send, is_out, has_ticket, least_place, lesser, change, report_decides, some_own, has_hosts, first_play, joined_in};
+ghost use Rattle.pb_state.specs.Machine.{is_ready, stands_at, is_in, is_running, has_send, is_out, has_ticket, least_place, lesser, change, report_decides, has_hosts, first_play};
 
 use crate::decided::Decided;
 use crate::row::{Counts, Row};
@@ -22,44 +21,31 @@ use std::alloc::{AllocError, Global};
 use std::rc::Rc;
 
 /// A row for each host.
-pub fn first_rows(alloc: Global, hosts: usize) -> Result<Vec<Row>, AllocError>
-    ensures { IfOk result (λ rows. rows.items ≡ replicate hosts first_row) }
+#[tactic(auto, using(crate::proofs::Opening::first_more))]
+pub fn first_rows(alloc: Global, hosts: u32) -> Result<Vec<Row>, AllocError>
+    ensures { IfOk result (λ rows. rows.items ≡ first_rows 0 hosts) }
 {
     let mut rows = Vec::new(alloc);
-    for _ in 0..hosts {
-        rows.push(Row::new())?;
+    for host in 0..hosts {
+        rows.push(Row::new(HostNo(host)))?;
     }
     Ok(rows)
 }
 
-/// Whether a host is in a set: none is beyond its end.
-fn is_member(set: &HostSet, host: HostNo) -> bool
-    ensures { result ≡ is_member set.now host.0 }
-{
-    host.0 < set.width() && set.has(host)
-}
-
 /// Whether a host of a set is active.
-fn some_own(rows: &[Row], hosts: &HostSet) -> bool
-    requires { length rows.now ≤ 65536 }
-    ensures { result ≡ some_own hosts.now 0 rows.now }
+fn some_called(rows: &[Row], hosts: &HostSet) -> bool
+    ensures { result ≡ list_any (is_called hosts.now) rows.now }
 {
-    for (i, row) in rows.iter().enumerate() {
-        if is_member(hosts, HostNo(i as u32)) && row.is_host_active() {
-            return true;
-        }
-    }
-    false
+    rows.iter().any(|row| row.is_called(hosts))
 }
 
 /// The number of the first play from this one on that has hosts: some host of its own is active.
 pub fn first_play(rows: &[Row], plays: &[PlanPlay], from: usize) -> Option<usize>
-    requires { length rows.now ≤ 65536 }
     ensures value { result ≡ first_play rows.now from (drop from plays.now) }
     ensures least { IfSome result (λ number. from ≤ number) }
 {
     for number in from..plays.len() {
-        if some_own(rows, plays[number].hosts()) {
+        if some_called(rows, plays[number].hosts()) {
             return Some(number);
         }
     }
@@ -207,14 +193,12 @@ pub fn joined_rows(
     hosts: &HostSet,
     laid: &Rc<LaidTree>,
 ) -> Result<Vec<Row>, AllocError>
-    requires width { length rows.now ≤ 65536 }
-    requires unforced { laid.now.value.tree.force_handlers ≡ false }
-    ensures { IfOk result (λ all. all.items ≡ joined_in laid.now.value.tree hosts.now 0 rows.now) }
+    requires { laid.now.value.tree.force_handlers ≡ false }
+    ensures { IfOk result (λ all. all.items ≡ map (joined laid.now.value.tree hosts.now) rows.now) }
 {
     let mut all = Vec::with_capacity(alloc, rows.len())?;
-    for (i, row) in rows.iter().enumerate() {
-        let own = is_member(hosts, HostNo(i as u32));
-        let joined = row.joined(alloc, own, laid)?;
+    for row in rows {
+        let joined = row.joined(alloc, hosts, laid)?;
         all.push(joined)?;
     }
     Ok(all)

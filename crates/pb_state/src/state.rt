@@ -539,7 +539,7 @@ impl EngineState {
         requires most { pool ≤ 256 }
         ensures { IfOk result (λ s. s ≡ first_state plan.now forks pool) }
     {
-        let rows = first_rows(alloc, plan.host_count() as usize)?;
+        let rows = first_rows(alloc, plan.host_count())?;
         Ok(EngineState {
             alloc,
             rows,

@@ -1,6 +1,6 @@
-use Rattle.std.proofs.Common.{◌≡◌, replicate}
-use Rattle.pb_state.specs.Row.{first_row}
+use Rattle.std.proofs.Common.{◌≡◌}
+use Rattle.pb_state.specs.Row.{first_rows}
 use Rattle.pb_state.proofs.rows.first_rows.Given as goal
 
-abbrev pub invariant-loop : goal.invariant-loop
-invariant-loop l = l.rows.items ≡ replicate l.counter first_row
+abbrev pub invariant-loop-host : goal.invariant-loop-host
+invariant-loop-host l = l.rows.items ≡ first_rows 0 l.host

@@ -1,5 +1,5 @@
-use Rattle.std.proofs.Common.{◌≡◌, ◌∙◌, ◌≤◌, false, ap, subst, sym}
-use Rattle.pb_state.specs.Machine.{joined_in}
+use Rattle.std.proofs.Common.{◌≡◌, ◌∙◌, ◌≤◌, false, map, ap, subst, sym}
+use Rattle.pb_state.specs.Row.{joined}
 use Rattle.pb_state.specs.State.{State}
 use Rattle.pb_state.proofs.Within.{open_bounded}
 use Rattle.pb_state.proofs.state.EngineState.open_in.Goals as goal
@@ -11,4 +11,4 @@ invariant_of-self c =
     (subst (λ (v : State). v.is_open ≡ false) (sym c.self.view_is) c.requires.closed)
     (subst (λ (v : State). v.play ≤ c.args.number) (sym c.self.view_is) c.requires.least)
     c.requires.below
-    (c.put_rows.ensures ∙ c.in_ok-rows.ensures ∙ ap (joined_in c.laid.result.now.value.tree c.hosts.result.now 0) c.deref.ensures.value)
+    (c.put_rows.ensures ∙ c.in_ok-rows.ensures ∙ ap (map (joined c.laid.result.now.value.tree c.hosts.result.now)) c.deref.ensures.value)
