@@ -1,6 +1,6 @@
 -- A state in which no host is ready, and no turn, close or open is possible, is quiet; and finished, if no job is out.
-use Rattle.std.proofs.Common.{◌≡◌, ℕ, Bool, true, false, ◌&&◌, ◌||◌, not, List, [], ◌∷◌, length, map, replicate, refl, zero, suc, sym, ◌∙◌}
-use Rattle.std.specs.Prelude.{◌==◌, Option, Some, None, slice_get, is_some, is_none}
+use Rattle.std.proofs.Common.{◌≡◌, ℕ, Bool, true, false, ◌&&◌, ◌||◌, not, List, [], ◌∷◌, length, map, replicate, refl, zero, suc}
+use Rattle.std.specs.Prelude.{◌==◌, Option, Some, None, slice_get, is_some}
 use Rattle.std.specs.List.{list_any}
 use Rattle.std.specs.Option.{option_map_or}
 use Rattle.std.proofs.lemmas.List.{length-map, length-replicate}
@@ -15,8 +15,8 @@ use Rattle.pb_outcome.specs.declared.job.Report.{Report}
 use Rattle.pb_plan.specs.Plan.{PlayOf, PlanOf}
 use Rattle.pb_state.specs.Row.{HostRow}
 use Rattle.pb_state.specs.State.{State}
-use Rattle.pb_state.specs.Machine.{possible, ready, ready_in, is_ready, at_row, may_open, may_start_in, may_send_in, may_send_item, may_report_in, may_turn_in, may_close_in, has_room, has_send, has_ticket, is_ticket, is_out, awaits, stands_at, open_play}
-use Rattle.pb_state.specs.Run.{is_move, is_command, IsQuiet, IsFinished}
+use Rattle.pb_state.specs.Machine.{possible, ready, ready_in, is_ready, at_row, may_open, may_start_in, may_send_in, may_send_item, may_report_in, may_turn_in, may_close_in, has_room, has_send, is_ticket, is_out, awaits, stands_at, open_play}
+use Rattle.pb_state.specs.Run.{is_command, IsQuiet, IsFinished}
 use Rattle.pb_engine.specs.declared.choice.Choice.TheVariants.{Take}
 use Rattle.pb_engine.specs.Choice.{IsChoice, host_of}
 

@@ -26,7 +26,7 @@ use Rattle.pb_plan.specs.Plan.{PlayOf, PlanOf}
 use Rattle.pb_state.specs.Row.{HostRow, place_of, next_place, joined, failed_kind, kind_of, answer_of, finished, started, sent, sent_running, reported, reported_running, task_of, item_of}
 use Rattle.pb_state.specs.State.{State}
 use Rattle.pb_state.specs.Results.{planned_at}
-use Rattle.pb_state.specs.Machine.{possible, after, change, at_row, open_play, next_play, same_place, stands_at, is_running, is_in, has_room, has_send, may_send_item, may_start_in, may_send_in, may_report_in, opened_in, opened_at as opened_from, started_in, start_at, sent_in, reported_in, turned_in, first_state}
+use Rattle.pb_state.specs.Machine.{possible, after, change, at_row, open_play, next_play, same_place, stands_at, is_running, has_room, has_send, may_send_item, may_start_in, may_send_in, may_report_in, opened_in, opened_at as opened_from, started_in, start_at, sent_in, reported_in, turned_in, first_state}
 use Rattle.pb_state.specs.Run.{legal_from, IsRun}
 use Rattle.pb_state.proofs.Opening.{next_is}
 use Rattle.pb_state.specs.Once.{StartOf, SendOf, running_place, place_run_by, starts_from, sends_from, IsNotIn, NoTwice, IsOnce, NothingTwice}

@@ -1,5 +1,5 @@
 -- In every run the hosts of the open batch are where their answers lead in the play's tree.
-use Rattle.std.proofs.Common.{◌≡◌, ℕ, zero, suc, Bool, true, false, List, [], ◌∷◌, map, refl, sym, ◌∙◌, ap, subst}
+use Rattle.std.proofs.Common.{◌≡◌, ℕ, zero, suc, ◌+◌, Bool, true, false, List, [], ◌∷◌, length, map, refl, sym, ◌∙◌, ap, subst}
 use Rattle.std.specs.Prelude.{Option, Some, None, slice_get, if◌then◌else◌}
 use Rattle.std.specs.Option.{option_map_or}
 use Rattle.pb_ids.specs.declared.numbers.Ticket.{Ticket}
@@ -13,12 +13,12 @@ use Rattle.pb_items.specs.declared.planned.Planned.{Planned}
 use Rattle.pb_items.specs.declared.planned.Planned.TheVariants.{Decided, Sends}
 use Rattle.pb_state.specs.declared.row.Running.{Running}
 use Rattle.pb_plan.specs.Plan.{PlayOf, PlanOf}
-use Rattle.pb_state.specs.Row.{HostRow, no_tree, place_of, next_place, started, sent, reported, reported_running, is_called, joined}
+use Rattle.pb_state.specs.Row.{HostRow, no_tree, place_of, started, sent, reported, reported_running, is_called, joined, left, first_rows}
 use Rattle.pb_state.specs.State.{State}
 use Rattle.pb_state.specs.Results.{planned_at}
 use Rattle.pb_state.specs.Machine.{after, change, open_play, next_play, opened_in, opened_at, started_in, start_at, sent_in, reported_in, turned_in, first_state}
 use Rattle.pb_state.specs.Run.{state_from, IsRun}
-use Rattle.pb_state.specs.Walks.{walks_in, IsWalked, AreWalked, IsTracked, WalksLead}
+use Rattle.pb_state.specs.Walks.{walks_in, IsWalked, AreWalked, IsTracked, AreNumbered, RowsStay, WalksLead}
 
 -- a host of the batch walks this tree
 abbrev pub IsIn : TreeOf → HostRow → Type 0
@@ -150,3 +150,76 @@ walks_lead plan forks pool trail = λ play o. walked_rows play.tree _ (of_from p
 
 pub run_walks : (plan : PlanOf) (pool : ℕ) (trail : List Event) (s : State) → IsRun plan pool trail s → IsTracked plan s
 run_walks plan pool trail s run = subst (IsTracked plan) run.ends (walks_lead plan plan.forks pool trail)
+
+-- each row keeps its host's number
+number_change : (h k : ℕ) (f : HostRow → HostRow) → ((row : HostRow) → (f row).host ≡ row.host) → (rows : List HostRow) → AreNumbered h rows → AreNumbered h (change rows k f)
+number_change h k f same [] all = tt
+number_change h zero f same (row ∷ rows) all = (same row ∙ all.0, all.1)
+number_change h (suc k) f same (row ∷ rows) all = rw (change_on row rows k f (slice_get rows k) refl) (all.0, number_change (h + 1) k f same rows all.1)
+
+number_map : (h : ℕ) (f : HostRow → HostRow) → ((row : HostRow) → (f row).host ≡ row.host) → (rows : List HostRow) → AreNumbered h rows → AreNumbered h (map f rows)
+number_map h f same [] all = tt
+number_map h f same (row ∷ rows) all = (same row ∙ all.0, number_map (h + 1) f same rows all.1)
+
+started_host : (p : ℕ) (planned : Planned) (row : HostRow) → (started p planned row).host ≡ row.host
+started_host p (Decided item) row = refl
+started_host p (Sends call) row = refl
+
+reported_host : (outcome : Form) (row : HostRow) → (reported outcome row).host ≡ row.host
+reported_host outcome row = by_running row.running
+  where
+    by_running : (running : Option Running) → (option_map_or (reported_running outcome row) running row).host ≡ row.host
+    by_running None = refl
+    by_running (Some r) = refl
+
+abbrev KeepsNumbers : State → State → Type 0
+KeepsNumbers s new = AreNumbered 0 s.rows → AreNumbered 0 new.rows
+
+start_numbers : (plan : PlanOf) (s : State) (h : ℕ) (play : PlayOf) (place : Option ℕ) → KeepsNumbers s (option_map_or (start_at plan s h play) place s)
+start_numbers plan s h play None = λ all. all
+start_numbers plan s h play (Some p) = λ all. number_change 0 h (started p (planned_at plan play h p)) (λ row. started_host p (planned_at plan play h p) row) s.rows all
+
+started_numbers : (plan : PlanOf) (s : State) (h : ℕ) (found : Option PlayOf) → KeepsNumbers s (option_map_or (started_in plan s h) found s)
+started_numbers plan s h None = λ all. all
+started_numbers plan s h (Some play) = start_numbers plan s h play s.place
+
+sent_numbers : (s : State) (h : ℕ) (ticket : Ticket) (found : Option PlayOf) → KeepsNumbers s (option_map_or (sent_in s h ticket) found s)
+sent_numbers s h ticket None = λ all. all
+sent_numbers s h ticket (Some play) = λ all. number_change 0 h (sent ticket) (λ row. refl) s.rows all
+
+reported_numbers : (s : State) (r : Report) (found : Option PlayOf) → KeepsNumbers s (option_map_or (reported_in s r) found s)
+reported_numbers s r None = λ all. all
+reported_numbers s r (Some play) = λ all. number_change 0 r.host.0 (reported r.outcome) (λ row. reported_host r.outcome row) s.rows all
+
+turned_numbers : (s : State) (found : Option PlayOf) → KeepsNumbers s (option_map_or (turned_in s) found s)
+turned_numbers s None = λ all. all
+turned_numbers s (Some play) = λ all. all
+
+opened_numbers : (s : State) (n : ℕ) (found : Option PlayOf) → KeepsNumbers s (option_map_or (opened_in s n) found s)
+opened_numbers s n None = λ all. all
+opened_numbers s n (Some play) = λ all. number_map 0 (joined play.tree play.hosts) (λ row. refl) s.rows all
+
+next_numbers : (plan : PlanOf) (s : State) (next : Option ℕ) → KeepsNumbers s (option_map_or (opened_at plan s) next s)
+next_numbers plan s None = λ all. all
+next_numbers plan s (Some n) = opened_numbers s n (slice_get plan.plays n)
+
+step_numbers : (plan : PlanOf) (s : State) (e : Event) → KeepsNumbers s (after plan s e)
+step_numbers plan s Open = next_numbers plan s (next_play plan s)
+step_numbers plan s (Start h) = started_numbers plan s h.0 (open_play plan s)
+step_numbers plan s (Send h item ticket) = sent_numbers s h.0 ticket (open_play plan s)
+step_numbers plan s (Reported r) = reported_numbers s r (open_play plan s)
+step_numbers plan s Turn = turned_numbers s (open_play plan s)
+step_numbers plan s Close = λ all. number_map 0 left (λ row. refl) s.rows all
+step_numbers plan s Stop = λ all. all
+step_numbers plan s (Forks n) = λ all. all
+
+numbers_from : (plan : PlanOf) (s : State) (es : List Event) → AreNumbered 0 s.rows → AreNumbered 0 (state_from plan s es).rows
+numbers_from plan s [] all = all
+numbers_from plan s (e ∷ es) all = numbers_from plan (after plan s e) es (step_numbers plan s e all)
+
+first_numbers : (h n : ℕ) → AreNumbered h (first_rows h n)
+first_numbers h zero = tt
+first_numbers h (suc n) = (refl, first_numbers (h + 1) n)
+
+pub rows_stay : RowsStay
+rows_stay plan forks pool trail = numbers_from plan (first_state plan forks pool) trail (first_numbers 0 (length plan.hosts))

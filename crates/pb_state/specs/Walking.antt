@@ -1,5 +1,5 @@
 -- What a row's walk tells.
-use Rattle.std.specs.Prelude.{◌≡◌, Bool, true, false, List, [], Option, Some, None, is_some, IfSome}
+use Rattle.std.specs.Prelude.{◌≡◌, true, false, List, [], Option, is_some, IfSome}
 use Rattle.std.specs.Option.{option_map_or}
 use Rattle.pb_tree.specs.Answer.{AnswerOf}
 use Rattle.pb_tree.specs.Tree.{TreeOf}

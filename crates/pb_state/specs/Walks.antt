@@ -1,6 +1,6 @@
 -- Where the hosts of a batch are: each at the place to which its answers lead in the tree of the play that is open
 -- (Ansible's documentation, "Controlling playbook execution: strategies").
-use Rattle.std.specs.Prelude.{◌≡◌, ℕ, true, false, List, [], ◌∷◌, Option, Some, None}
+use Rattle.std.specs.Prelude.{◌≡◌, ℕ, ◌+◌, true, false, List, [], ◌∷◌, Option, Some, None}
 use Rattle.pb_tree.specs.Tree.{TreeOf}
 use Rattle.pb_tree.specs.Walk.{reach}
 use Rattle.pb_state.specs.declared.event.Event.{Event}
@@ -27,6 +27,14 @@ AreWalked tree (row ∷ rows) = IsWalked tree row × AreWalked tree rows
 abbrev pub IsTracked : PlanOf → State → Type 0
 IsTracked plan s = (play : PlayOf) → open_play plan s ≡ Some play → AreWalked play.tree s.rows
 
+-- these rows have the numbers of their hosts, of which the first has the number h
+abbrev pub AreNumbered : ℕ → List HostRow → Type 0
+AreNumbered h [] = Unit {0}
+AreNumbered h (row ∷ rows) = (row.host ≡ h) × AreNumbered (h + 1) rows
+
 -- wherever events lead from the first state on
+abbrev pub RowsStay : Type 0
+RowsStay = (plan : PlanOf) (forks pool : ℕ) (trail : List Event) → AreNumbered 0 (state_from plan (first_state plan forks pool) trail).rows
+
 abbrev pub WalksLead : Type 0
 WalksLead = (plan : PlanOf) (forks pool : ℕ) (trail : List Event) → IsTracked plan (state_from plan (first_state plan forks pool) trail)

@@ -5,7 +5,7 @@
 //! `Plan` (pb_plan) is what the machine reads of a bundle.
 #![tactic(auto)]
 
-ghost use Rattle.pb_state.specs.Walks.{WalksLead};
+ghost use Rattle.pb_state.specs.Walks.{WalksLead, RowsStay};
 
 mod decided;
 mod event;
@@ -22,7 +22,8 @@ pub use row::Counts;
 pub use state::{EngineState, StepFault};
 
 /// What holds of every run: each host of the open batch is at the place to which its answers lead in the play's tree, and no other host
-/// is at a place.
+/// is at a place; and each row is its host's.
 pub fn walks_lead()
-    ensures { WalksLead }
+    ensures walks { WalksLead }
+    ensures rows { RowsStay }
 {}

@@ -1,5 +1,5 @@
-use Rattle.pb_state.proofs.Walks.{walks_lead}
+use Rattle.pb_state.proofs.Walks.{walks_lead, rows_stay}
 use Rattle.pb_state.proofs.walks_lead.Goals as goal
 
 pub returns : goal.returns
-returns c = walks_lead
+returns c = record { walks = walks_lead; rows = rows_stay }
