@@ -59,7 +59,7 @@ fn push_hosts(text: &mut String, plan: &Plan, hosts: &HostSet) -> Result<(), All
 {
     for host in 0..plan.host_count() {
         let name = plan.host_name(HostNo(host));
-        push_host(text, name, is_listed(hosts, HostNo(host)))?;
+        push_host(text, name, hosts.contains(HostNo(host)))?;
     }
     Ok(())
 }
@@ -74,10 +74,4 @@ fn push_host(text: &mut String, name: &str, listed: bool) -> Result<(), AllocErr
     text.push_str(name)?;
     text.push('\n')?;
     Ok(())
-}
-
-fn is_listed(hosts: &HostSet, host: HostNo) -> bool
-    ensures { result ≡ is_in hosts.now host.0 }
-{
-    host.0 < hosts.width() && hosts.has(host)
 }

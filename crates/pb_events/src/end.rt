@@ -4,7 +4,7 @@ ghost use Rattle.std.specs.Prelude.{◌≡◌, ◌∷◌, [], IfOk, codes, pos};
 ghost use Rattle.pb_value.specs.Datum.{text, int, boolean};
 ghost use Rattle.pb_events.specs.Lines.{host_end, host_failed, result_line, done_text};
 
-use crate::line::{at_end, line, put_value};
+use crate::line::{at_end, line};
 use pb_state::Done;
 use pb_value::val::{Dict, Node, Val};
 use std::alloc::{AllocError, Global};
@@ -101,6 +101,6 @@ fn failed_members(
     let ignored = Val {
         node: Node::Bool(ignored),
     };
-    put_value(alloc, &mut members, "ignored", ignored)?;
+    members.put(alloc, "ignored", ignored)?;
     Ok(members)
 }

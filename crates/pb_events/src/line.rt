@@ -23,15 +23,7 @@ pub fn line(alloc: Global, members: Dict) -> Result<Vec<u8>, AllocError>
 pub fn put_text(alloc: Global, members: &mut Dict, key: &str, words: &str) -> Result<(), AllocError>
     ensures { IfOk result (λ _. members.new ≡ put key.now (text words.now) members.old) }
 {
-    let value = Val::text(Text::from_str(alloc, words)?);
-    members.insert(String::from_str(alloc, key)?, value)
-}
-
-/// Puts a value under a key.
-pub fn put_value(alloc: Global, members: &mut Dict, key: &str, value: Val) -> Result<(), AllocError>
-    ensures { IfOk result (λ _. members.new ≡ put key.now value members.old) }
-{
-    members.insert(String::from_str(alloc, key)?, value)
+    members.put(alloc, key, Val::text(Text::from_str(alloc, words)?))
 }
 
 /// The members of a line that tells of a place: the event's name, the place and the play's number.
@@ -41,7 +33,7 @@ pub fn at_place(alloc: Global, event: &str, place: &str, play: u32) -> Result<Di
     let mut members = Dict::new(alloc);
     put_text(alloc, &mut members, "event", event)?;
     put_text(alloc, &mut members, "place", place)?;
-    put_value(alloc, &mut members, "play", Val::int(i64::from(play)))?;
+    members.put(alloc, "play", Val::int(i64::from(play)))?;
     Ok(members)
 }
 
@@ -72,6 +64,6 @@ pub fn at_end(
     ensures { IfOk result (λ members. members ≡ at_end event.now host.now place.now play end.now) }
 {
     let mut members = at_host(alloc, event, host, place, play)?;
-    put_value(alloc, &mut members, "result", end.try_clone(alloc)?)?;
+    members.put(alloc, "result", end.try_clone(alloc)?)?;
     Ok(members)
 }

@@ -8,7 +8,7 @@ ghost use Rattle.pb_events.specs.Lines.{start_line, play_start, task_start, host
 
 use crate::batch::batch_names;
 use crate::end::done_text;
-use crate::line::{at_host, at_place, line, put_text, put_value};
+use crate::line::{at_host, at_place, line, put_text};
 use pb_ids::HostNo;
 use pb_places::Place;
 use pb_state::{Decided, EngineState, Event, Plan, PlanPlay};
@@ -29,7 +29,7 @@ fn start_members(alloc: Global, plays: u32) -> Result<Dict, AllocError>
 {
     let mut members = Dict::new(alloc);
     put_text(alloc, &mut members, "event", "playbook_on_start")?;
-    put_value(alloc, &mut members, "plays", Val::int(i64::from(plays)))?;
+    members.put(alloc, "plays", Val::int(i64::from(plays)))?;
     Ok(members)
 }
 
@@ -81,11 +81,11 @@ fn play_start(alloc: Global, play: u32, name: &str, hosts: ValList) -> Result<Ve
     ensures { IfOk result (λ bytes. bytes.items ≡ play_start play name.now hosts) }
 {
     let mut members = Dict::new(alloc);
-    put_value(alloc, &mut members, "batch", Val::int(0))?;
+    members.put(alloc, "batch", Val::int(0))?;
     put_text(alloc, &mut members, "event", "playbook_on_play_start")?;
-    put_value(alloc, &mut members, "hosts", Val::list(hosts))?;
+    members.put(alloc, "hosts", Val::list(hosts))?;
     put_text(alloc, &mut members, "name", name)?;
-    put_value(alloc, &mut members, "play", Val::int(i64::from(play)))?;
+    members.put(alloc, "play", Val::int(i64::from(play)))?;
     line(alloc, members)
 }
 

@@ -81,6 +81,7 @@ fn listed(
     ensures width { OnOk result (length seen.new ≡ length seen.old) }
     ensures seen { OnOk result ((h : ℕ) → is_in seen.new h ≡ contains (own_hosts inventory.now.own group.0) h) }
 {
+    // (what the call promises of the group's hosts is known to the proof once it is made)
     let _members = inventory.members(group);
     own_order(alloc, inventory.own(), group, seen)
 }

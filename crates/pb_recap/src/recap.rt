@@ -77,6 +77,7 @@ impl Recap {
         ensures scratch { (pool : ℕ) (trail : List Event) (before : State) → IsRun plan.now pool trail before → IsStep plan.now before event.now state.now
             → self.old ≡ recap plan.now pool trail → self.new ≡ recap plan.now pool (trail ++ event.now ∷ []) }
     {
+        // (what only the clauses speak of)
         let _plan = plan;
         count_event(self.counts.as_mut_slice(), state, event);
     }

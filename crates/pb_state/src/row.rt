@@ -168,13 +168,6 @@ fn counted(counts: Counts, task: TaskResult) -> Counts
     }
 }
 
-/// Whether a host is in a set: none is beyond its end.
-fn is_member(set: &HostSet, host: HostNo) -> bool
-    ensures { result ≡ is_member set.now host.0 }
-{
-    host.0 < set.width() && set.has(host)
-}
-
 /// A host that takes part starts its walk.
 fn walk_if(alloc: Global, joins: bool, laid: &Rc<LaidTree>) -> Result<Option<PlayWalk>, AllocError>
     ensures { IfOk result (λ walk. walk ≡ (if joins then Some (walk_from laid.now.value.tree) else None)) }
@@ -373,7 +366,7 @@ impl Row {
     pub fn is_called(&self, hosts: &HostSet) -> bool
         ensures { result ≡ is_called hosts.now self.now }
     {
-        is_member(hosts, self.host) && is_active(self.status)
+        hosts.contains(self.host) && is_active(self.status)
     }
 
     /// Whether the host is in the batch and active.

@@ -145,6 +145,7 @@ impl EngineState {
     fn may_start_in(&self, host: HostNo, play: &PlanPlay) -> bool
         ensures { result ≡ may_start_in self.now host.0 play.now }
     {
+        // (what only the clauses speak of)
         let _play = play;
         match self.rows.get(host.0 as usize) {
             Some(row) => self.has_room() && row.stands_at(self.place),
@@ -215,6 +216,7 @@ impl EngineState {
     fn may_turn_in(&self, play: &PlanPlay) -> bool
         ensures { result ≡ may_turn_in self.now play.now }
     {
+        // (what only the clauses speak of)
         let _play = play;
         !self.stopped
             && self.place.is_some()
@@ -452,6 +454,7 @@ impl EngineState {
         ensures ok { OnOk result (self.new ≡ record self.old { rows = change self.old.rows host.0 (finished place task) }) }
         ensures err { OnErr result (self.new ≡ self.old) }
     {
+        // (what only the clauses speak of)
         let _play = play;
         finish_row(self.alloc, &mut self.rows, host, place, task)?;
         Ok(())
@@ -463,6 +466,7 @@ impl EngineState {
         requires may { may_start_in self.old host.0 play.now ≡ true }
         ensures { self.new ≡ record self.old { rows = change self.old.rows host.0 (started place (Planned.Sends call)) } }
     {
+        // (what only the clauses speak of)
         let _play = play;
         begin_row(&mut self.rows, host, place, call);
     }
@@ -497,6 +501,7 @@ impl EngineState {
         requires may { may_send_in self.old host.0 item ticket play.now ≡ true }
         ensures { self.new ≡ sent_in self.old host.0 ticket play.now }
     {
+        // (what only the clauses speak of)
         let _item = item;
         let _play = play;
         send_row(&mut self.rows, host, ticket);
@@ -521,6 +526,7 @@ impl EngineState {
         ensures ok { OnOk result (self.new ≡ reported_in self.old report.now play.now) }
         ensures err { OnErr result (self.new ≡ self.old) }
     {
+        // (what only the clauses speak of)
         let _play = play;
         let decided = report_row(self.alloc, &mut self.rows, report.host, &report.outcome)?;
         decide(&mut self.decided, decided);

@@ -5,7 +5,7 @@ ghost use Rattle.pb_inventory.specs.Vars.{group_name, host_name, names_of_hosts}
 ghost use Rattle.pb_variables.specs.Magic.{texts, groups_map, variables_of, hostvars_map, names_in, plan_magic, play_magic, host_magic};
 ghost use Rattle.pb_variables.specs.ByName.{value_in, hosts_under, variables_under, variable_of_host};
 
-use crate::put::{put, put_all, texts};
+use crate::put::{put_all, texts};
 use pb_ids::{GroupNo, HostNo};
 use pb_inventory::inventory::Inventory;
 use pb_planes::HostSet;
@@ -38,8 +38,8 @@ fn plan_maps(alloc: Global, inventory: &Inventory, extra: &Dict) -> Result<Dict,
     let groups = groups_map(alloc, inventory)?;
     let hostvars = hostvars_map(alloc, inventory, extra)?;
     let mut known = Dict::new(alloc);
-    put(alloc, &mut known, "groups", Val::dict(groups))?;
-    put(alloc, &mut known, "hostvars", Val::dict(hostvars))?;
+    known.put(alloc, "groups", Val::dict(groups))?;
+    known.put(alloc, "hostvars", Val::dict(hostvars))?;
     Ok(known)
 }
 
@@ -65,7 +65,7 @@ fn put_group(
 {
     let names = inventory.host_names(alloc, group)?;
     let value = texts(alloc, names)?;
-    put(alloc, known, inventory.group_name(group), value)
+    known.put(alloc, inventory.group_name(group), value)
 }
 
 fn hostvars_map(alloc: Global, inventory: &Inventory, extra: &Dict) -> Result<Dict, AllocError>
@@ -90,7 +90,7 @@ fn put_host(
     ensures { OnOk result (known.new ≡ put (host_name inventory.now host.0) (dict (members_of (variables_of inventory.now extra.now host.0))) known.old) }
 {
     let variables = variables_of(alloc, inventory, extra, host)?;
-    put(alloc, known, inventory.name(host), Val::dict(variables))
+    known.put(alloc, inventory.name(host), Val::dict(variables))
 }
 
 /// A host's variables: those from its groups, over them its own, over these the extra variables.
@@ -120,7 +120,7 @@ pub fn play_magic(alloc: Global, inventory: &Inventory, hosts: &HostSet) -> Resu
     let names = names_in(alloc, inventory, hosts)?;
     let value = texts(alloc, names)?;
     let mut known = Dict::new(alloc);
-    put(alloc, &mut known, "ansible_play_hosts_all", value)?;
+    known.put(alloc, "ansible_play_hosts_all", value)?;
     Ok(known)
 }
 
@@ -175,7 +175,7 @@ pub fn host_magic(alloc: Global, inventory: &Inventory, host: HostNo) -> Result<
     let groups = texts(alloc, names)?;
     let name = Text::from_str(alloc, inventory.name(host))?;
     let mut known = Dict::new(alloc);
-    put(alloc, &mut known, "group_names", groups)?;
-    put(alloc, &mut known, "inventory_hostname", Val::text(name))?;
+    known.put(alloc, "group_names", groups)?;
+    known.put(alloc, "inventory_hostname", Val::text(name))?;
     Ok(known)
 }

@@ -1,5 +1,4 @@
 ghost use Rattle.std.specs.Prelude.{◌≡◌, IfOk, OnOk};
-ghost use Rattle.pb_value.specs.Datum.{put};
 ghost use Rattle.pb_variables.specs.Magic.{put_all, texts};
 
 use pb_value::items::Items;
@@ -7,20 +6,12 @@ use pb_value::text::Text;
 use pb_value::val::{Dict, Val, ValList};
 use std::alloc::{AllocError, Global};
 
-/// Puts a value under a name, in place of one that stands there.
-pub fn put(alloc: Global, known: &mut Dict, name: &str, value: Val) -> Result<(), AllocError>
-    ensures { OnOk result (known.new ≡ put name.now value known.old) }
-{
-    known.insert(String::from_str(alloc, name)?, value)?;
-    Ok(())
-}
-
 /// Puts a copy of each value under its name, in place of one that stands there.
 pub fn put_all(alloc: Global, known: &mut Dict, entries: &Dict) -> Result<(), AllocError>
     ensures { OnOk result (known.new ≡ put_all entries.now known.old) }
 {
     for (name, value) in entries.map.iter() {
-        put(alloc, known, name.as_str(), value.try_clone(alloc)?)?;
+        known.put(alloc, name.as_str(), value.try_clone(alloc)?)?;
     }
     Ok(())
 }
