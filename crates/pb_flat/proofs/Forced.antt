@@ -115,6 +115,7 @@ forced_drops handlers nodes e =
     let before = size handlers (front nodes) in
     course_drops handlers 0 (front nodes) (flush_course before 0 handlers Ended (Ends Good) (Ends Bad) (Ends Halted)) (last_flush before handlers Bad) (last_flush before handlers Halted)
     ∙ (λ i. course handlers 0 (front nodes) (flush_drops before 0 handlers (Ends Good) (Ends Bad) (Ends Halted) i) (bad_drops before handlers i) (halted_drops before handlers i))
+    ∙ ap (λ n. course handlers 0 (front nodes) (flush_course n 0 handlers Ended (Ends Good) (Ends Bad) (Ends Halted)) (Ends Bad) (Ends Halted)) (let same : before ≡ 0 + before = omega arith in same)
     ∙ sym (course_ends handlers 0 nodes (Ends Good) (Ends Bad) (Ends Halted) e)
 
 whole_drops : (handlers : ℕ) (nodes : Nodes) (b force : Bool) → (force && ends_in_flush nodes) ≡ b → dropped (if b then forced_course handlers (front nodes) else plain_course handlers nodes) ≡ plain_course handlers nodes
