@@ -5,6 +5,7 @@ pub mod OldestOut
 pub mod Steps
 pub mod WorkFalls
 pub mod Walked
+pub mod Counting
 pub mod Within
 pub mod Told
 pub mod Once

@@ -35,6 +35,9 @@ is_running row = is_some row.running
 abbrev pub running_count : List HostRow → ℕ
 running_count rows = count_by is_running rows
 
+abbrev pub one_if : Bool → ℕ
+one_if b = if b then 1 else 0
+
 abbrev pub same_place : Option ℕ → Option ℕ → Bool
 same_place (Some p) (Some q) = p == q
 same_place (Some p) None = false

@@ -1,12 +1,12 @@
 //! The rows of all hosts.
 
-ghost use Rattle.std.specs.Prelude.{◌≡◌, ◌&&◌, ◌<◌, ◌≤◌, ◌-◌, ◌^◌, length, map, drop, replicate, slice_get, count_by, true, false, IfOk, IfSome, IfNone, OnOk, OnErr, Some, None};
+ghost use Rattle.std.specs.Prelude.{◌≡◌, ◌&&◌, ◌<◌, ◌≤◌, ◌+◌, ◌-◌, ◌^◌, length, map, drop, replicate, slice_get, count_by, true, false, IfOk, IfSome, IfNone, OnOk, OnErr, Some, None};
 ghost use Rattle.std.specs.List.{list_any};
 ghost use Rattle.std.specs.Option.{option_map_or};
 ghost use Rattle.pb_state.specs.Row.{HostRow, first_rows, next_place, is_called, joined, left, finished, sent, reported};
 ghost use Rattle.pb_state.specs.Bounds.{IsAtMost};
 ghost use Rattle.pb_state.specs.Oldest.{oldest_out, out_at, older};
-ghost use Rattle.pb_state.specs.Machine.{is_ready, stands_at, is_in, is_running, has_send, is_out, has_ticket, least_place, lesser, change, report_decides, has_hosts, first_play};
+ghost use Rattle.pb_state.specs.Machine.{is_ready, stands_at, is_in, is_running, has_send, is_out, has_ticket, least_place, lesser, change, one_if, running_count, report_decides, has_hosts, first_play};
 
 use crate::decided::Decided;
 use crate::row::{Counts, Row};
@@ -18,11 +18,85 @@ use pb_outcome::outcome::Outcome;
 use pb_plan::PlanPlay;
 use pb_planes::HostSet;
 use std::alloc::{AllocError, Global};
+use std::marker::Model;
 use std::rc::Rc;
+
+/// The rows of all hosts. How many of them run is kept beside them, so that no step counts them.
+pub struct HostRows {
+    rows: Vec<Row>,
+    running: usize,
+}
+
+impl Drop for HostRows {
+    fn drop(self) {
+        let HostRows { rows, running: _ } = self;
+        drop(rows);
+    }
+}
+
+impl Model for HostRows {
+    ghost use Rattle.std.specs.Prelude.{List};
+    ghost use Rattle.pb_tree.specs.contracts.tree.PlayTree as play_tree;
+    ghost use Rattle.pb_value.specs.contracts.val.Val as val;
+    ghost use Rattle.std.specs.Coded.{codes};
+    ghost use Rattle.pb_state.specs.Machine.{running_count};
+
+    ghost Value = { List HostRow };
+
+    ghost coded = { Prim.hlevel (codes, val.the_row.coded, play_tree.the_row.coded) };
+
+    ghost view = { λ r. r.rows.items };
+
+    ghost invariant = { λ r. (r.running ≡ running_count r.rows.items) × (length r.rows.items < 2 ^ 32) };
+}
+
+impl HostRows {
+    /// The rows of this many hosts before the run.
+    pub fn first(alloc: Global, hosts: u32) -> Result<HostRows, AllocError>
+        ensures { IfOk result (λ rows. rows ≡ first_rows 0 hosts) }
+    {
+        let rows = first_rows(alloc, hosts)?;
+        Ok(HostRows { rows, running: 0 })
+    }
+
+    /// The rows, in the order of hosts.
+    pub fn as_slice(&self) -> &[Row]
+        ensures { result.now ≡ self.now }
+    {
+        self.rows.as_slice()
+    }
+
+    /// How many hosts run.
+    pub fn running(&self) -> usize
+        ensures { result ≡ running_count self.now }
+    {
+        self.running
+    }
+
+    /// Whether a host runs.
+    pub fn some_running(&self) -> bool
+        ensures { result ≡ list_any is_running self.now }
+    {
+        self.running != 0
+    }
+}
+
+/// How many run where one of them did or didn't, and does or doesn't now.
+fn recounted(running: usize, was: bool, is: bool) -> usize
+    requires some { was ≡ true → 0 < running }
+    requires room { running < 2 ^ 64 - 1 }
+    ensures { result + one_if was ≡ running + one_if is }
+{
+    match (was, is) {
+        (true, false) => running - 1,
+        (false, true) => running + 1,
+        _ => running,
+    }
+}
 
 /// A row for each host.
 #[tactic(auto, using(crate::proofs::Opening::first_more))]
-pub fn first_rows(alloc: Global, hosts: u32) -> Result<Vec<Row>, AllocError>
+fn first_rows(alloc: Global, hosts: u32) -> Result<Vec<Row>, AllocError>
     ensures { IfOk result (λ rows. rows.items ≡ first_rows 0 hosts) }
 {
     let mut rows = Vec::new(alloc);
@@ -59,13 +133,6 @@ pub fn some_in(rows: &[Row]) -> bool
     rows.iter().any(|row| row.is_in())
 }
 
-/// Whether a host runs.
-pub fn some_running(rows: &[Row]) -> bool
-    ensures { result ≡ list_any is_running rows.now }
-{
-    rows.iter().any(|row| row.is_running())
-}
-
 /// Whether a job is out.
 pub fn some_out(rows: &[Row]) -> bool
     ensures { result ≡ list_any is_out rows.now }
@@ -80,13 +147,6 @@ pub fn some_ticket(rows: &[Row], ticket: Ticket) -> bool
     rows.iter().any(|row| row.has_ticket(ticket))
 }
 
-/// How many hosts run.
-pub fn running_count(rows: &[Row]) -> usize
-    ensures { result ≡ count_by is_running rows.now }
-{
-    rows.iter().filter(|row| row.is_running()).count()
-}
-
 /// Whether a host of the batch is at this place.
 pub fn some_stands(rows: &[Row], place: Option<usize>) -> bool
     ensures { result ≡ list_any (stands_at place) rows.now }
@@ -97,37 +157,41 @@ pub fn some_stands(rows: &[Row], place: Option<usize>) -> bool
 /// A host finishes the task at a place. An `Err` changes nothing.
 pub fn finish_row(
     alloc: Global,
-    rows: &mut Vec<Row>,
+    rows: &mut HostRows,
     host: HostNo,
     place: usize,
     task: TaskResult,
 ) -> Result<(), AllocError>
-    requires batch { IfSome (slice_get rows.old.items host.0) (λ row. row.in_batch ≡ true) }
-    requires room { IfSome (slice_get rows.old.items host.0) (λ row. IsAtMost row.counts (2 ^ 64 - 2)) }
-    ensures ok { OnOk result (rows.new.items ≡ change rows.old.items host.0 (finished place task)) }
-    ensures err { OnErr result (rows.new.items ≡ rows.old.items) }
+    requires batch { IfSome (slice_get rows.old host.0) (λ row. row.in_batch ≡ true) }
+    requires room { IfSome (slice_get rows.old host.0) (λ row. IsAtMost row.counts (2 ^ 64 - 2)) }
+    ensures ok { OnOk result (rows.new ≡ change rows.old host.0 (finished place task)) }
+    ensures err { OnErr result (rows.new ≡ rows.old) }
 {
-    if let Some(row) = rows.get_mut(host.0 as usize) {
+    if let Some(row) = rows.rows.get_mut(host.0 as usize) {
+        let was = row.is_running();
         row.finish(alloc, place, task)?;
+        rows.running = recounted(rows.running, was, false);
     }
     Ok(())
 }
 
 /// A host starts the task at a place, which waits for a job.
-pub fn begin_row(rows: &mut Vec<Row>, host: HostNo, place: usize, call: Call)
-    requires { IfSome (slice_get rows.old.items host.0) (λ row. row.in_batch ≡ true) }
-    ensures { rows.new.items ≡ change rows.old.items host.0 (λ row. record row { running = Some (record { place = place; call = call; out = None }) }) }
+pub fn begin_row(rows: &mut HostRows, host: HostNo, place: usize, call: Call)
+    requires { IfSome (slice_get rows.old host.0) (λ row. row.in_batch ≡ true) }
+    ensures { rows.new ≡ change rows.old host.0 (λ row. record row { running = Some (record { place = place; call = call; out = None }) }) }
 {
-    if let Some(row) = rows.get_mut(host.0 as usize) {
+    if let Some(row) = rows.rows.get_mut(host.0 as usize) {
+        let was = row.is_running();
         row.begin(place, call);
+        rows.running = recounted(rows.running, was, true);
     }
 }
 
 /// A job of a host goes out.
-pub fn send_row(rows: &mut Vec<Row>, host: HostNo, ticket: Ticket)
-    ensures { rows.new.items ≡ change rows.old.items host.0 (sent ticket) }
+pub fn send_row(rows: &mut HostRows, host: HostNo, ticket: Ticket)
+    ensures { rows.new ≡ change rows.old host.0 (sent ticket) }
 {
-    if let Some(row) = rows.get_mut(host.0 as usize) {
+    if let Some(row) = rows.rows.get_mut(host.0 as usize) {
         row.send(ticket);
     }
 }
@@ -135,17 +199,22 @@ pub fn send_row(rows: &mut Vec<Row>, host: HostNo, ticket: Ticket)
 /// The outcome of a host's job ends its task. An `Err` changes nothing.
 pub fn report_row(
     alloc: Global,
-    rows: &mut Vec<Row>,
+    rows: &mut HostRows,
     host: HostNo,
     outcome: &Outcome,
 ) -> Result<Option<Decided>, AllocError>
-    requires { IfSome (slice_get rows.old.items host.0) (λ row. IsAtMost row.counts (2 ^ 64 - 2)) }
-    ensures rows { OnOk result (rows.new.items ≡ change rows.old.items host.0 (reported outcome.now)) }
-    ensures decides { IfOk result (λ decided. decided ≡ option_map_or (report_decides outcome.now) (slice_get rows.old.items host.0) None) }
-    ensures err { OnErr result (rows.new.items ≡ rows.old.items) }
+    requires { IfSome (slice_get rows.old host.0) (λ row. IsAtMost row.counts (2 ^ 64 - 2)) }
+    ensures rows { OnOk result (rows.new ≡ change rows.old host.0 (reported outcome.now)) }
+    ensures decides { IfOk result (λ decided. decided ≡ option_map_or (report_decides outcome.now) (slice_get rows.old host.0) None) }
+    ensures err { OnErr result (rows.new ≡ rows.old) }
 {
-    match rows.get_mut(host.0 as usize) {
-        Some(row) => row.report(alloc, outcome),
+    match rows.rows.get_mut(host.0 as usize) {
+        Some(row) => {
+            let was = row.is_running();
+            let decided = row.report(alloc, outcome)?;
+            rows.running = recounted(rows.running, was, false);
+            Ok(decided)
+        }
         None => Ok(None),
     }
 }
@@ -187,7 +256,7 @@ fn older(a: Option<(HostNo, Ticket)>, b: Option<(HostNo, Ticket)>) -> Option<(Ho
 }
 
 /// The rows as the batch of a play opens that has this tree and whose own hosts are in this set.
-pub fn joined_rows(
+fn joined_rows(
     alloc: Global,
     rows: &[Row],
     hosts: &HostSet,
@@ -205,17 +274,35 @@ pub fn joined_rows(
 }
 
 /// Puts down the rows of all hosts.
-pub fn put_rows(slot: &mut Vec<Row>, rows: Vec<Row>)
+fn put_rows(slot: &mut Vec<Row>, rows: Vec<Row>)
     ensures { slot.new.items ≡ rows.items }
 {
     *slot = rows;
 }
 
-/// Each host leaves the batch.
-pub fn leave_all(rows: &mut Vec<Row>)
-    ensures { rows.new.items ≡ map left rows.old.items }
+/// The batch of a play opens that has this tree and whose own hosts are in this set. An `Err` changes nothing.
+pub fn join_all(
+    alloc: Global,
+    rows: &mut HostRows,
+    hosts: &HostSet,
+    laid: &Rc<LaidTree>,
+) -> Result<(), AllocError>
+    requires { laid.now.value.tree.force_handlers ≡ false }
+    ensures ok { OnOk result (rows.new ≡ map (joined laid.now.value.tree hosts.now) rows.old) }
+    ensures err { OnErr result (rows.new ≡ rows.old) }
 {
-    leave_each(rows.as_mut_slice());
+    let joined = joined_rows(alloc, rows.rows.as_slice(), hosts, laid)?;
+    put_rows(&mut rows.rows, joined);
+    rows.running = 0;
+    Ok(())
+}
+
+/// Each host leaves the batch.
+pub fn leave_all(rows: &mut HostRows)
+    ensures { rows.new ≡ map left rows.old }
+{
+    leave_each(rows.rows.as_mut_slice());
+    rows.running = 0;
 }
 
 fn leave_each(rows: &mut [Row])

@@ -14,11 +14,11 @@ use crate::decided::{Decided, Done, decide};
 use crate::event::Event;
 use crate::job::job_in;
 use crate::planned::{planned_at, task_of};
-use crate::row::{Counts, Row};
+use crate::row::Counts;
 use crate::rows::{
-    begin_row, counts_of, finish_row, first_play, first_rows, joined_rows, least_place, leave_all,
-    none_into, oldest_out, put_rows, ready_into, report_row, running_count, send_row, some_in,
-    some_out, some_running, some_stands, some_ticket,
+    HostRows, begin_row, counts_of, finish_row, first_play, join_all, least_place, leave_all,
+    none_into, oldest_out, ready_into, report_row, send_row, some_in, some_out, some_stands,
+    some_ticket,
 };
 use pb_ids::{HostNo, PlayNo, Ticket};
 use pb_items::planned::Planned;
@@ -52,7 +52,7 @@ impl From<AllocError> for StepFault {
 /// The state of a run.
 pub struct EngineState {
     alloc: Global,
-    rows: Vec<Row>,
+    rows: HostRows,
     play: usize,
     is_open: bool,
     place: Option<usize>,
@@ -97,11 +97,11 @@ impl Model for EngineState {
 
     ghost coded = { Prim.hlevel (codes, val.the_row.coded, play_tree.the_row.coded) };
 
-    ghost view = { λ s. record { rows = s.rows.items; play = s.play; is_open = s.is_open; place = s.place; begun = s.begun.items; forks = s.forks; pool = s.pool; sends = s.sends; stopped = s.stopped; ended = s.ended; decided = s.decided } };
+    ghost view = { λ s. record { rows = s.rows; play = s.play; is_open = s.is_open; place = s.place; begun = s.begun.items; forks = s.forks; pool = s.pool; sends = s.sends; stopped = s.stopped; ended = s.ended; decided = s.decided } };
 
     ghost use Rattle.pb_state.specs.Bounds.{IsBounded};
 
-    ghost invariant = { λ s. IsBounded s.is_open s.play s.sends s.rows.items };
+    ghost invariant = { λ s. IsBounded s.is_open s.play s.sends s.rows };
 }
 
 impl EngineState {
@@ -123,7 +123,7 @@ impl EngineState {
     fn has_room(&self) -> bool
         ensures { result ≡ has_room self.now }
     {
-        !self.stopped && running_count(&self.rows) < self.forks as usize
+        !self.stopped && self.rows.running() < self.forks as usize
     }
 
     /// The number of the play that opens next.
@@ -131,7 +131,7 @@ impl EngineState {
         ensures value { result ≡ next_play plan.now self.now }
         ensures least { IfSome result (λ number. self.now.play ≤ number) }
     {
-        first_play(&self.rows, plan.plays(), self.play)
+        first_play(self.rows.as_slice(), plan.plays(), self.play)
     }
 
     /// Whether a batch can open.
@@ -147,7 +147,7 @@ impl EngineState {
     {
         // (what only the clauses speak of)
         let _play = play;
-        match self.rows.get(host.0 as usize) {
+        match self.rows.as_slice().get(host.0 as usize) {
             Some(row) => self.has_room() && row.stands_at(self.place),
             None => false,
         }
@@ -167,7 +167,7 @@ impl EngineState {
     fn may_send_item(&self, host: HostNo, item: u32) -> bool
         ensures { result ≡ at_row (may_send_item item) self.now.rows host.0 }
     {
-        match self.rows.get(host.0 as usize) {
+        match self.rows.as_slice().get(host.0 as usize) {
             Some(row) => item == 0 && row.has_send(),
             None => false,
         }
@@ -187,7 +187,7 @@ impl EngineState {
     pub fn awaits(&self, host: HostNo, item: u32, ticket: Ticket) -> bool
         ensures { result ≡ at_row (awaits ticket item) self.now.rows host.0 }
     {
-        match self.rows.get(host.0 as usize) {
+        match self.rows.as_slice().get(host.0 as usize) {
             Some(row) => item == 0 && row.has_ticket(ticket),
             None => false,
         }
@@ -220,8 +220,8 @@ impl EngineState {
         let _play = play;
         !self.stopped
             && self.place.is_some()
-            && !some_running(&self.rows)
-            && !(self.has_room() && some_stands(&self.rows, self.place))
+            && !self.rows.some_running()
+            && !(self.has_room() && some_stands(self.rows.as_slice(), self.place))
     }
 
     /// Whether the batch can close.
@@ -232,8 +232,8 @@ impl EngineState {
             Some(_) => {
                 !self.stopped
                     && self.place.is_none()
-                    && !some_running(&self.rows)
-                    && least_place(&self.rows).is_none()
+                    && !self.rows.some_running()
+                    && least_place(self.rows.as_slice()).is_none()
             }
             None => false,
         }
@@ -352,12 +352,11 @@ impl EngineState {
         ensures err { OnErr result (self.new ≡ self.old) }
     {
         let begun = none_begun(self.alloc, play.tree().places())?;
-        let rows = joined_rows(self.alloc, &self.rows, play.hosts(), play.laid())?;
-        put_rows(&mut self.rows, rows);
+        join_all(self.alloc, &mut self.rows, play.hosts(), play.laid())?;
         self.begun = begun;
         self.play = number;
         self.is_open = true;
-        self.place = least_place(&self.rows);
+        self.place = least_place(self.rows.as_slice());
         decide(&mut self.decided, None);
         Ok(())
     }
@@ -366,7 +365,7 @@ impl EngineState {
         ensures { self.new ≡ after plan.now self.old Event.Turn }
     {
         if let Some(_) = self.open_play(plan) {
-            self.place = least_place(&self.rows);
+            self.place = least_place(self.rows.as_slice());
             decide(&mut self.decided, None);
         }
     }
@@ -375,7 +374,7 @@ impl EngineState {
         requires { self.old.is_open ≡ true }
         ensures { self.new ≡ closed self.old }
     {
-        self.ended = !some_in(&self.rows);
+        self.ended = !some_in(self.rows.as_slice());
         leave_all(&mut self.rows);
         self.play += 1;
         self.is_open = false;
@@ -545,7 +544,7 @@ impl EngineState {
         requires most { pool ≤ 256 }
         ensures { IfOk result (λ s. s ≡ first_state plan.now forks pool) }
     {
-        let rows = first_rows(alloc, plan.host_count())?;
+        let rows = HostRows::first(alloc, plan.host_count())?;
         Ok(EngineState {
             alloc,
             rows,
@@ -573,7 +572,7 @@ impl EngineState {
     pub fn hosts(&self) -> usize
         ensures { result ≡ length self.now.rows }
     {
-        self.rows.len()
+        self.rows.as_slice().len()
     }
 
     /// The hosts that have a job to send or may start.
@@ -582,7 +581,7 @@ impl EngineState {
         ensures { set.new ≡ ready plan.now self.now }
     {
         match self.open_play(plan) {
-            Some(_) => ready_into(&self.rows, self.place, !self.stopped, self.has_room(), set),
+            Some(_) => ready_into(self.rows.as_slice(), self.place, !self.stopped, self.has_room(), set),
             None => none_into(set),
         }
     }
@@ -591,14 +590,14 @@ impl EngineState {
     pub fn some_out(&self) -> bool
         ensures { result ≡ list_any is_out self.now.rows }
     {
-        some_out(&self.rows)
+        some_out(self.rows.as_slice())
     }
 
     /// Whether a job is out under this ticket.
     pub fn is_ticket_out(&self, ticket: Ticket) -> bool
         ensures { result ≡ list_any (has_ticket ticket) self.now.rows }
     {
-        some_ticket(&self.rows, ticket)
+        some_ticket(self.rows.as_slice(), ticket)
     }
 
     /// How many jobs were sent.
@@ -617,7 +616,7 @@ impl EngineState {
         ensures least { IfSome result (λ p. (ticket : Ticket) → list_any (has_ticket ticket) self.now.rows ≡ true → p.1.0 ≤ ticket.0) }
         ensures none { IfNone result (list_any is_out self.now.rows ≡ false) }
     {
-        oldest_out(&self.rows)
+        oldest_out(self.rows.as_slice())
     }
 
     /// The job of a host's running task, under a ticket.
@@ -630,7 +629,7 @@ impl EngineState {
     ) -> Result<Option<Job>, AllocError>
         ensures { IfOk result (λ job. job ≡ job_of plan.now self.now host ticket) }
     {
-        match (self.open_play(plan), self.rows.get(host.0 as usize)) {
+        match (self.open_play(plan), self.rows.as_slice().get(host.0 as usize)) {
             (Some(play), Some(row)) => {
                 job_in(
                     alloc,
@@ -664,7 +663,7 @@ impl EngineState {
     pub fn in_batch(&self, host: HostNo) -> Option<bool>
         ensures { result ≡ option_map (λ (row : HostRow). row.in_batch) (slice_get self.now.rows host.0) }
     {
-        match self.rows.get(host.0 as usize) {
+        match self.rows.as_slice().get(host.0 as usize) {
             Some(row) => Some(row.in_batch()),
             None => None,
         }

@@ -6,7 +6,7 @@ use Rattle.pb_state.proofs.state.EngineState.open_in.Goals as goal
 
 pub invariant_of-self : goal.invariant_of-self
 invariant_of-self c =
-    open_bounded c.self.inside.play c.args.number c.self.inside.sends c.self.inside.is_open c.laid.result.now.value.tree c.hosts.result.now c.self.inside.rows.items c.put_rows.new.slot.items c.self.invariant
+    open_bounded c.self.inside.play c.args.number c.self.inside.sends c.self.inside.is_open c.laid.result.now.value.tree c.hosts.result.now c.self.inside.rows c.put_rows.new.slot.items c.self.invariant
     (rw c.laid.ensures.value c.laid.ensures.bound)
     (subst (λ (v : State). v.is_open ≡ false) (sym c.self.view_is) c.requires.closed)
     (subst (λ (v : State). v.play ≤ c.args.number) (sym c.self.view_is) c.requires.least)

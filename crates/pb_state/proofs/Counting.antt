@@ -1,0 +1,68 @@
+-- How many hosts run, where one host's row has changed.
+use Rattle.std.proofs.Common.{◌≡◌, ◌∙◌, ℕ, zero, suc, ◌+◌, ◌<◌, ◌≤◌, Bool, true, false, List, [], ◌∷◌, length, map, refl, ap, arith, cond}
+use Rattle.std.specs.Prelude.{Some, None, Option, slice_get, slice_set, count_by, nat_lt, is_some, if◌then◌else◌}
+use Rattle.std.specs.List.{list_any}
+use Rattle.std.proofs.lemmas.List.Sums.{sum_by-cons, count_by-le-length}
+use Rattle.pb_tree.specs.Tree.{TreeOf}
+use Rattle.pb_state.specs.Row.{HostRow, first_rows, joined, left}
+use Rattle.pb_state.specs.Machine.{is_running, running_count, one_if}
+
+one_is : (b : Bool) → one_if b ≡ cond b 1 0
+one_is true = refl
+one_is false = refl
+
+pub count_on : (row : HostRow) (rows : List HostRow) → running_count (row ∷ rows) ≡ one_if (is_running row) + running_count rows
+count_on row rows = let one = one_is (is_running row) in let on = sum_by-cons (λ r. cond (is_running r) 1 0) row rows in omega (arith, one, on)
+
+pub count_set : (rows : List HostRow) (h : ℕ) (row new : HostRow) → slice_get rows h ≡ Some row
+    → running_count (slice_set rows h new) + one_if (is_running row) ≡ running_count rows + one_if (is_running new)
+count_set [] h row new e = cc
+count_set (r ∷ rows) zero row new e =
+    let same : r ≡ row = cc in
+    let was : one_if (is_running r) ≡ one_if (is_running row) = ap (λ x. one_if (is_running x)) same in
+    omega (arith, was, count_on r rows, count_on new rows)
+count_set (r ∷ rows) (suc h) row new e =
+    let rest = count_set rows h row new e in
+    omega (arith, rest, count_on r rows, count_on r (slice_set rows h new))
+
+-- what is kept beside the rows, where one of them changed
+pub recounted_is : (rows : List HostRow) (h n m : ℕ) (row new : HostRow) → slice_get rows h ≡ Some row → n ≡ running_count rows
+    → m + one_if (is_running row) ≡ n + one_if (is_running new) → m ≡ running_count (slice_set rows h new)
+recounted_is rows h n m row new e k r = let set = count_set rows h row new e in omega (arith, set, k, r)
+
+pub some_counted : (rows : List HostRow) (h n : ℕ) (row : HostRow) → slice_get rows h ≡ Some row → n ≡ running_count rows → is_running row ≡ true → 0 < n
+some_counted [] h n row e k t = cc
+some_counted (r ∷ rows) zero n row e k t =
+    let same : r ≡ row = cc in
+    let one : one_if (is_running r) ≡ 1 = ap (λ x. one_if (is_running x)) same ∙ ap one_if t in
+    let on = count_on r rows in
+    omega (arith, one, on, k)
+some_counted (r ∷ rows) (suc h) n row e k t =
+    let rest = some_counted rows h (running_count rows) row e refl t in
+    let on = count_on r rows in
+    omega (arith, rest, on, k)
+
+-- some host runs where they are not none
+pub any_counted : (rows : List HostRow) → list_any is_running rows ≡ nat_lt 0 (running_count rows)
+any_counted [] = refl
+any_counted (row ∷ rows) = by_row (is_running row) refl (any_counted rows)
+  where
+    by_row : (b : Bool) → is_running row ≡ b → list_any is_running rows ≡ nat_lt 0 (running_count rows) → list_any is_running (row ∷ rows) ≡ nat_lt 0 (running_count (row ∷ rows))
+    by_row true e i = rw (count_on row rows, e) refl
+    by_row false e i = rw (count_on row rows, e) i
+
+-- nobody runs before the run, nor as a batch opens or has closed
+pub none_first : (h n : ℕ) → running_count (first_rows h n) ≡ 0
+none_first h zero = refl
+none_first h (suc n) = none_first (h + 1) n
+
+pub none_joined : (tree : TreeOf) (hosts : List Bool) (rows : List HostRow) → running_count (map (joined tree hosts) rows) ≡ 0
+none_joined tree hosts [] = refl
+none_joined tree hosts (row ∷ rows) = none_joined tree hosts rows
+
+pub none_left : (rows : List HostRow) → running_count (map left rows) ≡ 0
+none_left [] = refl
+none_left (row ∷ rows) = none_left rows
+
+pub counted_below : (rows : List HostRow) (n most : ℕ) → n ≡ running_count rows → length rows ≤ most → n ≤ most
+counted_below rows n most k l = let le = count_by-le-length is_running rows in omega (arith, le, k, l)
