@@ -1,11 +1,13 @@
 -- How many hosts run, where one host's row has changed.
-use Rattle.std.proofs.Common.{◌≡◌, ◌∙◌, ℕ, zero, suc, ◌+◌, ◌<◌, ◌≤◌, Bool, true, false, List, [], ◌∷◌, length, map, refl, ap, arith, cond}
-use Rattle.std.specs.Prelude.{Some, None, Option, slice_get, slice_set, count_by, nat_lt, is_some, if◌then◌else◌}
+use Rattle.std.proofs.Common.{◌≡◌, ◌≢◌, ◌∙◌, not, ℕ, zero, suc, ◌+◌, ◌<◌, ◌≤◌, Bool, true, false, List, [], ◌∷◌, length, map, refl, sym, ap, arith, cond, ne_eqb}
+use Rattle.std.specs.Prelude.{Some, None, Option, slice_get, slice_set, count_by, nat_eq, if◌then◌else◌}
 use Rattle.std.specs.List.{list_any}
+use Rattle.std.proofs.lemmas.List.{length-map}
 use Rattle.std.proofs.lemmas.List.Sums.{sum_by-cons, count_by-le-length}
 use Rattle.pb_tree.specs.Tree.{TreeOf}
 use Rattle.pb_state.specs.Row.{HostRow, first_rows, joined, left}
 use Rattle.pb_state.specs.Machine.{is_running, running_count, one_if}
+use Rattle.pb_state.proofs.Opening.{length-first}
 
 one_is : (b : Bool) → one_if b ≡ cond b 1 0
 one_is true = refl
@@ -43,13 +45,15 @@ some_counted (r ∷ rows) (suc h) n row e k t =
     omega (arith, rest, on, k)
 
 -- some host runs where they are not none
-pub any_counted : (rows : List HostRow) → list_any is_running rows ≡ nat_lt 0 (running_count rows)
-any_counted [] = refl
-any_counted (row ∷ rows) = by_row (is_running row) refl (any_counted rows)
+pub some_runs : (rows : List HostRow) (n : ℕ) → n ≡ running_count rows → not (nat_eq n 0) ≡ list_any is_running rows
+some_runs [] n k = rw k refl
+some_runs (row ∷ rows) n k = by_row (is_running row) refl (λ m f. some_runs rows m f)
   where
-    by_row : (b : Bool) → is_running row ≡ b → list_any is_running rows ≡ nat_lt 0 (running_count rows) → list_any is_running (row ∷ rows) ≡ nat_lt 0 (running_count (row ∷ rows))
-    by_row true e i = rw (count_on row rows, e) refl
-    by_row false e i = rw (count_on row rows, e) i
+    by_row : (b : Bool) → is_running row ≡ b → ((m : ℕ) → m ≡ running_count rows → not (nat_eq m 0) ≡ list_any is_running rows) → not (nat_eq n 0) ≡ list_any is_running (row ∷ rows)
+    by_row true e rest =
+        let some : n ≢ 0 = let one = ap one_if e in let on = count_on row rows in omega (arith, one, on, k) in
+        rw e (ap not (ne_eqb n 0 some))
+    by_row false e rest = rw e (rest n (let none = ap one_if e in let on = count_on row rows in omega (arith, none, on, k)))
 
 -- nobody runs before the run, nor as a batch opens or has closed
 pub none_first : (h n : ℕ) → running_count (first_rows h n) ≡ 0
@@ -66,3 +70,14 @@ none_left (row ∷ rows) = none_left rows
 
 pub counted_below : (rows : List HostRow) (n most : ℕ) → n ≡ running_count rows → length rows ≤ most → n ≤ most
 counted_below rows n most k l = let le = count_by-le-length is_running rows in omega (arith, le, k, l)
+
+-- so the rows and what is kept beside them fit at these moments
+pub first_holds : (rows : List HostRow) (n : ℕ) → rows ≡ first_rows 0 n → n < 4294967296 → (0 ≡ running_count rows) × (length rows < 4294967296)
+first_holds rows n e below = rw e (sym (none_first 0 n), rw (length-first 0 n) below)
+
+pub joined_holds : (tree : TreeOf) (hosts : List Bool) (rows joined_rows : List HostRow) → joined_rows ≡ map (joined tree hosts) rows → length rows < 4294967296
+    → (0 ≡ running_count joined_rows) × (length joined_rows < 4294967296)
+joined_holds tree hosts rows joined_rows e below = rw e (sym (none_joined tree hosts rows), rw (length-map rows) below)
+
+pub left_holds : (rows left_rows : List HostRow) → left_rows ≡ map left rows → length rows < 4294967296 → (0 ≡ running_count left_rows) × (length left_rows < 4294967296)
+left_holds rows left_rows e below = rw e (sym (none_left rows), rw (length-map rows) below)

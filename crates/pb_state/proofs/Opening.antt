@@ -55,4 +55,7 @@ first_end h zero = ap (λ k. first_row k ∷ []) (let same : h ≡ h + 0 = omega
 first_end h (suc n) = ap (λ rest. first_row h ∷ rest) (first_end (h + 1) n ∙ ap (λ k. first_rows (h + 1) n ++ first_row k ∷ []) (let same : (h + 1) + n ≡ h + suc n = omega arith in same))
 
 pub first_more : (n : ℕ) → first_rows 0 (n + 1) ≡ first_rows 0 n ++ first_row n ∷ []
-first_more n = ap (first_rows 0) (let one : n + 1 ≡ suc n = omega arith in one) ∙ first_end 0 n
+first_more n =
+    ap (first_rows 0) (let one : n + 1 ≡ suc n = omega arith in one)
+    ∙ first_end 0 n
+    ∙ ap (λ k. first_rows 0 n ++ first_row k ∷ []) (let same : 0 + n ≡ n = omega arith in same)

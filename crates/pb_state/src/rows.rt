@@ -35,10 +35,11 @@ impl Drop for HostRows {
 }
 
 impl Model for HostRows {
-    ghost use Rattle.std.specs.Prelude.{List};
+    ghost use Rattle.std.specs.Prelude.{◌≡◌, ◌<◌, ◌^◌, List, length};
     ghost use Rattle.pb_tree.specs.contracts.tree.PlayTree as play_tree;
     ghost use Rattle.pb_value.specs.contracts.val.Val as val;
     ghost use Rattle.std.specs.Coded.{codes};
+    ghost use Rattle.pb_state.specs.Row.{HostRow};
     ghost use Rattle.pb_state.specs.Machine.{running_count};
 
     ghost Value = { List HostRow };
@@ -301,8 +302,14 @@ pub fn join_all(
 pub fn leave_all(rows: &mut HostRows)
     ensures { rows.new ≡ map left rows.old }
 {
-    leave_each(rows.rows.as_mut_slice());
+    leave_rows(&mut rows.rows);
     rows.running = 0;
+}
+
+fn leave_rows(rows: &mut Vec<Row>)
+    ensures { rows.new.items ≡ map left rows.old.items }
+{
+    leave_each(rows.as_mut_slice());
 }
 
 fn leave_each(rows: &mut [Row])
