@@ -581,7 +581,13 @@ impl EngineState {
         ensures { set.new ≡ ready plan.now self.now }
     {
         match self.open_play(plan) {
-            Some(_) => ready_into(self.rows.as_slice(), self.place, !self.stopped, self.has_room(), set),
+            Some(_) => ready_into(
+                self.rows.as_slice(),
+                self.place,
+                !self.stopped,
+                self.has_room(),
+                set,
+            ),
             None => none_into(set),
         }
     }
@@ -629,7 +635,10 @@ impl EngineState {
     ) -> Result<Option<Job>, AllocError>
         ensures { IfOk result (λ job. job ≡ job_of plan.now self.now host ticket) }
     {
-        match (self.open_play(plan), self.rows.as_slice().get(host.0 as usize)) {
+        match (
+            self.open_play(plan),
+            self.rows.as_slice().get(host.0 as usize),
+        ) {
             (Some(play), Some(row)) => {
                 job_in(
                     alloc,
