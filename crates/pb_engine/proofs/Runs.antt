@@ -1,6 +1,7 @@
 -- A run goes on by an event that is possible.
-use Rattle.std.proofs.Common.{◌≡◌, ℕ, Bool, true, false, ◌&&◌, List, [], ◌∷◌, ◌++◌, refl, ◌∙◌, ap}
+use Rattle.std.proofs.Common.{◌≡◌, ℕ, Bool, true, false, ◌&&◌, List, [], ◌∷◌, ◌++◌, length, replicate, refl, sym, ◌∙◌, ap}
 use Rattle.std.specs.Prelude.{Result, Ok, Err, OnOk, OnErr}
+use Rattle.std.proofs.lemmas.List.{length-replicate}
 use Rattle.pb_state.specs.declared.event.Event.{Event}
 use Rattle.pb_plan.specs.Plan.{PlanOf}
 use Rattle.pb_state.specs.State.{State}
@@ -8,6 +9,7 @@ use Rattle.pb_state.specs.Machine.{possible, after, first_state}
 use Rattle.pb_state.specs.Run.{legal_from, state_from, IsRun}
 use Rattle.pb_state.specs.Once.{IsOnce}
 use Rattle.pb_state.proofs.Once.{run_once}
+use Rattle.pb_state.proofs.Opening.{length-first}
 
 pub legal_more : (plan : PlanOf) (s : State) (es : List Event) (e : Event) → legal_from plan s es ≡ true → possible plan (state_from plan s es) e ≡ true → legal_from plan s (es ++ e ∷ []) ≡ true
 legal_more plan s [] e l p = rw p refl
@@ -37,3 +39,7 @@ run_on (Err x) plan pool trail new_trail s new_s e run p ok err = rw (err.0, err
 -- a run does nothing twice
 pub once_in_run : (plan : PlanOf) (pool : ℕ) (trail : List Event) (s : State) → IsRun plan pool trail s → IsOnce plan (first_state plan plan.forks pool) trail
 once_in_run plan pool trail s run = run_once plan pool trail s run
+
+-- a set of a plan's hosts is as wide as its first state has rows
+pub first_width : (plan : PlanOf) (pool forks width : ℕ) (ready : List Bool) (s : State) → ready ≡ replicate width false → width ≡ length plan.hosts → s ≡ first_state plan forks pool → length ready ≡ length s.rows
+first_width plan pool forks width ready s r w f = rw (r, f) (length-replicate width false ∙ w ∙ sym (length-first 0 (length plan.hosts)))
