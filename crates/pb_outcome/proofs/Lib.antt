@@ -1,3 +1,4 @@
+pub mod Back
 pub mod Cuts
 pub mod ReadsBack
 mod Steps

@@ -2,6 +2,8 @@ pub mod Causes
 pub mod Code
 pub mod Decided
 pub mod Gathered
+pub mod ItemRows
+pub mod Items
 pub mod Limits
 pub mod Output
 pub mod Reading

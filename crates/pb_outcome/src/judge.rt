@@ -1,7 +1,7 @@
 ghost use Rattle.std.specs.Prelude.{◌≡◌, IfOk, true};
 ghost use Rattle.pb_value.specs.Datum.{text, list, dict, items_of, members_of};
 ghost use Rattle.pb_outcome.specs.Output.{stripped, line_values};
-ghost use Rattle.pb_outcome.specs.Results.{is_nonzero, rc_message, shown_lines, ran_members, ran_result, unanswered, does_not_fit, lost, gathered_facts, facts_ran, judged_command, judged_setup, judged};
+ghost use Rattle.pb_outcome.specs.Results.{is_nonzero, rc_message, shown_lines, ran_members, ran_result, unanswered, does_not_fit, lost, facts_result, gathered_facts, facts_ran, judged_command, judged_setup, judged};
 
 use crate::gather::{Ending, ItemResult};
 use crate::job::Call;
@@ -164,9 +164,8 @@ fn gathered_facts(alloc: Global, facts: &Val) -> Result<ItemResult, AllocError>
     }
 }
 
-ghost use Rattle.pb_outcome.specs.Results.{facts_result};
-
-fn facts_result(alloc: Global, facts: Val) -> Result<ItemResult, AllocError>
+/// The result of an item that gives these facts, as one of `set_fact` or `setup`, and changed nothing.
+pub fn facts_result(alloc: Global, facts: Val) -> Result<ItemResult, AllocError>
     ensures { IfOk result (λ r. r ≡ facts_result facts) }
 {
     let mut members = Dict::new(alloc);
