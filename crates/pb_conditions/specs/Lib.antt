@@ -1,2 +1,4 @@
 pub mod Conditions
+pub mod Settled
 pub mod Rows
+pub mod SettledRows

@@ -14,3 +14,7 @@ found_in = option_map (λ f. (f.layer, f.value.now))
 -- what stands behind references
 abbrev pub maps_in : List (Bor Dict) → List Map
 maps_in = map (λ m. m.now)
+
+-- a value under a name
+abbrev pub seen_in : Option (Bor (List ℕ) × Bor Datum) → Option (List ℕ × Datum)
+seen_in = option_map (λ s. (s.0.now, s.1.now))

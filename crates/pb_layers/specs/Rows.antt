@@ -1,7 +1,7 @@
 -- Worked examples: each is proved by computing both sides.
 use Rattle.std.specs.Prelude.{◌≡◌, ℕ, pos, true, false, [], ◌∷◌, ◌++◌, Some, None, codes, refl}
 use Rattle.pb_value.specs.Datum.{int}
-use Rattle.pb_layers.specs.Scope.{Map, layers, scope, value_of, layer_of, has_templates}
+use Rattle.pb_layers.specs.Scope.{Map, layers, scope, with_seen, value_of, layer_of, has_templates}
 
 abbrev x : ℕ → Map
 x n = (codes "x", int (pos n)) ∷ []
@@ -43,6 +43,19 @@ magic_of_play_wins = refl
 
 nowhere : layer_of (codes "y") (scope (layers (x 1) [] [] [] [] [] [] [] [] [] (x 11)) (x 12) []) ≡ None
 nowhere = refl
+
+-- a task's own result hides what was registered before, and is hidden by role parameters and extra variables
+seen_wins : value_of (codes "x") (with_seen (Some (codes "x", int (pos 20))) (layers (x 1) (x 2) (x 3) (x 4) (x 5) (x 6) (x 7) (x 8) (x 9) [] [])) ≡ Some (int (pos 20))
+seen_wins = refl
+
+seen_is_hidden : value_of (codes "x") (with_seen (Some (codes "x", int (pos 20))) (layers (x 1) [] [] [] [] [] [] [] (x 9) (x 10) [])) ≡ Some (int (pos 10))
+seen_is_hidden = refl
+
+seen_hides_no_other : value_of (codes "x") (with_seen (Some (codes "y", int (pos 20))) (layers (x 1) [] [] [] [] [] [] [] (x 9) [] [])) ≡ Some (int (pos 9))
+seen_hides_no_other = refl
+
+seen_is_no_template : layer_of (codes "x") (with_seen (Some (codes "x", int (pos 20))) (layers (x 1) [] [] [] [] [] [] [] [] [] [])) ≡ Some 9
+seen_is_no_template = refl
 
 facts_are_no_templates : has_templates 4 ≡ false
 facts_are_no_templates = refl

@@ -2,7 +2,7 @@
 -- Ansible's documentation).
 use Rattle.std.specs.Prelude.{ℕ, ◌+◌, Bool, ◌==◌, ◌&&◌, not, nat_le, List, [], ◌∷◌, Option, Some, None, length}
 use Rattle.std.specs.Option.{option_map}
-use Rattle.pb_value.specs.Datum.{Datum, value_at}
+use Rattle.pb_value.specs.Datum.{Datum, value_at, put}
 
 -- values under their names
 abbrev pub Map : Type 0
@@ -16,6 +16,16 @@ layers role_defaults group_variables host_variables host_facts play_variables ro
 -- Above them stand the magic variables and, highest, the loop variable.
 abbrev pub scope : List Map → Map → Map → List Map
 scope below magic loop_variable = loop_variable ∷ magic ∷ below
+
+-- a map with a value put under its name, if there is one
+abbrev pub with_put : Option (List ℕ × Datum) → Map → Map
+with_put None m = m
+with_put (Some seen) m = put seen.0 seen.1 m
+
+-- The layers of a task that sees a value beside what was set or registered (layer 9), as it sees its own result under the name that this is registered under.
+abbrev pub with_seen : Option (List ℕ × Datum) → List Map → List Map
+with_seen seen (extra_variables ∷ role_parameters ∷ set_facts ∷ below) = extra_variables ∷ role_parameters ∷ with_put seen set_facts ∷ below
+with_seen seen maps = maps
 
 -- the first of two, if it is there
 abbrev pub or_else : {A : Type 0} → Option A → Option A → Option A

@@ -1,7 +1,8 @@
-ghost use Rattle.std.specs.Prelude.{◌≡◌, ◌≤◌, length, map};
+ghost use Rattle.std.specs.Prelude.{◌≡◌, ◌≤◌, Some, length, map};
 ghost use Rattle.std.specs.Option.{option_copied};
-ghost use Rattle.pb_layers.specs.Scope.{scope, found, value_of, layer_of, has_templates};
-ghost use Rattle.pb_layers.specs.Found.{found_in, maps_in};
+ghost use Rattle.pb_value.specs.Datum.{value_at};
+ghost use Rattle.pb_layers.specs.Scope.{scope, with_put, with_seen, found, value_of, layer_of, has_templates};
+ghost use Rattle.pb_layers.specs.Found.{found_in, maps_in, seen_in};
 
 use crate::layers::{Layers, Magic};
 use pb_value::val::{Dict, Val};
@@ -14,19 +15,22 @@ pub struct Scope<'a> {
     layers: &'a Layers<'a>,
     magic: &'a Magic<'a>,
     loop_variable: &'a Dict,
+    /// A value that is seen over what was set or registered, and its name.
+    seen: Option<(&'a str, &'a Val)>,
 }
 
 impl<'a> Model for Scope<'a> {
     ghost use Rattle.std.specs.Prelude.{List};
     ghost use Rattle.std.specs.Coded.{codes};
     ghost use Rattle.pb_value.specs.contracts.val.Dict as dict;
+    ghost use Rattle.std.specs.Prelude.{option_map};
     ghost use Rattle.pb_layers.specs.Scope as scope;
 
     ghost Value = { List scope.Map };
 
     ghost coded = { Prim.hlevel (codes, dict.the_row.coded) };
 
-    ghost view = { λ s. scope.scope s.layers.now s.magic.now s.loop_variable.now };
+    ghost view = { λ s. scope.scope (scope.with_seen (option_map (λ seen. (seen.0.now, seen.1.now)) s.seen) s.layers.now) s.magic.now s.loop_variable.now };
 }
 
 /// A stored value, and the number of the layer that gives it.
@@ -39,6 +43,7 @@ pub struct Found<'a> {
 impl<'a> Scope<'a> {
     /// The layers with the magic variables and the loop variable above them; without a loop the
     /// last map is empty.
+    #[tactic(auto, using(crate::proofs::Seen::with_none_seen))]
     pub fn new(layers: &'a Layers<'a>, magic: &'a Magic<'a>, loop_variable: &'a Dict) -> Scope<'a>
         ensures { result ≡ scope layers.now magic.now loop_variable.now }
     {
@@ -46,6 +51,25 @@ impl<'a> Scope<'a> {
             layers,
             magic,
             loop_variable,
+            seen: None,
+        }
+    }
+
+    /// The same where a value is seen under a name beside what was set or registered, in layer 9: it takes no memory.
+    pub fn seeing(
+        layers: &'a Layers<'a>,
+        magic: &'a Magic<'a>,
+        loop_variable: &'a Dict,
+        name: &'a str,
+        value: &'a Val,
+    ) -> Scope<'a>
+        ensures { result ≡ scope (with_seen (Some (name.now, value.now)) layers.now) magic.now loop_variable.now }
+    {
+        Scope {
+            layers,
+            magic,
+            loop_variable,
+            seen: Some((name, value)),
         }
     }
 
@@ -55,10 +79,7 @@ impl<'a> Scope<'a> {
         ensures { found_in result ≡ found name.now self.now }
     {
         let layers = self.layers;
-        let maps = [
-            layers.extra_variables,
-            layers.role_parameters,
-            layers.set_facts,
+        let below = [
             layers.task_variables,
             layers.block_variables,
             layers.role_variables,
@@ -71,9 +92,18 @@ impl<'a> Scope<'a> {
         if let Some(value) = self.loop_variable.get(name) {
             return Some(Found { layer: 13, value });
         }
-        match self.magic.get(name) {
-            Some(value) => Some(Found { layer: 12, value }),
-            None => find_in(&maps, name),
+        if let Some(value) = self.magic.get(name) {
+            return Some(Found { layer: 12, value });
+        }
+        if let Some(value) = layers.extra_variables.get(name) {
+            return Some(Found { layer: 11, value });
+        }
+        if let Some(value) = layers.role_parameters.get(name) {
+            return Some(Found { layer: 10, value });
+        }
+        match set_or_seen(layers.set_facts, self.seen, name) {
+            Some(value) => Some(Found { layer: 9, value }),
+            None => find_in(&below, name),
         }
     }
 
@@ -95,6 +125,27 @@ impl<'a> Scope<'a> {
             Some(found) => Some(found.layer),
             None => None,
         }
+    }
+}
+
+/// The value of a name in what was set or registered, or the value that is seen over it.
+#[tactic(auto, using(crate::proofs::Seen::put_same, crate::proofs::Seen::put_other))]
+fn set_or_seen<'a>(
+    set_facts: &'a Dict,
+    seen: Option<(&'a str, &'a Val)>,
+    name: &str,
+) -> Option<&'a Val>
+    ensures { option_copied result ≡ value_at name.now (with_put (seen_in seen.entry) set_facts.now) }
+{
+    match seen {
+        Some((seen, value)) => {
+            if name == seen {
+                Some(value)
+            } else {
+                set_facts.get(name)
+            }
+        }
+        None => set_facts.get(name),
     }
 }
 

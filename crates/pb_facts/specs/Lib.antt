@@ -1,0 +1,4 @@
+pub mod Each
+pub mod Facts
+pub mod Book
+pub mod Rows

@@ -1,0 +1,35 @@
+ghost use Rattle.std.specs.Prelude.{◌≡◌};
+ghost use Rattle.std.specs.Option.{option_copied};
+ghost use Rattle.pb_facts.specs.Facts.{dict_of, facts_in, gathered_in};
+
+use pb_value::val::{Dict, Node, Val};
+
+/// The members of a value that has some.
+fn dict_of(value: &Val) -> Option<&Dict>
+    ensures { option_copied result ≡ dict_of value.now }
+{
+    match &value.node {
+        Node::Dict(members) => Some(members),
+        _ => None,
+    }
+}
+
+/// The facts that stand in a layer of gathered ones, or among the members of a result.
+pub(crate) fn gathered_in(layer: &Dict) -> Option<&Dict>
+    ensures { option_copied result ≡ gathered_in layer.now }
+{
+    match layer.get("ansible_facts") {
+        Some(facts) => dict_of(facts),
+        None => None,
+    }
+}
+
+/// The facts that stand in an item's result.
+pub(crate) fn facts_in(shown: &Val) -> Option<&Dict>
+    ensures { option_copied result ≡ facts_in shown.now }
+{
+    match dict_of(shown) {
+        Some(members) => gathered_in(members),
+        None => None,
+    }
+}
