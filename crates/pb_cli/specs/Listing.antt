@@ -23,4 +23,4 @@ plays_from names number [] = []
 plays_from names number (play ∷ plays) = play_lines names number play ++ plays_from names (number + 1) plays
 
 abbrev pub listing : PlanOf → List ℕ
-listing plan = plays_from plan.hosts 0 plan.plays
+listing plan = plays_from plan.inventory.hosts 0 plan.plays

@@ -27,7 +27,7 @@ fn push_play(
     number: usize,
     play: &PlanPlay,
 ) -> Result<(), AllocError>
-    ensures { IfOk result (λ _. string_bytes text.new ≡ string_bytes text.old ++ play_lines plan.now.hosts number play.now) }
+    ensures { IfOk result (λ _. string_bytes text.new ≡ string_bytes text.old ++ play_lines plan.now.inventory.hosts number play.now) }
 {
     let heading = heading(alloc, number, play.hosts().count())?;
     text.push_str(heading.as_str())?;
@@ -55,7 +55,7 @@ fn push_number(alloc: Global, text: &mut String, number: u64) -> Result<(), Allo
 
 /// Adds the names of the hosts that are in the set, a line each.
 fn push_hosts(text: &mut String, plan: &Plan, hosts: &HostSet) -> Result<(), AllocError>
-    ensures { IfOk result (λ _. string_bytes text.new ≡ string_bytes text.old ++ host_lines plan.now.hosts hosts.now) }
+    ensures { IfOk result (λ _. string_bytes text.new ≡ string_bytes text.old ++ host_lines plan.now.inventory.hosts hosts.now) }
 {
     for host in 0..plan.host_count() {
         let name = plan.host_name(HostNo(host));

@@ -6,9 +6,11 @@ use Rattle.std.specs.List.{list_any}
 use Rattle.std.specs.Option.{option_map_or}
 use Rattle.pb_ids.specs.declared.numbers.HostNo.{HostNo}
 use Rattle.pb_ids.specs.declared.numbers.Ticket.{Ticket}
+use Rattle.pb_outcome.specs.declared.job.Call.{Call}
 use Rattle.pb_outcome.specs.declared.job.Job.{Job}
 use Rattle.pb_outcome.specs.declared.job.Report.{Report}
 use Rattle.pb_outcome.specs.declared.outcome.Form.{Form}
+use Rattle.pb_outcome.specs.Items.{next_item}
 use Rattle.pb_state.specs.declared.event.Event.{Event}
 use Rattle.pb_state.specs.declared.event.Event.TheVariants.{Open, Start, Send, Report as Reported, Turn, Close, Stop, Forks}
 use Rattle.pb_state.specs.declared.row.Counts.{Counts}
@@ -16,9 +18,9 @@ use Rattle.pb_state.specs.declared.row.Running.{Running}
 use Rattle.pb_plan.specs.Plan.{PlayOf, PlanOf}
 use Rattle.pb_state.specs.Row.{HostRow}
 use Rattle.pb_state.specs.State.{State}
-use Rattle.pb_state.specs.Machine.{possible, after, first_state, is_out, open_play}
+use Rattle.pb_state.specs.Machine.{possible, after, first_state, is_out, item_of, item_at, open_play}
 use Rattle.pb_variables.specs.Connector.{connector_of}
-use Rattle.pb_state.specs.Jobs.{job_of, job_in, row_job, placed_job, named_job, job_with}
+use Rattle.pb_state.specs.Jobs.{job_of, job_in, row_job, running_job, item_job, placed_job, call_in, job_with}
 use Rattle.pb_state.specs.Oldest.{oldest_out}
 use Rattle.pb_tree.specs.Tree.{path_at}
 use Rattle.pb_state.specs.Run.{IsRun, IsEager, IsQuiet, legal_from, state_from, is_report, is_command}
@@ -110,26 +112,39 @@ waits_out picks old_picker new_picker old new m = rw m.0 m.2
 pub waits_same : {P : Type 0} (picks : P → List Bool → ℕ → P → Type 0) (old_picker new_picker : P) (old new : EngineOf) → NextIs picks old_picker new_picker old new Waiting → new ≡ old
 waits_same picks old_picker new_picker old new m = m.0
 
--- a job has the first item
-item_named : (plan : PlanOf) (number : ℕ) (host : HostNo) (ticket : Ticket) (r : Running) (path : Option (List ℕ)) (name : Option (List ℕ)) → option_map_or (λ (j : Job). j.item) (option_map_or (λ (p : List ℕ). option_map (λ (n : List ℕ). job_with number host ticket r n (connector_of plan.inventory host.0) p) name) path None) 0 ≡ 0
-item_named plan number host ticket r None name = refl
-item_named plan number host ticket r (Some path) None = refl
-item_named plan number host ticket r (Some path) (Some name) = refl
+-- a job is of its host's next item
+some_is : {X : Type 0} (x y : X) → Some x ≡ Some y → x ≡ y
+some_is x y e = cc
 
-item_task : (plan : PlanOf) (number : ℕ) (host : HostNo) (ticket : Ticket) (play : PlayOf) (running : Option Running) → option_map_or (λ (j : Job). j.item) (option_map_or (placed_job plan number host ticket play) running None) 0 ≡ 0
-item_task plan number host ticket play None = refl
-item_task plan number host ticket play (Some r) = item_named plan number host ticket r (path_at play.tree r.place) (slice_get plan.hosts host.0)
+item_named : (plan : PlanOf) (number : ℕ) (host : HostNo) (ticket : Ticket) (item : ℕ) (call : Call) (job : Job) (path : Option (List ℕ)) (name : Option (List ℕ))
+    → option_map_or (λ (p : List ℕ). option_map (λ (n : List ℕ). job_with number host ticket item call n (connector_of plan.inventory host.0) p) name) path None ≡ Some job → job.item ≡ item
+item_named plan number host ticket item call job None name e = cc
+item_named plan number host ticket item call job (Some path) None e = cc
+item_named plan number host ticket item call job (Some path) (Some name) e =
+    ap (λ (j : Job). j.item) (sym (some_is (job_with number host ticket item call name (connector_of plan.inventory host.0) path) job e))
 
-item_row : (plan : PlanOf) (number : ℕ) (host : HostNo) (ticket : Ticket) (play : PlayOf) (row : Option HostRow) → option_map_or (λ (j : Job). j.item) (option_map_or (row_job plan number host ticket play) row None) 0 ≡ 0
-item_row plan number host ticket play None = refl
-item_row plan number host ticket play (Some row) = item_task plan number host ticket play row.running
+item_called : (plan : PlanOf) (number : ℕ) (host : HostNo) (ticket : Ticket) (play : PlayOf) (p item : ℕ) (job : Job) (found : Option Call) → option_map_or (placed_job plan number host ticket play p item) found None ≡ Some job → job.item ≡ item
+item_called plan number host ticket play p item job None e = cc
+item_called plan number host ticket play p item job (Some call) e = item_named plan number host ticket item call job (path_at play.tree p) (slice_get plan.inventory.hosts host.0) e
 
-item_in : (plan : PlanOf) (s : State) (host : HostNo) (ticket : Ticket) (found : Option PlayOf) → option_map_or (λ (j : Job). j.item) (option_map_or (job_in plan s host ticket) found None) 0 ≡ 0
-item_in plan s host ticket None = refl
-item_in plan s host ticket (Some play) = item_row plan s.play host ticket play (slice_get s.rows host.0)
+item_next : (plan : PlanOf) (number : ℕ) (host : HostNo) (ticket : Ticket) (play : PlayOf) (r : Running) (job : Job) (next : Option ℕ) → option_map_or (item_job plan number host ticket play r) next None ≡ Some job → next ≡ Some job.item
+item_next plan number host ticket play r job None e = cc
+item_next plan number host ticket play r job (Some n) e = ap Some (sym (item_called plan number host ticket play r.place n job (call_in r.items n) e))
 
-pub item_of_job : (plan : PlanOf) (s : State) (host : HostNo) (ticket : Ticket) (job : Job) → job_of plan s host ticket ≡ Some job → job.item ≡ 0
-item_of_job plan s host ticket job e = let first = item_in plan s host ticket (open_play plan s) in ap (λ (o : Option Job). option_map_or (λ (j : Job). j.item) o 0) (sym e) ∙ first
+item_task : (plan : PlanOf) (number : ℕ) (host : HostNo) (ticket : Ticket) (play : PlayOf) (job : Job) (running : Option Running) → option_map_or (running_job plan number host ticket play) running None ≡ Some job → option_map_or (λ (r : Running). next_item r.items) running None ≡ Some job.item
+item_task plan number host ticket play job None e = cc
+item_task plan number host ticket play job (Some r) e = item_next plan number host ticket play r job (next_item r.items) e
+
+item_row : (plan : PlanOf) (number : ℕ) (host : HostNo) (ticket : Ticket) (play : PlayOf) (job : Job) (row : Option HostRow) → option_map_or (row_job plan number host ticket play) row None ≡ Some job → option_map_or item_of row None ≡ Some job.item
+item_row plan number host ticket play job None e = cc
+item_row plan number host ticket play job (Some row) e = item_task plan number host ticket play job row.running e
+
+item_in : (plan : PlanOf) (s : State) (host : HostNo) (ticket : Ticket) (job : Job) (found : Option PlayOf) → option_map_or (job_in plan s host ticket) found None ≡ Some job → item_at s host.0 ≡ Some job.item
+item_in plan s host ticket job None e = cc
+item_in plan s host ticket job (Some play) e = item_row plan s.play host ticket play job (slice_get s.rows host.0) e
+
+pub item_of_job : (plan : PlanOf) (s : State) (host : HostNo) (ticket : Ticket) (job : Job) → job_of plan s host ticket ≡ Some job → item_at s host.0 ≡ Some job.item
+item_of_job plan s host ticket job e = item_in plan s host ticket job (open_play plan s) e
 
 -- the report of the job that was out
 pub answers : (allows gives : Job → Form → Type 0) (old new : EngineOf) (job : Job) (r : Report) → Takes old new (Reported r) → IsQuiet old.plan old.state → job_of old.plan old.state r.host r.ticket ≡ Some job → oldest_out old.state.rows ≡ Some (r.host, r.ticket) → allows job r.outcome → gives job r.outcome → TakesOne allows gives old new
@@ -300,8 +315,8 @@ oldest_found s none out = let no = some_oldest s.rows none in cc
 pub job_found : (engine : EngineOf) (host : HostNo) (ticket : Ticket) → IsSound engine → oldest_out engine.state.rows ≡ Some (host, ticket) → job_of engine.plan engine.state host ticket ≡ None → ⊥
 job_found engine host ticket sound oldest none = job_in_run engine.plan engine.pool engine.trail engine.state (host, ticket) sound oldest none
 
-pub never_refused : (engine : EngineOf) (r : Report) (refusal : Refusal) → IsSound engine → oldest_out engine.state.rows ≡ Some (r.host, r.ticket) → r.item ≡ 0 → refusal_of engine.state r ≡ Some refusal → ⊥
-never_refused engine r refusal sound oldest first refused = let none = oldest_in_run engine.plan engine.pool engine.trail engine.state r sound oldest first in cc
+pub never_refused : (engine : EngineOf) (r : Report) (refusal : Refusal) → IsSound engine → oldest_out engine.state.rows ≡ Some (r.host, r.ticket) → item_at engine.state r.host.0 ≡ Some r.item → refusal_of engine.state r ≡ Some refusal → ⊥
+never_refused engine r refusal sound oldest next refused = let none = oldest_in_run engine.plan engine.pool engine.trail engine.state r sound oldest next in cc
 
 -- the report that comes where `next` waits
 pub waits_took : {P : Type 0} (picks : P → List Bool → ℕ → P → Type 0) (old_picker new_picker : P) (allows gives : Job → Form → Type 0) (old mid new : EngineOf) → NextIs picks old_picker new_picker old mid Waiting → TakesOne allows gives mid new → TakesOne allows gives old new

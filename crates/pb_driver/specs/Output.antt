@@ -17,7 +17,7 @@ lines_from plan s (e ∷ es) = lines_of plan (after plan s e) e ++ lines_from pl
 
 -- the statistics and the recap, once the run is at its end
 abbrev pub end_lines : PlanOf → List Counts → List ℕ
-end_lines plan counts = stats_line plan.hosts counts ++ recap_text plan.hosts counts
+end_lines plan counts = stats_line plan.inventory.hosts counts ++ recap_text plan.inventory.hosts counts
 
 -- the output of a trail that ends in a finished state
 abbrev pub output : PlanOf → ℕ → List Event → List ℕ

@@ -1,4 +1,4 @@
--- What every run keeps: there is a row for each host, a task that runs is at a place of the open play, and a job that is out was sent.
+-- What every run keeps: there is a row for each host, a task that runs is at a place of the open play and isn't over, and a job that is out was sent.
 use Rattle.std.proofs.Common.{◌≡◌, ℕ, zero, suc, ◌+◌, ◌<◌, Bool, true, false, ◌&&◌, List, [], ◌∷◌, length, map, refl, ◌∙◌, ap, subst, arith}
 use Rattle.std.specs.Prelude.{◌==◌, Option, Some, None, slice_get, slice_set, option_map, if◌then◌else◌}
 use Rattle.std.specs.Option.{option_map_or}
@@ -10,21 +10,22 @@ use Rattle.pb_tree.specs.declared.tree.Reach.TheVariants.{At, Done}
 use Rattle.pb_tree.specs.Tree.{TreeOf, size_of}
 use Rattle.pb_tree.specs.Walk.{reach}
 use Rattle.pb_tree.proofs.Rise.{places_bounded}
+use Rattle.pb_outcome.specs.declared.item.Item.{Item}
 use Rattle.pb_outcome.specs.declared.job.Report.{Report}
 use Rattle.pb_outcome.specs.declared.outcome.Form.{Form}
+use Rattle.pb_outcome.specs.Items.{is_over}
 use Rattle.pb_state.specs.declared.event.Event.{Event}
 use Rattle.pb_state.specs.declared.event.Event.TheVariants.{Open, Start, Send, Report as Reported, Turn, Close, Stop, Forks}
-use Rattle.pb_items.specs.declared.planned.Planned.{Planned}
-use Rattle.pb_items.specs.declared.planned.Planned.TheVariants.{Decided, Sends}
 use Rattle.pb_state.specs.declared.row.Running.{Running}
 use Rattle.pb_plan.specs.Plan.{PlayOf, PlanOf}
-use Rattle.pb_state.specs.Row.{HostRow, first_rows, joined, place_of, next_place, started, sent, sent_running, reported, left}
+use Rattle.pb_state.specs.Row.{HostRow, first_rows, joined, place_of, next_place, finished, task_at, items_after, progressed, sent, sent_running, reported, reported_running, left}
 use Rattle.pb_state.specs.State.{State}
 use Rattle.pb_state.specs.Machine.{possible, after, change, at_row, open_play, same_place, stands_at, has_room, may_start_in, may_send_in, next_play, opened_in, opened_at, started_in, start_at, sent_in, reported_in, turned_in, first_state}
-use Rattle.pb_state.specs.Results.{planned_at}
+use Rattle.pb_state.specs.Results.{items_at}
 use Rattle.pb_state.specs.Run.{legal_from, state_from, IsRun}
 use Rattle.pb_state.proofs.Opening.{length-first}
 use Rattle.pb_state.proofs.Walks.{IsIn, AllIn, IsOfPlan, step_of, first_of}
+use Rattle.pb_engine.specs.Over.{IsUnfinished, AreUnfinished, IsGoing}
 
 and_left : (a b : Bool) → (a && b) ≡ true → a ≡ true
 and_left true b e = refl
@@ -42,7 +43,7 @@ IsOutBelow sends (Some ticket) = ticket.0 < sends
 -- in a tree of this many places
 abbrev pub IsHeldTask : ℕ → ℕ → Option Running → Type 0
 IsHeldTask size sends None = Unit {0}
-IsHeldTask size sends (Some r) = (r.place < size) × IsOutBelow sends r.out
+IsHeldTask size sends (Some r) = (r.place < size) × IsOutBelow sends r.out × (is_over r.items ≡ false)
 
 abbrev pub AreHeld : ℕ → ℕ → List HostRow → Type 0
 AreHeld size sends [] = Unit {0}
@@ -54,7 +55,7 @@ places_in None = 0
 places_in (Some play) = size_of play.tree
 
 pub record IsHeld (plan : PlanOf) (s : State) : Type 0 where
-  pub hosts : length s.rows ≡ length plan.hosts
+  pub hosts : length s.rows ≡ length plan.inventory.hosts
   pub tasks : AreHeld (places_in (open_play plan s)) s.sends s.rows
 
 -- rows in which no host runs
@@ -91,17 +92,21 @@ below_more sends (Some ticket) b = omega arith
 
 task_more : (size sends : ℕ) (running : Option Running) → IsHeldTask size sends running → IsHeldTask size (sends + 1) running
 task_more size sends None held = tt
-task_more size sends (Some r) held = (held.0, below_more sends r.out held.1)
+task_more size sends (Some r) held = (held.0, below_more sends r.out held.1, held.2)
 
 held_more : (size sends : ℕ) (rows : List HostRow) → AreHeld size sends rows → AreHeld size (sends + 1) rows
 held_more size sends [] held = tt
 held_more size sends (row ∷ rows) held = (task_more size sends row.running held.0, held_more size sends rows held.1)
 
--- a start
-started_held : (p size sends : ℕ) (planned : Planned) (row : HostRow) → p < size → IsHeldTask size sends (started p planned row).running
-started_held p size sends (Decided item) row below = tt
-started_held p size sends (Sends call) row below = (below, tt)
+-- a task that has come to some items
+progressed_held : (p size sends : ℕ) (play : PlayOf) (items : List Item) (row : HostRow) → p < size → IsHeldTask size sends (progressed play p items row).running
+progressed_held p size sends play items row below = by_over (is_over items) refl
+  where
+    by_over : (over : Bool) → is_over items ≡ over → IsHeldTask size sends (if over then finished p (task_at play p items) row else record row { running = Some (record { place = p; items = items; out = None }) }).running
+    by_over true e = tt
+    by_over false e = (below, tt, e)
 
+-- a start
 same_is : (a b : Option ℕ) → same_place a b ≡ true → a ≡ b
 same_is (Some p) (Some q) e = ap Some (eqb-true p q e)
 same_is (Some p) None e = cc
@@ -130,7 +135,8 @@ start_open plan s h play (Some p) = refl
 start_tasks : (plan : PlanOf) (s : State) (h : ℕ) (play : PlayOf) (place : Option ℕ) → AreHeld (size_of play.tree) s.sends s.rows → AllIn play.tree s.rows → at_row (stands_at place) s.rows h ≡ true → AreHeld (size_of play.tree) (option_map_or (start_at plan s h play) place s).sends (option_map_or (start_at plan s h play) place s).rows
 start_tasks plan s h play None held all e = held
 start_tasks plan s h play (Some p) held all e =
-    held_change (size_of play.tree) s.sends (started p (planned_at plan play h p)) (λ row held. started_held p (size_of play.tree) s.sends (planned_at plan play h p) row (place_at play.tree p s.rows h all e)) s.rows h held
+    held_change (size_of play.tree) s.sends (progressed play p (items_at plan play h p))
+    (λ row held. progressed_held p (size_of play.tree) s.sends play (items_at plan play h p) row (place_at play.tree p s.rows h all e)) s.rows h held
 
 start_hosts : (plan : PlanOf) (s : State) (h : ℕ) (play : PlayOf) (place : Option ℕ) → length (option_map_or (start_at plan s h play) place s).rows ≡ length s.rows
 start_hosts plan s h play None = refl
@@ -149,7 +155,7 @@ sent_below sends ticket e = let same = eqb-true ticket.0 sends e in omega arith
 
 sent_held : (size sends : ℕ) (ticket : Ticket) (running : Option Running) → ticket.0 < sends → IsHeldTask size sends running → IsHeldTask size sends (option_map (sent_running ticket) running)
 sent_held size sends ticket None below held = tt
-sent_held size sends ticket (Some r) below held = (held.0, below)
+sent_held size sends ticket (Some r) below held = (held.0, below, held.2)
 
 sent_in_held : (plan : PlanOf) (s : State) (h item : ℕ) (ticket : Ticket) (found : Option PlayOf) → open_play plan s ≡ found → IsHeld plan s → option_map_or (may_send_in s h item ticket) found false ≡ true → IsHeld plan (option_map_or (sent_in s h ticket) found s)
 sent_in_held plan s h item ticket None o held e = held
@@ -161,18 +167,18 @@ sent_in_held plan s h item ticket (Some play) o held e =
     }
 
 -- a report
-reported_none : (outcome : Form) (row : HostRow) (running : Option Running) → row.running ≡ running → (reported outcome row).running ≡ None
-reported_none outcome row None e = rw e refl
-reported_none outcome row (Some r) e = rw e refl
-
-reported_held : (outcome : Form) (size sends : ℕ) (row : HostRow) → IsHeldTask size sends (reported outcome row).running
-reported_held outcome size sends row = rw (reported_none outcome row row.running refl) tt
+reported_held : (play : PlayOf) (outcome : Form) (size sends : ℕ) (row : HostRow) → IsHeldTask size sends row.running → IsHeldTask size sends (reported play outcome row).running
+reported_held play outcome size sends row held = by_running row.running held
+  where
+    by_running : (running : Option Running) → IsHeldTask size sends running → IsHeldTask size sends (option_map_or (reported_running play outcome row) running row).running
+    by_running None task = held
+    by_running (Some r) task = progressed_held r.place size sends play (items_after outcome r) row task.0
 
 reported_in_held : (plan : PlanOf) (s : State) (r : Report) (found : Option PlayOf) → open_play plan s ≡ found → IsHeld plan s → IsHeld plan (option_map_or (reported_in s r) found s)
 reported_in_held plan s r None o held = held
 reported_in_held plan s r (Some play) o held = record {
-  hosts = length-change s.rows r.host.0 (reported r.outcome) ∙ held.hosts;
-  tasks = held_change (places_in (open_play plan s)) s.sends (reported r.outcome) (λ row held. reported_held r.outcome (places_in (open_play plan s)) s.sends row) s.rows r.host.0 held.tasks;
+  hosts = length-change s.rows r.host.0 (reported play r.outcome) ∙ held.hosts;
+  tasks = held_change (places_in (open_play plan s)) s.sends (reported play r.outcome) (λ row task. reported_held play r.outcome (places_in (open_play plan s)) s.sends row task) s.rows r.host.0 held.tasks;
 }
 
 -- the others
@@ -210,4 +216,16 @@ held_from plan s (e ∷ es) legal trees held =
 pub held_run : (plan : PlanOf) (pool : ℕ) (trail : List Event) (s : State) → IsRun plan pool trail s → IsHeld plan s
 held_run plan pool trail s run =
     subst (IsHeld plan) run.ends
-    (held_from plan (first_state plan plan.forks pool) trail run.legal (first_of plan plan.forks pool) (record { hosts = length-first 0 (length plan.hosts); tasks = none_first _ 0 0 (length plan.hosts) }))
+    (held_from plan (first_state plan plan.forks pool) trail run.legal (first_of plan plan.forks pool) (record { hosts = length-first 0 (length plan.inventory.hosts); tasks = none_first _ 0 0 (length plan.inventory.hosts) }))
+
+-- so each task that runs goes on
+unfinished_row : (size sends : ℕ) (running : Option Running) → IsHeldTask size sends running → IsUnfinished running
+unfinished_row size sends None held = tt
+unfinished_row size sends (Some r) held = held.2
+
+unfinished_rows : (size sends : ℕ) (rows : List HostRow) → AreHeld size sends rows → AreUnfinished rows
+unfinished_rows size sends [] held = tt
+unfinished_rows size sends (row ∷ rows) held = (unfinished_row size sends row.running held.0, unfinished_rows size sends rows held.1)
+
+pub going_run : (plan : PlanOf) (pool : ℕ) (trail : List Event) (s : State) → IsRun plan pool trail s → IsGoing s
+going_run plan pool trail s run = record { tasks = unfinished_rows (places_in (open_play plan s)) s.sends s.rows (held_run plan pool trail s run).tasks }

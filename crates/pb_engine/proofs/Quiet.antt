@@ -1,6 +1,6 @@
 -- A state in which no host is ready, and no turn, close or open is possible, is quiet; and finished, if no job is out.
-use Rattle.std.proofs.Common.{◌≡◌, ℕ, Bool, true, false, ◌&&◌, ◌||◌, not, List, [], ◌∷◌, length, map, replicate, refl, zero, suc}
-use Rattle.std.specs.Prelude.{◌==◌, Option, Some, None, slice_get, is_some}
+use Rattle.std.proofs.Common.{◌≡◌, ℕ, Bool, true, false, ◌&&◌, ◌||◌, not, List, [], ◌∷◌, length, map, replicate, refl, sym, ◌∙◌, zero, suc}
+use Rattle.std.specs.Prelude.{◌==◌, Option, Some, None, slice_get, is_some, is_none}
 use Rattle.std.specs.List.{list_any}
 use Rattle.std.specs.Option.{option_map_or}
 use Rattle.std.proofs.lemmas.List.{length-map, length-replicate}
@@ -12,13 +12,16 @@ use Rattle.pb_state.specs.declared.event.Event.{Event}
 use Rattle.pb_state.specs.declared.event.Event.TheVariants.{Open, Start, Send, Report as Reported, Turn, Close, Stop, Forks}
 use Rattle.pb_state.specs.declared.row.Running.{Running}
 use Rattle.pb_outcome.specs.declared.job.Report.{Report}
+use Rattle.pb_outcome.specs.Items.{next_item}
 use Rattle.pb_plan.specs.Plan.{PlayOf, PlanOf}
 use Rattle.pb_state.specs.Row.{HostRow}
 use Rattle.pb_state.specs.State.{State}
-use Rattle.pb_state.specs.Machine.{possible, ready, ready_in, is_ready, at_row, may_open, may_start_in, may_send_in, may_send_item, may_report_in, may_turn_in, may_close_in, has_room, has_send, is_ticket, is_out, awaits, stands_at, open_play}
+use Rattle.pb_state.specs.Machine.{possible, ready, ready_in, is_ready, at_row, may_open, may_start_in, may_send_in, may_send_item, may_report_in, may_turn_in, may_close_in, has_room, has_send, sends_running, is_ticket, is_next, is_out, awaits, awaits_running, item_of, item_at, stands_at, open_play}
 use Rattle.pb_state.specs.Run.{is_command, IsQuiet, IsFinished}
+use Rattle.pb_state.proofs.InOrder.{goes_on_at}
 use Rattle.pb_engine.specs.declared.choice.Choice.TheVariants.{Take}
 use Rattle.pb_engine.specs.Choice.{IsChoice, host_of}
+use Rattle.pb_engine.specs.Over.{IsUnfinished, AreUnfinished, IsGoing}
 
 or_left : (a b : Bool) → (a || b) ≡ false → a ≡ false
 or_left true b e = e
@@ -40,6 +43,14 @@ and_false : (a : Bool) → (a && false) ≡ false
 and_false true = refl
 and_false false = refl
 
+and_true : (a : Bool) → (a && true) ≡ a
+and_true true = refl
+and_true false = refl
+
+and_none : (a b : Bool) → a ≡ false → (a && b) ≡ false
+and_none true b e = cc
+and_none false b e = refl
+
 -- a test that implies one that no row passes fails at each
 none_at : (p q : HostRow → Bool) → ((row : HostRow) → q row ≡ false → p row ≡ false) → (rows : List HostRow) (h : ℕ) → has_some (map q rows) ≡ false → at_row p rows h ≡ false
 none_at p q imp [] h e = refl
@@ -56,11 +67,15 @@ none_starts_in : (s : State) (h : ℕ) (found : Option PlayOf) → has_some (opt
 none_starts_in s h None e = refl
 none_starts_in s h (Some play) e = none_starts s play h (has_room s) refl e
 
+unsent : (item : ℕ) (running : Option Running) → option_map_or (λ (r : Running). is_none r.out) running false ≡ false → option_map_or (sends_running item) running false ≡ false
+unsent item None e = refl
+unsent item (Some r) e = and_none (is_none r.out) (is_next item r) e
+
 none_sends : (s : State) (play : PlayOf) (h item : ℕ) (stopped : Bool) → s.stopped ≡ stopped → has_some (ready_in s play) ≡ false → (not stopped && at_row (may_send_item item) s.rows h) ≡ false
 none_sends s play h item true st e = refl
 none_sends s play h item false st e =
     none_at (may_send_item item) (is_ready (not s.stopped) (has_room s) s.place)
-    (λ row q. let free : (true && has_send row) ≡ false = rw st at (or_left (not s.stopped && has_send row) (has_room s && stands_at s.place row) q) in rw free (and_false (item == 0))) s.rows h e
+    (λ row q. let free : (true && has_send row) ≡ false = rw st at (or_left (not s.stopped && has_send row) (has_room s && stands_at s.place row) q) in unsent item row.running free) s.rows h e
 
 no_send : (a b c : Bool) → (a && c) ≡ false → (a && b && c) ≡ false
 no_send false b c e = refl
@@ -91,9 +106,9 @@ no_ticket : (ticket : Ticket) (out : Option Ticket) → is_some out ≡ false �
 no_ticket ticket None e = refl
 no_ticket ticket (Some t) e = cc
 
-none_awaits : (ticket : Ticket) (item : ℕ) (running : Option Running) → option_map_or (λ (r : Running). is_some r.out) running false ≡ false → ((item == 0) && option_map_or (λ (r : Running). is_ticket ticket r.out) running false) ≡ false
-none_awaits ticket item None e = and_false (item == 0)
-none_awaits ticket item (Some r) e = rw (no_ticket ticket r.out e) (and_false (item == 0))
+none_awaits : (ticket : Ticket) (item : ℕ) (running : Option Running) → option_map_or (λ (r : Running). is_some r.out) running false ≡ false → option_map_or (awaits_running ticket item) running false ≡ false
+none_awaits ticket item None e = refl
+none_awaits ticket item (Some r) e = and_none (is_ticket ticket r.out) (is_next item r) (no_ticket ticket r.out e)
 
 none_reports : (s : State) (r : Report) (found : Option PlayOf) → list_any is_out s.rows ≡ false → option_map_or (may_report_in s r) found false ≡ false
 none_reports s r None e = refl
@@ -137,28 +152,56 @@ starts_at sends room send start [] h e f = cc
 starts_at sends room send start (row ∷ rows) zero e f = either sends (send row) (room && start row) e f
 starts_at sends room send start (row ∷ rows) (suc h) e f = starts_at sends room send start rows h e f
 
-first_item : (rows : List HostRow) (h : ℕ) → at_row (may_send_item 0) rows h ≡ at_row has_send rows h
-first_item [] h = refl
-first_item (row ∷ rows) zero = refl
-first_item (row ∷ rows) (suc h) = first_item rows h
+-- the next item is the one that is sent, or that is out
+pub next_alone : (test : Bool) (next : Option ℕ) (item : ℕ) → next ≡ Some item → (test && option_map_or (λ n. n == item) next false) ≡ test
+next_alone test None item e = cc
+next_alone test (Some n) item e = let same : n ≡ item = cc in rw (eq-eqb n item same) (and_true test)
+
+sends_its : (item : ℕ) (running : Option Running) → option_map_or (λ (r : Running). next_item r.items) running None ≡ Some item → option_map_or (sends_running item) running false ≡ option_map_or (λ (r : Running). is_none r.out) running false
+sends_its item None e = refl
+sends_its item (Some r) e = next_alone (is_none r.out) (next_item r.items) item e
+
+sends_at : (item : ℕ) (found : Option HostRow) → option_map_or item_of found None ≡ Some item → option_map_or (may_send_item item) found false ≡ option_map_or has_send found false
+sends_at item None e = refl
+sends_at item (Some row) e = sends_its item row.running e
+
+-- where there is none, no task runs
+no_item : (running : Option Running) → IsUnfinished running → option_map_or (λ (r : Running). next_item r.items) running None ≡ None → option_map_or (λ (r : Running). is_none r.out) running false ≡ false
+no_item None going e = refl
+no_item (Some r) going e = let next = goes_on_at r.items going in absurd (let both : Some next.0 ≡ None = sym next.1 ∙ e in cc)
+
+no_item_at : (rows : List HostRow) (h : ℕ) → AreUnfinished rows → option_map_or item_of (slice_get rows h) None ≡ None → at_row has_send rows h ≡ false
+no_item_at [] h going e = refl
+no_item_at (row ∷ rows) zero going e = no_item row.running going.0 e
+no_item_at (row ∷ rows) (suc h) going e = no_item_at rows h going.1 e
 
 no_start : (a b c : Bool) → b ≡ true → (a && b && c) ≡ false → (a && c) ≡ false
 no_start true true c b e = e
 no_start true false c b e = cc
 no_start false b c d e = refl
 
-start_in : (s : State) (play : PlayOf) (h : ℕ) (ticket : Ticket) → ticket.0 ≡ s.sends → slice_get (ready_in s play) h ≡ Some true → may_send_in s h 0 ticket play ≡ false → may_start_in s h play ≡ true
-start_in s play h ticket t e f =
-    let unsent : (not s.stopped && at_row has_send s.rows h) ≡ false = rw (← first_item s.rows h) (no_start (not s.stopped) (ticket.0 == s.sends) (at_row (may_send_item 0) s.rows h) (eq-eqb ticket.0 s.sends t) f) in
-    starts_at (not s.stopped) (has_room s) has_send (stands_at s.place) s.rows h (some_at (is_ready (not s.stopped) (has_room s) s.place) s.rows h e) unsent
+start_unsent : (s : State) (play : PlayOf) (h : ℕ) → slice_get (ready_in s play) h ≡ Some true → (not s.stopped && at_row has_send s.rows h) ≡ false → may_start_in s h play ≡ true
+start_unsent s play h e f = starts_at (not s.stopped) (has_room s) has_send (stands_at s.place) s.rows h (some_at (is_ready (not s.stopped) (has_room s) s.place) s.rows h e) f
 
-ready_there : (s : State) (h : ℕ) (ticket : Ticket) (found : Option PlayOf) → ticket.0 ≡ s.sends → slice_get (option_map_or (ready_in s) found (replicate (length s.rows) false)) h ≡ Some true → option_map_or (may_send_in s h 0 ticket) found false ≡ false → option_map_or (may_start_in s h) found false ≡ true
-ready_there s h ticket None t e f = none_of (length s.rows) h e
-ready_there s h ticket (Some play) t e f = start_in s play h ticket t e f
+start_in : (s : State) (play : PlayOf) (h item : ℕ) (ticket : Ticket) → ticket.0 ≡ s.sends → item_at s h ≡ Some item → slice_get (ready_in s play) h ≡ Some true → may_send_in s h item ticket play ≡ false → may_start_in s h play ≡ true
+start_in s play h item ticket t is e f =
+    let free : (not s.stopped && at_row has_send s.rows h) ≡ false = rw (← sends_at item (slice_get s.rows h) is) (no_start (not s.stopped) (ticket.0 == s.sends) (at_row (may_send_item item) s.rows h) (eq-eqb ticket.0 s.sends t) f) in
+    start_unsent s play h e free
+
+ready_there : (s : State) (h item : ℕ) (ticket : Ticket) (found : Option PlayOf) → ticket.0 ≡ s.sends → item_at s h ≡ Some item → slice_get (option_map_or (ready_in s) found (replicate (length s.rows) false)) h ≡ Some true → option_map_or (may_send_in s h item ticket) found false ≡ false → option_map_or (may_start_in s h) found false ≡ true
+ready_there s h item ticket None t is e f = none_of (length s.rows) h e
+ready_there s h item ticket (Some play) t is e f = start_in s play h item ticket t is e f
+
+idle_there : (s : State) (h : ℕ) (found : Option PlayOf) → IsGoing s → item_at s h ≡ None → slice_get (option_map_or (ready_in s) found (replicate (length s.rows) false)) h ≡ Some true → option_map_or (may_start_in s h) found false ≡ true
+idle_there s h None going is e = none_of (length s.rows) h e
+idle_there s h (Some play) going is e = start_unsent s play h e (rw (no_item_at s.rows h going.tasks is) (and_false (not s.stopped)))
 
 -- a host that is ready and has no send may start
-pub ready_starts : (plan : PlanOf) (s : State) (h : ℕ) (ticket : Ticket) → ticket.0 ≡ s.sends → slice_get (ready plan s) h ≡ Some true → option_map_or (may_send_in s h 0 ticket) (open_play plan s) false ≡ false → option_map_or (may_start_in s h) (open_play plan s) false ≡ true
-ready_starts plan s h ticket t e f = ready_there s h ticket (open_play plan s) t e f
+pub ready_starts : (plan : PlanOf) (s : State) (h item : ℕ) (ticket : Ticket) → ticket.0 ≡ s.sends → item_at s h ≡ Some item → slice_get (ready plan s) h ≡ Some true → option_map_or (may_send_in s h item ticket) (open_play plan s) false ≡ false → option_map_or (may_start_in s h) (open_play plan s) false ≡ true
+ready_starts plan s h item ticket t is e f = ready_there s h item ticket (open_play plan s) t is e f
+
+pub idle_starts : (plan : PlanOf) (s : State) (h : ℕ) → IsGoing s → item_at s h ≡ None → slice_get (ready plan s) h ≡ Some true → option_map_or (may_start_in s h) (open_play plan s) false ≡ true
+idle_starts plan s h going is e = idle_there s h (open_play plan s) going is e
 
 length_of : (s : State) (found : Option PlayOf) → length (option_map_or (ready_in s) found (replicate (length s.rows) false)) ≡ length s.rows
 length_of s None = length-replicate (length s.rows) false

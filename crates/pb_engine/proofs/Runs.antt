@@ -41,5 +41,5 @@ pub once_in_run : (plan : PlanOf) (pool : ℕ) (trail : List Event) (s : State) 
 once_in_run plan pool trail s run = run_once plan pool trail s run
 
 -- a set of a plan's hosts is as wide as its first state has rows
-pub first_width : (plan : PlanOf) (pool forks width : ℕ) (ready : List Bool) (s : State) → ready ≡ replicate width false → width ≡ length plan.hosts → s ≡ first_state plan forks pool → length ready ≡ length s.rows
-first_width plan pool forks width ready s r w f = rw (r, f) (length-replicate width false ∙ w ∙ sym (length-first 0 (length plan.hosts)))
+pub first_width : (plan : PlanOf) (pool forks width : ℕ) (ready : List Bool) (s : State) → ready ≡ replicate width false → width ≡ length plan.inventory.hosts → s ≡ first_state plan forks pool → length ready ≡ length s.rows
+first_width plan pool forks width ready s r w f = rw (r, f) (length-replicate width false ∙ w ∙ sym (length-first 0 (length plan.inventory.hosts)))

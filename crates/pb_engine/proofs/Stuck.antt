@@ -13,7 +13,7 @@ use Rattle.pb_state.specs.declared.row.Running.{Running}
 use Rattle.pb_plan.specs.Plan.{PlayOf, PlanOf}
 use Rattle.pb_state.specs.Row.{HostRow, joined}
 use Rattle.pb_state.specs.State.{State}
-use Rattle.pb_state.specs.Machine.{possible, after, at_row, ready, ready_in, is_running, is_out, has_send, is_ticket, may_send_item, awaits, may_open, may_send_in, may_report_in, may_turn_in, may_close_in, has_room, has_hosts, first_play, next_play, stands_at, least_place, open_play, opened_in, opened_at, started_in, start_at, sent_in, reported_in, turned_in, first_state}
+use Rattle.pb_state.specs.Machine.{possible, after, at_row, ready, ready_in, is_running, is_out, has_send, sends_running, may_send_item, awaits_running, awaits, may_open, may_send_in, may_report_in, may_turn_in, may_close_in, has_room, has_hosts, first_play, next_play, stands_at, least_place, open_play, opened_in, opened_at, started_in, start_at, sent_in, reported_in, turned_in, first_state}
 use Rattle.pb_state.specs.Run.{legal_from, state_from, IsRun}
 use Rattle.pb_engine.specs.Over.{IsOver, IsPlaced, IsPlacedIn}
 
@@ -50,12 +50,12 @@ and_false : (a : Bool) → (a && false) ≡ false
 and_false true = refl
 and_false false = refl
 
-idle_sends : (item : ℕ) (running : Option Running) → is_some running ≡ false → ((item == 0) && option_map_or (λ (r : Running). is_none r.out) running false) ≡ false
-idle_sends item None e = and_false (item == 0)
+idle_sends : (item : ℕ) (running : Option Running) → is_some running ≡ false → option_map_or (sends_running item) running false ≡ false
+idle_sends item None e = refl
 idle_sends item (Some r) e = cc
 
-idle_awaits : (item : ℕ) (ticket : Ticket) (running : Option Running) → is_some running ≡ false → ((item == 0) && option_map_or (λ (r : Running). is_ticket ticket r.out) running false) ≡ false
-idle_awaits item ticket None e = and_false (item == 0)
+idle_awaits : (item : ℕ) (ticket : Ticket) (running : Option Running) → is_some running ≡ false → option_map_or (awaits_running ticket item) running false ≡ false
+idle_awaits item ticket None e = refl
 idle_awaits item ticket (Some r) e = cc
 
 -- each event keeps it that an open batch has its play, and its least place where no host runs

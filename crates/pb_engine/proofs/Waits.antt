@@ -1,15 +1,17 @@
 -- Jobs that are out in a run.
 use Rattle.std.proofs.Common.{◌≡◌, ℕ, zero, suc, ◌<◌, ◌≤◌, Bool, true, false, ◌&&◌, ◌||◌, not, List, [], ◌∷◌, length, refl, ◌∙◌, ap, subst, arith}
-use Rattle.std.specs.Prelude.{◌==◌, nat_lt, Option, Some, None, slice_get, is_some, is_none, option_map, if◌then◌else◌}
+use Rattle.std.specs.Prelude.{◌==◌, Option, Some, None, slice_get, is_some, option_map, if◌then◌else◌}
 use Rattle.std.specs.List.{list_any}
 use Rattle.std.specs.Option.{option_map_or}
 use Rattle.std.proofs.lemmas.Bool.{lt-ltb, eqb-true}
 use Rattle.std.proofs.lemmas.Option.{slice_get_within}
 use Rattle.pb_ids.specs.declared.numbers.HostNo.{HostNo}
 use Rattle.pb_ids.specs.declared.numbers.Ticket.{Ticket}
+use Rattle.pb_outcome.specs.declared.job.Call.{Call}
 use Rattle.pb_outcome.specs.declared.job.Job.{Job}
 use Rattle.pb_outcome.specs.declared.job.Report.{Report}
 use Rattle.pb_outcome.specs.declared.outcome.Form.{Form}
+use Rattle.pb_outcome.specs.Items.{next_item}
 use Rattle.pb_tree.specs.Tree.{TreeOf, paths, path_at, size_of}
 use Rattle.pb_tree.proofs.Paths.{length_paths}
 use Rattle.pb_state.specs.declared.event.Event.{Event}
@@ -18,13 +20,15 @@ use Rattle.pb_state.specs.declared.row.Running.{Running}
 use Rattle.pb_plan.specs.Plan.{PlayOf, PlanOf}
 use Rattle.pb_state.specs.Row.{HostRow}
 use Rattle.pb_state.specs.State.{State}
-use Rattle.pb_state.specs.Machine.{possible, at_row, awaits, has_ticket, is_ticket, is_running, open_play, may_report_in, may_send_in, may_send_item, has_send}
+use Rattle.pb_state.specs.Machine.{possible, at_row, awaits, awaits_running, has_ticket, is_ticket, is_running, item_of, item_at, open_play, may_report_in, may_send_in, may_send_item, sends_running}
 use Rattle.pb_variables.specs.Connector.{connector_of}
-use Rattle.pb_state.specs.Jobs.{job_of, job_in, row_job, placed_job, named_job, job_with}
+use Rattle.pb_state.specs.Jobs.{job_of, job_in, row_job, running_job, item_job, placed_job, call_in, job_with}
 use Rattle.pb_state.specs.Oldest.{oldest_out}
 use Rattle.pb_state.specs.Run.{is_move, IsRun}
+use Rattle.pb_state.proofs.InOrder.{goes_on_at, has_call}
 use Rattle.pb_state.proofs.OldestOut.{oldest_is_out}
 use Rattle.pb_engine.proofs.Held.{IsHeld, IsHeldTask, IsOutBelow, AreHeld, places_in, held_run}
+use Rattle.pb_engine.proofs.Quiet.{next_alone}
 use Rattle.pb_engine.specs.declared.refusal.Refusal.TheVariants.{UnknownTicket, AlreadyReported, WrongItem}
 use Rattle.pb_engine.specs.declared.engine.Next.TheVariants.{Sent, Moved}
 use Rattle.pb_engine.specs.Refusals.{refusal_of, is_sent, is_waited_for, fits}
@@ -82,9 +86,9 @@ taken_of true true false e = cc
 taken_of true false fit e = cc
 taken_of false waits fit e = cc
 
-row_runs : (item : ℕ) (test : Running → Bool) (running : Option Running) → ((item == 0) && option_map_or test running false) ≡ true → is_some running ≡ true
-row_runs item test None e = and_right (item == 0) false e
-row_runs item test (Some r) e = refl
+row_runs : (test : Running → Bool) (running : Option Running) → option_map_or test running false ≡ true → is_some running ≡ true
+row_runs test None e = cc
+row_runs test (Some r) e = refl
 
 at_runs : (test : HostRow → Bool) → ((row : HostRow) → test row ≡ true → is_running row ≡ true) → (rows : List HostRow) (h : ℕ) → at_row test rows h ≡ true → at_row is_running rows h ≡ true
 at_runs test runs [] h e = cc
@@ -92,7 +96,7 @@ at_runs test runs (row ∷ rows) zero e = runs row e
 at_runs test runs (row ∷ rows) (suc h) e = at_runs test runs rows h e
 
 fits_runs : (s : State) (r : Report) → fits s r ≡ true → at_row is_running s.rows r.host.0 ≡ true
-fits_runs s r e = at_runs (awaits r.ticket r.item) (λ row f. row_runs r.item (λ (t : Running). is_ticket r.ticket t.out) row.running f) s.rows r.host.0 e
+fits_runs s r e = at_runs (awaits r.ticket r.item) (λ row f. row_runs (awaits_running r.ticket r.item) row.running f) s.rows r.host.0 e
 
 -- a task that runs is at a place
 placed_running : (size sends : ℕ) (running : Option Running) → is_some running ≡ true → IsHeldTask size sends running → 0 < size
@@ -122,25 +126,39 @@ row_within test [] h e = cc
 row_within test (row ∷ rows) zero e = omega arith
 row_within test (row ∷ rows) (suc h) e = let rest = row_within test rows h e in omega (arith, rest)
 
-named_some : (plan : PlanOf) (number : ℕ) (host : HostNo) (ticket : Ticket) (r : Running) (path : Option (List ℕ)) (name : Option (List ℕ)) → is_some path ≡ true → is_some name ≡ true → is_some (option_map_or (λ (p : List ℕ). option_map (λ (n : List ℕ). job_with number host ticket r n (connector_of plan.inventory host.0) p) name) path None) ≡ true
-named_some plan number host ticket r None name e f = cc
-named_some plan number host ticket r (Some path) None e f = cc
-named_some plan number host ticket r (Some path) (Some name) e f = refl
+named_some : (plan : PlanOf) (number : ℕ) (host : HostNo) (ticket : Ticket) (item : ℕ) (call : Call) (path : Option (List ℕ)) (name : Option (List ℕ)) → is_some path ≡ true → is_some name ≡ true → is_some (option_map_or (λ (p : List ℕ). option_map (λ (n : List ℕ). job_with number host ticket item call n (connector_of plan.inventory host.0) p) name) path None) ≡ true
+named_some plan number host ticket item call None name e f = cc
+named_some plan number host ticket item call (Some path) None e f = cc
+named_some plan number host ticket item call (Some path) (Some name) e f = refl
 
 path_some : (tree : TreeOf) (p : ℕ) → p < size_of tree → is_some (path_at tree p) ≡ true
 path_some tree p b = get_some (paths tree) p (rw (length_paths tree.handlers tree.nodes) b)
 
-task_job : (plan : PlanOf) (number sends : ℕ) (host : HostNo) (ticket : Ticket) (play : PlayOf) (running : Option Running) → host.0 < length plan.hosts → is_some running ≡ true → IsHeldTask (size_of play.tree) sends running → is_some (option_map_or (placed_job plan number host ticket play) running None) ≡ true
+-- the job of an item that has a call
+call_job : (plan : PlanOf) (number : ℕ) (host : HostNo) (ticket : Ticket) (play : PlayOf) (r : Running) (n : ℕ) (call : Call) (found : Option Call) → host.0 < length plan.inventory.hosts → r.place < size_of play.tree → found ≡ Some call → is_some (option_map_or (placed_job plan number host ticket play r.place n) found None) ≡ true
+call_job plan number host ticket play r n call None b below e = cc
+call_job plan number host ticket play r n call (Some c) b below e =
+    named_some plan number host ticket n c (path_at play.tree r.place) (slice_get plan.inventory.hosts host.0) (path_some play.tree r.place below) (get_some plan.inventory.hosts host.0 b)
+
+next_job : (plan : PlanOf) (number : ℕ) (host : HostNo) (ticket : Ticket) (play : PlayOf) (r : Running) (n : ℕ) (call : Call) (next : Option ℕ) → host.0 < length plan.inventory.hosts → r.place < size_of play.tree → next ≡ Some n → call_in r.items n ≡ Some call → is_some (option_map_or (item_job plan number host ticket play r) next None) ≡ true
+next_job plan number host ticket play r n call None b below e f = cc
+next_job plan number host ticket play r n call (Some m) b below e f =
+    let same : m ≡ n = cc in
+    call_job plan number host ticket play r m call (call_in r.items m) b below (ap (call_in r.items) same ∙ f)
+
+task_job : (plan : PlanOf) (number sends : ℕ) (host : HostNo) (ticket : Ticket) (play : PlayOf) (running : Option Running) → host.0 < length plan.inventory.hosts → is_some running ≡ true → IsHeldTask (size_of play.tree) sends running → is_some (option_map_or (running_job plan number host ticket play) running None) ≡ true
 task_job plan number sends host ticket play None b e held = cc
 task_job plan number sends host ticket play (Some r) b e held =
-    named_some plan number host ticket r (path_at play.tree r.place) (slice_get plan.hosts host.0) (path_some play.tree r.place held.0) (get_some plan.hosts host.0 b)
+    let next = goes_on_at r.items held.2 in
+    let sent = has_call r.items next.0 next.1 in
+    next_job plan number host ticket play r next.0 sent.0 (next_item r.items) b held.0 next.1 sent.1
 
-row_has_job : (plan : PlanOf) (number sends : ℕ) (host : HostNo) (ticket : Ticket) (play : PlayOf) (rows : List HostRow) (h : ℕ) → host.0 < length plan.hosts → at_row is_running rows h ≡ true → AreHeld (size_of play.tree) sends rows → is_some (option_map_or (row_job plan number host ticket play) (slice_get rows h) None) ≡ true
+row_has_job : (plan : PlanOf) (number sends : ℕ) (host : HostNo) (ticket : Ticket) (play : PlayOf) (rows : List HostRow) (h : ℕ) → host.0 < length plan.inventory.hosts → at_row is_running rows h ≡ true → AreHeld (size_of play.tree) sends rows → is_some (option_map_or (row_job plan number host ticket play) (slice_get rows h) None) ≡ true
 row_has_job plan number sends host ticket play [] h b e held = cc
 row_has_job plan number sends host ticket play (row ∷ rows) zero b e held = task_job plan number sends host ticket play row.running b e held.0
 row_has_job plan number sends host ticket play (row ∷ rows) (suc h) b e held = row_has_job plan number sends host ticket play rows h b e held.1
 
-job_found : (plan : PlanOf) (s : State) (host : HostNo) (ticket : Ticket) (found : Option PlayOf) → host.0 < length plan.hosts → at_row is_running s.rows host.0 ≡ true → AreHeld (places_in found) s.sends s.rows → is_some (option_map_or (job_in plan s host ticket) found None) ≡ true
+job_found : (plan : PlanOf) (s : State) (host : HostNo) (ticket : Ticket) (found : Option PlayOf) → host.0 < length plan.inventory.hosts → at_row is_running s.rows host.0 ≡ true → AreHeld (places_in found) s.sends s.rows → is_some (option_map_or (job_in plan s host ticket) found None) ≡ true
 job_found plan s host ticket None b e held = absurd (let some = placed_row 0 s.sends s.rows host.0 e held in omega (arith, some))
 job_found plan s host ticket (Some play) b e held = row_has_job plan s.play s.sends host ticket play s.rows host.0 b e held
 
@@ -151,7 +169,7 @@ runs_job plan s host ticket held e =
 
 send_runs : (s : State) (h item : ℕ) (ticket : Ticket) (found : Option PlayOf) → option_map_or (may_send_in s h item ticket) found false ≡ true → at_row is_running s.rows h ≡ true
 send_runs s h item ticket None e = cc
-send_runs s h item ticket (Some play) e = at_runs (may_send_item item) (λ row f. row_runs item (λ (r : Running). is_none r.out) row.running f) s.rows h (and_right (not s.stopped && (ticket.0 == s.sends)) _ e)
+send_runs s h item ticket (Some play) e = at_runs (may_send_item item) (λ row f. row_runs (sends_running item) row.running f) s.rows h (and_right (not s.stopped && (ticket.0 == s.sends)) _ e)
 
 -- a job that can go out is there
 pub send_job : (plan : PlanOf) (s : State) (host : HostNo) (item : ℕ) (ticket : Ticket) → IsHeld plan s → option_map_or (may_send_in s host.0 item ticket) (open_play plan s) false ≡ true → is_some (job_of plan s host ticket) ≡ true
@@ -181,17 +199,20 @@ all_true true true false a b c = cc
 all_true true false fit a b c = cc
 all_true false waits fit a b c = cc
 
-at_first : (ticket : Ticket) (rows : List HostRow) (h : ℕ) → at_row (awaits ticket 0) rows h ≡ at_row (has_ticket ticket) rows h
-at_first ticket [] h = refl
-at_first ticket (row ∷ rows) zero = refl
-at_first ticket (row ∷ rows) (suc h) = at_first ticket rows h
+awaits_its : (ticket : Ticket) (item : ℕ) (running : Option Running) → option_map_or (λ (r : Running). next_item r.items) running None ≡ Some item → option_map_or (awaits_running ticket item) running false ≡ option_map_or (λ (r : Running). is_ticket ticket r.out) running false
+awaits_its ticket item None e = refl
+awaits_its ticket item (Some r) e = next_alone (is_ticket ticket r.out) (next_item r.items) item e
 
--- and whose report is taken
-pub oldest_taken : (plan : PlanOf) (s : State) (r : Report) → IsHeld plan s → oldest_out s.rows ≡ Some (r.host, r.ticket) → r.item ≡ 0 → refusal_of s r ≡ None
-oldest_taken plan s r held e first =
+awaits_at : (ticket : Ticket) (item : ℕ) (found : Option HostRow) → option_map_or item_of found None ≡ Some item → option_map_or (awaits ticket item) found false ≡ option_map_or (has_ticket ticket) found false
+awaits_at ticket item None e = refl
+awaits_at ticket item (Some row) e = awaits_its ticket item row.running e
+
+-- and whose report is taken, if it is of the host's next item
+pub oldest_taken : (plan : PlanOf) (s : State) (r : Report) → IsHeld plan s → oldest_out s.rows ≡ Some (r.host, r.ticket) → item_at s r.host.0 ≡ Some r.item → refusal_of s r ≡ None
+oldest_taken plan s r held e next =
     let out = oldest_is_out s.rows (r.host, r.ticket) e in
     let waits = any_at (has_ticket r.ticket) s.rows r.host.0 out in
-    all_true (is_sent s r) (is_waited_for s r) (fits s r) (lt-ltb r.ticket.0 s.sends (waits_sent plan s r.ticket held waits)) waits (rw first (at_first r.ticket s.rows r.host.0 ∙ out))
+    all_true (is_sent s r) (is_waited_for s r) (fits s r) (lt-ltb r.ticket.0 s.sends (waits_sent plan s r.ticket held waits)) waits (awaits_at r.ticket r.item (slice_get s.rows r.host.0) next ∙ out)
 
 -- of a run
 pub report_in_run : (plan : PlanOf) (pool : ℕ) (trail : List Event) (s : State) (r : Report) → IsRun plan pool trail s → refusal_of s r ≡ None → option_map_or (may_report_in s r) (open_play plan s) false ≡ true
@@ -218,8 +239,8 @@ answered plan s (Forks n) held may m = cc
 pub answered_in_run : (plan : PlanOf) (pool : ℕ) (trail : List Event) (s : State) (e : Event) → IsRun plan pool trail s → possible plan s e ≡ true → is_move e ≡ true → answer_of plan s e ≡ None → ⊥
 answered_in_run plan pool trail s e run may m none = let some = answered plan s e (held_run plan pool trail s run) may m in let no : is_some (answer_of plan s e) ≡ false = ap is_some none in cc
 
-pub oldest_in_run : (plan : PlanOf) (pool : ℕ) (trail : List Event) (s : State) (r : Report) → IsRun plan pool trail s → oldest_out s.rows ≡ Some (r.host, r.ticket) → r.item ≡ 0 → refusal_of s r ≡ None
-oldest_in_run plan pool trail s r run e first = oldest_taken plan s r (held_run plan pool trail s run) e first
+pub oldest_in_run : (plan : PlanOf) (pool : ℕ) (trail : List Event) (s : State) (r : Report) → IsRun plan pool trail s → oldest_out s.rows ≡ Some (r.host, r.ticket) → item_at s r.host.0 ≡ Some r.item → refusal_of s r ≡ None
+oldest_in_run plan pool trail s r run e next = oldest_taken plan s r (held_run plan pool trail s run) e next
 
 pub job_in_run : (plan : PlanOf) (pool : ℕ) (trail : List Event) (s : State) (p : HostNo × Ticket) → IsRun plan pool trail s → oldest_out s.rows ≡ Some p → job_of plan s p.0 p.1 ≡ None → ⊥
 job_in_run plan pool trail s p run e none = let some = oldest_job plan s p (held_run plan pool trail s run) e in let no : is_some (job_of plan s p.0 p.1) ≡ false = ap is_some none in cc

@@ -1,7 +1,10 @@
 -- A run is never stuck: where nothing is possible, it was stopped or ended early, or no batch is open and none is left to open.
-use Rattle.std.specs.Prelude.{◌≡◌, ◌⊎◌, Bool, true, false, drop, Option, Some, None}
+use Rattle.std.specs.Prelude.{◌≡◌, ◌⊎◌, Bool, true, false, List, [], ◌∷◌, drop, Option, Some, None}
 use Rattle.std.specs.List.{list_any}
+use Rattle.pb_outcome.specs.Items.{is_over}
 use Rattle.pb_plan.specs.Plan.{PlayOf, PlanOf}
+use Rattle.pb_state.specs.declared.row.Running.{Running}
+use Rattle.pb_state.specs.Row.{HostRow}
 use Rattle.pb_state.specs.State.{State}
 use Rattle.pb_state.specs.Machine.{has_hosts, is_running, least_place, open_play}
 
@@ -19,3 +22,15 @@ IsPlacedIn s (Some play) = s.place ≡ None → (least_place s.rows ≡ None) ×
 
 abbrev pub IsPlaced : PlanOf → State → Type 0
 IsPlaced plan s = IsPlacedIn s (open_play plan s)
+
+-- a task that a host runs isn't over: its next item is to be sent, or to come back
+abbrev pub IsUnfinished : Option Running → Type 0
+IsUnfinished None = Unit {0}
+IsUnfinished (Some r) = is_over r.items ≡ false
+
+abbrev pub AreUnfinished : List HostRow → Type 0
+AreUnfinished [] = Unit {0}
+AreUnfinished (row ∷ rows) = IsUnfinished row.running × AreUnfinished rows
+
+pub record IsGoing (s : State) : Type 0 where
+  pub tasks : AreUnfinished s.rows

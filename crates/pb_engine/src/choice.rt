@@ -3,7 +3,7 @@
 ghost use Rattle.std.specs.Prelude.{◌≡◌, length, slice_get, Some, true};
 ghost use Rattle.pb_state.specs.Machine.{possible, ready};
 ghost use Rattle.pb_engine.specs.Choice.{IsChoice, host_of};
-ghost use Rattle.pb_engine.specs.Over.{IsPlaced};
+ghost use Rattle.pb_engine.specs.Over.{IsPlaced, IsGoing};
 
 use crate::picker::Picker;
 use pb_ids::{HostNo, Ticket};
@@ -32,6 +32,7 @@ pub fn choose<P: Picker>(
 ) -> Choice
     requires width { length ready.old ≡ length state.now.rows }
     requires placed { IsPlaced plan.now state.now }
+    requires going { IsGoing state.now }
     ensures choice { IsChoice plan.now state.now P.picks picker.old picker.new result }
     ensures width { length ready.new ≡ length state.now.rows }
 {
@@ -56,20 +57,23 @@ pub fn choose<P: Picker>(
     }
 }
 
-/// What a host that is ready does: it sends its job if it has one to send, else it starts.
-#[tactic(auto, using(crate::proofs::Quiet::ready_starts))]
+/// What a host that is ready does: it sends the job of its next item if it has one to send, else it starts.
+#[tactic(auto, using(crate::proofs::Quiet::ready_starts, crate::proofs::Quiet::idle_starts))]
 fn event_of(plan: &Plan, state: &EngineState, host: HostNo) -> Event
-    requires { slice_get (ready plan.now state.now) host.0 ≡ Some true }
+    requires going { IsGoing state.now }
+    requires ready { slice_get (ready plan.now state.now) host.0 ≡ Some true }
     ensures possible { possible plan.now state.now result ≡ true }
     ensures host { host_of result ≡ Some host }
 {
     let ticket = Ticket(state.sends());
-    if state.may_send(plan, host, 0, ticket) {
-        return Event::Send {
-            host,
-            item: 0,
-            ticket,
-        };
+    match state.item(host) {
+        Some(item) => {
+            if state.may_send(plan, host, item, ticket) {
+                Event::Send { host, item, ticket }
+            } else {
+                Event::Start(host)
+            }
+        }
+        None => Event::Start(host),
     }
-    Event::Start(host)
 }

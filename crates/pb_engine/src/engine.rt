@@ -200,7 +200,7 @@ impl Engine {
     ghost use Rattle.pb_state.specs.Run.{is_move};
 
     /// What to take next.
-    #[tactic(auto, using(crate::proofs::Stuck::placed_run))]
+    #[tactic(auto, using(crate::proofs::Stuck::placed_run, crate::proofs::Held::going_run))]
     fn choose<P: Picker>(&mut self, picker: &mut P) -> Choice
         ensures choice { IsChoice self.old.plan self.old.state P.picks picker.old picker.new result }
         ensures same { self.new ≡ self.old }

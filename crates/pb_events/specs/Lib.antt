@@ -1,3 +1,4 @@
+pub mod Items
 pub mod Line
 pub mod Batch
 pub mod Lines

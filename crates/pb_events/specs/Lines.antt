@@ -13,6 +13,7 @@ use Rattle.pb_plan.specs.Plan.{PlayOf, PlanOf}
 use Rattle.pb_state.specs.State.{State}
 use Rattle.pb_events.specs.Line.{line, at_host, at_end}
 use Rattle.pb_events.specs.Batch.{batch_names}
+use Rattle.pb_events.specs.Items.{item_lines}
 
 -- before all events: how many plays there are
 abbrev pub start_line : ℕ → List ℕ
@@ -63,9 +64,10 @@ abbrev pub start_text : Bool → Bool → List ℕ → List ℕ → List ℕ →
 start_text true is_new host name place play = (if is_new then task_start name place play else []) ++ host_start host place play
 start_text false is_new host name place play = []
 
--- of a task with this name at this place, which the host started or which a report was for
+-- of a task with this name at this place, which the host started or which a report was for: the items of a loop come before the task's own end
 abbrev pub task_text : Bool → ℕ → Decided → List ℕ → List ℕ → List ℕ → List ℕ
-task_text starts play decided host name place = start_text starts decided.is_new host name place play ++ done_text host place play decided.done
+task_text starts play decided host name place =
+    start_text starts decided.is_new host name place play ++ item_lines host place play decided.items ++ done_text host place play decided.done
 
 abbrev pub task_lines : Bool → ℕ → Decided → List ℕ → List ℕ → List ℕ → List ℕ
 task_lines starts play decided host name path = task_text starts play decided host name (dotted path)
@@ -80,7 +82,7 @@ for_host starts play number decided host = option_map_or (of_place starts play n
 
 -- of the host with this number, in a play, and of what was decided for it
 abbrev pub in_play : Bool → PlanOf → State → ℕ → PlayOf → Decided → List ℕ
-in_play starts plan s h play decided = option_map_or (for_host starts play s.play decided) (slice_get plan.hosts h) []
+in_play starts plan s h play decided = option_map_or (for_host starts play s.play decided) (slice_get plan.inventory.hosts h) []
 
 abbrev pub told_in : Bool → PlanOf → State → ℕ → PlayOf → List ℕ
 told_in starts plan s h play = option_map_or (in_play starts plan s h play) s.decided []
@@ -89,7 +91,7 @@ abbrev pub told_of : Bool → PlanOf → State → ℕ → List ℕ
 told_of starts plan s h = option_map_or (told_in starts plan s h) (slice_get plan.plays s.play) []
 
 abbrev pub opened_in : PlanOf → State → PlayOf → List ℕ
-opened_in plan s play = play_start s.play play.name (map text (batch_names plan.hosts s.rows))
+opened_in plan s play = play_start s.play play.name (map text (batch_names plan.inventory.hosts s.rows))
 
 -- other events have no lines
 abbrev pub lines_of : PlanOf → State → Event → List ℕ

@@ -12,7 +12,7 @@ use std::alloc::{AllocError, Global};
 
 /// The names of the hosts in the batch, in the order of hosts.
 pub fn batch_names(alloc: Global, plan: &Plan, state: &EngineState) -> Result<ValList, AllocError>
-    ensures { IfOk result (λ names. names ≡ map text (batch_names plan.now.hosts state.now.rows)) }
+    ensures { IfOk result (λ names. names ≡ map text (batch_names plan.now.inventory.hosts state.now.rows)) }
 {
     let mut names = ValList::from_vec(Vec::new(alloc));
     for host in 0..plan.host_count() {

@@ -7,6 +7,7 @@
 
 mod batch;
 mod end;
+mod item;
 mod line;
 mod lines;
 

@@ -8,6 +8,7 @@ ghost use Rattle.pb_events.specs.Lines.{start_line, play_start, task_start, host
 
 use crate::batch::batch_names;
 use crate::end::done_text;
+use crate::item::item_lines;
 use crate::line::{at_host, at_place, line, put_text};
 use pb_ids::HostNo;
 use pb_places::Place;
@@ -34,8 +35,9 @@ fn start_members(alloc: Global, plays: u32) -> Result<Dict, AllocError>
 }
 
 /// The lines of an event that led to a state: where a batch opens, the play and the hosts; where a host starts a task, the
-/// task, if the host is the first to start there, the host's start, and the task's result, if it ended at once; where a
-/// report ends a task, the task's result. Other events have none.
+/// task, if the host is the first to start there, the host's start, the items of a loop that ended at once, and the task's
+/// result, if it ended; where a report comes, the item of the loop that it ends, and the task's result, if that ended. Other
+/// events have none.
 pub fn lines_of(
     alloc: Global,
     plan: &Plan,
@@ -145,7 +147,7 @@ fn in_play(
 /// The name of a host, if there is one with this number.
 #[tactic(auto, using(crate::proofs::Plays::past))]
 fn name_of(plan: &Plan, host: HostNo) -> Option<&str>
-    ensures { option_copied result ≡ slice_get plan.now.hosts host.0 }
+    ensures { option_copied result ≡ slice_get plan.now.inventory.hosts host.0 }
 {
     if host.0 < plan.host_count() {
         Some(plan.host_name(host))
@@ -193,7 +195,7 @@ fn of_place(
     }
 }
 
-/// The lines of a task: its start, if it starts, and its end, if it ended.
+/// The lines of a task: its start, if it starts, the items of a loop that ended, and its end, if it ended.
 fn task_lines(
     alloc: Global,
     starts: bool,
@@ -206,6 +208,8 @@ fn task_lines(
     ensures { IfOk result (λ bytes. bytes.items ≡ task_text starts play decided.now host.now name.now place.now) }
 {
     let mut lines = start_text(alloc, starts, decided.is_new, host, name, place, play)?;
+    let items = item_lines(alloc, host, place, play, decided.items.as_slice())?;
+    lines.extend_from_slice(items.as_slice())?;
     let end = done_text(alloc, host, place, play, &decided.done)?;
     lines.extend_from_slice(end.as_slice())?;
     Ok(lines)

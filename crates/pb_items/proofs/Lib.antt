@@ -1,0 +1,3 @@
+pub mod Few
+pub mod Listed
+pub mod Rendered

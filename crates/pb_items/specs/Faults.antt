@@ -1,4 +1,4 @@
--- Why an item can't be read: one fault for those of expressions and those of calls.
+-- Why an item can't be read: one fault for those of expressions, those of calls, and those of loops and delegates.
 use Rattle.std.specs.Prelude.{ℕ, List, Result, Ok, Err, codes}
 use Rattle.pb_operators.specs.declared.fault.EvalFault.{EvalFault}
 use Rattle.pb_expr_eval.specs.Messages.{message_of}
@@ -11,6 +11,9 @@ use Rattle.pb_items.specs.declared.fault.ItemFault.TheVariants as item
 abbrev pub said : ItemFault → List ℕ
 said (item.Eval fault) = message_of fault
 said (item.Call fault) = fault_message fault
+said item.LoopNotList = codes "loop is not a list"
+said item.TooManyItems = codes "too many items"
+said item.BadDelegate = codes "bad delegate"
 said item.Memory = codes "out of memory"
 
 -- what was read, where its fault is an item's

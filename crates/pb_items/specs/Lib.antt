@@ -1,4 +1,9 @@
 pub mod Faults
 pub mod Calls
+pub mod Results
+pub mod Facts
 pub mod Planning
+pub mod Loops
+pub mod Items
 pub mod Rows
+pub mod RowsItems

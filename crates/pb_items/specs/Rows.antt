@@ -1,9 +1,9 @@
 -- Worked examples: each is proved by computing both sides.
-use Rattle.std.specs.Prelude.{◌≡◌, ⊤, pos, List, [], ◌∷◌, codes, refl}
+use Rattle.std.specs.Prelude.{◌≡◌, ⊤, pos, true, false, List, [], ◌∷◌, Ok, codes, refl}
 use Rattle.std.specs.Char.{encode_utf8}
 use Rattle.std.specs.Fmt.{digits}
 use Rattle.std.specs.Str.{chars}
-use Rattle.pb_value.specs.Datum.{Datum, int, text, list, items_of}
+use Rattle.pb_value.specs.Datum.{Datum, int, text, list, dict, items_of, members_of}
 use Rattle.pb_layers.specs.Scope.{Map, layers}
 use Rattle.pb_expr_syntax.specs.Computed.{tree_of, tree_of_tokens}
 use Rattle.pb_expr_syntax.specs.Tree as tree
@@ -12,15 +12,16 @@ use Rattle.pb_template.specs.Computed.{template_of}
 use Rattle.pb_expr_eval.specs.Rendering.{measured}
 use Rattle.pb_expr_eval.specs.Scoped.{eval_of, rendered_of}
 use Rattle.pb_outcome.specs.Decided.{faulty_result, debug_result, shown_result, fail_result}
+use Rattle.pb_outcome.specs.Results.{facts_result}
 use Rattle.pb_outcome.specs.declared.job.Call.TheVariants as call
 use Rattle.pb_play.specs.declared.commands.CommandWords.TheVariants.{Line, Argv}
-use Rattle.pb_play.specs.declared.modules.Module.TheVariants.{Command, Debug, DebugVar, Fail, Shell}
-use Rattle.pb_items.specs.Planning.{planned_by}
-use Rattle.pb_items.specs.declared.planned.Planned.TheVariants.{Decided, Sends}
+use Rattle.pb_play.specs.declared.modules.Module.TheVariants.{Assert, Command, Debug, DebugVar, Fail, SetFact, Setup, Shell}
+use Rattle.pb_outcome.specs.declared.item.Planned.TheVariants.{Decided, Sends}
+use Rattle.pb_items.specs.Planning.{done_by, planned_by}
 
 -- what computes the values of templates and the words of texts
 unfoldable on_items : ⊤
-unfolding chars encode_utf8 digits template_of tree_of tree_of_tokens eval_of rendered_of measured planned_by
+unfolding chars encode_utf8 digits template_of tree_of tree_of_tokens eval_of rendered_of measured done_by planned_by
 on_items = tt
 
 -- a host where a play gives x this value
@@ -85,3 +86,40 @@ empty_argv = refl
 shell_is_rendered : planned_by (x_is (text (codes "a b"))) (Shell (codes "echo {{ x }}")) ≡ Sends (call.Shell (codes "echo a b"))
 unfolding on_items
 shell_is_rendered = refl
+
+-- all of its conditions hold, in order
+assert_goes_well : planned_by (x_is (int (pos 1))) (Assert (tree.Truth true ∷ tree.Name (codes "x") ∷ []) (text (codes "no")) (text (codes "x is {{ x }}"))) ≡ Decided (debug_result (text (codes "x is 1")))
+unfolding on_items
+assert_goes_well = refl
+
+-- what stands behind the first condition that doesn't hold isn't read
+assert_fails : planned_by (x_is (int (pos 0))) (Assert (tree.Name (codes "x") ∷ tree.Name (codes "y") ∷ []) (list (items_of (text (codes "{{ x }}!") ∷ []))) (text (codes "yes"))) ≡ Decided (fail_result (list (items_of (text (codes "0!") ∷ []))))
+unfolding on_items
+assert_fails = refl
+
+-- both messages are read, whichever is told
+assert_reads_both : planned_by (x_is (int (pos 0))) (Assert (tree.Name (codes "x") ∷ []) (text (codes "no")) (text (codes "{{ y }}"))) ≡ Decided (faulty_result (codes "'y' is undefined"))
+unfolding on_items
+assert_reads_both = refl
+
+-- its conditions come first
+assert_condition_first : planned_by [] (Assert (tree.Name (codes "x") ∷ []) (text (codes "{{ 1 + 'a' }}")) (text (codes "yes"))) ≡ Decided (faulty_result (codes "'x' is undefined"))
+unfolding on_items
+assert_condition_first = refl
+
+facts_are_rendered : planned_by (x_is (int (pos 1))) (SetFact ((codes "a", text (codes "{{ x + 1 }}")) ∷ (codes "b", int (pos 3)) ∷ [])) ≡ Decided (facts_result (dict (members_of ((codes "a", int (pos 2)) ∷ (codes "b", int (pos 3)) ∷ []))))
+unfolding on_items
+facts_are_rendered = refl
+
+-- the fault of an earlier name counts
+first_fact_first : planned_by [] (SetFact ((codes "a", text (codes "{{ 1 + 'a' }}")) ∷ (codes "b", text (codes "{{ x }}")) ∷ [])) ≡ Decided (faulty_result (codes "wrong kind of value"))
+unfolding on_items
+first_fact_first = refl
+
+no_facts_program : done_by false [] Setup ≡ Ok (Decided (facts_result (dict (members_of []))))
+unfolding on_items
+no_facts_program = refl
+
+facts_program_is_sent : done_by true [] Setup ≡ Ok (Sends call.Setup)
+unfolding on_items
+facts_program_is_sent = refl

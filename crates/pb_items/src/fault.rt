@@ -17,6 +17,12 @@ pub(crate) enum ItemFault {
     Eval(EvalFault),
     /// What was read is no call.
     Call(CallFault),
+    /// What a loop goes over is no list.
+    LoopNotList,
+    /// A loop has too many items.
+    TooManyItems,
+    /// What an item is delegated to is no name.
+    BadDelegate,
     Memory,
 }
 
@@ -66,6 +72,9 @@ impl ItemFault {
         match self {
             ItemFault::Eval(fault) => fault_message(alloc, fault),
             ItemFault::Call(fault) => Text::from_str(alloc, fault.message()),
+            ItemFault::LoopNotList => Text::from_str(alloc, "loop is not a list"),
+            ItemFault::TooManyItems => Text::from_str(alloc, "too many items"),
+            ItemFault::BadDelegate => Text::from_str(alloc, "bad delegate"),
             ItemFault::Memory => Err(AllocError),
         }
     }

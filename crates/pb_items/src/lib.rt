@@ -1,11 +1,17 @@
 //! What the items of a task are when the task starts on a host.
 //!
-//! For the layer above: `planned` reads what a task's module is given, in the scope that the host has at that moment. The item
-//! has its result at once, or its call is sent as a job, exactly as `planned_by` of `specs/Planning.antt` says. What can't be read
-//! fails the item, whose result says why. Only want of memory may come in place of the answer.
+//! For the layer above: `items` reads a task's loop, its conditions and what its module is given, in the scopes that its host has at that
+//! moment. Each item has its result at once, or its call is sent as a job, exactly as `items_of` of `specs/Items.antt` says. What can't
+//! be read fails the item, whose result says why. `planned` is that of a module alone (`planned_by` of `specs/Planning.antt`). Only want
+//! of memory may come in place of an answer.
 #![tactic(auto)]
 
 mod calls;
+mod facts;
 mod fault;
+pub mod items;
+pub mod loops;
 pub mod planned;
 pub mod planning;
+mod results;
+pub mod start;

@@ -1,45 +1,37 @@
-//! What a task's module does on a host when the task starts.
+//! What an item's module does on a host when its task starts.
 ghost use Rattle.std.specs.Prelude.{◌≡◌, ◌≢◌, IfOk, IfErr, Ok, Err};
-ghost use Rattle.pb_value.specs.Datum.{text};
-ghost use Rattle.pb_expr_eval.specs.Scoped.{eval_of, rendered_of};
 ghost use Rattle.pb_items.specs.Faults.{said};
-ghost use Rattle.pb_items.specs.Calls.{command_in, shell_in};
-ghost use Rattle.pb_items.specs.Planning.{decided, or_not_defined, sent, planned_by};
+ghost use Rattle.pb_items.specs.Planning.{or_not_defined, asserted, setup_of, done_by, planned_by};
 ghost use Rattle.pb_items.specs.declared.fault.ItemFault.TheVariants as item;
-ghost use Rattle.pb_items.specs.declared.planned.Planned.TheVariants as plan;
 ghost use Rattle.pb_operators.specs.declared.fault.EvalFault.TheVariants as eval;
 ghost use Rattle.pb_outcome.specs.Decided as result_of;
+ghost use Rattle.pb_outcome.specs.declared.item.Planned.TheVariants as plan;
 
 use crate::calls::{command_in, shell_in};
+use crate::facts::facts_of;
 use crate::fault::ItemFault;
 use crate::planned::Planned;
+use crate::results::assert_result;
+use pb_conditions::holds::holds;
 use pb_expr_eval::eval::{eval, render_value};
 use pb_expr_syntax::tree::Expr;
 use pb_layers::scope::Scope;
 use pb_operators::fault::EvalFault;
 use pb_outcome::decided::{debug_result, fail_result, faulty_result, shown_result};
-use pb_play::commands::CommandWords;
+use pb_outcome::gather::ItemResult;
+use pb_outcome::job::Call;
+use pb_outcome::judge::facts_result;
 use pb_play::modules::Module;
 use pb_value::text::Text;
-use pb_value::val::Val;
+use pb_value::val::{Dict, Val};
 use std::alloc::{AllocError, Global};
 
 /// An item that fails since it can't be read.
-fn unread(alloc: Global, fault: &ItemFault) -> Result<Planned, AllocError>
+pub(crate) fn unread(alloc: Global, fault: &ItemFault) -> Result<Planned, AllocError>
     ensures { IfOk result (λ p. (fault.now ≢ item.Memory) × (p ≡ plan.Decided (result_of.faulty_result (said fault.now)))) }
 {
     let message = fault.message(alloc)?;
     Ok(Planned::Decided(faulty_result(alloc, message.as_str())?))
-}
-
-/// A message that is shown.
-fn planned_debug(alloc: Global, msg: &Val, scope: &Scope) -> Result<Planned, AllocError>
-    ensures { IfOk result (λ p. p ≡ decided result_of.debug_result (rendered_of scope.now msg.now)) }
-{
-    match render_value(alloc, msg, scope) {
-        Ok(value) => Ok(Planned::Decided(debug_result(alloc, &value)?)),
-        Err(fault) => unread(alloc, &ItemFault::from(fault)),
-    }
 }
 
 /// What `var` shows of what was read: a text that says so where a name stands for nothing.
@@ -56,62 +48,79 @@ fn or_not_defined(alloc: Global, outcome: Result<Val, EvalFault>) -> Result<Val,
     }
 }
 
-/// The value of an expression that is shown under its text.
-fn planned_var(alloc: Global, name: &str, expr: &Expr, scope: &Scope) -> Result<Planned, AllocError>
-    ensures { IfOk result (λ p. p ≡ decided (result_of.shown_result name.now) (or_not_defined (eval_of scope.now expr.now))) }
-{
-    match or_not_defined(alloc, eval(alloc, expr, scope)) {
-        Ok(value) => Ok(Planned::Decided(shown_result(alloc, name, &value)?)),
-        Err(fault) => unread(alloc, &ItemFault::from(fault)),
-    }
-}
-
-/// A message with which the item fails.
-fn planned_fail(alloc: Global, msg: &Val, scope: &Scope) -> Result<Planned, AllocError>
-    ensures { IfOk result (λ p. p ≡ decided result_of.fail_result (rendered_of scope.now msg.now)) }
-{
-    match render_value(alloc, msg, scope) {
-        Ok(value) => Ok(Planned::Decided(fail_result(alloc, &value)?)),
-        Err(fault) => unread(alloc, &ItemFault::from(fault)),
-    }
-}
-
-/// A command that is sent.
-fn planned_command(
+/// An item of `assert`: its conditions, and both of its messages, whichever is told.
+fn asserted(
     alloc: Global,
-    words: &CommandWords,
+    that: &[Expr],
+    fail_msg: &Val,
+    success_msg: &Val,
     scope: &Scope,
-) -> Result<Planned, AllocError>
-    ensures { IfOk result (λ p. p ≡ sent (command_in scope.now words.now)) }
+) -> Result<ItemResult, ItemFault>
+    ensures value { IfOk result (λ r. asserted scope.now that.now fail_msg.now success_msg.now ≡ Ok r) }
+    ensures fault { IfErr result (λ e. e ≢ item.Memory → asserted scope.now that.now fail_msg.now success_msg.now ≡ Err e) }
 {
-    match command_in(alloc, words, scope) {
-        Ok(call) => Ok(Planned::Sends(call)),
-        Err(fault) => unread(alloc, &fault),
+    let holds = holds(alloc, that, scope)?;
+    let fail_msg = render_value(alloc, fail_msg, scope)?;
+    let success_msg = render_value(alloc, success_msg, scope)?;
+    Ok(assert_result(alloc, holds, &fail_msg, &success_msg)?)
+}
+
+/// What `setup` does: it is sent where there is a program that gathers facts, and else gathers none.
+fn setup_of(alloc: Global, has_facts_program: bool) -> Result<Planned, AllocError>
+    ensures { IfOk result (λ p. p ≡ setup_of has_facts_program) }
+{
+    if has_facts_program {
+        Ok(Planned::Sends(Call::Setup))
+    } else {
+        let none = Val::dict(Dict::new(alloc));
+        Ok(Planned::Decided(facts_result(alloc, none)?))
     }
 }
 
-/// A text for the shell that is sent.
-fn planned_shell(alloc: Global, cmd: &str, scope: &Scope) -> Result<Planned, AllocError>
-    ensures { IfOk result (λ p. p ≡ sent (shell_in scope.now cmd.now)) }
+/// What a module does, or the fault of what it is given.
+#[tactic(auto, unfolding(crate::specs::Planning::done_by))]
+pub(crate) fn done_by(
+    alloc: Global,
+    has_facts_program: bool,
+    called: &Module,
+    scope: &Scope,
+) -> Result<Planned, ItemFault>
+    ensures value { IfOk result (λ p. done_by has_facts_program scope.now called.now ≡ Ok p) }
+    ensures fault { IfErr result (λ e. e ≢ item.Memory → done_by has_facts_program scope.now called.now ≡ Err e) }
 {
-    match shell_in(alloc, cmd, scope) {
-        Ok(call) => Ok(Planned::Sends(call)),
-        Err(fault) => unread(alloc, &fault),
-    }
+    let result = match called {
+        Module::Assert {
+            that,
+            fail_msg,
+            success_msg,
+        } => asserted(alloc, that.as_slice(), fail_msg, success_msg, scope)?,
+        Module::Command(words) => return Ok(Planned::Sends(command_in(alloc, words, scope)?)),
+        Module::Debug { msg } => debug_result(alloc, &render_value(alloc, msg, scope)?)?,
+        Module::DebugVar { text, expr } => {
+            let value = or_not_defined(alloc, eval(alloc, expr, scope))?;
+            shown_result(alloc, text.as_str(), &value)?
+        }
+        Module::Fail { msg } => fail_result(alloc, &render_value(alloc, msg, scope)?)?,
+        Module::SetFact { facts } => facts_result(
+            alloc,
+            Val::dict(facts_of(alloc, facts, scope)?),
+        )?,
+        Module::Setup => return Ok(setup_of(alloc, has_facts_program)?),
+        Module::Shell { cmd } => return Ok(Planned::Sends(shell_in(alloc, cmd.as_str(), scope)?)),
+    };
+    Ok(Planned::Decided(result))
 }
 
-/// What an item of a task is when the task starts on a host, from the module that it calls and the scope that the host has then:
-/// texts of at most 1 MiB, values nested at most 64 levels, look-ups nested at most 16 deep. Err is want of memory alone: what
-/// can't be read is an item that fails. See Ansible's documentation of the modules in `ansible.builtin`.
+/// What a task without conditions and loop does when it starts on a host, from the module that it calls and the scope that the host has
+/// then, where there is no program that gathers facts: texts of at most 1 MiB, values nested at most 64 levels, look-ups nested at most
+/// 16 deep. Err is want of memory alone: what can't be read is an item that fails. See Ansible's documentation of the modules in
+/// `ansible.builtin`.
 #[tactic(auto, unfolding(crate::specs::Planning::planned_by))]
 pub fn planned(alloc: Global, called: &Module, scope: &Scope) -> Result<Planned, AllocError>
     ensures { IfOk result (λ p. p ≡ planned_by scope.now called.now) }
 {
-    match called {
-        Module::Command(words) => planned_command(alloc, words, scope),
-        Module::Debug { msg } => planned_debug(alloc, msg, scope),
-        Module::DebugVar { text, expr } => planned_var(alloc, text.as_str(), expr, scope),
-        Module::Fail { msg } => planned_fail(alloc, msg, scope),
-        Module::Shell { cmd } => planned_shell(alloc, cmd.as_str(), scope),
+    match done_by(alloc, false, called, scope) {
+        Ok(planned) => Ok(planned),
+        Err(fault) => unread(alloc, &fault),
     }
 }

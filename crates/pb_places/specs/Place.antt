@@ -3,6 +3,7 @@
 use Rattle.std.specs.Prelude.{ℕ, Bool, false, List, [], Option, None}
 use Rattle.pb_expr_syntax.specs.Tree.{Tree}
 use Rattle.pb_layers.specs.Scope.{Map}
+use Rattle.pb_play.specs.Tasks.{plain_task}
 use Rattle.pb_play.specs.declared.modules.Module.{Module}
 use Rattle.pb_play.specs.declared.task.Task.{Task}
 use Rattle.pb_places.specs.declared.surroundings.Role.{Role}
@@ -33,15 +34,15 @@ pub record PlaceOf : Type 0 where
 abbrev pub no_role : Role
 no_role = record { defaults = []; vars = []; params = [] }
 
--- a task on its own
+-- a task on its own has what its own keys say
 abbrev pub place_of : Task → PlaceOf
 place_of task =
     record {
       task = task;
-      conditions = [];
+      conditions = task.conditions;
       block_vars = [];
       role = no_role;
-      ignore_errors = false;
+      ignore_errors = task.ignore_errors;
       any_errors_fatal = false;
       throttle = 0;
       run_once = false;
@@ -54,7 +55,7 @@ place_of task =
 
 -- what worked examples are made of: a task without variables, and its place
 abbrev pub bare_task : List ℕ → Module → Task
-bare_task name called = record { name = name; vars = []; «module» = called }
+bare_task name called = plain_task name [] called
 
 abbrev pub bare_place : List ℕ → Module → PlaceOf
 bare_place name called = place_of (bare_task name called)

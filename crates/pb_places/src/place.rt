@@ -42,7 +42,7 @@ impl Model for Place {
 }
 
 impl Place {
-    /// The place of a plain task, which has nothing beside the task. It takes no memory.
+    /// The place of a plain task, which has nothing beside the task and its keys. It takes no memory.
     pub fn of(task: Task) -> Place
         ensures { result ≡ place_of task }
     {
@@ -80,7 +80,7 @@ impl Place {
     {
         match &self.surroundings {
             Some(given) => given.conditions.as_slice(),
-            None => &[],
+            None => self.task.conditions.as_slice(),
         }
     }
 
@@ -118,7 +118,7 @@ impl Place {
     {
         match &self.surroundings {
             Some(given) => given.ignore_errors,
-            None => false,
+            None => self.task.ignore_errors,
         }
     }
 

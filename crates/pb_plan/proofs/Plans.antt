@@ -1,10 +1,9 @@
 -- What is left of the plays of a bundle, and what its faults are.
-use Rattle.std.proofs.Common.{◌≡◌, ℕ, ◌++◌, Bool, true, false, List, [], ◌∷◌, refl, sym, ap, subst, ◌∙◌, append_assoc, ◌⊎◌, inl, inr, ◌||◌}
-use Rattle.std.specs.Prelude.{nat_lt, Option, Some, None, Result, Ok, Err, if◌then◌else◌}
+use Rattle.std.proofs.Common.{◌≡◌, ℕ, ◌++◌, Bool, true, false, List, [], ◌∷◌, refl, sym, ap, subst, ◌∙◌, append_assoc, inl, inr, ◌||◌}
+use Rattle.std.specs.Prelude.{nat_lt, Option, Some, Ok, Err}
 use Rattle.std.specs.List.{list_any}
 use Rattle.std.proofs.lemmas.List.{append-nil}
 use Rattle.pb_value.specs.Limits.{max_bytes}
-use Rattle.pb_value.specs.Reading.{and_then, map_ok}
 use Rattle.pb_inventory.specs.InventoryOf.{InventoryOf}
 use Rattle.pb_inventory.specs.Reading.{inventory_of}
 use Rattle.pb_layers.specs.Scope.{Map}
@@ -24,7 +23,7 @@ use Rattle.pb_plan.specs.declared.bundle.BundleFault.{BundleFault}
 use Rattle.pb_plan.specs.declared.bundle.BundleFault.TheVariants.{Inventory, Playbook as InPlaybook, Roles, Limit, BadForks, TooLarge}
 use Rattle.pb_plan.specs.declared.bundle.RoleFault.TheVariants.{TooLarge as TooManyPlaces}
 use Rattle.pb_plan.specs.Plan.{PlayOf, PlanOf}
-use Rattle.pb_plan.specs.Bundle.{in_part, limit_of, limited, extra_in, with_places, variables_of, book_of, readings_of, expressions_of_limit, expressions_in_plays, expressions_in_limit, has_too_many_places, are_bad_forks, bundle_bytes, IsPlayOf, ArePlaysOf, IsPlaybookFault, IsLimitFault, IsBundleFault, IsPlanIn, IsPlanOf}
+use Rattle.pb_plan.specs.Bundle.{in_part, limit_of, limited, extra_in, with_places, variables_of, readings_of, expressions_of_limit, expressions_in_plays, expressions_in_limit, has_too_many_places, are_bad_forks, bundle_bytes, IsPlayOf, ArePlaysOf, IsPlaybookFault, IsLimitFault, IsBundleFault, IsPlanIn, IsPlanOf}
 
 -- the plays in front are planned
 abbrev pub ArePlannedTo : InventoryOf → List Bool → List Play → List Play → List PlayOf → List (List ℕ) → Type 0

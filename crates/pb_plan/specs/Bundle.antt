@@ -176,7 +176,6 @@ pub record IsPlanIn (inventory : InventoryOf) (extra : Map) (limit : Option (Lis
   pub lines : List (List ℕ)
   pub limited : IsLimit inventory limit selected
   pub plays : ArePlaysOf inventory selected.hosts book.plays plan.plays lines
-  pub hosts : plan.hosts ≡ inventory.hosts
   pub has_forks : plan.forks ≡ forks
   pub has_inventory : plan.inventory ≡ inventory
   pub has_extra : plan.extra ≡ extra

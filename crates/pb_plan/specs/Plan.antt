@@ -1,8 +1,9 @@
 -- A plan as plain lists: what the machine reads of a bundle.
-use Rattle.std.specs.Prelude.{ℕ, Bool, List, []}
-use Rattle.pb_tree.specs.Tree.{TreeOf}
+use Rattle.std.specs.Prelude.{◌≡◌, ℕ, Bool, List, [], length}
+use Rattle.pb_tree.specs.Tree.{TreeOf, size_of}
 use Rattle.pb_inventory.specs.InventoryOf.{InventoryOf}
 use Rattle.pb_layers.specs.Scope.{Map}
+use Rattle.pb_places.specs.Caught.{are_caught, caught_places}
 use Rattle.pb_places.specs.Place.{PlaceOf}
 
 -- a play: its name, its tree, what stands at each place of the tree, of each host by its number whether it is one of the play's own, its
@@ -15,10 +16,14 @@ pub record PlayOf : Type 0 where
   pub vars : Map
   pub magic : Map
 
--- the names of the hosts by their numbers, the plays in order, how many hosts may run at once, lines that tell what was odd in the bundle,
--- the inventory with its variables, the extra variables, and those that the plan gives by itself
+-- what a play has at its places fits its tree: there is a record for each place, and it says of a failure there what the tree says
+pub record Fits (play : PlayOf) : Type 0 where
+  pub places : length play.places ≡ size_of play.tree
+  pub caught : are_caught play.places ≡ caught_places play.tree
+
+-- the plays in order, how many hosts may run at once, lines that tell what was odd in the bundle, the inventory with the names of its hosts by their
+-- numbers and its variables, the extra variables, and those that the plan gives by itself
 pub record PlanOf : Type 0 where
-  pub hosts : List (List ℕ)
   pub plays : List PlayOf
   pub forks : ℕ
   pub warnings : List (List ℕ)
@@ -34,4 +39,4 @@ abbrev pub bare_play : List ℕ → TreeOf → List PlaceOf → List Bool → Pl
 bare_play name tree places hosts = record { name = name; tree = tree; places = places; hosts = hosts; vars = []; magic = [] }
 
 abbrev pub bare_plan : List (List ℕ) → List PlayOf → PlanOf
-bare_plan hosts plays = record { hosts = hosts; plays = plays; forks = 5; warnings = []; inventory = bare_inventory hosts; extra = []; magic = [] }
+bare_plan hosts plays = record { plays = plays; forks = 5; warnings = []; inventory = bare_inventory hosts; extra = []; magic = [] }

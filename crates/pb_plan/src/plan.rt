@@ -187,7 +187,6 @@ impl Model for Plan {
     ghost coded = { Prim.hlevel (codes, val.the_row.coded, expr.the_row.coded, play_tree.the_row.coded, place.the_row.coded) };
 
     ghost view = { λ p. record {
-      hosts = p.inventory.hosts;
       plays = p.plays;
       forks = p.forks;
       warnings = p.warnings;
@@ -217,7 +216,6 @@ impl Plan {
         requires some { 0 < forks }
         requires bound { forks ≤ 256 }
         ensures { result ≡ record {
-          hosts = inventory.hosts;
           plays = plays;
           forks = forks;
           warnings = warnings;
@@ -238,16 +236,16 @@ impl Plan {
 
     /// How many hosts there are: at most 65,536.
     pub fn host_count(&self) -> u32
-        ensures value { result ≡ length self.now.hosts }
-        ensures bound { length self.now.hosts ≤ 65536 }
+        ensures value { result ≡ length self.now.inventory.hosts }
+        ensures bound { length self.now.inventory.hosts ≤ 65536 }
     {
         self.inventory.hosts()
     }
 
     /// The name of a host.
     pub fn host_name(&self, host: HostNo) -> &str
-        requires { host.0 < length self.now.hosts }
-        ensures { slice_get self.now.hosts host.0 ≡ Some result.now }
+        requires { host.0 < length self.now.inventory.hosts }
+        ensures { slice_get self.now.inventory.hosts host.0 ≡ Some result.now }
     {
         self.inventory.name(host)
     }
@@ -281,8 +279,7 @@ impl Plan {
 
     /// The inventory, with its variables.
     pub fn inventory(&self) -> &Inventory
-        ensures value { result.now ≡ self.now.inventory }
-        ensures hosts { self.now.inventory.hosts ≡ self.now.hosts }
+        ensures { result.now ≡ self.now.inventory }
     {
         &self.inventory
     }

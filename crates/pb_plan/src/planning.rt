@@ -1,11 +1,12 @@
 //! The plan of a bundle.
 
 ghost use Rattle.std.specs.Prelude.{◌≡◌, ◌≢◌, ◌<◌, ◌≤◌, [], ◌∷◌, ◌++◌, List, ℕ, map, length, false, IfOk, IfErr, OnOk, Ok, Err};
-ghost use Rattle.std.specs.List.{list_any};
+ghost use Rattle.std.specs.List.{All, list_any};
 ghost use Rattle.pb_inventory.specs.Reading.{inventory_of};
 ghost use Rattle.pb_patterns.specs.Expressions.{AreTaken};
 ghost use Rattle.pb_inventory.specs.Vars.{strangers};
 ghost use Rattle.pb_play.specs.Playbooks.{playbook_of, expressions_of_book};
+ghost use Rattle.pb_plan.specs.Plan.{Fits};
 ghost use Rattle.pb_plan.specs.Bundle.{in_part, limit_of, expressions_of_limit, extra_in, has_too_many_places, stranger_line, unmatched_line, IsLimit, IsPlayOf, ArePlaysOf, IsPlanIn, IsPlanOf, IsBundleFault, IsPlaybookFault, IsLimitFault};
 
 use crate::bundle::{Bundle, BundleFault, RoleFault, has_too_many_places, is_too_large, play_with};
@@ -248,6 +249,9 @@ impl Plan {
     /// memory was refused. Which regular expressions are refused for their size is the `regex` crate's own choice.
     pub fn of(alloc: Global, bundle: &Bundle) -> Result<Plan, BundleFault>
         ensures value { IfOk result (IsPlanOf bundle.now) }
+
+        // What a play has at its places fits its tree.
+        ensures fit { IfOk result (λ plan. All Fits plan.plays) }
         ensures fault { IfErr result (λ e. e ≢ BundleFault.Memory → IsBundleFault bundle.now e) }
     {
         if is_too_large(bundle) {

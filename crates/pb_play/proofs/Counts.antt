@@ -1,5 +1,5 @@
 -- How many members a list of values has, as its rows count them, and how many plays are read from them.
-use Rattle.std.proofs.Common.{◌≡◌, ℕ, ◌+◌, Bool, List, [], ◌∷◌, length, Ok, Err, refl, arith}
+use Rattle.std.proofs.Common.{◌≡◌, ℕ, ◌+◌, List, [], ◌∷◌, length, Ok, Err, refl, arith}
 use Rattle.std.specs.Prelude.{decimal}
 use Rattle.serde_json.specs.Data as json
 use Rattle.serde_json.specs.View.{items_view}

@@ -1,7 +1,7 @@
 -- Patterns, plays and lists of plays, whose regular expressions may be refused.
-use Rattle.std.proofs.Common.{◌≡◌, ◌≢◌, ◌<◌, ℕ, ◌+◌, Bool, true, false, List, [], ◌∷◌, ◌++◌, Result, Ok, Err, inl, inr, ◌⊎◌, refl, sym, ◌∙◌, ap, subst, length, drop, get_or}
+use Rattle.std.proofs.Common.{◌≡◌, ◌≢◌, ◌<◌, ℕ, ◌+◌, Bool, true, false, List, [], ◌∷◌, ◌++◌, Result, Ok, Err, inl, inr, refl, sym, ◌∙◌, ap, subst, length, drop, get_or}
 use Rattle.std.proofs.lemmas.List.{append_assoc, append-nil, drop_more}
-use Rattle.std.specs.Prelude.{decimal, Option, Some, None, codes, if◌then◌else◌}
+use Rattle.std.specs.Prelude.{decimal, Option, Some, None, codes}
 use Rattle.std.specs.List.{list_any}
 use Rattle.serde_json.specs.Data as json
 use Rattle.serde_json.specs.View.{view, items_view}
@@ -22,7 +22,7 @@ use Rattle.pb_play.specs.Refusals.{GivesOf}
 use Rattle.pb_play.specs.Hosts.{texts, has_braces, as_read, pattern, expressions_in, joined, hosts, expressions_of_hosts}
 use Rattle.pb_play.specs.NoEffect.{has_no_effect}
 use Rattle.pb_play.specs.Playbooks.{plays, of_json, playbook_of, as_load_fault, as_playbook, each_expression, expressions_of_plays, expressions_of_book}
-use Rattle.pb_play.specs.Simple.{gathering}
+use Rattle.pb_play.specs.Gathering.{gathering}
 use Rattle.pb_play.specs.Plays.{key, rest_of_play, play, expressions_at, expressions_of_play}
 use Rattle.pb_play.specs.declared.fault.LoadFault.{LoadFault}
 use Rattle.pb_play.specs.declared.fault.LoadFault.TheVariants as load

@@ -1,5 +1,5 @@
 -- What a reader gives whose regular expressions may be refused, from what its parts give.
-use Rattle.std.proofs.Common.{◌≡◌, ℕ, List, [], ◌++◌, Result, Ok, Err, inl, inr, refl, sym, ◌∙◌, ap, subst}
+use Rattle.std.proofs.Common.{◌≡◌, ℕ, List, [], ◌++◌, Result, Ok, Err, inl, sym, ◌∙◌, ap, subst}
 use Rattle.pb_value.specs.Reading.{and_then}
 use Rattle.pb_patterns.specs.Expressions.{AreTaken, behind}
 use Rattle.pb_patterns.proofs.Firsts.{first_part, next_part, next_taken, behind_taken, made_of}

@@ -1,26 +1,25 @@
 -- The plays of a playbook. See Ansible's documentation, "Playbook Keywords", Play.
-use Rattle.std.specs.Prelude.{ℕ, Bool, List, [], Ok, Err, Option, Some, None, codes, unwrap_or}
+use Rattle.std.specs.Prelude.{ℕ, Bool, false, List, [], Ok, Option, Some, None, codes, unwrap_or}
 use Rattle.serde_json.specs.Data as json
+use Rattle.pb_value.specs.Datum.{Datum}
 use Rattle.pb_value.specs.Reading.{below}
+use Rattle.pb_patterns.specs.declared.element.Element.{Element}
 use Rattle.pb_patterns.specs.Expressions.{behind}
 use Rattle.pb_reading.specs.Fields.{◌>>=◌, Part, field, field_or, others, object, rule, value_at}
-use Rattle.pb_reading.specs.Reading.{Reading, Own, required}
+use Rattle.pb_reading.specs.Reading.{Reading, required}
 use Rattle.pb_reading.specs.Simple.{text}
+use Rattle.pb_play.specs.Gathering.{gathering, or_on, begun}
 use Rattle.pb_play.specs.Hosts.{hosts, expressions_of_hosts}
 use Rattle.pb_play.specs.NoEffect.{has_no_effect}
-use Rattle.pb_play.specs.Simple.{gathering}
+use Rattle.pb_written.specs.Simple.{switched}
+use Rattle.pb_play.specs.Taken.{taken_or}
 use Rattle.pb_play.specs.Tasks.{tasks}
 use Rattle.pb_play.specs.Variables.{variables}
 use Rattle.pb_play.specs.declared.fault.LoadFault.{LoadFault}
-use Rattle.pb_play.specs.declared.fault.LoadFault.TheVariants.{NotInProfile}
 use Rattle.pb_play.specs.declared.hosts.PlayHosts.{PlayHosts}
 use Rattle.pb_play.specs.declared.other_keys.WithoutEffect.{WithoutEffect}
+use Rattle.pb_play.specs.declared.play.Lists.{Lists}
 use Rattle.pb_play.specs.declared.play.Play.{Play}
-
--- where `gather_facts` isn't written it is on, and facts aren't gathered yet
-abbrev pub written_off : Option Bool → Reading Bool LoadFault
-written_off (Some b) = Ok b
-written_off None = Err (Own (NotInProfile (codes "gather_facts")))
 
 abbrev pub key : {A : Type 0} → List ℕ → (List ℕ → json.Data → Reading A LoadFault) → Part WithoutEffect LoadFault (Option A)
 key = field has_no_effect
@@ -28,18 +27,30 @@ key = field has_no_effect
 abbrev pub key_or : {A : Type 0} → List ℕ → (List ℕ → json.Data → Reading A LoadFault) → A → Part WithoutEffect LoadFault A
 key_or = field_or has_no_effect
 
+-- the three lists of tasks, in a play that ignores their failures or not
+abbrev pub lists : Bool → Part WithoutEffect LoadFault Lists
+lists is_ignored = do
+  post_tasks ← key_or (codes "post_tasks") (tasks is_ignored) []
+  pre_tasks ← key_or (codes "pre_tasks") (tasks is_ignored) []
+  tasks ← key_or (codes "tasks") (tasks is_ignored) []
+  rule (Ok (record { is_ignored = is_ignored; post_tasks = post_tasks; pre_tasks = pre_tasks; tasks = tasks }))
+
+-- where it gathers facts, it begins with that
+abbrev pub play_of : (gathers : Bool) → List ℕ → List Element → List (List ℕ × Datum) → Lists → Play
+play_of gathers name hosts vars lists =
+    record { name = name; hosts = hosts; vars = vars; pre_tasks = begun gathers lists.is_ignored lists.pre_tasks; tasks = lists.tasks; post_tasks = lists.post_tasks }
+
 -- a play behind its hosts; one without a name has its pattern's text as it is written, and one without variables has none
 abbrev pub rest_of_play : List ℕ → Option Bool → Option PlayHosts → Part WithoutEffect LoadFault Play
 rest_of_play path gather_facts hosts = do
+  is_ignored ← taken_or has_no_effect (codes "ignore_errors") switched false
   name ← key (codes "name") text
-  post_tasks ← key_or (codes "post_tasks") tasks []
-  pre_tasks ← key_or (codes "pre_tasks") tasks []
-  tasks ← key_or (codes "tasks") tasks []
+  lists ← lists is_ignored
   vars ← key_or (codes "vars") variables []
   _ ← others has_no_effect
   h ← rule (required path hosts)
-  _ ← rule (written_off gather_facts)
-  rule (Ok (record { name = unwrap_or name h.text; hosts = h.pattern; vars = vars; pre_tasks = pre_tasks; tasks = tasks; post_tasks = post_tasks }))
+  gathers ← rule (or_on gather_facts)
+  rule (Ok (play_of gathers (unwrap_or name h.text) h.pattern vars lists))
 
 -- a play
 unfoldable pub play : List ℕ → json.Data → Reading Play LoadFault

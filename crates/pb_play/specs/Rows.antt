@@ -1,5 +1,5 @@
 -- Worked playbooks: what their texts spell, or the first fault in them.
-use Rattle.std.specs.Prelude.{◌≡◌, ⊤, true, pos, List, [], ◌∷◌, Some, None, Ok, Err, codes, refl}
+use Rattle.std.specs.Prelude.{◌≡◌, ⊤, pos, true, List, [], ◌∷◌, Some, None, Ok, Err, codes, refl}
 use Rattle.std.specs.Fmt.{digits}
 use Rattle.std.specs.Str.{chars, is_utf8}
 use Rattle.std.specs.Str.Lossy.{utf8_valid_len}
@@ -8,25 +8,27 @@ use Rattle.pb_value.specs.Bytes.{json_in}
 use Rattle.pb_expr_syntax.specs.Computed.{tree_of, tree_of_tokens}
 use Rattle.pb_expr_syntax.specs.Tree.{Name}
 use Rattle.pb_template.specs.Computed.{template_of}
-use Rattle.pb_value.specs.Datum.{null, int, text, dict, no_members, member}
+use Rattle.pb_value.specs.Datum.{null, int, text, list, items_of, dict, no_members, member}
 use Rattle.pb_value.specs.FromJson.{value_of}
 use Rattle.pb_patterns.specs.Reading.{pattern_of, expressions_of}
 use Rattle.pb_patterns.specs.declared.element.Element.{Element}
 use Rattle.pb_patterns.specs.declared.element.Mark.TheVariants.{Unmarked, Met, Excluded}
 use Rattle.pb_patterns.specs.declared.element.Subscript.TheVariants.{At}
 use Rattle.pb_patterns.specs.declared.element.What.TheVariants.{Term, Regex}
+use Rattle.pb_play.specs.Conditions.{conditions}
 use Rattle.pb_play.specs.Playbooks.{playbook_of, expressions_of_book}
 use Rattle.pb_reading.specs.Fields.{field, field_or, others}
 use Rattle.pb_play.specs.Plays.{play, expressions_of_play}
-use Rattle.pb_play.specs.Tasks.{task, tells_of_task}
-use Rattle.pb_play.specs.Templates.{is_template}
+use Rattle.pb_play.specs.Taken.{is_taken, taken, taken_or}
+use Rattle.pb_play.specs.Tasks.{task, tells_of_task, plain_task}
+use Rattle.pb_written.specs.Templates.{is_template}
 use Rattle.pb_play.specs.declared.fault.LoadFault.TheVariants.{NotJson, WrongShape, NotInProfile, NoModule, TwoModules, BadExpression, BadPattern}
 use Rattle.pb_play.specs.declared.commands.CommandWords.TheVariants.{Line, Argv}
-use Rattle.pb_play.specs.declared.modules.Module.TheVariants.{Command, Debug, DebugVar, Fail, Shell}
+use Rattle.pb_play.specs.declared.modules.Module.TheVariants.{Assert, Command, Debug, DebugVar, Fail, Shell}
 
 -- what computes a row from its text
 unfoldable on_literals : ⊤
-unfolding playbook_of expressions_of_book play expressions_of_play task tells_of_task field field_or others pattern_of expressions_of is_template template_of tree_of tree_of_tokens json_in utf8_valid_len is_utf8 chars digits value_of serde_json_on_literals
+unfolding conditions playbook_of expressions_of_book play expressions_of_play task tells_of_task is_taken taken taken_or field field_or others pattern_of expressions_of is_template template_of tree_of tree_of_tokens json_in utf8_valid_len is_utf8 chars digits value_of serde_json_on_literals
 on_literals = tt
 
 -- the elements of the pattern `all`
@@ -34,13 +36,13 @@ abbrev all_hosts : List Element
 all_hosts = record { text = codes "all"; mark = Unmarked; what = Term (codes "all") None } ∷ []
 
 hello : playbook_of (codes "[{\"hosts\":\"all\",\"gather_facts\":false,\"tasks\":[{\"name\":\"hi\",\"debug\":{\"msg\":\"hello\"}}]}]")
-    ≡ Ok (record { plays = record { name = codes "all"; hosts = all_hosts; vars = []; pre_tasks = []; tasks = record { name = codes "hi"; vars = []; «module» = Debug (text (codes "hello")) } ∷ []; post_tasks = [] } ∷ [] })
+    ≡ Ok (record { plays = record { name = codes "all"; hosts = all_hosts; vars = []; pre_tasks = []; tasks = plain_task (codes "hi") [] (Debug (text (codes "hello"))) ∷ []; post_tasks = [] } ∷ [] })
 unfolding on_literals
 hello = refl
 
 -- a task without a name has its module's, without the prefix; `debug` shows `Hello world!` where nothing is said
 nothing_said : playbook_of (codes "[{\"hosts\":\"all\",\"name\":\"p\",\"gather_facts\":\"No\",\"tasks\":[{\"ansible.builtin.debug\":{}}]}]")
-    ≡ Ok (record { plays = record { name = codes "p"; hosts = all_hosts; vars = []; pre_tasks = []; tasks = record { name = codes "debug"; vars = []; «module» = Debug (text (codes "Hello world!")) } ∷ []; post_tasks = [] } ∷ [] })
+    ≡ Ok (record { plays = record { name = codes "p"; hosts = all_hosts; vars = []; pre_tasks = []; tasks = plain_task (codes "debug") [] (Debug (text (codes "Hello world!"))) ∷ []; post_tasks = [] } ∷ [] })
 unfolding on_literals
 nothing_said = refl
 
@@ -64,7 +66,7 @@ no_arguments = refl
 
 -- a template is kept as it is written
 template : playbook_of (codes "[{\"hosts\":\"all\",\"gather_facts\":false,\"tasks\":[{\"debug\":{\"msg\":\"{{ x }}\"}}]}]")
-    ≡ Ok (record { plays = record { name = codes "all"; hosts = all_hosts; vars = []; pre_tasks = []; tasks = record { name = codes "debug"; vars = []; «module» = Debug (text (codes "{{ x }}")) } ∷ []; post_tasks = [] } ∷ [] })
+    ≡ Ok (record { plays = record { name = codes "all"; hosts = all_hosts; vars = []; pre_tasks = []; tasks = plain_task (codes "debug") [] (Debug (text (codes "{{ x }}"))) ∷ []; post_tasks = [] } ∷ [] })
 unfolding on_literals
 template = refl
 
@@ -172,9 +174,9 @@ three_lists : playbook_of (codes "[{\"hosts\":\"all\",\"gather_facts\":false,\"p
         name = codes "all";
         hosts = all_hosts;
         vars = [];
-        pre_tasks = record { name = codes "a"; vars = []; «module» = Debug (text (codes "Hello world!")) } ∷ [];
+        pre_tasks = plain_task (codes "a") [] (Debug (text (codes "Hello world!"))) ∷ [];
         tasks = [];
-        post_tasks = record { name = codes "debug"; vars = []; «module» = Debug (text (codes "Hello world!")) } ∷ [];
+        post_tasks = plain_task (codes "debug") [] (Debug (text (codes "Hello world!"))) ∷ [];
       } ∷ [];
     })
 unfolding on_literals
@@ -191,7 +193,7 @@ unfolding on_literals
 without_effect_on_plays = refl
 
 without_effect_on_tasks : playbook_of (codes "[{\"hosts\":\"all\",\"gather_facts\":false,\"tasks\":[{\"debug\":{},\"connection\":\"local\",\"gather_subset\":1.5,\"no_log\":false,\"remote_user\":1.5,\"tags\":[1.5,\"a\"]}]}]")
-    ≡ Ok (record { plays = record { name = codes "all"; hosts = all_hosts; vars = []; pre_tasks = []; tasks = record { name = codes "debug"; vars = []; «module» = Debug (text (codes "Hello world!")) } ∷ []; post_tasks = [] } ∷ [] })
+    ≡ Ok (record { plays = record { name = codes "all"; hosts = all_hosts; vars = []; pre_tasks = []; tasks = plain_task (codes "debug") [] (Debug (text (codes "Hello world!"))) ∷ []; post_tasks = [] } ∷ [] })
 unfolding on_literals
 without_effect_on_tasks = refl
 
@@ -220,9 +222,9 @@ commands : playbook_of (codes "[{\"hosts\":\"all\",\"gather_facts\":false,\"task
         vars = [];
         pre_tasks = [];
         tasks =
-            record { name = codes "command"; vars = []; «module» = Command (Line (codes "ls -l")) } ∷
-            record { name = codes "command"; vars = []; «module» = Command (Line (codes "'")) } ∷
-            record { name = codes "command"; vars = []; «module» = Command (Argv (text (codes "ls") ∷ int (pos 1) ∷ null ∷ [])) } ∷ [];
+            plain_task (codes "command") [] (Command (Line (codes "ls -l"))) ∷
+            plain_task (codes "command") [] (Command (Line (codes "'"))) ∷
+            plain_task (codes "command") [] (Command (Argv (text (codes "ls") ∷ int (pos 1) ∷ null ∷ []))) ∷ [];
         post_tasks = [];
       } ∷ [];
     })
@@ -236,7 +238,7 @@ shells : playbook_of (codes "[{\"hosts\":\"all\",\"gather_facts\":false,\"tasks\
         hosts = all_hosts;
         vars = [];
         pre_tasks = [];
-        tasks = record { name = codes "shell"; vars = []; «module» = Shell [] } ∷ record { name = codes "shell"; vars = []; «module» = Shell (codes "a | b") } ∷ [];
+        tasks = plain_task (codes "shell") [] (Shell []) ∷ plain_task (codes "shell") [] (Shell (codes "a | b")) ∷ [];
         post_tasks = [];
       } ∷ [];
     })
@@ -250,7 +252,7 @@ fails : playbook_of (codes "[{\"hosts\":\"all\",\"gather_facts\":false,\"tasks\"
         hosts = all_hosts;
         vars = [];
         pre_tasks = [];
-        tasks = record { name = codes "fail"; vars = []; «module» = Fail (text (codes "Failed as requested from task")) } ∷ record { name = codes "fail"; vars = []; «module» = Fail (int (pos 1)) } ∷ [];
+        tasks = plain_task (codes "fail") [] (Fail (text (codes "Failed as requested from task"))) ∷ plain_task (codes "fail") [] (Fail (int (pos 1))) ∷ [];
         post_tasks = [];
       } ∷ [];
     })
@@ -299,7 +301,7 @@ no_template_in_key : playbook_of (codes "[{\"hosts\":\"all\",\"gather_facts\":fa
         hosts = all_hosts;
         vars = [];
         pre_tasks = [];
-        tasks = record { name = codes "fail"; vars = []; «module» = Fail (dict (member (codes "{% x") (text (codes "a")) no_members)) } ∷ [];
+        tasks = plain_task (codes "fail") [] (Fail (dict (member (codes "{% x") (text (codes "a")) no_members))) ∷ [];
         post_tasks = [];
       } ∷ [];
     })
@@ -314,7 +316,7 @@ variables : playbook_of (codes "[{\"hosts\":\"all\",\"gather_facts\":false,\"var
         hosts = all_hosts;
         vars = (codes "a", int (pos 1)) ∷ (codes "b", text (codes "{{ a }}")) ∷ [];
         pre_tasks = [];
-        tasks = record { name = codes "debug"; vars = (codes "-", null) ∷ []; «module» = Debug (text (codes "Hello world!")) } ∷ [];
+        tasks = plain_task (codes "debug") ((codes "-", null) ∷ []) (Debug (text (codes "Hello world!"))) ∷ [];
         post_tasks = [];
       } ∷ [];
     })
@@ -335,7 +337,7 @@ no_template_in_variable = refl
 
 -- `debug` shows the value of an expression, which stands without braces
 shown : playbook_of (codes "[{\"hosts\":\"all\",\"gather_facts\":false,\"tasks\":[{\"debug\":{\"var\":\"x\"}}]}]")
-    ≡ Ok (record { plays = record { name = codes "all"; hosts = all_hosts; vars = []; pre_tasks = []; tasks = record { name = codes "debug"; vars = []; «module» = DebugVar (codes "x") (Name (codes "x")) } ∷ []; post_tasks = [] } ∷ [] })
+    ≡ Ok (record { plays = record { name = codes "all"; hosts = all_hosts; vars = []; pre_tasks = []; tasks = plain_task (codes "debug") [] (DebugVar (codes "x") (Name (codes "x"))) ∷ []; post_tasks = [] } ∷ [] })
 unfolding on_literals
 shown = refl
 
@@ -370,9 +372,9 @@ all_keys_of_play : playbook_of (codes "[{\"connection\":\"local\",\"gather_facts
         name = codes "p";
         hosts = all_hosts;
         vars = (codes "x", int (pos 1)) ∷ [];
-        pre_tasks = record { name = codes "shell"; vars = []; «module» = Shell (codes "a") } ∷ [];
-        tasks = record { name = codes "shell"; vars = []; «module» = Shell (codes "b") } ∷ [];
-        post_tasks = record { name = codes "shell"; vars = []; «module» = Shell (codes "c") } ∷ [];
+        pre_tasks = plain_task (codes "shell") [] (Shell (codes "a")) ∷ [];
+        tasks = plain_task (codes "shell") [] (Shell (codes "b")) ∷ [];
+        post_tasks = plain_task (codes "shell") [] (Shell (codes "c")) ∷ [];
       } ∷ [];
     })
 unfolding on_literals
@@ -386,7 +388,7 @@ all_keys_of_task : playbook_of (codes "[{\"hosts\":\"all\",\"gather_facts\":fals
         hosts = all_hosts;
         vars = [];
         pre_tasks = [];
-        tasks = record { name = codes "n"; vars = (codes "x", int (pos 1)) ∷ []; «module» = Shell (codes "a") } ∷ [];
+        tasks = plain_task (codes "n") ((codes "x", int (pos 1)) ∷ []) (Shell (codes "a")) ∷ [];
         post_tasks = [];
       } ∷ [];
     })
@@ -409,9 +411,77 @@ all_arguments_of_fail_and_shell : playbook_of (codes "[{\"hosts\":\"all\",\"gath
         hosts = all_hosts;
         vars = [];
         pre_tasks = [];
-        tasks = record { name = codes "fail"; vars = []; «module» = Fail (text (codes "a")) } ∷ record { name = codes "shell"; vars = []; «module» = Shell (codes "b") } ∷ [];
+        tasks = plain_task (codes "fail") [] (Fail (text (codes "a"))) ∷ plain_task (codes "shell") [] (Shell (codes "b")) ∷ [];
         post_tasks = [];
       } ∷ [];
     })
 unfolding on_literals
 all_arguments_of_fail_and_shell = refl
+
+-- the keys of a task that say when, how often and with what end it runs
+keys_of_a_task : playbook_of (codes "[{\"hosts\":\"all\",\"gather_facts\":false,\"tasks\":[{\"ignore_errors\":true,\"loop\":[1],\"loop_control\":{\"loop_var\":\"v\"},\"when\":\"x\",\"debug\":{\"msg\":\"m\"}}]}]")
+    ≡ Ok (record {
+      plays = record {
+        name = codes "all";
+        hosts = all_hosts;
+        vars = [];
+        pre_tasks = [];
+        tasks =
+            record (plain_task (codes "debug") [] (Debug (text (codes "m")))) {
+              conditions = Name (codes "x") ∷ [];
+              looped = Some (record { over = list (items_of (int (pos 1) ∷ [])); variable = codes "v" });
+              ignore_errors = true;
+            } ∷ [];
+        post_tasks = [];
+      } ∷ [];
+    })
+unfolding on_literals
+keys_of_a_task = refl
+
+-- a play that ignores failures does so for each of its tasks that says nothing else; `assert` is a module
+keys_of_a_play : playbook_of (codes "[{\"hosts\":\"all\",\"gather_facts\":false,\"ignore_errors\":true,\"tasks\":[{\"assert\":{\"that\":\"x\"}},{\"ignore_errors\":false,\"fail\":{}}]}]")
+    ≡ Ok (record {
+      plays = record {
+        name = codes "all";
+        hosts = all_hosts;
+        vars = [];
+        pre_tasks = [];
+        tasks =
+            record (plain_task (codes "assert") [] (Assert (Name (codes "x") ∷ []) (text (codes "Assertion failed")) (text (codes "All assertions passed")))) { ignore_errors = true }
+            ∷ plain_task (codes "fail") [] (Fail (text (codes "Failed as requested from task"))) ∷ [];
+        post_tasks = [];
+      } ∷ [];
+    })
+unfolding on_literals
+keys_of_a_play = refl
+
+-- what stands under them is looked at in their turn
+no_condition : playbook_of (codes "[{\"hosts\":\"all\",\"gather_facts\":false,\"tasks\":[{\"when\":[[]],\"zzz\":1,\"debug\":{}}]}]") ≡ Err (WrongShape (codes "0/tasks/0/when/0"))
+unfolding on_literals
+no_condition = refl
+
+-- keys and modules that are read, but not taken yet: each is refused at its place in the order of the keys, whatever it holds
+register_not_taken : playbook_of (codes "[{\"hosts\":\"all\",\"gather_facts\":false,\"tasks\":[{\"register\":\"r\",\"zzz\":1,\"debug\":{}}]}]") ≡ Err (NotInProfile (codes "register"))
+unfolding on_literals
+register_not_taken = refl
+
+changed_when_not_taken : playbook_of (codes "[{\"hosts\":\"all\",\"gather_facts\":false,\"tasks\":[{\"changed_when\":true,\"zzz\":1,\"debug\":{}}]}]") ≡ Err (NotInProfile (codes "changed_when"))
+unfolding on_literals
+changed_when_not_taken = refl
+
+failed_when_not_taken : playbook_of (codes "[{\"hosts\":\"all\",\"gather_facts\":false,\"tasks\":[{\"failed_when\":1,\"zzz\":1,\"debug\":{}}]}]") ≡ Err (NotInProfile (codes "failed_when"))
+unfolding on_literals
+failed_when_not_taken = refl
+
+set_fact_not_taken : playbook_of (codes "[{\"hosts\":\"all\",\"gather_facts\":false,\"tasks\":[{\"ansible.builtin.set_fact\":{}}]}]") ≡ Err (NotInProfile (codes "ansible.builtin.set_fact"))
+unfolding on_literals
+set_fact_not_taken = refl
+
+setup_not_taken : playbook_of (codes "[{\"hosts\":\"all\",\"gather_facts\":false,\"tasks\":[{\"setup\":{}}]}]") ≡ Err (NotInProfile (codes "setup"))
+unfolding on_literals
+setup_not_taken = refl
+
+-- a key in front of them comes first
+fault_in_front : playbook_of (codes "[{\"hosts\":\"all\",\"gather_facts\":false,\"tasks\":[{\"name\":1,\"when\":\"x\"}]}]") ≡ Err (WrongShape (codes "0/tasks/0/name"))
+unfolding on_literals
+fault_in_front = refl

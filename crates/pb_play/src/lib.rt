@@ -8,15 +8,24 @@
 //! a playbook is read, the `regex` crate took each of these. `BadPattern` comes for the first one that it refuses; any other fault comes
 //! only where each expression before it was taken. Want of memory may come at any point, in place of that answer.
 //!
-//! The texts of a module's arguments and of variables are templates, which `pb_template` reads: a text that is none is `BadExpression`. They are
+//! The texts of a module's arguments and of variables are templates: a text that is none is `BadExpression`. They are
 //! kept as they are written, since what they give is known only when a task starts on a host. The expression at `var` of `debug` is kept
-//! as its tree, too.
+//! as its tree, too, and so are conditions. A task is handed the play's `ignore_errors` where it has none of its own, and a play that gathers
+//! facts begins with a task that does.
+//!
+//! Keys and modules that are read here, but that the engine doesn't take yet, are refused as those that aren't read: `is_taken`
+//! (`specs/Taken.antt`) has the list. To take one, drop it there and in `src/taken.rt`.
 #![tactic(auto)]
 
+mod assert;
 pub mod commands;
+mod conditions;
 mod debug;
+mod facts;
 pub mod fault;
+mod gathering;
 mod hosts;
+pub mod loops;
 mod messages;
 pub mod modules;
 mod no_effect;
@@ -24,5 +33,5 @@ mod other_keys;
 pub mod play;
 pub mod playbook;
 mod simple;
+mod taken;
 pub mod task;
-mod templates;

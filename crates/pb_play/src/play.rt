@@ -1,19 +1,22 @@
-ghost use Rattle.std.specs.Prelude.{◌≡◌, option_map, codes};
+ghost use Rattle.std.specs.Prelude.{◌≡◌, [], IfOk, option_map, codes};
 ghost use Rattle.serde_json.specs.Data as json;
 ghost use Rattle.serde_json.specs.View.{view, members_view};
 ghost use Rattle.pb_value.specs.Reading.{below};
-ghost use Rattle.pb_reading.specs.Ahead.{ahead};
+ghost use Rattle.pb_reading.specs.Ahead.{ahead, Takes};
 ghost use Rattle.pb_reading.specs.Fields.{optional, value_of};
 ghost use Rattle.pb_reading.specs.Reading.{Gives};
 ghost use Rattle.pb_play.specs.Refusals.{GivesOf};
 ghost use Rattle.pb_play.specs.Hosts.{hosts};
-ghost use Rattle.pb_play.specs.Plays.{written_off, rest_of_play, play, expressions_at, expressions_of_play};
+ghost use Rattle.pb_play.specs.Tasks.{tasks};
+ghost use Rattle.pb_play.specs.Plays.{key_or, play_of, lists, rest_of_play, play, expressions_at, expressions_of_play};
 
-use crate::fault::{LoadFault, not_in_profile};
+use crate::fault::LoadFault;
+use crate::gathering::{Gathering, begun, or_on};
 use crate::hosts::{PlayHosts, read_hosts};
 use crate::other_keys::WithoutEffect;
-use crate::simple::{Gathering, TemplateValue};
-use crate::task::Task;
+use crate::simple::TemplateValue;
+use crate::taken::taken_or;
+use crate::task::{Ignored, Task};
 use pb_patterns::pattern::Pattern;
 use pb_reading::keys::Keys;
 use pb_reading::list::{Each, EachNamed};
@@ -23,8 +26,9 @@ use pb_value::items::Items;
 use pb_value::path::child;
 use pb_value::text::Text;
 use pb_value::val::Dict;
+use pb_written::simple::Switch;
 use serde_json::{Map, Value};
-use std::alloc::Global;
+use std::alloc::{AllocError, Global};
 
 /// A play of a playbook.
 #[derive(Drop)]
@@ -39,7 +43,7 @@ pub struct Play {
     /// Its variables, each a value under its name, as they are written: their texts are templates. They are layer 5 of those that a task
     /// sees (`pb_layers`): over those of the inventory, under those of the task. See Ansible's documentation, "Using variables".
     pub vars: Dict,
-    /// What it does before its tasks, in this order.
+    /// What it does before its tasks, in this order: first it gathers the facts of its hosts, where that isn't switched off.
     pub pre_tasks: Items<Task>,
     /// What it does, in this order.
     pub tasks: Items<Task>,
@@ -67,14 +71,92 @@ fn read_hosts_at(
     }
 }
 
-/// Where `gather_facts` isn't written it is on, and facts aren't gathered yet.
-fn check_written_off(alloc: Global, gather_facts: Option<bool>) -> Result<bool, Stop<LoadFault>>
-    ensures { Gives result (written_off gather_facts) }
+/// The tasks at a key, in a play that ignores failures or not.
+fn read_tasks(
+    alloc: Global,
+    keys: &mut Keys<'_, WithoutEffect>,
+    key: &str,
+    is_ignored: bool,
+) -> Result<Items<Task>, Stop<LoadFault>>
+    ensures value { Takes (λ v. v) result (ahead keys.new) (key_or key.now (tasks is_ignored) [] (ahead keys.old)) }
+    ensures path { (ahead keys.new).path ≡ (ahead keys.old).path }
 {
-    match gather_facts {
-        Some(off) => Ok(off),
-        None => not_in_profile(alloc, "gather_facts"),
+    if is_ignored {
+        keys.field_or::<Each<Ignored>>(alloc, key, Items::new(alloc))
+    } else {
+        keys.field_or::<Each<Task>>(alloc, key, Items::new(alloc))
     }
+}
+
+/// The three lists of tasks of a play, and whether it ignores their failures.
+struct Lists {
+    is_ignored: bool,
+    post_tasks: Items<Task>,
+    pre_tasks: Items<Task>,
+    tasks: Items<Task>,
+}
+
+impl Drop for Lists {
+    fn drop(self) {
+        let Lists {
+            is_ignored: _,
+            post_tasks,
+            pre_tasks,
+            tasks,
+        } = self;
+        drop(post_tasks);
+        drop(pre_tasks);
+        drop(tasks);
+    }
+}
+
+impl Lists {
+    /// The play that has them.
+    fn of(
+        self,
+        alloc: Global,
+        gathers: bool,
+        name: Text,
+        hosts: Pattern,
+        vars: Dict,
+    ) -> Result<Play, AllocError>
+        ensures { IfOk result (λ play. play ≡ play_of gathers name hosts vars self) }
+    {
+        let Lists {
+            is_ignored,
+            post_tasks,
+            pre_tasks,
+            tasks,
+        } = self;
+        let pre_tasks = begun(alloc, gathers, is_ignored, pre_tasks)?;
+        Ok(Play {
+            name,
+            hosts,
+            vars,
+            pre_tasks,
+            tasks,
+            post_tasks,
+        })
+    }
+}
+
+fn read_lists(
+    alloc: Global,
+    keys: &mut Keys<'_, WithoutEffect>,
+    is_ignored: bool,
+) -> Result<Lists, Stop<LoadFault>>
+    ensures value { Takes (λ v. v) result (ahead keys.new) (lists is_ignored (ahead keys.old)) }
+    ensures path { (ahead keys.new).path ≡ (ahead keys.old).path }
+{
+    let post_tasks = read_tasks(alloc, keys, "post_tasks", is_ignored)?;
+    let pre_tasks = read_tasks(alloc, keys, "pre_tasks", is_ignored)?;
+    let tasks = read_tasks(alloc, keys, "tasks", is_ignored)?;
+    Ok(Lists {
+        is_ignored,
+        post_tasks,
+        pre_tasks,
+        tasks,
+    })
 }
 
 /// The play, whose keys up to `hosts` have told this.
@@ -87,22 +169,14 @@ fn read_rest(
 ) -> Result<Play, Stop<LoadFault>>
     ensures { Gives result (value_of (rest_of_play path.now gather_facts hosts (ahead keys.entry))) }
 {
+    let is_ignored = taken_or::<WithoutEffect, Switch>(alloc, &mut keys, "ignore_errors", false)?;
     let name = keys.field::<PlainText>(alloc, "name")?;
-    let post_tasks = keys.field_or::<Each<Task>>(alloc, "post_tasks", Items::new(alloc))?;
-    let pre_tasks = keys.field_or::<Each<Task>>(alloc, "pre_tasks", Items::new(alloc))?;
-    let tasks = keys.field_or::<Each<Task>>(alloc, "tasks", Items::new(alloc))?;
+    let lists = read_lists(alloc, &mut keys, is_ignored)?;
     let vars = keys.field_or::<EachNamed<TemplateValue>>(alloc, "vars", Dict::new(alloc))?;
     keys.others(alloc)?;
     let PlayHosts { text, pattern } = required(path, hosts)?;
-    check_written_off(alloc, gather_facts)?;
-    Ok(Play {
-        name: name.unwrap_or(text),
-        hosts: pattern,
-        vars,
-        pre_tasks,
-        tasks,
-        post_tasks,
-    })
+    let gathers = or_on(alloc, gather_facts)?;
+    Ok(lists.of(alloc, gathers, name.unwrap_or(text), pattern, vars)?)
 }
 
 /// The play that the members of an object make.

@@ -5,26 +5,26 @@ use Rattle.std.specs.Option.{option_map_or}
 use Rattle.std.proofs.Math.Dec.{eqb-suc-zero, eqb-zero-suc, eqb-suc-suc}
 use Rattle.std.proofs.lemmas.List.{length-map, length-set}
 use Rattle.pb_ids.specs.declared.numbers.Ticket.{Ticket}
+use Rattle.pb_outcome.specs.declared.item.Item.{Item}
 use Rattle.pb_outcome.specs.declared.job.Report.{Report}
 use Rattle.pb_outcome.specs.declared.outcome.Form.{Form}
+use Rattle.pb_outcome.specs.Items.{is_over}
 use Rattle.pb_tree.specs.Tree.{TreeOf}
 use Rattle.pb_state.specs.declared.event.Event.{Event}
 use Rattle.pb_state.specs.declared.event.Event.TheVariants.{Open, Start, Send, Report as Reported, Turn, Close, Stop, Forks}
-use Rattle.pb_items.specs.declared.planned.Planned.{Planned}
-use Rattle.pb_items.specs.declared.planned.Planned.TheVariants.{Decided as DecidedItem, Sends}
 use Rattle.pb_state.specs.declared.row.Counts.{Counts}
 use Rattle.pb_state.specs.declared.row.Running.{Running}
 use Rattle.pb_plan.specs.Plan.{PlayOf, PlanOf}
-use Rattle.pb_state.specs.Row.{HostRow, first_rows, next_place, joined, left, started, sent, reported, reported_running, task_of, item_of}
+use Rattle.pb_state.specs.Row.{HostRow, first_rows, next_place, joined, left, finished, ignores_at, task_at, items_after, progressed, sent, reported, reported_running}
 use Rattle.pb_state.specs.State.{State}
-use Rattle.pb_state.specs.Results.{planned_at}
-use Rattle.pb_state.specs.Machine.{change, open_play, possible, after, first_state, next_play, opened_in, opened_at, started_in, start_at, start_with, sent_in, reported_in, report_decides, decided_by, turned_in, may_start_in, may_report_in, at_row, stands_at, same_place, has_room}
+use Rattle.pb_state.specs.Results.{items_at}
+use Rattle.pb_state.specs.Machine.{change, open_play, possible, after, first_state, next_play, opened_in, opened_at, started_in, start_at, start_with, sent_in, reported_in, done_at, done_if, report_decides, decided_by, turned_in, may_start_in, may_report_in, at_row, stands_at, same_place, has_room}
 use Rattle.pb_state.specs.Run.{legal_from, state_from, IsRun}
 use Rattle.pb_state.proofs.Opening.{length-first}
 use Rattle.pb_recap.specs.declared.kind.CountKind.{CountKind}
 use Rattle.pb_recap.specs.declared.kind.CountKind.TheVariants.{Okay, Changed, Unreachable, Failed, Skipped, Rescued, Ignored}
 use Rattle.pb_recap.specs.Kinds.{count_of}
-use Rattle.pb_recap.specs.Recap.{ended_by, ended_in, finishes, counts_under, counted, count_from, counts_from, hosts_from, recap}
+use Rattle.pb_recap.specs.Recap.{by_host, ended_by, ended_in, finishes, counts_under, counted, count_from, counts_from, hosts_from, recap}
 use Rattle.pb_recap.proofs.Formed.{one, task_counts}
 
 none_more : (n : ℕ) → n ≡ 0 + n
@@ -78,24 +78,31 @@ none_if : (a : Bool) → nothing ≡ (if a then 0 else 0)
 none_if true = refl
 none_if false = refl
 
+-- a task that has come to these items counts where it is over
+abbrev items_add : CountKind → PlayOf → ℕ → List Item → ℕ
+items_add kind play p items = if is_over items then one (counts_under kind (task_at play p items)) else 0
+
+progressed_row : (kind : CountKind) (play : PlayOf) (p : ℕ) (items : List Item) (row : HostRow) → count_of kind (progressed play p items row).counts ≡ items_add kind play p items + count_of kind row.counts
+progressed_row kind play p items row = by_over (is_over items)
+  where
+    by_over : (over : Bool) → count_of kind (if over then finished p (task_at play p items) row else record row { running = Some (record { place = p; items = items; out = None }) }).counts
+        ≡ (if over then one (counts_under kind (task_at play p items)) else 0) + count_of kind row.counts
+    by_over true = task_counts (ignores_at play p) items row.counts kind
+    by_over false = none_more (count_of kind row.counts)
+
+progressed_told : (kind : CountKind) (play : PlayOf) (p : ℕ) (items : List Item) (h k : ℕ) → counted k kind (option_map (by_host h) (done_if play p items)) ≡ added (items_add kind play p items) h k
+progressed_told kind play p items h k = by_over (is_over items)
+  where
+    by_over : (over : Bool) → counted k kind (option_map (by_host h) (if over then Some (done_at play p items) else None)) ≡ added (if over then one (counts_under kind (task_at play p items)) else 0) h k
+    by_over true = if_both (h == k) (counts_under kind (task_at play p items))
+    by_over false = none_if (h == k)
+
 -- a task that starts
-abbrev start_adds : CountKind → Planned → ℕ
-start_adds kind (DecidedItem item) = one (counts_under kind (task_of item))
-start_adds kind (Sends call) = 0
-
-start_row : (kind : CountKind) (p : ℕ) (planned : Planned) (row : HostRow) → count_of kind (started p planned row).counts ≡ start_adds kind planned + count_of kind row.counts
-start_row kind p (DecidedItem item) row = task_counts item row.counts kind
-start_row kind p (Sends call) row = none_more (count_of kind row.counts)
-
-start_told : (kind : CountKind) (s : State) (h k : ℕ) (play : PlayOf) (p : ℕ) (planned : Planned) → counted k kind (ended_in (start_with s h play p planned) h) ≡ added (start_adds kind planned) h k
-start_told kind s h k play p (DecidedItem item) = if_both (h == k) (counts_under kind (task_of item))
-start_told kind s h k play p (Sends call) = none_if (h == k)
-
-start_with_counts : (kind : CountKind) (s : State) (h k : ℕ) (play : PlayOf) (p : ℕ) (planned : Planned) → k < length s.rows
-    → row_count kind (start_with s h play p planned).rows k ≡ counted k kind (ended_in (start_with s h play p planned) h) + row_count kind s.rows k
-start_with_counts kind s h k play p planned b =
-    changed_count kind (started p planned) (start_adds kind planned) s.rows h k b (λ row e. start_row kind p planned row)
-    ∙ ap (λ n. n + row_count kind s.rows k) (sym (start_told kind s h k play p planned))
+start_with_counts : (kind : CountKind) (s : State) (h k : ℕ) (play : PlayOf) (p : ℕ) (items : List Item) → k < length s.rows
+    → row_count kind (start_with s h play p items).rows k ≡ counted k kind (ended_in (start_with s h play p items) h) + row_count kind s.rows k
+start_with_counts kind s h k play p items b =
+    changed_count kind (progressed play p items) (items_add kind play p items) s.rows h k b (λ row e. progressed_row kind play p items row)
+    ∙ ap (λ n. n + row_count kind s.rows k) (sym (progressed_told kind play p items h k))
 
 -- no host starts where there is no place
 no_same : (a : Bool) (q : Option ℕ) → (a && same_place q None) ≡ true → ⊥
@@ -111,7 +118,7 @@ no_start true (Some row) e = no_same _ (next_place row) e
 start_counts : (kind : CountKind) (plan : PlanOf) (s : State) (h k : ℕ) (play : PlayOf) (place : Option ℕ) → k < length s.rows → (has_room s && at_row (stands_at place) s.rows h) ≡ true
     → row_count kind (option_map_or (start_at plan s h play) place s).rows k ≡ counted k kind (ended_in (option_map_or (start_at plan s h play) place s) h) + row_count kind s.rows k
 start_counts kind plan s h k play None b may = absurd (no_start (has_room s) (slice_get s.rows h) may)
-start_counts kind plan s h k play (Some p) b may = start_with_counts kind s h k play p (planned_at plan play h p) b
+start_counts kind plan s h k play (Some p) b may = start_with_counts kind s h k play p (items_at plan play h p) b
 
 started_counts : (kind : CountKind) (plan : PlanOf) (s : State) (h k : ℕ) (found : Option PlayOf) → k < length s.rows → option_map_or (may_start_in s h) found false ≡ true
     → row_count kind (option_map_or (started_in plan s h) found s).rows k ≡ counted k kind (ended_in (option_map_or (started_in plan s h) found s) h) + row_count kind s.rows k
@@ -127,33 +134,33 @@ sent_counts kind s h k ticket None b = none_more (row_count kind s.rows k)
 sent_counts kind s h k ticket (Some play) b =
     changed_count kind (sent ticket) 0 s.rows h k b (λ row e. sent_row kind ticket row) ∙ ap (λ n. n + row_count kind s.rows k) (sym (none_if (h == k)))
 
--- a report ends the task that waited for it
-abbrev report_adds : CountKind → Form → Option Running → ℕ
-report_adds kind outcome None = 0
-report_adds kind outcome (Some r) = one (counts_under kind (task_of (item_of outcome r)))
+-- a report counts where it ends the task that waited for it
+abbrev report_adds : CountKind → PlayOf → Form → Option Running → ℕ
+report_adds kind play outcome None = 0
+report_adds kind play outcome (Some r) = items_add kind play r.place (items_after outcome r)
 
-report_row : (kind : CountKind) (outcome : Form) (row : HostRow) (running : Option Running)
-    → count_of kind (option_map_or (reported_running outcome row) running row).counts ≡ report_adds kind outcome running + count_of kind row.counts
-report_row kind outcome row None = none_more (count_of kind row.counts)
-report_row kind outcome row (Some r) = task_counts (item_of outcome r) row.counts kind
+report_row : (kind : CountKind) (play : PlayOf) (outcome : Form) (row : HostRow) (running : Option Running)
+    → count_of kind (option_map_or (reported_running play outcome row) running row).counts ≡ report_adds kind play outcome running + count_of kind row.counts
+report_row kind play outcome row None = none_more (count_of kind row.counts)
+report_row kind play outcome row (Some r) = progressed_row kind play r.place (items_after outcome r) row
 
-report_told : (kind : CountKind) (outcome : Form) (h k : ℕ) (running : Option Running)
-    → counted k kind (option_map_or (ended_by h) (option_map (decided_by outcome) running) None) ≡ added (report_adds kind outcome running) h k
-report_told kind outcome h k None = none_if (h == k)
-report_told kind outcome h k (Some r) = if_both (h == k) (counts_under kind (task_of (item_of outcome r)))
+report_told : (kind : CountKind) (play : PlayOf) (outcome : Form) (h k : ℕ) (running : Option Running)
+    → counted k kind (option_map_or (ended_by h) (option_map (decided_by play outcome) running) None) ≡ added (report_adds kind play outcome running) h k
+report_told kind play outcome h k None = none_if (h == k)
+report_told kind play outcome h k (Some r) = progressed_told kind play r.place (items_after outcome r) h k
 
-report_counts : (kind : CountKind) (outcome : Form) (rows : List HostRow) (h k : ℕ) (found : Option HostRow) → slice_get rows h ≡ found → k < length rows
-    → row_count kind (change rows h (reported outcome)) k ≡ counted k kind (option_map_or (ended_by h) (option_map_or (report_decides outcome) found None) None) + row_count kind rows k
-report_counts kind outcome rows h k None e b = rw (change_none rows h (reported outcome) e) (none_more (row_count kind rows k))
-report_counts kind outcome rows h k (Some row) e b =
-    changed_count kind (reported outcome) (report_adds kind outcome row.running) rows h k b
-    (λ r q. let same : r ≡ row = cc in rw same (report_row kind outcome row row.running))
-    ∙ ap (λ n. n + row_count kind rows k) (sym (report_told kind outcome h k row.running))
+report_counts : (kind : CountKind) (play : PlayOf) (outcome : Form) (rows : List HostRow) (h k : ℕ) (found : Option HostRow) → slice_get rows h ≡ found → k < length rows
+    → row_count kind (change rows h (reported play outcome)) k ≡ counted k kind (option_map_or (ended_by h) (option_map_or (report_decides play outcome) found None) None) + row_count kind rows k
+report_counts kind play outcome rows h k None e b = rw (change_none rows h (reported play outcome) e) (none_more (row_count kind rows k))
+report_counts kind play outcome rows h k (Some row) e b =
+    changed_count kind (reported play outcome) (report_adds kind play outcome row.running) rows h k b
+    (λ r q. let same : r ≡ row = cc in rw same (report_row kind play outcome row row.running))
+    ∙ ap (λ n. n + row_count kind rows k) (sym (report_told kind play outcome h k row.running))
 
 reported_counts : (kind : CountKind) (s : State) (r : Report) (k : ℕ) (found : Option PlayOf) → k < length s.rows → option_map_or (may_report_in s r) found false ≡ true
     → row_count kind (option_map_or (reported_in s r) found s).rows k ≡ counted k kind (ended_in (option_map_or (reported_in s r) found s) r.host.0) + row_count kind s.rows k
 reported_counts kind s r k None b may = cc
-reported_counts kind s r k (Some play) b may = report_counts kind r.outcome s.rows r.host.0 k (slice_get s.rows r.host.0) refl b
+reported_counts kind s r k (Some play) b may = report_counts kind play r.outcome s.rows r.host.0 k (slice_get s.rows r.host.0) refl b
 
 opened_counts : (kind : CountKind) (s : State) (n k : ℕ) (found : Option PlayOf) → row_count kind (option_map_or (opened_in s n) found s).rows k ≡ row_count kind s.rows k
 opened_counts kind s n k None = refl
@@ -189,7 +196,7 @@ change_hosts rows h f = changed_hosts rows h f (slice_get rows h)
 
 start_hosts : (plan : PlanOf) (s : State) (h : ℕ) (play : PlayOf) (place : Option ℕ) → length (option_map_or (start_at plan s h play) place s).rows ≡ length s.rows
 start_hosts plan s h play None = refl
-start_hosts plan s h play (Some p) = change_hosts s.rows h (started p (planned_at plan play h p))
+start_hosts plan s h play (Some p) = change_hosts s.rows h (progressed play p (items_at plan play h p))
 
 started_hosts : (plan : PlanOf) (s : State) (h : ℕ) (found : Option PlayOf) → length (option_map_or (started_in plan s h) found s).rows ≡ length s.rows
 started_hosts plan s h None = refl
@@ -201,7 +208,7 @@ sent_hosts s h ticket (Some play) = change_hosts s.rows h (sent ticket)
 
 reported_hosts : (s : State) (r : Report) (found : Option PlayOf) → length (option_map_or (reported_in s r) found s).rows ≡ length s.rows
 reported_hosts s r None = refl
-reported_hosts s r (Some play) = change_hosts s.rows r.host.0 (reported r.outcome)
+reported_hosts s r (Some play) = change_hosts s.rows r.host.0 (reported play r.outcome)
 
 opened_hosts : (s : State) (n : ℕ) (found : Option PlayOf) → length (option_map_or (opened_in s n) found s).rows ≡ length s.rows
 opened_hosts s n None = refl
@@ -282,9 +289,9 @@ run_counts : (plan : PlanOf) (pool : ℕ) (trail : List Event) → legal_from pl
     → map (λ (row : HostRow). row.counts) (state_from plan (first_state plan plan.forks pool) trail).rows ≡ recap plan pool trail
 run_counts plan pool trail legal =
     let s : State = first_state plan plan.forks pool in
-    let hosts : length (state_from plan s trail).rows ≡ length plan.hosts = trail_hosts plan s trail ∙ length-first 0 (length plan.hosts) in
-    each_host plan s trail (state_from plan s trail).rows plan.hosts 0 hosts
-    (λ k kind b. omega (arith, trail_counts plan s trail k kind legal (omega (arith, b, trail_hosts plan s trail)), none_first 0 (length plan.hosts) k kind, ap (λ n. count_from plan s trail n kind) (let at : 0 + k ≡ k = omega arith in at)))
+    let hosts : length (state_from plan s trail).rows ≡ length plan.inventory.hosts = trail_hosts plan s trail ∙ length-first 0 (length plan.inventory.hosts) in
+    each_host plan s trail (state_from plan s trail).rows plan.inventory.hosts 0 hosts
+    (λ k kind b. omega (arith, trail_counts plan s trail k kind legal (omega (arith, b, trail_hosts plan s trail)), none_first 0 (length plan.inventory.hosts) k kind, ap (λ n. count_from plan s trail n kind) (let at : 0 + k ≡ k = omega arith in at)))
 
 -- the counts at the end of a legal run are the recap of its events
 pub recap_of_run : (plan : PlanOf) (pool : ℕ) (trail : List Event) (s : State) → IsRun plan pool trail s → map (λ (row : HostRow). row.counts) s.rows ≡ recap plan pool trail

@@ -1,12 +1,14 @@
--- How the result of one item counts: in the host's counts as in the recap from scratch.
+-- How the result of a task's items counts: in the host's counts as in the recap from scratch.
 use Rattle.std.proofs.Common.{◌≡◌, ℕ, ◌+◌, Bool, true, false, ◌&&◌, ◌||◌, not, List, [], ◌∷◌, refl, arith}
 use Rattle.std.specs.Prelude.{if◌then◌else◌}
 use Rattle.std.specs.List.{list_any, list_all}
 use Rattle.pb_outcome.specs.declared.gather.ItemResult.{ItemResult}
 use Rattle.pb_outcome.specs.declared.gather.TaskResult.{TaskResult}
+use Rattle.pb_outcome.specs.declared.item.Item.{Item}
 use Rattle.pb_outcome.specs.Gathered.{some_unreachable, is_failed, is_skipped, is_changed, is_faulty, gathered}
+use Rattle.pb_outcome.specs.Items.{ended, task_of}
 use Rattle.pb_state.specs.declared.row.Counts.{Counts}
-use Rattle.pb_state.specs.Row.{task_of, more, counted, is_okay}
+use Rattle.pb_state.specs.Row.{more, counted, is_okay}
 use Rattle.pb_recap.specs.declared.kind.CountKind.{CountKind}
 use Rattle.pb_recap.specs.declared.kind.CountKind.TheVariants.{Okay, Changed, Unreachable, Failed, Skipped, Rescued, Ignored}
 use Rattle.pb_recap.specs.Kinds.{count_of}
@@ -46,5 +48,6 @@ gathered_counts ignore items counts kind =
     one_formed (some_unreachable items) (list_any (λ (item : ItemResult). is_failed item.ending) items) (list_all (λ (item : ItemResult). is_skipped item.ending) items)
     (list_any (λ (item : ItemResult). is_changed item.ending) items) (ignore && not (list_any (λ (item : ItemResult). is_faulty item.ending) items)) counts kind
 
-pub task_counts : (item : ItemResult) (counts : Counts) (kind : CountKind) → count_of kind (counted (task_of item) counts) ≡ one (counts_under kind (task_of item)) + count_of kind counts
-task_counts item counts kind = gathered_counts false (item ∷ []) counts kind
+pub task_counts : (ignore : Bool) (items : List Item) (counts : Counts) (kind : CountKind)
+    → count_of kind (counted (task_of ignore items) counts) ≡ one (counts_under kind (task_of ignore items)) + count_of kind counts
+task_counts ignore items counts kind = gathered_counts ignore (ended items) counts kind

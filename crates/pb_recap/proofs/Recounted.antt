@@ -23,8 +23,8 @@ pub none_hosts : (plan : PlanOf) (s : State) (h : ℕ) (hosts : List (List ℕ))
 none_hosts plan s h [] = refl
 none_hosts plan s h (host ∷ hosts) = ap (λ (rest : List Counts). none_counted ∷ rest) (none_hosts plan s (h + 1) hosts)
 
-pub new_is_recap : (plan : PlanOf) (counts : List Counts) → counts ≡ replicate (length plan.hosts) none_counted → (pool : ℕ) → counts ≡ recap plan pool []
-new_is_recap plan counts e pool = e ∙ none_hosts plan (first_state plan plan.forks pool) 0 plan.hosts
+pub new_is_recap : (plan : PlanOf) (counts : List Counts) → counts ≡ replicate (length plan.inventory.hosts) none_counted → (pool : ℕ) → counts ≡ recap plan pool []
+new_is_recap plan counts e pool = e ∙ none_hosts plan (first_state plan plan.forks pool) 0 plan.inventory.hosts
 
 -- a count by one event more
 count_more : (plan : PlanOf) (s : State) (es : List Event) (e : Event) (h : ℕ) (kind : CountKind)
@@ -119,4 +119,4 @@ pub counts_one_more : (plan : PlanOf) (s : State) (e : Event) (old new : List Co
 counts_one_more plan s e old new counts pool trail before run step is =
     let same : s ≡ after plan (state_from plan (first_state plan plan.forks pool) trail) e = step.1 ∙ ap (λ (b : State). after plan b e) (sym run.ends) in
     counts ∙ ap (λ (t : State). with_finished (finished_in t e) old) same ∙ ap (λ all. with_finished (finishes plan (state_from plan (first_state plan plan.forks pool) trail) e) all) is
-    ∙ by_finished plan (first_state plan plan.forks pool) trail e plan.hosts (finishes plan (state_from plan (first_state plan plan.forks pool) trail) e) refl
+    ∙ by_finished plan (first_state plan plan.forks pool) trail e plan.inventory.hosts (finishes plan (state_from plan (first_state plan plan.forks pool) trail) e) refl

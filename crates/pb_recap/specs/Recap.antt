@@ -88,4 +88,4 @@ hosts_from plan s trail h (host ∷ hosts) = counts_from plan s trail h ∷ host
 
 -- of all hosts, over the events of a whole run
 abbrev pub recap : PlanOf → ℕ → List Event → List Counts
-recap plan pool trail = hosts_from plan (first_state plan plan.forks pool) trail 0 plan.hosts
+recap plan pool trail = hosts_from plan (first_state plan plan.forks pool) trail 0 plan.inventory.hosts

@@ -52,26 +52,26 @@ unfolding on_tasks
 one_ran = refl
 
 -- hosts stand in the order of their numbers
-text_of_both : recap_text two_hosts.hosts (one_okay ∷ one_okay ∷ [])
+text_of_both : recap_text two_hosts.inventory.hosts (one_okay ∷ one_okay ∷ [])
     ≡ codes "PLAY RECAP\nb : ok=1 changed=0 unreachable=0 failed=0 skipped=0 rescued=0 ignored=0\na : ok=1 changed=0 unreachable=0 failed=0 skipped=0 rescued=0 ignored=0\n"
 unfolding on_literals
 text_of_both = refl
 
 -- a host without a count isn't named
-text_of_one : recap_text two_hosts.hosts (none_counted ∷ one_okay ∷ [])
+text_of_one : recap_text two_hosts.inventory.hosts (none_counted ∷ one_okay ∷ [])
     ≡ codes "PLAY RECAP\na : ok=1 changed=0 unreachable=0 failed=0 skipped=0 rescued=0 ignored=0\n"
 unfolding on_literals
 text_of_one = refl
 
 -- here hosts stand in byte order
-stats_of_both : stats_line two_hosts.hosts (one_okay ∷ one_okay ∷ [])
+stats_of_both : stats_line two_hosts.inventory.hosts (one_okay ∷ one_okay ∷ [])
     ≡ codes "{\"event\":\"playbook_on_stats\",\"stats\":{"
     ++ codes "\"a\":{\"changed\":0,\"failed\":0,\"ignored\":0,\"ok\":1,\"rescued\":0,\"skipped\":0,\"unreachable\":0},"
     ++ codes "\"b\":{\"changed\":0,\"failed\":0,\"ignored\":0,\"ok\":1,\"rescued\":0,\"skipped\":0,\"unreachable\":0}}}\n"
 unfolding on_literals
 stats_of_both = refl
 
-stats_of_none : stats_line two_hosts.hosts (none_counted ∷ none_counted ∷ []) ≡ codes "{\"event\":\"playbook_on_stats\",\"stats\":{}}\n"
+stats_of_none : stats_line two_hosts.inventory.hosts (none_counted ∷ none_counted ∷ []) ≡ codes "{\"event\":\"playbook_on_stats\",\"stats\":{}}\n"
 unfolding on_literals
 stats_of_none = refl
 

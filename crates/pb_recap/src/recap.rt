@@ -52,7 +52,7 @@ impl Recap {
     /// No counts: no host has finished a task. It is the recap of a run before its first event.
     #[tactic(auto, using(crate::proofs::Recounted::new_is_recap))]
     pub fn new(alloc: Global, plan: &Plan) -> Result<Recap, AllocError>
-        ensures none { IfOk result (λ r. r ≡ replicate (length plan.now.hosts) none_counted) }
+        ensures none { IfOk result (λ r. r ≡ replicate (length plan.now.inventory.hosts) none_counted) }
         ensures scratch { IfOk result (λ r. (pool : ℕ) → r ≡ recap plan.now pool []) }
     {
         let none = Counts {
@@ -112,14 +112,14 @@ impl Recap {
 
     /// The text of the recap: a heading, and a line for each host with a count, in the order of hosts.
     pub fn text(&self, alloc: Global, plan: &Plan) -> Result<String, AllocError>
-        ensures { IfOk result (λ s. string_bytes s ≡ recap_text plan.now.hosts self.now) }
+        ensures { IfOk result (λ s. string_bytes s ≡ recap_text plan.now.inventory.hosts self.now) }
     {
         text::text_of(alloc, plan, &self.counts)
     }
 
     /// The line of statistics, which names the hosts that have a count.
     pub fn stats_line(&self, alloc: Global, plan: &Plan) -> Result<String, AllocError>
-        ensures { IfOk result (λ s. string_bytes s ≡ stats_line plan.now.hosts self.now) }
+        ensures { IfOk result (λ s. string_bytes s ≡ stats_line plan.now.inventory.hosts self.now) }
     {
         stats::line_of(alloc, plan, &self.counts)
     }

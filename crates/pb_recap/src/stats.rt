@@ -16,7 +16,7 @@ use std::alloc::{AllocError, Global};
 /// The line of the hosts that have a count.
 #[tactic(auto, using(crate::proofs::NoFloat::line_none))]
 pub fn line_of(alloc: Global, plan: &Plan, counts: &[Counts]) -> Result<String, AllocError>
-    ensures { IfOk result (λ s. string_bytes s ≡ stats_line plan.now.hosts counts.now) }
+    ensures { IfOk result (λ s. string_bytes s ≡ stats_line plan.now.inventory.hosts counts.now) }
 {
     let line = line_value(alloc, plan, counts)?;
     line_text(alloc, &line)
@@ -34,7 +34,7 @@ fn line_text(alloc: Global, line: &Value) -> Result<String, AllocError>
 
 #[tactic(auto, unfolding(crate::specs::Stats::line_data))]
 fn line_value(alloc: Global, plan: &Plan, counts: &[Counts]) -> Result<Value, AllocError>
-    ensures { IfOk result (λ v. view v ≡ line_data plan.now.hosts counts.now) }
+    ensures { IfOk result (λ v. view v ≡ line_data plan.now.inventory.hosts counts.now) }
 {
     let mut stats = Map::new(alloc);
     put_hosts(alloc, &mut stats, plan, counts)?;
@@ -51,7 +51,7 @@ fn put_hosts(
     plan: &Plan,
     counts: &[Counts],
 ) -> Result<(), AllocError>
-    ensures { IfOk result (λ _. members_view stats.new.entries ≡ with_hosts (members_view stats.old.entries) (hosts_with_count plan.now.hosts counts.now)) }
+    ensures { IfOk result (λ _. members_view stats.new.entries ≡ with_hosts (members_view stats.old.entries) (hosts_with_count plan.now.inventory.hosts counts.now)) }
 {
     for host in 0..plan.host_count() {
         let name = plan.host_name(HostNo(host));

@@ -12,7 +12,7 @@ use std::alloc::{AllocError, Global};
 
 /// The heading, and the lines of the hosts that have a count.
 pub fn text_of(alloc: Global, plan: &Plan, counts: &[Counts]) -> Result<String, AllocError>
-    ensures { IfOk result (λ s. string_bytes s ≡ recap_text plan.now.hosts counts.now) }
+    ensures { IfOk result (λ s. string_bytes s ≡ recap_text plan.now.inventory.hosts counts.now) }
 {
     let mut text = String::from_str(alloc, "PLAY RECAP\n")?;
     push_hosts(alloc, &mut text, plan, counts)?;
@@ -25,7 +25,7 @@ fn push_hosts(
     plan: &Plan,
     counts: &[Counts],
 ) -> Result<(), AllocError>
-    ensures { IfOk result (λ _. string_bytes text.new ≡ string_bytes text.old ++ host_lines (hosts_with_count plan.now.hosts counts.now)) }
+    ensures { IfOk result (λ _. string_bytes text.new ≡ string_bytes text.old ++ host_lines (hosts_with_count plan.now.inventory.hosts counts.now)) }
 {
     for host in 0..plan.host_count() {
         let name = plan.host_name(HostNo(host));

@@ -1,6 +1,6 @@
 -- How many hosts run, where one host's row has changed.
 use Rattle.std.proofs.Common.{◌≡◌, ◌≢◌, ◌∙◌, not, ℕ, zero, suc, ◌+◌, ◌<◌, ◌≤◌, Bool, true, false, List, [], ◌∷◌, length, map, refl, sym, ap, arith, cond, ne_eqb}
-use Rattle.std.specs.Prelude.{Some, slice_get, slice_set, count_by, nat_eq, if◌then◌else◌}
+use Rattle.std.specs.Prelude.{Some, slice_get, slice_set, nat_eq}
 use Rattle.std.specs.List.{list_any}
 use Rattle.std.proofs.lemmas.List.{length-map}
 use Rattle.std.proofs.lemmas.List.Sums.{sum_by-cons, count_by-le-length}

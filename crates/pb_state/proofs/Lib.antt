@@ -1,3 +1,6 @@
+pub mod InOrder
+pub mod FewItems
+pub mod Layered
 pub mod Least
 pub mod Opening
 pub mod Oldest
@@ -7,6 +10,8 @@ pub mod WorkFalls
 pub mod Walked
 pub mod Counting
 pub mod Within
-pub mod Told
+pub mod Overwritten
+pub mod Numbered
+pub mod Went
 pub mod Once
 pub mod Walks

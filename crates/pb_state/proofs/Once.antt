@@ -1,5 +1,5 @@
 -- No run does anything twice: what a host has yet to start or send in a play lies behind what it started and sent.
-use Rattle.std.proofs.Common.{◌≡◌, ◌≢◌, ℕ, zero, suc, ◌+◌, ◌*◌, ◌<◌, ◌≤◌, Bool, true, false, ◌&&◌, not, List, [], ◌∷◌, ◌++◌, map, refl, sym, ◌∙◌, ap, arith, subst, ◌⊎◌, inl, inr}
+use Rattle.std.proofs.Common.{◌≡◌, ◌≢◌, ℕ, zero, suc, ◌+◌, ◌*◌, ◌<◌, ◌≤◌, Bool, true, false, ◌&&◌, not, List, [], ◌∷◌, ◌++◌, length, map, refl, sym, ◌∙◌, ap, arith, subst, ◌⊎◌, inl, inr}
 use Rattle.std.specs.Prelude.{Option, Some, None, option_map, slice_get, is_none, is_some, nat_eq, if◌then◌else◌}
 use Rattle.std.specs.List.{list_any}
 use Rattle.std.specs.Option.{option_map_or}
@@ -15,19 +15,22 @@ use Rattle.pb_tree.specs.Laws.{counts, IsAbove}
 use Rattle.pb_tree.specs.Walk.{reach, is_halted}
 use Rattle.pb_tree.proofs.Rise.{places_rise}
 use Rattle.pb_outcome.specs.declared.gather.TaskResult.{TaskResult}
+use Rattle.pb_outcome.specs.declared.item.Item.{Item}
 use Rattle.pb_outcome.specs.declared.job.Report.{Report}
 use Rattle.pb_outcome.specs.declared.outcome.Form.{Form}
+use Rattle.pb_outcome.specs.Items.{is_over}
 use Rattle.pb_state.specs.declared.event.Event.{Event}
 use Rattle.pb_state.specs.declared.event.Event.TheVariants.{Open, Start, Send, Report as Reported, Turn, Close, Stop, Forks}
-use Rattle.pb_items.specs.declared.planned.Planned.{Planned}
-use Rattle.pb_items.specs.declared.planned.Planned.TheVariants.{Decided, Sends}
 use Rattle.pb_state.specs.declared.row.Running.{Running}
 use Rattle.pb_plan.specs.Plan.{PlayOf, PlanOf}
-use Rattle.pb_state.specs.Row.{HostRow, place_of, next_place, joined, failed_kind, kind_of, answer_of, finished, started, sent, sent_running, reported, reported_running, task_of, item_of}
+use Rattle.pb_state.specs.Row.{HostRow, place_of, next_place, joined, failed_kind, kind_of, answer_of, finished, task_at, came_back, items_after, progressed, sent, sent_running, reported, reported_running}
 use Rattle.pb_state.specs.State.{State}
-use Rattle.pb_state.specs.Results.{planned_at}
-use Rattle.pb_state.specs.Machine.{possible, after, change, at_row, open_play, next_play, same_place, stands_at, is_running, has_room, has_send, may_send_item, may_start_in, may_send_in, may_report_in, opened_in, opened_at as opened_from, started_in, start_at, sent_in, reported_in, turned_in, first_state}
+use Rattle.pb_state.specs.Kept.{first_waiting}
+use Rattle.pb_state.specs.Results.{items_at}
+use Rattle.pb_state.specs.Machine.{possible, after, change, at_row, open_play, next_play, same_place, stands_at, is_running, has_room, is_ticket, sends_running, may_send_item, awaits_running, awaits, may_start_in, may_send_in, may_report_in, opened_in, opened_at as opened_from, started_in, start_at, sent_in, reported_in, turned_in, first_state}
 use Rattle.pb_state.specs.Run.{legal_from, IsRun}
+use Rattle.pb_state.proofs.FewItems.{few_items}
+use Rattle.pb_state.proofs.InOrder.{first_most, is_next_so, length_back, back_later}
 use Rattle.pb_state.proofs.Opening.{next_is}
 use Rattle.pb_state.specs.Once.{StartOf, SendOf, running_place, place_run_by, starts_from, sends_from, IsNotIn, NoTwice, IsOnce, NothingTwice}
 
@@ -44,18 +47,20 @@ not_false true e = cc
 not_false false e = refl
 
 -- ---- one host
--- The start at a place has the number twice that place, its send one more: a host's next step has at least the number n.
+-- The start at a place has the number 10002 times that place, and the send of the item with the number i there the number i + 1 more: a task has
+-- 10,000 items at most. A host's next step has at least the number n.
 abbrev IsFrom : ℕ → Reach → Type 0
-IsFrom n (At place) = n ≤ 2 * place
+IsFrom n (At place) = n ≤ 10002 * place
 IsFrom n (Done ending) = Unit {0}
 
+-- the next item's send comes next, or what is behind it
 abbrev behind : Option Ticket → ℕ
 behind None = 1
 behind (Some ticket) = 2
 
 abbrev RunsFrom : ℕ → HostRow → Option Running → Type 0
 RunsFrom n row None = IsFrom n (reach row.tree row.answers)
-RunsFrom n row (Some r) = (reach row.tree row.answers ≡ At r.place) × (n ≤ 2 * r.place + behind r.out)
+RunsFrom n row (Some r) = (reach row.tree row.answers ≡ At r.place) × (n ≤ 10002 * r.place + first_waiting r.items + behind r.out) × (length r.items ≤ 10000)
 
 abbrev RowFrom : ℕ → HostRow → Type 0
 RowFrom n row = RunsFrom n row row.running
@@ -64,7 +69,7 @@ abbrev FoundFrom : ℕ → Option HostRow → Type 0
 FoundFrom n None = Unit {0}
 FoundFrom n (Some row) = RowFrom n row
 
-above_from : (n p : ℕ) (r : Reach) → IsAbove p r → n ≤ 2 * p + 2 → IsFrom n r
+above_from : (n p : ℕ) (r : Reach) → IsAbove p r → n ≤ 10002 * p + 10002 → IsFrom n r
 above_from n p (At place) a l = omega (arith, a, l)
 above_from n p (Done ending) a l = tt
 
@@ -81,13 +86,17 @@ all_count false halted e = refl
 answer_counts : (answers : List AnswerOf) (task : TaskResult) → counts answers (answer_of task) ≡ true
 answer_counts answers task = all_count (list_any (λ (b : AnswerOf). is_halted b.kind) answers) (is_halted (kind_of task)) (kind_counts task.unreachable (task.failed && not task.ignored))
 
-finished_from : (n p : ℕ) (task : TaskResult) (row : HostRow) → reach row.tree row.answers ≡ At p → n ≤ 2 * p + 2 → RowFrom n (finished p task row)
+finished_from : (n p : ℕ) (task : TaskResult) (row : HostRow) → reach row.tree row.answers ≡ At p → n ≤ 10002 * p + 10002 → RowFrom n (finished p task row)
 finished_from n p task row e l =
     above_from n p (reach row.tree (row.answers ++ answer_of task ∷ [])) (places_rise row.tree row.answers (answer_of task) p e (answer_counts row.answers task)) l
 
-started_from : (n p : ℕ) (planned : Planned) (row : HostRow) → reach row.tree row.answers ≡ At p → n ≤ 2 * p + 1 → RowFrom n (started p planned row)
-started_from n p (Decided item) row e l = finished_from n p (task_of item) row e (omega (arith, l))
-started_from n p (Sends call) row e l = (e, l)
+progressed_from : (n p : ℕ) (play : PlayOf) (items : List Item) (row : HostRow) → reach row.tree row.answers ≡ At p → n ≤ 10002 * p + first_waiting items + 1 → length items ≤ 10000
+    → RowFrom n (progressed play p items row)
+progressed_from n p play items row e l few = by_over (is_over items)
+  where
+    by_over : (over : Bool) → RowFrom n (if over then finished p (task_at play p items) row else record row { running = Some (record { place = p; items = items; out = None }) })
+    by_over true = let most = first_most items in finished_from n p (task_at play p items) row e (omega (arith, l, few, most))
+    by_over false = (e, l, few)
 
 same_is : (a b : Option ℕ) → same_place a b ≡ true → (p : ℕ) × (a ≡ Some p) × (b ≡ Some p)
 same_is (Some p) (Some q) e = (p, refl, ap Some (sym (eqb-true p q e)))
@@ -106,45 +115,58 @@ stands p row e =
     place_at (reach row.tree row.answers) row.in_batch p here
 
 -- the number of a start, and of a send
-start_number : (n p : ℕ) (row : HostRow) → stands_at (Some p) row ≡ true → RowFrom n row → n ≤ 2 * p
+start_number : (n p : ℕ) (row : HostRow) → stands_at (Some p) row ≡ true → RowFrom n row → n ≤ 10002 * p
 start_number n p row e w = by_running row.running (not_false (is_running row) (and_left (not (is_running row)) _ e)) w
   where
-    from_at : (r : Reach) → r ≡ At p → IsFrom n r → n ≤ 2 * p
+    from_at : (r : Reach) → r ≡ At p → IsFrom n r → n ≤ 10002 * p
     from_at (At q) f v = let same : q ≡ p = cc in omega (arith, v, same)
     from_at (Done ending) f v = cc
 
-    by_running : (running : Option Running) → is_some running ≡ false → RunsFrom n row running → n ≤ 2 * p
+    by_running : (running : Option Running) → is_some running ≡ false → RunsFrom n row running → n ≤ 10002 * p
     by_running None none v = from_at (reach row.tree row.answers) (stands p row e) v
     by_running (Some r) none v = cc
 
-send_number : (n p item : ℕ) (row : HostRow) → may_send_item item row ≡ true → running_place row ≡ Some p → RowFrom n row → n ≤ 2 * p + 1
-send_number n p item row e at w = by_running row.running (and_right (nat_eq item 0) (has_send row) e) at w
+send_number : (n p item : ℕ) (row : HostRow) → may_send_item item row ≡ true → running_place row ≡ Some p → RowFrom n row → n ≤ 10002 * p + item + 1
+send_number n p item row e at w = by_running row.running e at w
   where
-    by_out : (place : ℕ) (out : Option Ticket) → is_none out ≡ true → n ≤ 2 * place + behind out → n ≤ 2 * place + 1
-    by_out place None none l = l
-    by_out place (Some ticket) none l = cc
+    by_out : (number : ℕ) (out : Option Ticket) → is_none out ≡ true → n ≤ number + behind out → n ≤ number + 1
+    by_out number None none l = l
+    by_out number (Some ticket) none l = cc
 
-    by_running : (running : Option Running) → option_map_or (λ (r : Running). is_none r.out) running false ≡ true → option_map (λ (r : Running). r.place) running ≡ Some p → RunsFrom n row running → n ≤ 2 * p + 1
+    by_running : (running : Option Running) → option_map_or (sends_running item) running false ≡ true → option_map (λ (r : Running). r.place) running ≡ Some p → RunsFrom n row running → n ≤ 10002 * p + item + 1
     by_running None s a v = cc
-    by_running (Some r) s a v = let same : r.place ≡ p = cc in let most = by_out r.place r.out s v.1 in omega (arith, most, same)
+    by_running (Some r) s a v =
+        let same : r.place ≡ p = cc in
+        let first = is_next_so item r.items (and_right (is_none r.out) _ s) in
+        let most = by_out (10002 * r.place + first_waiting r.items) r.out (and_left (is_none r.out) _ s) v.1 in
+        omega (arith, most, same, first.0)
 
-sent_from : (m n : ℕ) (ticket : Ticket) (row : HostRow) → has_send row ≡ true → ((p : ℕ) → running_place row ≡ Some p → n ≤ 2 * p + 2) → RowFrom m row → RowFrom n (sent ticket row)
-sent_from m n ticket row e most w = by_running row.running e most w
+sent_from : (m n item : ℕ) (ticket : Ticket) (row : HostRow) → may_send_item item row ≡ true → ((p : ℕ) → running_place row ≡ Some p → n ≤ 10002 * p + item + 2) → RowFrom m row → RowFrom n (sent ticket row)
+sent_from m n item ticket row e most w = by_running row.running e most w
   where
-    by_running : (running : Option Running) → option_map_or (λ (r : Running). is_none r.out) running false ≡ true → ((p : ℕ) → option_map (λ (r : Running). r.place) running ≡ Some p → n ≤ 2 * p + 2) → RunsFrom m row running → RunsFrom n row (option_map (sent_running ticket) running)
+    by_running : (running : Option Running) → option_map_or (sends_running item) running false ≡ true → ((p : ℕ) → option_map (λ (r : Running). r.place) running ≡ Some p → n ≤ 10002 * p + item + 2) → RunsFrom m row running → RunsFrom n row (option_map (sent_running ticket) running)
     by_running None s k v = cc
-    by_running (Some r) s k v = (v.0, k r.place refl)
+    by_running (Some r) s k v =
+        let first = is_next_so item r.items (and_right (is_none r.out) _ s) in
+        let most : n ≤ 10002 * r.place + item + 2 = k r.place refl in
+        (v.0, omega (arith, most, first.0), v.2)
 
 behind_most : (out : Option Ticket) → behind out ≤ 2
 behind_most None = omega arith
 behind_most (Some ticket) = omega arith
 
-reported_from : (n : ℕ) (outcome : Form) (row : HostRow) → RowFrom n row → RowFrom n (reported outcome row)
-reported_from n outcome row w = by_running row.running w
+-- the item that comes back is behind the host then
+reported_from : (n : ℕ) (play : PlayOf) (outcome : Form) (ticket : Ticket) (item : ℕ) (row : HostRow) → awaits ticket item row ≡ true → RowFrom n row → RowFrom n (reported play outcome row)
+reported_from n play outcome ticket item row e w = by_running row.running e w
   where
-    by_running : (running : Option Running) → RunsFrom n row running → RowFrom n (option_map_or (reported_running outcome row) running row)
-    by_running None v = w
-    by_running (Some r) v = let most = behind_most r.out in finished_from n r.place (task_of (item_of outcome r)) row v.0 (omega (arith, v.1, most))
+    by_running : (running : Option Running) → option_map_or (awaits_running ticket item) running false ≡ true → RunsFrom n row running → RowFrom n (option_map_or (reported_running play outcome row) running row)
+    by_running None s v = cc
+    by_running (Some r) s v =
+        let first = is_next_so item r.items (and_right (is_ticket ticket r.out) _ s) in
+        let later : first_waiting r.items + 1 ≤ first_waiting (items_after outcome r) = back_later (came_back outcome) r.items (omega (arith, first.0, first.1)) in
+        let same : length (items_after outcome r) ≡ length r.items = length_back (came_back outcome) r.items in
+        let most = behind_most r.out in
+        progressed_from n r.place play (items_after outcome r) row v.0 (omega (arith, v.1, later, most)) (omega (arith, same, v.2))
 
 -- ---- the rows
 change_on : (row : HostRow) (rows : List HostRow) (h : ℕ) (f : HostRow → HostRow) (found : Option HostRow) → slice_get rows h ≡ found → change (row ∷ rows) (suc h) f ≡ row ∷ change rows h f
@@ -229,10 +251,10 @@ start_at_moves : (plan : PlanOf) (s : State) (k : ℕ) (play : PlayOf) (place : 
 start_at_moves plan s k play None o e = same_rows s s refl refl refl
 start_at_moves plan s k play (Some p) o e =
     stays_in s (start_at plan s k play p) refl refl
-    (λ h n w. change_keeps n (started p (planned_at plan play k p)) s.rows k h
+    (λ h n w. change_keeps n (progressed play p (items_at plan play k p)) s.rows k h
     (λ row is v. let at = found_test (stands_at (Some p)) row (slice_get s.rows k) is e in
     let least = start_number n p row at v in
-    started_from n p (planned_at plan play k p) row (stands p row at) (omega (arith, least)))
+    progressed_from n p play (items_at plan play k p) row (stands p row at) (omega (arith, least)) (few_items plan play k p))
     w)
 
 start_moves : (plan : PlanOf) (s : State) (k : ℕ) (found : Option PlayOf) → open_play plan s ≡ found → option_map_or (may_start_in s k) found false ≡ true → Moves s (option_map_or (started_in plan s k) found s)
@@ -245,14 +267,17 @@ send_moves plan s k item ticket (Some play) o e =
     stays_in s (sent_in s k ticket play) refl refl
     (λ h n w. change_keeps n (sent ticket) s.rows k h
     (λ row is v. let at = found_test (may_send_item item) row (slice_get s.rows k) is (and_right (not s.stopped && nat_eq ticket.0 s.sends) _ e) in
-    sent_from n n ticket row (and_right (nat_eq item 0) (has_send row) at) (λ p here. let least = send_number n p item row at here v in omega (arith, least)) v)
+    sent_from n n item ticket row at (λ p here. let least = send_number n p item row at here v in omega (arith, least)) v)
     w)
 
 report_moves : (plan : PlanOf) (s : State) (r : Report) (found : Option PlayOf) → open_play plan s ≡ found → option_map_or (may_report_in s r) found false ≡ true → Moves s (option_map_or (reported_in s r) found s)
 report_moves plan s r None o e = cc
 report_moves plan s r (Some play) o e =
     stays_in s (reported_in s r play) refl refl
-    (λ h n w. change_keeps n (reported r.outcome) s.rows r.host.0 h (λ row is v. reported_from n r.outcome row v) w)
+    (λ h n w. change_keeps n (reported play r.outcome) s.rows r.host.0 h
+    (λ row is v. let at = found_test (awaits r.ticket r.item) row (slice_get s.rows r.host.0) is e in
+    reported_from n play r.outcome r.ticket r.item row at v)
+    w)
 
 turn_moves : (plan : PlanOf) (s : State) (found : Option PlayOf) → Moves s (option_map_or (turned_in s) found s)
 turn_moves plan s None = same_rows s s refl refl refl
@@ -302,7 +327,7 @@ start_place plan s k None e = cc
 start_place plan s k (Some play) e = start_place_in s k play s.place (and_right (has_room s) _ e)
 
 -- after a start the host is past it
-start_at_raises : (plan : PlanOf) (s : State) (k : ℕ) (play : PlayOf) (place : Option ℕ) (p : ℕ) → IsSound s → open_play plan s ≡ Some play → place ≡ Some p → at_row (stands_at place) s.rows k ≡ true → IsPast (option_map_or (start_at plan s k play) place s) k s.play (2 * p + 1)
+start_at_raises : (plan : PlanOf) (s : State) (k : ℕ) (play : PlayOf) (place : Option ℕ) (p : ℕ) → IsSound s → open_play plan s ≡ Some play → place ≡ Some p → at_row (stands_at place) s.rows k ≡ true → IsPast (option_map_or (start_at plan s k play) place s) k s.play (10002 * p + 1)
 start_at_raises plan s k play None p w o f e = cc
 start_at_raises plan s k play (Some q) p w o f e =
     let same : q ≡ p = cc in
@@ -310,45 +335,45 @@ start_at_raises plan s k play (Some q) p w o f e =
     inr (
       refl,
       opened,
-      change_raises 0 (2 * p + 1) (started q (planned_at plan play k q)) s.rows k
+      change_raises 0 (10002 * p + 1) (progressed play q (items_at plan play k q)) s.rows k
           (λ row here u. let at = found_test (stands_at (Some q)) row (slice_get s.rows k) here e in
-          started_from (2 * p + 1) q (planned_at plan play k q) row (stands q row at) (omega (arith, same)))
+          progressed_from (10002 * p + 1) q play (items_at plan play k q) row (stands q row at) (omega (arith, same)) (few_items plan play k q))
           (w opened k),
     )
 
-start_raises : (plan : PlanOf) (s : State) (k p : ℕ) (found : Option PlayOf) → IsSound s → open_play plan s ≡ found → s.place ≡ Some p → option_map_or (may_start_in s k) found false ≡ true → IsPast (option_map_or (started_in plan s k) found s) k s.play (2 * p + 1)
+start_raises : (plan : PlanOf) (s : State) (k p : ℕ) (found : Option PlayOf) → IsSound s → open_play plan s ≡ found → s.place ≡ Some p → option_map_or (may_start_in s k) found false ≡ true → IsPast (option_map_or (started_in plan s k) found s) k s.play (10002 * p + 1)
 start_raises plan s k p None w o f e = cc
 start_raises plan s k p (Some play) w o f e = start_at_raises plan s k play s.place p w o f (and_right (has_room s) _ e)
 
 -- a host that is past a start doesn't start there
-found_start : (n p : ℕ) (found : Option HostRow) → option_map_or (stands_at (Some p)) found false ≡ true → FoundFrom n found → n ≤ 2 * p
+found_start : (n p : ℕ) (found : Option HostRow) → option_map_or (stands_at (Some p)) found false ≡ true → FoundFrom n found → n ≤ 10002 * p
 found_start n p None e w = cc
 found_start n p (Some row) e w = start_number n p row e w
 
-start_least : (s : State) (k n p : ℕ) (found : Option PlayOf) → s.place ≡ Some p → option_map_or (may_start_in s k) found false ≡ true → FoundFrom n (slice_get s.rows k) → n ≤ 2 * p
+start_least : (s : State) (k n p : ℕ) (found : Option PlayOf) → s.place ≡ Some p → option_map_or (may_start_in s k) found false ≡ true → FoundFrom n (slice_get s.rows k) → n ≤ 10002 * p
 start_least s k n p None f e w = cc
 start_least s k n p (Some play) f e w =
     found_start n p (slice_get s.rows k) (subst (λ (place : Option ℕ). at_row (stands_at place) s.rows k ≡ true) f (and_right (has_room s) _ e)) w
 
-start_again : (plan : PlanOf) (s : State) (h play p : ℕ) (k : HostNo) → h ≡ k.0 → play ≡ s.play → s.place ≡ Some p → possible plan s (Start k) ≡ true → IsPast s h play (2 * p + 1) → ⊥
+start_again : (plan : PlanOf) (s : State) (h play p : ℕ) (k : HostNo) → h ≡ k.0 → play ≡ s.play → s.place ≡ Some p → possible plan s (Start k) ≡ true → IsPast s h play (10002 * p + 1) → ⊥
 start_again plan s h play p k same now here e (inl l) = omega (arith, l, now)
 start_again plan s h play p k same now here e (inr w) =
-    let least = start_least s k.0 (2 * p + 1) p (open_play plan s) here e (subst (λ (j : ℕ). FoundFrom (2 * p + 1) (slice_get s.rows j)) same w.2) in
+    let least = start_least s k.0 (10002 * p + 1) p (open_play plan s) here e (subst (λ (j : ℕ). FoundFrom (10002 * p + 1) (slice_get s.rows j)) same w.2) in
     omega (arith, least)
 
-other_start : (plan : PlanOf) (s : State) (x : StartOf) (p : ℕ) (k : HostNo) → x.place ≡ Some p → possible plan s (Start k) ≡ true → IsPast s x.host.0 x.play (2 * p + 1) → x ≢ record { host = k; play = s.play; place = s.place }
+other_start : (plan : PlanOf) (s : State) (x : StartOf) (p : ℕ) (k : HostNo) → x.place ≡ Some p → possible plan s (Start k) ≡ true → IsPast s x.host.0 x.play (10002 * p + 1) → x ≢ record { host = k; play = s.play; place = s.place }
 other_start plan s x p k at e w = λ same.
     start_again plan s x.host.0 x.play p k (ap (λ (y : StartOf). y.host.0) same) (ap (λ (y : StartOf). y.play) same) (sym (ap (λ (y : StartOf). y.place) same) ∙ at) e w
 
-later_starts : (plan : PlanOf) (s : State) (x : StartOf) (p : ℕ) (es : List Event) → x.place ≡ Some p → legal_from plan s es ≡ true → IsPast s x.host.0 x.play (2 * p + 1) → IsNotIn x (starts_from plan s es)
+later_starts : (plan : PlanOf) (s : State) (x : StartOf) (p : ℕ) (es : List Event) → x.place ≡ Some p → legal_from plan s es ≡ true → IsPast s x.host.0 x.play (10002 * p + 1) → IsNotIn x (starts_from plan s es)
 later_starts plan s x p [] at l w = tt
 later_starts plan s x p (Start k ∷ es) at l w =
     let now = and_left (possible plan s (Start k)) _ l in (
       other_start plan s x p k at now w,
-      later_starts plan (after plan s (Start k)) x p es at (and_right (possible plan s (Start k)) _ l) (past_kept s (after plan s (Start k)) x.host.0 x.play (2 * p + 1) (moves plan s (Start k) now) w),
+      later_starts plan (after plan s (Start k)) x p es at (and_right (possible plan s (Start k)) _ l) (past_kept s (after plan s (Start k)) x.host.0 x.play (10002 * p + 1) (moves plan s (Start k) now) w),
     )
 later_starts plan s x p (e ∷ es) at l w =
-    later_starts plan (after plan s e) x p es at (and_right (possible plan s e) _ l) (past_kept s (after plan s e) x.host.0 x.play (2 * p + 1) (moves plan s e (and_left (possible plan s e) _ l)) w)
+    later_starts plan (after plan s e) x p es at (and_right (possible plan s e) _ l) (past_kept s (after plan s e) x.host.0 x.play (10002 * p + 1) (moves plan s e (and_left (possible plan s e) _ l)) w)
 
 starts_once : (plan : PlanOf) (s : State) (es : List Event) → IsSound s → legal_from plan s es ≡ true → NoTwice (starts_from plan s es)
 starts_once plan s [] w l = tt
@@ -366,9 +391,9 @@ starts_once plan s (e ∷ es) w l =
 -- a send is at a place
 found_send : (item : ℕ) (found : Option HostRow) → option_map_or (may_send_item item) found false ≡ true → (p : ℕ) × (option_map_or running_place found None ≡ Some p)
 found_send item None e = cc
-found_send item (Some row) e = by_running row.running (and_right (nat_eq item 0) (has_send row) e)
+found_send item (Some row) e = by_running row.running e
   where
-    by_running : (running : Option Running) → option_map_or (λ (r : Running). is_none r.out) running false ≡ true → (p : ℕ) × (option_map (λ (r : Running). r.place) running ≡ Some p)
+    by_running : (running : Option Running) → option_map_or (sends_running item) running false ≡ true → (p : ℕ) × (option_map (λ (r : Running). r.place) running ≡ Some p)
     by_running None e = cc
     by_running (Some r) e = (r.place, refl)
 
@@ -384,48 +409,48 @@ found_place row p None is e = cc
 found_place row p (Some r) is e = let same : r ≡ row = cc in rw (← same) e
 
 -- after a send the host is past it
-send_raises : (plan : PlanOf) (s : State) (k : HostNo) (item p : ℕ) (ticket : Ticket) (found : Option PlayOf) → IsSound s → open_play plan s ≡ found → place_run_by s k ≡ Some p → option_map_or (may_send_in s k.0 item ticket) found false ≡ true → IsPast (option_map_or (sent_in s k.0 ticket) found s) k.0 s.play (2 * p + 2)
+send_raises : (plan : PlanOf) (s : State) (k : HostNo) (item p : ℕ) (ticket : Ticket) (found : Option PlayOf) → IsSound s → open_play plan s ≡ found → place_run_by s k ≡ Some p → option_map_or (may_send_in s k.0 item ticket) found false ≡ true → IsPast (option_map_or (sent_in s k.0 ticket) found s) k.0 s.play (10002 * p + item + 2)
 send_raises plan s k item p ticket None w o f e = cc
 send_raises plan s k item p ticket (Some play) w o f e =
     let opened = is_opened plan s s.is_open play refl o in
     inr (
       refl,
       opened,
-      change_raises 0 (2 * p + 2) (sent ticket) s.rows k.0
+      change_raises 0 (10002 * p + item + 2) (sent ticket) s.rows k.0
           (λ row here u. let at = found_test (may_send_item item) row (slice_get s.rows k.0) here (send_test s k.0 item ticket play e) in
           let runs : running_place row ≡ Some p = found_place row p (slice_get s.rows k.0) here f in
-          sent_from 0 (2 * p + 2) ticket row (and_right (nat_eq item 0) (has_send row) at) (λ q there. let same : q ≡ p = cc in omega (arith, same)) u)
+          sent_from 0 (10002 * p + item + 2) item ticket row at (λ q there. let same : q ≡ p = cc in omega (arith, same)) u)
           (w opened k.0),
     )
 
 -- a host that is past a send doesn't send there
-send_least_in : (n p item : ℕ) (found : Option HostRow) → option_map_or (may_send_item item) found false ≡ true → option_map_or running_place found None ≡ Some p → FoundFrom n found → n ≤ 2 * p + 1
+send_least_in : (n p item : ℕ) (found : Option HostRow) → option_map_or (may_send_item item) found false ≡ true → option_map_or running_place found None ≡ Some p → FoundFrom n found → n ≤ 10002 * p + item + 1
 send_least_in n p item None e f w = cc
 send_least_in n p item (Some row) e f w = send_number n p item row e f w
 
-send_least : (s : State) (k : HostNo) (item n p : ℕ) (ticket : Ticket) (found : Option PlayOf) → place_run_by s k ≡ Some p → option_map_or (may_send_in s k.0 item ticket) found false ≡ true → FoundFrom n (slice_get s.rows k.0) → n ≤ 2 * p + 1
+send_least : (s : State) (k : HostNo) (item n p : ℕ) (ticket : Ticket) (found : Option PlayOf) → place_run_by s k ≡ Some p → option_map_or (may_send_in s k.0 item ticket) found false ≡ true → FoundFrom n (slice_get s.rows k.0) → n ≤ 10002 * p + item + 1
 send_least s k item n p ticket None f e w = cc
 send_least s k item n p ticket (Some play) f e w = send_least_in n p item (slice_get s.rows k.0) (send_test s k.0 item ticket play e) f w
 
-send_again : (plan : PlanOf) (s : State) (h play p item : ℕ) (k : HostNo) (ticket : Ticket) → h ≡ k.0 → play ≡ s.play → place_run_by s k ≡ Some p → possible plan s (Send k item ticket) ≡ true → IsPast s h play (2 * p + 2) → ⊥
-send_again plan s h play p item k ticket same now here e (inl l) = omega (arith, l, now)
-send_again plan s h play p item k ticket same now here e (inr w) =
-    let least = send_least s k item (2 * p + 2) p ticket (open_play plan s) here e (subst (λ (j : ℕ). FoundFrom (2 * p + 2) (slice_get s.rows j)) same w.2) in
-    omega (arith, least)
+send_again : (plan : PlanOf) (s : State) (h play p i item : ℕ) (k : HostNo) (ticket : Ticket) → h ≡ k.0 → play ≡ s.play → place_run_by s k ≡ Some p → i ≡ item → possible plan s (Send k item ticket) ≡ true → IsPast s h play (10002 * p + i + 2) → ⊥
+send_again plan s h play p i item k ticket same now here is e (inl l) = omega (arith, l, now)
+send_again plan s h play p i item k ticket same now here is e (inr w) =
+    let least = send_least s k item (10002 * p + i + 2) p ticket (open_play plan s) here e (subst (λ (j : ℕ). FoundFrom (10002 * p + i + 2) (slice_get s.rows j)) same w.2) in
+    omega (arith, least, is)
 
-other_send : (plan : PlanOf) (s : State) (x : SendOf) (p item : ℕ) (k : HostNo) (ticket : Ticket) → x.place ≡ Some p → possible plan s (Send k item ticket) ≡ true → IsPast s x.host.0 x.play (2 * p + 2) → x ≢ record { host = k; play = s.play; place = place_run_by s k; item = item }
+other_send : (plan : PlanOf) (s : State) (x : SendOf) (p item : ℕ) (k : HostNo) (ticket : Ticket) → x.place ≡ Some p → possible plan s (Send k item ticket) ≡ true → IsPast s x.host.0 x.play (10002 * p + x.item + 2) → x ≢ record { host = k; play = s.play; place = place_run_by s k; item = item }
 other_send plan s x p item k ticket at e w = λ same.
-    send_again plan s x.host.0 x.play p item k ticket (ap (λ (y : SendOf). y.host.0) same) (ap (λ (y : SendOf). y.play) same) (sym (ap (λ (y : SendOf). y.place) same) ∙ at) e w
+    send_again plan s x.host.0 x.play p x.item item k ticket (ap (λ (y : SendOf). y.host.0) same) (ap (λ (y : SendOf). y.play) same) (sym (ap (λ (y : SendOf). y.place) same) ∙ at) (ap (λ (y : SendOf). y.item) same) e w
 
-later_sends : (plan : PlanOf) (s : State) (x : SendOf) (p : ℕ) (es : List Event) → x.place ≡ Some p → legal_from plan s es ≡ true → IsPast s x.host.0 x.play (2 * p + 2) → IsNotIn x (sends_from plan s es)
+later_sends : (plan : PlanOf) (s : State) (x : SendOf) (p : ℕ) (es : List Event) → x.place ≡ Some p → legal_from plan s es ≡ true → IsPast s x.host.0 x.play (10002 * p + x.item + 2) → IsNotIn x (sends_from plan s es)
 later_sends plan s x p [] at l w = tt
 later_sends plan s x p (Send k item ticket ∷ es) at l w =
     let now = and_left (possible plan s (Send k item ticket)) _ l in (
       other_send plan s x p item k ticket at now w,
-      later_sends plan (after plan s (Send k item ticket)) x p es at (and_right (possible plan s (Send k item ticket)) _ l) (past_kept s (after plan s (Send k item ticket)) x.host.0 x.play (2 * p + 2) (moves plan s (Send k item ticket) now) w),
+      later_sends plan (after plan s (Send k item ticket)) x p es at (and_right (possible plan s (Send k item ticket)) _ l) (past_kept s (after plan s (Send k item ticket)) x.host.0 x.play (10002 * p + x.item + 2) (moves plan s (Send k item ticket) now) w),
     )
 later_sends plan s x p (e ∷ es) at l w =
-    later_sends plan (after plan s e) x p es at (and_right (possible plan s e) _ l) (past_kept s (after plan s e) x.host.0 x.play (2 * p + 2) (moves plan s e (and_left (possible plan s e) _ l)) w)
+    later_sends plan (after plan s e) x p es at (and_right (possible plan s e) _ l) (past_kept s (after plan s e) x.host.0 x.play (10002 * p + x.item + 2) (moves plan s e (and_left (possible plan s e) _ l)) w)
 
 sends_once : (plan : PlanOf) (s : State) (es : List Event) → IsSound s → legal_from plan s es ≡ true → NoTwice (sends_from plan s es)
 sends_once plan s [] w l = tt

@@ -9,13 +9,13 @@ use Rattle.pb_outcome.specs.declared.job.Report.{Report}
 use Rattle.pb_outcome.specs.declared.outcome.Form.{Form}
 use Rattle.pb_state.specs.declared.event.Event.{Event}
 use Rattle.pb_state.specs.declared.event.Event.TheVariants.{Open, Start, Send, Report as Reported, Turn, Close, Stop, Forks}
-use Rattle.pb_items.specs.declared.planned.Planned.{Planned}
-use Rattle.pb_items.specs.declared.planned.Planned.TheVariants.{Decided, Sends}
+use Rattle.pb_outcome.specs.declared.item.Item.{Item}
+use Rattle.pb_outcome.specs.Items.{is_over}
 use Rattle.pb_state.specs.declared.row.Running.{Running}
 use Rattle.pb_plan.specs.Plan.{PlayOf, PlanOf}
-use Rattle.pb_state.specs.Row.{HostRow, no_tree, place_of, started, sent, reported, reported_running, is_called, joined, left, first_rows}
+use Rattle.pb_state.specs.Row.{HostRow, no_tree, place_of, finished, task_at, items_after, progressed, sent, reported, reported_running, is_called, joined, left, first_rows}
 use Rattle.pb_state.specs.State.{State}
-use Rattle.pb_state.specs.Results.{planned_at}
+use Rattle.pb_state.specs.Results.{items_at}
 use Rattle.pb_state.specs.Machine.{after, change, open_play, next_play, opened_in, opened_at, started_in, start_at, sent_in, reported_in, turned_in, first_state}
 use Rattle.pb_state.specs.Run.{state_from, IsRun}
 use Rattle.pb_state.specs.Walks.{walks_in, IsWalked, AreWalked, IsTracked, AreNumbered, RowsStay, WalksLead}
@@ -41,16 +41,19 @@ in_change tree f keeps [] h all = tt
 in_change tree f keeps (row ∷ rows) zero all = (keeps row all.0, all.1)
 in_change tree f keeps (row ∷ rows) (suc h) all = rw (change_on row rows h f (slice_get rows h) refl) (all.0, in_change tree f keeps rows h all.1)
 
-started_in_tree : (tree : TreeOf) (p : ℕ) (planned : Planned) (row : HostRow) → IsIn tree row → IsIn tree (started p planned row)
-started_in_tree tree p (Decided item) row is = is
-started_in_tree tree p (Sends call) row is = is
-
-reported_in_tree : (tree : TreeOf) (outcome : Form) (row : HostRow) → IsIn tree row → IsIn tree (reported outcome row)
-reported_in_tree tree outcome row is = by_running row.running
+progressed_in_tree : (tree : TreeOf) (play : PlayOf) (p : ℕ) (items : List Item) (row : HostRow) → IsIn tree row → IsIn tree (progressed play p items row)
+progressed_in_tree tree play p items row is = by_over (is_over items)
   where
-    by_running : (running : Option Running) → IsIn tree (option_map_or (reported_running outcome row) running row)
+    by_over : (over : Bool) → IsIn tree (if over then finished p (task_at play p items) row else record row { running = Some (record { place = p; items = items; out = None }) })
+    by_over true = is
+    by_over false = is
+
+reported_in_tree : (tree : TreeOf) (play : PlayOf) (outcome : Form) (row : HostRow) → IsIn tree row → IsIn tree (reported play outcome row)
+reported_in_tree tree play outcome row is = by_running row.running
+  where
+    by_running : (running : Option Running) → IsIn tree (option_map_or (reported_running play outcome row) running row)
     by_running None = is
-    by_running (Some r) = is
+    by_running (Some r) = progressed_in_tree tree play r.place (items_after outcome r) row is
 
 joined_in_tree : (tree : TreeOf) (hosts : List Bool) (rows : List HostRow) → AllIn tree (map (joined tree hosts) rows)
 joined_in_tree tree hosts [] = tt
@@ -74,7 +77,7 @@ stays plan s = record { same = refl; keeps = λ tree all. all }
 start_goes : (plan : PlanOf) (s : State) (h : ℕ) (play : PlayOf) (place : Option ℕ) → Goes plan s (option_map_or (start_at plan s h play) place s)
 start_goes plan s h play None = stays plan s
 start_goes plan s h play (Some p) =
-    record { same = refl; keeps = λ tree all. in_change tree (started p (planned_at plan play h p)) (λ row is. started_in_tree tree p (planned_at plan play h p) row is) s.rows h all }
+    record { same = refl; keeps = λ tree all. in_change tree (progressed play p (items_at plan play h p)) (λ row is. progressed_in_tree tree play p (items_at plan play h p) row is) s.rows h all }
 
 started_goes : (plan : PlanOf) (s : State) (h : ℕ) (found : Option PlayOf) → Goes plan s (option_map_or (started_in plan s h) found s)
 started_goes plan s h None = stays plan s
@@ -87,7 +90,7 @@ sent_goes plan s h ticket (Some play) = record { same = refl; keeps = λ tree al
 reported_goes : (plan : PlanOf) (s : State) (r : Report) (found : Option PlayOf) → Goes plan s (option_map_or (reported_in s r) found s)
 reported_goes plan s r None = stays plan s
 reported_goes plan s r (Some play) =
-    record { same = refl; keeps = λ tree all. in_change tree (reported r.outcome) (λ row is. reported_in_tree tree r.outcome row is) s.rows r.host.0 all }
+    record { same = refl; keeps = λ tree all. in_change tree (reported play r.outcome) (λ row is. reported_in_tree tree play r.outcome row is) s.rows r.host.0 all }
 
 turned_goes : (plan : PlanOf) (s : State) (found : Option PlayOf) → Goes plan s (option_map_or (turned_in s) found s)
 turned_goes plan s None = stays plan s
@@ -161,23 +164,26 @@ number_map : (h : ℕ) (f : HostRow → HostRow) → ((row : HostRow) → (f row
 number_map h f same [] all = tt
 number_map h f same (row ∷ rows) all = (same row ∙ all.0, number_map (h + 1) f same rows all.1)
 
-started_host : (p : ℕ) (planned : Planned) (row : HostRow) → (started p planned row).host ≡ row.host
-started_host p (Decided item) row = refl
-started_host p (Sends call) row = refl
-
-reported_host : (outcome : Form) (row : HostRow) → (reported outcome row).host ≡ row.host
-reported_host outcome row = by_running row.running
+progressed_host : (play : PlayOf) (p : ℕ) (items : List Item) (row : HostRow) → (progressed play p items row).host ≡ row.host
+progressed_host play p items row = by_over (is_over items)
   where
-    by_running : (running : Option Running) → (option_map_or (reported_running outcome row) running row).host ≡ row.host
+    by_over : (over : Bool) → (if over then finished p (task_at play p items) row else record row { running = Some (record { place = p; items = items; out = None }) }).host ≡ row.host
+    by_over true = refl
+    by_over false = refl
+
+reported_host : (play : PlayOf) (outcome : Form) (row : HostRow) → (reported play outcome row).host ≡ row.host
+reported_host play outcome row = by_running row.running
+  where
+    by_running : (running : Option Running) → (option_map_or (reported_running play outcome row) running row).host ≡ row.host
     by_running None = refl
-    by_running (Some r) = refl
+    by_running (Some r) = progressed_host play r.place (items_after outcome r) row
 
 abbrev KeepsNumbers : State → State → Type 0
 KeepsNumbers s new = AreNumbered 0 s.rows → AreNumbered 0 new.rows
 
 start_numbers : (plan : PlanOf) (s : State) (h : ℕ) (play : PlayOf) (place : Option ℕ) → KeepsNumbers s (option_map_or (start_at plan s h play) place s)
 start_numbers plan s h play None = λ all. all
-start_numbers plan s h play (Some p) = λ all. number_change 0 h (started p (planned_at plan play h p)) (λ row. started_host p (planned_at plan play h p) row) s.rows all
+start_numbers plan s h play (Some p) = λ all. number_change 0 h (progressed play p (items_at plan play h p)) (λ row. progressed_host play p (items_at plan play h p) row) s.rows all
 
 started_numbers : (plan : PlanOf) (s : State) (h : ℕ) (found : Option PlayOf) → KeepsNumbers s (option_map_or (started_in plan s h) found s)
 started_numbers plan s h None = λ all. all
@@ -189,7 +195,7 @@ sent_numbers s h ticket (Some play) = λ all. number_change 0 h (sent ticket) (�
 
 reported_numbers : (s : State) (r : Report) (found : Option PlayOf) → KeepsNumbers s (option_map_or (reported_in s r) found s)
 reported_numbers s r None = λ all. all
-reported_numbers s r (Some play) = λ all. number_change 0 r.host.0 (reported r.outcome) (λ row. reported_host r.outcome row) s.rows all
+reported_numbers s r (Some play) = λ all. number_change 0 r.host.0 (reported play r.outcome) (λ row. reported_host play r.outcome row) s.rows all
 
 turned_numbers : (s : State) (found : Option PlayOf) → KeepsNumbers s (option_map_or (turned_in s) found s)
 turned_numbers s None = λ all. all
@@ -222,4 +228,4 @@ first_numbers h zero = tt
 first_numbers h (suc n) = (refl, first_numbers (h + 1) n)
 
 pub rows_stay : RowsStay
-rows_stay plan forks pool trail = numbers_from plan (first_state plan forks pool) trail (first_numbers 0 (length plan.hosts))
+rows_stay plan forks pool trail = numbers_from plan (first_state plan forks pool) trail (first_numbers 0 (length plan.inventory.hosts))

@@ -12,19 +12,23 @@ use Rattle.pb_ids.specs.declared.numbers.Ticket.{Ticket}
 use Rattle.pb_outcome.specs.declared.gather.TaskResult.{TaskResult}
 use Rattle.pb_outcome.specs.declared.job.Report.{Report}
 use Rattle.pb_outcome.specs.declared.outcome.Form.{Form}
+use Rattle.pb_items.specs.Loops.{max_items}
 use Rattle.pb_state.specs.declared.decided.Decided.{Decided as DecidedOf}
-use Rattle.pb_items.specs.declared.planned.Planned.{Planned}
-use Rattle.pb_items.specs.declared.planned.Planned.TheVariants.{Decided, Sends}
+use Rattle.pb_outcome.specs.declared.item.Item.{Item}
+use Rattle.pb_outcome.specs.Items.{is_over}
 use Rattle.pb_state.specs.declared.row.Running.{Running}
 use Rattle.pb_state.specs.declared.event.Event.{Event}
 use Rattle.pb_state.specs.declared.event.Event.TheVariants.{Open, Start, Send, Report as Reported, Turn, Close, Stop, Forks}
 use Rattle.pb_plan.specs.Plan.{PlayOf, PlanOf}
-use Rattle.pb_state.specs.Row.{HostRow, no_tree, next_place, is_called, joined, left, finished, started, sent, sent_running, reported, reported_running, item_of, task_of}
+use Rattle.pb_state.specs.Row.{HostRow, no_tree, next_place, is_called, joined, left, finished, task_at, came_back, items_after, progressed, sent, sent_running, reported, reported_running}
 use Rattle.pb_state.specs.State.{State}
-use Rattle.pb_state.specs.Machine.{possible, after, change, at_row, open_play, least_place, lesser, same_place, stands_at, has_room, may_open, next_play, may_start_in, may_turn_in, may_close_in, some_may_start, opened_in, opened_at, started_in, start_at, turned_in, closed, is_running, running_count, is_ticket, may_send_item, awaits, may_send_in, may_report_in, sent_in, reported_in}
-use Rattle.pb_state.specs.Results.{planned_at}
+use Rattle.pb_state.specs.Machine.{possible, after, change, at_row, open_play, least_place, lesser, same_place, stands_at, has_room, may_open, next_play, may_start_in, may_turn_in, may_close_in, some_may_start, opened_in, opened_at, started_in, start_at, turned_in, closed, is_running, running_count, is_ticket, sends_running, may_send_item, awaits_running, awaits, may_send_in, may_report_in, sent_in, reported_in}
+use Rattle.pb_state.specs.Results.{items_at}
+use Rattle.pb_state.specs.Kept.{first_waiting}
 use Rattle.pb_state.specs.Run.{is_command}
-use Rattle.pb_state.specs.Work.{places_left, place_work, out_work, running_work, row_work, later_work, turn_work, is_place, work_in, work}
+use Rattle.pb_state.specs.Work.{most_events, places_left, place_work, out_work, running_work, row_work, later_work, turn_work, is_place, work_in, work}
+use Rattle.pb_state.proofs.FewItems.{few_items}
+use Rattle.pb_state.proofs.InOrder.{is_next_so, length_back, back_later}
 use Rattle.pb_state.proofs.Opening.{next_is}
 use Rattle.pb_state.proofs.Steps.{length-change}
 use Rattle.pb_state.proofs.Walked.{stands_below, one_halted_answer, same_is}
@@ -42,54 +46,73 @@ not_false true e = cc
 not_false false e = refl
 
 -- a finished task is one answer more
-finished_at : (row : HostRow) (p : ℕ) (task : TaskResult) (next : Option ℕ) → place_work (finished p task row) next ≤ 3 * (places_left row - 1)
+finished_at : (row : HostRow) (p : ℕ) (task : TaskResult) (next : Option ℕ) → place_work (finished p task row) next ≤ most_events * (places_left row - 1)
 finished_at row p task None = omega arith
 finished_at row p task (Some q) = omega (arith, one_halted_answer row.answers task)
 
-finished_less : (row : HostRow) (p : ℕ) (task : TaskResult) → row_work (finished p task row) ≤ 3 * (places_left row - 1)
+finished_less : (row : HostRow) (p : ℕ) (task : TaskResult) → row_work (finished p task row) ≤ most_events * (places_left row - 1)
 finished_less row p task = finished_at row p task (next_place (finished p task row))
 
 -- a start
-started_less : (p : ℕ) (planned : Planned) (row : HostRow) → row_work (started p planned row) ≤ 2 + 3 * (places_left row - 1)
-started_less p (Decided item) row = let less = finished_less row p (task_of item) in omega (arith, less)
-started_less p (Sends call) row = omega arith
+with_more : (a b c : ℕ) → a ≤ b → a ≤ c + b
+with_more a b c e = omega (arith, e)
+
+progressed_less : (play : PlayOf) (p : ℕ) (items : List Item) (row : HostRow) → row_work (progressed play p items row) ≤ 2 * (length items - first_waiting items) + most_events * (places_left row - 1)
+progressed_less play p items row = by_over (is_over items)
+  where
+    by_over : (over : Bool) → row_work (if over then finished p (task_at play p items) row else record row { running = Some (record { place = p; items = items; out = None }) })
+        ≤ 2 * (length items - first_waiting items) + most_events * (places_left row - 1)
+    by_over true = with_more (row_work (finished p (task_at play p items) row)) (most_events * (places_left row - 1)) (2 * (length items - first_waiting items)) (finished_less row p (task_at play p items))
+    by_over false = omega arith
 
 not_running : (row : HostRow) (running : Option Running) → not (is_some running) ≡ true → running_work row running ≡ place_work row (next_place row)
 not_running row None e = refl
 not_running row (Some r) e = cc
 
-start_less : (place : Option ℕ) (p : ℕ) (planned : Planned) (row : HostRow) → stands_at place row ≡ true → row_work (started p planned row) < row_work row
-start_less place p planned row e =
+start_falls : (new old left n : ℕ) → new ≤ 2 * n + most_events * (left - 1) → old ≡ most_events * left → n ≤ max_items → 0 < left → new < old
+start_falls new old left n a b c d = omega (arith, a, b, c, d)
+
+start_less : (place : Option ℕ) (play : PlayOf) (p : ℕ) (items : List Item) (row : HostRow) → length items ≤ max_items → stands_at place row ≡ true → row_work (progressed play p items row) < row_work row
+start_less place play p items row most e =
     let stood = same_is (next_place row) place (and_right (not (is_running row)) _ e) in
-    let idle : row_work row ≡ place_work row (next_place row) = not_running row row.running (and_left _ _ e) in
-    let now : place_work row (next_place row) ≡ 3 * places_left row = ap (place_work row) stood.1 in
-    omega (arith, idle, now, stands_below place row e, started_less p planned row)
+    let idle : row_work row ≡ place_work row (next_place row) = not_running row row.running (and_left (not (is_running row)) _ e) in
+    let now : place_work row (next_place row) ≡ most_events * places_left row = ap (place_work row) stood.1 in
+    start_falls (row_work (progressed play p items row)) (row_work row) (places_left row) (length items - first_waiting items) (progressed_less play p items row) (idle ∙ now) (omega (arith, most)) (omega (arith, stands_below place row e))
 
 -- a send
-out_less : (out : Option Ticket) → is_none out ≡ true → 1 < out_work out
-out_less None e = omega arith
-out_less (Some ticket) e = cc
+none_out : (out : Option Ticket) → is_none out ≡ true → out_work out ≡ 0
+none_out None e = refl
+none_out (Some ticket) e = cc
 
-sending : (ticket : Ticket) (row : HostRow) (running : Option Running) → option_map_or (λ (r : Running). is_none r.out) running false ≡ true → running_work (sent ticket row) (option_map (sent_running ticket) running) < running_work row running
-sending ticket row None e = cc
-sending ticket row (Some r) e = omega (arith, out_less r.out e)
+sending : (item : ℕ) (ticket : Ticket) (row : HostRow) (running : Option Running) → option_map_or (sends_running item) running false ≡ true → running_work (sent ticket row) (option_map (sent_running ticket) running) < running_work row running
+sending item ticket row None e = cc
+sending item ticket row (Some r) e =
+    let first = is_next_so item r.items (and_right (is_none r.out) _ e) in
+    omega (arith, none_out r.out (and_left (is_none r.out) _ e), first.0, first.1)
 
 send_less : (item : ℕ) (ticket : Ticket) (row : HostRow) → may_send_item item row ≡ true → row_work (sent ticket row) < row_work row
-send_less item ticket row e = sending ticket row row.running (and_right (item == 0) _ e)
+send_less item ticket row e = sending item ticket row row.running e
 
 -- a report
 out_one : (ticket : Ticket) (out : Option Ticket) → is_ticket ticket out ≡ true → out_work out ≡ 1
 out_one ticket None e = cc
 out_one ticket (Some t) e = refl
 
-reporting : (outcome : Form) (ticket : Ticket) (row : HostRow) (running : Option Running) → option_map_or (λ (r : Running). is_ticket ticket r.out) running false ≡ true → row_work (option_map_or (reported_running outcome row) running row) < running_work row running
-reporting outcome ticket row None e = cc
-reporting outcome ticket row (Some r) e =
-    let less = finished_less row r.place (task_of (item_of outcome r)) in
-    omega (arith, less, out_one ticket r.out e)
+report_falls : (new old left n m out : ℕ) → new ≤ 2 * m + most_events * (left - 1) → old ≡ 2 * n - out + most_events * (left - 1) → out ≡ 1 → m < n → new < old
+report_falls new old left n m out a b c d = omega (arith, a, b, c, d)
 
-report_less : (outcome : Form) (ticket : Ticket) (item : ℕ) (row : HostRow) → awaits ticket item row ≡ true → row_work (reported outcome row) < row_work row
-report_less outcome ticket item row e = reporting outcome ticket row row.running (and_right (item == 0) _ e)
+reporting : (play : PlayOf) (outcome : Form) (ticket : Ticket) (item : ℕ) (row : HostRow) (running : Option Running) → option_map_or (awaits_running ticket item) running false ≡ true → row_work (option_map_or (reported_running play outcome row) running row) < running_work row running
+reporting play outcome ticket item row None e = cc
+reporting play outcome ticket item row (Some r) e =
+    let first = is_next_so item r.items (and_right (is_ticket ticket r.out) _ e) in
+    let same : length (items_after outcome r) ≡ length r.items = length_back (came_back outcome) r.items in
+    let later : first_waiting r.items + 1 ≤ first_waiting (items_after outcome r) = back_later (came_back outcome) r.items (omega (arith, first.0, first.1)) in
+    report_falls (row_work (progressed play r.place (items_after outcome r) row)) (running_work row (Some r)) (places_left row) (length r.items - first_waiting r.items)
+    (length (items_after outcome r) - first_waiting (items_after outcome r)) (out_work r.out) (progressed_less play r.place (items_after outcome r) row) refl
+    (out_one ticket r.out (and_left (is_ticket ticket r.out) _ e)) (omega (arith, same, later, first.0, first.1))
+
+report_less : (play : PlayOf) (outcome : Form) (ticket : Ticket) (item : ℕ) (row : HostRow) → awaits ticket item row ≡ true → row_work (reported play outcome row) < row_work row
+report_less play outcome ticket item row e = reporting play outcome ticket item row row.running e
 
 abbrev one_if : Bool → ℕ
 one_if b = if b then 1 else 0
@@ -148,8 +171,8 @@ none_at (row ∷ rows) (suc h) e = none_at rows h e
 start_at_less : (plan : PlanOf) (s : State) (h : ℕ) (play : PlayOf) (place : Option ℕ) → open_play plan s ≡ Some play → at_row (stands_at place) s.rows h ≡ true → work plan (option_map_or (start_at plan s h play) place s) < work plan s
 start_at_less plan s h play None o e = absurd (none_at s.rows h e)
 start_at_less plan s h play (Some p) o e =
-    let planned : Planned = planned_at plan play h p in
-    row_event plan s play h s.sends (start_at plan s h play p).begun (start_at plan s h play p).decided (started p planned) (stands_at (Some p)) o (λ row may. start_less (Some p) p planned row may) e
+    row_event plan s play h s.sends (start_at plan s h play p).begun (start_at plan s h play p).decided (progressed play p (items_at plan play h p)) (stands_at (Some p)) o
+    (λ row may. start_less (Some p) play p (items_at plan play h p) row (few_items plan play h p) may) e
 
 start_in_less : (plan : PlanOf) (s : State) (h : ℕ) (found : Option PlayOf) → open_play plan s ≡ found → option_map_or (may_start_in s h) found false ≡ true → work plan (option_map_or (started_in plan s h) found s) < work plan s
 start_in_less plan s h None o e = cc
@@ -163,7 +186,7 @@ send_in_less plan s h item ticket (Some play) o e =
 report_in_less : (plan : PlanOf) (s : State) (r : Report) (found : Option PlayOf) → open_play plan s ≡ found → option_map_or (may_report_in s r) found false ≡ true → work plan (option_map_or (reported_in s r) found s) < work plan s
 report_in_less plan s r None o e = cc
 report_in_less plan s r (Some play) o e =
-    row_event plan s play r.host.0 s.sends s.begun (reported_in s r play).decided (reported r.outcome) (awaits r.ticket r.item) o (λ row may. report_less r.outcome r.ticket r.item row may) e
+    row_event plan s play r.host.0 s.sends s.begun (reported_in s r play).decided (reported play r.outcome) (awaits r.ticket r.item) o (λ row may. report_less play r.outcome r.ticket r.item row may) e
 
 -- a turn
 min_is : (a b : ℕ) (t : Bool) → nat_le a b ≡ t → (min a b ≡ a) ⊎ (min a b ≡ b)
@@ -257,25 +280,25 @@ smaller : (tree : TreeOf) (b : Bool) → size_of (if b then tree else no_tree) �
 smaller tree true = omega arith
 smaller tree false = omega arith
 
-fresh : (tree : TreeOf) (hosts : List Bool) (row : HostRow) → row_work (joined tree hosts row) ≤ 3 * size_of tree
+fresh : (tree : TreeOf) (hosts : List Bool) (row : HostRow) → row_work (joined tree hosts row) ≤ most_events * size_of tree
 fresh tree hosts row = most (next_place (joined tree hosts row))
   where
-    most : (next : Option ℕ) → place_work (joined tree hosts row) next ≤ 3 * size_of tree
+    most : (next : Option ℕ) → place_work (joined tree hosts row) next ≤ most_events * size_of tree
     most None = omega arith
     most (Some p) = omega (arith, smaller tree (is_called hosts row))
 
-fresh_all : (tree : TreeOf) (hosts : List Bool) (rows : List HostRow) → sum_by row_work (map (joined tree hosts) rows) ≤ length rows * (3 * size_of tree)
+fresh_all : (tree : TreeOf) (hosts : List Bool) (rows : List HostRow) → sum_by row_work (map (joined tree hosts) rows) ≤ length rows * (most_events * size_of tree)
 fresh_all tree hosts [] = omega arith
 fresh_all tree hosts (row ∷ rows) =
     let one = fresh tree hosts row in
     let rest = fresh_all tree hosts rows in
-    omega (arith, sum_by-cons row_work (joined tree hosts row) (map (joined tree hosts) rows), one, rest, suc-mul (length rows) (3 * size_of tree))
+    omega (arith, sum_by-cons row_work (joined tree hosts row) (map (joined tree hosts) rows), one, rest, suc-mul (length rows) (most_events * size_of tree))
 
-later_at : (n : ℕ) (plays : List PlayOf) (i : ℕ) (play : PlayOf) → slice_get plays i ≡ Some play → later_work n (drop i plays) ≡ 3 + 2 * (n * (3 * size_of play.tree)) + later_work n (drop (i + 1) plays)
+later_at : (n : ℕ) (plays : List PlayOf) (i : ℕ) (play : PlayOf) → slice_get plays i ≡ Some play → later_work n (drop i plays) ≡ 3 + 2 * (n * (most_events * size_of play.tree)) + later_work n (drop (i + 1) plays)
 later_at n plays i play e =
     let here : get_or plays i play ≡ play = get_or_from_slice_get plays i play play e in
     let cut : drop i plays ≡ get_or plays i play ∷ drop (i + 1) plays = drop_more plays i play (slice_get_within plays i play e) in
-    ap (later_work n) cut ∙ ap (λ (p : PlayOf). 3 + 2 * (n * (3 * size_of p.tree)) + later_work n (drop (i + 1) plays)) here
+    ap (later_work n) cut ∙ ap (λ (p : PlayOf). 3 + 2 * (n * (most_events * size_of p.tree)) + later_work n (drop (i + 1) plays)) here
 
 -- plays that are passed over leave less to do
 one_fewer : (n : ℕ) (plays : List PlayOf) (i : ℕ) → later_work n (drop (suc i) plays) ≤ later_work n (drop i plays)

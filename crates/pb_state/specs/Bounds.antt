@@ -1,11 +1,13 @@
--- How far a state's numbers can have come: a host counts each place of a play once, and sends one job at most there.
-use Rattle.std.specs.Prelude.{ℕ, ◌+◌, ◌*◌, ◌≤◌, ◌<◌, Bool, true, false, List, [], ◌∷◌, length, sum_by, Option, Some, None}
+-- How far a state's numbers can have come: a host counts each place of a play once, and sends a job at most for each item of its task there.
+use Rattle.std.specs.Prelude.{ℕ, ◌+◌, ◌*◌, ◌≤◌, ◌<◌, Bool, true, false, List, [], ◌∷◌, length, min, sum_by, Option, Some, None}
 use Rattle.std.specs.Bool.{OnTrue}
 use Rattle.pb_tree.specs.Tree.{size_of}
 use Rattle.pb_tree.specs.Walk.{one_halted}
 use Rattle.pb_ids.specs.declared.numbers.Ticket.{Ticket}
+use Rattle.pb_items.specs.Loops.{max_items}
 use Rattle.pb_state.specs.declared.row.Counts.{Counts}
 use Rattle.pb_state.specs.declared.row.Running.{Running}
+use Rattle.pb_state.specs.Kept.{first_waiting}
 use Rattle.pb_state.specs.Row.{HostRow}
 
 -- each count of a host is at most n
@@ -27,15 +29,20 @@ abbrev pub out_jobs : Option Ticket → ℕ
 out_jobs None = 0
 out_jobs (Some ticket) = 1
 
+-- of a task that runs, the items before the next one may have been sent, and the next one where a job is out
 abbrev pub running_jobs : Option Running → ℕ
 running_jobs None = 0
-running_jobs (Some r) = out_jobs r.out
+running_jobs (Some r) = min (length r.items) (first_waiting r.items + out_jobs r.out)
+
+abbrev pub running_items : Option Running → ℕ
+running_items None = 0
+running_items (Some r) = length r.items
 
 -- in an open batch, and where none is open
 abbrev pub IsWithin : Bool → ℕ → HostRow → Type 0
 IsWithin true play row =
     IsAtMost row.counts (16384 * play + length (one_halted row.answers)) × (length (one_halted row.answers) + run_places row.running ≤ 16384)
-    × (size_of row.tree ≤ 16384)
+    × (size_of row.tree ≤ 16384) × (running_items row.running ≤ max_items)
 IsWithin false play row = IsAtMost row.counts (16384 * play)
 
 abbrev pub AllWithin : Bool → ℕ → List HostRow → Type 0
@@ -44,8 +51,8 @@ AllWithin is_open play (row ∷ rows) = IsWithin is_open play row × AllWithin i
 
 -- the most jobs that a host can have sent
 abbrev pub most_jobs : Bool → ℕ → HostRow → ℕ
-most_jobs true play row = 16384 * play + (length (one_halted row.answers) + running_jobs row.running)
-most_jobs false play row = 16384 * play
+most_jobs true play row = max_items * (16384 * play + length (one_halted row.answers)) + running_jobs row.running
+most_jobs false play row = max_items * (16384 * play)
 
 pub record IsBounded (is_open : Bool) (play sends : ℕ) (rows : List HostRow) : Type 0 where
   pub counts : AllWithin is_open play rows

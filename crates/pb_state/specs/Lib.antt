@@ -1,8 +1,10 @@
 pub mod Row
 pub mod Walking
+pub mod Kept
 pub mod State
 pub mod Results
 pub mod Machine
+pub mod Back
 pub mod Jobs
 pub mod Oldest
 pub mod Run
@@ -11,3 +13,4 @@ pub mod Walks
 pub mod Work
 pub mod Bounds
 pub mod Rows
+pub mod ItemRows

@@ -6,19 +6,19 @@ use Rattle.pb_ids.specs.declared.numbers.Ticket.{Ticket}
 use Rattle.pb_planes.specs.Set.{is_in as is_member}
 use Rattle.pb_tree.specs.Tree.{size_of}
 use Rattle.pb_outcome.specs.declared.gather.ItemResult.{ItemResult}
+use Rattle.pb_outcome.specs.declared.item.Item.{Item}
 use Rattle.pb_outcome.specs.declared.job.Report.{Report}
 use Rattle.pb_outcome.specs.declared.outcome.Form.{Form}
+use Rattle.pb_outcome.specs.Items.{next_item, is_over, numbered, numbered_at, result_of}
 use Rattle.pb_state.specs.declared.event.Event.{Event}
 use Rattle.pb_state.specs.declared.event.Event.TheVariants.{Open, Start, Send, Report as Reported, Turn, Close, Stop, Forks}
-use Rattle.pb_items.specs.declared.planned.Planned.{Planned}
-use Rattle.pb_items.specs.declared.planned.Planned.TheVariants.{Decided as DecidedItem, Sends}
 use Rattle.pb_state.specs.declared.row.Running.{Running}
 use Rattle.pb_state.specs.declared.decided.Decided.{Decided}
 use Rattle.pb_state.specs.declared.decided.Done.{Done as DoneTask}
 use Rattle.pb_plan.specs.Plan.{PlayOf, PlanOf}
-use Rattle.pb_state.specs.Row.{HostRow, first_rows, is_active, is_called, next_place, started, sent, reported, joined, left, item_of, task_of}
+use Rattle.pb_state.specs.Row.{HostRow, first_rows, is_active, is_called, next_place, sent, reported, joined, left, task_at, items_after, progressed}
 use Rattle.pb_state.specs.State.{State}
-use Rattle.pb_state.specs.Results.{planned_at}
+use Rattle.pb_state.specs.Results.{items_at, variable_at}
 
 -- the play whose batch is open
 abbrev pub open_play : PlanOf → State → Option PlayOf
@@ -79,12 +79,30 @@ is_out row = option_map_or (λ (r : Running). is_some r.out) row.running false
 abbrev pub has_ticket : Ticket → HostRow → Bool
 has_ticket ticket row = option_map_or (λ (r : Running). is_ticket ticket r.out) row.running false
 
--- a task without a loop has one item, of number 0
+-- the item with this number is the next of a task that runs
+abbrev pub is_next : ℕ → Running → Bool
+is_next item r = option_map_or (λ n. n == item) (next_item r.items) false
+
+-- a host that runs, with no job of it out, sends the next of its items
+abbrev pub sends_running : ℕ → Running → Bool
+sends_running item r = is_none r.out && is_next item r
+
 abbrev pub may_send_item : ℕ → HostRow → Bool
-may_send_item item row = (item == 0) && has_send row
+may_send_item item row = option_map_or (sends_running item) row.running false
+
+-- a host whose job for this item is out under this ticket
+abbrev pub awaits_running : Ticket → ℕ → Running → Bool
+awaits_running ticket item r = is_ticket ticket r.out && is_next item r
 
 abbrev pub awaits : Ticket → ℕ → HostRow → Bool
-awaits ticket item row = (item == 0) && has_ticket ticket row
+awaits ticket item row = option_map_or (awaits_running ticket item) row.running false
+
+-- the number of the item that a host sends next, or whose job is out
+abbrev pub item_of : HostRow → Option ℕ
+item_of row = option_map_or (λ (r : Running). next_item r.items) row.running None
+
+abbrev pub item_at : State → ℕ → Option ℕ
+item_at s h = option_map_or item_of (slice_get s.rows h) None
 
 -- a play has hosts where one of its own is active
 abbrev pub has_hosts : List HostRow → PlayOf → Bool
@@ -146,13 +164,16 @@ ready plan s = option_map_or (ready_in s) (open_play plan s) (replicate (length 
 abbrev pub change : List HostRow → ℕ → (HostRow → HostRow) → List HostRow
 change rows h f = option_map_or (λ row. slice_set rows h (f row)) (slice_get rows h) rows
 
--- a task that this result ends
-abbrev pub done_by : ItemResult → DoneTask
-done_by item = record { result = item.result; task = task_of item }
+-- how the task at a place ended, if these items end it
+abbrev pub done_at : PlayOf → ℕ → List Item → DoneTask
+done_at play p items = record { result = result_of (variable_at play p) items; task = task_at play p items }
 
-abbrev pub done_at_once : Planned → Option DoneTask
-done_at_once (DecidedItem item) = Some (done_by item)
-done_at_once (Sends call) = None
+abbrev pub done_if : PlayOf → ℕ → List Item → Option DoneTask
+done_if play p items = if is_over items then Some (done_at play p items) else None
+
+-- what a step decided of the task at a place: the items that ended in it, and how the task ended
+abbrev pub decided_with : PlayOf → ℕ → Bool → List (ℕ × ItemResult) → List Item → Decided
+decided_with play p is_new told items = record { place = p; is_new = is_new; items = told; done = done_if play p items }
 
 -- what each event leads to
 abbrev pub opened_with : State → ℕ → List HostRow → PlayOf → State
@@ -165,16 +186,16 @@ opened_in s n play = opened_with s n (map (joined play.tree play.hosts) s.rows) 
 abbrev pub opened_at : PlanOf → State → ℕ → State
 opened_at plan s n = option_map_or (opened_in s n) (slice_get plan.plays n) s
 
-abbrev pub start_with : State → ℕ → PlayOf → ℕ → Planned → State
-start_with s h play p planned =
+abbrev pub start_with : State → ℕ → PlayOf → ℕ → List Item → State
+start_with s h play p items =
     record s {
-      rows = change s.rows h (started p planned);
+      rows = change s.rows h (progressed play p items);
       begun = slice_set s.begun p true;
-      decided = Some (record { place = p; is_new = not (is_member s.begun p); done = done_at_once planned });
+      decided = Some (decided_with play p (not (is_member s.begun p)) (numbered 0 items) items);
     }
 
 abbrev pub start_at : PlanOf → State → ℕ → PlayOf → ℕ → State
-start_at plan s h play p = start_with s h play p (planned_at plan play h p)
+start_at plan s h play p = start_with s h play p (items_at plan play h p)
 
 abbrev pub started_in : PlanOf → State → ℕ → PlayOf → State
 started_in plan s h play = option_map_or (start_at plan s h play) s.place s
@@ -182,18 +203,25 @@ started_in plan s h play = option_map_or (start_at plan s h play) s.place s
 abbrev pub sent_in : State → ℕ → Ticket → PlayOf → State
 sent_in s h ticket play = record s { rows = change s.rows h (sent ticket); sends = s.sends + 1; decided = None }
 
--- what a report decides of the task that waited for it
-abbrev pub decided_by : Form → Running → Decided
-decided_by outcome r = record { place = r.place; is_new = false; done = Some (done_by (item_of outcome r)) }
+-- the item that came back, with its number, where its task has a loop
+abbrev pub told_at : List Item → ℕ → List (ℕ × ItemResult)
+told_at items n = numbered_at n (slice_get items n)
 
-abbrev pub report_decides : Form → HostRow → Option Decided
-report_decides outcome row = option_map (decided_by outcome) row.running
+abbrev pub told_in : List Item → Option ℕ → List (ℕ × ItemResult)
+told_in items number = option_map_or (told_at items) number []
+
+-- what a report decides of the task that waited for it
+abbrev pub decided_by : PlayOf → Form → Running → Decided
+decided_by play outcome r = decided_with play r.place false (told_in (items_after outcome r) (next_item r.items)) (items_after outcome r)
+
+abbrev pub report_decides : PlayOf → Form → HostRow → Option Decided
+report_decides play outcome row = option_map (decided_by play outcome) row.running
 
 abbrev pub reported_in : State → Report → PlayOf → State
 reported_in s r play =
     record s {
-      rows = change s.rows r.host.0 (reported r.outcome);
-      decided = option_map_or (report_decides r.outcome) (slice_get s.rows r.host.0) None;
+      rows = change s.rows r.host.0 (reported play r.outcome);
+      decided = option_map_or (report_decides play r.outcome) (slice_get s.rows r.host.0) None;
     }
 
 -- the current place becomes the least next place of the batch
@@ -222,7 +250,7 @@ after plan s (Forks n) = with_forks s n
 abbrev pub first_state : PlanOf → ℕ → ℕ → State
 first_state plan forks pool =
     record {
-      rows = first_rows 0 (length plan.hosts);
+      rows = first_rows 0 (length plan.inventory.hosts);
       play = 0;
       is_open = false;
       place = None;

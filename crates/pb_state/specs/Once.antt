@@ -1,4 +1,4 @@
--- Nothing is run twice: each task runs once on each host of a play's batch
+-- Nothing is run twice: each task starts once on each host of a play's batch, and each item of it is sent once
 -- (Ansible's documentation, "Controlling playbook execution: strategies").
 use Rattle.std.specs.Prelude.{◌≡◌, ◌≢◌, ℕ, true, List, [], ◌∷◌, ◌++◌, Option, None, option_map, slice_get}
 use Rattle.std.specs.Option.{option_map_or}

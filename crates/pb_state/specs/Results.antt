@@ -1,26 +1,29 @@
 -- What tasks are when they start on a host.
-use Rattle.std.specs.Prelude.{⊤, ℕ, nat_lt, List, [], ◌++◌, length, Option, None, slice_get, if◌then◌else◌}
+use Rattle.std.specs.Prelude.{⊤, ℕ, false, nat_lt, List, [], ◌∷◌, ◌++◌, length, Option, None, slice_get, if◌then◌else◌}
 use Rattle.std.specs.Option.{option_map_or}
 use Rattle.pb_value.specs.Datum.{null}
 use Rattle.pb_inventory.specs.Vars.{vars_from_groups, vars_of_host}
-use Rattle.pb_layers.specs.Scope.{Map, layers, scope}
+use Rattle.pb_layers.specs.Scope.{Map, layers}
 use Rattle.pb_variables.specs.Magic.{host_magic}
-use Rattle.pb_items.specs.Planning.{planned_by, on_plain_texts}
-use Rattle.pb_items.specs.declared.planned.Planned.{Planned}
-use Rattle.pb_items.specs.declared.planned.Planned.TheVariants.{Decided}
+use Rattle.pb_items.specs.Items.{StartOf, item_in, items_of}
+use Rattle.pb_items.specs.Loops.{values_of}
+use Rattle.pb_items.specs.Planning.{on_plain_texts}
 use Rattle.pb_outcome.specs.declared.gather.Ending.TheVariants.{Skipped}
 use Rattle.pb_outcome.specs.declared.gather.ItemResult.{ItemResult}
+use Rattle.pb_outcome.specs.declared.item.Item.{Item}
+use Rattle.pb_outcome.specs.declared.item.Planned.TheVariants.{Decided}
 use Rattle.pb_places.specs.Place.{PlaceOf}
 use Rattle.pb_places.specs.declared.surroundings.Role.{Role}
+use Rattle.pb_play.specs.declared.loops.Loop.{Loop}
+use Rattle.pb_play.specs.declared.task.Task.{Task}
 use Rattle.pb_plan.specs.Plan.{PlayOf, PlanOf}
 
 -- The variables that a task of a play sees on a host, with those of its role, of its blocks and its own: beside these those of the host's groups, of the
--- host itself, of the play and the extra ones, in the order of the layers, and the magic ones over all; no task has a loop or facts yet
+-- host itself, of the play and the extra ones, in the order of the layers; no host has facts yet
 -- (Ansible's documentation, "Using variables", variable precedence)
-abbrev pub scope_within : PlanOf → PlayOf → ℕ → Role → Map → Map → List Map
-scope_within plan play host role block_vars task_vars =
-    scope
-    (layers
+abbrev pub layers_within : PlanOf → PlayOf → ℕ → Role → Map → Map → List Map
+layers_within plan play host role block_vars task_vars =
+    layers
     role.defaults
     (vars_from_groups plan.inventory host)
     (vars_of_host plan.inventory host)
@@ -31,29 +34,50 @@ scope_within plan play host role block_vars task_vars =
     task_vars
     []
     role.params
-    plan.extra)
-    (host_magic plan.inventory host ++ play.magic ++ plan.magic)
-    []
+    plan.extra
 
--- those that the task at a place sees
-abbrev pub scope_at : PlanOf → PlayOf → ℕ → PlaceOf → List Map
-scope_at plan play host place = scope_within plan play host place.role place.block_vars place.task.vars
+-- over these the magic ones
+abbrev pub magic_of : PlanOf → PlayOf → ℕ → Map
+magic_of plan play host = host_magic plan.inventory host ++ play.magic ++ plan.magic
+
+-- what the items of the task at a place are read from, with these layers and magic variables: no program gathers facts yet
+unfoldable pub start_with : PlaceOf → List Map → Map → StartOf
+start_with place layers magic =
+    record {
+      task = place.task;
+      conditions = place.conditions;
+      delegate_to = place.delegate_to;
+      has_facts_program = false;
+      layers = layers;
+      magic = magic;
+    }
+
+abbrev pub start_of : PlanOf → PlayOf → ℕ → PlaceOf → StartOf
+start_of plan play host place =
+    start_with place (layers_within plan play host place.role place.block_vars place.task.vars) (magic_of plan play host)
 
 -- a place without a task has nothing to run, nor has a number that is no host's; no tree has such a place, and no run such a host
 abbrev pub nothing : ItemResult
 nothing = record { ending = Skipped; result = null }
 
 abbrev pub place_for : PlanOf → PlayOf → ℕ → ℕ → Option PlaceOf
-place_for plan play host p = if nat_lt host (length plan.hosts) then slice_get play.places p else None
+place_for plan play host p = if nat_lt host (length plan.inventory.hosts) then slice_get play.places p else None
 
-abbrev pub planned_for : PlanOf → PlayOf → ℕ → PlaceOf → Planned
-planned_for plan play host place = planned_by (scope_at plan play host place) place.task.module
+abbrev pub items_for : PlanOf → PlayOf → ℕ → PlaceOf → List Item
+items_for plan play host place = items_of (start_of plan play host place)
 
--- what the task at a place does on a host
-unfoldable pub planned_at : PlanOf → PlayOf → ℕ → ℕ → Planned
-planned_at plan play host p = option_map_or (planned_for plan play host) (place_for plan play host p) (Decided nothing)
+-- the items of the task at a place as it starts on a host
+unfoldable pub items_at : PlanOf → PlayOf → ℕ → ℕ → List Item
+items_at plan play host p = option_map_or (items_for plan play host) (place_for plan play host p) (record { value = None; delegate = None; step = Decided nothing } ∷ [])
+
+-- the name of its loop variable, where it has a loop
+abbrev pub variable_of : Task → List ℕ
+variable_of task = option_map_or (λ (looped : Loop). looped.variable) task.looped []
+
+abbrev pub variable_at : PlayOf → ℕ → List ℕ
+variable_at play p = option_map_or (λ (place : PlaceOf). variable_of place.task) (slice_get play.places p) []
 
 -- what computes a worked run, where no expression stands in its texts
 unfoldable pub on_tasks : ⊤
-unfolding planned_at on_plain_texts
+unfolding items_at start_with items_of item_in values_of on_plain_texts
 on_tasks = tt

@@ -1,5 +1,5 @@
 -- What the state keeps of one host, and what a step does to it alone.
-use Rattle.std.specs.Prelude.{ℕ, zero, suc, ◌+◌, Bool, true, false, ◌&&◌, not, List, [], ◌∷◌, ◌++◌, Option, Some, None, option_map, if◌then◌else◌}
+use Rattle.std.specs.Prelude.{ℕ, zero, suc, ◌+◌, Bool, true, false, ◌&&◌, not, List, [], ◌∷◌, ◌++◌, Option, Some, None, option_map, slice_get, if◌then◌else◌}
 use Rattle.std.specs.Option.{option_map_or}
 use Rattle.pb_ids.specs.declared.numbers.Ticket.{Ticket}
 use Rattle.pb_planes.specs.Set.{is_in as is_member}
@@ -14,14 +14,16 @@ use Rattle.pb_tree.specs.Answer.{AnswerOf}
 use Rattle.pb_tree.specs.Walk.{reach, status_of}
 use Rattle.pb_outcome.specs.declared.gather.ItemResult.{ItemResult}
 use Rattle.pb_outcome.specs.declared.gather.TaskResult.{TaskResult}
+use Rattle.pb_outcome.specs.declared.item.Item.{Item}
+use Rattle.pb_outcome.specs.declared.job.Call.{Call}
 use Rattle.pb_outcome.specs.declared.outcome.Form.{Form}
-use Rattle.pb_outcome.specs.Gathered.{gathered}
+use Rattle.pb_outcome.specs.Items.{task_of, back_in, is_over}
 use Rattle.pb_outcome.specs.Results.{judged}
+use Rattle.pb_places.specs.Place.{PlaceOf}
+use Rattle.pb_plan.specs.Plan.{PlayOf}
 use Rattle.pb_state.specs.declared.row.Counts.{Counts}
 use Rattle.pb_state.specs.declared.row.Finish.{Finish}
 use Rattle.pb_state.specs.declared.row.Running.{Running}
-use Rattle.pb_items.specs.declared.planned.Planned.{Planned}
-use Rattle.pb_items.specs.declared.planned.Planned.TheVariants.{Decided, Sends}
 
 pub record HostRow : Type 0 where
   -- the host's number
@@ -32,7 +34,7 @@ pub record HostRow : Type 0 where
   pub answers : List AnswerOf
   pub status : Status
   pub in_batch : Bool
-  -- the task that the host runs: it waits for a job
+  -- the task that the host runs: some item of it is still to come back
   pub running : Option Running
   -- the task that the host finished last in the open batch
   pub last : Option Finish
@@ -118,14 +120,18 @@ abbrev pub finished : ℕ → TaskResult → HostRow → HostRow
 finished place task row =
     record (answered (answer_of task) row) { running = None; last = Some (record { place = place; kind = kind_of task }); counts = counted task row.counts }
 
--- a task without a loop has one item; no task is told to ignore its failure
-abbrev pub task_of : ItemResult → TaskResult
-task_of item = gathered false (item ∷ [])
+-- whether the task at a place is told to ignore its failure; a place without a task is told nothing
+abbrev pub ignores_at : PlayOf → ℕ → Bool
+ignores_at play p = option_map_or (λ (place : PlaceOf). place.ignore_errors) (slice_get play.places p) false
 
--- a task starts: what is decided at once ends it, and a job is sent for the rest
-abbrev pub started : ℕ → Planned → HostRow → HostRow
-started place (Decided item) row = finished place (task_of item) row
-started place (Sends call) row = record row { running = Some (record { place = place; call = call; out = None }) }
+-- how the task at a place ended, by its items
+abbrev pub task_at : PlayOf → ℕ → List Item → TaskResult
+task_at play p items = task_of (ignores_at play p) items
+
+-- the task at a place has come to these items: it goes on, or ends
+abbrev pub progressed : PlayOf → ℕ → List Item → HostRow → HostRow
+progressed play p items row =
+    if is_over items then finished p (task_at play p items) row else record row { running = Some (record { place = p; items = items; out = None }) }
 
 -- a job goes out under this ticket
 abbrev pub sent_running : Ticket → Running → Running
@@ -134,16 +140,19 @@ sent_running ticket r = record r { out = Some ticket }
 abbrev pub sent : Ticket → HostRow → HostRow
 sent ticket row = record row { running = option_map (sent_running ticket) row.running }
 
--- a job's outcome is the result of its item
-abbrev pub item_of : Form → Running → ItemResult
-item_of outcome r = judged r.call outcome
+-- the items of a task once the job that is out came to this
+abbrev pub came_back : Form → Item → Call → ItemResult
+came_back outcome item call = judged call outcome
 
-abbrev pub reported_running : Form → HostRow → Running → HostRow
-reported_running outcome row r = finished r.place (task_of (item_of outcome r)) row
+abbrev pub items_after : Form → Running → List Item
+items_after outcome r = back_in (came_back outcome) r.items
 
--- the outcome of the job that is out ends the task
-abbrev pub reported : Form → HostRow → HostRow
-reported outcome row = option_map_or (reported_running outcome row) row.running row
+abbrev pub reported_running : PlayOf → Form → HostRow → Running → HostRow
+reported_running play outcome row r = progressed play r.place (items_after outcome r) row
+
+-- the job that is out came to this
+abbrev pub reported : PlayOf → Form → HostRow → HostRow
+reported play outcome row = option_map_or (reported_running play outcome row) row.running row
 
 -- a host is called where it is one of a play's own hosts and active; none is one of them beyond their end
 abbrev pub is_called : List Bool → HostRow → Bool

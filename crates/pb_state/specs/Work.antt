@@ -3,28 +3,37 @@ use Rattle.std.specs.Prelude.{ℕ, ◌+◌, ◌-◌, ◌*◌, Bool, true, false,
 use Rattle.pb_ids.specs.declared.numbers.Ticket.{Ticket}
 use Rattle.pb_tree.specs.Tree.{size_of}
 use Rattle.pb_tree.specs.Walk.{one_halted}
+use Rattle.pb_items.specs.Loops.{max_items}
 use Rattle.pb_state.specs.declared.row.Running.{Running}
 use Rattle.pb_plan.specs.Plan.{PlayOf, PlanOf}
 use Rattle.pb_state.specs.Row.{HostRow, next_place}
+use Rattle.pb_state.specs.Kept.{first_waiting}
 use Rattle.pb_state.specs.State.{State}
 use Rattle.pb_state.specs.Machine.{open_play, least_place, same_place}
 
--- of one host: an answer at most for each place of its tree, and three events at most for an answer: its start, its send and its report
+-- a task is started, and each of its items is sent and comes back
+abbrev pub most_events : ℕ
+most_events = 2 * max_items + 1
+
+-- of one host: an answer at most for each place of its tree
 abbrev pub places_left : HostRow → ℕ
 places_left row = size_of row.tree - length (one_halted row.answers)
 
 abbrev pub place_work : HostRow → Option ℕ → ℕ
 place_work row None = 0
-place_work row (Some p) = 3 * places_left row
+place_work row (Some p) = most_events * places_left row
 
--- of a task that runs: its send and its report, and what is behind it
+-- of a task that runs: the sends and the reports of its items from the next one on, and what is behind it
 abbrev pub out_work : Option Ticket → ℕ
-out_work None = 2
+out_work None = 0
 out_work (Some ticket) = 1
+
+abbrev pub items_work : Running → ℕ
+items_work r = 2 * (length r.items - first_waiting r.items) - out_work r.out
 
 abbrev pub running_work : HostRow → Option Running → ℕ
 running_work row None = place_work row (next_place row)
-running_work row (Some r) = out_work r.out + 3 * (places_left row - 1)
+running_work row (Some r) = items_work r + most_events * (places_left row - 1)
 
 abbrev pub row_work : HostRow → ℕ
 row_work row = running_work row row.running
@@ -32,7 +41,7 @@ row_work row = running_work row row.running
 -- of plays that haven't opened, for n hosts
 abbrev pub later_work : ℕ → List PlayOf → ℕ
 later_work n [] = 0
-later_work n (play ∷ plays) = 3 + 2 * (n * (3 * size_of play.tree)) + later_work n plays
+later_work n (play ∷ plays) = 3 + 2 * (n * (most_events * size_of play.tree)) + later_work n plays
 
 -- a turn is due where the current place isn't the least
 abbrev pub is_place : Option ℕ → Option ℕ → Bool

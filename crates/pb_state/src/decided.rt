@@ -2,7 +2,8 @@
 
 ghost use Rattle.std.specs.Prelude.{◌≡◌};
 
-use pb_outcome::gather::TaskResult;
+use pb_outcome::gather::{ItemResult, TaskResult};
+use pb_value::items::Items;
 use pb_value::val::Val;
 
 /// What a step decided of the task that started, or that a report was for.
@@ -11,6 +12,8 @@ pub struct Decided {
     pub place: usize,
     /// Whether no host of the batch had started there before.
     pub is_new: bool,
+    /// The items of a loop that ended, with their numbers.
+    pub items: Items<(u32, ItemResult)>,
     /// How the task ended, if it did.
     pub done: Option<Done>,
 }
@@ -20,8 +23,10 @@ impl Drop for Decided {
         let Decided {
             place: _,
             is_new: _,
+            items,
             done,
         } = self;
+        drop(items);
         drop(done);
     }
 }

@@ -4,16 +4,16 @@ ghost use Rattle.std.specs.Prelude.{◌≡◌, ◌<◌, IfOk, slice_get, length}
 ghost use Rattle.std.specs.Option.{option_copied, option_map_or};
 ghost use Rattle.pb_state.specs.Jobs.{row_job, job_with};
 
-use crate::row::{Row, Running};
+use crate::row::Row;
 use pb_ids::{HostNo, Place, PlayNo, Ticket};
-use pb_outcome::job::Job;
+use pb_outcome::job::{Call, Job};
 use pb_plan::{Plan, PlanPlay};
 use pb_value::items::Items;
 use pb_value::text::Text;
 use pb_variables::connector::connector;
 use std::alloc::{AllocError, Global};
 
-/// The job of a host's running task: it runs on the host itself, by the host's connector, under this ticket.
+/// The job of the next item of the task that a host runs: it runs on the host itself, by the host's connector, under this ticket.
 pub(crate) fn job_in(
     alloc: Global,
     plan: &Plan,
@@ -28,6 +28,12 @@ pub(crate) fn job_in(
     let Some(running) = row.running() else {
         return Ok(None);
     };
+    let Some(item) = running.items.next() else {
+        return Ok(None);
+    };
+    let Some(call) = running.items.call(item) else {
+        return Ok(None);
+    };
     let Some(place) = play.tree().place(running.place) else {
         return Ok(None);
     };
@@ -36,22 +42,25 @@ pub(crate) fn job_in(
     }
     let name = plan.host_name(host);
     let connector = connector(alloc, plan.inventory(), host)?;
-    let job = job_with(alloc, number, host, ticket, running, name, connector, place)?;
+    let job = job_with(
+        alloc, number, host, ticket, item, call, name, connector, place,
+    )?;
     Ok(Some(job))
 }
 
-/// The job of a task that runs at a place, on a host with this name and connector.
+/// The job of an item that is sent at a place, on a host with this name and connector.
 fn job_with(
     alloc: Global,
     number: PlayNo,
     host: HostNo,
     ticket: Ticket,
-    running: &Running,
+    item: u32,
+    call: &Call,
     name: &str,
     connector: Items<Text>,
     place: &Place,
 ) -> Result<Job, AllocError>
-    ensures { IfOk result (λ job. job ≡ job_with number.0 host ticket running.now name.now connector place.now) }
+    ensures { IfOk result (λ job. job ≡ job_with number.0 host ticket item call.now name.now connector place.now) }
 {
     Ok(Job {
         ticket,
@@ -59,9 +68,9 @@ fn job_with(
         name: Text::from_str(alloc, name)?,
         play: number,
         place: place.try_clone()?,
-        item: 0,
+        item,
         target: Text::from_str(alloc, name)?,
         connector,
-        call: running.call.try_clone(alloc)?,
+        call: call.try_clone(alloc)?,
     })
 }

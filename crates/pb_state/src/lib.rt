@@ -9,11 +9,13 @@ ghost use Rattle.pb_state.specs.Walks.{WalksLead, RowsStay};
 
 mod decided;
 mod event;
+mod items;
 mod job;
 mod planned;
 mod row;
 mod rows;
 mod state;
+mod told;
 
 pub use decided::{Decided, Done};
 pub use event::{Event, Trail};

@@ -1,19 +1,19 @@
 //! What the state keeps of one host.
 
 ghost use Rattle.std.specs.Prelude.{◌≡◌, ◌<◌, ◌-◌, ◌^◌, ◌∷◌, ◌++◌, [], OnOk, OnErr, IfOk, IfSome, Some, None, option_map, true, false, if◌then◌else◌};
-ghost use Rattle.std.specs.Option.{option_copied};
+ghost use Rattle.std.specs.Option.{option_copied, option_map_or};
 ghost use Rattle.pb_tree.specs.Answer.{AnswerOf};
 ghost use Rattle.pb_planes.specs.Set.{is_in as is_member};
 ghost use Rattle.pb_cursors.specs.Walks.{walk_from, walk_after};
 
 use crate::decided::{Decided, Done};
-use crate::planned::task_of;
+use crate::items::{Before, TaskItems};
+use crate::told::{done_at, told_of};
 use pb_cursors::{LaidTree, PlayWalk};
 use pb_ids::{HostNo, Ticket};
 use pb_outcome::gather::TaskResult;
-use pb_outcome::job::Call;
-use pb_outcome::judge::judge;
 use pb_outcome::outcome::Outcome;
+use pb_plan::PlanPlay;
 use pb_planes::HostSet;
 use pb_tree::{Answer, Kind, Reach, Status};
 use std::alloc::{AllocError, Global};
@@ -48,11 +48,11 @@ pub struct Finish {
     pub kind: Kind,
 }
 
-/// A task that a host runs: what it has to do, and the ticket of its job if that is out.
+/// A task that a host runs: its items, and the ticket of the job of the next one if that is out.
 pub struct Running {
     /// The place's position in the play's tree.
     pub place: usize,
-    pub call: Call,
+    pub items: TaskItems,
     pub out: Option<Ticket>,
 }
 
@@ -60,10 +60,10 @@ impl Drop for Running {
     fn drop(self) {
         let Running {
             place: _,
-            call,
+            items,
             out: _,
         } = self;
-        drop(call);
+        drop(items);
     }
 }
 
@@ -128,6 +128,7 @@ pub fn is_active(status: Status) -> bool
 }
 
 ghost use Rattle.pb_state.specs.Row.{is_active, more, counted, is_okay, kind_of, status_at, place_of};
+ghost use Rattle.pb_state.specs.Back.{back_running, undone_running};
 ghost use Rattle.pb_state.specs.Bounds.{IsAtMost};
 
 fn more(counts: bool, n: u64) -> u64
@@ -216,10 +217,29 @@ fn run(slot: &mut Option<Running>, running: Option<Running>)
     *slot = running;
 }
 
+/// The job that is out of what a host runs came to this. What its item was before is handed back. An `Err` changes nothing.
+fn come_back(
+    alloc: Global,
+    slot: &mut Option<Running>,
+    outcome: &Outcome,
+) -> Result<Option<Before>, AllocError>
+    ensures ok { OnOk result (slot.new ≡ back_running outcome.now slot.old) }
+    ensures undo { IfOk result (λ before. undone_running before slot.new ≡ slot.old) }
+    ensures err { OnErr result (slot.new ≡ slot.old) }
+{
+    match slot {
+        Some(running) => {
+            let before = running.items.back(alloc, outcome)?;
+            Ok(before)
+        }
+        None => Ok(None),
+    }
+}
+
 impl Row {
-    ghost use Rattle.pb_state.specs.Row.{first_row, finished, started, sent, reported, joined, left};
-    ghost use Rattle.pb_state.specs.Machine.{report_decides};
-    ghost use Rattle.pb_items.specs.declared.planned.Planned.TheVariants.{Sends};
+    ghost use Rattle.pb_state.specs.Row.{first_row, finished, progressed, sent, reported, joined, left};
+    ghost use Rattle.pb_state.specs.Machine.{done_if, report_decides};
+    ghost use Rattle.pb_state.specs.Back.{back_row, waiting, went_on, ended_now, decided_now, undone};
 
     /// A host before the run.
     pub fn new(host: HostNo) -> Row
@@ -244,12 +264,7 @@ impl Row {
     }
 
     /// The task at a place ends. An `Err` changes nothing.
-    pub fn finish(
-        &mut self,
-        alloc: Global,
-        place: usize,
-        task: TaskResult,
-    ) -> Result<(), AllocError>
+    fn finish(&mut self, alloc: Global, place: usize, task: TaskResult) -> Result<(), AllocError>
         requires batch { self.old.in_batch ≡ true }
         requires room { IsAtMost self.old.counts (2 ^ 64 - 2) }
         ensures ok { OnOk result (self.new ≡ finished place task self.old) }
@@ -266,19 +281,34 @@ impl Row {
         Ok(())
     }
 
-    /// The task at a place starts, and waits for a job.
-    pub fn begin(&mut self, place: usize, call: Call)
-        requires { self.old.in_batch ≡ true }
-        ensures { self.new ≡ record self.old { running = Some (record { place = place; call = call; out = None }) } }
+    /// The task at a place starts with these items: it waits for their jobs, or ends at once. An `Err` changes nothing.
+    pub fn start(
+        &mut self,
+        alloc: Global,
+        play: &PlanPlay,
+        place: usize,
+        items: TaskItems,
+    ) -> Result<Option<Done>, AllocError>
+        requires batch { self.old.in_batch ≡ true }
+        requires room { IsAtMost self.old.counts (2 ^ 64 - 2) }
+        ensures row { OnOk result (self.new ≡ progressed play.now place items self.old) }
+        ensures done { IfOk result (λ done. done ≡ done_if play.now place items) }
+        ensures err { OnErr result (self.new ≡ self.old) }
     {
-        run(
-            &mut self.running,
-            Some(Running {
-                place,
-                call,
-                out: None,
-            }),
-        );
+        if !items.is_over() {
+            run(
+                &mut self.running,
+                Some(Running {
+                    place,
+                    items,
+                    out: None,
+                }),
+            );
+            return Ok(None);
+        }
+        let done = done_at(alloc, play, place, &items)?;
+        self.finish(alloc, place, done.task)?;
+        Ok(Some(done))
     }
 
     /// A job goes out.
@@ -290,32 +320,104 @@ impl Row {
         }
     }
 
-    /// The outcome of the job that is out ends the task. An `Err` changes nothing.
+    /// The job that is out came to this. An `Err` changes nothing.
     pub fn report(
         &mut self,
         alloc: Global,
+        play: &PlanPlay,
         outcome: &Outcome,
     ) -> Result<Option<Decided>, AllocError>
         requires { IsAtMost self.old.counts (2 ^ 64 - 2) }
-        ensures row { OnOk result (self.new ≡ reported outcome.now self.old) }
-        ensures decides { IfOk result (λ decided. decided ≡ report_decides outcome.now self.old) }
+        ensures row { OnOk result (self.new ≡ reported play.now outcome.now self.old) }
+        ensures decides { IfOk result (λ decided. decided ≡ report_decides play.now outcome.now self.old) }
+        ensures err { OnErr result (self.new ≡ self.old) }
+    {
+        let number = self.item();
+        let before = self.take_back(alloc, outcome)?;
+        match self.decide(alloc, play, number) {
+            Ok(decided) => Ok(decided),
+            Err(error) => {
+                self.undo(before);
+                Err(error)
+            }
+        }
+    }
+
+    /// The job that is out came to this: its item has its result. What the item was before is handed back. An `Err` changes nothing.
+    fn take_back(&mut self, alloc: Global, outcome: &Outcome) -> Result<Option<Before>, AllocError>
+        ensures ok { OnOk result (self.new ≡ back_row outcome.now self.old) }
+        ensures undo { IfOk result (λ before. undone before self.new ≡ self.old) }
+        ensures err { OnErr result (self.new ≡ self.old) }
+    {
+        let before = come_back(alloc, &mut self.running, outcome)?;
+        Ok(before)
+    }
+
+    /// Puts an item of the task that the host runs back as it was.
+    fn undo(&mut self, before: Option<Before>)
+        ensures { self.new ≡ undone before self.old }
+    {
+        match &mut self.running {
+            Some(running) => running.items.undo(before),
+            None => drop(before),
+        }
+    }
+
+    /// The task that the host runs waits for its next item to be sent.
+    fn wait(&mut self)
+        ensures { self.new ≡ waiting self.old }
+    {
+        if let Some(running) = &mut self.running {
+            running.out = None;
+        }
+    }
+
+    /// What is decided of the task that the host runs, of which the item with this number came back. An `Err` changes nothing.
+    fn decide(
+        &mut self,
+        alloc: Global,
+        play: &PlanPlay,
+        number: Option<u32>,
+    ) -> Result<Option<Decided>, AllocError>
+        requires { IsAtMost self.old.counts (2 ^ 64 - 2) }
+        ensures row { OnOk result (self.new ≡ went_on play.now self.old) }
+        ensures decides { IfOk result (λ decided. decided ≡ decided_now play.now number self.old) }
         ensures err { OnErr result (self.new ≡ self.old) }
     {
         match &self.running {
             None => Ok(None),
             Some(running) => {
                 let place = running.place;
-                let item = judge(alloc, &running.call, outcome)?;
-                let task = task_of(&item);
-                self.finish(alloc, place, task)?;
+                let items = told_of(alloc, &running.items, number)?;
+                let done = self.end_if_over(alloc, play)?;
                 Ok(Some(Decided {
                     place,
                     is_new: false,
-                    done: Some(Done {
-                        result: item.result,
-                        task,
-                    }),
+                    items,
+                    done,
                 }))
+            }
+        }
+    }
+
+    /// The task that the host runs goes on, or ends where it is over. An `Err` changes nothing.
+    fn end_if_over(&mut self, alloc: Global, play: &PlanPlay) -> Result<Option<Done>, AllocError>
+        requires { IsAtMost self.old.counts (2 ^ 64 - 2) }
+        ensures row { OnOk result (self.new ≡ went_on play.now self.old) }
+        ensures done { IfOk result (λ done. done ≡ ended_now play.now self.old) }
+        ensures err { OnErr result (self.new ≡ self.old) }
+    {
+        match &self.running {
+            None => Ok(None),
+            Some(running) => {
+                if !running.items.is_over() {
+                    self.wait();
+                    return Ok(None);
+                }
+                let place = running.place;
+                let done = done_at(alloc, play, place, &running.items)?;
+                self.finish(alloc, place, done.task)?;
+                Ok(Some(done))
             }
         }
     }
@@ -353,7 +455,7 @@ impl Row {
 
 impl Row {
     ghost use Rattle.pb_state.specs.Row.{is_called, next_place};
-    ghost use Rattle.pb_state.specs.Machine.{is_ready, stands_at, is_in, is_running, has_send, is_out, has_ticket, is_ticket};
+    ghost use Rattle.pb_state.specs.Machine.{is_ready, stands_at, is_in, is_running, has_send, is_out, has_ticket, is_ticket, is_next, may_send_item, awaits, item_of};
 
     /// Whether the host still takes part in the playbook.
     pub fn is_host_active(&self) -> bool
@@ -418,6 +520,40 @@ impl Row {
             Some(running) => is_ticket(ticket, running.out),
             None => false,
         }
+    }
+
+    /// The number of the item that the host sends next, or whose job is out.
+    pub fn item(&self) -> Option<u32>
+        ensures { result ≡ item_of self.now }
+    {
+        match &self.running {
+            Some(running) => running.items.next(),
+            None => None,
+        }
+    }
+
+    /// Whether the item with this number is the next of the task that the host runs.
+    fn is_next(&self, item: u32) -> bool
+        ensures { result ≡ option_map_or (is_next item) self.now.running false }
+    {
+        match self.item() {
+            Some(number) => number == item,
+            None => false,
+        }
+    }
+
+    /// Whether the host has a job of this item to send.
+    pub fn may_send_item(&self, item: u32) -> bool
+        ensures { result ≡ may_send_item item self.now }
+    {
+        self.has_send() && self.is_next(item)
+    }
+
+    /// Whether the host waits for what comes of its item's job under a ticket.
+    pub fn awaits(&self, ticket: Ticket, item: u32) -> bool
+        ensures { result ≡ awaits ticket item self.now }
+    {
+        self.has_ticket(ticket) && self.is_next(item)
     }
 
     /// The next place of a host of the batch. It walks no tree.

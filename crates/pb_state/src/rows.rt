@@ -3,17 +3,16 @@
 ghost use Rattle.std.specs.Prelude.{◌≡◌, ◌&&◌, ◌<◌, ◌≤◌, ◌+◌, ◌-◌, ◌^◌, length, map, drop, replicate, slice_get, count_by, true, false, IfOk, IfSome, IfNone, OnOk, OnErr, Some, None};
 ghost use Rattle.std.specs.List.{list_any};
 ghost use Rattle.std.specs.Option.{option_map_or};
-ghost use Rattle.pb_state.specs.Row.{HostRow, first_rows, next_place, is_called, joined, left, finished, sent, reported};
+ghost use Rattle.pb_state.specs.Row.{HostRow, first_rows, next_place, is_called, joined, left, progressed, sent, reported};
 ghost use Rattle.pb_state.specs.Bounds.{IsAtMost};
 ghost use Rattle.pb_state.specs.Oldest.{oldest_out, out_at, older};
-ghost use Rattle.pb_state.specs.Machine.{is_ready, stands_at, is_in, is_running, has_send, is_out, has_ticket, least_place, lesser, change, one_if, running_count, report_decides, has_hosts, first_play};
+ghost use Rattle.pb_state.specs.Machine.{is_ready, stands_at, is_in, is_running, has_send, is_out, has_ticket, least_place, lesser, change, one_if, running_count, done_if, report_decides, has_hosts, first_play};
 
-use crate::decided::Decided;
+use crate::decided::{Decided, Done};
+use crate::items::TaskItems;
 use crate::row::{Counts, Row};
 use pb_cursors::LaidTree;
 use pb_ids::{HostNo, Ticket};
-use pb_outcome::gather::TaskResult;
-use pb_outcome::job::Call;
 use pb_outcome::outcome::Outcome;
 use pb_plan::PlanPlay;
 use pb_planes::HostSet;
@@ -155,36 +154,31 @@ pub fn some_stands(rows: &[Row], place: Option<usize>) -> bool
     rows.iter().any(|row| row.stands_at(place))
 }
 
-/// A host finishes the task at a place. An `Err` changes nothing.
-pub fn finish_row(
+/// A host starts the task at a place with these items. An `Err` changes nothing.
+pub fn start_row(
     alloc: Global,
     rows: &mut HostRows,
     host: HostNo,
+    play: &PlanPlay,
     place: usize,
-    task: TaskResult,
-) -> Result<(), AllocError>
+    items: TaskItems,
+) -> Result<Option<Done>, AllocError>
+    requires there { host.0 < length rows.old }
     requires batch { IfSome (slice_get rows.old host.0) (λ row. row.in_batch ≡ true) }
     requires room { IfSome (slice_get rows.old host.0) (λ row. IsAtMost row.counts (2 ^ 64 - 2)) }
-    ensures ok { OnOk result (rows.new ≡ change rows.old host.0 (finished place task)) }
+    ensures rows { OnOk result (rows.new ≡ change rows.old host.0 (progressed play.now place items)) }
+    ensures done { IfOk result (λ done. done ≡ done_if play.now place items) }
     ensures err { OnErr result (rows.new ≡ rows.old) }
 {
-    if let Some(row) = rows.rows.get_mut(host.0 as usize) {
-        let was = row.is_running();
-        row.finish(alloc, place, task)?;
-        rows.running = recounted(rows.running, was, false);
-    }
-    Ok(())
-}
-
-/// A host starts the task at a place, which waits for a job.
-pub fn begin_row(rows: &mut HostRows, host: HostNo, place: usize, call: Call)
-    requires { IfSome (slice_get rows.old host.0) (λ row. row.in_batch ≡ true) }
-    ensures { rows.new ≡ change rows.old host.0 (λ row. record row { running = Some (record { place = place; call = call; out = None }) }) }
-{
-    if let Some(row) = rows.rows.get_mut(host.0 as usize) {
-        let was = row.is_running();
-        row.begin(place, call);
-        rows.running = recounted(rows.running, was, true);
+    match rows.rows.get_mut(host.0 as usize) {
+        Some(row) => {
+            let was = row.is_running();
+            let done = row.start(alloc, play, place, items)?;
+            let runs = row.is_running();
+            rows.running = recounted(rows.running, was, runs);
+            Ok(done)
+        }
+        None => unreachable!(),
     }
 }
 
@@ -197,23 +191,25 @@ pub fn send_row(rows: &mut HostRows, host: HostNo, ticket: Ticket)
     }
 }
 
-/// The outcome of a host's job ends its task. An `Err` changes nothing.
+/// The job of a host that is out came to this. An `Err` changes nothing.
 pub fn report_row(
     alloc: Global,
     rows: &mut HostRows,
     host: HostNo,
+    play: &PlanPlay,
     outcome: &Outcome,
 ) -> Result<Option<Decided>, AllocError>
     requires { IfSome (slice_get rows.old host.0) (λ row. IsAtMost row.counts (2 ^ 64 - 2)) }
-    ensures rows { OnOk result (rows.new ≡ change rows.old host.0 (reported outcome.now)) }
-    ensures decides { IfOk result (λ decided. decided ≡ option_map_or (report_decides outcome.now) (slice_get rows.old host.0) None) }
+    ensures rows { OnOk result (rows.new ≡ change rows.old host.0 (reported play.now outcome.now)) }
+    ensures decides { IfOk result (λ decided. decided ≡ option_map_or (report_decides play.now outcome.now) (slice_get rows.old host.0) None) }
     ensures err { OnErr result (rows.new ≡ rows.old) }
 {
     match rows.rows.get_mut(host.0 as usize) {
         Some(row) => {
             let was = row.is_running();
-            let decided = row.report(alloc, outcome)?;
-            rows.running = recounted(rows.running, was, false);
+            let decided = row.report(alloc, play, outcome)?;
+            let goes_on = row.is_running();
+            rows.running = recounted(rows.running, was, goes_on);
             Ok(decided)
         }
         None => Ok(None),

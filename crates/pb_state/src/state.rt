@@ -6,24 +6,22 @@ ghost use Rattle.std.specs.List.{list_any};
 ghost use Rattle.std.specs.Option.{option_copied, option_map_or};
 ghost use Rattle.pb_planes.specs.Set.{is_in as is_member};
 ghost use Rattle.pb_plan.specs.Plan.{PlanOf};
-ghost use Rattle.pb_state.specs.Row.{HostRow, left, finished, started, task_of};
-ghost use Rattle.pb_items.specs.declared.planned.Planned.TheVariants as Planned;
+ghost use Rattle.pb_state.specs.Row.{HostRow, left};
 ghost use Rattle.pb_state.specs.State.{State};
 
-use crate::decided::{Decided, Done, decide};
+use crate::decided::{Decided, decide};
 use crate::event::Event;
+use crate::items::TaskItems;
 use crate::job::job_in;
-use crate::planned::{planned_at, task_of};
+use crate::planned::items_at;
 use crate::row::Counts;
 use crate::rows::{
-    HostRows, begin_row, counts_of, finish_row, first_play, join_all, least_place, leave_all,
-    none_into, oldest_out, ready_into, report_row, send_row, some_in, some_out, some_stands,
-    some_ticket,
+    HostRows, counts_of, first_play, join_all, least_place, leave_all, none_into, oldest_out,
+    ready_into, report_row, send_row, some_in, some_out, some_stands, some_ticket, start_row,
 };
+use crate::told::numbered;
 use pb_ids::{HostNo, PlayNo, Ticket};
-use pb_items::planned::Planned;
-use pb_outcome::gather::{ItemResult, TaskResult};
-use pb_outcome::job::{Call, Job, Report};
+use pb_outcome::job::{Job, Report};
 use pb_plan::{Plan, PlanPlay};
 use pb_planes::HostSet;
 use std::alloc::{AllocError, Global};
@@ -168,7 +166,7 @@ impl EngineState {
         ensures { result ≡ at_row (may_send_item item) self.now.rows host.0 }
     {
         match self.rows.as_slice().get(host.0 as usize) {
-            Some(row) => item == 0 && row.has_send(),
+            Some(row) => row.may_send_item(item),
             None => false,
         }
     }
@@ -188,7 +186,7 @@ impl EngineState {
         ensures { result ≡ at_row (awaits ticket item) self.now.rows host.0 }
     {
         match self.rows.as_slice().get(host.0 as usize) {
-            Some(row) => item == 0 && row.has_ticket(ticket),
+            Some(row) => row.awaits(ticket, item),
             None => false,
         }
     }
@@ -257,7 +255,7 @@ impl EngineState {
 }
 
 impl EngineState {
-    ghost use Rattle.pb_state.specs.Machine.{after, opened_in, started_in, start_at, start_with, sent_in, reported_in, turned_in, closed, stopped, with_forks, first_state, ready, change, possible, may_open, may_start_in, may_send_in, may_report_in, open_play, done_by};
+    ghost use Rattle.pb_state.specs.Machine.{after, opened_in, started_in, start_at, start_with, sent_in, reported_in, turned_in, closed, stopped, with_forks, first_state, ready, change, possible, may_open, may_start_in, may_send_in, may_report_in, open_play};
     ghost use Rattle.pb_state.specs.Run.{is_command};
     ghost use Rattle.pb_state.specs.Work.{work};
 
@@ -406,74 +404,25 @@ impl EngineState {
         ensures ok { OnOk result (self.new ≡ start_at plan.now self.old host.0 play.now place) }
         ensures err { OnErr result (self.new ≡ self.old) }
     {
-        let planned = planned_at(self.alloc, plan, play, host, place)?;
-        match planned {
-            Planned::Decided(item) => self.decide_at(host, play, place, item),
-            Planned::Sends(call) => {
-                self.begin_at(host, play, place, call);
-                self.tell(place, None);
-                Ok(())
-            }
-        }
+        let items = items_at(self.alloc, plan, play, host, place)?;
+        self.start_with(host, play, place, items)
     }
 
-    /// A task is decided as it starts.
-    fn decide_at(
+    /// The task at a place starts on a host with these items.
+    fn start_with(
         &mut self,
         host: HostNo,
         play: &PlanPlay,
         place: usize,
-        item: ItemResult,
+        items: TaskItems,
     ) -> Result<(), AllocError>
         requires open { self.old.is_open ≡ true }
         requires may { may_start_in self.old host.0 play.now ≡ true }
-        ensures ok { OnOk result (self.new ≡ record self.old { rows = change self.old.rows host.0 (finished place (task_of item)); begun = slice_set self.old.begun place true; decided = Some (record { place = place; is_new = not (is_member self.old.begun place); done = Some (done_by item) }) }) }
+        ensures ok { OnOk result (self.new ≡ start_with self.old host.0 play.now place items) }
         ensures err { OnErr result (self.new ≡ self.old) }
     {
-        let task = task_of(&item);
-        self.finish_at(host, play, place, task)?;
-        let done = Some(Done {
-            result: item.result,
-            task,
-        });
-        self.tell(place, done);
-        Ok(())
-    }
-
-    /// A task that is decided as it starts ends.
-    fn finish_at(
-        &mut self,
-        host: HostNo,
-        play: &PlanPlay,
-        place: usize,
-        task: TaskResult,
-    ) -> Result<(), AllocError>
-        requires open { self.old.is_open ≡ true }
-        requires may { may_start_in self.old host.0 play.now ≡ true }
-        ensures ok { OnOk result (self.new ≡ record self.old { rows = change self.old.rows host.0 (finished place task) }) }
-        ensures err { OnErr result (self.new ≡ self.old) }
-    {
-        // (what only the clauses speak of)
-        let _play = play;
-        finish_row(self.alloc, &mut self.rows, host, place, task)?;
-        Ok(())
-    }
-
-    /// A task that waits for a job begins.
-    fn begin_at(&mut self, host: HostNo, play: &PlanPlay, place: usize, call: Call)
-        requires open { self.old.is_open ≡ true }
-        requires may { may_start_in self.old host.0 play.now ≡ true }
-        ensures { self.new ≡ record self.old { rows = change self.old.rows host.0 (started place (Planned.Sends call)) } }
-    {
-        // (what only the clauses speak of)
-        let _play = play;
-        begin_row(&mut self.rows, host, place, call);
-    }
-
-    /// Puts down that a host started at a place, and what that decided.
-    fn tell(&mut self, place: usize, done: Option<Done>)
-        ensures { self.new ≡ record self.old { begun = slice_set self.old.begun place true; decided = Some (record { place = place; is_new = not (is_member self.old.begun place); done = done }) } }
-    {
+        let told = numbered(self.alloc, &items)?;
+        let done = start_row(self.alloc, &mut self.rows, host, play, place, items)?;
         let is_new = !has_place(self.begun.as_slice(), place);
         begin_at_place(self.begun.as_mut_slice(), place);
         decide(
@@ -481,9 +430,11 @@ impl EngineState {
             Some(Decided {
                 place,
                 is_new,
+                items: told,
                 done,
             }),
         );
+        Ok(())
     }
 
     fn send(&mut self, plan: &Plan, host: HostNo, item: u32, ticket: Ticket)
@@ -525,9 +476,13 @@ impl EngineState {
         ensures ok { OnOk result (self.new ≡ reported_in self.old report.now play.now) }
         ensures err { OnErr result (self.new ≡ self.old) }
     {
-        // (what only the clauses speak of)
-        let _play = play;
-        let decided = report_row(self.alloc, &mut self.rows, report.host, &report.outcome)?;
+        let decided = report_row(
+            self.alloc,
+            &mut self.rows,
+            report.host,
+            play,
+            &report.outcome,
+        )?;
         decide(&mut self.decided, decided);
         Ok(())
     }
@@ -563,7 +518,7 @@ impl EngineState {
 }
 
 impl EngineState {
-    ghost use Rattle.pb_state.specs.Machine.{ready, open_play, has_room, is_out, has_ticket, at_row};
+    ghost use Rattle.pb_state.specs.Machine.{ready, open_play, has_room, is_out, has_ticket, at_row, item_at};
     ghost use Rattle.pb_state.specs.Jobs.{job_of};
     ghost use Rattle.pb_ids.specs.declared.numbers.Ticket.{Ticket};
     ghost use Rattle.pb_state.specs.Oldest.{oldest_out};
@@ -625,7 +580,17 @@ impl EngineState {
         oldest_out(self.rows.as_slice())
     }
 
-    /// The job of a host's running task, under a ticket.
+    /// The number of the item that a host sends next, or whose job is out.
+    pub fn item(&self, host: HostNo) -> Option<u32>
+        ensures { result ≡ item_at self.now host.0 }
+    {
+        match self.rows.as_slice().get(host.0 as usize) {
+            Some(row) => row.item(),
+            None => None,
+        }
+    }
+
+    /// The job of the next item of the task that a host runs, under a ticket.
     pub fn job(
         &self,
         alloc: Global,

@@ -5,4 +5,4 @@ use Rattle.pb_cli.proofs.listing.push_hosts.Goals as goal
 pub loop-host-preserved : goal.loop-host-preserved
 loop-host-preserved c =
     rw (c.in_ok-push_host.ensures, c.contains.ensures)
-    (hosts_after c.args.plan.now.hosts c.args.hosts.now c.loop-host.host c.host_name-name.result.now (string_bytes c.loop-host.text) c.host_name-name.ensures ∙ c.loop-host.invariant)
+    (hosts_after c.args.plan.now.inventory.hosts c.args.hosts.now c.loop-host.host c.host_name-name.result.now (string_bytes c.loop-host.text) c.host_name-name.ensures ∙ c.loop-host.invariant)

@@ -4,4 +4,4 @@ use Rattle.pb_cli.proofs.listing.push_hosts.Given as goal
 
 abbrev pub invariant-loop-host : goal.invariant-loop-host
 invariant-loop-host l =
-    string_bytes l.text ++ host_lines (drop l.host l.plan.hosts) (drop l.host l.hosts) ≡ string_bytes l.fn.text ++ host_lines l.plan.hosts l.hosts
+    string_bytes l.text ++ host_lines (drop l.host l.plan.inventory.hosts) (drop l.host l.hosts) ≡ string_bytes l.fn.text ++ host_lines l.plan.inventory.hosts l.hosts

@@ -1,6 +1,6 @@
 use Rattle.std.proofs.Common.{rules, ◌≡◌, ◌∙◌, sym}
 use Rattle.pb_engine.specs.declared.refusal.Refusal.{Refusal}
-use Rattle.pb_engine.specs.declared.refusal.Refusal.TheVariants.{UnknownTicket, AlreadyReported, Memory}
+use Rattle.pb_engine.specs.declared.refusal.Refusal.TheVariants.{UnknownTicket, AlreadyReported, WrongItem, Memory}
 use Rattle.pb_driver.proofs.Driving.{never_refused, item_of_job}
 use Rattle.pb_driver.proofs.driver.answer.Goals as goal
 
@@ -12,4 +12,9 @@ unreachable-requires-in-UnknownTicket g c =
 pub unreachable-requires-in-AlreadyReported : goal.unreachable-requires-in-AlreadyReported
 unreachable-requires-in-AlreadyReported g c =
     let refused = c.in-Err.ensures.refusal (λ m. let no : AlreadyReported ≡ Memory = sym c.in-AlreadyReported.is ∙ m in cc) in
+    never_refused c.args.engine.now (record { ticket = c.in-Some.ticket; host = c.in-Some.host; item = c.in-Some-2.job.item; outcome = c.run-outcome.result }) c.in-Err.refusal c.requires.sound (search rules) (search (rules, item_of_job)) refused
+
+pub unreachable-requires-in-WrongItem : goal.unreachable-requires-in-WrongItem
+unreachable-requires-in-WrongItem g c =
+    let refused = c.in-Err.ensures.refusal (λ m. let no : WrongItem ≡ Memory = sym c.in-WrongItem.is ∙ m in cc) in
     never_refused c.args.engine.now (record { ticket = c.in-Some.ticket; host = c.in-Some.host; item = c.in-Some-2.job.item; outcome = c.run-outcome.result }) c.in-Err.refusal c.requires.sound (search rules) (search (rules, item_of_job)) refused

@@ -5,4 +5,4 @@ use Rattle.pb_events.proofs.batch.batch_names.Goals as goal
 pub loop-host-preserved : goal.loop-host-preserved
 loop-host-preserved c =
     rw (c.in_ok-push_name.ensures, c.in_batch.ensures)
-    (names_after c.args.plan.now.hosts c.args.state.now.rows c.loop-host.host c.host_name-name.result.now c.loop-host.names c.host_name-name.ensures ∙ c.loop-host.invariant)
+    (names_after c.args.plan.now.inventory.hosts c.args.state.now.rows c.loop-host.host c.host_name-name.result.now c.loop-host.names c.host_name-name.ensures ∙ c.loop-host.invariant)

@@ -6,5 +6,5 @@ use Rattle.pb_recap.proofs.stats.put_hosts.Given as goal
 
 abbrev pub invariant-loop-host : goal.invariant-loop-host
 invariant-loop-host l =
-    with_hosts (members_view l.stats.entries) (hosts_with_count (drop l.host l.plan.hosts) (drop l.host l.counts))
-    ≡ with_hosts (members_view l.fn.stats.entries) (hosts_with_count l.plan.hosts l.counts)
+    with_hosts (members_view l.stats.entries) (hosts_with_count (drop l.host l.plan.inventory.hosts) (drop l.host l.counts))
+    ≡ with_hosts (members_view l.fn.stats.entries) (hosts_with_count l.plan.inventory.hosts l.counts)

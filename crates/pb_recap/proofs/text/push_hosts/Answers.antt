@@ -5,4 +5,4 @@ use Rattle.pb_recap.proofs.text.push_hosts.Goals as goal
 pub loop-host-preserved : goal.loop-host-preserved
 loop-host-preserved c =
     rw (c.in_ok-push_host.ensures, c.counts_at.ensures)
-    (lines_after c.args.plan.now.hosts c.args.counts.now c.loop-host.host c.host_name-name.result.now (string_bytes c.loop-host.text) c.host_name-name.ensures ∙ c.loop-host.invariant)
+    (lines_after c.args.plan.now.inventory.hosts c.args.counts.now c.loop-host.host c.host_name-name.result.now (string_bytes c.loop-host.text) c.host_name-name.ensures ∙ c.loop-host.invariant)

@@ -5,5 +5,5 @@ use Rattle.pb_recap.proofs.text.push_hosts.Given as goal
 
 abbrev pub invariant-loop-host : goal.invariant-loop-host
 invariant-loop-host l =
-    string_bytes l.text ++ host_lines (hosts_with_count (drop l.host l.plan.hosts) (drop l.host l.counts))
-    ≡ string_bytes l.fn.text ++ host_lines (hosts_with_count l.plan.hosts l.counts)
+    string_bytes l.text ++ host_lines (hosts_with_count (drop l.host l.plan.inventory.hosts) (drop l.host l.counts))
+    ≡ string_bytes l.fn.text ++ host_lines (hosts_with_count l.plan.inventory.hosts l.counts)

@@ -1,5 +1,5 @@
 use Rattle.std.proofs.Common.{arith, length-set}
-use Rattle.pb_state.proofs.Told.{none_more}
+use Rattle.pb_state.proofs.Overwritten.{none_more}
 use Rattle.pb_state.proofs.rows.none_into.Goals as goal
 
 pub loop-i-preserved : goal.loop-i-preserved

@@ -1,6 +1,6 @@
 use Rattle.std.proofs.Common.{◌<◌, length, arith, length-set}
 use Rattle.pb_state.specs.Machine.{is_ready}
-use Rattle.pb_state.proofs.Told.{told_more}
+use Rattle.pb_state.proofs.Overwritten.{told_more}
 use Rattle.pb_state.proofs.rows.ready_into.Goals as goal
 
 pub loop-i-preserved : goal.loop-i-preserved

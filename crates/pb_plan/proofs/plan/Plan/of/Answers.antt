@@ -3,6 +3,7 @@ use Rattle.std.specs.List.{list_any}
 use Rattle.std.proofs.lemmas.Bool.Decides.{nat_tests}
 use Rattle.std.proofs.lemmas.Result.{IfOk-weaker}
 use Rattle.pb_plan.specs.Bundle.{are_bad_forks, has_too_many_places}
+use Rattle.pb_plan.proofs.Fitting.{plan_fits}
 use Rattle.pb_plan.proofs.Plans.{IsSized, HasVariables, HasBook, HasLimit, size_fault, forks_fault, inventory_fault, extra_fault, book_fault, limit_met, places_fault, plan_made}
 use Rattle.pb_plan.proofs.plan.Plan.of.Goals as goal
 
@@ -74,3 +75,6 @@ returns-clause-value c =
     IfOk-weaker c.plan_with.result _ _
     (λ plan made. plan_made c.args.bundle.now c.in-Ok.inventory c.in-Ok-extra_in.extra c.in-Ok-playbook_in.playbook c.in-Ok-limit_in.limit plan book limit few made)
     c.plan_with.ensures.value
+
+pub returns-clause-fit : goal.returns-clause-fit
+returns-clause-fit c = IfOk-weaker c.plan_with.result _ _ (λ plan made. plan_fits c.args.bundle.now plan made) (returns-clause-value c)

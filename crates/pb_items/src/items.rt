@@ -1,0 +1,163 @@
+//! The items of a task.
+ghost use Rattle.std.specs.Prelude.{◌≡◌, ◌≢◌, ◌≤◌, [], ◌∷◌, Some, IfOk, IfErr, Ok, Err, length, map};
+ghost use Rattle.std.specs.Option.{option_copied};
+ghost use Rattle.pb_items.specs.Items.{seen_by, delegate_in, settled_step, step_in, item_in, faulty_item, looped_items, items_of};
+ghost use Rattle.pb_items.specs.Loops.{max_items, values_of};
+ghost use Rattle.pb_items.specs.declared.fault.ItemFault.TheVariants as item;
+
+use crate::fault::ItemFault;
+use crate::loops::{loop_variable, values_of};
+use crate::planning::{done_by, unread};
+use crate::results::skipped_result;
+use crate::start::Start;
+use pb_conditions::holds::holds;
+use pb_conditions::settled::{Sight, settle};
+use pb_expr_eval::eval::render_text;
+use pb_layers::scope::Scope;
+use pb_outcome::item::{Item, Planned};
+use pb_play::loops::Loop;
+use pb_value::items::Items;
+use pb_value::text::Text;
+use pb_value::val::{Dict, Node, Val, ValList};
+use std::alloc::{AllocError, Global};
+
+/// To whom an item is delegated, if it is: to a text that isn't empty.
+fn delegate_in(
+    alloc: Global,
+    delegate_to: Option<&Text>,
+    scope: &Scope,
+) -> Result<Option<Text>, ItemFault>
+    ensures value { IfOk result (λ d. delegate_in scope.now (option_copied delegate_to.entry) ≡ Ok d) }
+    ensures fault { IfErr result (λ e. e ≢ item.Memory → delegate_in scope.now (option_copied delegate_to.entry) ≡ Err e) }
+{
+    let Some(template) = delegate_to else {
+        return Ok(None);
+    };
+    let name = render_text(alloc, template.as_str(), scope)?;
+    let Node::Text(name) = name.into_node() else {
+        return Err(ItemFault::BadDelegate);
+    };
+    if name.is_empty() {
+        return Err(ItemFault::BadDelegate);
+    }
+    Ok(Some(name))
+}
+
+/// What is decided at once, as the task says of it.
+fn settled_step(
+    alloc: Global,
+    start: &Start,
+    variable: &Dict,
+    step: Planned,
+) -> Result<Planned, AllocError>
+    ensures { IfOk result (λ s. s ≡ settled_step start.now variable.now step) }
+{
+    let task = start.task;
+    let sight = Sight {
+        layers: start.layers,
+        magic: start.magic,
+        loop_variable: variable,
+        register: &task.register,
+    };
+    match step {
+        Planned::Decided(item) => {
+            let item = settle(alloc, &sight, &task.changed_when, &task.failed_when, item)?;
+            Ok(Planned::Decided(item))
+        }
+        Planned::Sends(call) => Ok(Planned::Sends(call)),
+    }
+}
+
+/// What an item with this loop variable does, and the host that it is delegated to: its conditions are read first, then its module, then
+/// its delegate.
+fn step_in(
+    alloc: Global,
+    start: &Start,
+    variable: &Dict,
+) -> Result<(Planned, Option<Text>), ItemFault>
+    ensures value { IfOk result (λ s. step_in start.now variable.now ≡ Ok s) }
+    ensures fault { IfErr result (λ e. e ≢ item.Memory → step_in start.now variable.now ≡ Err e) }
+{
+    let scope = Scope::new(start.layers, start.magic, variable);
+    if !holds(alloc, start.conditions, &scope)? {
+        return Ok((Planned::Decided(skipped_result(alloc)?), None));
+    }
+    let done = done_by(alloc, start.has_facts_program, &start.task.module, &scope)?;
+    let delegate = delegate_in(alloc, start.delegate_to, &scope)?;
+    let step = settled_step(alloc, start, variable, done)?;
+    Ok((step, delegate))
+}
+
+/// An item that can't be read.
+fn faulty_item(alloc: Global, value: Option<Val>, fault: &ItemFault) -> Result<Item, AllocError>
+    ensures { IfOk result (λ i. (fault.now ≢ item.Memory) × (i ≡ faulty_item value fault.now)) }
+{
+    let step = unread(alloc, fault)?;
+    Ok(Item {
+        value,
+        delegate: None,
+        step,
+    })
+}
+
+/// The item of this value of the loop variable.
+#[tactic(auto, unfolding(crate::specs::Items::item_in))]
+fn item_in(alloc: Global, start: &Start, value: Option<Val>) -> Result<Item, AllocError>
+    ensures { IfOk result (λ i. i ≡ item_in start.now value) }
+{
+    let variable = loop_variable(alloc, &start.task.looped, &value)?;
+    match step_in(alloc, start, &variable) {
+        Ok((step, delegate)) => Ok(Item {
+            value,
+            delegate,
+            step,
+        }),
+        Err(fault) => faulty_item(alloc, value, &fault),
+    }
+}
+
+/// An item for each of these values.
+fn item_of_each(alloc: Global, start: &Start, values: ValList) -> Result<Items<Item>, AllocError>
+    ensures { IfOk result (λ items. items ≡ map (λ value. item_in start.now (Some value)) values) }
+{
+    let mut items = Vec::with_capacity(alloc, values.len())?;
+    for value in values.items {
+        items.push(item_in(alloc, start, Some(value))?)?;
+    }
+    Ok(Items::from_vec(items))
+}
+
+/// The one item of a task.
+fn only(alloc: Global, item: Item) -> Result<Items<Item>, AllocError>
+    ensures { IfOk result (λ items. items ≡ item ∷ []) }
+{
+    let mut items = Items::new(alloc);
+    items.push(item)?;
+    Ok(items)
+}
+
+/// The items of a loop.
+fn items_in_loop(alloc: Global, start: &Start, looped: &Loop) -> Result<Items<Item>, AllocError>
+    ensures { IfOk result (λ items. items ≡ looped_items (item_in start.now) (values_of (seen_by start.now []) looped.now.over)) }
+{
+    let none = Dict::new(alloc);
+    let scope = Scope::new(start.layers, start.magic, &none);
+    match values_of(alloc, &looped.over, &scope) {
+        Ok(values) => item_of_each(alloc, start, values),
+        Err(fault) => only(alloc, faulty_item(alloc, None, &fault)?),
+    }
+}
+
+/// The items of a task when it starts on a host, one for each value of its loop, or a single one: each has its result at once, or its call
+/// is sent as a job. Err is want of memory alone: what can't be read is an item that fails. See Ansible's documentation, "Loops" and
+/// "Conditionals".
+#[tactic(auto, using(crate::proofs::Few::few), unfolding(crate::specs::Items::items_of))]
+pub fn items(alloc: Global, start: &Start) -> Result<Items<Item>, AllocError>
+    ensures value { IfOk result (λ items. items ≡ items_of start.now) }
+    ensures few { IfOk result (λ items. length items ≤ max_items) }
+{
+    match &start.task.looped {
+        Some(looped) => items_in_loop(alloc, start, looped),
+        None => only(alloc, item_in(alloc, start, None)?),
+    }
+}

@@ -1,0 +1,189 @@
+-- Readers of objects, once their first parts are read: what stops a part stops the reader, and what is read is handed on.
+use Rattle.std.proofs.Common.{◌≡◌, ℕ, Bool, false, List, [], Result, Ok, Err, ap, sym, subst, ◌∙◌}
+use Rattle.std.specs.Prelude.{Option, codes, unwrap_or}
+use Rattle.std.specs.Result.{IsErrAnd}
+use Rattle.pb_value.specs.Datum.{Datum}
+use Rattle.pb_value.specs.Reading.{and_then}
+use Rattle.pb_expr_syntax.specs.Tree.{Tree}
+use Rattle.pb_reading.specs.Ahead.{Takes}
+use Rattle.pb_reading.specs.Fields.{Ahead, Read, others, rule, value_of}
+use Rattle.pb_reading.specs.Reading.{Reading, Stops, Gives, required}
+use Rattle.pb_reading.specs.Simple.{text}
+use Rattle.pb_reading.specs.declared.stop.Stop.{Stop}
+use Rattle.pb_reading.specs.declared.stop.Stop.TheVariants as stop
+use Rattle.pb_written.specs.Simple.{switched}
+use Rattle.pb_play.specs.Arguments.{argument}
+use Rattle.pb_play.specs.Assert.{said}
+use Rattle.pb_play.specs.Conditions.{conditions}
+use Rattle.pb_play.specs.Gathering.{or_on}
+use Rattle.pb_play.specs.NoEffect.{has_no_effect}
+use Rattle.pb_play.specs.Plays.{key, key_or, lists, play_of, rest_of_play}
+use Rattle.pb_play.specs.Simple.{template_value}
+use Rattle.pb_play.specs.Taken.{taken, taken_or}
+use Rattle.pb_play.specs.Tasks.{tells_of_task, told}
+use Rattle.pb_play.specs.Variables.{variables}
+use Rattle.pb_play.specs.declared.assert.Said.{Said}
+use Rattle.pb_play.specs.declared.fault.LoadFault.{LoadFault}
+use Rattle.pb_play.specs.declared.hosts.PlayHosts.{PlayHosts}
+use Rattle.pb_play.specs.declared.other_keys.NoArguments.{NoArguments}
+use Rattle.pb_play.specs.declared.other_keys.WithoutEffect.{WithoutEffect}
+use Rattle.pb_play.specs.declared.play.Lists.{Lists}
+use Rattle.pb_play.specs.declared.play.Play.{Play}
+use Rattle.pb_play.specs.declared.task.Modules.{Modules}
+use Rattle.pb_play.specs.declared.task.Told.{Told}
+
+-- what a stop is handed out as
+pub stopped : {A : Type 0} (result : Result A (Stop LoadFault)) (s : Stop LoadFault) (r : Reading A LoadFault) → IsErrAnd result (λ e. e ≡ s) → Stops s r → Gives result r
+stopped (Ok x) s r same stops = absurd same
+stopped (Err e) s r same stops = subst (λ e. Stops e r) (sym same) stops
+
+pub part_stopped : {A S : Type 0} (result : Result A (Stop LoadFault)) (s : Stop LoadFault) (after : Ahead S) (r : Reading (Read A S) LoadFault) → IsErrAnd result (λ e. e ≡ s) → Stops s r
+    → Takes (λ v. v) result after r
+part_stopped (Ok x) s after r same stops = absurd same
+part_stopped (Err e) s after r same stops = subst (λ e. Stops e r) (sym same) stops
+
+-- what stops a part stops what follows it
+stops_then : {A B : Type 0} (s : Stop LoadFault) (first : Reading A LoadFault) (next : A → Reading B LoadFault) → Stops s first → Stops s (and_then first next)
+stops_then stop.Memory first next stops = stops
+stops_then (stop.WrongShape path) first next stops = ap (λ r. and_then r next) stops
+stops_then (stop.Fault f) first next stops = ap (λ r. and_then r next) stops
+
+stops_value : {A S : Type 0} (s : Stop LoadFault) (r : Reading (Read A S) LoadFault) → Stops s r → Stops s (value_of r)
+stops_value stop.Memory r stops = stops
+stops_value (stop.WrongShape path) r stops = ap value_of stops
+stops_value (stop.Fault f) r stops = ap value_of stops
+
+stops_rule : {A S : Type 0} (s : Stop LoadFault) (r : Reading A LoadFault) (a : Ahead S) → Stops s r → Stops s (rule r a)
+stops_rule stop.Memory r a stops = stops
+stops_rule (stop.WrongShape path) r a stops = ap (λ r. rule r a) stops
+stops_rule (stop.Fault f) r a stops = ap (λ r. rule r a) stops
+
+-- what `assert` says, behind `msg`
+abbrev with_messages : Option Datum → Option Datum → Read (Option Datum) NoArguments → Reading (Read Said NoArguments) LoadFault
+with_messages fail_msg msg x = rule (Ok (record { fail_msg = fail_msg; msg = msg; success_msg = x.value })) x.ahead
+
+behind_msg : (a b d : Ahead NoArguments) (fail_msg msg : Option Datum) → argument (codes "fail_msg") template_value a ≡ Ok (record { value = fail_msg; ahead = b })
+    → argument (codes "msg") template_value b ≡ Ok (record { value = msg; ahead = d }) → said a ≡ and_then (argument (codes "success_msg") template_value d) (with_messages fail_msg msg)
+behind_msg a b d fail_msg msg e f =
+    ap (λ r. and_then r (λ x. and_then (argument (codes "msg") template_value x.ahead) (λ y. and_then (argument (codes "success_msg") template_value y.ahead) (with_messages x.value y.value)))) e
+    ∙ ap (λ r. and_then r (λ y. and_then (argument (codes "success_msg") template_value y.ahead) (with_messages fail_msg y.value))) f
+
+pub success_msg_stops : (a b d : Ahead NoArguments) (fail_msg msg : Option Datum) (s : Stop LoadFault) → argument (codes "fail_msg") template_value a ≡ Ok (record { value = fail_msg; ahead = b })
+    → argument (codes "msg") template_value b ≡ Ok (record { value = msg; ahead = d }) → Stops s (argument (codes "success_msg") template_value d) → Stops s (said a)
+success_msg_stops a b d fail_msg msg s e f stops =
+    subst (Stops s) (sym (behind_msg a b d fail_msg msg e f)) (stops_then s (argument (codes "success_msg") template_value d) (with_messages fail_msg msg) stops)
+
+pub said_is : (a b d g : Ahead NoArguments) (fail_msg msg success_msg : Option Datum) → argument (codes "fail_msg") template_value a ≡ Ok (record { value = fail_msg; ahead = b })
+    → argument (codes "msg") template_value b ≡ Ok (record { value = msg; ahead = d }) → argument (codes "success_msg") template_value d ≡ Ok (record { value = success_msg; ahead = g })
+    → said a ≡ Ok (record { value = record { fail_msg = fail_msg; msg = msg; success_msg = success_msg }; ahead = g })
+said_is a b d g fail_msg msg success_msg e f h = behind_msg a b d fail_msg msg e f ∙ ap (λ r. and_then r (with_messages fail_msg msg)) h
+
+-- what a task says of the result of its module, behind `changed_when`
+abbrev with_all : Option (List Tree) → Option (List Tree) → Read Bool Modules → Reading (Read Told Modules) LoadFault
+with_all changed failed x = rule (Ok (record { changed_when = changed; failed_when = failed; ignore_errors = x.value })) x.ahead
+
+abbrev with_failed : Bool → Option (List Tree) → Read (Option (List Tree)) Modules → Reading (Read Told Modules) LoadFault
+with_failed is_ignored changed x = and_then (taken_or tells_of_task (codes "ignore_errors") switched is_ignored x.ahead) (with_all changed x.value)
+
+behind_changed : (is_ignored : Bool) (a b : Ahead Modules) (changed : Option (List Tree)) → taken tells_of_task (codes "changed_when") conditions a ≡ Ok (record { value = changed; ahead = b })
+    → told is_ignored a ≡ and_then (taken tells_of_task (codes "failed_when") conditions b) (with_failed is_ignored changed)
+behind_changed is_ignored a b changed e = ap (λ r. and_then r (λ x. and_then (taken tells_of_task (codes "failed_when") conditions x.ahead) (with_failed is_ignored x.value))) e
+
+behind_failed : (is_ignored : Bool) (a b d : Ahead Modules) (changed failed : Option (List Tree)) → taken tells_of_task (codes "changed_when") conditions a ≡ Ok (record { value = changed; ahead = b })
+    → taken tells_of_task (codes "failed_when") conditions b ≡ Ok (record { value = failed; ahead = d })
+    → told is_ignored a ≡ and_then (taken_or tells_of_task (codes "ignore_errors") switched is_ignored d) (with_all changed failed)
+behind_failed is_ignored a b d changed failed e f = behind_changed is_ignored a b changed e ∙ ap (λ r. and_then r (with_failed is_ignored changed)) f
+
+pub failed_stops : (is_ignored : Bool) (a b : Ahead Modules) (changed : Option (List Tree)) (s : Stop LoadFault) → taken tells_of_task (codes "changed_when") conditions a ≡ Ok (record { value = changed; ahead = b })
+    → Stops s (taken tells_of_task (codes "failed_when") conditions b) → Stops s (told is_ignored a)
+failed_stops is_ignored a b changed s e stops =
+    subst (Stops s) (sym (behind_changed is_ignored a b changed e)) (stops_then s (taken tells_of_task (codes "failed_when") conditions b) (with_failed is_ignored changed) stops)
+
+pub ignored_stops : (is_ignored : Bool) (a b d : Ahead Modules) (changed failed : Option (List Tree)) (s : Stop LoadFault) → taken tells_of_task (codes "changed_when") conditions a ≡ Ok (record { value = changed; ahead = b })
+    → taken tells_of_task (codes "failed_when") conditions b ≡ Ok (record { value = failed; ahead = d })
+    → Stops s (taken_or tells_of_task (codes "ignore_errors") switched is_ignored d) → Stops s (told is_ignored a)
+ignored_stops is_ignored a b d changed failed s e f stops =
+    subst (Stops s) (sym (behind_failed is_ignored a b d changed failed e f))
+    (stops_then s (taken_or tells_of_task (codes "ignore_errors") switched is_ignored d) (with_all changed failed) stops)
+
+pub told_is : (is_ignored : Bool) (a b d g : Ahead Modules) (changed failed : Option (List Tree)) (ignored : Bool)
+    → taken tells_of_task (codes "changed_when") conditions a ≡ Ok (record { value = changed; ahead = b })
+    → taken tells_of_task (codes "failed_when") conditions b ≡ Ok (record { value = failed; ahead = d })
+    → taken_or tells_of_task (codes "ignore_errors") switched is_ignored d ≡ Ok (record { value = ignored; ahead = g })
+    → told is_ignored a ≡ Ok (record { value = record { changed_when = changed; failed_when = failed; ignore_errors = ignored }; ahead = g })
+told_is is_ignored a b d g changed failed ignored e f h = behind_failed is_ignored a b d changed failed e f ∙ ap (λ r. and_then r (with_all changed failed)) h
+
+-- a play behind its lists of tasks: its variables, then its other keys, then the rules over what was read
+abbrev with_hosts : Option Bool → Option (List ℕ) → Lists → List (List ℕ × Datum) → Read PlayHosts WithoutEffect → Reading (Read Play WithoutEffect) LoadFault
+with_hosts facts name ls vars x = and_then (rule (or_on facts) x.ahead) (λ y. rule (Ok (play_of y.value (unwrap_or name x.value.text) x.value.pattern vars ls)) y.ahead)
+
+abbrev with_others : List ℕ → Option Bool → Option PlayHosts → Option (List ℕ) → Lists → List (List ℕ × Datum) → Read WithoutEffect WithoutEffect → Reading (Read Play WithoutEffect) LoadFault
+with_others path facts hosts name ls vars x = and_then (rule (required path hosts) x.ahead) (with_hosts facts name ls vars)
+
+abbrev with_variables : List ℕ → Option Bool → Option PlayHosts → Option (List ℕ) → Lists → Read (List (List ℕ × Datum)) WithoutEffect → Reading (Read Play WithoutEffect) LoadFault
+with_variables path facts hosts name ls x = and_then (others has_no_effect x.ahead) (with_others path facts hosts name ls x.value)
+
+-- what is read up to them
+pub record AreRead (a : Ahead WithoutEffect) (name : Option (List ℕ)) (ls : Lists) (after : Ahead WithoutEffect) : Type 0 where
+  pub is_ignored : Bool
+  pub second : Ahead WithoutEffect
+  pub third : Ahead WithoutEffect
+  pub ignored : taken_or has_no_effect (codes "ignore_errors") switched false a ≡ Ok (record { value = is_ignored; ahead = second })
+  pub named : key (codes "name") text second ≡ Ok (record { value = name; ahead = third })
+  pub listed : lists is_ignored third ≡ Ok (record { value = ls; ahead = after })
+
+behind_lists : (path : List ℕ) (facts : Option Bool) (hosts : Option PlayHosts) (a b : Ahead WithoutEffect) (name : Option (List ℕ)) (ls : Lists) → AreRead a name ls b
+    → rest_of_play path facts hosts a ≡ and_then (key_or (codes "vars") variables [] b) (with_variables path facts hosts name ls)
+behind_lists path facts hosts a b name ls e =
+    ap (λ r. and_then r (λ x. and_then (key (codes "name") text x.ahead) (λ y. and_then (lists x.value y.ahead) (λ z. and_then (key_or (codes "vars") variables [] z.ahead) (with_variables path facts hosts y.value z.value))))) e.ignored
+    ∙ ap (λ r. and_then r (λ y. and_then (lists e.is_ignored y.ahead) (λ z. and_then (key_or (codes "vars") variables [] z.ahead) (with_variables path facts hosts y.value z.value)))) e.named
+    ∙ ap (λ r. and_then r (λ z. and_then (key_or (codes "vars") variables [] z.ahead) (with_variables path facts hosts name z.value))) e.listed
+
+behind_variables : (path : List ℕ) (facts : Option Bool) (hosts : Option PlayHosts) (a b d : Ahead WithoutEffect) (name : Option (List ℕ)) (ls : Lists) (vars : List (List ℕ × Datum)) → AreRead a name ls b
+    → key_or (codes "vars") variables [] b ≡ Ok (record { value = vars; ahead = d })
+    → rest_of_play path facts hosts a ≡ and_then (others has_no_effect d) (with_others path facts hosts name ls vars)
+behind_variables path facts hosts a b d name ls vars e f = behind_lists path facts hosts a b name ls e ∙ ap (λ r. and_then r (with_variables path facts hosts name ls)) f
+
+behind_others : (path : List ℕ) (facts : Option Bool) (hosts : Option PlayHosts) (a b d g : Ahead WithoutEffect) (name : Option (List ℕ)) (ls : Lists) (vars : List (List ℕ × Datum)) (none : WithoutEffect)
+    → AreRead a name ls b → key_or (codes "vars") variables [] b ≡ Ok (record { value = vars; ahead = d }) → others has_no_effect d ≡ Ok (record { value = none; ahead = g })
+    → rest_of_play path facts hosts a ≡ and_then (rule (required path hosts) g) (with_hosts facts name ls vars)
+behind_others path facts hosts a b d g name ls vars none e f o = behind_variables path facts hosts a b d name ls vars e f ∙ ap (λ r. and_then r (with_others path facts hosts name ls vars)) o
+
+pub variables_stop : (path : List ℕ) (facts : Option Bool) (hosts : Option PlayHosts) (a b : Ahead WithoutEffect) (name : Option (List ℕ)) (ls : Lists) (s : Stop LoadFault) → AreRead a name ls b
+    → Stops s (key_or (codes "vars") variables [] b) → Stops s (value_of (rest_of_play path facts hosts a))
+variables_stop path facts hosts a b name ls s e stops =
+    stops_value s (rest_of_play path facts hosts a)
+    (subst (Stops s) (sym (behind_lists path facts hosts a b name ls e)) (stops_then s (key_or (codes "vars") variables [] b) (with_variables path facts hosts name ls) stops))
+
+pub others_stop : (path : List ℕ) (facts : Option Bool) (hosts : Option PlayHosts) (a b d : Ahead WithoutEffect) (name : Option (List ℕ)) (ls : Lists) (vars : List (List ℕ × Datum)) (s : Stop LoadFault)
+    → AreRead a name ls b → key_or (codes "vars") variables [] b ≡ Ok (record { value = vars; ahead = d }) → Stops s (others has_no_effect d) → Stops s (value_of (rest_of_play path facts hosts a))
+others_stop path facts hosts a b d name ls vars s e f stops =
+    stops_value s (rest_of_play path facts hosts a)
+    (subst (Stops s) (sym (behind_variables path facts hosts a b d name ls vars e f)) (stops_then s (others has_no_effect d) (with_others path facts hosts name ls vars) stops))
+
+pub no_hosts_stop : (path : List ℕ) (facts : Option Bool) (hosts : Option PlayHosts) (a b d g : Ahead WithoutEffect) (name : Option (List ℕ)) (ls : Lists) (vars : List (List ℕ × Datum)) (none : WithoutEffect) (s : Stop LoadFault)
+    → AreRead a name ls b → key_or (codes "vars") variables [] b ≡ Ok (record { value = vars; ahead = d }) → others has_no_effect d ≡ Ok (record { value = none; ahead = g })
+    → Stops s (required path hosts) → Stops s (value_of (rest_of_play path facts hosts a))
+no_hosts_stop path facts hosts a b d g name ls vars none s e f o stops =
+    stops_value s (rest_of_play path facts hosts a)
+    (subst (Stops s) (sym (behind_others path facts hosts a b d g name ls vars none e f o)) (stops_then s (rule (required path hosts) g) (with_hosts facts name ls vars) (stops_rule s (required path hosts) g stops)))
+
+-- the two rules, once the hosts are there
+behind_hosts : (path : List ℕ) (facts : Option Bool) (hosts : Option PlayHosts) (h : PlayHosts) (g : Ahead WithoutEffect) (name : Option (List ℕ)) (ls : Lists) (vars : List (List ℕ × Datum)) → required {F = LoadFault} path hosts ≡ Ok h
+    → and_then (rule (required path hosts) g) (with_hosts facts name ls vars) ≡ with_hosts facts name ls vars (record { value = h; ahead = g })
+behind_hosts path facts hosts h g name ls vars e = ap (λ r. and_then (rule r g) (with_hosts facts name ls vars)) e
+
+pub gathering_stops : (path : List ℕ) (facts : Option Bool) (hosts : Option PlayHosts) (h : PlayHosts) (a b d g : Ahead WithoutEffect) (name : Option (List ℕ)) (ls : Lists) (vars : List (List ℕ × Datum)) (none : WithoutEffect) (s : Stop LoadFault)
+    → AreRead a name ls b → key_or (codes "vars") variables [] b ≡ Ok (record { value = vars; ahead = d }) → others has_no_effect d ≡ Ok (record { value = none; ahead = g })
+    → required {F = LoadFault} path hosts ≡ Ok h → Stops s (or_on facts) → Stops s (value_of (rest_of_play path facts hosts a))
+gathering_stops path facts hosts h a b d g name ls vars none s e f o at stops =
+    stops_value s (rest_of_play path facts hosts a)
+    (subst (Stops s) (sym (behind_others path facts hosts a b d g name ls vars none e f o ∙ behind_hosts path facts hosts h g name ls vars at))
+    (stops_then s (rule (or_on facts) g) (λ y. rule (Ok (play_of y.value (unwrap_or name h.text) h.pattern vars ls)) y.ahead) (stops_rule s (or_on facts) g stops)))
+
+pub play_is : (path : List ℕ) (facts : Option Bool) (hosts : Option PlayHosts) (h : PlayHosts) (gathers : Bool) (a b d g : Ahead WithoutEffect) (name : Option (List ℕ)) (ls : Lists) (vars : List (List ℕ × Datum)) (none : WithoutEffect)
+    → AreRead a name ls b → key_or (codes "vars") variables [] b ≡ Ok (record { value = vars; ahead = d }) → others has_no_effect d ≡ Ok (record { value = none; ahead = g })
+    → required {F = LoadFault} path hosts ≡ Ok h → or_on facts ≡ Ok gathers → value_of (rest_of_play path facts hosts a) ≡ Ok (play_of gathers (unwrap_or name h.text) h.pattern vars ls)
+play_is path facts hosts h gathers a b d g name ls vars none e f o at on =
+    ap value_of (behind_others path facts hosts a b d g name ls vars none e f o ∙ behind_hosts path facts hosts h g name ls vars at)
+    ∙ ap (λ r. value_of (and_then (rule r g) (λ y. rule (Ok (play_of y.value (unwrap_or name h.text) h.pattern vars ls)) y.ahead))) on

@@ -1,0 +1,54 @@
+-- A report in its parts: an item comes back, and then its task goes on; and how the item is put back where memory is refused on the way.
+use Rattle.std.specs.Prelude.{ℕ, false, List, Option, None, option_map}
+use Rattle.std.specs.Option.{option_map_or}
+use Rattle.pb_outcome.specs.declared.item.Item.{Item}
+use Rattle.pb_outcome.specs.declared.outcome.Form.{Form}
+use Rattle.pb_plan.specs.Plan.{PlayOf}
+use Rattle.pb_state.specs.declared.decided.Decided.{Decided}
+use Rattle.pb_state.specs.declared.decided.Done.{Done}
+use Rattle.pb_state.specs.declared.items.Before.{Before}
+use Rattle.pb_state.specs.declared.row.Running.{Running}
+use Rattle.pb_state.specs.Kept.{with_step}
+use Rattle.pb_state.specs.Machine.{decided_with, done_if, told_in}
+use Rattle.pb_state.specs.Row.{HostRow, items_after, progressed}
+
+-- the job that is out of a task came to this
+abbrev pub back_running : Form → Option Running → Option Running
+back_running outcome running = option_map (λ (r : Running). record r { items = items_after outcome r }) running
+
+abbrev pub back_row : Form → HostRow → HostRow
+back_row outcome row = record row { running = back_running outcome row.running }
+
+-- the next item waits to be sent
+abbrev pub waiting : HostRow → HostRow
+waiting row = record row { running = option_map (λ (r : Running). record r { out = None }) row.running }
+
+-- the task that a host runs goes on, or ends where it is over
+abbrev pub went_with : PlayOf → HostRow → Running → HostRow
+went_with play row r = progressed play r.place r.items row
+
+abbrev pub went_on : PlayOf → HostRow → HostRow
+went_on play row = option_map_or (went_with play row) row.running row
+
+abbrev pub ended_with : PlayOf → Running → Option Done
+ended_with play r = done_if play r.place r.items
+
+abbrev pub ended_now : PlayOf → HostRow → Option Done
+ended_now play row = option_map_or (ended_with play) row.running None
+
+-- what is decided of it, where the item with this number came back
+abbrev pub decided_back : PlayOf → Option ℕ → Running → Decided
+decided_back play number r = decided_with play r.place false (told_in r.items number) r.items
+
+abbrev pub decided_now : PlayOf → Option ℕ → HostRow → Option Decided
+decided_now play number row = option_map (decided_back play number) row.running
+
+-- an item as it was
+abbrev pub undone_items : Option Before → List Item → List Item
+undone_items before items = option_map_or (λ (b : Before). with_step b.number b.step items) before items
+
+abbrev pub undone_running : Option Before → Option Running → Option Running
+undone_running before running = option_map (λ (r : Running). record r { items = undone_items before r.items }) running
+
+abbrev pub undone : Option Before → HostRow → HostRow
+undone before row = record row { running = undone_running before row.running }

@@ -1,0 +1,4 @@
+pub mod Rows
+pub mod Simple
+pub mod Tags
+pub mod Templates
