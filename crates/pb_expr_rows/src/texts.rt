@@ -31,6 +31,7 @@ fn fault_of(alloc: Global, variables: &Dict, expr: &Expr) -> Option<EvalFault> {
         host: &none,
         play: &none,
         plan: &none,
+        hosts: &none,
     };
     match eval(alloc, expr, &Scope::new(&layers, &magic, &none)) {
         Ok(_) => None,

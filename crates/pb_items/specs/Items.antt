@@ -52,6 +52,10 @@ delegate_in scope (Some template) = and_then (evaluated (rendered_of scope (text
 abbrev pub settled_of : StartOf → Map → ItemResult → ItemResult
 settled_of start variable item = settled (sees start.layers start.magic variable) start.task.register start.task.changed_when start.task.failed_when item
 
+-- of an item with this value of the loop variable
+abbrev pub settled_item : StartOf → Option Datum → ItemResult → ItemResult
+settled_item start value item = settled_of start (loop_variable start.task.looped value) item
+
 abbrev pub settled_step : StartOf → Map → Planned → Planned
 settled_step start variable (Decided item) = Decided (settled_of start variable item)
 settled_step start variable (Sends call) = Sends call

@@ -12,7 +12,7 @@ use std::alloc::{AllocError, AllocFailed, Global};
 
 /// Why an item can't be read.
 #[derive(Drop)]
-pub(crate) enum ItemFault {
+pub enum ItemFault {
     /// A template or an expression has no value.
     Eval(EvalFault),
     /// What was read is no call.
@@ -23,6 +23,7 @@ pub(crate) enum ItemFault {
     TooManyItems,
     /// What an item is delegated to is no name.
     BadDelegate,
+    /// There is no memory.
     Memory,
 }
 

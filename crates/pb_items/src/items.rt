@@ -1,7 +1,7 @@
 //! The items of a task.
 ghost use Rattle.std.specs.Prelude.{◌≡◌, ◌≢◌, ◌≤◌, [], ◌∷◌, Some, IfOk, IfErr, Ok, Err, length, map};
 ghost use Rattle.std.specs.Option.{option_copied};
-ghost use Rattle.pb_items.specs.Items.{seen_by, delegate_in, settled_step, step_in, item_in, faulty_item, looped_items, items_of};
+ghost use Rattle.pb_items.specs.Items.{seen_by, delegate_in, settled_of, settled_item, settled_step, step_in, item_in, faulty_item, looped_items, items_of};
 ghost use Rattle.pb_items.specs.Loops.{max_items, values_of};
 ghost use Rattle.pb_items.specs.declared.fault.ItemFault.TheVariants as item;
 
@@ -14,6 +14,7 @@ use pb_conditions::holds::holds;
 use pb_conditions::settled::{Sight, settle};
 use pb_expr_eval::eval::render_text;
 use pb_layers::scope::Scope;
+use pb_outcome::gather::ItemResult;
 use pb_outcome::item::{Item, Planned};
 use pb_play::loops::Loop;
 use pb_value::items::Items;
@@ -43,6 +44,39 @@ fn delegate_in(
     Ok(Some(name))
 }
 
+/// The result of an item with this loop variable, as the task says of it.
+fn settled_of(
+    alloc: Global,
+    start: &Start,
+    variable: &Dict,
+    item: ItemResult,
+) -> Result<ItemResult, AllocError>
+    ensures { IfOk result (λ told. told ≡ settled_of start.now variable.now item) }
+{
+    let task = start.task;
+    let sight = Sight {
+        layers: start.layers,
+        magic: start.magic,
+        loop_variable: variable,
+        register: &task.register,
+    };
+    settle(alloc, &sight, &task.changed_when, &task.failed_when, item)
+}
+
+/// The result of an item whose job came back, with its value of the loop variable: as the task says of it, in the scopes that its host has
+/// at that moment. The only error is want of memory. See Ansible's documentation, "Error handling in playbooks".
+pub fn settled(
+    alloc: Global,
+    start: &Start,
+    value: &Option<Val>,
+    item: ItemResult,
+) -> Result<ItemResult, AllocError>
+    ensures { IfOk result (λ told. told ≡ settled_item start.now value.now item) }
+{
+    let variable = loop_variable(alloc, &start.task.looped, value)?;
+    settled_of(alloc, start, &variable, item)
+}
+
 /// What is decided at once, as the task says of it.
 fn settled_step(
     alloc: Global,
@@ -52,16 +86,9 @@ fn settled_step(
 ) -> Result<Planned, AllocError>
     ensures { IfOk result (λ s. s ≡ settled_step start.now variable.now step) }
 {
-    let task = start.task;
-    let sight = Sight {
-        layers: start.layers,
-        magic: start.magic,
-        loop_variable: variable,
-        register: &task.register,
-    };
     match step {
         Planned::Decided(item) => {
-            let item = settle(alloc, &sight, &task.changed_when, &task.failed_when, item)?;
+            let item = settled_of(alloc, start, variable, item)?;
             Ok(Planned::Decided(item))
         }
         Planned::Sends(call) => Ok(Planned::Sends(call)),

@@ -14,5 +14,8 @@ lookup-append test (x ∷ m) n = by_test (test x.0) (lookup-append test m n)
     by_test true later = refl
     by_test false later = later
 
-pub value_in_three : (name : List ℕ) (a b c : Map) → value_at name (a ++ b ++ c) ≡ or_else (or_else (value_at name a) (value_at name b)) (value_at name c)
-value_in_three name a b c = lookup-append _ (a ++ b) c ∙ ap (λ o. or_else o (value_at name c)) (lookup-append _ a b)
+pub value_in_four : (name : List ℕ) (a b c d : Map)
+    → value_at name (a ++ b ++ (c ++ d)) ≡ or_else (or_else (value_at name a) (value_at name b)) (or_else (value_at name c) (value_at name d))
+value_in_four name a b c d =
+    lookup-append _ (a ++ b) (c ++ d) ∙ ap (λ o. or_else o (value_at name (c ++ d))) (lookup-append _ a b)
+    ∙ ap (or_else (or_else (value_at name a) (value_at name b))) (lookup-append _ c d)

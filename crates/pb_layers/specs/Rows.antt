@@ -35,10 +35,10 @@ magic_wins : layer_of (codes "x") (scope (layers (x 1) [] [] [] [] [] [] [] [] [
 magic_wins = refl
 
 -- of the magic variables those of the host, then those of the play
-magic_of_host_wins : value_of (codes "x") (scope [] (x 1 ++ x 2 ++ x 3) []) ≡ Some (int (pos 1))
+magic_of_host_wins : value_of (codes "x") (scope [] (x 1 ++ x 2 ++ x 3 ++ x 4) []) ≡ Some (int (pos 1))
 magic_of_host_wins = refl
 
-magic_of_play_wins : value_of (codes "x") (scope [] ([] ++ x 2 ++ x 3) []) ≡ Some (int (pos 2))
+magic_of_play_wins : value_of (codes "x") (scope [] ([] ++ x 2 ++ x 3 ++ x 4) []) ≡ Some (int (pos 2))
 magic_of_play_wins = refl
 
 nowhere : layer_of (codes "y") (scope (layers (x 1) [] [] [] [] [] [] [] [] [] (x 11)) (x 12) []) ≡ None

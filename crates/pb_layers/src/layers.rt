@@ -57,6 +57,8 @@ pub struct Magic<'a> {
     pub play: &'a Dict,
     /// Those that all plays share.
     pub plan: &'a Dict,
+    /// What tells of the variables of all hosts.
+    pub hosts: &'a Dict,
 }
 
 impl<'a> Model for Magic<'a> {
@@ -69,21 +71,24 @@ impl<'a> Model for Magic<'a> {
 
     ghost coded = { Prim.hlevel (codes, dict.the_row.coded) };
 
-    ghost view = { λ m. m.host.now ++ m.play.now ++ m.plan.now };
+    ghost view = { λ m. m.host.now ++ m.play.now ++ (m.plan.now ++ m.hosts.now) };
 }
 
 impl<'a> Magic<'a> {
     /// The value of a name, from the first map that has it.
-    #[tactic(auto, using(crate::proofs::Joined::value_in_three))]
+    #[tactic(auto, using(crate::proofs::Joined::value_in_four))]
     pub fn get(&self, name: &str) -> Option<&'a Val>
         ensures { option_copied result ≡ value_at name.now self.now }
     {
         if let Some(value) = self.host.get(name) {
             return Some(value);
         }
-        match self.play.get(name) {
+        if let Some(value) = self.play.get(name) {
+            return Some(value);
+        }
+        match self.plan.get(name) {
             Some(value) => Some(value),
-            None => self.plan.get(name),
+            None => self.hosts.get(name),
         }
     }
 }

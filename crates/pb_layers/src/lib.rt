@@ -2,7 +2,7 @@
 //!
 //! For the layers above: `Layers` lends eleven maps, from role defaults up to extra variables, and a
 //! `Scope` puts the magic variables and the loop variable above them. `Magic` lends the magic
-//! variables in three maps, which contracts see as one. Contracts see a scope as the list of its
+//! variables in four maps, which contracts see as one. Contracts see a scope as the list of its
 //! maps, the highest first. `Scope::value` gives the value of the highest map that has the name,
 //! whole and as it is stored, `Scope::layer_of` the number of that map, from 1 to 13; and
 //! `has_templates` says in which of them texts are templates.

@@ -1,2 +1,3 @@
+pub mod Learning
 pub mod Named
 pub mod Texts

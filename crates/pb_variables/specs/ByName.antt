@@ -3,6 +3,8 @@ use Rattle.std.specs.Prelude.{ℕ, zero, suc, List, [], ◌∷◌, length, Optio
 use Rattle.std.specs.Option.{option_or}
 use Rattle.std.specs.Str.{bytes_eq}
 use Rattle.pb_value.specs.Datum.{Datum, dict, members_of, entries_of, value_at}
+use Rattle.pb_facts.specs.Book.{row_of}
+use Rattle.pb_facts.specs.Facts.{FactsOf, gathered_layer}
 use Rattle.pb_inventory.specs.InventoryOf.{InventoryOf}
 use Rattle.pb_inventory.specs.Vars.{host_name, group_name, names_of_hosts, vars_of_host, last_given, groups_of_host}
 use Rattle.pb_variables.specs.Magic.{texts, variables_of}
@@ -27,9 +29,19 @@ abbrev pub hosts_under : InventoryOf → List ℕ → Option Datum
 hosts_under inventory name = option_map (λ g. texts (names_of_hosts inventory g)) (last_number (group_name inventory) name (length inventory.groups))
 
 -- under a host's name in `hostvars`: its variables
-abbrev pub variables_under : InventoryOf → List (List ℕ × Datum) → List ℕ → Option Datum
-variables_under inventory extra name = option_map (λ h. dict (members_of (variables_of inventory extra h))) (last_number (host_name inventory) name (length inventory.hosts))
+abbrev pub variables_under : InventoryOf → List (List ℕ × Datum) → List FactsOf → List ℕ → Option Datum
+variables_under inventory extra learnt name =
+    option_map (λ h. dict (members_of (variables_of inventory extra learnt h))) (last_number (host_name inventory) name (length inventory.hosts))
 
--- a host's variable of a name: the extra variable, else its own, else that of the last of its groups that has it
-abbrev pub variable_of_host : InventoryOf → List (List ℕ × Datum) → ℕ → List ℕ → Option Datum
-variable_of_host inventory extra host name = option_or (last_at name extra) (option_or (last_at name (vars_of_host inventory host)) (last_given inventory name (groups_of_host inventory host)))
+-- a host's variable of a name in the inventory: its own, else that of the last of its groups that has it
+abbrev pub stored_for : InventoryOf → ℕ → List ℕ → Option Datum
+stored_for inventory host name = option_or (last_at name (vars_of_host inventory host)) (last_given inventory name (groups_of_host inventory host))
+
+-- a host's variable of a name: the extra variable, else what was set or registered for it, else what was gathered of it, else that of the inventory
+abbrev pub variable_of_host : InventoryOf → List (List ℕ × Datum) → List FactsOf → ℕ → List ℕ → Option Datum
+variable_of_host inventory extra learnt host name =
+    option_or
+    (last_at name extra)
+    (option_or
+    (last_at name (row_of learnt host).set)
+    (option_or (last_at name (gathered_layer (row_of learnt host).gathered)) (stored_for inventory host name)))

@@ -1,5 +1,6 @@
 pub mod ByName
 pub mod Connector
 pub mod Extra
+pub mod Learnt
 pub mod Magic
 pub mod Rows

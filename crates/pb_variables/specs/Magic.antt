@@ -3,17 +3,14 @@ use Rattle.std.specs.Prelude.{ℕ, zero, suc, Bool, List, [], ◌∷◌, map, fi
 use Rattle.std.specs.List.{range_with_len}
 use Rattle.pb_planes.specs.Set.{is_in}
 use Rattle.pb_value.specs.Datum.{Datum, text, list, dict, items_of, members_of, put}
+use Rattle.pb_facts.specs.Book.{row_of}
+use Rattle.pb_facts.specs.Facts.{FactsOf, known_of}
 use Rattle.pb_inventory.specs.InventoryOf.{InventoryOf}
 use Rattle.pb_inventory.specs.Vars.{host_name, group_name, vars_from_groups, vars_of_host, names_of_groups, names_of_hosts}
 
 -- the list of these texts
 abbrev pub texts : List (List ℕ) → Datum
 texts names = list (items_of (map text names))
-
--- each value in turn under its name, in place of one that stands there
-abbrev pub put_all : List (List ℕ × Datum) → List (List ℕ × Datum) → List (List ℕ × Datum)
-put_all [] known = known
-put_all (e ∷ es) known = put_all es (put e.0 e.1 known)
 
 -- of each of the first so many groups the names of its hosts, in the order of their numbers
 abbrev pub first_groups : InventoryOf → ℕ → List (List ℕ × Datum)
@@ -23,22 +20,30 @@ first_groups inventory (suc n) = put (group_name inventory n) (texts (names_of_h
 abbrev pub groups_map : InventoryOf → List (List ℕ × Datum)
 groups_map inventory = first_groups inventory (length inventory.groups)
 
--- a host's variables as they are stored: those from its groups, over them its own, and over these the extra variables
-abbrev pub variables_of : InventoryOf → List (List ℕ × Datum) → ℕ → List (List ℕ × Datum)
-variables_of inventory extra host = put_all extra (put_all (vars_of_host inventory host) (vars_from_groups inventory host))
+-- a host's variables as they are stored, where the hosts have learnt this: those from its groups, over them its own, what it has learnt, and over
+-- these the extra variables
+abbrev pub variables_of : InventoryOf → List (List ℕ × Datum) → List FactsOf → ℕ → List (List ℕ × Datum)
+variables_of inventory extra learnt host = known_of (vars_from_groups inventory host) (vars_of_host inventory host) (row_of learnt host) extra
 
 -- of each of the first so many hosts its variables
-abbrev pub first_hosts : InventoryOf → List (List ℕ × Datum) → ℕ → List (List ℕ × Datum)
-first_hosts inventory extra zero = []
-first_hosts inventory extra (suc n) = put (host_name inventory n) (dict (members_of (variables_of inventory extra n))) (first_hosts inventory extra n)
+abbrev pub first_hosts : InventoryOf → List (List ℕ × Datum) → List FactsOf → ℕ → List (List ℕ × Datum)
+first_hosts inventory extra learnt zero = []
+first_hosts inventory extra learnt (suc n) = put (host_name inventory n) (dict (members_of (variables_of inventory extra learnt n))) (first_hosts inventory extra learnt n)
 
-abbrev pub hostvars_map : InventoryOf → List (List ℕ × Datum) → List (List ℕ × Datum)
-hostvars_map inventory extra = first_hosts inventory extra (length inventory.hosts)
+abbrev pub hostvars_map : InventoryOf → List (List ℕ × Datum) → List FactsOf → List (List ℕ × Datum)
+hostvars_map inventory extra learnt = first_hosts inventory extra learnt (length inventory.hosts)
 
--- the magic variables of a plan, with its extra variables
-unfoldable pub plan_magic : InventoryOf → List (List ℕ × Datum) → List (List ℕ × Datum)
-plan_magic inventory extra =
-    (codes "groups", dict (members_of (groups_map inventory))) ∷ (codes "hostvars", dict (members_of (hostvars_map inventory extra))) ∷ []
+-- what `hostvars` stands for, with the extra variables of a plan, where the hosts have learnt this
+unfoldable pub hostvars : InventoryOf → List (List ℕ × Datum) → List FactsOf → Datum
+hostvars inventory extra learnt = dict (members_of (hostvars_map inventory extra learnt))
+
+-- the magic variable that tells of all hosts' variables: this value stands for them
+abbrev pub hosts_magic : Datum → List (List ℕ × Datum)
+hosts_magic hosts = (codes "hostvars", hosts) ∷ []
+
+-- the magic variable of a plan
+unfoldable pub plan_magic : InventoryOf → List (List ℕ × Datum)
+plan_magic inventory = (codes "groups", dict (members_of (groups_map inventory))) ∷ []
 
 -- the names of the hosts of a set, in the order of their numbers
 abbrev pub names_in : InventoryOf → List Bool → List (List ℕ)

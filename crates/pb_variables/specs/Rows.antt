@@ -1,14 +1,15 @@
 -- Worked examples: each is proved by computing both sides.
-use Rattle.std.specs.Prelude.{◌≡◌, refl, ℕ, pos, true, false, List, [], ◌∷◌, Ok, Err, codes}
+use Rattle.std.specs.Prelude.{◌≡◌, refl, ℕ, pos, true, false, List, [], ◌∷◌, Some, None, Ok, Err, codes}
 use Rattle.serde_json.specs.Data as json
 use Rattle.pb_value.specs.Datum.{Datum, int, text, list, dict, items_of, members_of}
 use Rattle.pb_value.specs.FromJson.{value_of}
+use Rattle.pb_facts.specs.Facts.{FactsOf}
 use Rattle.pb_groups.specs.Members.{own_of as own}
 use Rattle.pb_groups.specs.Ways.{link}
 use Rattle.pb_inventory.specs.InventoryOf.{InventoryOf}
 use Rattle.pb_variables.specs.Connector.{connector_of}
 use Rattle.pb_variables.specs.Extra.{variables_in}
-use Rattle.pb_variables.specs.Magic.{plan_magic, play_magic, host_magic}
+use Rattle.pb_variables.specs.Magic.{hostvars, plan_magic, play_magic, host_magic}
 use Rattle.pb_variables.specs.declared.fault.ExtraFault.TheVariants.{WrongShape}
 
 -- {"_x":"{{","y2":1}: a text is kept as it stands
@@ -60,8 +61,8 @@ row values = list (items_of values)
 abbrev pub map_of : List (List ℕ × Datum) → Datum
 map_of entries = dict (members_of entries)
 
--- the extra variable x 3 is over the group's, on each host; names stand in byte order, and hosts of a group in the order of their numbers
-pub magic_of_plan : plan_magic two_hosts ((codes "x", int (pos 3)) ∷ [])
+-- names stand in byte order, and hosts of a group in the order of their numbers
+pub magic_of_plan : plan_magic two_hosts
     ≡ (
       codes "groups",
       map_of (
@@ -70,16 +71,36 @@ pub magic_of_plan : plan_magic two_hosts ((codes "x", int (pos 3)) ∷ [])
           ∷ (codes "web", row (text (codes "a") ∷ []))
           ∷ []),
     )
-    ∷ (
-      codes "hostvars",
-      map_of (
-          (codes "a", map_of ((codes "x", int (pos 3)) ∷ (codes "y", int (pos 2)) ∷ []))
-          ∷ (codes "b", map_of ((codes "x", int (pos 3)) ∷ []))
-          ∷ []),
-    )
     ∷ []
 unfolding plan_magic
 magic_of_plan = refl
+
+-- the extra variable x 3 is over the group's, on each host
+pub hostvars_at_first : hostvars two_hosts ((codes "x", int (pos 3)) ∷ []) []
+    ≡ map_of ((codes "a", map_of ((codes "x", int (pos 3)) ∷ (codes "y", int (pos 2)) ∷ [])) ∷ (codes "b", map_of ((codes "x", int (pos 3)) ∷ [])) ∷ [])
+unfolding hostvars
+hostvars_at_first = refl
+
+-- what a host has learnt is over its own variables, what was set over what was gathered, and no other host has it
+abbrev pub two_learnt : List FactsOf
+two_learnt =
+    record { gathered = None; set = [] }
+    ∷ record { gathered = Some ((codes "y", int (pos 4)) ∷ (codes "z", int (pos 5)) ∷ []); set = (codes "z", int (pos 6)) ∷ [] } ∷ []
+
+pub hostvars_that_learnt : hostvars two_hosts [] two_learnt
+    ≡ map_of ((
+      codes "a",
+      map_of (
+          (codes "ansible_facts", map_of ((codes "y", int (pos 4)) ∷ (codes "z", int (pos 5)) ∷ []))
+          ∷ (codes "x", int (pos 1))
+          ∷ (codes "y", int (pos 4))
+          ∷ (codes "z", int (pos 6))
+          ∷ []),
+    )
+    ∷ (codes "b", map_of [])
+    ∷ [])
+unfolding hostvars
+hostvars_that_learnt = refl
 
 pub magic_of_play : play_magic two_hosts (true ∷ false ∷ []) ≡ (codes "ansible_play_hosts_all", row (text (codes "b") ∷ [])) ∷ []
 unfolding play_magic

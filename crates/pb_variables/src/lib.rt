@@ -3,12 +3,14 @@
 //! For the layers above: `read_extra` takes the bytes of a file of extra variables and answers the
 //! variables that they spell, or the first fault in them, both exactly as `specs/Extra.antt` says.
 //! `plan_magic`, `play_magic` and `host_magic` answer the magic variables that are the same for a
-//! whole plan, for a play and for a host (`specs/Magic.antt`), each as a dict of its own.
+//! whole plan, for a play and for a host (`specs/Magic.antt`), each as a dict of its own. `hostvars`
+//! answers what stands for the variables of all hosts, with what they have learnt.
 //! `connector` answers the words of the program that connects to a host (`specs/Connector.antt`).
 #![tactic(auto)]
 
 pub mod connector;
 pub mod extra;
 pub mod fault;
+pub mod hostvars;
 pub mod magic;
 mod put;

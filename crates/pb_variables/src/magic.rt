@@ -1,11 +1,11 @@
 ghost use Rattle.std.specs.Prelude.{◌≡◌, ◌<◌, ℕ, List, [], ◌∷◌, ◌++◌, length, codes, if◌then◌else◌, IfOk, OnOk};
 ghost use Rattle.pb_planes.specs.Set.{is_in};
-ghost use Rattle.pb_value.specs.Datum.{dict, members_of, put, value_at};
+ghost use Rattle.pb_value.specs.Datum.{put, value_at};
 ghost use Rattle.pb_inventory.specs.Vars.{group_name, host_name, names_of_hosts};
-ghost use Rattle.pb_variables.specs.Magic.{texts, groups_map, variables_of, hostvars_map, names_in, plan_magic, play_magic, host_magic};
-ghost use Rattle.pb_variables.specs.ByName.{value_in, hosts_under, variables_under, variable_of_host};
+ghost use Rattle.pb_variables.specs.Magic.{texts, groups_map, names_in, plan_magic, play_magic, host_magic};
+ghost use Rattle.pb_variables.specs.ByName.{value_in, hosts_under};
 
-use crate::put::{put_all, texts};
+use crate::put::texts;
 use pb_ids::{GroupNo, HostNo};
 use pb_inventory::inventory::Inventory;
 use pb_planes::HostSet;
@@ -14,32 +14,24 @@ use pb_value::text::Text;
 use pb_value::val::{Dict, Val};
 use std::alloc::{AllocError, Global};
 
-/// The magic variables that are the same wherever a plan is run: `groups`, a dict from each group's
-/// name to the list of its hosts' names in the order of their numbers; and `hostvars`, a dict from
-/// each host's name to the dict of its variables as they are stored: those from its groups, over
-/// them its own, and over these the extra variables (Ansible's documentation, "Special variables").
-/// Each host's dict has its own copy of the extra variables. The only error is want of memory.
-#[tactic(auto, using(crate::proofs::Named::variables_by_name))]
-pub fn plan_magic(alloc: Global, inventory: &Inventory, extra: &Dict) -> Result<Dict, AllocError>
-    ensures value { IfOk result (λ known. known ≡ plan_magic inventory.now extra.now) }
+/// The magic variable that is the same wherever a plan is run: `groups`, a dict from each group's name to the list of its hosts' names in
+/// the order of their numbers (Ansible's documentation, "Special variables"). The only error is want of memory.
+pub fn plan_magic(alloc: Global, inventory: &Inventory) -> Result<Dict, AllocError>
+    ensures value { IfOk result (λ known. known ≡ plan_magic inventory.now) }
 
-    // Under each group's name stand its hosts, under each host's name its variables, and under no other name anything.
+    // Under each group's name stand its hosts, and under no other name anything.
     ensures groups { IfOk result (λ known. (name : List ℕ) → value_in name (value_at (codes "groups") known) ≡ hosts_under inventory.now name) }
-    ensures hosts { IfOk result (λ known. (name : List ℕ) → value_in name (value_at (codes "hostvars") known) ≡ variables_under inventory.now extra.now name) }
-    ensures variables { (host : ℕ) (name : List ℕ) → value_at name (variables_of inventory.now extra.now host) ≡ variable_of_host inventory.now extra.now host name }
 {
-    plan_maps(alloc, inventory, extra)
+    plan_maps(alloc, inventory)
 }
 
 #[tactic(auto, unfolding(crate::specs::Magic::plan_magic))]
-fn plan_maps(alloc: Global, inventory: &Inventory, extra: &Dict) -> Result<Dict, AllocError>
-    ensures { IfOk result (λ known. known ≡ plan_magic inventory.now extra.now) }
+fn plan_maps(alloc: Global, inventory: &Inventory) -> Result<Dict, AllocError>
+    ensures { IfOk result (λ known. known ≡ plan_magic inventory.now) }
 {
     let groups = groups_map(alloc, inventory)?;
-    let hostvars = hostvars_map(alloc, inventory, extra)?;
     let mut known = Dict::new(alloc);
     known.put(alloc, "groups", Val::dict(groups))?;
-    known.put(alloc, "hostvars", Val::dict(hostvars))?;
     Ok(known)
 }
 
@@ -66,47 +58,6 @@ fn put_group(
     let names = inventory.host_names(alloc, group)?;
     let value = texts(alloc, names)?;
     known.put(alloc, inventory.group_name(group), value)
-}
-
-fn hostvars_map(alloc: Global, inventory: &Inventory, extra: &Dict) -> Result<Dict, AllocError>
-    ensures { IfOk result (λ known. known ≡ hostvars_map inventory.now extra.now) }
-{
-    let mut known = Dict::new(alloc);
-    for n in 0..inventory.hosts() {
-        put_host(alloc, &mut known, inventory, extra, HostNo(n))?;
-    }
-    Ok(known)
-}
-
-/// Puts a host's variables under the host's name.
-fn put_host(
-    alloc: Global,
-    known: &mut Dict,
-    inventory: &Inventory,
-    extra: &Dict,
-    host: HostNo,
-) -> Result<(), AllocError>
-    requires { host.0 < length inventory.now.hosts }
-    ensures { OnOk result (known.new ≡ put (host_name inventory.now host.0) (dict (members_of (variables_of inventory.now extra.now host.0))) known.old) }
-{
-    let variables = variables_of(alloc, inventory, extra, host)?;
-    known.put(alloc, inventory.name(host), Val::dict(variables))
-}
-
-/// A host's variables: those from its groups, over them its own, over these the extra variables.
-fn variables_of(
-    alloc: Global,
-    inventory: &Inventory,
-    extra: &Dict,
-    host: HostNo,
-) -> Result<Dict, AllocError>
-    requires { host.0 < length inventory.now.hosts }
-    ensures { IfOk result (λ variables. variables ≡ variables_of inventory.now extra.now host.0) }
-{
-    let mut variables = inventory.group_vars(alloc, host)?;
-    put_all(alloc, &mut variables, inventory.host_vars(host))?;
-    put_all(alloc, &mut variables, extra)?;
-    Ok(variables)
 }
 
 /// The magic variable of a play: `ansible_play_hosts_all`, the names of the play's hosts in the

@@ -1,0 +1,5 @@
+pub mod Named
+pub mod Mentions
+pub mod Apart
+pub mod Reach
+pub mod Rows

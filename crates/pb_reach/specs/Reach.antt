@@ -1,0 +1,80 @@
+-- Whether a name can be looked up while the items of a task are read, by what the task has and by the variables that it sees: a test that may say so
+-- of a name that is never looked up, but never says of one that is looked up that it isn't.
+use Rattle.std.specs.Prelude.{ℕ, ◌+◌, Bool, false, not, ◌&&◌, ◌||◌, nat_eq, List, [], ◌∷◌, Option, length}
+use Rattle.std.specs.Option.{option_map_or}
+use Rattle.pb_value.specs.Datum.{items_of, members_of}
+use Rattle.pb_expr_syntax.specs.Tree.{Tree, trees_of}
+use Rattle.pb_layers.specs.Scope.{Map, has_templates}
+use Rattle.pb_play.specs.declared.commands.CommandWords.{CommandWords}
+use Rattle.pb_play.specs.declared.commands.CommandWords.TheVariants.{Line, Argv}
+use Rattle.pb_play.specs.declared.loops.Loop.{Loop}
+use Rattle.pb_play.specs.declared.modules.Module.{Module}
+use Rattle.pb_play.specs.declared.modules.Module.TheVariants.{Assert, Command, Debug, DebugVar, Fail, SetFact, Setup, Shell}
+use Rattle.pb_play.specs.declared.task.Task.{Task}
+use Rattle.pb_items.specs.Items.{StartOf}
+use Rattle.pb_reach.specs.Named.{in_tree, in_trees}
+use Rattle.pb_reach.specs.Mentions.{has_inside, mentions, items_mention, members_mention}
+
+abbrev pub words_mention : List ℕ → CommandWords → Bool
+words_mention word (Line line) = has_inside word line
+words_mention word (Argv argv) = items_mention word (items_of argv)
+
+abbrev pub module_mentions : List ℕ → Module → Bool
+module_mentions word (Assert that fail_msg success_msg) = in_trees word (trees_of that) || mentions word fail_msg || mentions word success_msg
+module_mentions word (Command words) = words_mention word words
+module_mentions word (Debug msg) = mentions word msg
+module_mentions word (DebugVar name expr) = in_tree word expr
+module_mentions word (Fail msg) = mentions word msg
+module_mentions word (SetFact facts) = members_mention word (members_of facts)
+module_mentions word Setup = false
+module_mentions word (Shell cmd) = has_inside word cmd
+
+abbrev pub loop_mentions : List ℕ → Option Loop → Bool
+loop_mentions word looped = option_map_or (λ (l : Loop). mentions word l.over) looped false
+
+abbrev pub conditions_name : List ℕ → Option (List Tree) → Bool
+conditions_name word conditions = option_map_or (λ (cs : List Tree). in_trees word (trees_of cs)) conditions false
+
+-- a task itself; its variables are a layer, and its conditions are among those of its place
+abbrev pub task_mentions : List ℕ → Task → Bool
+task_mentions word task =
+    module_mentions word task.module || loop_mentions word task.looped || (conditions_name word task.changed_when || conditions_name word task.failed_when)
+
+abbrev pub delegate_mentions : List ℕ → Option (List ℕ) → Bool
+delegate_mentions word to = option_map_or (has_inside word) to false
+
+-- the maps whose texts are templates
+abbrev pub maps_mention : List ℕ → List Map → Bool
+maps_mention word [] = false
+maps_mention word (m ∷ below) = (has_templates (length below + 1) && members_mention word (members_of m)) || maps_mention word below
+
+-- the eleven layers of a task
+abbrev pub layers_mention : List ℕ → List Map → Bool
+layers_mention word layers = not (nat_eq (length layers) 11) || maps_mention word layers
+
+abbrev pub may_read : List ℕ → Task → List Tree → Option (List ℕ) → List Map → Bool
+may_read word task conditions delegate_to layers =
+    (task_mentions word task || in_trees word (trees_of conditions)) || (delegate_mentions word delegate_to || layers_mention word layers)
+
+-- one of some maps
+abbrev pub each_mentions : List ℕ → List Map → Bool
+each_mentions word [] = false
+each_mentions word (m ∷ ms) = members_mention word (members_of m) || each_mentions word ms
+
+-- what the items are read from, with these magic variables, and the same with others
+abbrev pub start_from : Task → List Tree → Option (List ℕ) → Bool → List Map → Map → StartOf
+start_from task conditions delegate_to program layers magic =
+    record {
+      task = task;
+      conditions = conditions;
+      delegate_to = delegate_to;
+      has_facts_program = program;
+      layers = layers;
+      magic = magic;
+    }
+
+abbrev pub with_magic : StartOf → Map → StartOf
+with_magic start magic = record start { magic = magic }
+
+abbrev pub start_reads : List ℕ → StartOf → Bool
+start_reads word start = may_read word start.task start.conditions start.delegate_to start.layers

@@ -1,0 +1,159 @@
+//! What a task can look up.
+ghost use Rattle.std.specs.Prelude.{◌≡◌, ◌<◌, ◌≤◌, Bool, false, length};
+ghost use Rattle.std.specs.Option.{option_copied};
+ghost use Rattle.pb_layers.specs.Found.{maps_in};
+ghost use Rattle.pb_layers.specs.Scope.{Map};
+ghost use Rattle.pb_conditions.specs.Settled.{sees, settled};
+ghost use Rattle.pb_outcome.specs.declared.gather.ItemResult.{ItemResult};
+ghost use Rattle.pb_items.specs.Items.{items_of};
+ghost use Rattle.pb_reach.specs.Apart.{SameBut};
+ghost use Rattle.pb_reach.specs.Reach.{words_mention, module_mentions, loop_mentions, conditions_name, task_mentions, delegate_mentions, each_mentions, layers_mention, may_read, start_from};
+
+use crate::exprs::{has_name, some_names};
+use crate::texts::has_inside;
+use crate::values::{items_mention, members_mention, mentions};
+use pb_expr_syntax::tree::Expr;
+use pb_layers::layers::Layers;
+use pb_play::commands::CommandWords;
+use pb_play::loops::Loop;
+use pb_play::modules::Module;
+use pb_play::task::Task;
+use pb_value::items::Items;
+use pb_value::text::Text;
+use pb_value::val::Dict;
+
+fn words_mention(word: &str, words: &CommandWords) -> bool
+    ensures { result ≡ words_mention word.now words.now }
+{
+    match words {
+        CommandWords::Line(line) => has_inside(word, line.as_str()),
+        CommandWords::Argv(argv) => items_mention(word, argv),
+    }
+}
+
+fn module_mentions(word: &str, called: &Module) -> bool
+    ensures { result ≡ module_mentions word.now called.now }
+{
+    match called {
+        Module::Assert {
+            that,
+            fail_msg,
+            success_msg,
+        } => {
+            some_names(word, that.as_slice())
+                || mentions(word, fail_msg)
+                || mentions(word, success_msg)
+        }
+        Module::Command(words) => words_mention(word, words),
+        Module::Debug { msg } => mentions(word, msg),
+        Module::DebugVar { text: _, expr } => has_name(word, expr),
+        Module::Fail { msg } => mentions(word, msg),
+        Module::SetFact { facts } => members_mention(word, facts),
+        Module::Setup => false,
+        Module::Shell { cmd } => has_inside(word, cmd.as_str()),
+    }
+}
+
+fn loop_mentions(word: &str, looped: &Option<Loop>) -> bool
+    ensures { result ≡ loop_mentions word.now looped.now }
+{
+    match looped {
+        Some(looped) => mentions(word, &looped.over),
+        None => false,
+    }
+}
+
+fn conditions_name(word: &str, conditions: &Option<Items<Expr>>) -> bool
+    ensures { result ≡ conditions_name word.now conditions.now }
+{
+    match conditions {
+        Some(conditions) => some_names(word, conditions.as_slice()),
+        None => false,
+    }
+}
+
+fn task_mentions(word: &str, task: &Task) -> bool
+    ensures { result ≡ task_mentions word.now task.now }
+{
+    module_mentions(word, &task.module)
+        || loop_mentions(word, &task.looped)
+        || (conditions_name(word, &task.changed_when) || conditions_name(word, &task.failed_when))
+}
+
+fn delegate_mentions(word: &str, delegate_to: Option<&Text>) -> bool
+    ensures { result ≡ delegate_mentions word.now (option_copied delegate_to.entry) }
+{
+    match delegate_to {
+        Some(template) => has_inside(word, template.as_str()),
+        None => false,
+    }
+}
+
+/// Whether a word stands in the texts of one of some maps.
+fn some_mention(word: &str, maps: &[&Dict]) -> bool
+    requires { length maps.now ≤ 9 }
+    ensures { result ≡ each_mentions word.now (maps_in maps.now) }
+{
+    match maps {
+        [] => false,
+        [map, below @ ..] => members_mention(word, *map) || some_mention(word, below),
+    }
+}
+
+/// Whether a word stands in the layers whose texts are templates: all but the facts of the host, and what was set or registered.
+fn layers_mention(word: &str, layers: &Layers) -> bool
+    ensures { result ≡ layers_mention word.now layers.now }
+{
+    let maps = [
+        layers.extra_variables,
+        layers.role_parameters,
+        layers.task_variables,
+        layers.block_variables,
+        layers.role_variables,
+        layers.play_variables,
+        layers.host_variables,
+        layers.group_variables,
+        layers.role_defaults,
+    ];
+    some_mention(word, &maps)
+}
+
+/// Whether a name can be looked up while the items of a task are read, or what the task says of a result.
+///
+/// Where it can't, it doesn't matter what stands under it among the magic variables (Ansible's documentation, "Special variables"). It may
+/// be said of a name that is never looked up that it can be.
+pub fn may_read(
+    word: &str,
+    task: &Task,
+    conditions: &[Expr],
+    delegate_to: Option<&Text>,
+    layers: &Layers,
+) -> bool
+    requires { 0 < length word.now }
+    ensures value { result ≡ may_read word.now task.now conditions.now (option_copied delegate_to.entry) layers.now }
+
+    // A task that doesn't read the name has the same items whatever stands under it.
+    ensures items { result ≡ false → (program : Bool) (magic other : Map) → SameBut word.now magic other →
+        items_of (start_from task.now conditions.now (option_copied delegate_to.entry) program layers.now magic)
+        ≡ items_of (start_from task.now conditions.now (option_copied delegate_to.entry) program layers.now other) }
+
+    // And it says the same of each result.
+    ensures told { result ≡ false → (magic other variable : Map) (item : ItemResult) → SameBut word.now magic other →
+        settled (sees layers.now magic variable) task.now.register task.now.changed_when task.now.failed_when item
+        ≡ settled (sees layers.now other variable) task.now.register task.now.changed_when task.now.failed_when item }
+{
+    reads(word, task, conditions, delegate_to, layers)
+}
+
+fn reads(
+    word: &str,
+    task: &Task,
+    conditions: &[Expr],
+    delegate_to: Option<&Text>,
+    layers: &Layers,
+) -> bool
+    ensures { result ≡ may_read word.now task.now conditions.now (option_copied delegate_to.entry) layers.now }
+{
+    (task_mentions(word, task) || some_names(word, conditions))
+        || (delegate_mentions(word, delegate_to) || layers_mention(word, layers))
+}

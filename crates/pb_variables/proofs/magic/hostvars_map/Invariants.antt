@@ -1,6 +1,0 @@
-use Rattle.std.proofs.Common.{◌≡◌}
-use Rattle.pb_variables.specs.Magic.{first_hosts}
-use Rattle.pb_variables.proofs.magic.hostvars_map.Given as goal
-
-abbrev pub invariant-loop-n : goal.invariant-loop-n
-invariant-loop-n l = l.known ≡ first_hosts l.inventory l.extra l.n

@@ -1,0 +1,114 @@
+//! The variables of all hosts.
+ghost use Rattle.std.specs.Prelude.{◌≡◌, ◌<◌, ℕ, List, Some, length, IfOk, OnOk};
+ghost use Rattle.pb_value.specs.Datum.{dict, members_of, put, value_at};
+ghost use Rattle.pb_facts.specs.Facts.{known_of};
+ghost use Rattle.pb_inventory.specs.Vars.{host_name, vars_from_groups, vars_of_host};
+ghost use Rattle.pb_variables.specs.Magic.{variables_of, hostvars_map, hostvars, hosts_magic};
+ghost use Rattle.pb_variables.specs.ByName.{value_in, variables_under, variable_of_host};
+ghost use Rattle.pb_variables.specs.Learnt.{facts_in};
+
+use pb_facts::facts::Facts;
+use pb_ids::HostNo;
+use pb_inventory::inventory::Inventory;
+use pb_value::val::{Dict, Val};
+use std::alloc::{AllocError, Global};
+
+/// Puts a host's variables under the host's name: those from its groups, over them its own, what it has learnt, and over these the extra variables.
+fn put_known(
+    alloc: Global,
+    known: &mut Dict,
+    inventory: &Inventory,
+    extra: &Dict,
+    facts: &Facts,
+    host: HostNo,
+) -> Result<(), AllocError>
+    requires { host.0 < length inventory.now.hosts }
+    ensures { OnOk result (known.new ≡ put
+        (host_name inventory.now host.0)
+        (dict (members_of (known_of (vars_from_groups inventory.now host.0) (vars_of_host inventory.now host.0) facts.now extra.now)))
+        known.old) }
+{
+    let group_variables = inventory.group_vars(alloc, host)?;
+    let variables = facts.known(alloc, &group_variables, inventory.host_vars(host), extra)?;
+    known.put(alloc, inventory.name(host), Val::dict(variables))
+}
+
+/// Puts the variables of a host, which has learnt nothing where the list has no such number.
+#[tactic(auto, using(crate::proofs::Learning::there, crate::proofs::Learning::not_there))]
+fn put_host(
+    alloc: Global,
+    known: &mut Dict,
+    inventory: &Inventory,
+    extra: &Dict,
+    learnt: &[&Facts],
+    host: HostNo,
+) -> Result<(), AllocError>
+    requires { host.0 < length inventory.now.hosts }
+    ensures { OnOk result (known.new ≡ put
+        (host_name inventory.now host.0)
+        (dict (members_of (variables_of inventory.now extra.now (facts_in learnt.now) host.0)))
+        known.old) }
+{
+    match learnt.get(host.0 as usize) {
+        Some(facts) => put_known(alloc, known, inventory, extra, *facts, host),
+        None => put_known(alloc, known, inventory, extra, &Facts::new(alloc), host),
+    }
+}
+
+fn hostvars_map(
+    alloc: Global,
+    inventory: &Inventory,
+    extra: &Dict,
+    learnt: &[&Facts],
+) -> Result<Dict, AllocError>
+    ensures { IfOk result (λ known. known ≡ hostvars_map inventory.now extra.now (facts_in learnt.now)) }
+{
+    let mut known = Dict::new(alloc);
+    for n in 0..inventory.hosts() {
+        put_host(alloc, &mut known, inventory, extra, learnt, HostNo(n))?;
+    }
+    Ok(known)
+}
+
+#[tactic(auto, unfolding(crate::specs::Magic::hostvars))]
+fn hosts_value(
+    alloc: Global,
+    inventory: &Inventory,
+    extra: &Dict,
+    learnt: &[&Facts],
+) -> Result<Val, AllocError>
+    ensures { IfOk result (λ hosts. hosts ≡ hostvars inventory.now extra.now (facts_in learnt.now)) }
+{
+    let known = hostvars_map(alloc, inventory, extra, learnt)?;
+    Ok(Val::dict(known))
+}
+
+/// What `hostvars` stands for where the hosts, by their numbers, have learnt this: a dict from each host's name to the dict of its variables
+/// as they are stored: those from its groups, over them its own, what it has learnt, and over these the extra variables (Ansible's
+/// documentation, "Special variables"). Each host's dict has copies of its own, so that it is made where it is asked for alone. The only
+/// error is want of memory.
+#[tactic(auto, using(crate::proofs::Named::variables_by_name))]
+pub fn hostvars(
+    alloc: Global,
+    inventory: &Inventory,
+    extra: &Dict,
+    learnt: &[&Facts],
+) -> Result<Val, AllocError>
+    ensures value { IfOk result (λ hosts. hosts ≡ hostvars inventory.now extra.now (facts_in learnt.now)) }
+
+    // Under each host's name stand its variables, and under no other name anything.
+    ensures hosts { IfOk result (λ hosts. (name : List ℕ) → value_in name (Some hosts) ≡ variables_under inventory.now extra.now (facts_in learnt.now) name) }
+    ensures variables { (host : ℕ) (name : List ℕ) → value_at name (variables_of inventory.now extra.now (facts_in learnt.now) host)
+        ≡ variable_of_host inventory.now extra.now (facts_in learnt.now) host name }
+{
+    hosts_value(alloc, inventory, extra, learnt)
+}
+
+/// The magic variable `hostvars`, which stands for this. The only error is want of memory.
+pub fn hosts_magic(alloc: Global, hosts: Val) -> Result<Dict, AllocError>
+    ensures { IfOk result (λ known. known ≡ hosts_magic hosts) }
+{
+    let mut known = Dict::new(alloc);
+    known.put(alloc, "hostvars", hosts)?;
+    Ok(known)
+}
