@@ -22,7 +22,7 @@ use Rattle.pb_play.specs.Refusals.{GivesOf}
 use Rattle.pb_play.specs.Hosts.{texts, has_braces, as_read, pattern, expressions_in, joined, hosts, expressions_of_hosts}
 use Rattle.pb_play.specs.NoEffect.{has_no_effect}
 use Rattle.pb_play.specs.Playbooks.{plays, of_json, playbook_of, as_load_fault, as_playbook, each_expression, expressions_of_plays, expressions_of_book}
-use Rattle.pb_play.specs.Gathering.{gathering}
+use Rattle.pb_written.specs.Simple.{switched}
 use Rattle.pb_play.specs.Plays.{key, rest_of_play, play, expressions_at, expressions_of_play}
 use Rattle.pb_play.specs.declared.fault.LoadFault.{LoadFault}
 use Rattle.pb_play.specs.declared.fault.LoadFault.TheVariants as load
@@ -166,7 +166,7 @@ abbrev pub front_of : List ℕ → json.Members → Ahead WithoutEffect
 front_of path ms = record { path = path; members = ms; told = record {} }
 
 play_rest : (path : List ℕ) (ms : json.Members) (facts : Option Bool) (d : Option json.Data) (first second : Ahead WithoutEffect)
-    → key (codes "gather_facts") gathering (front_of path ms) ≡ Ok (record { value = facts; ahead = first }) → first.path ≡ path
+    → key (codes "gather_facts") switched (front_of path ms) ≡ Ok (record { value = facts; ahead = first }) → first.path ≡ path
     → value_at has_no_effect (codes "hosts") first ≡ Ok (record { value = d; ahead = second })
     → play path (json.object ms) ≡ hosts_and_rest path facts d second
 unfolding play field
@@ -177,7 +177,7 @@ play_rest path ms facts d first second e at f =
     ∙ last_part (optional hosts (below path (codes "hosts")) d) path facts second
 
 met_rest : (path : List ℕ) (ms : json.Members) (facts : Option Bool) (d : Option json.Data) (first second : Ahead WithoutEffect)
-    → key (codes "gather_facts") gathering (front_of path ms) ≡ Ok (record { value = facts; ahead = first })
+    → key (codes "gather_facts") switched (front_of path ms) ≡ Ok (record { value = facts; ahead = first })
     → value_at has_no_effect (codes "hosts") first ≡ Ok (record { value = d; ahead = second })
     → expressions_of_play path (json.object ms) ≡ expressions_at (below path (codes "hosts")) d
 unfolding expressions_of_play
@@ -201,16 +201,16 @@ stops_first e first next more met whole met_is is stopped =
     (subst (λ w. GivesOf {A = Play} (Err e) (behind first more) w) (sym is) (gives_first e [] first next more (gives_plain (Err e) first stopped)))
 
 -- the first field stops a reader, or the keys in front of the hosts
-pub facts_stop : (path : List ℕ) (ms : json.Members) (e : Stop LoadFault) → Stops e (key (codes "gather_facts") gathering (front_of path ms))
+pub facts_stop : (path : List ℕ) (ms : json.Members) (e : Stop LoadFault) → Stops e (key (codes "gather_facts") switched (front_of path ms))
     → GivesOf {A = Play} (Err e) (expressions_of_play path (json.object ms)) (play path (json.object ms))
 unfolding play expressions_of_play
 facts_stop path ms e stopped =
-    stops_first e (key (codes "gather_facts") gathering (front_of path ms)) _ _ (expressions_of_play path (json.object ms)) (play path (json.object ms))
+    stops_first e (key (codes "gather_facts") switched (front_of path ms)) _ _ (expressions_of_play path (json.object ms)) (play path (json.object ms))
     refl
-    (value_then (key (codes "gather_facts") gathering (front_of path ms)) (λ x. and_then (key (codes "hosts") hosts x.ahead) (λ y. rest_of_play path x.value y.value y.ahead))) stopped
+    (value_then (key (codes "gather_facts") switched (front_of path ms)) (λ x. and_then (key (codes "hosts") hosts x.ahead) (λ y. rest_of_play path x.value y.value y.ahead))) stopped
 
 pub front_stop : (path : List ℕ) (ms : json.Members) (facts : Option Bool) (first : Ahead WithoutEffect) (e : Stop LoadFault)
-    → key (codes "gather_facts") gathering (front_of path ms) ≡ Ok (record { value = facts; ahead = first })
+    → key (codes "gather_facts") switched (front_of path ms) ≡ Ok (record { value = facts; ahead = first })
     → Stops e (value_at has_no_effect (codes "hosts") first) → GivesOf {A = Play} (Err e) (expressions_of_play path (json.object ms)) (play path (json.object ms))
 unfolding play field expressions_of_play
 front_stop path ms facts first e one stopped =
@@ -228,7 +228,7 @@ front_stop path ms facts first e one stopped =
 
 -- where the hosts stop a reader, and where they don't
 pub hosts_stop : (path : List ℕ) (ms : json.Members) (facts : Option Bool) (d : Option json.Data) (first second : Ahead WithoutEffect) (e : Stop LoadFault)
-    → key (codes "gather_facts") gathering (front_of path ms) ≡ Ok (record { value = facts; ahead = first }) → first.path ≡ path
+    → key (codes "gather_facts") switched (front_of path ms) ≡ Ok (record { value = facts; ahead = first }) → first.path ≡ path
     → value_at has_no_effect (codes "hosts") first ≡ Ok (record { value = d; ahead = second })
     → GivesOf {A = Option PlayHosts} (Err e) (expressions_at (below path (codes "hosts")) d) (optional hosts (below path (codes "hosts")) d)
     → GivesOf {A = Play} (Err e) (expressions_of_play path (json.object ms)) (play path (json.object ms))
@@ -242,7 +242,7 @@ hosts_stop path ms facts d first second e one at two stopped =
     )
 
 pub hosts_read : (path : List ℕ) (ms : json.Members) (facts : Option Bool) (d : Option json.Data) (first second : Ahead WithoutEffect) (h : Option PlayHosts) (result : Result Play (Stop LoadFault))
-    → key (codes "gather_facts") gathering (front_of path ms) ≡ Ok (record { value = facts; ahead = first }) → first.path ≡ path
+    → key (codes "gather_facts") switched (front_of path ms) ≡ Ok (record { value = facts; ahead = first }) → first.path ≡ path
     → value_at has_no_effect (codes "hosts") first ≡ Ok (record { value = d; ahead = second })
     → GivesOf {A = Option PlayHosts} (Ok h) (expressions_at (below path (codes "hosts")) d) (optional hosts (below path (codes "hosts")) d) → Gives result (value_of (rest_of_play path facts h second))
     → GivesOf result (expressions_of_play path (json.object ms)) (play path (json.object ms))

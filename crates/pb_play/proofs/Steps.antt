@@ -1,12 +1,12 @@
 -- Readers of objects, once their first parts are read: what stops a part stops the reader, and what is read is handed on.
-use Rattle.std.proofs.Common.{◌≡◌, ℕ, Bool, false, List, [], Result, Ok, Err, ap, sym, subst, ◌∙◌}
+use Rattle.std.proofs.Common.{◌≡◌, ℕ, Bool, true, false, List, [], Result, Ok, Err, ap, sym, subst, ◌∙◌}
 use Rattle.std.specs.Prelude.{Option, codes, unwrap_or}
 use Rattle.std.specs.Result.{IsErrAnd}
 use Rattle.pb_value.specs.Datum.{Datum}
 use Rattle.pb_value.specs.Reading.{and_then}
 use Rattle.pb_expr_syntax.specs.Tree.{Tree}
 use Rattle.pb_reading.specs.Ahead.{Takes}
-use Rattle.pb_reading.specs.Fields.{Ahead, Read, others, rule, value_of}
+use Rattle.pb_reading.specs.Fields.{Ahead, Read, field, field_or, others, rule, value_of}
 use Rattle.pb_reading.specs.Reading.{Reading, Stops, Gives, required}
 use Rattle.pb_reading.specs.Simple.{text}
 use Rattle.pb_reading.specs.declared.stop.Stop.{Stop}
@@ -15,11 +15,9 @@ use Rattle.pb_written.specs.Simple.{switched}
 use Rattle.pb_play.specs.Arguments.{argument}
 use Rattle.pb_play.specs.Assert.{said}
 use Rattle.pb_play.specs.Conditions.{conditions}
-use Rattle.pb_play.specs.Gathering.{or_on}
 use Rattle.pb_play.specs.NoEffect.{has_no_effect}
 use Rattle.pb_play.specs.Plays.{key, key_or, lists, play_of, rest_of_play}
 use Rattle.pb_play.specs.Simple.{template_value}
-use Rattle.pb_play.specs.Taken.{taken, taken_or}
 use Rattle.pb_play.specs.Tasks.{tells_of_task, told}
 use Rattle.pb_play.specs.Variables.{variables}
 use Rattle.pb_play.specs.declared.assert.Said.{Said}
@@ -83,39 +81,39 @@ abbrev with_all : Option (List Tree) → Option (List Tree) → Read Bool Module
 with_all changed failed x = rule (Ok (record { changed_when = changed; failed_when = failed; ignore_errors = x.value })) x.ahead
 
 abbrev with_failed : Bool → Option (List Tree) → Read (Option (List Tree)) Modules → Reading (Read Told Modules) LoadFault
-with_failed is_ignored changed x = and_then (taken_or tells_of_task (codes "ignore_errors") switched is_ignored x.ahead) (with_all changed x.value)
+with_failed is_ignored changed x = and_then (field_or tells_of_task (codes "ignore_errors") switched is_ignored x.ahead) (with_all changed x.value)
 
-behind_changed : (is_ignored : Bool) (a b : Ahead Modules) (changed : Option (List Tree)) → taken tells_of_task (codes "changed_when") conditions a ≡ Ok (record { value = changed; ahead = b })
-    → told is_ignored a ≡ and_then (taken tells_of_task (codes "failed_when") conditions b) (with_failed is_ignored changed)
-behind_changed is_ignored a b changed e = ap (λ r. and_then r (λ x. and_then (taken tells_of_task (codes "failed_when") conditions x.ahead) (with_failed is_ignored x.value))) e
+behind_changed : (is_ignored : Bool) (a b : Ahead Modules) (changed : Option (List Tree)) → field tells_of_task (codes "changed_when") conditions a ≡ Ok (record { value = changed; ahead = b })
+    → told is_ignored a ≡ and_then (field tells_of_task (codes "failed_when") conditions b) (with_failed is_ignored changed)
+behind_changed is_ignored a b changed e = ap (λ r. and_then r (λ x. and_then (field tells_of_task (codes "failed_when") conditions x.ahead) (with_failed is_ignored x.value))) e
 
-behind_failed : (is_ignored : Bool) (a b d : Ahead Modules) (changed failed : Option (List Tree)) → taken tells_of_task (codes "changed_when") conditions a ≡ Ok (record { value = changed; ahead = b })
-    → taken tells_of_task (codes "failed_when") conditions b ≡ Ok (record { value = failed; ahead = d })
-    → told is_ignored a ≡ and_then (taken_or tells_of_task (codes "ignore_errors") switched is_ignored d) (with_all changed failed)
+behind_failed : (is_ignored : Bool) (a b d : Ahead Modules) (changed failed : Option (List Tree)) → field tells_of_task (codes "changed_when") conditions a ≡ Ok (record { value = changed; ahead = b })
+    → field tells_of_task (codes "failed_when") conditions b ≡ Ok (record { value = failed; ahead = d })
+    → told is_ignored a ≡ and_then (field_or tells_of_task (codes "ignore_errors") switched is_ignored d) (with_all changed failed)
 behind_failed is_ignored a b d changed failed e f = behind_changed is_ignored a b changed e ∙ ap (λ r. and_then r (with_failed is_ignored changed)) f
 
-pub failed_stops : (is_ignored : Bool) (a b : Ahead Modules) (changed : Option (List Tree)) (s : Stop LoadFault) → taken tells_of_task (codes "changed_when") conditions a ≡ Ok (record { value = changed; ahead = b })
-    → Stops s (taken tells_of_task (codes "failed_when") conditions b) → Stops s (told is_ignored a)
+pub failed_stops : (is_ignored : Bool) (a b : Ahead Modules) (changed : Option (List Tree)) (s : Stop LoadFault) → field tells_of_task (codes "changed_when") conditions a ≡ Ok (record { value = changed; ahead = b })
+    → Stops s (field tells_of_task (codes "failed_when") conditions b) → Stops s (told is_ignored a)
 failed_stops is_ignored a b changed s e stops =
-    subst (Stops s) (sym (behind_changed is_ignored a b changed e)) (stops_then s (taken tells_of_task (codes "failed_when") conditions b) (with_failed is_ignored changed) stops)
+    subst (Stops s) (sym (behind_changed is_ignored a b changed e)) (stops_then s (field tells_of_task (codes "failed_when") conditions b) (with_failed is_ignored changed) stops)
 
-pub ignored_stops : (is_ignored : Bool) (a b d : Ahead Modules) (changed failed : Option (List Tree)) (s : Stop LoadFault) → taken tells_of_task (codes "changed_when") conditions a ≡ Ok (record { value = changed; ahead = b })
-    → taken tells_of_task (codes "failed_when") conditions b ≡ Ok (record { value = failed; ahead = d })
-    → Stops s (taken_or tells_of_task (codes "ignore_errors") switched is_ignored d) → Stops s (told is_ignored a)
+pub ignored_stops : (is_ignored : Bool) (a b d : Ahead Modules) (changed failed : Option (List Tree)) (s : Stop LoadFault) → field tells_of_task (codes "changed_when") conditions a ≡ Ok (record { value = changed; ahead = b })
+    → field tells_of_task (codes "failed_when") conditions b ≡ Ok (record { value = failed; ahead = d })
+    → Stops s (field_or tells_of_task (codes "ignore_errors") switched is_ignored d) → Stops s (told is_ignored a)
 ignored_stops is_ignored a b d changed failed s e f stops =
     subst (Stops s) (sym (behind_failed is_ignored a b d changed failed e f))
-    (stops_then s (taken_or tells_of_task (codes "ignore_errors") switched is_ignored d) (with_all changed failed) stops)
+    (stops_then s (field_or tells_of_task (codes "ignore_errors") switched is_ignored d) (with_all changed failed) stops)
 
 pub told_is : (is_ignored : Bool) (a b d g : Ahead Modules) (changed failed : Option (List Tree)) (ignored : Bool)
-    → taken tells_of_task (codes "changed_when") conditions a ≡ Ok (record { value = changed; ahead = b })
-    → taken tells_of_task (codes "failed_when") conditions b ≡ Ok (record { value = failed; ahead = d })
-    → taken_or tells_of_task (codes "ignore_errors") switched is_ignored d ≡ Ok (record { value = ignored; ahead = g })
+    → field tells_of_task (codes "changed_when") conditions a ≡ Ok (record { value = changed; ahead = b })
+    → field tells_of_task (codes "failed_when") conditions b ≡ Ok (record { value = failed; ahead = d })
+    → field_or tells_of_task (codes "ignore_errors") switched is_ignored d ≡ Ok (record { value = ignored; ahead = g })
     → told is_ignored a ≡ Ok (record { value = record { changed_when = changed; failed_when = failed; ignore_errors = ignored }; ahead = g })
 told_is is_ignored a b d g changed failed ignored e f h = behind_failed is_ignored a b d changed failed e f ∙ ap (λ r. and_then r (with_all changed failed)) h
 
 -- a play behind its lists of tasks: its variables, then its other keys, then the rules over what was read
 abbrev with_hosts : Option Bool → Option (List ℕ) → Lists → List (List ℕ × Datum) → Read PlayHosts WithoutEffect → Reading (Read Play WithoutEffect) LoadFault
-with_hosts facts name ls vars x = and_then (rule (or_on facts) x.ahead) (λ y. rule (Ok (play_of y.value (unwrap_or name x.value.text) x.value.pattern vars ls)) y.ahead)
+with_hosts facts name ls vars x = rule (Ok (play_of (unwrap_or facts true) (unwrap_or name x.value.text) x.value.pattern vars ls)) x.ahead
 
 abbrev with_others : List ℕ → Option Bool → Option PlayHosts → Option (List ℕ) → Lists → List (List ℕ × Datum) → Read WithoutEffect WithoutEffect → Reading (Read Play WithoutEffect) LoadFault
 with_others path facts hosts name ls vars x = and_then (rule (required path hosts) x.ahead) (with_hosts facts name ls vars)
@@ -128,7 +126,7 @@ pub record AreRead (a : Ahead WithoutEffect) (name : Option (List ℕ)) (ls : Li
   pub is_ignored : Bool
   pub second : Ahead WithoutEffect
   pub third : Ahead WithoutEffect
-  pub ignored : taken_or has_no_effect (codes "ignore_errors") switched false a ≡ Ok (record { value = is_ignored; ahead = second })
+  pub ignored : key_or (codes "ignore_errors") switched false a ≡ Ok (record { value = is_ignored; ahead = second })
   pub named : key (codes "name") text second ≡ Ok (record { value = name; ahead = third })
   pub listed : lists is_ignored third ≡ Ok (record { value = ls; ahead = after })
 
@@ -168,22 +166,13 @@ no_hosts_stop path facts hosts a b d g name ls vars none s e f o stops =
     stops_value s (rest_of_play path facts hosts a)
     (subst (Stops s) (sym (behind_others path facts hosts a b d g name ls vars none e f o)) (stops_then s (rule (required path hosts) g) (with_hosts facts name ls vars) (stops_rule s (required path hosts) g stops)))
 
--- the two rules, once the hosts are there
+-- once the hosts are there
 behind_hosts : (path : List ℕ) (facts : Option Bool) (hosts : Option PlayHosts) (h : PlayHosts) (g : Ahead WithoutEffect) (name : Option (List ℕ)) (ls : Lists) (vars : List (List ℕ × Datum)) → required {F = LoadFault} path hosts ≡ Ok h
     → and_then (rule (required path hosts) g) (with_hosts facts name ls vars) ≡ with_hosts facts name ls vars (record { value = h; ahead = g })
 behind_hosts path facts hosts h g name ls vars e = ap (λ r. and_then (rule r g) (with_hosts facts name ls vars)) e
 
-pub gathering_stops : (path : List ℕ) (facts : Option Bool) (hosts : Option PlayHosts) (h : PlayHosts) (a b d g : Ahead WithoutEffect) (name : Option (List ℕ)) (ls : Lists) (vars : List (List ℕ × Datum)) (none : WithoutEffect) (s : Stop LoadFault)
+pub play_is : (path : List ℕ) (facts : Option Bool) (hosts : Option PlayHosts) (h : PlayHosts) (a b d g : Ahead WithoutEffect) (name : Option (List ℕ)) (ls : Lists) (vars : List (List ℕ × Datum)) (none : WithoutEffect)
     → AreRead a name ls b → key_or (codes "vars") variables [] b ≡ Ok (record { value = vars; ahead = d }) → others has_no_effect d ≡ Ok (record { value = none; ahead = g })
-    → required {F = LoadFault} path hosts ≡ Ok h → Stops s (or_on facts) → Stops s (value_of (rest_of_play path facts hosts a))
-gathering_stops path facts hosts h a b d g name ls vars none s e f o at stops =
-    stops_value s (rest_of_play path facts hosts a)
-    (subst (Stops s) (sym (behind_others path facts hosts a b d g name ls vars none e f o ∙ behind_hosts path facts hosts h g name ls vars at))
-    (stops_then s (rule (or_on facts) g) (λ y. rule (Ok (play_of y.value (unwrap_or name h.text) h.pattern vars ls)) y.ahead) (stops_rule s (or_on facts) g stops)))
-
-pub play_is : (path : List ℕ) (facts : Option Bool) (hosts : Option PlayHosts) (h : PlayHosts) (gathers : Bool) (a b d g : Ahead WithoutEffect) (name : Option (List ℕ)) (ls : Lists) (vars : List (List ℕ × Datum)) (none : WithoutEffect)
-    → AreRead a name ls b → key_or (codes "vars") variables [] b ≡ Ok (record { value = vars; ahead = d }) → others has_no_effect d ≡ Ok (record { value = none; ahead = g })
-    → required {F = LoadFault} path hosts ≡ Ok h → or_on facts ≡ Ok gathers → value_of (rest_of_play path facts hosts a) ≡ Ok (play_of gathers (unwrap_or name h.text) h.pattern vars ls)
-play_is path facts hosts h gathers a b d g name ls vars none e f o at on =
+    → required {F = LoadFault} path hosts ≡ Ok h → value_of (rest_of_play path facts hosts a) ≡ Ok (play_of (unwrap_or facts true) (unwrap_or name h.text) h.pattern vars ls)
+play_is path facts hosts h a b d g name ls vars none e f o at =
     ap value_of (behind_others path facts hosts a b d g name ls vars none e f o ∙ behind_hosts path facts hosts h g name ls vars at)
-    ∙ ap (λ r. value_of (and_then (rule r g) (λ y. rule (Ok (play_of y.value (unwrap_or name h.text) h.pattern vars ls)) y.ahead))) on

@@ -1,5 +1,5 @@
 -- The plays of a playbook. See Ansible's documentation, "Playbook Keywords", Play.
-use Rattle.std.specs.Prelude.{ℕ, Bool, false, List, [], Ok, Option, Some, None, codes, unwrap_or}
+use Rattle.std.specs.Prelude.{ℕ, Bool, true, false, List, [], Ok, Option, Some, None, codes, unwrap_or}
 use Rattle.serde_json.specs.Data as json
 use Rattle.pb_value.specs.Datum.{Datum}
 use Rattle.pb_value.specs.Reading.{below}
@@ -8,11 +8,10 @@ use Rattle.pb_patterns.specs.Expressions.{behind}
 use Rattle.pb_reading.specs.Fields.{◌>>=◌, Part, field, field_or, others, object, rule, value_at}
 use Rattle.pb_reading.specs.Reading.{Reading, required}
 use Rattle.pb_reading.specs.Simple.{text}
-use Rattle.pb_play.specs.Gathering.{gathering, or_on, begun}
+use Rattle.pb_play.specs.Gathering.{begun}
 use Rattle.pb_play.specs.Hosts.{hosts, expressions_of_hosts}
 use Rattle.pb_play.specs.NoEffect.{has_no_effect}
 use Rattle.pb_written.specs.Simple.{switched}
-use Rattle.pb_play.specs.Taken.{taken_or}
 use Rattle.pb_play.specs.Tasks.{tasks}
 use Rattle.pb_play.specs.Variables.{variables}
 use Rattle.pb_play.specs.declared.fault.LoadFault.{LoadFault}
@@ -40,22 +39,22 @@ abbrev pub play_of : (gathers : Bool) → List ℕ → List Element → List (Li
 play_of gathers name hosts vars lists =
     record { name = name; hosts = hosts; vars = vars; pre_tasks = begun gathers lists.is_ignored lists.pre_tasks; tasks = lists.tasks; post_tasks = lists.post_tasks }
 
--- a play behind its hosts; one without a name has its pattern's text as it is written, and one without variables has none
+-- a play behind its hosts; one without a name has its pattern's text as it is written, one without variables has none, and one that doesn't say whether
+-- it gathers facts does (Ansible's documentation, "Playbook Keywords", gather_facts)
 abbrev pub rest_of_play : List ℕ → Option Bool → Option PlayHosts → Part WithoutEffect LoadFault Play
 rest_of_play path gather_facts hosts = do
-  is_ignored ← taken_or has_no_effect (codes "ignore_errors") switched false
+  is_ignored ← key_or (codes "ignore_errors") switched false
   name ← key (codes "name") text
   lists ← lists is_ignored
   vars ← key_or (codes "vars") variables []
   _ ← others has_no_effect
   h ← rule (required path hosts)
-  gathers ← rule (or_on gather_facts)
-  rule (Ok (play_of gathers (unwrap_or name h.text) h.pattern vars lists))
+  rule (Ok (play_of (unwrap_or gather_facts true) (unwrap_or name h.text) h.pattern vars lists))
 
 -- a play
 unfoldable pub play : List ℕ → json.Data → Reading Play LoadFault
 play path = object (record {}) (do
-  gather_facts ← key (codes "gather_facts") gathering
+  gather_facts ← key (codes "gather_facts") switched
   hosts ← key (codes "hosts") hosts
   rest_of_play path gather_facts hosts) path
 
@@ -66,6 +65,6 @@ expressions_at path (Some d) = expressions_of_hosts path d
 
 unfoldable pub expressions_of_play : List ℕ → json.Data → List (List ℕ)
 expressions_of_play path (json.object ms) =
-    behind (key (codes "gather_facts") gathering (record { path = path; members = ms; told = record {} })) (λ facts.
+    behind (key (codes "gather_facts") switched (record { path = path; members = ms; told = record {} })) (λ facts.
     behind (value_at has_no_effect (codes "hosts") facts.ahead) (λ hosts. expressions_at (below path (codes "hosts")) hosts.value))
 expressions_of_play path d = []

@@ -1,12 +1,12 @@
 -- Worked playbooks: what their texts spell, or the first fault in them.
-use Rattle.std.specs.Prelude.{◌≡◌, ⊤, pos, true, List, [], ◌∷◌, Some, None, Ok, Err, codes, refl}
+use Rattle.std.specs.Prelude.{◌≡◌, ⊤, pos, true, false, List, [], ◌∷◌, Some, None, Ok, Err, codes, refl}
 use Rattle.std.specs.Fmt.{digits}
 use Rattle.std.specs.Str.{chars, is_utf8}
 use Rattle.std.specs.Str.Lossy.{utf8_valid_len}
 use Rattle.serde_json.proofs.OnLiterals.{serde_json_on_literals}
 use Rattle.pb_value.specs.Bytes.{json_in}
 use Rattle.pb_expr_syntax.specs.Computed.{tree_of, tree_of_tokens}
-use Rattle.pb_expr_syntax.specs.Tree.{Name}
+use Rattle.pb_expr_syntax.specs.Tree.{Name, Truth}
 use Rattle.pb_template.specs.Computed.{template_of}
 use Rattle.pb_value.specs.Datum.{null, int, text, list, items_of, dict, no_members, member}
 use Rattle.pb_value.specs.FromJson.{value_of}
@@ -19,16 +19,15 @@ use Rattle.pb_play.specs.Conditions.{conditions}
 use Rattle.pb_play.specs.Playbooks.{playbook_of, expressions_of_book}
 use Rattle.pb_reading.specs.Fields.{field, field_or, others}
 use Rattle.pb_play.specs.Plays.{play, expressions_of_play}
-use Rattle.pb_play.specs.Taken.{is_taken, taken, taken_or}
 use Rattle.pb_play.specs.Tasks.{task, tells_of_task, plain_task}
 use Rattle.pb_written.specs.Templates.{is_template}
 use Rattle.pb_play.specs.declared.fault.LoadFault.TheVariants.{NotJson, WrongShape, NotInProfile, NoModule, TwoModules, BadExpression, BadPattern}
 use Rattle.pb_play.specs.declared.commands.CommandWords.TheVariants.{Line, Argv}
-use Rattle.pb_play.specs.declared.modules.Module.TheVariants.{Assert, Command, Debug, DebugVar, Fail, Shell}
+use Rattle.pb_play.specs.declared.modules.Module.TheVariants.{Assert, Command, Debug, DebugVar, Fail, SetFact, Setup, Shell}
 
 -- what computes a row from its text
 unfoldable on_literals : ⊤
-unfolding conditions playbook_of expressions_of_book play expressions_of_play task tells_of_task is_taken taken taken_or field field_or others pattern_of expressions_of is_template template_of tree_of tree_of_tokens json_in utf8_valid_len is_utf8 chars digits value_of serde_json_on_literals
+unfolding conditions playbook_of expressions_of_book play expressions_of_play task tells_of_task field field_or others pattern_of expressions_of is_template template_of tree_of tree_of_tokens json_in utf8_valid_len is_utf8 chars digits value_of serde_json_on_literals
 on_literals = tt
 
 -- the elements of the pattern `all`
@@ -83,14 +82,37 @@ two_modules : playbook_of (codes "[{\"hosts\":\"all\",\"gather_facts\":false,\"t
 unfolding on_literals
 two_modules = refl
 
--- rules over several keys come after the keys: hosts first, then gathering
+-- a missing key is told after the keys that are there
 no_hosts : playbook_of (codes "[{}]") ≡ Err (WrongShape (codes "0"))
 unfolding on_literals
 no_hosts = refl
 
-gathering : playbook_of (codes "[{\"hosts\":\"all\"}]") ≡ Err (NotInProfile (codes "gather_facts"))
+-- facts are gathered where that isn't switched off: a play's first task does it, in front of its pre_tasks
+gathering : playbook_of (codes "[{\"hosts\":\"all\"}]")
+    ≡ Ok (record { plays = record { name = codes "all"; hosts = all_hosts; vars = []; pre_tasks = plain_task (codes "Gathering Facts") [] Setup ∷ []; tasks = []; post_tasks = [] } ∷ [] })
 unfolding on_literals
 gathering = refl
+
+-- it ignores failures as the play does
+gathering_first : playbook_of (codes "[{\"hosts\":\"all\",\"gather_facts\":\"Yes\",\"ignore_errors\":true,\"pre_tasks\":[{\"debug\":{}}]}]")
+    ≡ Ok (record {
+      plays = record {
+        name = codes "all";
+        hosts = all_hosts;
+        vars = [];
+        pre_tasks =
+            record (plain_task (codes "Gathering Facts") [] Setup) { ignore_errors = true }
+            ∷ record (plain_task (codes "debug") [] (Debug (text (codes "Hello world!")))) { ignore_errors = true } ∷ [];
+        tasks = [];
+        post_tasks = [];
+      } ∷ [];
+    })
+unfolding on_literals
+gathering_first = refl
+
+no_switch_of_gathering : playbook_of (codes "[{\"hosts\":3,\"gather_facts\":1}]") ≡ Err (WrongShape (codes "0/gather_facts"))
+unfolding on_literals
+no_switch_of_gathering = refl
 
 -- a play without a name has its pattern's text as it is written; an element's text is trimmed
 text_of_hosts : playbook_of (codes "[{\"hosts\":\" web : &db\",\"gather_facts\":false}]")
@@ -258,6 +280,25 @@ fails : playbook_of (codes "[{\"hosts\":\"all\",\"gather_facts\":false,\"tasks\"
     })
 unfolding on_literals
 fails = refl
+
+-- `setup` has no arguments, and gathers facts where it stands
+setups : playbook_of (codes "[{\"hosts\":\"all\",\"gather_facts\":false,\"tasks\":[{\"setup\":{}},{\"ansible.builtin.setup\":{}}]}]")
+    ≡ Ok (record {
+      plays = record {
+        name = codes "all";
+        hosts = all_hosts;
+        vars = [];
+        pre_tasks = [];
+        tasks = plain_task (codes "setup") [] Setup ∷ plain_task (codes "setup") [] Setup ∷ [];
+        post_tasks = [];
+      } ∷ [];
+    })
+unfolding on_literals
+setups = refl
+
+argument_of_setup : playbook_of (codes "[{\"hosts\":\"all\",\"tasks\":[{\"setup\":{\"filter\":\"os\"}}]}]") ≡ Err (NotInProfile (codes "filter"))
+unfolding on_literals
+argument_of_setup = refl
 
 -- the keys come first, and then that one of the two has to be there
 both_forms : playbook_of (codes "[{\"hosts\":\"all\",\"tasks\":[{\"command\":{\"argv\":[],\"cmd\":\"a\"}}]}]") ≡ Err (WrongShape (codes "0/tasks/0/command"))
@@ -460,28 +501,32 @@ no_condition : playbook_of (codes "[{\"hosts\":\"all\",\"gather_facts\":false,\"
 unfolding on_literals
 no_condition = refl
 
--- keys and modules that are read, but not taken yet: each is refused at its place in the order of the keys, whatever it holds
-register_not_taken : playbook_of (codes "[{\"hosts\":\"all\",\"gather_facts\":false,\"tasks\":[{\"register\":\"r\",\"zzz\":1,\"debug\":{}}]}]") ≡ Err (NotInProfile (codes "register"))
+-- what a task says of its result, and the name under which it is kept; `set_fact` is a module
+keys_of_a_result : playbook_of (codes "[{\"hosts\":\"all\",\"gather_facts\":false,\"tasks\":[{\"changed_when\":false,\"failed_when\":\"x\",\"register\":\"r\",\"shell\":\"a\"},{\"set_fact\":{\"y\":1}}]}]")
+    ≡ Ok (record {
+      plays = record {
+        name = codes "all";
+        hosts = all_hosts;
+        vars = [];
+        pre_tasks = [];
+        tasks =
+            record (plain_task (codes "shell") [] (Shell (codes "a"))) { register = Some (codes "r"); changed_when = Some (Truth false ∷ []); failed_when = Some (Name (codes "x") ∷ []) }
+            ∷ plain_task (codes "set_fact") [] (SetFact ((codes "y", int (pos 1)) ∷ [])) ∷ [];
+        post_tasks = [];
+      } ∷ [];
+    })
 unfolding on_literals
-register_not_taken = refl
+keys_of_a_result = refl
 
-changed_when_not_taken : playbook_of (codes "[{\"hosts\":\"all\",\"gather_facts\":false,\"tasks\":[{\"changed_when\":true,\"zzz\":1,\"debug\":{}}]}]") ≡ Err (NotInProfile (codes "changed_when"))
+no_name_of_register : playbook_of (codes "[{\"hosts\":\"all\",\"gather_facts\":false,\"tasks\":[{\"register\":\"a b\",\"zzz\":1,\"debug\":{}}]}]") ≡ Err (WrongShape (codes "0/tasks/0/register"))
 unfolding on_literals
-changed_when_not_taken = refl
+no_name_of_register = refl
 
-failed_when_not_taken : playbook_of (codes "[{\"hosts\":\"all\",\"gather_facts\":false,\"tasks\":[{\"failed_when\":1,\"zzz\":1,\"debug\":{}}]}]") ≡ Err (NotInProfile (codes "failed_when"))
+no_condition_of_change : playbook_of (codes "[{\"hosts\":\"all\",\"gather_facts\":false,\"tasks\":[{\"changed_when\":1,\"zzz\":1,\"debug\":{}}]}]") ≡ Err (WrongShape (codes "0/tasks/0/changed_when"))
 unfolding on_literals
-failed_when_not_taken = refl
+no_condition_of_change = refl
 
-set_fact_not_taken : playbook_of (codes "[{\"hosts\":\"all\",\"gather_facts\":false,\"tasks\":[{\"ansible.builtin.set_fact\":{}}]}]") ≡ Err (NotInProfile (codes "ansible.builtin.set_fact"))
-unfolding on_literals
-set_fact_not_taken = refl
-
-setup_not_taken : playbook_of (codes "[{\"hosts\":\"all\",\"gather_facts\":false,\"tasks\":[{\"setup\":{}}]}]") ≡ Err (NotInProfile (codes "setup"))
-unfolding on_literals
-setup_not_taken = refl
-
--- a key in front of them comes first
+-- a key in front comes first
 fault_in_front : playbook_of (codes "[{\"hosts\":\"all\",\"gather_facts\":false,\"tasks\":[{\"name\":1,\"when\":\"x\"}]}]") ≡ Err (WrongShape (codes "0/tasks/0/name"))
 unfolding on_literals
 fault_in_front = refl

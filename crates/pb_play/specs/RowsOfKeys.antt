@@ -13,11 +13,12 @@ use Rattle.pb_expr_syntax.specs.Tree.{Name, Truth, IsDefined}
 use Rattle.pb_template.specs.Computed.{template_of}
 use Rattle.pb_reading.specs.Fields.{field, others}
 use Rattle.pb_reading.specs.Reading.{Reading, WrongShape, Own}
+use Rattle.pb_written.specs.Simple.{switched}
 use Rattle.pb_written.specs.Templates.{is_template}
 use Rattle.pb_play.specs.Assert.{assert}
 use Rattle.pb_play.specs.Conditions.{conditions}
 use Rattle.pb_play.specs.Facts.{set_fact, setup}
-use Rattle.pb_play.specs.Gathering.{gathering, begun}
+use Rattle.pb_play.specs.Gathering.{begun}
 use Rattle.pb_play.specs.Loops.{over, control, looped}
 use Rattle.pb_play.specs.Tasks.{plain_task}
 use Rattle.pb_play.specs.declared.fault.LoadFault.{LoadFault}
@@ -184,11 +185,11 @@ unfolding on_literals
 gathers_nothing = refl
 
 -- gathering is a switch; it is the first task of a play, which ignores its failures as the play does
-no_switch : read gathering (codes "1") ≡ Some (Err (WrongShape (codes "p")))
+no_switch : read switched (codes "1") ≡ Some (Err (WrongShape (codes "p")))
 unfolding on_literals
 no_switch = refl
 
-switched_off : read gathering (codes "\"no\"") ≡ Some (Ok false)
+switched_off : read switched (codes "\"no\"") ≡ Some (Ok false)
 unfolding on_literals
 switched_off = refl
 

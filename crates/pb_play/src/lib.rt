@@ -12,9 +12,6 @@
 //! kept as they are written, since what they give is known only when a task starts on a host. The expression at `var` of `debug` is kept
 //! as its tree, too, and so are conditions. A task is handed the play's `ignore_errors` where it has none of its own, and a play that gathers
 //! facts begins with a task that does.
-//!
-//! Keys and modules that are read here, but that the engine doesn't take yet, are refused as those that aren't read: `is_taken`
-//! (`specs/Taken.antt`) has the list. To take one, drop it there and in `src/taken.rt`.
 #![tactic(auto)]
 
 mod assert;
@@ -33,5 +30,4 @@ mod other_keys;
 pub mod play;
 pub mod playbook;
 mod simple;
-mod taken;
 pub mod task;

@@ -11,11 +11,10 @@ ghost use Rattle.pb_play.specs.Tasks.{tasks};
 ghost use Rattle.pb_play.specs.Plays.{key_or, play_of, lists, rest_of_play, play, expressions_at, expressions_of_play};
 
 use crate::fault::LoadFault;
-use crate::gathering::{Gathering, begun, or_on};
+use crate::gathering::begun;
 use crate::hosts::{PlayHosts, read_hosts};
 use crate::other_keys::WithoutEffect;
 use crate::simple::TemplateValue;
-use crate::taken::taken_or;
 use crate::task::{Ignored, Task};
 use pb_patterns::pattern::Pattern;
 use pb_reading::keys::Keys;
@@ -169,14 +168,19 @@ fn read_rest(
 ) -> Result<Play, Stop<LoadFault>>
     ensures { Gives result (value_of (rest_of_play path.now gather_facts hosts (ahead keys.entry))) }
 {
-    let is_ignored = taken_or::<WithoutEffect, Switch>(alloc, &mut keys, "ignore_errors", false)?;
+    let is_ignored = keys.field_or::<Switch>(alloc, "ignore_errors", false)?;
     let name = keys.field::<PlainText>(alloc, "name")?;
     let lists = read_lists(alloc, &mut keys, is_ignored)?;
     let vars = keys.field_or::<EachNamed<TemplateValue>>(alloc, "vars", Dict::new(alloc))?;
     keys.others(alloc)?;
     let PlayHosts { text, pattern } = required(path, hosts)?;
-    let gathers = or_on(alloc, gather_facts)?;
-    Ok(lists.of(alloc, gathers, name.unwrap_or(text), pattern, vars)?)
+    Ok(lists.of(
+        alloc,
+        gather_facts.unwrap_or(true),
+        name.unwrap_or(text),
+        pattern,
+        vars,
+    )?)
 }
 
 /// The play that the members of an object make.
@@ -188,7 +192,7 @@ fn read_members(
     ensures { GivesOf result (expressions_of_play path.now (json.object (members_view members.now.entries))) (play path.now (json.object (members_view members.now.entries))) }
 {
     let mut keys = Keys::of(path, members, WithoutEffect);
-    let gather_facts = match keys.field::<Gathering>(alloc, "gather_facts") {
+    let gather_facts = match keys.field::<Switch>(alloc, "gather_facts") {
         Ok(found) => found,
         Err(stop) => return Err(stop),
     };
