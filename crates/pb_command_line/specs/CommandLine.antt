@@ -1,5 +1,5 @@
--- What the words of the command line mean: `pb-play -i FILE [-f N] [-l PATTERN] [-e JSON] [--outcomes FILE] [--syntax-check] [--list-hosts] PLAYBOOK`,
--- and `--help`.
+-- What the words of the command line mean: `pb-play -i FILE [-f N] [-l PATTERN] [-e JSON] [--facts-program PATH] [--outcomes FILE] [--syntax-check] [--list-hosts]
+-- PLAYBOOK`, and `--help`.
 -- clap's own definitions say how words are read; the program's arguments are stated here. std's say how a number is read.
 use Rattle.std.specs.Prelude.{◌≡◌, ◌≢◌, ◌⊎◌, ◌≤◌, ℕ, Bool, true, false, List, [], Some, None, Option, codes}
 use Rattle.std.specs.Str.{bytes_eq}
@@ -38,6 +38,10 @@ limit = record (new_rule (codes "limit")) { short = Some 108; value_names = 1 }
 abbrev pub extra : Rule
 extra = record (new_rule (codes "extra")) { short = Some 101; value_names = 1 }
 
+-- `--facts-program PATH`
+abbrev pub facts_program : Rule
+facts_program = record (new_rule (codes "facts_program")) { long = Some (codes "facts-program"); value_names = 1 }
+
 -- `--syntax-check`
 abbrev pub syntax_check : Rule
 syntax_check = record (new_rule (codes "syntax_check")) { long = Some (codes "syntax-check"); action = Some SetTrue }
@@ -55,8 +59,11 @@ run_program = with_rule (with_rule file_program forks) outcomes
 abbrev pub limited_program : App
 limited_program = with_rule (with_rule run_program limit) extra
 
+abbrev pub gathering_program : App
+gathering_program = with_rule limited_program facts_program
+
 abbrev pub program : App
-program = with_rule (with_rule limited_program syntax_check) list_hosts
+program = with_rule (with_rule gathering_program syntax_check) list_hosts
 
 -- what the words, the first of which is the program's name, give an argument
 unfoldable pub value_in : Text → List Text → Option Text
@@ -103,12 +110,13 @@ IsBadForks (Wrong text) = Unit
 IsBadForks Missing = ⊥
 IsBadForks Memory = Unit
 
--- the words are the program's, and ask for these files, so many forks, this limit, these extra variables and this purpose
+-- the words are the program's, and ask for these files, so many forks, this limit, these extra variables, this facts program and this purpose
 abbrev pub Asks : List Text → Request → Type 0
 Asks words request = (errors_in words ≡ [])
     × (value_in (codes "inventory") words ≡ Some request.inventory) × (value_in (codes "playbook") words ≡ Some request.playbook)
     × AreForks (value_in (codes "forks") words) request.forks × (value_in (codes "outcomes") words ≡ request.outcomes)
-    × (value_in (codes "limit") words ≡ request.limit) × (value_in (codes "extra") words ≡ request.extra) × (purpose_in words ≡ request.purpose)
+    × (value_in (codes "limit") words ≡ request.limit) × (value_in (codes "extra") words ≡ request.extra)
+    × (value_in (codes "facts_program") words ≡ request.facts_program) × (purpose_in words ≡ request.purpose)
 
 -- what an error of that kind is told as
 abbrev pub TellsKind : ErrorKind → WordsFault → Type 0

@@ -1,7 +1,7 @@
 ghost use Rattle.pb_command_line.specs.declared.words.WordsFault.TheVariants.{Memory};
 ghost use Rattle.std.specs.Prelude.{◌≡◌, ◌⊎◌, IfOk, IfErr, map, codes, string_bytes};
 ghost use Rattle.clap.specs.Words.{app_of, kind_of, found_of, first_value};
-ghost use Rattle.pb_command_line.specs.CommandLine.{file_program, run_program, limited_program, program, is_true, purpose_of, Asks, IsCount, IsNoCount, AreForks, NoForks, IsBadForks, IsRefused, TellsKind};
+ghost use Rattle.pb_command_line.specs.CommandLine.{file_program, run_program, limited_program, gathering_program, program, is_true, purpose_of, Asks, IsCount, IsNoCount, AreForks, NoForks, IsBadForks, IsRefused, TellsKind};
 
 use clap::error::ErrorKind;
 use clap::{Arg, ArgAction, ArgMatches, Command, Error};
@@ -23,6 +23,8 @@ pub struct Request {
     pub limit: Option<Text>,
     /// The extra variables, an object in JSON, if some are given.
     pub extra: Option<Text>,
+    /// The program that gathers the facts of hosts, if one is given.
+    pub facts_program: Option<Text>,
     /// What is to be done with the plan.
     pub purpose: Purpose,
 }
@@ -108,6 +110,17 @@ fn limited_words<'a>(alloc: Global) -> Result<Command<'a>, AllocError>
     run_words(alloc)?.arg(limit)?.arg(extra)
 }
 
+/// The program with its files, what a run takes, the limit, the extra variables and the facts program.
+fn gathering_words<'a>(alloc: Global) -> Result<Command<'a>, AllocError>
+    ensures { IfOk result (λ c. app_of c ≡ gathering_program) }
+{
+    let facts_program = Arg::new(alloc, "facts_program")
+        .long("facts-program")
+        .value_name("PATH")
+        .help("The program that prints a host's facts, a JSON object");
+    limited_words(alloc)?.arg(facts_program)
+}
+
 fn command<'a>(alloc: Global) -> Result<Command<'a>, AllocError>
     ensures { IfOk result (λ c. app_of c ≡ program) }
 {
@@ -119,7 +132,7 @@ fn command<'a>(alloc: Global) -> Result<Command<'a>, AllocError>
         .long("list-hosts")
         .action(ArgAction::SetTrue)
         .help("Runs nothing: lists the hosts of each play");
-    limited_words(alloc)?.arg(syntax_check)?.arg(list_hosts)
+    gathering_words(alloc)?.arg(syntax_check)?.arg(list_hosts)
 }
 
 fn fault(alloc: Global, error: &Error) -> WordsFault
@@ -234,6 +247,7 @@ pub fn read_words(alloc: Global, words: &[String]) -> Result<Request, WordsFault
             let outcomes = text_in(alloc, &matches, "outcomes")?;
             let limit = text_in(alloc, &matches, "limit")?;
             let extra = text_in(alloc, &matches, "extra")?;
+            let facts_program = text_in(alloc, &matches, "facts_program")?;
             Ok(Request {
                 inventory: Text::from_str(alloc, inventory)?,
                 playbook: Text::from_str(alloc, playbook)?,
@@ -241,6 +255,7 @@ pub fn read_words(alloc: Global, words: &[String]) -> Result<Request, WordsFault
                 outcomes,
                 limit,
                 extra,
+                facts_program,
                 purpose: purpose_in(&matches),
             })
         }

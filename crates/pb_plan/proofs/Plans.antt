@@ -157,7 +157,7 @@ places_fault bundle inventory extra book limit has limited many =
     inr (plays_taken bundle inventory extra book has, inl (limit_taken bundle inventory extra book limit has limited, behind_limit bundle inventory extra book limit has limited ∙ rw many refl))
 
 pub plan_made : (bundle : Bundle) (inventory : InventoryOf) (extra : Map) (book : Playbook) (limit : Option (List Element)) (plan : PlanOf) → HasBook bundle inventory extra book → HasLimit bundle limit
-    → list_any has_too_many_places book.plays ≡ false → IsPlanIn inventory extra limit bundle.forks book plan → IsPlanOf bundle plan
+    → list_any has_too_many_places book.plays ≡ false → IsPlanIn inventory extra limit bundle.forks bundle.has_facts_program book plan → IsPlanOf bundle plan
 plan_made bundle inventory extra book limit plan has limited few made =
     record {
       readings = record { inventory = inventory; extra = extra; book = book; limit = limit };

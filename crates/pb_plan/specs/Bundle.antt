@@ -169,17 +169,18 @@ ArePlaysOf inventory limit (play ∷ plays) [] lines = ⊥
 ArePlaysOf inventory limit (play ∷ plays) (planned ∷ rest) lines =
     (first : List (List ℕ)) × (later : List (List ℕ)) × IsPlayOf inventory limit play planned first × ArePlaysOf inventory limit plays rest later × (lines ≡ first ++ later)
 
--- a plan of an inventory, extra variables, a limit's elements and a playbook: the hosts, the plays with their hosts, the forks, the variables, and
--- what is warned of, of the inventory, of the limit, and of each play
-pub record IsPlanIn (inventory : InventoryOf) (extra : Map) (limit : Option (List Element)) (forks : ℕ) (book : Playbook) (plan : PlanOf) : Type 0 where
+-- a plan of an inventory, extra variables, a limit's elements and a playbook: the hosts, the plays with their hosts, the forks, whether there is a facts
+-- program, the variables, and what is warned of, of the inventory, of the limit, and of each play
+pub record IsPlanIn (inventory : InventoryOf) (extra : Map) (limit : Option (List Element)) (forks : ℕ) (has_facts_program : Bool) (book : Playbook) (plan : PlanOf) : Type 0 where
   pub selected : Selected
   pub lines : List (List ℕ)
   pub limited : IsLimit inventory limit selected
   pub plays : ArePlaysOf inventory selected.hosts book.plays plan.plays lines
   pub has_forks : plan.forks ≡ forks
+  pub has_program : plan.has_facts_program ≡ has_facts_program
   pub has_inventory : plan.inventory ≡ inventory
   pub has_extra : plan.extra ≡ extra
-  pub has_magic : plan.magic ≡ plan_magic inventory extra
+  pub has_magic : plan.magic ≡ plan_magic inventory
   pub warnings : plan.warnings ≡ map stranger_line (strangers inventory) ++ map unmatched_line selected.unmatched ++ lines
 
 pub record IsPlanOf (bundle : Bundle) (plan : PlanOf) : Type 0 where
@@ -187,7 +188,7 @@ pub record IsPlanOf (bundle : Bundle) (plan : PlanOf) : Type 0 where
   pub plays_taken : AreTaken (expressions_in_plays bundle)
   pub limit_taken : AreTaken (expressions_in_limit bundle)
   pub read : readings_of bundle ≡ Ok readings
-  pub planned : IsPlanIn readings.inventory readings.extra readings.limit bundle.forks readings.book plan
+  pub planned : IsPlanIn readings.inventory readings.extra readings.limit bundle.forks bundle.has_facts_program readings.book plan
 
 -- the first fault of a playbook, and of a limit, as faults of a bundle
 abbrev pub IsPlaybookFault : List ℕ → BundleFault → Type 0

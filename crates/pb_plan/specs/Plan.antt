@@ -1,5 +1,5 @@
 -- A plan as plain lists: what the machine reads of a bundle.
-use Rattle.std.specs.Prelude.{◌≡◌, ℕ, Bool, List, [], length}
+use Rattle.std.specs.Prelude.{◌≡◌, ℕ, Bool, false, List, [], length}
 use Rattle.pb_tree.specs.Tree.{TreeOf, size_of}
 use Rattle.pb_inventory.specs.InventoryOf.{InventoryOf}
 use Rattle.pb_layers.specs.Scope.{Map}
@@ -21,17 +21,19 @@ pub record Fits (play : PlayOf) : Type 0 where
   pub places : length play.places ≡ size_of play.tree
   pub caught : are_caught play.places ≡ caught_places play.tree
 
--- the plays in order, how many hosts may run at once, lines that tell what was odd in the bundle, the inventory with the names of its hosts by their
--- numbers and its variables, the extra variables, and those that the plan gives by itself
+-- the plays in order, how many hosts may run at once, whether there is a program that gathers facts, lines that tell what was odd in the bundle, the
+-- inventory with the names of its hosts by their numbers and its variables, the extra variables, and those that the plan gives by itself, but for
+-- `hostvars`, which tells of what hosts learn in a run
 pub record PlanOf : Type 0 where
   pub plays : List PlayOf
   pub forks : ℕ
+  pub has_facts_program : Bool
   pub warnings : List (List ℕ)
   pub inventory : InventoryOf
   pub extra : Map
   pub magic : Map
 
--- what worked examples are made of: hosts in no group, and a play and a plan without variables
+-- what worked examples are made of: hosts in no group, and a play and a plan without variables or a facts program
 abbrev pub bare_inventory : List (List ℕ) → InventoryOf
 bare_inventory hosts = record { hosts = hosts; groups = []; own = []; links = []; group_vars = []; host_vars = [] }
 
@@ -39,4 +41,4 @@ abbrev pub bare_play : List ℕ → TreeOf → List PlaceOf → List Bool → Pl
 bare_play name tree places hosts = record { name = name; tree = tree; places = places; hosts = hosts; vars = []; magic = [] }
 
 abbrev pub bare_plan : List (List ℕ) → List PlayOf → PlanOf
-bare_plan hosts plays = record { plays = plays; forks = 5; warnings = []; inventory = bare_inventory hosts; extra = []; magic = [] }
+bare_plan hosts plays = record { plays = plays; forks = 5; has_facts_program = false; warnings = []; inventory = bare_inventory hosts; extra = []; magic = [] }

@@ -31,7 +31,7 @@ use thiserror::Error;
 /// The most places of a play.
 const MAX_PLACES: u64 = 16_384;
 
-/// What a run is made of: the bytes of its files and of its extra variables, and how many hosts may run at once.
+/// What a run is made of: the bytes of its files and of its extra variables, how many hosts may run at once, and whether a program gathers facts.
 #[derive(Drop)]
 pub struct Bundle {
     /// The bytes of the inventory's file.
@@ -44,6 +44,8 @@ pub struct Bundle {
     pub extra: Option<Text>,
     /// How many hosts may run at once: 1 to 256.
     pub forks: u32,
+    /// Whether there is a program that gathers the facts of hosts.
+    pub has_facts_program: bool,
 }
 
 /// Why a play has no tree.

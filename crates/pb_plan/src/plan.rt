@@ -145,12 +145,13 @@ impl PlanPlay {
     }
 }
 
-/// The inventory, the plays in order, how many hosts may run at once, lines that tell what was odd in the bundle, the extra variables, and
-/// those that the plan gives by itself.
+/// The inventory, the plays in order, how many hosts may run at once, whether there is a facts program, lines that tell what was odd in the
+/// bundle, the extra variables, and those that the plan gives by itself, but for `hostvars`, which tells of what hosts learn in a run.
 pub struct Plan {
     inventory: Inventory,
     plays: Items<PlanPlay>,
     forks: u32,
+    has_facts_program: bool,
     warnings: Items<Text>,
     extra: Dict,
     magic: Dict,
@@ -162,6 +163,7 @@ impl Drop for Plan {
             inventory,
             plays,
             forks: _,
+            has_facts_program: _,
             warnings,
             extra,
             magic,
@@ -189,6 +191,7 @@ impl Model for Plan {
     ghost view = { λ p. record {
       plays = p.plays;
       forks = p.forks;
+      has_facts_program = p.has_facts_program;
       warnings = p.warnings;
       inventory = p.inventory;
       extra = p.extra;
@@ -208,6 +211,7 @@ impl Plan {
         inventory: Inventory,
         plays: Items<PlanPlay>,
         forks: u32,
+        has_facts_program: bool,
         warnings: Items<Text>,
         extra: Dict,
         magic: Dict,
@@ -218,6 +222,7 @@ impl Plan {
         ensures { result ≡ record {
           plays = plays;
           forks = forks;
+          has_facts_program = has_facts_program;
           warnings = warnings;
           inventory = inventory;
           extra = extra;
@@ -228,6 +233,7 @@ impl Plan {
             inventory,
             plays,
             forks,
+            has_facts_program,
             warnings,
             extra,
             magic,
@@ -277,6 +283,13 @@ impl Plan {
         self.forks
     }
 
+    /// Whether there is a program that gathers the facts of hosts.
+    pub fn has_facts_program(&self) -> bool
+        ensures { result ≡ self.now.has_facts_program }
+    {
+        self.has_facts_program
+    }
+
     /// The inventory, with its variables.
     pub fn inventory(&self) -> &Inventory
         ensures { result.now ≡ self.now.inventory }
@@ -291,7 +304,7 @@ impl Plan {
         &self.extra
     }
 
-    /// The variables that the plan gives by itself.
+    /// The variables that the plan gives by itself, but for `hostvars`.
     pub fn magic(&self) -> &Dict
         ensures { result.now ≡ self.now.magic }
     {

@@ -215,6 +215,7 @@ fn first_lines(
 fn plan_with(
     alloc: Global,
     forks: u32,
+    has_facts_program: bool,
     inventory: Inventory,
     extra: Dict,
     playbook: Playbook,
@@ -224,7 +225,7 @@ fn plan_with(
     requires bound { forks ≤ 256 }
     requires plays { length playbook.plays ≤ 256 }
     requires places { list_any has_too_many_places playbook.plays ≡ false }
-    ensures value { IfOk result (λ plan. IsPlanIn inventory extra limit.now forks playbook plan) }
+    ensures value { IfOk result (λ plan. IsPlanIn inventory extra limit.now forks has_facts_program playbook plan) }
     ensures fault { IfErr result (λ e. e ≡ BundleFault.Memory) }
 {
     let selected = limit_selects(alloc, &inventory, limit)?;
@@ -236,8 +237,16 @@ fn plan_with(
         playbook.plays,
         &mut lines,
     )?;
-    let magic = plan_magic(alloc, &inventory, &extra)?;
-    Ok(Plan::from_parts(inventory, plays, forks, lines, extra, magic))
+    let magic = plan_magic(alloc, &inventory)?;
+    Ok(Plan::from_parts(
+        inventory,
+        plays,
+        forks,
+        has_facts_program,
+        lines,
+        extra,
+        magic,
+    ))
 }
 
 impl Plan {
@@ -280,6 +289,14 @@ impl Plan {
         if some_too_large(playbook.plays.as_slice()) {
             return Err(BundleFault::Roles(RoleFault::TooLarge));
         }
-        plan_with(alloc, forks, inventory, extra, playbook, &limit)
+        plan_with(
+            alloc,
+            forks,
+            bundle.has_facts_program,
+            inventory,
+            extra,
+            playbook,
+            &limit,
+        )
     }
 }

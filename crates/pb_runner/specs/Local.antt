@@ -11,7 +11,7 @@ use Rattle.pb_value.specs.declared.fault.ValFault.{ValFault}
 use Rattle.pb_outcome.specs.Output.{stripped}
 use Rattle.pb_outcome.specs.Results.{is_nonzero}
 use Rattle.pb_outcome.specs.declared.cause.Cause.{Cause}
-use Rattle.pb_outcome.specs.declared.cause.Cause.TheVariants.{KilledBySignal, NotUtf8, TooLarge, FactsNotObject, OutOfMemory}
+use Rattle.pb_outcome.specs.declared.cause.Cause.TheVariants.{CannotStart, KilledBySignal, NotUtf8, TooLarge, FactsNotObject, OutOfMemory}
 use Rattle.pb_outcome.specs.declared.job.Call.{Call}
 use Rattle.pb_outcome.specs.declared.job.Call.TheVariants as calls
 use Rattle.pb_outcome.specs.declared.job.Job.{Job}
@@ -31,6 +31,12 @@ own_words facts (calls.Command words) = words
 own_words facts (calls.Shell text) = codes "/bin/sh" ∷ codes "-c" ∷ text ∷ []
 own_words (Some path) calls.Setup = path ∷ []
 own_words None calls.Setup = []
+
+-- what a runner with this facts program may give: what may come of the job, and of a call without words, as facts are without such a program, that it can't
+-- start, behind a connector too
+pub record LocalGives (facts : Option (List ℕ)) (job : Job) (outcome : Form) : Type 0 where
+  pub allowed : LocalAllows job outcome
+  pub unstarted : own_words facts job.call ≡ [] → outcome ≡ NotStarted CannotStart
 
 -- a connector's words and the target's name come in front
 abbrev pub in_front : List (List ℕ) → List ℕ → List (List ℕ)

@@ -1,7 +1,7 @@
 //! The runner of programs on this machine.
 ghost use Rattle.std.specs.Prelude.{◌≡◌, ◌↔◌, ◌⊎◌, [], IfOk, IsTrue};
 ghost use Rattle.pb_outcome.specs.declared.cause.Cause.TheVariants.{CannotStart, OutOfMemory};
-ghost use Rattle.pb_runner.specs.Local.{LocalAllows, own_words, words_of};
+ghost use Rattle.pb_runner.specs.Local.{LocalAllows, LocalGives, own_words, words_of};
 
 use crate::caught::Caught;
 use crate::command::Words;
@@ -80,6 +80,33 @@ impl<R: Processes<Started = SystemProcess>> LocalRunner<R> {
         Ok(words)
     }
 
+    /// What comes of a job: where its call has no words nothing is started, behind a connector too.
+    fn outcome_of(&self, alloc: Global, job: &Job) -> Outcome
+        ensures allowed { LocalAllows job.now result }
+        ensures given { LocalGives self.now job.now result }
+    {
+        if self.is_empty(&job.call) {
+            return Outcome::not_started(Cause::CannotStart);
+        }
+        self.started(alloc, job)
+    }
+
+    /// Starts a job's program and waits for its end.
+    fn started(&self, alloc: Global, job: &Job) -> Outcome
+        ensures { LocalAllows job.now result }
+    {
+        let Ok(words) = self.words(alloc, job) else {
+            return Outcome::not_started(Cause::OutOfMemory);
+        };
+        let Some(command) = words.into_command() else {
+            return Outcome::not_started(Cause::CannotStart);
+        };
+        match self.start(command) {
+            Ok(child) => finished(alloc, job, child),
+            Err(error) => Outcome::not_started(refused(&error)),
+        }
+    }
+
     /// Starts a command without input, with its two output streams to be read.
     fn start(&self, mut command: Command) -> io::Result<Child> {
         command.stdin(Stdio::null());
@@ -129,21 +156,9 @@ impl<R> Allows for LocalRunner<R> {
 }
 
 impl<R: Processes<Started = SystemProcess>> Runner for LocalRunner<R> {
-    ghost gives = { λ _ job outcome. LocalAllows job outcome };
+    ghost gives = { LocalGives };
 
     fn run(&mut self, alloc: Global, job: &Job) -> Outcome {
-        if self.is_empty(&job.call) {
-            return Outcome::not_started(Cause::CannotStart);
-        }
-        let Ok(words) = self.words(alloc, job) else {
-            return Outcome::not_started(Cause::OutOfMemory);
-        };
-        let Some(command) = words.into_command() else {
-            return Outcome::not_started(Cause::CannotStart);
-        };
-        match self.start(command) {
-            Ok(child) => finished(alloc, job, child),
-            Err(error) => Outcome::not_started(refused(&error)),
-        }
+        self.outcome_of(alloc, job)
     }
 }

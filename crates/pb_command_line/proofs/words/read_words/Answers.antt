@@ -15,6 +15,7 @@ returns-in_ok-from_str-in-Ok-2-clause-value c =
       found_read _ c.in-Ok.matches _ (codes "outcomes") _ is parsed.matches (sym c.in_ok-outcomes-in-Ok.ensures),
       found_read _ c.in-Ok.matches _ (codes "limit") _ is parsed.matches (sym c.in_ok-limit-in-Ok.ensures),
       found_read _ c.in-Ok.matches _ (codes "extra") _ is parsed.matches (sym c.in_ok-extra-in-Ok.ensures),
+      found_read _ c.in-Ok.matches _ (codes "facts_program") _ is parsed.matches (sym c.in_ok-facts_program-in-Ok.ensures),
       purpose_read _ c.in-Ok.matches _ _ is parsed.matches c.purpose_in.ensures,
     )
 
