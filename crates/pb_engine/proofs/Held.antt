@@ -18,9 +18,9 @@ use Rattle.pb_state.specs.declared.event.Event.{Event}
 use Rattle.pb_state.specs.declared.event.Event.TheVariants.{Open, Start, Send, Report as Reported, Turn, Close, Stop, Forks}
 use Rattle.pb_state.specs.declared.row.Running.{Running}
 use Rattle.pb_plan.specs.Plan.{PlayOf, PlanOf}
-use Rattle.pb_state.specs.Row.{HostRow, first_rows, joined, place_of, next_place, finished, task_at, items_after, progressed, sent, sent_running, reported, reported_running, left}
+use Rattle.pb_state.specs.Row.{HostRow, first_rows, joined, place_of, next_place, finished, task_at, taught, items_after, progressed, sent, sent_running, reported, reported_running, left}
 use Rattle.pb_state.specs.State.{State}
-use Rattle.pb_state.specs.Machine.{possible, after, change, at_row, open_play, same_place, stands_at, has_room, may_start_in, may_send_in, next_play, opened_in, opened_at, started_in, start_at, sent_in, reported_in, turned_in, first_state}
+use Rattle.pb_state.specs.Machine.{possible, after, change, at_row, open_play, same_place, stands_at, has_room, may_start_in, may_send_in, next_play, opened_in, opened_at, started_in, facts_at, plan_seen, start_at, sent_in, reported_in, turned_in, first_state}
 use Rattle.pb_state.specs.Results.{items_at}
 use Rattle.pb_state.specs.Run.{legal_from, state_from, IsRun}
 use Rattle.pb_state.proofs.Opening.{length-first}
@@ -102,7 +102,7 @@ held_more size sends (row ∷ rows) held = (task_more size sends row.running hel
 progressed_held : (p size sends : ℕ) (play : PlayOf) (items : List Item) (row : HostRow) → p < size → IsHeldTask size sends (progressed play p items row).running
 progressed_held p size sends play items row below = by_over (is_over items) refl
   where
-    by_over : (over : Bool) → is_over items ≡ over → IsHeldTask size sends (if over then finished p (task_at play p items) row else record row { running = Some (record { place = p; items = items; out = None }) }).running
+    by_over : (over : Bool) → is_over items ≡ over → IsHeldTask size sends (if over then finished p (task_at play p items) (taught play p items row.facts) row else record row { running = Some (record { place = p; items = items; out = None }) }).running
     by_over true e = tt
     by_over false e = (below, tt, e)
 
@@ -135,8 +135,8 @@ start_open plan s h play (Some p) = refl
 start_tasks : (plan : PlanOf) (s : State) (h : ℕ) (play : PlayOf) (place : Option ℕ) → AreHeld (size_of play.tree) s.sends s.rows → AllIn play.tree s.rows → at_row (stands_at place) s.rows h ≡ true → AreHeld (size_of play.tree) (option_map_or (start_at plan s h play) place s).sends (option_map_or (start_at plan s h play) place s).rows
 start_tasks plan s h play None held all e = held
 start_tasks plan s h play (Some p) held all e =
-    held_change (size_of play.tree) s.sends (progressed play p (items_at plan play h p))
-    (λ row held. progressed_held p (size_of play.tree) s.sends play (items_at plan play h p) row (place_at play.tree p s.rows h all e)) s.rows h held
+    held_change (size_of play.tree) s.sends (progressed play p (items_at (plan_seen plan s) play h (facts_at s h) p))
+    (λ row held. progressed_held p (size_of play.tree) s.sends play (items_at (plan_seen plan s) play h (facts_at s h) p) row (place_at play.tree p s.rows h all e)) s.rows h held
 
 start_hosts : (plan : PlanOf) (s : State) (h : ℕ) (play : PlayOf) (place : Option ℕ) → length (option_map_or (start_at plan s h play) place s).rows ≡ length s.rows
 start_hosts plan s h play None = refl
@@ -167,18 +167,18 @@ sent_in_held plan s h item ticket (Some play) o held e =
     }
 
 -- a report
-reported_held : (play : PlayOf) (outcome : Form) (size sends : ℕ) (row : HostRow) → IsHeldTask size sends row.running → IsHeldTask size sends (reported play outcome row).running
-reported_held play outcome size sends row held = by_running row.running held
+reported_held : (plan : PlanOf) (play : PlayOf) (outcome : Form) (size sends : ℕ) (row : HostRow) → IsHeldTask size sends row.running → IsHeldTask size sends (reported plan play outcome row).running
+reported_held plan play outcome size sends row held = by_running row.running held
   where
-    by_running : (running : Option Running) → IsHeldTask size sends running → IsHeldTask size sends (option_map_or (reported_running play outcome row) running row).running
+    by_running : (running : Option Running) → IsHeldTask size sends running → IsHeldTask size sends (option_map_or (reported_running plan play outcome row) running row).running
     by_running None task = held
-    by_running (Some r) task = progressed_held r.place size sends play (items_after outcome r) row task.0
+    by_running (Some r) task = progressed_held r.place size sends play (items_after plan play row.host row.facts outcome r) row task.0
 
-reported_in_held : (plan : PlanOf) (s : State) (r : Report) (found : Option PlayOf) → open_play plan s ≡ found → IsHeld plan s → IsHeld plan (option_map_or (reported_in s r) found s)
+reported_in_held : (plan : PlanOf) (s : State) (r : Report) (found : Option PlayOf) → open_play plan s ≡ found → IsHeld plan s → IsHeld plan (option_map_or (reported_in plan s r) found s)
 reported_in_held plan s r None o held = held
 reported_in_held plan s r (Some play) o held = record {
-  hosts = length-change s.rows r.host.0 (reported play r.outcome) ∙ held.hosts;
-  tasks = held_change (places_in (open_play plan s)) s.sends (reported play r.outcome) (λ row task. reported_held play r.outcome (places_in (open_play plan s)) s.sends row task) s.rows r.host.0 held.tasks;
+  hosts = length-change s.rows r.host.0 (reported (plan_seen plan s) play r.outcome) ∙ held.hosts;
+  tasks = held_change (places_in (open_play plan s)) s.sends (reported (plan_seen plan s) play r.outcome) (λ row task. reported_held (plan_seen plan s) play r.outcome (places_in (open_play plan s)) s.sends row task) s.rows r.host.0 held.tasks;
 }
 
 -- the others
@@ -218,7 +218,14 @@ held_run plan pool trail s run =
     subst (IsHeld plan) run.ends
     (held_from plan (first_state plan plan.forks pool) trail run.legal (first_of plan plan.forks pool) (record { hosts = length-first 0 (length plan.inventory.hosts); tasks = none_first _ 0 0 (length plan.inventory.hosts) }))
 
--- so each task that runs goes on
+-- so there is a row for each host
+pub hosts_run : (plan : PlanOf) (pool : ℕ) (trail : List Event) (s : State) → IsRun plan pool trail s → length s.rows ≡ length plan.inventory.hosts
+hosts_run plan pool trail s run = (held_run plan pool trail s run).hosts
+
+pub host_has_row : (plan : PlanOf) (pool : ℕ) (trail : List Event) (s : State) (h : ℕ) → IsRun plan pool trail s → h < length plan.inventory.hosts → h < length s.rows
+host_has_row plan pool trail s h run b = omega (arith, b, hosts_run plan pool trail s run)
+
+-- and each task that runs goes on
 unfinished_row : (size sends : ℕ) (running : Option Running) → IsHeldTask size sends running → IsUnfinished running
 unfinished_row size sends None held = tt
 unfinished_row size sends (Some r) held = held.2

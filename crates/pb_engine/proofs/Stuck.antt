@@ -88,7 +88,7 @@ sent_placed plan s h item ticket (Some play) here placed may =
     let wrong = no_more (not s.stopped) (ticket.0 == s.sends) (at_row (may_send_item item) s.rows h) may (none_runs (may_send_item item) (λ row e. idle_sends item row.running e) s.rows h (before none).1) in
     cc)
 
-reported_placed : (plan : PlanOf) (s : State) (r : Report) (found : Option PlayOf) → open_play plan s ≡ found → IsPlaced plan s → option_map_or (may_report_in s r) found false ≡ true → IsPlaced plan (option_map_or (reported_in s r) found s)
+reported_placed : (plan : PlanOf) (s : State) (r : Report) (found : Option PlayOf) → open_play plan s ≡ found → IsPlaced plan s → option_map_or (may_report_in s r) found false ≡ true → IsPlaced plan (option_map_or (reported_in plan s r) found s)
 reported_placed plan s r None here placed may = placed
 reported_placed plan s r (Some play) here placed may =
     rw here

@@ -3,7 +3,7 @@
 ghost use Rattle.std.specs.Prelude.{◌≡◌, ◌≢◌, ◌≤◌, ◌<◌, ◌++◌, ◌∷◌, [], length, true, false, IfOk, OnOk, OnErr, IfErr, Ok, Err, Some, None};
 ghost use Rattle.std.specs.Prelude.{◌-◌, slice_get};
 ghost use Rattle.std.specs.Option.{option_copied};
-ghost use Rattle.pb_state.specs.Machine.{possible, after, first_state};
+ghost use Rattle.pb_state.specs.Machine.{possible, after, first_state, facts_at};
 ghost use Rattle.pb_state.specs.Once.{IsOnce};
 ghost use Rattle.pb_state.specs.Run.{IsRun, is_command};
 ghost use Rattle.pb_state.specs.Work.{work};
@@ -16,6 +16,8 @@ use crate::choice::{Choice, choose};
 use crate::fault::EngineFault;
 use crate::picker::Picker;
 use crate::refusal::{Refusal, refusal_for};
+use pb_facts::facts::Facts;
+use pb_ids::HostNo;
 use pb_outcome::job::{Job, Report};
 use pb_planes::HostSet;
 use pb_recap::Recap;
@@ -157,6 +159,15 @@ impl Engine {
         ensures run { IsSound self.now }
     {
         &self.state
+    }
+
+    /// What a host has learnt: the layers of variables of its facts, and of what was set and registered for it.
+    #[tactic(auto, using(crate::proofs::Held::host_has_row))]
+    pub fn facts(&self, host: HostNo) -> &Facts
+        requires { host.0 < length self.now.plan.inventory.hosts }
+        ensures { result.now ≡ facts_at self.now.state host.0 }
+    {
+        self.state.facts(host)
     }
 
     /// The events so far, in order. They do nothing twice.

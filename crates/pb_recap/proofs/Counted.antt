@@ -15,10 +15,10 @@ use Rattle.pb_state.specs.declared.event.Event.TheVariants.{Open, Start, Send, R
 use Rattle.pb_state.specs.declared.row.Counts.{Counts}
 use Rattle.pb_state.specs.declared.row.Running.{Running}
 use Rattle.pb_plan.specs.Plan.{PlayOf, PlanOf}
-use Rattle.pb_state.specs.Row.{HostRow, first_rows, next_place, joined, left, finished, ignores_at, task_at, items_after, progressed, sent, reported, reported_running}
+use Rattle.pb_state.specs.Row.{HostRow, first_rows, next_place, joined, left, finished, ignores_at, task_at, taught, items_after, progressed, sent, reported, reported_running}
 use Rattle.pb_state.specs.State.{State}
 use Rattle.pb_state.specs.Results.{items_at}
-use Rattle.pb_state.specs.Machine.{change, open_play, possible, after, first_state, next_play, opened_in, opened_at, started_in, start_at, start_with, sent_in, reported_in, done_at, done_if, report_decides, decided_by, turned_in, may_start_in, may_report_in, at_row, stands_at, same_place, has_room}
+use Rattle.pb_state.specs.Machine.{change, open_play, possible, after, first_state, next_play, opened_in, opened_at, started_in, facts_at, plan_seen, start_at, start_with, sent_in, reported_in, done_at, done_if, report_decides, decided_by, turned_in, may_start_in, may_report_in, at_row, stands_at, same_place, has_room}
 use Rattle.pb_state.specs.Run.{legal_from, state_from, IsRun}
 use Rattle.pb_state.proofs.Opening.{length-first}
 use Rattle.pb_recap.specs.declared.kind.CountKind.{CountKind}
@@ -85,7 +85,7 @@ items_add kind play p items = if is_over items then one (counts_under kind (task
 progressed_row : (kind : CountKind) (play : PlayOf) (p : ℕ) (items : List Item) (row : HostRow) → count_of kind (progressed play p items row).counts ≡ items_add kind play p items + count_of kind row.counts
 progressed_row kind play p items row = by_over (is_over items)
   where
-    by_over : (over : Bool) → count_of kind (if over then finished p (task_at play p items) row else record row { running = Some (record { place = p; items = items; out = None }) }).counts
+    by_over : (over : Bool) → count_of kind (if over then finished p (task_at play p items) (taught play p items row.facts) row else record row { running = Some (record { place = p; items = items; out = None }) }).counts
         ≡ (if over then one (counts_under kind (task_at play p items)) else 0) + count_of kind row.counts
     by_over true = task_counts (ignores_at play p) items row.counts kind
     by_over false = none_more (count_of kind row.counts)
@@ -118,7 +118,7 @@ no_start true (Some row) e = no_same _ (next_place row) e
 start_counts : (kind : CountKind) (plan : PlanOf) (s : State) (h k : ℕ) (play : PlayOf) (place : Option ℕ) → k < length s.rows → (has_room s && at_row (stands_at place) s.rows h) ≡ true
     → row_count kind (option_map_or (start_at plan s h play) place s).rows k ≡ counted k kind (ended_in (option_map_or (start_at plan s h play) place s) h) + row_count kind s.rows k
 start_counts kind plan s h k play None b may = absurd (no_start (has_room s) (slice_get s.rows h) may)
-start_counts kind plan s h k play (Some p) b may = start_with_counts kind s h k play p (items_at plan play h p) b
+start_counts kind plan s h k play (Some p) b may = start_with_counts kind s h k play p (items_at (plan_seen plan s) play h (facts_at s h) p) b
 
 started_counts : (kind : CountKind) (plan : PlanOf) (s : State) (h k : ℕ) (found : Option PlayOf) → k < length s.rows → option_map_or (may_start_in s h) found false ≡ true
     → row_count kind (option_map_or (started_in plan s h) found s).rows k ≡ counted k kind (ended_in (option_map_or (started_in plan s h) found s) h) + row_count kind s.rows k
@@ -135,32 +135,32 @@ sent_counts kind s h k ticket (Some play) b =
     changed_count kind (sent ticket) 0 s.rows h k b (λ row e. sent_row kind ticket row) ∙ ap (λ n. n + row_count kind s.rows k) (sym (none_if (h == k)))
 
 -- a report counts where it ends the task that waited for it
-abbrev report_adds : CountKind → PlayOf → Form → Option Running → ℕ
-report_adds kind play outcome None = 0
-report_adds kind play outcome (Some r) = items_add kind play r.place (items_after outcome r)
+abbrev report_adds : CountKind → PlanOf → PlayOf → Form → HostRow → Option Running → ℕ
+report_adds kind plan play outcome row None = 0
+report_adds kind plan play outcome row (Some r) = items_add kind play r.place (items_after plan play row.host row.facts outcome r)
 
-report_row : (kind : CountKind) (play : PlayOf) (outcome : Form) (row : HostRow) (running : Option Running)
-    → count_of kind (option_map_or (reported_running play outcome row) running row).counts ≡ report_adds kind play outcome running + count_of kind row.counts
-report_row kind play outcome row None = none_more (count_of kind row.counts)
-report_row kind play outcome row (Some r) = progressed_row kind play r.place (items_after outcome r) row
+report_row : (kind : CountKind) (plan : PlanOf) (play : PlayOf) (outcome : Form) (row : HostRow) (running : Option Running)
+    → count_of kind (option_map_or (reported_running plan play outcome row) running row).counts ≡ report_adds kind plan play outcome row running + count_of kind row.counts
+report_row kind plan play outcome row None = none_more (count_of kind row.counts)
+report_row kind plan play outcome row (Some r) = progressed_row kind play r.place (items_after plan play row.host row.facts outcome r) row
 
-report_told : (kind : CountKind) (play : PlayOf) (outcome : Form) (h k : ℕ) (running : Option Running)
-    → counted k kind (option_map_or (ended_by h) (option_map (decided_by play outcome) running) None) ≡ added (report_adds kind play outcome running) h k
-report_told kind play outcome h k None = none_if (h == k)
-report_told kind play outcome h k (Some r) = progressed_told kind play r.place (items_after outcome r) h k
+report_told : (kind : CountKind) (plan : PlanOf) (play : PlayOf) (outcome : Form) (h k : ℕ) (row : HostRow) (running : Option Running)
+    → counted k kind (option_map_or (ended_by h) (option_map (decided_by plan play outcome row) running) None) ≡ added (report_adds kind plan play outcome row running) h k
+report_told kind plan play outcome h k row None = none_if (h == k)
+report_told kind plan play outcome h k row (Some r) = progressed_told kind play r.place (items_after plan play row.host row.facts outcome r) h k
 
-report_counts : (kind : CountKind) (play : PlayOf) (outcome : Form) (rows : List HostRow) (h k : ℕ) (found : Option HostRow) → slice_get rows h ≡ found → k < length rows
-    → row_count kind (change rows h (reported play outcome)) k ≡ counted k kind (option_map_or (ended_by h) (option_map_or (report_decides play outcome) found None) None) + row_count kind rows k
-report_counts kind play outcome rows h k None e b = rw (change_none rows h (reported play outcome) e) (none_more (row_count kind rows k))
-report_counts kind play outcome rows h k (Some row) e b =
-    changed_count kind (reported play outcome) (report_adds kind play outcome row.running) rows h k b
-    (λ r q. let same : r ≡ row = cc in rw same (report_row kind play outcome row row.running))
-    ∙ ap (λ n. n + row_count kind rows k) (sym (report_told kind play outcome h k row.running))
+report_counts : (kind : CountKind) (plan : PlanOf) (play : PlayOf) (outcome : Form) (rows : List HostRow) (h k : ℕ) (found : Option HostRow) → slice_get rows h ≡ found → k < length rows
+    → row_count kind (change rows h (reported plan play outcome)) k ≡ counted k kind (option_map_or (ended_by h) (option_map_or (report_decides plan play outcome) found None) None) + row_count kind rows k
+report_counts kind plan play outcome rows h k None e b = rw (change_none rows h (reported plan play outcome) e) (none_more (row_count kind rows k))
+report_counts kind plan play outcome rows h k (Some row) e b =
+    changed_count kind (reported plan play outcome) (report_adds kind plan play outcome row row.running) rows h k b
+    (λ r q. let same : r ≡ row = cc in rw same (report_row kind plan play outcome row row.running))
+    ∙ ap (λ n. n + row_count kind rows k) (sym (report_told kind plan play outcome h k row row.running))
 
-reported_counts : (kind : CountKind) (s : State) (r : Report) (k : ℕ) (found : Option PlayOf) → k < length s.rows → option_map_or (may_report_in s r) found false ≡ true
-    → row_count kind (option_map_or (reported_in s r) found s).rows k ≡ counted k kind (ended_in (option_map_or (reported_in s r) found s) r.host.0) + row_count kind s.rows k
-reported_counts kind s r k None b may = cc
-reported_counts kind s r k (Some play) b may = report_counts kind play r.outcome s.rows r.host.0 k (slice_get s.rows r.host.0) refl b
+reported_counts : (kind : CountKind) (plan : PlanOf) (s : State) (r : Report) (k : ℕ) (found : Option PlayOf) → k < length s.rows → option_map_or (may_report_in s r) found false ≡ true
+    → row_count kind (option_map_or (reported_in plan s r) found s).rows k ≡ counted k kind (ended_in (option_map_or (reported_in plan s r) found s) r.host.0) + row_count kind s.rows k
+reported_counts kind plan s r k None b may = cc
+reported_counts kind plan s r k (Some play) b may = report_counts kind (plan_seen plan s) play r.outcome s.rows r.host.0 k (slice_get s.rows r.host.0) refl b
 
 opened_counts : (kind : CountKind) (s : State) (n k : ℕ) (found : Option PlayOf) → row_count kind (option_map_or (opened_in s n) found s).rows k ≡ row_count kind s.rows k
 opened_counts kind s n k None = refl
@@ -180,7 +180,7 @@ step_counts : (plan : PlanOf) (s : State) (e : Event) (k : ℕ) (kind : CountKin
 step_counts plan s Open k kind b may = next_counts kind plan s k (next_play plan s) ∙ none_more (row_count kind s.rows k)
 step_counts plan s (Start h) k kind b may = started_counts kind plan s h.0 k (open_play plan s) b may
 step_counts plan s (Send h item ticket) k kind b may = sent_counts kind s h.0 k ticket (open_play plan s) b
-step_counts plan s (Reported r) k kind b may = reported_counts kind s r k (open_play plan s) b may
+step_counts plan s (Reported r) k kind b may = reported_counts kind plan s r k (open_play plan s) b may
 step_counts plan s Turn k kind b may = turned_counts kind s k (open_play plan s) ∙ none_more (row_count kind s.rows k)
 step_counts plan s Close k kind b may = left_keeps kind s.rows k ∙ none_more (row_count kind s.rows k)
 step_counts plan s Stop k kind b may = none_more (row_count kind s.rows k)
@@ -196,7 +196,7 @@ change_hosts rows h f = changed_hosts rows h f (slice_get rows h)
 
 start_hosts : (plan : PlanOf) (s : State) (h : ℕ) (play : PlayOf) (place : Option ℕ) → length (option_map_or (start_at plan s h play) place s).rows ≡ length s.rows
 start_hosts plan s h play None = refl
-start_hosts plan s h play (Some p) = change_hosts s.rows h (progressed play p (items_at plan play h p))
+start_hosts plan s h play (Some p) = change_hosts s.rows h (progressed play p (items_at (plan_seen plan s) play h (facts_at s h) p))
 
 started_hosts : (plan : PlanOf) (s : State) (h : ℕ) (found : Option PlayOf) → length (option_map_or (started_in plan s h) found s).rows ≡ length s.rows
 started_hosts plan s h None = refl
@@ -206,9 +206,9 @@ sent_hosts : (s : State) (h : ℕ) (ticket : Ticket) (found : Option PlayOf) →
 sent_hosts s h ticket None = refl
 sent_hosts s h ticket (Some play) = change_hosts s.rows h (sent ticket)
 
-reported_hosts : (s : State) (r : Report) (found : Option PlayOf) → length (option_map_or (reported_in s r) found s).rows ≡ length s.rows
-reported_hosts s r None = refl
-reported_hosts s r (Some play) = change_hosts s.rows r.host.0 (reported play r.outcome)
+reported_hosts : (plan : PlanOf) (s : State) (r : Report) (found : Option PlayOf) → length (option_map_or (reported_in plan s r) found s).rows ≡ length s.rows
+reported_hosts plan s r None = refl
+reported_hosts plan s r (Some play) = change_hosts s.rows r.host.0 (reported (plan_seen plan s) play r.outcome)
 
 opened_hosts : (s : State) (n : ℕ) (found : Option PlayOf) → length (option_map_or (opened_in s n) found s).rows ≡ length s.rows
 opened_hosts s n None = refl
@@ -226,7 +226,7 @@ step_hosts : (plan : PlanOf) (s : State) (e : Event) → length (after plan s e)
 step_hosts plan s Open = next_hosts plan s (next_play plan s)
 step_hosts plan s (Start h) = started_hosts plan s h.0 (open_play plan s)
 step_hosts plan s (Send h item ticket) = sent_hosts s h.0 ticket (open_play plan s)
-step_hosts plan s (Reported r) = reported_hosts s r (open_play plan s)
+step_hosts plan s (Reported r) = reported_hosts plan s r (open_play plan s)
 step_hosts plan s Turn = turned_hosts s (open_play plan s)
 step_hosts plan s Close = length-map s.rows left
 step_hosts plan s Stop = refl

@@ -191,20 +191,20 @@ with_there : (items : List Item) (n : ℕ) (step : Planned) (item : Item) (found
 with_there items n step item found e f = rw (e ∙ f) refl
 
 pub back_step : (judge : Item → Call → ItemResult) (items : List Item) (n : ℕ) (call : Call) (result : ItemResult) → next_item items ≡ Some n → call_in items n ≡ Some call
-    → ((item : Item) → result ≡ judge item call) → with_step n (Decided result) items ≡ back_in judge items
+    → ((item : Item) → slice_get items n ≡ Some item → result ≡ judge item call) → with_step n (Decided result) items ≡ back_in judge items
 back_step judge items n call result next calls is =
     let sent = is_sent items n call calls in
     let first = next_is items n next in
     with_there items n (Decided result) sent.item (slice_get items n) refl sent.there
-    ∙ ap (λ (r : ItemResult). slice_set items n (record sent.item { step = Decided r })) (is sent.item)
+    ∙ ap (λ (r : ItemResult). slice_set items n (record sent.item { step = Decided r })) (is sent.item sent.there)
     ∙ sym (back_set judge items n sent.item call first.0 sent.there sent.step)
 
 pub lost_step : (judge : Item → Call → ItemResult) (items : List Item) (n : ℕ) (call : Call) (result : ItemResult) → next_item items ≡ Some n → call_in items n ≡ Some call
-    → ((item : Item) → result ≡ judge item call) → some_unreachable (ended (back_in judge items)) ≡ (some_unreachable (ended items) || is_unreachable result.ending)
+    → ((item : Item) → slice_get items n ≡ Some item → result ≡ judge item call) → some_unreachable (ended (back_in judge items)) ≡ (some_unreachable (ended items) || is_unreachable result.ending)
 lost_step judge items n call result next calls is =
     let sent = is_sent items n call calls in
     let first = next_is items n next in
-    lost_set judge items n sent.item call first.0 sent.there sent.step ∙ ap (λ (r : ItemResult). some_unreachable (ended items) || is_unreachable r.ending) (sym (is sent.item))
+    lost_set judge items n sent.item call first.0 sent.there sent.step ∙ ap (λ (r : ItemResult). some_unreachable (ended items) || is_unreachable r.ending) (sym (is sent.item sent.there))
 
 -- the next item has a call
 waits_there : (items : List Item) → first_waiting items < length items → (call : Call) × (call_in items (first_waiting items) ≡ Some call)
@@ -233,13 +233,13 @@ put_later items n result e =
     let is = next_is items n e in
     let found = has_call items n e in
     let later = back_later (λ item call. result) items (omega (arith, is.0, is.1)) in
-    rw (back_step (λ item call. result) items n found.0 result e found.1 (λ item. refl)) (omega (arith, later, is.0))
+    rw (back_step (λ item call. result) items n found.0 result e found.1 (λ item there. refl)) (omega (arith, later, is.0))
 
 pub put_lost : (items : List Item) (n : ℕ) (result : ItemResult) → next_item items ≡ Some n
     → some_unreachable (ended (with_step n (Decided result) items)) ≡ (some_unreachable (ended items) || is_unreachable result.ending)
 put_lost items n result e =
     let found = has_call items n e in
-    rw (back_step (λ item call. result) items n found.0 result e found.1 (λ item. refl)) (lost_step (λ item call. result) items n found.0 result e found.1 (λ item. refl))
+    rw (back_step (λ item call. result) items n found.0 result e found.1 (λ item there. refl)) (lost_step (λ item call. result) items n found.0 result e found.1 (λ item there. refl))
 
 pub back_nothing : (judge : Item → Call → ItemResult) (items : List Item) → next_item items ≡ None → items ≡ back_in judge items
 back_nothing judge items e = sym (back_none judge items (none_is items e))

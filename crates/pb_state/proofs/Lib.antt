@@ -1,5 +1,7 @@
 pub mod InOrder
 pub mod FewItems
+pub mod ReadHosts
+pub mod Joined
 pub mod Layered
 pub mod Least
 pub mod Opening
@@ -9,6 +11,7 @@ pub mod Steps
 pub mod WorkFalls
 pub mod Walked
 pub mod Counting
+pub mod Asked
 pub mod Within
 pub mod Overwritten
 pub mod Numbered

@@ -14,6 +14,7 @@ use Rattle.pb_tree.specs.Answer.{AnswerOf}
 use Rattle.pb_tree.specs.Laws.{counts, IsAbove}
 use Rattle.pb_tree.specs.Walk.{reach, is_halted}
 use Rattle.pb_tree.proofs.Rise.{places_rise}
+use Rattle.pb_facts.specs.Facts.{FactsOf}
 use Rattle.pb_outcome.specs.declared.gather.TaskResult.{TaskResult}
 use Rattle.pb_outcome.specs.declared.item.Item.{Item}
 use Rattle.pb_outcome.specs.declared.job.Report.{Report}
@@ -23,11 +24,11 @@ use Rattle.pb_state.specs.declared.event.Event.{Event}
 use Rattle.pb_state.specs.declared.event.Event.TheVariants.{Open, Start, Send, Report as Reported, Turn, Close, Stop, Forks}
 use Rattle.pb_state.specs.declared.row.Running.{Running}
 use Rattle.pb_plan.specs.Plan.{PlayOf, PlanOf}
-use Rattle.pb_state.specs.Row.{HostRow, place_of, next_place, joined, failed_kind, kind_of, answer_of, finished, task_at, came_back, items_after, progressed, sent, sent_running, reported, reported_running}
+use Rattle.pb_state.specs.Row.{HostRow, place_of, next_place, joined, failed_kind, kind_of, answer_of, finished, task_at, taught, came_back, items_after, progressed, sent, sent_running, reported, reported_running}
 use Rattle.pb_state.specs.State.{State}
 use Rattle.pb_state.specs.Kept.{first_waiting}
 use Rattle.pb_state.specs.Results.{items_at}
-use Rattle.pb_state.specs.Machine.{possible, after, change, at_row, open_play, next_play, same_place, stands_at, is_running, has_room, is_ticket, sends_running, may_send_item, awaits_running, awaits, may_start_in, may_send_in, may_report_in, opened_in, opened_at as opened_from, started_in, start_at, sent_in, reported_in, turned_in, first_state}
+use Rattle.pb_state.specs.Machine.{possible, after, change, at_row, open_play, next_play, same_place, stands_at, is_running, has_room, is_ticket, sends_running, may_send_item, awaits_running, awaits, may_start_in, may_send_in, may_report_in, opened_in, opened_at as opened_from, started_in, facts_at, plan_seen, start_at, sent_in, reported_in, turned_in, first_state}
 use Rattle.pb_state.specs.Run.{legal_from, IsRun}
 use Rattle.pb_state.proofs.FewItems.{few_items}
 use Rattle.pb_state.proofs.InOrder.{first_most, is_next_so, length_back, back_later}
@@ -86,16 +87,16 @@ all_count false halted e = refl
 answer_counts : (answers : List AnswerOf) (task : TaskResult) → counts answers (answer_of task) ≡ true
 answer_counts answers task = all_count (list_any (λ (b : AnswerOf). is_halted b.kind) answers) (is_halted (kind_of task)) (kind_counts task.unreachable (task.failed && not task.ignored))
 
-finished_from : (n p : ℕ) (task : TaskResult) (row : HostRow) → reach row.tree row.answers ≡ At p → n ≤ 10002 * p + 10002 → RowFrom n (finished p task row)
-finished_from n p task row e l =
+finished_from : (n p : ℕ) (task : TaskResult) (facts : FactsOf) (row : HostRow) → reach row.tree row.answers ≡ At p → n ≤ 10002 * p + 10002 → RowFrom n (finished p task facts row)
+finished_from n p task facts row e l =
     above_from n p (reach row.tree (row.answers ++ answer_of task ∷ [])) (places_rise row.tree row.answers (answer_of task) p e (answer_counts row.answers task)) l
 
 progressed_from : (n p : ℕ) (play : PlayOf) (items : List Item) (row : HostRow) → reach row.tree row.answers ≡ At p → n ≤ 10002 * p + first_waiting items + 1 → length items ≤ 10000
     → RowFrom n (progressed play p items row)
 progressed_from n p play items row e l few = by_over (is_over items)
   where
-    by_over : (over : Bool) → RowFrom n (if over then finished p (task_at play p items) row else record row { running = Some (record { place = p; items = items; out = None }) })
-    by_over true = let most = first_most items in finished_from n p (task_at play p items) row e (omega (arith, l, few, most))
+    by_over : (over : Bool) → RowFrom n (if over then finished p (task_at play p items) (taught play p items row.facts) row else record row { running = Some (record { place = p; items = items; out = None }) })
+    by_over true = let most = first_most items in finished_from n p (task_at play p items) (taught play p items row.facts) row e (omega (arith, l, few, most))
     by_over false = (e, l, few)
 
 same_is : (a b : Option ℕ) → same_place a b ≡ true → (p : ℕ) × (a ≡ Some p) × (b ≡ Some p)
@@ -156,17 +157,18 @@ behind_most None = omega arith
 behind_most (Some ticket) = omega arith
 
 -- the item that comes back is behind the host then
-reported_from : (n : ℕ) (play : PlayOf) (outcome : Form) (ticket : Ticket) (item : ℕ) (row : HostRow) → awaits ticket item row ≡ true → RowFrom n row → RowFrom n (reported play outcome row)
-reported_from n play outcome ticket item row e w = by_running row.running e w
+reported_from : (n : ℕ) (plan : PlanOf) (play : PlayOf) (outcome : Form) (ticket : Ticket) (item : ℕ) (row : HostRow) → awaits ticket item row ≡ true → RowFrom n row → RowFrom n (reported plan play outcome row)
+reported_from n plan play outcome ticket item row e w = by_running row.running e w
   where
-    by_running : (running : Option Running) → option_map_or (awaits_running ticket item) running false ≡ true → RunsFrom n row running → RowFrom n (option_map_or (reported_running play outcome row) running row)
+    by_running : (running : Option Running) → option_map_or (awaits_running ticket item) running false ≡ true → RunsFrom n row running → RowFrom n (option_map_or (reported_running plan play outcome row) running row)
     by_running None s v = cc
     by_running (Some r) s v =
         let first = is_next_so item r.items (and_right (is_ticket ticket r.out) _ s) in
-        let later : first_waiting r.items + 1 ≤ first_waiting (items_after outcome r) = back_later (came_back outcome) r.items (omega (arith, first.0, first.1)) in
-        let same : length (items_after outcome r) ≡ length r.items = length_back (came_back outcome) r.items in
+        let later : first_waiting r.items + 1 ≤ first_waiting (items_after plan play row.host row.facts outcome r) =
+        back_later (came_back plan play row.host row.facts r.place outcome) r.items (omega (arith, first.0, first.1)) in
+        let same : length (items_after plan play row.host row.facts outcome r) ≡ length r.items = length_back (came_back plan play row.host row.facts r.place outcome) r.items in
         let most = behind_most r.out in
-        progressed_from n r.place play (items_after outcome r) row v.0 (omega (arith, v.1, later, most)) (omega (arith, same, v.2))
+        progressed_from n r.place play (items_after plan play row.host row.facts outcome r) row v.0 (omega (arith, v.1, later, most)) (omega (arith, same, v.2))
 
 -- ---- the rows
 change_on : (row : HostRow) (rows : List HostRow) (h : ℕ) (f : HostRow → HostRow) (found : Option HostRow) → slice_get rows h ≡ found → change (row ∷ rows) (suc h) f ≡ row ∷ change rows h f
@@ -251,10 +253,10 @@ start_at_moves : (plan : PlanOf) (s : State) (k : ℕ) (play : PlayOf) (place : 
 start_at_moves plan s k play None o e = same_rows s s refl refl refl
 start_at_moves plan s k play (Some p) o e =
     stays_in s (start_at plan s k play p) refl refl
-    (λ h n w. change_keeps n (progressed play p (items_at plan play k p)) s.rows k h
+    (λ h n w. change_keeps n (progressed play p (items_at (plan_seen plan s) play k (facts_at s k) p)) s.rows k h
     (λ row is v. let at = found_test (stands_at (Some p)) row (slice_get s.rows k) is e in
     let least = start_number n p row at v in
-    progressed_from n p play (items_at plan play k p) row (stands p row at) (omega (arith, least)) (few_items plan play k p))
+    progressed_from n p play (items_at (plan_seen plan s) play k (facts_at s k) p) row (stands p row at) (omega (arith, least)) (few_items (plan_seen plan s) play k (facts_at s k) p))
     w)
 
 start_moves : (plan : PlanOf) (s : State) (k : ℕ) (found : Option PlayOf) → open_play plan s ≡ found → option_map_or (may_start_in s k) found false ≡ true → Moves s (option_map_or (started_in plan s k) found s)
@@ -270,13 +272,13 @@ send_moves plan s k item ticket (Some play) o e =
     sent_from n n item ticket row at (λ p here. let least = send_number n p item row at here v in omega (arith, least)) v)
     w)
 
-report_moves : (plan : PlanOf) (s : State) (r : Report) (found : Option PlayOf) → open_play plan s ≡ found → option_map_or (may_report_in s r) found false ≡ true → Moves s (option_map_or (reported_in s r) found s)
+report_moves : (plan : PlanOf) (s : State) (r : Report) (found : Option PlayOf) → open_play plan s ≡ found → option_map_or (may_report_in s r) found false ≡ true → Moves s (option_map_or (reported_in plan s r) found s)
 report_moves plan s r None o e = cc
 report_moves plan s r (Some play) o e =
-    stays_in s (reported_in s r play) refl refl
-    (λ h n w. change_keeps n (reported play r.outcome) s.rows r.host.0 h
+    stays_in s (reported_in plan s r play) refl refl
+    (λ h n w. change_keeps n (reported (plan_seen plan s) play r.outcome) s.rows r.host.0 h
     (λ row is v. let at = found_test (awaits r.ticket r.item) row (slice_get s.rows r.host.0) is e in
-    reported_from n play r.outcome r.ticket r.item row at v)
+    reported_from n (plan_seen plan s) play r.outcome r.ticket r.item row at v)
     w)
 
 turn_moves : (plan : PlanOf) (s : State) (found : Option PlayOf) → Moves s (option_map_or (turned_in s) found s)
@@ -335,9 +337,9 @@ start_at_raises plan s k play (Some q) p w o f e =
     inr (
       refl,
       opened,
-      change_raises 0 (10002 * p + 1) (progressed play q (items_at plan play k q)) s.rows k
+      change_raises 0 (10002 * p + 1) (progressed play q (items_at (plan_seen plan s) play k (facts_at s k) q)) s.rows k
           (λ row here u. let at = found_test (stands_at (Some q)) row (slice_get s.rows k) here e in
-          progressed_from (10002 * p + 1) q play (items_at plan play k q) row (stands q row at) (omega (arith, same)) (few_items plan play k q))
+          progressed_from (10002 * p + 1) q play (items_at (plan_seen plan s) play k (facts_at s k) q) row (stands q row at) (omega (arith, same)) (few_items (plan_seen plan s) play k (facts_at s k) q))
           (w opened k),
     )
 

@@ -50,9 +50,9 @@ sent_keeps : (s : State) (h : ℕ) (ticket : Ticket) (found : Option PlayOf) →
 sent_keeps s h ticket None = same_sends s s refl refl refl
 sent_keeps s h ticket (Some play) = record { hosts = length-change s.rows h _; forks = refl; least = omega arith; most = omega arith }
 
-reported_keeps : (s : State) (r : Report) (found : Option PlayOf) → Keeps s (option_map_or (reported_in s r) found s)
-reported_keeps s r None = same_sends s s refl refl refl
-reported_keeps s r (Some play) = same_sends s (reported_in s r play) (length-change s.rows _ _) refl refl
+reported_keeps : (plan : PlanOf) (s : State) (r : Report) (found : Option PlayOf) → Keeps s (option_map_or (reported_in plan s r) found s)
+reported_keeps plan s r None = same_sends s s refl refl refl
+reported_keeps plan s r (Some play) = same_sends s (reported_in plan s r play) (length-change s.rows _ _) refl refl
 
 turned_keeps : (s : State) (found : Option PlayOf) → Keeps s (option_map_or (turned_in s) found s)
 turned_keeps s None = same_sends s s refl refl refl
@@ -68,7 +68,7 @@ pub hosts_stay : (plan : PlanOf) (s : State) (e : Event) → length (after plan 
 hosts_stay plan s Open = (open_keeps plan s (next_play plan s)).hosts
 hosts_stay plan s (Start h) = (started_keeps plan s h.0 (open_play plan s)).hosts
 hosts_stay plan s (Send h item ticket) = (sent_keeps s h.0 ticket (open_play plan s)).hosts
-hosts_stay plan s (Reported r) = (reported_keeps s r (open_play plan s)).hosts
+hosts_stay plan s (Reported r) = (reported_keeps plan s r (open_play plan s)).hosts
 hosts_stay plan s Turn = (turned_keeps s (open_play plan s)).hosts
 hosts_stay plan s Close = (closed_keeps s).hosts
 hosts_stay plan s Stop = (stopped_keeps s).hosts
@@ -89,7 +89,7 @@ pub forks_stay : (plan : PlanOf) (s : State) (e : Event) → possible plan s e �
 forks_stay plan s Open p f = same_forks s.forks _ (open_keeps plan s (next_play plan s)).forks f
 forks_stay plan s (Start h) p f = same_forks s.forks _ (started_keeps plan s h.0 (open_play plan s)).forks f
 forks_stay plan s (Send h item ticket) p f = same_forks s.forks _ (sent_keeps s h.0 ticket (open_play plan s)).forks f
-forks_stay plan s (Reported r) p f = same_forks s.forks _ (reported_keeps s r (open_play plan s)).forks f
+forks_stay plan s (Reported r) p f = same_forks s.forks _ (reported_keeps plan s r (open_play plan s)).forks f
 forks_stay plan s Turn p f = same_forks s.forks _ (turned_keeps s (open_play plan s)).forks f
 forks_stay plan s Close p f = f
 forks_stay plan s Stop p f = f
@@ -100,7 +100,7 @@ pub sends_rise : (plan : PlanOf) (s : State) (e : Event) → (after plan s e).se
 sends_rise plan s Open = (open_keeps plan s (next_play plan s)).most
 sends_rise plan s (Start h) = (started_keeps plan s h.0 (open_play plan s)).most
 sends_rise plan s (Send h item ticket) = (sent_keeps s h.0 ticket (open_play plan s)).most
-sends_rise plan s (Reported r) = (reported_keeps s r (open_play plan s)).most
+sends_rise plan s (Reported r) = (reported_keeps plan s r (open_play plan s)).most
 sends_rise plan s Turn = (turned_keeps s (open_play plan s)).most
 sends_rise plan s Close = (closed_keeps s).most
 sends_rise plan s Stop = (stopped_keeps s).most
@@ -111,7 +111,7 @@ pub sends_stay : (plan : PlanOf) (s : State) (e : Event) → s.sends ≤ (after 
 sends_stay plan s Open = (open_keeps plan s (next_play plan s)).least
 sends_stay plan s (Start h) = (started_keeps plan s h.0 (open_play plan s)).least
 sends_stay plan s (Send h item ticket) = (sent_keeps s h.0 ticket (open_play plan s)).least
-sends_stay plan s (Reported r) = (reported_keeps s r (open_play plan s)).least
+sends_stay plan s (Reported r) = (reported_keeps plan s r (open_play plan s)).least
 sends_stay plan s Turn = (turned_keeps s (open_play plan s)).least
 sends_stay plan s Close = (closed_keeps s).least
 sends_stay plan s Stop = (stopped_keeps s).least

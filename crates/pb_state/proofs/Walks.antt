@@ -13,10 +13,10 @@ use Rattle.pb_outcome.specs.declared.item.Item.{Item}
 use Rattle.pb_outcome.specs.Items.{is_over}
 use Rattle.pb_state.specs.declared.row.Running.{Running}
 use Rattle.pb_plan.specs.Plan.{PlayOf, PlanOf}
-use Rattle.pb_state.specs.Row.{HostRow, no_tree, place_of, finished, task_at, items_after, progressed, sent, reported, reported_running, is_called, joined, left, first_rows}
+use Rattle.pb_state.specs.Row.{HostRow, no_tree, place_of, finished, task_at, taught, items_after, progressed, sent, reported, reported_running, is_called, joined, left, first_rows}
 use Rattle.pb_state.specs.State.{State}
 use Rattle.pb_state.specs.Results.{items_at}
-use Rattle.pb_state.specs.Machine.{after, change, open_play, next_play, opened_in, opened_at, started_in, start_at, sent_in, reported_in, turned_in, first_state}
+use Rattle.pb_state.specs.Machine.{after, change, open_play, next_play, opened_in, opened_at, started_in, facts_at, plan_seen, start_at, sent_in, reported_in, turned_in, first_state}
 use Rattle.pb_state.specs.Run.{state_from, IsRun}
 use Rattle.pb_state.specs.Walks.{walks_in, IsWalked, AreWalked, IsTracked, AreNumbered, RowsStay, WalksLead}
 
@@ -44,16 +44,16 @@ in_change tree f keeps (row ∷ rows) (suc h) all = rw (change_on row rows h f (
 progressed_in_tree : (tree : TreeOf) (play : PlayOf) (p : ℕ) (items : List Item) (row : HostRow) → IsIn tree row → IsIn tree (progressed play p items row)
 progressed_in_tree tree play p items row is = by_over (is_over items)
   where
-    by_over : (over : Bool) → IsIn tree (if over then finished p (task_at play p items) row else record row { running = Some (record { place = p; items = items; out = None }) })
+    by_over : (over : Bool) → IsIn tree (if over then finished p (task_at play p items) (taught play p items row.facts) row else record row { running = Some (record { place = p; items = items; out = None }) })
     by_over true = is
     by_over false = is
 
-reported_in_tree : (tree : TreeOf) (play : PlayOf) (outcome : Form) (row : HostRow) → IsIn tree row → IsIn tree (reported play outcome row)
-reported_in_tree tree play outcome row is = by_running row.running
+reported_in_tree : (tree : TreeOf) (plan : PlanOf) (play : PlayOf) (outcome : Form) (row : HostRow) → IsIn tree row → IsIn tree (reported plan play outcome row)
+reported_in_tree tree plan play outcome row is = by_running row.running
   where
-    by_running : (running : Option Running) → IsIn tree (option_map_or (reported_running play outcome row) running row)
+    by_running : (running : Option Running) → IsIn tree (option_map_or (reported_running plan play outcome row) running row)
     by_running None = is
-    by_running (Some r) = progressed_in_tree tree play r.place (items_after outcome r) row is
+    by_running (Some r) = progressed_in_tree tree play r.place (items_after plan play row.host row.facts outcome r) row is
 
 joined_in_tree : (tree : TreeOf) (hosts : List Bool) (rows : List HostRow) → AllIn tree (map (joined tree hosts) rows)
 joined_in_tree tree hosts [] = tt
@@ -77,7 +77,7 @@ stays plan s = record { same = refl; keeps = λ tree all. all }
 start_goes : (plan : PlanOf) (s : State) (h : ℕ) (play : PlayOf) (place : Option ℕ) → Goes plan s (option_map_or (start_at plan s h play) place s)
 start_goes plan s h play None = stays plan s
 start_goes plan s h play (Some p) =
-    record { same = refl; keeps = λ tree all. in_change tree (progressed play p (items_at plan play h p)) (λ row is. progressed_in_tree tree play p (items_at plan play h p) row is) s.rows h all }
+    record { same = refl; keeps = λ tree all. in_change tree (progressed play p (items_at (plan_seen plan s) play h (facts_at s h) p)) (λ row is. progressed_in_tree tree play p (items_at (plan_seen plan s) play h (facts_at s h) p) row is) s.rows h all }
 
 started_goes : (plan : PlanOf) (s : State) (h : ℕ) (found : Option PlayOf) → Goes plan s (option_map_or (started_in plan s h) found s)
 started_goes plan s h None = stays plan s
@@ -87,10 +87,10 @@ sent_goes : (plan : PlanOf) (s : State) (h : ℕ) (ticket : Ticket) (found : Opt
 sent_goes plan s h ticket None = stays plan s
 sent_goes plan s h ticket (Some play) = record { same = refl; keeps = λ tree all. in_change tree (sent ticket) (λ row is. is) s.rows h all }
 
-reported_goes : (plan : PlanOf) (s : State) (r : Report) (found : Option PlayOf) → Goes plan s (option_map_or (reported_in s r) found s)
+reported_goes : (plan : PlanOf) (s : State) (r : Report) (found : Option PlayOf) → Goes plan s (option_map_or (reported_in plan s r) found s)
 reported_goes plan s r None = stays plan s
 reported_goes plan s r (Some play) =
-    record { same = refl; keeps = λ tree all. in_change tree (reported play r.outcome) (λ row is. reported_in_tree tree play r.outcome row is) s.rows r.host.0 all }
+    record { same = refl; keeps = λ tree all. in_change tree (reported (plan_seen plan s) play r.outcome) (λ row is. reported_in_tree tree (plan_seen plan s) play r.outcome row is) s.rows r.host.0 all }
 
 turned_goes : (plan : PlanOf) (s : State) (found : Option PlayOf) → Goes plan s (option_map_or (turned_in s) found s)
 turned_goes plan s None = stays plan s
@@ -167,23 +167,23 @@ number_map h f same (row ∷ rows) all = (same row ∙ all.0, number_map (h + 1)
 progressed_host : (play : PlayOf) (p : ℕ) (items : List Item) (row : HostRow) → (progressed play p items row).host ≡ row.host
 progressed_host play p items row = by_over (is_over items)
   where
-    by_over : (over : Bool) → (if over then finished p (task_at play p items) row else record row { running = Some (record { place = p; items = items; out = None }) }).host ≡ row.host
+    by_over : (over : Bool) → (if over then finished p (task_at play p items) (taught play p items row.facts) row else record row { running = Some (record { place = p; items = items; out = None }) }).host ≡ row.host
     by_over true = refl
     by_over false = refl
 
-reported_host : (play : PlayOf) (outcome : Form) (row : HostRow) → (reported play outcome row).host ≡ row.host
-reported_host play outcome row = by_running row.running
+reported_host : (plan : PlanOf) (play : PlayOf) (outcome : Form) (row : HostRow) → (reported plan play outcome row).host ≡ row.host
+reported_host plan play outcome row = by_running row.running
   where
-    by_running : (running : Option Running) → (option_map_or (reported_running play outcome row) running row).host ≡ row.host
+    by_running : (running : Option Running) → (option_map_or (reported_running plan play outcome row) running row).host ≡ row.host
     by_running None = refl
-    by_running (Some r) = progressed_host play r.place (items_after outcome r) row
+    by_running (Some r) = progressed_host play r.place (items_after plan play row.host row.facts outcome r) row
 
 abbrev KeepsNumbers : State → State → Type 0
 KeepsNumbers s new = AreNumbered 0 s.rows → AreNumbered 0 new.rows
 
 start_numbers : (plan : PlanOf) (s : State) (h : ℕ) (play : PlayOf) (place : Option ℕ) → KeepsNumbers s (option_map_or (start_at plan s h play) place s)
 start_numbers plan s h play None = λ all. all
-start_numbers plan s h play (Some p) = λ all. number_change 0 h (progressed play p (items_at plan play h p)) (λ row. progressed_host play p (items_at plan play h p) row) s.rows all
+start_numbers plan s h play (Some p) = λ all. number_change 0 h (progressed play p (items_at (plan_seen plan s) play h (facts_at s h) p)) (λ row. progressed_host play p (items_at (plan_seen plan s) play h (facts_at s h) p) row) s.rows all
 
 started_numbers : (plan : PlanOf) (s : State) (h : ℕ) (found : Option PlayOf) → KeepsNumbers s (option_map_or (started_in plan s h) found s)
 started_numbers plan s h None = λ all. all
@@ -193,9 +193,9 @@ sent_numbers : (s : State) (h : ℕ) (ticket : Ticket) (found : Option PlayOf) �
 sent_numbers s h ticket None = λ all. all
 sent_numbers s h ticket (Some play) = λ all. number_change 0 h (sent ticket) (λ row. refl) s.rows all
 
-reported_numbers : (s : State) (r : Report) (found : Option PlayOf) → KeepsNumbers s (option_map_or (reported_in s r) found s)
-reported_numbers s r None = λ all. all
-reported_numbers s r (Some play) = λ all. number_change 0 r.host.0 (reported play r.outcome) (λ row. reported_host play r.outcome row) s.rows all
+reported_numbers : (plan : PlanOf) (s : State) (r : Report) (found : Option PlayOf) → KeepsNumbers s (option_map_or (reported_in plan s r) found s)
+reported_numbers plan s r None = λ all. all
+reported_numbers plan s r (Some play) = λ all. number_change 0 r.host.0 (reported (plan_seen plan s) play r.outcome) (λ row. reported_host (plan_seen plan s) play r.outcome row) s.rows all
 
 turned_numbers : (s : State) (found : Option PlayOf) → KeepsNumbers s (option_map_or (turned_in s) found s)
 turned_numbers s None = λ all. all
@@ -213,7 +213,7 @@ step_numbers : (plan : PlanOf) (s : State) (e : Event) → KeepsNumbers s (after
 step_numbers plan s Open = next_numbers plan s (next_play plan s)
 step_numbers plan s (Start h) = started_numbers plan s h.0 (open_play plan s)
 step_numbers plan s (Send h item ticket) = sent_numbers s h.0 ticket (open_play plan s)
-step_numbers plan s (Reported r) = reported_numbers s r (open_play plan s)
+step_numbers plan s (Reported r) = reported_numbers plan s r (open_play plan s)
 step_numbers plan s Turn = turned_numbers s (open_play plan s)
 step_numbers plan s Close = λ all. number_map 0 left (λ row. refl) s.rows all
 step_numbers plan s Stop = λ all. all

@@ -9,13 +9,14 @@ use Rattle.pb_outcome.specs.declared.gather.TaskResult.{TaskResult}
 use Rattle.pb_outcome.specs.declared.item.Item.{Item}
 use Rattle.pb_outcome.specs.declared.outcome.Form.{Form}
 use Rattle.pb_outcome.specs.Items.{is_over}
-use Rattle.pb_plan.specs.Plan.{PlayOf}
+use Rattle.pb_facts.specs.Facts.{FactsOf}
+use Rattle.pb_plan.specs.Plan.{PlayOf, PlanOf}
 use Rattle.pb_tree.specs.Tree.{TreeOf, size_of}
 use Rattle.pb_tree.specs.Walk.{one_halted}
 use Rattle.pb_items.specs.Loops.{max_items}
 use Rattle.pb_state.specs.declared.row.Counts.{Counts}
 use Rattle.pb_state.specs.declared.row.Running.{Running}
-use Rattle.pb_state.specs.Row.{HostRow, no_tree, none_counted, first_rows, is_called, joined, left, finished, task_at, came_back, items_after, progressed, sent, sent_running, reported, reported_running, counted, more}
+use Rattle.pb_state.specs.Row.{HostRow, no_tree, none_counted, first_rows, is_called, joined, left, finished, task_at, taught, came_back, items_after, progressed, sent, sent_running, reported, reported_running, counted, more}
 use Rattle.pb_state.specs.Machine.{change, at_row, stands_at, is_ticket, sends_running, awaits_running, awaits, may_send_item, is_running}
 use Rattle.pb_state.specs.Bounds.{IsAtMost, run_places, out_jobs, running_jobs, running_items, IsWithin, AllWithin, most_jobs, IsBounded}
 use Rattle.pb_state.specs.Kept.{first_waiting}
@@ -106,8 +107,8 @@ none_running : (row : HostRow) (found : Option Running) → row.running ≡ foun
 none_running row None e n = e
 none_running row (Some r) e n = let yes : is_running row ≡ true = rw e refl in cc
 
-finished_within : (play p : ℕ) (task : TaskResult) (row : HostRow) → length (one_halted row.answers) < 16384 → IsWithin true play row → IsWithin true play (finished p task row)
-finished_within play p task row b w =
+finished_within : (play p : ℕ) (task : TaskResult) (facts : FactsOf) (row : HostRow) → length (one_halted row.answers) < 16384 → IsWithin true play row → IsWithin true play (finished p task facts row)
+finished_within play p task facts row b w =
     let more = one_halted_answer row.answers task in
     (at_most_to (counted task row.counts) _ _ (omega (arith, more)) (counted_at_most task row.counts _ w.0), omega (arith, more, b), w.2, omega arith)
 
@@ -125,13 +126,13 @@ stands_idle place row e = none_running row row.running refl (not_true (is_runnin
 progressed_within : (k p : ℕ) (play : PlayOf) (items : List Item) (row : HostRow) → length items ≤ max_items → length (one_halted row.answers) < 16384 → IsWithin true k row → IsWithin true k (progressed play p items row)
 progressed_within k p play items row most b w = by_over (is_over items)
   where
-    by_over : (over : Bool) → IsWithin true k (if over then finished p (task_at play p items) row else record row { running = Some (record { place = p; items = items; out = None }) })
-    by_over true = finished_within k p (task_at play p items) row b w
+    by_over : (over : Bool) → IsWithin true k (if over then finished p (task_at play p items) (taught play p items row.facts) row else record row { running = Some (record { place = p; items = items; out = None }) })
+    by_over true = finished_within k p (task_at play p items) (taught play p items row.facts) row b w
     by_over false = (w.0, omega (arith, b), w.2, most)
 
 -- a task that ends leaves room for all that its items can have sent
-finished_jobs : (k p n : ℕ) (task : TaskResult) (row : HostRow) → n ≤ max_items → (max_items * (16384 * k + length (one_halted row.answers)) + n) + 0 ≤ most_jobs true k (finished p task row)
-finished_jobs k p n task row m = let more = one_halted_answer row.answers task in omega (arith, more, m)
+finished_jobs : (k p n : ℕ) (task : TaskResult) (facts : FactsOf) (row : HostRow) → n ≤ max_items → (max_items * (16384 * k + length (one_halted row.answers)) + n) + 0 ≤ most_jobs true k (finished p task facts row)
+finished_jobs k p n task facts row m = let more = one_halted_answer row.answers task in omega (arith, more, m)
 
 start_keeps : (k : ℕ) (place : Option ℕ) (play : PlayOf) (p : ℕ) (items : List Item) → length items ≤ max_items → Keeps k (progressed play p items) (stands_at place) 0
 start_keeps k place play p items most =
@@ -141,8 +142,8 @@ start_keeps k place play p items most =
     }
   where
     by_over : (row : HostRow) (over : Bool)
-        → (max_items * (16384 * k + length (one_halted row.answers)) + 0) + 0 ≤ most_jobs true k (if over then finished p (task_at play p items) row else record row { running = Some (record { place = p; items = items; out = None }) })
-    by_over row true = finished_jobs k p 0 (task_at play p items) row (omega arith)
+        → (max_items * (16384 * k + length (one_halted row.answers)) + 0) + 0 ≤ most_jobs true k (if over then finished p (task_at play p items) (taught play p items row.facts) row else record row { running = Some (record { place = p; items = items; out = None }) })
+    by_over row true = finished_jobs k p 0 (task_at play p items) (taught play p items row.facts) row (omega arith)
     by_over row false = omega arith
 
 -- a host that has a job to send runs, and no job of it is out
@@ -176,36 +177,38 @@ at_most_one : (o : Option Ticket) → out_jobs o ≤ 1
 at_most_one None = omega arith
 at_most_one (Some t) = omega arith
 
-report_keeps : (k item : ℕ) (play : PlayOf) (outcome : Form) (ticket : Ticket) → Keeps k (reported play outcome) (awaits ticket item) 0
-report_keeps k item play outcome ticket =
+report_keeps : (k item : ℕ) (plan : PlanOf) (play : PlayOf) (outcome : Form) (ticket : Ticket) → Keeps k (reported plan play outcome) (awaits ticket item) 0
+report_keeps k item plan play outcome ticket =
     record {
       within = λ row e w. reported_within row row.running refl w;
       jobs = λ row e w. reported_jobs row row.running refl e w;
     }
   where
-    reported_within : (row : HostRow) (found : Option Running) → row.running ≡ found → IsWithin true k row → IsWithin true k (option_map_or (reported_running play outcome row) found row)
+    reported_within : (row : HostRow) (found : Option Running) → row.running ≡ found → IsWithin true k row → IsWithin true k (option_map_or (reported_running plan play outcome row) found row)
     reported_within row None f w = w
     reported_within row (Some r) f w =
         let bound = subst (λ (v : Option Running). length (one_halted row.answers) + run_places v ≤ 16384) f w.1 in
         let most = subst (λ (v : Option Running). running_items v ≤ max_items) f w.3 in
-        let same : length (items_after outcome r) ≡ length r.items = length_back (came_back outcome) r.items in
-        progressed_within k r.place play (items_after outcome r) row (omega (arith, same, most)) (omega (arith, bound)) w
+        let same : length (items_after plan play row.host row.facts outcome r) ≡ length r.items = length_back (came_back plan play row.host row.facts r.place outcome) r.items in
+        progressed_within k r.place play (items_after plan play row.host row.facts outcome r) row (omega (arith, same, most)) (omega (arith, bound)) w
 
     by_over : (row : HostRow) (r : Running) (items : List Item) (over : Bool) → length items ≡ length r.items → first_waiting r.items + 1 ≤ first_waiting items → first_waiting items ≤ length items → length r.items ≤ max_items
         → (max_items * (16384 * k + length (one_halted row.answers)) + running_jobs (Some r)) + 0
-        ≤ most_jobs true k (if over then finished r.place (task_at play r.place items) row else record row { running = Some (record { place = r.place; items = items; out = None }) })
-    by_over row r items true same later within most = finished_jobs k r.place (running_jobs (Some r)) (task_at play r.place items) row (omega (arith, most))
+        ≤ most_jobs true k (if over then finished r.place (task_at play r.place items) (taught play r.place items row.facts) row else record row { running = Some (record { place = r.place; items = items; out = None }) })
+    by_over row r items true same later within most = finished_jobs k r.place (running_jobs (Some r)) (task_at play r.place items) (taught play r.place items row.facts) row (omega (arith, most))
     by_over row r items false same later within most = omega (arith, same, later, within, at_most_one r.out)
 
     reported_jobs : (row : HostRow) (found : Option Running) → row.running ≡ found → option_map_or (awaits_running ticket item) found false ≡ true → IsWithin true k row
-        → most_jobs true k row + 0 ≤ most_jobs true k (option_map_or (reported_running play outcome row) found row)
+        → most_jobs true k row + 0 ≤ most_jobs true k (option_map_or (reported_running plan play outcome row) found row)
     reported_jobs row None f e w = cc
     reported_jobs row (Some r) f e w =
         let first = is_next_so item r.items (and_right (is_ticket ticket r.out) _ e) in
         let most = subst (λ (v : Option Running). running_items v ≤ max_items) f w.3 in
         rw f
-        (by_over row r (items_after outcome r) (is_over (items_after outcome r)) (length_back (came_back outcome) r.items)
-        (back_later (came_back outcome) r.items (omega (arith, first.0, first.1))) (first_most (items_after outcome r)) most)
+        (by_over row r (items_after plan play row.host row.facts outcome r) (is_over (items_after plan play row.host row.facts outcome r))
+        (length_back (came_back plan play row.host row.facts r.place outcome) r.items)
+        (back_later (came_back plan play row.host row.facts r.place outcome) r.items (omega (arith, first.0, first.1)))
+        (first_most (items_after plan play row.host row.facts outcome r)) most)
 
 -- the clauses of the steps
 changed_so : (play sends by h : ℕ) (is_open : Bool) (f : HostRow → HostRow) (test : HostRow → Bool) (rows new : List HostRow) (more : ℕ) → more ≡ sends + by → is_open ≡ true → Keeps play f test by → at_row test rows h ≡ true → IsBounded is_open play sends rows → new ≡ change rows h f → IsBounded is_open play more new
@@ -237,9 +240,9 @@ pub send_bounded : (play sends h item : ℕ) (is_open may : Bool) (ticket : Tick
 send_bounded play sends h item is_open may ticket rows new b o e n =
     changed_so play sends 1 h is_open (sent ticket) (may_send_item item) rows new (sends + 1) refl o (send_keeps play item ticket) (and_right may _ e) b n
 
-pub report_bounded : (k sends h item : ℕ) (is_open : Bool) (play : PlayOf) (ticket : Ticket) (outcome : Form) (rows new : List HostRow) → IsBounded is_open k sends rows → is_open ≡ true → at_row (awaits ticket item) rows h ≡ true → new ≡ change rows h (reported play outcome) → IsBounded is_open k sends new
-report_bounded k sends h item is_open play ticket outcome rows new b o e n =
-    changed_so k sends 0 h is_open (reported play outcome) (awaits ticket item) rows new sends (omega arith) o (report_keeps k item play outcome ticket) e b n
+pub report_bounded : (k sends h item : ℕ) (is_open : Bool) (plan : PlanOf) (play : PlayOf) (ticket : Ticket) (outcome : Form) (rows new : List HostRow) → IsBounded is_open k sends rows → is_open ≡ true → at_row (awaits ticket item) rows h ≡ true → new ≡ change rows h (reported plan play outcome) → IsBounded is_open k sends new
+report_bounded k sends h item is_open plan play ticket outcome rows new b o e n =
+    changed_so k sends 0 h is_open (reported plan play outcome) (awaits ticket item) rows new sends (omega arith) o (report_keeps k item plan play outcome ticket) e b n
 
 -- the most that rows can have sent stays far below a number's end
 jobs_at_most : (found : Option Running) → running_items found ≤ max_items → running_jobs found ≤ max_items * run_places found

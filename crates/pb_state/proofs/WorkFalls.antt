@@ -12,6 +12,7 @@ use Rattle.pb_ids.specs.declared.numbers.Ticket.{Ticket}
 use Rattle.pb_outcome.specs.declared.gather.TaskResult.{TaskResult}
 use Rattle.pb_outcome.specs.declared.job.Report.{Report}
 use Rattle.pb_outcome.specs.declared.outcome.Form.{Form}
+use Rattle.pb_facts.specs.Facts.{FactsOf}
 use Rattle.pb_items.specs.Loops.{max_items}
 use Rattle.pb_state.specs.declared.decided.Decided.{Decided as DecidedOf}
 use Rattle.pb_outcome.specs.declared.item.Item.{Item}
@@ -20,9 +21,9 @@ use Rattle.pb_state.specs.declared.row.Running.{Running}
 use Rattle.pb_state.specs.declared.event.Event.{Event}
 use Rattle.pb_state.specs.declared.event.Event.TheVariants.{Open, Start, Send, Report as Reported, Turn, Close, Stop, Forks}
 use Rattle.pb_plan.specs.Plan.{PlayOf, PlanOf}
-use Rattle.pb_state.specs.Row.{HostRow, no_tree, next_place, is_called, joined, left, finished, task_at, came_back, items_after, progressed, sent, sent_running, reported, reported_running}
+use Rattle.pb_state.specs.Row.{HostRow, no_tree, next_place, is_called, joined, left, finished, task_at, taught, came_back, items_after, progressed, sent, sent_running, reported, reported_running}
 use Rattle.pb_state.specs.State.{State}
-use Rattle.pb_state.specs.Machine.{possible, after, change, at_row, open_play, least_place, lesser, same_place, stands_at, has_room, may_open, next_play, may_start_in, may_turn_in, may_close_in, some_may_start, opened_in, opened_at, started_in, start_at, turned_in, closed, is_running, running_count, is_ticket, sends_running, may_send_item, awaits_running, awaits, may_send_in, may_report_in, sent_in, reported_in}
+use Rattle.pb_state.specs.Machine.{possible, after, change, at_row, open_play, least_place, lesser, same_place, stands_at, has_room, may_open, next_play, may_start_in, may_turn_in, may_close_in, some_may_start, opened_in, opened_at, started_in, facts_at, plan_seen, start_at, turned_in, closed, is_running, running_count, is_ticket, sends_running, may_send_item, awaits_running, awaits, may_send_in, may_report_in, sent_in, reported_in}
 use Rattle.pb_state.specs.Results.{items_at}
 use Rattle.pb_state.specs.Kept.{first_waiting}
 use Rattle.pb_state.specs.Run.{is_command}
@@ -46,12 +47,12 @@ not_false true e = cc
 not_false false e = refl
 
 -- a finished task is one answer more
-finished_at : (row : HostRow) (p : ℕ) (task : TaskResult) (next : Option ℕ) → place_work (finished p task row) next ≤ most_events * (places_left row - 1)
-finished_at row p task None = omega arith
-finished_at row p task (Some q) = omega (arith, one_halted_answer row.answers task)
+finished_at : (row : HostRow) (p : ℕ) (task : TaskResult) (facts : FactsOf) (next : Option ℕ) → place_work (finished p task facts row) next ≤ most_events * (places_left row - 1)
+finished_at row p task facts None = omega arith
+finished_at row p task facts (Some q) = omega (arith, one_halted_answer row.answers task)
 
-finished_less : (row : HostRow) (p : ℕ) (task : TaskResult) → row_work (finished p task row) ≤ most_events * (places_left row - 1)
-finished_less row p task = finished_at row p task (next_place (finished p task row))
+finished_less : (row : HostRow) (p : ℕ) (task : TaskResult) (facts : FactsOf) → row_work (finished p task facts row) ≤ most_events * (places_left row - 1)
+finished_less row p task facts = finished_at row p task facts (next_place (finished p task facts row))
 
 -- a start
 with_more : (a b c : ℕ) → a ≤ b → a ≤ c + b
@@ -60,9 +61,11 @@ with_more a b c e = omega (arith, e)
 progressed_less : (play : PlayOf) (p : ℕ) (items : List Item) (row : HostRow) → row_work (progressed play p items row) ≤ 2 * (length items - first_waiting items) + most_events * (places_left row - 1)
 progressed_less play p items row = by_over (is_over items)
   where
-    by_over : (over : Bool) → row_work (if over then finished p (task_at play p items) row else record row { running = Some (record { place = p; items = items; out = None }) })
+    by_over : (over : Bool) → row_work (if over then finished p (task_at play p items) (taught play p items row.facts) row else record row { running = Some (record { place = p; items = items; out = None }) })
         ≤ 2 * (length items - first_waiting items) + most_events * (places_left row - 1)
-    by_over true = with_more (row_work (finished p (task_at play p items) row)) (most_events * (places_left row - 1)) (2 * (length items - first_waiting items)) (finished_less row p (task_at play p items))
+    by_over true =
+        with_more (row_work (finished p (task_at play p items) (taught play p items row.facts) row)) (most_events * (places_left row - 1)) (2 * (length items - first_waiting items))
+        (finished_less row p (task_at play p items) (taught play p items row.facts))
     by_over false = omega arith
 
 not_running : (row : HostRow) (running : Option Running) → not (is_some running) ≡ true → running_work row running ≡ place_work row (next_place row)
@@ -101,18 +104,20 @@ out_one ticket (Some t) e = refl
 report_falls : (new old left n m out : ℕ) → new ≤ 2 * m + most_events * (left - 1) → old ≡ 2 * n - out + most_events * (left - 1) → out ≡ 1 → m < n → new < old
 report_falls new old left n m out a b c d = omega (arith, a, b, c, d)
 
-reporting : (play : PlayOf) (outcome : Form) (ticket : Ticket) (item : ℕ) (row : HostRow) (running : Option Running) → option_map_or (awaits_running ticket item) running false ≡ true → row_work (option_map_or (reported_running play outcome row) running row) < running_work row running
-reporting play outcome ticket item row None e = cc
-reporting play outcome ticket item row (Some r) e =
+reporting : (plan : PlanOf) (play : PlayOf) (outcome : Form) (ticket : Ticket) (item : ℕ) (row : HostRow) (running : Option Running) → option_map_or (awaits_running ticket item) running false ≡ true → row_work (option_map_or (reported_running plan play outcome row) running row) < running_work row running
+reporting plan play outcome ticket item row None e = cc
+reporting plan play outcome ticket item row (Some r) e =
     let first = is_next_so item r.items (and_right (is_ticket ticket r.out) _ e) in
-    let same : length (items_after outcome r) ≡ length r.items = length_back (came_back outcome) r.items in
-    let later : first_waiting r.items + 1 ≤ first_waiting (items_after outcome r) = back_later (came_back outcome) r.items (omega (arith, first.0, first.1)) in
-    report_falls (row_work (progressed play r.place (items_after outcome r) row)) (running_work row (Some r)) (places_left row) (length r.items - first_waiting r.items)
-    (length (items_after outcome r) - first_waiting (items_after outcome r)) (out_work r.out) (progressed_less play r.place (items_after outcome r) row) refl
+    let same : length (items_after plan play row.host row.facts outcome r) ≡ length r.items = length_back (came_back plan play row.host row.facts r.place outcome) r.items in
+    let later : first_waiting r.items + 1 ≤ first_waiting (items_after plan play row.host row.facts outcome r) =
+    back_later (came_back plan play row.host row.facts r.place outcome) r.items (omega (arith, first.0, first.1)) in
+    report_falls (row_work (progressed play r.place (items_after plan play row.host row.facts outcome r) row)) (running_work row (Some r)) (places_left row) (length r.items - first_waiting r.items)
+    (length (items_after plan play row.host row.facts outcome r) - first_waiting (items_after plan play row.host row.facts outcome r)) (out_work r.out)
+    (progressed_less play r.place (items_after plan play row.host row.facts outcome r) row) refl
     (out_one ticket r.out (and_left (is_ticket ticket r.out) _ e)) (omega (arith, same, later, first.0, first.1))
 
-report_less : (play : PlayOf) (outcome : Form) (ticket : Ticket) (item : ℕ) (row : HostRow) → awaits ticket item row ≡ true → row_work (reported play outcome row) < row_work row
-report_less play outcome ticket item row e = reporting play outcome ticket item row row.running e
+report_less : (plan : PlanOf) (play : PlayOf) (outcome : Form) (ticket : Ticket) (item : ℕ) (row : HostRow) → awaits ticket item row ≡ true → row_work (reported plan play outcome row) < row_work row
+report_less plan play outcome ticket item row e = reporting plan play outcome ticket item row row.running e
 
 abbrev one_if : Bool → ℕ
 one_if b = if b then 1 else 0
@@ -171,8 +176,8 @@ none_at (row ∷ rows) (suc h) e = none_at rows h e
 start_at_less : (plan : PlanOf) (s : State) (h : ℕ) (play : PlayOf) (place : Option ℕ) → open_play plan s ≡ Some play → at_row (stands_at place) s.rows h ≡ true → work plan (option_map_or (start_at plan s h play) place s) < work plan s
 start_at_less plan s h play None o e = absurd (none_at s.rows h e)
 start_at_less plan s h play (Some p) o e =
-    row_event plan s play h s.sends (start_at plan s h play p).begun (start_at plan s h play p).decided (progressed play p (items_at plan play h p)) (stands_at (Some p)) o
-    (λ row may. start_less (Some p) play p (items_at plan play h p) row (few_items plan play h p) may) e
+    row_event plan s play h s.sends (start_at plan s h play p).begun (start_at plan s h play p).decided (progressed play p (items_at (plan_seen plan s) play h (facts_at s h) p)) (stands_at (Some p)) o
+    (λ row may. start_less (Some p) play p (items_at (plan_seen plan s) play h (facts_at s h) p) row (few_items (plan_seen plan s) play h (facts_at s h) p) may) e
 
 start_in_less : (plan : PlanOf) (s : State) (h : ℕ) (found : Option PlayOf) → open_play plan s ≡ found → option_map_or (may_start_in s h) found false ≡ true → work plan (option_map_or (started_in plan s h) found s) < work plan s
 start_in_less plan s h None o e = cc
@@ -183,10 +188,10 @@ send_in_less plan s h item ticket None o e = cc
 send_in_less plan s h item ticket (Some play) o e =
     row_event plan s play h (s.sends + 1) s.begun None (sent ticket) (may_send_item item) o (λ row may. send_less item ticket row may) (and_right (not s.stopped && (ticket.0 == s.sends)) _ e)
 
-report_in_less : (plan : PlanOf) (s : State) (r : Report) (found : Option PlayOf) → open_play plan s ≡ found → option_map_or (may_report_in s r) found false ≡ true → work plan (option_map_or (reported_in s r) found s) < work plan s
+report_in_less : (plan : PlanOf) (s : State) (r : Report) (found : Option PlayOf) → open_play plan s ≡ found → option_map_or (may_report_in s r) found false ≡ true → work plan (option_map_or (reported_in plan s r) found s) < work plan s
 report_in_less plan s r None o e = cc
 report_in_less plan s r (Some play) o e =
-    row_event plan s play r.host.0 s.sends s.begun (reported_in s r play).decided (reported play r.outcome) (awaits r.ticket r.item) o (λ row may. report_less play r.outcome r.ticket r.item row may) e
+    row_event plan s play r.host.0 s.sends s.begun (reported_in plan s r play).decided (reported (plan_seen plan s) play r.outcome) (awaits r.ticket r.item) o (λ row may. report_less (plan_seen plan s) play r.outcome r.ticket r.item row may) e
 
 -- a turn
 min_is : (a b : ℕ) (t : Bool) → nat_le a b ≡ t → (min a b ≡ a) ⊎ (min a b ≡ b)

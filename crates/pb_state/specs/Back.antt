@@ -1,23 +1,32 @@
 -- A report in its parts: an item comes back, and then its task goes on; and how the item is put back where memory is refused on the way.
-use Rattle.std.specs.Prelude.{ℕ, false, List, Option, None, option_map}
+use Rattle.std.specs.Prelude.{◌≡◌, ⊤, ℕ, false, List, Option, Some, None, option_map, slice_get}
 use Rattle.std.specs.Option.{option_map_or}
+use Rattle.pb_value.specs.Datum.{Datum}
+use Rattle.pb_facts.specs.Facts.{FactsOf}
+use Rattle.pb_outcome.specs.declared.gather.ItemResult.{ItemResult}
 use Rattle.pb_outcome.specs.declared.item.Item.{Item}
 use Rattle.pb_outcome.specs.declared.outcome.Form.{Form}
-use Rattle.pb_plan.specs.Plan.{PlayOf}
+use Rattle.pb_plan.specs.Plan.{PlayOf, PlanOf}
 use Rattle.pb_state.specs.declared.decided.Decided.{Decided}
 use Rattle.pb_state.specs.declared.decided.Done.{Done}
 use Rattle.pb_state.specs.declared.items.Before.{Before}
 use Rattle.pb_state.specs.declared.row.Running.{Running}
 use Rattle.pb_state.specs.Kept.{with_step}
 use Rattle.pb_state.specs.Machine.{decided_with, done_if, told_in}
+use Rattle.pb_state.specs.Results.{settled_at}
 use Rattle.pb_state.specs.Row.{HostRow, items_after, progressed}
 
--- the job that is out of a task came to this
-abbrev pub back_running : Form → Option Running → Option Running
-back_running outcome running = option_map (λ (r : Running). record r { items = items_after outcome r }) running
+-- a result of the item with this number, as its task says of it
+abbrev pub settled_in : PlanOf → PlayOf → ℕ → FactsOf → ℕ → List Item → ℕ → ItemResult → ItemResult
+settled_in plan play host facts p items n result =
+    option_map_or (λ (item : Item). settled_at plan play host facts p item.value result) (slice_get items n) result
 
-abbrev pub back_row : Form → HostRow → HostRow
-back_row outcome row = record row { running = back_running outcome row.running }
+-- the job that is out of a task came to this
+abbrev pub back_running : PlanOf → PlayOf → ℕ → FactsOf → Form → Option Running → Option Running
+back_running plan play host facts outcome running = option_map (λ (r : Running). record r { items = items_after plan play host facts outcome r }) running
+
+abbrev pub back_row : PlanOf → PlayOf → Form → HostRow → HostRow
+back_row plan play outcome row = record row { running = back_running plan play row.host row.facts outcome row.running }
 
 -- the next item waits to be sent
 abbrev pub waiting : HostRow → HostRow
@@ -52,3 +61,9 @@ undone_running before running = option_map (λ (r : Running). record r { items =
 
 abbrev pub undone : Option Before → HostRow → HostRow
 undone before row = record row { running = undone_running before row.running }
+
+-- two plans in which the task that a host runs is told the same of each result
+abbrev pub SameTold : PlanOf → PlanOf → PlayOf → HostRow → Option Running → Type 0
+SameTold one other play row None = ⊤
+SameTold one other play row (Some r) =
+    (value : Option Datum) (item : ItemResult) → settled_at one play row.host row.facts r.place value item ≡ settled_at other play row.host row.facts r.place value item

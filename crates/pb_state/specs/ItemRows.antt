@@ -2,6 +2,7 @@
 use Rattle.std.specs.Prelude.{◌≡◌, ℕ, pos, true, false, List, [], ◌∷◌, codes, Some, None, refl}
 use Rattle.std.specs.Option.{option_map_or}
 use Rattle.pb_value.specs.Datum.{text, list, items_of}
+use Rattle.pb_facts.specs.Facts.{no_facts}
 use Rattle.pb_outcome.specs.declared.item.Item.{Item}
 use Rattle.pb_outcome.specs.declared.item.Planned.TheVariants.{Sends}
 use Rattle.pb_outcome.specs.declared.job.Call.TheVariants.{Shell as ShellCall}
@@ -21,6 +22,9 @@ use Rattle.pb_state.specs.Results.{items_at, on_tasks}
 
 abbrev play : PlayOf
 play = bare_play (codes "p") (tree_for 0 1 0) (bare_place (codes "list") (Shell (codes "ls")) ∷ []) (true ∷ [])
+
+abbrev plan : PlanOf
+plan = bare_plan (codes "h" ∷ []) (play ∷ [])
 
 abbrev item_with : List ℕ → Item
 item_with name = record { value = Some (text name); delegate = None; step = Sends (ShellCall (codes "ls")) }
@@ -42,10 +46,10 @@ abbrev no_route : Form
 no_route = NoAnswer (codes "no route")
 
 abbrev half : HostRow
-half = reported play well (out started)
+half = reported plan play well (out started)
 
 abbrev whole : HostRow
-whole = reported play well (out half)
+whole = reported plan play well (out half)
 
 -- the first item goes first, and no other
 first_is_next : item_of started ≡ Some 0
@@ -66,42 +70,54 @@ second_is_not_awaited = refl
 
 -- then the second goes
 second_is_next : item_of half ≡ Some 1
+unfolding on_tasks
 second_is_next = refl
 
 second_may_go : may_send_item 1 half ≡ true
+unfolding on_tasks
 second_may_go = refl
 
 goes_on : is_running half ≡ true
+unfolding on_tasks
 goes_on = refl
 
 none_is_out : is_out half ≡ false
+unfolding on_tasks
 none_is_out = refl
 
 counts_nothing_yet : half.counts ≡ none_counted
+unfolding on_tasks
 counts_nothing_yet = refl
 
 -- and the task ends, which counts once
 ends : is_running whole ≡ false
+unfolding on_tasks
 ends = refl
 
 counts_once : whole.counts ≡ record none_counted { ok = 1; changed = 1 }
+unfolding on_tasks
 counts_once = refl
 
 -- each report tells of its item
-tells_of_the_second : option_map_or (λ (d : Decided). d.items) (report_decides play well (out half)) [] ≡ (1, ran_result true (pos 0) [] []) ∷ []
+tells_of_the_second : option_map_or (λ (d : Decided). d.items) (report_decides plan play well (out half)) [] ≡ (1, ran_result true (pos 0) [] []) ∷ []
+unfolding on_tasks
 tells_of_the_second = refl
 
 -- an item that finds its host out of reach ends the task: the other isn't sent
-ends_without_its_host : is_running (reported play no_route (out started)) ≡ false
+ends_without_its_host : is_running (reported plan play no_route (out started)) ≡ false
+unfolding on_tasks
 ends_without_its_host = refl
 
-host_is_lost : (reported play no_route (out started)).status ≡ Lost
+host_is_lost : (reported plan play no_route (out started)).status ≡ Lost
+unfolding on_tasks
 host_is_lost = refl
 
-counts_as_unreachable : (reported play no_route (out started)).counts ≡ record none_counted { unreachable = 1 }
+counts_as_unreachable : (reported plan play no_route (out started)).counts ≡ record none_counted { unreachable = 1 }
+unfolding on_tasks
 counts_as_unreachable = refl
 
-tells_of_the_lost : option_map_or (λ (d : Decided). d.items) (report_decides play no_route (out started)) [] ≡ (0, lost (codes "no route")) ∷ []
+tells_of_the_lost : option_map_or (λ (d : Decided). d.items) (report_decides plan play no_route (out started)) [] ≡ (0, lost (codes "no route")) ∷ []
+unfolding on_tasks
 tells_of_the_lost = refl
 
 -- a loop has an item for each of its values
@@ -115,6 +131,6 @@ looping = bare_play (codes "p") (tree_for 0 1 0) (place_of looped ∷ []) (true 
 abbrev one_host : PlanOf
 one_host = bare_plan (codes "h" ∷ []) (looping ∷ [])
 
-loop_has_two : items_at one_host looping 0 0 ≡ two_items
+loop_has_two : items_at one_host looping 0 no_facts 0 ≡ two_items
 unfolding on_tasks
 loop_has_two = refl

@@ -1,12 +1,18 @@
+pub mod Learning
+pub mod Results
+pub mod Seen
+pub mod Unread
+pub mod Own
 pub mod Row
 pub mod Walking
 pub mod Kept
 pub mod State
-pub mod Results
 pub mod Machine
+pub mod Joining
 pub mod Back
 pub mod Jobs
 pub mod Oldest
+pub mod Due
 pub mod Run
 pub mod Once
 pub mod Walks
@@ -14,3 +20,4 @@ pub mod Work
 pub mod Bounds
 pub mod Rows
 pub mod ItemRows
+pub mod FactRows

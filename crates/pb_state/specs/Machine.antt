@@ -5,6 +5,7 @@ use Rattle.std.specs.Option.{option_map_or}
 use Rattle.pb_ids.specs.declared.numbers.Ticket.{Ticket}
 use Rattle.pb_planes.specs.Set.{is_in as is_member}
 use Rattle.pb_tree.specs.Tree.{size_of}
+use Rattle.pb_facts.specs.Facts.{FactsOf, no_facts}
 use Rattle.pb_outcome.specs.declared.gather.ItemResult.{ItemResult}
 use Rattle.pb_outcome.specs.declared.item.Item.{Item}
 use Rattle.pb_outcome.specs.declared.job.Report.{Report}
@@ -19,6 +20,7 @@ use Rattle.pb_plan.specs.Plan.{PlayOf, PlanOf}
 use Rattle.pb_state.specs.Row.{HostRow, first_rows, is_active, is_called, next_place, sent, reported, joined, left, task_at, items_after, progressed}
 use Rattle.pb_state.specs.State.{State}
 use Rattle.pb_state.specs.Results.{items_at, variable_at}
+use Rattle.pb_state.specs.Seen.{seen_with}
 
 -- the play whose batch is open
 abbrev pub open_play : PlanOf → State → Option PlayOf
@@ -194,8 +196,19 @@ start_with s h play p items =
       decided = Some (decided_with play p (not (is_member s.begun p)) (numbered 0 items) items);
     }
 
+-- what a host has learnt; there is nothing of a number that is no host's
+abbrev pub facts_at : State → ℕ → FactsOf
+facts_at s h = option_map_or (λ (row : HostRow). row.facts) (slice_get s.rows h) no_facts
+
+-- what the hosts have learnt, and the plan as tasks see it then
+abbrev pub learnt_by : List HostRow → List FactsOf
+learnt_by rows = map (λ (row : HostRow). row.facts) rows
+
+abbrev pub plan_seen : PlanOf → State → PlanOf
+plan_seen plan s = seen_with plan (learnt_by s.rows)
+
 abbrev pub start_at : PlanOf → State → ℕ → PlayOf → ℕ → State
-start_at plan s h play p = start_with s h play p (items_at plan play h p)
+start_at plan s h play p = start_with s h play p (items_at (plan_seen plan s) play h (facts_at s h) p)
 
 abbrev pub started_in : PlanOf → State → ℕ → PlayOf → State
 started_in plan s h play = option_map_or (start_at plan s h play) s.place s
@@ -211,18 +224,23 @@ abbrev pub told_in : List Item → Option ℕ → List (ℕ × ItemResult)
 told_in items number = option_map_or (told_at items) number []
 
 -- what a report decides of the task that waited for it
-abbrev pub decided_by : PlayOf → Form → Running → Decided
-decided_by play outcome r = decided_with play r.place false (told_in (items_after outcome r) (next_item r.items)) (items_after outcome r)
+abbrev pub decided_by : PlanOf → PlayOf → Form → HostRow → Running → Decided
+decided_by plan play outcome row r =
+    decided_with play r.place false (told_in (items_after plan play row.host row.facts outcome r) (next_item r.items)) (items_after plan play row.host row.facts outcome r)
 
-abbrev pub report_decides : PlayOf → Form → HostRow → Option Decided
-report_decides play outcome row = option_map (decided_by play outcome) row.running
+abbrev pub report_decides : PlanOf → PlayOf → Form → HostRow → Option Decided
+report_decides plan play outcome row = option_map (decided_by plan play outcome row) row.running
 
-abbrev pub reported_in : State → Report → PlayOf → State
-reported_in s r play =
+-- a report, where tasks see the plan so
+abbrev pub reported_seen : PlanOf → State → Report → PlayOf → State
+reported_seen plan s r play =
     record s {
-      rows = change s.rows r.host.0 (reported play r.outcome);
-      decided = option_map_or (report_decides play r.outcome) (slice_get s.rows r.host.0) None;
+      rows = change s.rows r.host.0 (reported plan play r.outcome);
+      decided = option_map_or (report_decides plan play r.outcome) (slice_get s.rows r.host.0) None;
     }
+
+abbrev pub reported_in : PlanOf → State → Report → PlayOf → State
+reported_in plan s r play = reported_seen (plan_seen plan s) s r play
 
 -- the current place becomes the least next place of the batch
 abbrev pub turned_in : State → PlayOf → State
@@ -241,7 +259,7 @@ abbrev pub after : PlanOf → State → Event → State
 after plan s Open = option_map_or (opened_at plan s) (next_play plan s) s
 after plan s (Start h) = option_map_or (started_in plan s h.0) (open_play plan s) s
 after plan s (Send h item ticket) = option_map_or (sent_in s h.0 ticket) (open_play plan s) s
-after plan s (Reported r) = option_map_or (reported_in s r) (open_play plan s) s
+after plan s (Reported r) = option_map_or (reported_in plan s r) (open_play plan s) s
 after plan s Turn = option_map_or (turned_in s) (open_play plan s) s
 after plan s Close = closed s
 after plan s Stop = stopped s

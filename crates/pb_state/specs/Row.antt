@@ -17,10 +17,13 @@ use Rattle.pb_outcome.specs.declared.gather.TaskResult.{TaskResult}
 use Rattle.pb_outcome.specs.declared.item.Item.{Item}
 use Rattle.pb_outcome.specs.declared.job.Call.{Call}
 use Rattle.pb_outcome.specs.declared.outcome.Form.{Form}
-use Rattle.pb_outcome.specs.Items.{task_of, back_in, is_over}
+use Rattle.pb_facts.specs.Facts.{FactsOf, no_facts}
+use Rattle.pb_outcome.specs.Items.{task_of, back_in, is_over, result_of}
 use Rattle.pb_outcome.specs.Results.{judged}
 use Rattle.pb_places.specs.Place.{PlaceOf}
-use Rattle.pb_plan.specs.Plan.{PlayOf}
+use Rattle.pb_plan.specs.Plan.{PlayOf, PlanOf}
+use Rattle.pb_state.specs.Learning.{taught_by}
+use Rattle.pb_state.specs.Results.{settled_at, variable_at}
 use Rattle.pb_state.specs.declared.row.Counts.{Counts}
 use Rattle.pb_state.specs.declared.row.Finish.{Finish}
 use Rattle.pb_state.specs.declared.row.Running.{Running}
@@ -38,6 +41,8 @@ pub record HostRow : Type 0 where
   pub running : Option Running
   -- the task that the host finished last in the open batch
   pub last : Option Finish
+  -- what the host has learnt: the layers 4 and 9 of the variables that its tasks see
+  pub facts : FactsOf
   -- how its finished tasks count in the recap
   pub counts : Counts
 
@@ -48,7 +53,8 @@ abbrev pub no_tree : TreeOf
 no_tree = record { nodes = Nothing; handlers = 0; force_handlers = false }
 
 abbrev pub first_row : ℕ → HostRow
-first_row host = record { host = host; tree = no_tree; answers = []; status = Active; in_batch = false; running = None; last = None; counts = none_counted }
+first_row host =
+    record { host = host; tree = no_tree; answers = []; status = Active; in_batch = false; running = None; last = None; facts = no_facts; counts = none_counted }
 
 -- this many hosts, whose first has the number h
 abbrev pub first_rows : ℕ → ℕ → List HostRow
@@ -115,10 +121,15 @@ counted task counts =
 abbrev pub answered : AnswerOf → HostRow → HostRow
 answered answer row = record row { answers = row.answers ++ answer ∷ []; status = status_at row.tree (row.answers ++ answer ∷ []) }
 
--- the task at a place ends with this result
-abbrev pub finished : ℕ → TaskResult → HostRow → HostRow
-finished place task row =
-    record (answered (answer_of task) row) { running = None; last = Some (record { place = place; kind = kind_of task }); counts = counted task row.counts }
+-- the task at a place ends with this result, after which the host knows this
+abbrev pub finished : ℕ → TaskResult → FactsOf → HostRow → HostRow
+finished place task facts row =
+    record (answered (answer_of task) row) {
+      running = None;
+      last = Some (record { place = place; kind = kind_of task });
+      facts = facts;
+      counts = counted task row.counts;
+    }
 
 -- whether the task at a place is told to ignore its failure; a place without a task is told nothing
 abbrev pub ignores_at : PlayOf → ℕ → Bool
@@ -128,10 +139,15 @@ ignores_at play p = option_map_or (λ (place : PlaceOf). place.ignore_errors) (s
 abbrev pub task_at : PlayOf → ℕ → List Item → TaskResult
 task_at play p items = task_of (ignores_at play p) items
 
+-- what the host knows once the task at a place has ended with these items
+abbrev pub taught : PlayOf → ℕ → List Item → FactsOf → FactsOf
+taught play p items facts = taught_by play p (task_at play p items) (result_of (variable_at play p) items) items facts
+
 -- the task at a place has come to these items: it goes on, or ends
 abbrev pub progressed : PlayOf → ℕ → List Item → HostRow → HostRow
 progressed play p items row =
-    if is_over items then finished p (task_at play p items) row else record row { running = Some (record { place = p; items = items; out = None }) }
+    if is_over items then finished p (task_at play p items) (taught play p items row.facts) row
+    else record row { running = Some (record { place = p; items = items; out = None }) }
 
 -- a job goes out under this ticket
 abbrev pub sent_running : Ticket → Running → Running
@@ -140,19 +156,20 @@ sent_running ticket r = record r { out = Some ticket }
 abbrev pub sent : Ticket → HostRow → HostRow
 sent ticket row = record row { running = option_map (sent_running ticket) row.running }
 
--- the items of a task once the job that is out came to this
-abbrev pub came_back : Form → Item → Call → ItemResult
-came_back outcome item call = judged call outcome
+-- An item of the task at a place once the job that is out came to this: it is judged, and then it is what the task says of it, in the scope that
+-- the host has then (Ansible's documentation, "Error handling in playbooks").
+abbrev pub came_back : PlanOf → PlayOf → ℕ → FactsOf → ℕ → Form → Item → Call → ItemResult
+came_back plan play host facts p outcome item call = settled_at plan play host facts p item.value (judged call outcome)
 
-abbrev pub items_after : Form → Running → List Item
-items_after outcome r = back_in (came_back outcome) r.items
+abbrev pub items_after : PlanOf → PlayOf → ℕ → FactsOf → Form → Running → List Item
+items_after plan play host facts outcome r = back_in (came_back plan play host facts r.place outcome) r.items
 
-abbrev pub reported_running : PlayOf → Form → HostRow → Running → HostRow
-reported_running play outcome row r = progressed play r.place (items_after outcome r) row
+abbrev pub reported_running : PlanOf → PlayOf → Form → HostRow → Running → HostRow
+reported_running plan play outcome row r = progressed play r.place (items_after plan play row.host row.facts outcome r) row
 
 -- the job that is out came to this
-abbrev pub reported : PlayOf → Form → HostRow → HostRow
-reported play outcome row = option_map_or (reported_running play outcome row) row.running row
+abbrev pub reported : PlanOf → PlayOf → Form → HostRow → HostRow
+reported plan play outcome row = option_map_or (reported_running plan play outcome row) row.running row
 
 -- a host is called where it is one of a play's own hosts and active; none is one of them beyond their end
 abbrev pub is_called : List Bool → HostRow → Bool

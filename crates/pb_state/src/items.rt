@@ -7,14 +7,19 @@ ghost use Rattle.pb_outcome.specs.declared.item.Planned.TheVariants.{Decided};
 ghost use Rattle.pb_state.specs.Kept.{first_waiting, with_step};
 ghost use Rattle.pb_state.specs.Jobs.{call_in};
 ghost use Rattle.pb_state.specs.Row.{came_back};
-ghost use Rattle.pb_state.specs.Back.{undone_items};
+ghost use Rattle.pb_state.specs.Back.{settled_in, undone_items};
 
+use crate::seen::Seen;
+use crate::settling::settled_at;
+use pb_facts::facts::Facts;
+use pb_ids::HostNo;
 use pb_outcome::gather::ItemResult;
 use pb_outcome::item::{Item, Planned};
 use pb_outcome::items::has_unreachable;
 use pb_outcome::job::Call;
 use pb_outcome::judge::judge;
 use pb_outcome::outcome::Outcome;
+use pb_plan::PlanPlay;
 use pb_value::items::Items;
 use std::alloc::{AllocError, Global};
 use std::marker::Model;
@@ -92,6 +97,26 @@ fn call_in(items: &[Item], number: u32) -> Option<&Call>
             Planned::Decided(_) => None,
         },
         None => None,
+    }
+}
+
+/// The result of the item with this number, as the task at a place says of it on a host that has learnt this.
+fn settled_in(
+    alloc: Global,
+    plan: &Seen,
+    play: &PlanPlay,
+    host: HostNo,
+    facts: &Facts,
+    place: usize,
+    items: &[Item],
+    number: u32,
+    judged: ItemResult,
+) -> Result<ItemResult, AllocError>
+    ensures { IfOk result (λ told. told ≡ settled_in plan.now play.now host.0 facts.now place items.now number judged) }
+{
+    match items.get(number as usize) {
+        Some(item) => settled_at(alloc, plan, play, host, facts, place, &item.value, judged),
+        None => Ok(judged),
     }
 }
 
@@ -178,9 +203,46 @@ impl TaskItems {
         before_of(number, step)
     }
 
-    /// The job of the next item came to this. What the item was before is handed back. An `Err` changes nothing.
-    pub fn back(&mut self, alloc: Global, outcome: &Outcome) -> Result<Option<Before>, AllocError>
-        ensures ok { OnOk result (self.new ≡ back_in (came_back outcome.now) self.old) }
+    /// The result of the item with this number, as the task at a place says of it on a host that has learnt this.
+    fn settled(
+        &self,
+        alloc: Global,
+        plan: &Seen,
+        play: &PlanPlay,
+        host: HostNo,
+        facts: &Facts,
+        place: usize,
+        number: u32,
+        judged: ItemResult,
+    ) -> Result<ItemResult, AllocError>
+        ensures { IfOk result (λ told. told ≡ settled_in plan.now play.now host.0 facts.now place self.now number judged) }
+    {
+        settled_in(
+            alloc,
+            plan,
+            play,
+            host,
+            facts,
+            place,
+            &self.items,
+            number,
+            judged,
+        )
+    }
+
+    /// The job of the next item came to this: it is judged, and then it is what the task at this place says of it on a host that has learnt this. What
+    /// the item was before is handed back. An `Err` changes nothing.
+    pub fn back(
+        &mut self,
+        alloc: Global,
+        plan: &Seen,
+        play: &PlanPlay,
+        host: HostNo,
+        facts: &Facts,
+        place: usize,
+        outcome: &Outcome,
+    ) -> Result<Option<Before>, AllocError>
+        ensures ok { OnOk result (self.new ≡ back_in (came_back plan.now play.now host.0 facts.now place outcome.now) self.old) }
         ensures undo { IfOk result (λ before. undone_items before self.new ≡ self.old) }
         ensures err { OnErr result (self.new ≡ self.old) }
     {
@@ -190,7 +252,8 @@ impl TaskItems {
         let Some(call) = self.call(number) else {
             return Ok(None);
         };
-        let item = judge(alloc, call, outcome)?;
+        let judged = judge(alloc, call, outcome)?;
+        let item = self.settled(alloc, plan, play, host, facts, place, number, judged)?;
         Ok(self.put(number, item))
     }
 

@@ -8,12 +8,18 @@
 ghost use Rattle.pb_state.specs.Walks.{WalksLead, RowsStay};
 
 mod decided;
+mod due;
 mod event;
+mod hosts;
 mod items;
 mod job;
+mod learning;
+mod own;
 mod planned;
 mod row;
 mod rows;
+mod seen;
+mod settling;
 mod state;
 mod told;
 

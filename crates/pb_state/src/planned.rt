@@ -2,120 +2,122 @@
 
 ghost use Rattle.std.specs.Prelude.{◌≡◌, ◌<◌, ◌≤◌, ◌∷◌, [], length, None, IfOk};
 ghost use Rattle.std.specs.Option.{option_copied};
+ghost use Rattle.pb_state.specs.Own.{own_of};
 ghost use Rattle.pb_state.specs.Results.{start_with, layers_within, magic_of, nothing, place_for, items_for, items_at};
 ghost use Rattle.pb_outcome.specs.declared.item.Planned.TheVariants.{Decided};
-ghost use Rattle.pb_items.specs.Items.{items_of};
 ghost use Rattle.pb_items.specs.Loops.{max_items};
 
 use crate::items::TaskItems;
+use crate::own::Own;
+use crate::seen::Seen;
+use pb_facts::facts::Facts;
 use pb_ids::HostNo;
 use pb_items::items::items;
 use pb_items::start::Start;
 use pb_layers::layers::{Layers, Magic};
 use pb_outcome::gather::{Ending, ItemResult};
 use pb_outcome::item::{Item, Planned};
-use pb_places::{Place, Role};
-use pb_plan::{Plan, PlanPlay};
+use pb_places::Place;
+use pb_plan::PlanPlay;
 use pb_value::items::Items;
-use pb_value::val::{Dict, Node, Val};
-use pb_variables::magic::host_magic;
+use pb_value::val::{Node, Val};
 use std::alloc::{AllocError, Global};
 
-/// The items of the task at a place that sees these layers and magic variables.
+/// What the items of the task at a place that sees these layers and magic variables are read from, in a run with a facts program or without.
 #[tactic(auto, unfolding(crate::specs::Results::start_with))]
-fn items_with(
-    alloc: Global,
-    place: &Place,
-    layers: &Layers,
-    magic: &Magic,
-) -> Result<Items<Item>, AllocError>
-    ensures value { IfOk result (λ items. items ≡ items_of (start_with place.now layers.now magic.now)) }
-    ensures few { IfOk result (λ items. length items ≤ max_items) }
+pub(crate) fn start_with<'a>(
+    has_facts_program: bool,
+    place: &'a Place,
+    layers: &'a Layers<'a>,
+    magic: &'a Magic<'a>,
+) -> Start<'a>
+    ensures { result ≡ start_with has_facts_program place.now layers.now magic.now }
 {
-    let start = Start {
+    Start {
         task: place.task(),
         conditions: place.conditions(),
         delegate_to: place.delegate_to(),
-        has_facts_program: false,
+        has_facts_program,
         layers,
         magic,
-    };
-    items(alloc, &start)
+    }
 }
 
-/// The items of the task at a place as it starts on a host, with the variables that it sees there: beside the host's and its own those of its role and
-/// of its blocks.
-fn items_within(
-    alloc: Global,
-    plan: &Plan,
-    play: &PlanPlay,
+/// The variables that the task at a place sees on a host: beside the host's and its own those of its role and of its blocks, and what the host has
+/// learnt.
+pub(crate) fn layers_for<'a>(
+    plan: &'a Seen<'a>,
+    play: &'a PlanPlay,
     host: HostNo,
-    role: &Role,
-    block_variables: &Dict,
-    task_variables: &Dict,
-    place: &Place,
-) -> Result<Items<Item>, AllocError>
-    requires { host.0 < length plan.now.inventory.hosts }
-    ensures value { IfOk result (λ items. items ≡ items_of
-        (start_with place.now (layers_within plan.now play.now host.0 role.now block_variables.now task_variables.now) (magic_of plan.now play.now host.0))) }
-    ensures few { IfOk result (λ items. length items ≤ max_items) }
+    facts: &'a Facts,
+    place: &'a Place,
+    own: &'a Own,
+) -> Layers<'a>
+    requires there { host.0 < length plan.now.inventory.hosts }
+    requires own { own.now ≡ own_of plan.now host.0 }
+    ensures { result ≡ layers_within plan.now play.now host.0 facts.now place.now.role place.now.block_vars place.now.task.vars }
 {
     let inventory = plan.inventory();
-    let group_variables = inventory.group_vars(alloc, host)?;
-    let host_magic = host_magic(alloc, inventory, host)?;
-    let none = Dict::new(alloc);
-    let layers = Layers {
+    let role = place.role(&own.no_role);
+    let block_variables = place.block_vars(&own.none);
+    let task = place.task();
+    Layers {
         role_defaults: &role.defaults,
-        group_variables: &group_variables,
+        group_variables: &own.group_variables,
         host_variables: inventory.host_vars(host),
-        host_facts: &none,
+        host_facts: facts.gathered_layer(),
         play_variables: play.vars(),
         role_variables: &role.vars,
         block_variables,
-        task_variables,
-        set_facts: &none,
+        task_variables: &task.vars,
+        set_facts: facts.set_layer(),
         role_parameters: &role.params,
         extra_variables: plan.extra(),
-    };
-    let magic = Magic {
-        host: &host_magic,
-        play: play.magic(),
-        plan: plan.magic(),
-    };
-    items_with(alloc, place, &layers, &magic)
+    }
 }
 
-/// The items of the task at a place as it starts on a host.
+/// The magic variables of a play on a host.
+pub(crate) fn magic_for<'a>(
+    plan: &'a Seen<'a>,
+    play: &'a PlanPlay,
+    host: HostNo,
+    own: &'a Own,
+) -> Magic<'a>
+    requires { own.now ≡ own_of plan.now host.0 }
+    ensures { result ≡ magic_of plan.now play.now host.0 }
+{
+    // (what only the clauses speak of)
+    let _host = host;
+    plan.magic(&own.magic, play.magic())
+}
+
+/// The items of the task at a place as it starts on a host that has learnt this.
 fn items_for(
     alloc: Global,
-    plan: &Plan,
+    plan: &Seen,
     play: &PlanPlay,
     host: HostNo,
+    facts: &Facts,
     place: &Place,
 ) -> Result<Items<Item>, AllocError>
     requires { host.0 < length plan.now.inventory.hosts }
-    ensures value { IfOk result (λ items. items ≡ items_for plan.now play.now host.0 place.now) }
+    ensures value { IfOk result (λ items. items ≡ items_for plan.now play.now host.0 facts.now place.now) }
     ensures few { IfOk result (λ items. length items ≤ max_items) }
 {
-    let no_role = Role::none(alloc);
-    let none = Dict::new(alloc);
-    let role = place.role(&no_role);
-    let block_variables = place.block_vars(&none);
-    let task = place.task();
-    items_within(
-        alloc,
-        plan,
-        play,
-        host,
-        role,
-        block_variables,
-        &task.vars,
-        place,
-    )
+    let own = Own::of(alloc, plan, host)?;
+    let layers = layers_for(plan, play, host, facts, place, &own);
+    let magic = magic_for(plan, play, host, &own);
+    let start = start_with(plan.has_facts_program(), place, &layers, &magic);
+    items(alloc, &start)
 }
 
 /// What stands at a place, where the host is one of the plan.
-fn place_for<'a>(plan: &Plan, play: &'a PlanPlay, host: HostNo, place: usize) -> Option<&'a Place>
+pub(crate) fn place_for<'a>(
+    plan: &Seen,
+    play: &'a PlanPlay,
+    host: HostNo,
+    place: usize,
+) -> Option<&'a Place>
     ensures { option_copied result ≡ place_for plan.now play.now host.0 place }
 {
     if host.0 < plan.host_count() {
@@ -141,20 +143,21 @@ fn no_task(alloc: Global) -> Result<TaskItems, AllocError>
     Ok(TaskItems::of(items))
 }
 
-/// The items of the task at a place as it starts on a host.
+/// The items of the task at a place as it starts on a host that has learnt this.
 #[tactic(auto, unfolding(crate::specs::Results::items_at))]
 pub(crate) fn items_at(
     alloc: Global,
-    plan: &Plan,
+    plan: &Seen,
     play: &PlanPlay,
     host: HostNo,
+    facts: &Facts,
     place: usize,
 ) -> Result<TaskItems, AllocError>
-    ensures { IfOk result (λ items. items ≡ items_at plan.now play.now host.0 place) }
+    ensures { IfOk result (λ items. items ≡ items_at plan.now play.now host.0 facts.now place) }
 {
     match place_for(plan, play, host, place) {
         Some(place) => {
-            let items = items_for(alloc, plan, play, host, place)?;
+            let items = items_for(alloc, plan, play, host, facts, place)?;
             Ok(TaskItems::of(items))
         }
         None => no_task(alloc),

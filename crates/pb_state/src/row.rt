@@ -1,15 +1,18 @@
 //! What the state keeps of one host.
 
-ghost use Rattle.std.specs.Prelude.{◌≡◌, ◌<◌, ◌-◌, ◌^◌, ◌∷◌, ◌++◌, [], OnOk, OnErr, IfOk, IfSome, Some, None, option_map, true, false, if◌then◌else◌};
+ghost use Rattle.std.specs.Prelude.{◌≡◌, ◌<◌, ◌-◌, ◌^◌, ◌∷◌, ◌++◌, [], OnOk, OnErr, IfOk, IfSome, option_map, unwrap_or, true, false};
 ghost use Rattle.std.specs.Option.{option_copied, option_map_or};
 ghost use Rattle.pb_tree.specs.Answer.{AnswerOf};
 ghost use Rattle.pb_planes.specs.Set.{is_in as is_member};
-ghost use Rattle.pb_cursors.specs.Walks.{walk_from, walk_after};
+ghost use Rattle.pb_cursors.specs.Walks.{walk_after};
 
 use crate::decided::{Decided, Done};
 use crate::items::{Before, TaskItems};
+use crate::learning::taught;
+use crate::seen::Seen;
 use crate::told::{done_at, told_of};
 use pb_cursors::{LaidTree, PlayWalk};
+use pb_facts::facts::Facts;
 use pb_ids::{HostNo, Ticket};
 use pb_outcome::gather::TaskResult;
 use pb_outcome::outcome::Outcome;
@@ -68,13 +71,14 @@ impl Drop for Running {
 }
 
 /// One host: its number, its walk through the open batch's play, where it takes part in that, its status, what it runs and what it finished last,
-/// and its counts.
+/// what it has learnt, and its counts.
 pub struct Row {
     host: HostNo,
     walk: Option<PlayWalk>,
     status: Status,
     running: Option<Running>,
     last: Option<Finish>,
+    facts: Facts,
     counts: Counts,
 }
 
@@ -86,10 +90,12 @@ impl Drop for Row {
             status: _,
             running,
             last: _,
+            facts,
             counts: _,
         } = self;
         drop(walk);
         drop(running);
+        drop(facts);
     }
 }
 
@@ -114,6 +120,7 @@ impl Model for Row {
       in_batch = is_some r.walk;
       running = r.running;
       last = r.last;
+      facts = r.facts;
       counts = r.counts;
     } };
 
@@ -169,18 +176,6 @@ fn counted(counts: Counts, task: TaskResult) -> Counts
     }
 }
 
-/// A host that takes part starts its walk.
-fn walk_if(alloc: Global, joins: bool, laid: &Rc<LaidTree>) -> Result<Option<PlayWalk>, AllocError>
-    ensures { IfOk result (λ walk. walk ≡ (if joins then Some (walk_from laid.now.value.tree) else None)) }
-{
-    if joins {
-        let walk = PlayWalk::first(alloc, laid)?;
-        Ok(Some(walk))
-    } else {
-        Ok(None)
-    }
-}
-
 /// The walk takes one answer more. An `Err` changes nothing.
 #[tactic(auto, using(crate::proofs::Walked::unforced_status))]
 fn go_on(walk: &mut PlayWalk, answer: Answer) -> Result<Status, AllocError>
@@ -193,11 +188,20 @@ fn go_on(walk: &mut PlayWalk, answer: Answer) -> Result<Status, AllocError>
     Ok(walk.status())
 }
 
-/// Puts an end to a host's walk.
-fn leave(slot: &mut Option<PlayWalk>)
-    ensures { slot.new ≡ None }
+/// Puts down a host's walk, where it takes part.
+fn put_walk(slot: &mut Option<PlayWalk>, walk: Option<PlayWalk>)
+    ensures { slot.new ≡ walk }
 {
-    *slot = None;
+    *slot = walk;
+}
+
+/// Puts down what a host knows, where that is more than before.
+fn put_facts(slot: &mut Facts, known: Option<Facts>)
+    ensures { slot.new ≡ unwrap_or known slot.old }
+{
+    if let Some(facts) = known {
+        *slot = facts;
+    }
 }
 
 /// The place that is reached.
@@ -217,19 +221,27 @@ fn run(slot: &mut Option<Running>, running: Option<Running>)
     *slot = running;
 }
 
-/// The job that is out of what a host runs came to this. What its item was before is handed back. An `Err` changes nothing.
+/// The job that is out of what a host runs came to this: its item is what the task says of it on a host that has learnt this. What the item was
+/// before is handed back. An `Err` changes nothing.
 fn come_back(
     alloc: Global,
     slot: &mut Option<Running>,
+    plan: &Seen,
+    play: &PlanPlay,
+    host: HostNo,
+    facts: &Facts,
     outcome: &Outcome,
 ) -> Result<Option<Before>, AllocError>
-    ensures ok { OnOk result (slot.new ≡ back_running outcome.now slot.old) }
+    ensures ok { OnOk result (slot.new ≡ back_running plan.now play.now host.0 facts.now outcome.now slot.old) }
     ensures undo { IfOk result (λ before. undone_running before slot.new ≡ slot.old) }
     ensures err { OnErr result (slot.new ≡ slot.old) }
 {
     match slot {
         Some(running) => {
-            let before = running.items.back(alloc, outcome)?;
+            let place = running.place;
+            let before = running
+                .items
+                .back(alloc, plan, play, host, facts, place, outcome)?;
             Ok(before)
         }
         None => Ok(None),
@@ -237,12 +249,14 @@ fn come_back(
 }
 
 impl Row {
-    ghost use Rattle.pb_state.specs.Row.{first_row, finished, progressed, sent, reported, joined, left};
+    ghost use Rattle.pb_state.specs.Row.{first_row, finished, progressed, sent, reported, left};
+    ghost use Rattle.pb_state.specs.Joining.{walk_for, with_walk};
+    ghost use Rattle.pb_state.specs.Walking.{AreUnforced};
     ghost use Rattle.pb_state.specs.Machine.{done_if, report_decides};
     ghost use Rattle.pb_state.specs.Back.{back_row, waiting, went_on, ended_now, decided_now, undone};
 
     /// A host before the run.
-    pub fn new(host: HostNo) -> Row
+    pub fn new(alloc: Global, host: HostNo) -> Row
         ensures { result ≡ first_row host.0 }
     {
         Row {
@@ -251,6 +265,7 @@ impl Row {
             status: Status::Active,
             running: None,
             last: None,
+            facts: Facts::new(alloc),
             counts: Counts {
                 ok: 0,
                 changed: 0,
@@ -263,11 +278,17 @@ impl Row {
         }
     }
 
-    /// The task at a place ends. An `Err` changes nothing.
-    fn finish(&mut self, alloc: Global, place: usize, task: TaskResult) -> Result<(), AllocError>
+    /// The task at a place ends, after which the host knows this, where it is more than before. An `Err` changes nothing.
+    fn finish(
+        &mut self,
+        alloc: Global,
+        place: usize,
+        task: TaskResult,
+        known: Option<Facts>,
+    ) -> Result<(), AllocError>
         requires batch { self.old.in_batch ≡ true }
         requires room { IsAtMost self.old.counts (2 ^ 64 - 2) }
-        ensures ok { OnOk result (self.new ≡ finished place task self.old) }
+        ensures ok { OnOk result (self.new ≡ finished place task (unwrap_or known self.old.facts) self.old) }
         ensures err { OnErr result (self.new ≡ self.old) }
     {
         let kind = kind_of(task);
@@ -277,6 +298,7 @@ impl Row {
         self.status = go_on(walk, Answer::plain(alloc, kind))?;
         run(&mut self.running, None);
         self.last = Some(Finish { place, kind });
+        put_facts(&mut self.facts, known);
         self.counts = counted(self.counts, task);
         Ok(())
     }
@@ -307,7 +329,8 @@ impl Row {
             return Ok(None);
         }
         let done = done_at(alloc, play, place, &items)?;
-        self.finish(alloc, place, done.task)?;
+        let known = taught(alloc, play, place, &done, &items, &self.facts)?;
+        self.finish(alloc, place, done.task, known)?;
         Ok(Some(done))
     }
 
@@ -324,16 +347,17 @@ impl Row {
     pub fn report(
         &mut self,
         alloc: Global,
+        plan: &Seen,
         play: &PlanPlay,
         outcome: &Outcome,
     ) -> Result<Option<Decided>, AllocError>
         requires { IsAtMost self.old.counts (2 ^ 64 - 2) }
-        ensures row { OnOk result (self.new ≡ reported play.now outcome.now self.old) }
-        ensures decides { IfOk result (λ decided. decided ≡ report_decides play.now outcome.now self.old) }
+        ensures row { OnOk result (self.new ≡ reported plan.now play.now outcome.now self.old) }
+        ensures decides { IfOk result (λ decided. decided ≡ report_decides plan.now play.now outcome.now self.old) }
         ensures err { OnErr result (self.new ≡ self.old) }
     {
         let number = self.item();
-        let before = self.take_back(alloc, outcome)?;
+        let before = self.take_back(alloc, plan, play, outcome)?;
         match self.decide(alloc, play, number) {
             Ok(decided) => Ok(decided),
             Err(error) => {
@@ -344,12 +368,26 @@ impl Row {
     }
 
     /// The job that is out came to this: its item has its result. What the item was before is handed back. An `Err` changes nothing.
-    fn take_back(&mut self, alloc: Global, outcome: &Outcome) -> Result<Option<Before>, AllocError>
-        ensures ok { OnOk result (self.new ≡ back_row outcome.now self.old) }
+    fn take_back(
+        &mut self,
+        alloc: Global,
+        plan: &Seen,
+        play: &PlanPlay,
+        outcome: &Outcome,
+    ) -> Result<Option<Before>, AllocError>
+        ensures ok { OnOk result (self.new ≡ back_row plan.now play.now outcome.now self.old) }
         ensures undo { IfOk result (λ before. undone before self.new ≡ self.old) }
         ensures err { OnErr result (self.new ≡ self.old) }
     {
-        let before = come_back(alloc, &mut self.running, outcome)?;
+        let before = come_back(
+            alloc,
+            &mut self.running,
+            plan,
+            play,
+            self.host,
+            &self.facts,
+            outcome,
+        )?;
         Ok(before)
     }
 
@@ -416,38 +454,45 @@ impl Row {
                 }
                 let place = running.place;
                 let done = done_at(alloc, play, place, &running.items)?;
-                self.finish(alloc, place, done.task)?;
+                let known = taught(alloc, play, place, &done, &running.items, &self.facts)?;
+                self.finish(alloc, place, done.task, known)?;
                 Ok(Some(done))
             }
         }
     }
 
-    /// The host as the batch of a play opens that has this tree and these hosts of its own.
-    pub fn joined(
+    /// The walk of the host as the batch of a play opens that has this tree and these hosts of its own, where it takes part.
+    pub fn walk_for(
         &self,
         alloc: Global,
         hosts: &HostSet,
         laid: &Rc<LaidTree>,
-    ) -> Result<Row, AllocError>
-        requires { laid.now.value.tree.force_handlers ≡ false }
-        ensures { IfOk result (λ row. row ≡ joined laid.now.value.tree hosts.now self.now) }
+    ) -> Result<Option<PlayWalk>, AllocError>
+        ensures { IfOk result (λ walk. walk ≡ walk_for laid.now.value.tree hosts.now self.now) }
     {
-        let walk = walk_if(alloc, self.is_called(hosts), laid)?;
-        Ok(Row {
-            host: self.host,
-            walk,
-            status: self.status,
-            running: None,
-            last: None,
-            counts: self.counts,
-        })
+        if self.is_called(hosts) {
+            let walk = PlayWalk::first(alloc, laid)?;
+            Ok(Some(walk))
+        } else {
+            Ok(None)
+        }
+    }
+
+    /// The batch opens, in which the host takes this walk, if it takes part. What it has learnt stays where it is.
+    pub fn join(&mut self, walk: Option<PlayWalk>)
+        requires { AreUnforced walk }
+        ensures { self.new ≡ with_walk walk self.old }
+    {
+        put_walk(&mut self.walk, walk);
+        run(&mut self.running, None);
+        self.last = None;
     }
 
     /// The batch closes.
     pub fn leave(&mut self)
         ensures { self.new ≡ left self.old }
     {
-        leave(&mut self.walk);
+        put_walk(&mut self.walk, None);
         run(&mut self.running, None);
         self.last = None;
     }
@@ -591,6 +636,20 @@ impl Row {
         ensures { result ≡ self.now.in_batch }
     {
         self.walk.is_some()
+    }
+
+    /// The host's number.
+    pub fn host(&self) -> HostNo
+        ensures { result.0 ≡ self.now.host }
+    {
+        self.host
+    }
+
+    /// What the host has learnt.
+    pub fn facts(&self) -> &Facts
+        ensures { result.now ≡ self.now.facts }
+    {
+        &self.facts
     }
 
     /// How the host's finished tasks count.

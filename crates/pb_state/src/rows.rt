@@ -5,13 +5,16 @@ ghost use Rattle.std.specs.List.{list_any};
 ghost use Rattle.std.specs.Option.{option_map_or};
 ghost use Rattle.pb_state.specs.Row.{HostRow, first_rows, next_place, is_called, joined, left, progressed, sent, reported};
 ghost use Rattle.pb_state.specs.Bounds.{IsAtMost};
+ghost use Rattle.pb_state.specs.Joining.{walk_for, with_walk, joined_from, AllUnforced};
+ghost use Rattle.pb_state.specs.Walking.{AreUnforced};
 ghost use Rattle.pb_state.specs.Oldest.{oldest_out, out_at, older};
 ghost use Rattle.pb_state.specs.Machine.{is_ready, stands_at, is_in, is_running, has_send, is_out, has_ticket, least_place, lesser, change, one_if, running_count, done_if, report_decides, has_hosts, first_play};
 
 use crate::decided::{Decided, Done};
 use crate::items::TaskItems;
 use crate::row::{Counts, Row};
-use pb_cursors::LaidTree;
+use crate::seen::Seen;
+use pb_cursors::{LaidTree, PlayWalk};
 use pb_ids::{HostNo, Ticket};
 use pb_outcome::outcome::Outcome;
 use pb_plan::PlanPlay;
@@ -101,7 +104,7 @@ fn first_rows(alloc: Global, hosts: u32) -> Result<Vec<Row>, AllocError>
 {
     let mut rows = Vec::new(alloc);
     for host in 0..hosts {
-        rows.push(Row::new(HostNo(host)))?;
+        rows.push(Row::new(alloc, HostNo(host)))?;
     }
     Ok(rows)
 }
@@ -196,18 +199,19 @@ pub fn report_row(
     alloc: Global,
     rows: &mut HostRows,
     host: HostNo,
+    plan: &Seen,
     play: &PlanPlay,
     outcome: &Outcome,
 ) -> Result<Option<Decided>, AllocError>
     requires { IfSome (slice_get rows.old host.0) (λ row. IsAtMost row.counts (2 ^ 64 - 2)) }
-    ensures rows { OnOk result (rows.new ≡ change rows.old host.0 (reported play.now outcome.now)) }
-    ensures decides { IfOk result (λ decided. decided ≡ option_map_or (report_decides play.now outcome.now) (slice_get rows.old host.0) None) }
+    ensures rows { OnOk result (rows.new ≡ change rows.old host.0 (reported plan.now play.now outcome.now)) }
+    ensures decides { IfOk result (λ decided. decided ≡ option_map_or (report_decides plan.now play.now outcome.now) (slice_get rows.old host.0) None) }
     ensures err { OnErr result (rows.new ≡ rows.old) }
 {
     match rows.rows.get_mut(host.0 as usize) {
         Some(row) => {
             let was = row.is_running();
-            let decided = row.report(alloc, play, outcome)?;
+            let decided = row.report(alloc, plan, play, outcome)?;
             let goes_on = row.is_running();
             rows.running = recounted(rows.running, was, goes_on);
             Ok(decided)
@@ -252,29 +256,45 @@ fn older(a: Option<(HostNo, Ticket)>, b: Option<(HostNo, Ticket)>) -> Option<(Ho
     }
 }
 
-/// The rows as the batch of a play opens that has this tree and whose own hosts are in this set.
-fn joined_rows(
+/// The walk of each host as the batch of a play opens that has this tree and whose own hosts are in this set. All of them are made before the first
+/// row changes, so that a row is never made anew: what its host has learnt stays in it.
+fn walks_for(
     alloc: Global,
     rows: &[Row],
     hosts: &HostSet,
     laid: &Rc<LaidTree>,
-) -> Result<Vec<Row>, AllocError>
-    requires { laid.now.value.tree.force_handlers ≡ false }
-    ensures { IfOk result (λ all. all.items ≡ map (joined laid.now.value.tree hosts.now) rows.now) }
+) -> Result<Vec<Option<PlayWalk>>, AllocError>
+    ensures { IfOk result (λ all. all.items ≡ map (walk_for laid.now.value.tree hosts.now) rows.now) }
 {
     let mut all = Vec::with_capacity(alloc, rows.len())?;
     for row in rows {
-        let joined = row.joined(alloc, hosts, laid)?;
-        all.push(joined)?;
+        let walk = row.walk_for(alloc, hosts, laid)?;
+        all.push(walk)?;
     }
     Ok(all)
 }
 
-/// Puts down the rows of all hosts.
-fn put_rows(slot: &mut Vec<Row>, rows: Vec<Row>)
-    ensures { slot.new.items ≡ rows.items }
+/// A host takes its walk.
+fn join_row(rows: &mut Vec<Row>, at: usize, walk: Option<PlayWalk>)
+    requires { AreUnforced walk }
+    ensures { rows.new.items ≡ change rows.old.items at (with_walk walk) }
 {
-    *slot = rows;
+    if let Some(row) = rows.get_mut(at) {
+        row.join(walk);
+    }
+}
+
+/// Each host takes its walk.
+fn join_each(rows: &mut Vec<Row>, walks: Vec<Option<PlayWalk>>)
+    requires unforced { AllUnforced walks.items }
+    requires room { length walks.items < 2 ^ 32 }
+    ensures { rows.new.items ≡ joined_from 0 walks.items rows.old.items }
+{
+    let mut at: usize = 0;
+    for walk in walks {
+        join_row(rows, at, walk);
+        at += 1;
+    }
 }
 
 /// The batch of a play opens that has this tree and whose own hosts are in this set. An `Err` changes nothing.
@@ -288,8 +308,8 @@ pub fn join_all(
     ensures ok { OnOk result (rows.new ≡ map (joined laid.now.value.tree hosts.now) rows.old) }
     ensures err { OnErr result (rows.new ≡ rows.old) }
 {
-    let joined = joined_rows(alloc, rows.rows.as_slice(), hosts, laid)?;
-    put_rows(&mut rows.rows, joined);
+    let walks = walks_for(alloc, rows.rows.as_slice(), hosts, laid)?;
+    join_each(&mut rows.rows, walks);
     rows.running = 0;
     Ok(())
 }

@@ -7,23 +7,35 @@ ghost use Rattle.std.specs.Option.{option_copied, option_map_or};
 ghost use Rattle.pb_planes.specs.Set.{is_in as is_member};
 ghost use Rattle.pb_plan.specs.Plan.{PlanOf};
 ghost use Rattle.pb_state.specs.Row.{HostRow, left};
+ghost use Rattle.pb_state.specs.Machine.{facts_at, plan_seen};
+ghost use Rattle.pb_state.specs.Results.{items_at};
+ghost use Rattle.pb_state.specs.Seen.{with_hosts};
+ghost use Rattle.pb_state.specs.Back.{SameTold};
 ghost use Rattle.pb_state.specs.State.{State};
 
 use crate::decided::{Decided, decide};
+use crate::due::{
+    DueRows, join_all, leave_all, ready_into, report_row, send_row, stand_at, start_row,
+};
 use crate::event::Event;
+use crate::hosts::hosts_for;
 use crate::items::TaskItems;
 use crate::job::job_in;
 use crate::planned::items_at;
 use crate::row::Counts;
 use crate::rows::{
-    HostRows, counts_of, first_play, join_all, least_place, leave_all, none_into, oldest_out,
-    ready_into, report_row, send_row, some_in, some_out, some_stands, some_ticket, start_row,
+    counts_of, first_play, least_place, none_into, oldest_out, some_in, some_out, some_stands,
+    some_ticket,
 };
+use crate::seen::Seen;
 use crate::told::numbered;
+use pb_facts::facts::Facts;
 use pb_ids::{HostNo, PlayNo, Ticket};
 use pb_outcome::job::{Job, Report};
 use pb_plan::{Plan, PlanPlay};
 use pb_planes::HostSet;
+use pb_value::val::{Dict, Val};
+use pb_variables::hostvars::hosts_magic;
 use std::alloc::{AllocError, Global};
 use std::marker::Model;
 
@@ -50,7 +62,7 @@ impl From<AllocError> for StepFault {
 /// The state of a run.
 pub struct EngineState {
     alloc: Global,
-    rows: HostRows,
+    rows: DueRows,
     play: usize,
     is_open: bool,
     place: Option<usize>,
@@ -255,7 +267,7 @@ impl EngineState {
 }
 
 impl EngineState {
-    ghost use Rattle.pb_state.specs.Machine.{after, opened_in, started_in, start_at, start_with, sent_in, reported_in, turned_in, closed, stopped, with_forks, first_state, ready, change, possible, may_open, may_start_in, may_send_in, may_report_in, open_play};
+    ghost use Rattle.pb_state.specs.Machine.{after, opened_in, started_in, start_at, start_with, sent_in, reported_in, reported_seen, turned_in, closed, stopped, with_forks, first_state, ready, change, possible, may_open, may_start_in, may_send_in, may_report_in, open_play};
     ghost use Rattle.pb_state.specs.Run.{is_command};
     ghost use Rattle.pb_state.specs.Work.{work};
 
@@ -363,7 +375,9 @@ impl EngineState {
         ensures { self.new ≡ after plan.now self.old Event.Turn }
     {
         if let Some(_) = self.open_play(plan) {
-            self.place = least_place(self.rows.as_slice());
+            let place = least_place(self.rows.as_slice());
+            stand_at(&mut self.rows, place);
+            self.place = place;
             decide(&mut self.decided, None);
         }
     }
@@ -404,8 +418,44 @@ impl EngineState {
         ensures ok { OnOk result (self.new ≡ start_at plan.now self.old host.0 play.now place) }
         ensures err { OnErr result (self.new ≡ self.old) }
     {
-        let items = items_at(self.alloc, plan, play, host, place)?;
+        let items = self.items_here(plan, play, host, place)?;
         self.start_with(host, play, place, items)
+    }
+
+    /// The items of the task at a place as it starts on a host, which has learnt what stands in its row.
+    fn items_here(
+        &self,
+        plan: &Plan,
+        play: &PlanPlay,
+        host: HostNo,
+        place: usize,
+    ) -> Result<TaskItems, AllocError>
+        ensures { IfOk result (λ items. items ≡ items_at (plan_seen plan.now self.now) play.now host.0 (facts_at self.now host.0) place) }
+    {
+        match self.rows.as_slice().get(host.0 as usize) {
+            Some(row) => self.items_on(plan, play, host, row.facts(), place),
+            None => {
+                let none = Facts::new(self.alloc);
+                self.items_on(plan, play, host, &none, place)
+            }
+        }
+    }
+
+    /// The same on a host that has learnt this.
+    fn items_on(
+        &self,
+        plan: &Plan,
+        play: &PlanPlay,
+        host: HostNo,
+        facts: &Facts,
+        place: usize,
+    ) -> Result<TaskItems, AllocError>
+        ensures { IfOk result (λ items. items ≡ items_at (plan_seen plan.now self.now) play.now host.0 facts.now place) }
+    {
+        let rows = self.rows.as_slice();
+        let hosts = hosts_for(self.alloc, plan, rows, play, host, facts, place)?;
+        let seen = Seen::new(plan, &hosts);
+        items_at(self.alloc, &seen, play, host, facts, place)
     }
 
     /// The task at a place starts on a host with these items.
@@ -465,21 +515,62 @@ impl EngineState {
         ensures err { OnErr result (self.new ≡ self.old) }
     {
         match self.open_play(plan) {
-            Some(play) => self.report_in(play, report),
+            Some(play) => self.report_in(plan, play, report),
             None => Ok(()),
         }
     }
 
-    fn report_in(&mut self, play: &PlanPlay, report: &Report) -> Result<(), AllocError>
+    /// The variable `hostvars` as the task that a host runs may see it.
+    fn hosts_back(&self, plan: &Plan, play: &PlanPlay, host: HostNo) -> Result<Dict, AllocError>
+        ensures { IfOk result (λ hosts. IfSome (slice_get self.now.rows host.0)
+            (λ row. SameTold (with_hosts plan.now hosts) (plan_seen plan.now self.now) play.now row row.running)) }
+    {
+        let rows = self.rows.as_slice();
+        let Some(row) = rows.get(host.0 as usize) else {
+            return hosts_magic(self.alloc, Val::null());
+        };
+        let Some(running) = row.running() else {
+            return hosts_magic(self.alloc, Val::null());
+        };
+        hosts_for(
+            self.alloc,
+            plan,
+            rows,
+            play,
+            row.host(),
+            row.facts(),
+            running.place,
+        )
+    }
+
+    fn report_in(&mut self, plan: &Plan, play: &PlanPlay, report: &Report) -> Result<(), AllocError>
         requires open { self.old.is_open ≡ true }
         requires may { may_report_in self.old report.now play.now ≡ true }
-        ensures ok { OnOk result (self.new ≡ reported_in self.old report.now play.now) }
+        ensures ok { OnOk result (self.new ≡ reported_in plan.now self.old report.now play.now) }
+        ensures err { OnErr result (self.new ≡ self.old) }
+    {
+        let hosts = self.hosts_back(plan, play, report.host)?;
+        let seen = Seen::new(plan, &hosts);
+        self.report_seen(&seen, play, report)
+    }
+
+    /// A report comes in, where tasks see the plan so.
+    fn report_seen(
+        &mut self,
+        plan: &Seen,
+        play: &PlanPlay,
+        report: &Report,
+    ) -> Result<(), AllocError>
+        requires open { self.old.is_open ≡ true }
+        requires may { may_report_in self.old report.now play.now ≡ true }
+        ensures ok { OnOk result (self.new ≡ reported_seen plan.now self.old report.now play.now) }
         ensures err { OnErr result (self.new ≡ self.old) }
     {
         let decided = report_row(
             self.alloc,
             &mut self.rows,
             report.host,
+            plan,
             play,
             &report.outcome,
         )?;
@@ -499,7 +590,7 @@ impl EngineState {
         requires most { pool ≤ 256 }
         ensures { IfOk result (λ s. s ≡ first_state plan.now forks pool) }
     {
-        let rows = HostRows::first(alloc, plan.host_count())?;
+        let rows = DueRows::first(alloc, plan.host_count())?;
         Ok(EngineState {
             alloc,
             rows,
@@ -536,13 +627,7 @@ impl EngineState {
         ensures { set.new ≡ ready plan.now self.now }
     {
         match self.open_play(plan) {
-            Some(_) => ready_into(
-                self.rows.as_slice(),
-                self.place,
-                !self.stopped,
-                self.has_room(),
-                set,
-            ),
+            Some(_) => ready_into(&self.rows, self.place, !self.stopped, self.has_room(), set),
             None => none_into(set),
         }
     }
@@ -578,6 +663,17 @@ impl EngineState {
         ensures none { IfNone result (list_any is_out self.now.rows ≡ false) }
     {
         oldest_out(self.rows.as_slice())
+    }
+
+    /// What a host has learnt: the layers 4 and 9 of the variables that its tasks see.
+    pub fn facts(&self, host: HostNo) -> &Facts
+        requires { host.0 < length self.now.rows }
+        ensures { result.now ≡ facts_at self.now host.0 }
+    {
+        match self.rows.as_slice().get(host.0 as usize) {
+            Some(row) => row.facts(),
+            None => unreachable!(),
+        }
     }
 
     /// The number of the item that a host sends next, or whose job is out.

@@ -1,16 +1,11 @@
-use Rattle.std.proofs.Common.{◌≡◌, true, subst, sym}
-use Rattle.pb_state.specs.State.{State}
-use Rattle.pb_state.specs.Machine.{may_report_in}
-use Rattle.pb_state.proofs.Within.{room_at, report_bounded}
+use Rattle.std.proofs.Common.{◌∙◌}
+use Rattle.std.proofs.lemmas.Result.{on_ok_weaker}
+use Rattle.pb_state.specs.Machine.{plan_seen}
+use Rattle.pb_state.proofs.ReadHosts.{seen_same}
 use Rattle.pb_state.proofs.state.EngineState.report_in.Goals as goal
 
-pub report_row-requires : goal.report_row-requires
-report_row-requires c =
-    room_at c.self.inside.play c.self.inside.sends c.args.report.now.host.0 c.self.inside.is_open c.self.inside.rows (subst (λ (v : State). v.is_open ≡ true) (sym c.self.view_is) c.requires.open) c.self.invariant
-
-pub invariant_of-self-2 : goal.invariant_of-self-2
-invariant_of-self-2 c =
-    report_bounded c.self.inside.play c.self.inside.sends c.args.report.now.host.0 c.args.report.now.item c.self.inside.is_open c.args.play.now c.args.report.now.ticket c.args.report.now.outcome c.self.inside.rows c.report_row.new.rows c.self.invariant
-    (subst (λ (v : State). v.is_open ≡ true) (sym c.self.view_is) c.requires.open)
-    (subst (λ (v : State). may_report_in v c.args.report.now c.args.play.now ≡ true) (sym c.self.view_is) c.requires.may)
-    c.in_ok-decided.ensures.rows
+pub returns-clause-ok : goal.returns-clause-ok
+returns-clause-ok c =
+    on_ok_weaker c.report_seen.result
+    (λ is. is ∙ seen_same _ (plan_seen c.args.plan.now c.args.self.now) c.args.self.now c.args.report.now c.args.play.now _ c.new-seen.ensures c.in_ok-hosts.ensures)
+    c.report_seen.ensures.ok

@@ -1,0 +1,18 @@
+use Rattle.std.proofs.Common.{◌-◌, ◌^◌, List, subst, sym}
+use Rattle.std.specs.Prelude.{IfSome, slice_get}
+use Rattle.pb_state.specs.Bounds.{IsAtMost}
+use Rattle.pb_state.specs.Row.{HostRow, reported}
+use Rattle.pb_state.proofs.Asked.{one_due}
+use Rattle.pb_state.proofs.due.report_row.Goals as goal
+
+pub report_row-requires : goal.report_row-requires
+report_row-requires c =
+    subst (λ (all : List HostRow). IfSome (slice_get all c.args.host.0) (λ (row : HostRow). IsAtMost row.counts (2 ^ 64 - 2))) (sym c.rows.view_is) c.requires
+
+pub invariant_of-rows-2 : goal.invariant_of-rows-2
+invariant_of-rows-2 c =
+    one_due (reported c.args.plan.now c.args.play.now c.args.outcome.now) c.args.host.0 c.rows.inside.place c.rows.inside.sends c.rows.inside.stands c.ask_one.new.sends c.ask_one.new.stands c.rows.inside.rows c.report_row.new.rows
+    c.rows.invariant
+    c.in_ok-decided.ensures.rows
+    c.ask_one.ensures.sends
+    c.ask_one.ensures.stands

@@ -1,0 +1,31 @@
+-- What a task that ended leaves with its host: its result under the name that it registers, and then the facts of its items. A task that found
+-- its host out of reach leaves nothing (Ansible's documentation, "Using variables", "Registering variables").
+use Rattle.std.specs.Prelude.{ℕ, List, slice_get, if◌then◌else◌}
+use Rattle.std.specs.Option.{option_map_or}
+use Rattle.pb_value.specs.Datum.{Datum}
+use Rattle.pb_facts.specs.declared.facts.Gives.{Gives}
+use Rattle.pb_facts.specs.declared.facts.Gives.TheVariants.{Nothing, Sets, Gathers}
+use Rattle.pb_facts.specs.Facts.{FactsOf, learnt}
+use Rattle.pb_outcome.specs.declared.gather.TaskResult.{TaskResult}
+use Rattle.pb_outcome.specs.declared.item.Item.{Item}
+use Rattle.pb_places.specs.Place.{PlaceOf}
+use Rattle.pb_play.specs.declared.modules.Module.{Module}
+use Rattle.pb_play.specs.declared.modules.Module.TheVariants.{SetFact, Setup}
+use Rattle.pb_play.specs.declared.task.Task.{Task}
+use Rattle.pb_plan.specs.Plan.{PlayOf}
+
+-- what a module gives beside its result
+abbrev pub gives_of : Module → Gives
+gives_of (SetFact facts) = Sets
+gives_of Setup = Gathers
+gives_of other = Nothing
+
+abbrev pub learns : Datum → List Item → FactsOf → Task → FactsOf
+learns result items facts task = learnt (gives_of task.«module») task.register result items facts
+
+abbrev pub learns_at : Datum → List Item → FactsOf → PlaceOf → FactsOf
+learns_at result items facts place = learns result items facts place.task
+
+-- what a host knows once the task at a place ended there with this result, which is shown so
+unfoldable pub taught_by : PlayOf → ℕ → TaskResult → Datum → List Item → FactsOf → FactsOf
+taught_by play p task result items facts = if task.unreachable then facts else option_map_or (learns_at result items facts) (slice_get play.places p) facts

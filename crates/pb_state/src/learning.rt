@@ -1,0 +1,113 @@
+//! What a task that ended leaves with its host.
+
+ghost use Rattle.std.specs.Prelude.{◌≡◌, IfOk, unwrap_or};
+ghost use Rattle.std.specs.Option.{option_copied};
+ghost use Rattle.pb_facts.specs.Facts.{learnt, with_each, given_in};
+ghost use Rattle.pb_state.specs.Learning.{gives_of, learns, taught_by};
+
+use crate::decided::Done;
+use crate::items::TaskItems;
+use pb_facts::facts::{Facts, Gives};
+use pb_outcome::item::Item;
+use pb_plan::PlanPlay;
+use pb_play::modules::Module;
+use pb_play::task::Task;
+use pb_value::val::Val;
+use std::alloc::{AllocError, Global};
+
+/// What a module gives beside its result.
+fn gives_of(called: &Module) -> Gives
+    ensures { result ≡ gives_of called.now }
+{
+    match called {
+        Module::SetFact { facts: _ } => Gives::Sets,
+        Module::Setup => Gives::Gathers,
+        Module::Assert {
+            that: _,
+            fail_msg: _,
+            success_msg: _,
+        } => Gives::Nothing,
+        Module::Command(_) => Gives::Nothing,
+        Module::Debug { msg: _ } => Gives::Nothing,
+        Module::DebugVar { text: _, expr: _ } => Gives::Nothing,
+        Module::Fail { msg: _ } => Gives::Nothing,
+        Module::Shell { cmd: _ } => Gives::Nothing,
+    }
+}
+
+/// What a host knows once a task that gives this, and registers its result under this name, ended with these items.
+fn learnt_in(
+    alloc: Global,
+    gives: Gives,
+    register: Option<&str>,
+    shown: Val,
+    items: &[Item],
+    facts: &Facts,
+) -> Result<Facts, AllocError>
+    ensures { IfOk result (λ known. known ≡ learnt gives (option_copied register.entry) shown items.now facts.now) }
+{
+    let mut known = facts.try_clone(alloc)?;
+    known.learn(alloc, gives, register, shown, items)?;
+    Ok(known)
+}
+
+/// The same where the task registers nothing: there is nothing where it gives nothing either, so that nothing is copied then.
+#[tactic(auto, using(pb_facts::proofs::Each::each_nothing))]
+fn given(
+    alloc: Global,
+    gives: Gives,
+    items: &[Item],
+    facts: &Facts,
+) -> Result<Option<Facts>, AllocError>
+    ensures { IfOk result (λ known. unwrap_or known facts.now ≡ with_each gives (given_in items.now) facts.now) }
+{
+    match gives {
+        Gives::Nothing => Ok(None),
+        _ => {
+            let known = learnt_in(alloc, gives, None, Val::null(), items, facts)?;
+            Ok(Some(known))
+        }
+    }
+}
+
+/// What a host knows once a task ended with these items and this result, where that is more than before.
+fn learns(
+    alloc: Global,
+    shown: &Val,
+    items: &[Item],
+    facts: &Facts,
+    task: &Task,
+) -> Result<Option<Facts>, AllocError>
+    ensures { IfOk result (λ known. unwrap_or known facts.now ≡ learns shown.now items.now facts.now task.now) }
+{
+    let gives = gives_of(&task.module);
+    match &task.register {
+        Some(name) => {
+            let shown = shown.try_clone(alloc)?;
+            let known = learnt_in(alloc, gives, Some(name.as_str()), shown, items, facts)?;
+            Ok(Some(known))
+        }
+        None => given(alloc, gives, items, facts),
+    }
+}
+
+/// What a host knows once the task at a place ended there, where that is more than before. A host that is out of reach learns nothing.
+#[tactic(auto, unfolding(crate::specs::Learning::taught_by))]
+pub(crate) fn taught(
+    alloc: Global,
+    play: &PlanPlay,
+    place: usize,
+    done: &Done,
+    items: &TaskItems,
+    facts: &Facts,
+) -> Result<Option<Facts>, AllocError>
+    ensures { IfOk result (λ known. unwrap_or known facts.now ≡ taught_by play.now place done.now.task done.now.result items.now facts.now) }
+{
+    if done.task.unreachable {
+        return Ok(None);
+    }
+    match play.place(place) {
+        Some(place) => learns(alloc, &done.result, items.as_slice(), facts, place.task()),
+        None => Ok(None),
+    }
+}
