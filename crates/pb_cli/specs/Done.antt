@@ -15,11 +15,12 @@ use Rattle.pb_command_line.specs.CommandLine.{Asks, IsRefused}
 use Rattle.pb_cli.specs.Played.{IsBadTable, IsGiven}
 use Rattle.pb_cli.specs.Warned.{IsWarned}
 
--- the bundle of a request: its forks, limit and extra variables, and of each file's bytes no more than there is room for, and one byte that tells that there are more
+-- the bundle of a request: its forks, limit and extra variables, whether it names a facts program, and of each file's bytes no more than there is room for, and one byte that tells that there are more
 pub record IsBundleOf (request : Request) (bundle : Bundle) : Type 0 where
   pub forks : bundle.forks ≡ request.forks
   pub limit : bundle.limit ≡ request.limit
   pub extra : bundle.extra ≡ request.extra
+  pub gathers : bundle.has_facts_program ≡ is_some request.facts_program
   pub inventory : length bundle.inventory ≤ max_bytes + 1
   pub playbook : length bundle.playbook ≤ max_bytes - length bundle.inventory + 1
 
@@ -38,18 +39,18 @@ pub record IsUntold (bundle : Bundle) (purpose : Purpose) (outcomes : Option (Li
   pub fault : e ≢ Memory → IsBadTable outcomes e
 
 -- a bundle has a plan, its warnings were written, and it was run, checked or listed
-abbrev pub IsShown : Bundle → Purpose → Option (List ℕ) → Option (List ℕ) → Option (List ℕ) → Option (List ℕ) → Option (List ℕ) → ℕ → ℕ → ℕ → Type 0
-IsShown bundle purpose outcomes out_before out_after err_before err_after failures failures_after status =
-    (plan : PlanOf) × IsPlanOf bundle plan × IsGiven purpose plan outcomes out_before out_after status × IsWarned plan.warnings err_before err_after failures failures_after
+abbrev pub IsShown : Bundle → Purpose → (facts_program outcomes : Option (List ℕ)) → Option (List ℕ) → Option (List ℕ) → Option (List ℕ) → Option (List ℕ) → ℕ → ℕ → ℕ → Type 0
+IsShown bundle purpose facts_program outcomes out_before out_after err_before err_after failures failures_after status =
+    (plan : PlanOf) × IsPlanOf bundle plan × IsGiven purpose plan facts_program outcomes out_before out_after status × IsWarned plan.warnings err_before err_after failures failures_after
 
--- what a request asks for was done, with a bundle of it, and with outcomes where it names a file of them
+-- what a request asks for was done, with a bundle of it, with its facts program, and with outcomes where it names a file of them
 pub record IsDone (request : Request) (out_before out_after err_before err_after : Option (List ℕ)) (failures failures_after : ℕ) (status : ℕ) : Type 0 where
   pub bundle : Bundle
   pub outcomes : Option (List ℕ)
   pub asked : IsBundleOf request bundle
   pub named : is_some outcomes ≡ is_some request.outcomes
   pub short : is_too_long outcomes ≡ false
-  pub shown : IsShown bundle request.purpose outcomes out_before out_after err_before err_after failures failures_after status
+  pub shown : IsShown bundle request.purpose request.facts_program outcomes out_before out_after err_before err_after failures failures_after status
 
 -- a call for help is among what the words are refused for, and a text was put out; the clause doesn't say which text
 abbrev pub IsHelped : List (List ℕ) → Option (List ℕ) → Option (List ℕ) → ℕ → Type 0

@@ -4,7 +4,7 @@ use Rattle.pb_outcome.specs.declared.job.Job.{Job}
 use Rattle.pb_outcome.specs.declared.outcome.Form.{Form}
 use Rattle.pb_runner.specs.declared.fault.TableFault.{TableFault}
 use Rattle.pb_runner.specs.declared.table.Table.{Table}
-use Rattle.pb_runner.specs.Local.{LocalAllows}
+use Rattle.pb_runner.specs.Local.{LocalAllows, LocalGives}
 use Rattle.pb_runner.specs.Reading.{table_of}
 use Rattle.pb_runner.specs.Table.{TableGives}
 use Rattle.pb_state.specs.declared.event.Event.{Event}
@@ -34,10 +34,11 @@ pub record IsTabled (bytes : List ℕ) (plan : PlanOf) (before after : Option (L
   pub tabled : table_of bytes ≡ Ok table
   pub run : IsRunBy allows_all (TableGives table) plan before after status
 
--- a run of a plan: without a file of outcomes the programs of its jobs run on this machine, and with one nothing is run but what the file says comes of each job
-abbrev pub IsPlayed : PlanOf → Option (List ℕ) → Option (List ℕ) → Option (List ℕ) → ℕ → Type 0
-IsPlayed plan None before after status = IsRunBy LocalAllows LocalAllows plan before after status
-IsPlayed plan (Some bytes) before after status = IsTabled bytes plan before after status
+-- a run of a plan: without a file of outcomes the programs of its jobs run on this machine, by a runner with this facts program or none, and with one nothing is run
+-- but what the file says comes of each job
+abbrev pub IsPlayed : PlanOf → (facts_program outcomes : Option (List ℕ)) → Option (List ℕ) → Option (List ℕ) → ℕ → Type 0
+IsPlayed plan facts_program None before after status = IsRunBy LocalAllows (LocalGives facts_program) plan before after status
+IsPlayed plan facts_program (Some bytes) before after status = IsTabled bytes plan before after status
 
 -- a file of outcomes has this first fault
 unfoldable pub IsBadTable : Option (List ℕ) → TableFault → Type 0
@@ -45,7 +46,7 @@ IsBadTable None e = ⊥
 IsBadTable (Some bytes) e = table_of bytes ≡ Err e
 
 -- what a plan is made for: its run, to tell that it can be made, or the list of its hosts
-abbrev pub IsGiven : Purpose → PlanOf → Option (List ℕ) → Option (List ℕ) → Option (List ℕ) → ℕ → Type 0
-IsGiven Run plan outcomes before after status = IsPlayed plan outcomes before after status
-IsGiven CheckSyntax plan outcomes before after status = (after ≡ with_more before (codes "ok\n")) × (status ≡ 0)
-IsGiven ListHosts plan outcomes before after status = (after ≡ with_more before (listing plan)) × (status ≡ 0)
+abbrev pub IsGiven : Purpose → PlanOf → (facts_program outcomes : Option (List ℕ)) → Option (List ℕ) → Option (List ℕ) → ℕ → Type 0
+IsGiven Run plan facts_program outcomes before after status = IsPlayed plan facts_program outcomes before after status
+IsGiven CheckSyntax plan facts_program outcomes before after status = (after ≡ with_more before (codes "ok\n")) × (status ≡ 0)
+IsGiven ListHosts plan facts_program outcomes before after status = (after ≡ with_more before (listing plan)) × (status ≡ 0)

@@ -7,6 +7,7 @@ ghost use Rattle.pb_plan.specs.Bundle.{IsPlanOf, IsBundleFault};
 ghost use Rattle.pb_driver.specs.Taken.{with_more};
 ghost use Rattle.pb_cli.specs.Done.{IsBundleOf, is_too_long, IsUntold, IsShown, IsDone, IsHelped, IsAnswered};
 ghost use Rattle.pb_cli.specs.Listing.{listing};
+ghost use Rattle.pb_runner.specs.Local.{LocalAllows, LocalGives};
 ghost use Rattle.pb_cli.specs.Played.{IsBadTable, IsRunBy, IsTabled, IsPlayed, IsGiven};
 ghost use Rattle.pb_runner.specs.Reading.{table_of};
 ghost use Rattle.pb_cli.specs.Warned.{ended, warning_text, IsWarned};
@@ -77,24 +78,48 @@ fn run_tabled<O: LineOut>(
     }
 }
 
+/// The path of a facts program, if there is one, as a text of its own.
+fn path_in(facts_program: &Option<Text>) -> Result<Option<Text>, AllocError>
+    ensures { IfOk result (λ path. path ≡ facts_program.now) }
+{
+    match facts_program {
+        Some(path) => Ok(Some(path.try_clone()?)),
+        None => Ok(None),
+    }
+}
+
+/// Runs a plan, with its lines on a writer: the jobs' programs on this machine, this one where facts are gathered.
+fn run_local<R: AllocGlobal + Processes<Started = SystemProcess>, O: LineOut>(
+    rt: &R,
+    plan: Plan,
+    facts_program: &Option<Text>,
+    out: &mut O,
+) -> Result<u8, RunFault>
+    ensures { IfOk result (IsRunBy LocalAllows (LocalGives facts_program.now) plan (O.taken out.old) (O.taken out.new)) }
+{
+    let path = path_in(facts_program)?;
+    let mut runner = LocalRunner::new(rt, path);
+    run_by(rt.alloc(), plan, &mut runner, out)
+}
+
 /// Runs a plan, with its lines on a writer: the jobs' programs on this machine, or nothing where there are bytes of a file of
 /// outcomes, which say what comes of each job.
 #[tactic(auto, unfolding(crate::specs::Played::IsBadTable))]
 fn run_plan<R: AllocGlobal + Processes<Started = SystemProcess>, O: LineOut>(
     rt: &R,
     plan: Plan,
+    facts_program: &Option<Text>,
     outcomes: &Option<Items<u8>>,
     out: &mut O,
 ) -> Result<u8, PlayFault>
-    ensures played { IfOk result (IsPlayed plan outcomes.now (O.taken out.old) (O.taken out.new)) }
+    ensures played { IfOk result (IsPlayed plan facts_program.now outcomes.now (O.taken out.old) (O.taken out.new)) }
     ensures planned { (e : BundleFault) → result ≢ Err (PlayFault.Bundle e) }
     ensures untold { (e : TableFault) → result ≡ Err (PlayFault.Outcomes e) → (O.taken out.new ≡ O.taken out.old) × (e ≢ TableFault.Memory → IsBadTable outcomes.now e) }
 {
     if let Some(bytes) = outcomes {
         return run_tabled(rt.alloc(), plan, bytes.as_slice(), out);
     }
-    let mut runner = LocalRunner::new(rt, None);
-    match run_by(rt.alloc(), plan, &mut runner, out) {
+    match run_local(rt, plan, facts_program, out) {
         Ok(status) => Ok(status),
         Err(fault) => Err(PlayFault::Run(fault)),
     }
@@ -152,8 +177,9 @@ fn push_line(text: &mut String, line: &Text) -> Result<(), AllocError>
 
 /// Makes the plan of a bundle and does with it what it is made for, on a writer, and answers the exit status: it is run, its
 /// hosts are listed, or nothing but `ok` is written. Warnings of the plan are written before that, on a writer of their own.
-/// Without outcomes each job's program is run on this machine, the oldest job first and one at a time; with them nothing is run,
-/// and they say what comes of each job.
+/// Without outcomes each job's program is run on this machine, the oldest job first and one at a time, and the facts program where
+/// facts are gathered; with them nothing is run, and they say what comes of each job. That facts are gathered by a program at all is
+/// the bundle's to say; where it says so and none is named here, gathering can't start.
 ///
 /// # Errors
 /// `Bundle` with the bundle's first fault, where it has no plan: nothing is written on `out` then. `Outcomes` with the first fault
@@ -163,11 +189,12 @@ pub fn play_bundle<R: AllocGlobal + Processes<Started = SystemProcess>, O: LineO
     rt: &R,
     bundle: &Bundle,
     purpose: Purpose,
+    facts_program: &Option<Text>,
     outcomes: &Option<Items<u8>>,
     out: &mut O,
     err: &mut E,
 ) -> Result<u8, PlayFault>
-    ensures answered { IfOk result (IsShown bundle.now purpose outcomes.now (O.taken out.old) (O.taken out.new) (E.taken err.old) (E.taken err.new) (E.failures err.old) (E.failures err.new)) }
+    ensures answered { IfOk result (IsShown bundle.now purpose facts_program.now outcomes.now (O.taken out.old) (O.taken out.new) (E.taken err.old) (E.taken err.new) (E.failures err.old) (E.failures err.new)) }
     ensures refused { (e : BundleFault) → result ≡ Err (PlayFault.Bundle e) → (O.taken out.new ≡ O.taken out.old) × (e ≢ BundleFault.Memory → IsBundleFault bundle.now e) }
     ensures untold { (e : TableFault) → result ≡ Err (PlayFault.Outcomes e) → IsUntold bundle.now purpose outcomes.now e (O.taken out.old) (O.taken out.new) (E.taken err.old) (E.taken err.new) (E.failures err.old) (E.failures err.new) }
 {
@@ -182,7 +209,7 @@ pub fn play_bundle<R: AllocGlobal + Processes<Started = SystemProcess>, O: LineO
     match purpose {
         Purpose::CheckSyntax => show(out, "ok\n"),
         Purpose::ListHosts => show_hosts(alloc, &plan, out),
-        Purpose::Run => run_plan(rt, plan, outcomes, out),
+        Purpose::Run => run_plan(rt, plan, facts_program, outcomes, out),
     }
 }
 
@@ -218,6 +245,7 @@ pub fn play<R: Files + AllocGlobal + Processes<Started = SystemProcess>, O: Line
 /// What was asked for, with the bytes of the files.
 struct Asked {
     bundle: Bundle,
+    facts_program: Option<Text>,
     outcomes: Option<Items<u8>>,
     purpose: Purpose,
 }
@@ -227,10 +255,12 @@ impl Drop for Asked {
     fn drop(self) {
         let Asked {
             bundle,
+            facts_program,
             outcomes,
             purpose: _,
         } = self;
         drop(bundle);
+        drop(facts_program);
         drop(outcomes);
     }
 }
@@ -266,15 +296,16 @@ fn play_asked<R: AllocGlobal + Processes<Started = SystemProcess>, O: LineOut, E
     out: &mut O,
     err: &mut E,
 ) -> u8
-    ensures done { result ≢ 1 → IsShown asked.now.bundle asked.now.purpose asked.now.outcomes (O.taken out.old) (O.taken out.new) (E.taken err.old) (E.taken err.new) (E.failures err.old) (E.failures err.new) result }
+    ensures done { result ≢ 1 → IsShown asked.now.bundle asked.now.purpose asked.now.facts_program asked.now.outcomes (O.taken out.old) (O.taken out.new) (E.taken err.old) (E.taken err.new) (E.failures err.old) (E.failures err.new) result }
 {
     let Asked {
         bundle,
+        facts_program,
         outcomes,
         purpose,
     } = asked;
     let alloc = rt.alloc();
-    match play_bundle(rt, bundle, *purpose, outcomes, out, err) {
+    match play_bundle(rt, bundle, *purpose, facts_program, outcomes, out, err) {
         Ok(status) => status,
         Err(PlayFault::Run(fault)) => told(alloc, err, Part::Run, &fault),
         Err(PlayFault::Outcomes(fault)) => told(alloc, err, Part::Outcomes, &fault),
@@ -285,6 +316,7 @@ fn play_asked<R: AllocGlobal + Processes<Started = SystemProcess>, O: LineOut, E
 /// The files' bytes: of each as many as the bundle has room for, and one more where there are more.
 fn read_files<R: Files + AllocGlobal>(rt: &R, request: Request) -> io::Result<Asked>
     ensures bundle { IfOk result (λ asked. IsBundleOf request asked.bundle) }
+    ensures facts { IfOk result (λ asked. asked.facts_program ≡ request.facts_program) }
     ensures outcomes { IfOk result (λ asked. is_some asked.outcomes ≡ is_some request.outcomes) }
     ensures purpose { IfOk result (λ asked. asked.purpose ≡ request.purpose) }
 {
@@ -295,6 +327,7 @@ fn read_files<R: Files + AllocGlobal>(rt: &R, request: Request) -> io::Result<As
         outcomes,
         limit,
         extra,
+        facts_program,
         purpose,
     } = request;
     let inventory = read_file(rt, inventory.as_str(), MAX_BYTES)?;
@@ -307,9 +340,11 @@ fn read_files<R: Files + AllocGlobal>(rt: &R, request: Request) -> io::Result<As
         limit,
         extra,
         forks,
+        has_facts_program: facts_program.is_some(),
     };
     Ok(Asked {
         bundle,
+        facts_program,
         outcomes,
         purpose,
     })

@@ -33,6 +33,7 @@ fn bundle_of(alloc: Global, playbook: &str, forks: u32) -> Result<Bundle, AllocE
         limit: None,
         extra: None,
         forks,
+        has_facts_program: false,
     })
 }
 
