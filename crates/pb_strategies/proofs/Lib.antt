@@ -1,0 +1,4 @@
+pub mod Overwritten
+pub mod Keeping
+pub mod Starting
+pub mod Turning

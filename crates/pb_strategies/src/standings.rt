@@ -1,0 +1,282 @@
+//! Where each host stands.
+
+ghost use Rattle.std.specs.Prelude.{◌≡◌, ◌<◌, ◌&&◌, ◌^◌, ℕ, List, Option, Some, None, IfOk, length, map, not, count_by, replicate, slice_get, slice_set};
+ghost use Rattle.std.specs.List.{list_any};
+ghost use Rattle.std.specs.Simd.Lanes.{zip2};
+ghost use Rattle.pb_limits.specs.Counts.{limits_of, running, running_at};
+ghost use Rattle.pb_strategies.specs.Hosts.{nowhere, same_place, is_running, is_next_at, is_waiting, is_under_way, has_begun, runs_in};
+
+use pb_ids::HostNo;
+use pb_limits::Limits;
+use pb_planes::HostSet;
+use std::alloc::{AllocError, Global};
+use std::marker::Model;
+
+/// Where a host stands.
+#[derive(Clone, Copy, Debug, PartialEq, Eq)]
+pub struct Standing {
+    /// Its next place in the open batch: none outside of the batch, and none at its end.
+    pub next: Option<usize>,
+    /// The place of the task that it runs.
+    pub runs: Option<usize>,
+    /// Whether it has started a task in the batch.
+    pub has_begun: bool,
+}
+
+impl Standing {
+    /// Outside of the batch.
+    pub fn nowhere() -> Standing
+        ensures { result ≡ nowhere }
+    {
+        Standing {
+            next: None,
+            runs: None,
+            has_begun: false,
+        }
+    }
+}
+
+/// Where each host stands. Sets of hosts and counts are kept beside the list, so that a strategy needn't look at each host.
+#[derive(Debug, Drop)]
+pub struct Standings {
+    hosts: Vec<Standing>,
+    limits: Limits,
+    /// The hosts that run.
+    running: HostSet,
+    /// Those that have begun.
+    begun: HostSet,
+    /// Those that have a next place.
+    unended: HostSet,
+    /// Those whose next place is `place`.
+    here: HostSet,
+    place: Option<usize>,
+}
+
+impl Model for Standings {
+    ghost use Rattle.std.specs.Prelude.{List};
+    ghost use Rattle.pb_strategies.specs.declared.standings.Standing.{Standing};
+    ghost use Rattle.pb_strategies.specs.Kept.{IsKept};
+
+    ghost Value = { List Standing };
+
+    ghost view = { λ s. s.hosts.items };
+
+    ghost invariant = { λ s. IsKept s.hosts.items s.limits s.running s.begun s.unended s.here s.place };
+}
+
+/// Whether both are the same place.
+fn same_place(one: Option<usize>, other: Option<usize>) -> bool
+    ensures { result ≡ same_place one other }
+{
+    match (one, other) {
+        (Some(p), Some(q)) => p == q,
+        _ => false,
+    }
+}
+
+/// A host that ran this, if anything, runs nothing.
+fn finish_if(limits: &mut Limits, old: Option<usize>)
+    ensures { (places host : ℕ) (runs : List (Option ℕ)) → slice_get runs host ≡ Some old → limits.old ≡ limits_of places runs → limits.new ≡ limits_of places (slice_set runs host None) }
+{
+    if let Some(place) = old {
+        limits.finish(place);
+    }
+}
+
+/// A host that ran nothing runs this, if anything.
+fn start_if(limits: &mut Limits, new: Option<usize>)
+    ensures { (places host : ℕ) (runs : List (Option ℕ)) → length runs < 2 ^ 32 → slice_get runs host ≡ Some None → limits.old ≡ limits_of places runs
+        → limits.new ≡ limits_of places (slice_set runs host new) }
+{
+    if let Some(place) = new {
+        limits.start(place);
+    }
+}
+
+/// So many hosts outside of the batch.
+fn outside(alloc: Global, hosts: u32) -> Result<Vec<Standing>, AllocError>
+    ensures { IfOk result (λ all. all.items ≡ replicate hosts nowhere) }
+{
+    let mut all = Vec::new(alloc);
+    for _ in 0..hosts {
+        all.push(Standing::nowhere())?;
+    }
+    Ok(all)
+}
+
+/// Makes a set the same as another one.
+fn copy_into(from: &HostSet, set: &mut HostSet)
+    requires { length set.old ≡ length from.now }
+    ensures { set.new ≡ from.now }
+{
+    set.and_with(from);
+    set.or_with(from);
+}
+
+/// Puts the hosts whose next place is this one into a set.
+fn next_at_into(hosts: &[Standing], place: Option<usize>, set: &mut HostSet)
+    requires { length set.old ≡ length hosts.now }
+    ensures { set.new ≡ map (is_next_at place) hosts.now }
+{
+    let width = set.width();
+    for i in 0..width {
+        let is_in = same_place(hosts[i as usize].next, place);
+        set.put(HostNo(i), is_in);
+    }
+}
+
+/// How many of these hosts run the task at a place.
+fn count_at(hosts: &[Standing], place: usize) -> u32
+    requires { length hosts.now < 2 ^ 32 }
+    ensures { result ≡ running_at (runs_in hosts.now) place }
+{
+    let mut count = 0;
+    for host in hosts {
+        if same_place(Some(place), host.runs) {
+            count += 1;
+        }
+    }
+    count
+}
+
+/// Whether some host's next place is this one.
+fn some_next(hosts: &[Standing], place: usize) -> bool
+    ensures { result ≡ list_any (is_next_at (Some place)) hosts.now }
+{
+    for host in hosts {
+        if same_place(host.next, Some(place)) {
+            return true;
+        }
+    }
+    false
+}
+
+impl Standings {
+    /// So many hosts outside of the batch, whose play has so many places. The only error is want of memory.
+    pub fn new(alloc: Global, hosts: u32, places: usize) -> Result<Standings, AllocError>
+        ensures { IfOk result (λ standings. standings ≡ replicate hosts nowhere) }
+    {
+        let all = outside(alloc, hosts)?;
+        let limits = Limits::new(alloc, places)?;
+        let running = HostSet::empty(alloc, hosts)?;
+        let begun = HostSet::empty(alloc, hosts)?;
+        let unended = HostSet::empty(alloc, hosts)?;
+        let here = HostSet::empty(alloc, hosts)?;
+        Ok(Standings {
+            hosts: all,
+            limits,
+            running,
+            begun,
+            unended,
+            here,
+            place: None,
+        })
+    }
+
+    /// Where each host stands, in the order of hosts.
+    pub fn as_slice(&self) -> &[Standing]
+        ensures { result.now ≡ self.now }
+    {
+        self.hosts.as_slice()
+    }
+
+    /// From now on a host stands here. One past the end changes nothing.
+    pub fn put(&mut self, host: HostNo, standing: Standing)
+        ensures { self.new ≡ slice_set self.old host.0 standing }
+    {
+        let at = host.0 as usize;
+        if at < self.hosts.len() {
+            finish_if(&mut self.limits, self.hosts[at].runs);
+            start_if(&mut self.limits, standing.runs);
+            self.running.put(host, standing.runs.is_some());
+            self.begun.put(host, standing.has_begun);
+            self.unended.put(host, standing.next.is_some());
+            self.here.put(host, same_place(standing.next, self.place));
+            self.hosts[at] = standing;
+        }
+    }
+
+    /// From now on it is kept which hosts' next place is this one, so that `ready` needn't look for them.
+    pub fn stand_at(&mut self, place: Option<usize>)
+        ensures { self.new ≡ self.old }
+    {
+        next_at_into(self.hosts.as_slice(), place, &mut self.here);
+        self.place = place;
+    }
+
+    /// How many hosts run.
+    pub fn running(&self) -> u32
+        ensures { result ≡ running (runs_in self.now) }
+    {
+        self.limits.running()
+    }
+
+    /// How many hosts run the task at a place. They are counted host by host only where the place is none of the play's.
+    pub fn running_at(&self, place: usize) -> u32
+        ensures { result ≡ running_at (runs_in self.now) place }
+    {
+        match self.limits.running_at(place) {
+            Some(running) => running,
+            None => count_at(self.hosts.as_slice(), place),
+        }
+    }
+
+    /// How many hosts have begun and aren't at their end; the set is written over.
+    pub(crate) fn under_way(&self, set: &mut HostSet) -> u32
+        requires { length set.old ≡ length self.now }
+        ensures count { result ≡ count_by is_under_way self.now }
+        ensures width { length set.new ≡ length self.now }
+    {
+        copy_into(&self.begun, set);
+        set.and_with(&self.unended);
+        set.count()
+    }
+
+    /// Puts the hosts that wait to start a task into a set.
+    pub(crate) fn waiting_into(&self, set: &mut HostSet)
+        requires { length set.old ≡ length self.now }
+        ensures { set.new ≡ map is_waiting self.now }
+    {
+        copy_into(&self.unended, set);
+        set.minus_with(&self.running);
+    }
+
+    /// Takes the hosts that haven't begun out of a set.
+    pub(crate) fn keep_begun(&self, set: &mut HostSet)
+        requires { length set.old ≡ length self.now }
+        ensures { set.new ≡ zip2 (λ a b. a && b) set.old (map has_begun self.now) }
+    {
+        set.and_with(&self.begun);
+    }
+
+    /// Takes the hosts that run out of a set.
+    pub(crate) fn drop_running(&self, set: &mut HostSet)
+        requires { length set.old ≡ length self.now }
+        ensures { set.new ≡ zip2 (λ a b. a && not b) set.old (map is_running self.now) }
+    {
+        set.minus_with(&self.running);
+    }
+
+    /// Puts the hosts whose next place is this one into a set.
+    pub(crate) fn next_into(&self, place: usize, set: &mut HostSet)
+        requires { length set.old ≡ length self.now }
+        ensures { set.new ≡ map (is_next_at (Some place)) self.now }
+    {
+        if same_place(self.place, Some(place)) {
+            copy_into(&self.here, set);
+        } else {
+            next_at_into(self.hosts.as_slice(), Some(place), set);
+        }
+    }
+
+    /// Whether some host's next place is this one.
+    pub(crate) fn some_next_at(&self, place: usize) -> bool
+        ensures { result ≡ list_any (is_next_at (Some place)) self.now }
+    {
+        if same_place(self.place, Some(place)) {
+            !self.here.is_empty()
+        } else {
+            some_next(self.hosts.as_slice(), place)
+        }
+    }
+}
