@@ -20,10 +20,10 @@ use Rattle.pb_reading.specs.declared.stop.Stop.{Stop}
 use Rattle.pb_reading.specs.declared.stop.Stop.TheVariants as stop
 use Rattle.pb_play.specs.Refusals.{GivesOf}
 use Rattle.pb_play.specs.Hosts.{texts, has_braces, as_read, pattern, expressions_in, joined, hosts, expressions_of_hosts}
-use Rattle.pb_play.specs.NoEffect.{has_no_effect}
+use Rattle.pb_play.specs.NoEffect.{has_no_effect, key}
 use Rattle.pb_play.specs.Playbooks.{plays, of_json, playbook_of, as_load_fault, as_playbook, each_expression, expressions_of_plays, expressions_of_book}
 use Rattle.pb_written.specs.Simple.{switched}
-use Rattle.pb_play.specs.Plays.{key, rest_of_play, play, expressions_at, expressions_of_play}
+use Rattle.pb_play.specs.Plays.{rest_of_play, play, expressions_at, expressions_of_play}
 use Rattle.pb_play.specs.declared.fault.LoadFault.{LoadFault}
 use Rattle.pb_play.specs.declared.fault.LoadFault.TheVariants as load
 use Rattle.pb_play.specs.declared.fault.LoadFault.TheVariants.{BadPattern}

@@ -15,8 +15,8 @@ use Rattle.pb_written.specs.Simple.{switched}
 use Rattle.pb_play.specs.Arguments.{argument}
 use Rattle.pb_play.specs.Assert.{said}
 use Rattle.pb_play.specs.Conditions.{conditions}
-use Rattle.pb_play.specs.NoEffect.{has_no_effect}
-use Rattle.pb_play.specs.Plays.{key, key_or, lists, play_of, rest_of_play}
+use Rattle.pb_play.specs.NoEffect.{has_no_effect, key, key_or}
+use Rattle.pb_play.specs.Plays.{lists, play_of, rest_of_play}
 use Rattle.pb_play.specs.Simple.{template_value}
 use Rattle.pb_play.specs.Tasks.{tells_of_task, told}
 use Rattle.pb_play.specs.Variables.{variables}
@@ -77,102 +77,101 @@ pub said_is : (a b d g : Ahead NoArguments) (fail_msg msg success_msg : Option D
 said_is a b d g fail_msg msg success_msg e f h = behind_msg a b d fail_msg msg e f ∙ ap (λ r. and_then r (with_messages fail_msg msg)) h
 
 -- what a task says of the result of its module, behind `changed_when`
-abbrev with_all : Option (List Tree) → Option (List Tree) → Read Bool Modules → Reading (Read Told Modules) LoadFault
+abbrev with_all : Option (List Tree) → Option (List Tree) → Read (Option Bool) Modules → Reading (Read Told Modules) LoadFault
 with_all changed failed x = rule (Ok (record { changed_when = changed; failed_when = failed; ignore_errors = x.value })) x.ahead
 
-abbrev with_failed : Bool → Option (List Tree) → Read (Option (List Tree)) Modules → Reading (Read Told Modules) LoadFault
-with_failed is_ignored changed x = and_then (field_or tells_of_task (codes "ignore_errors") switched is_ignored x.ahead) (with_all changed x.value)
+abbrev with_failed : Option (List Tree) → Read (Option (List Tree)) Modules → Reading (Read Told Modules) LoadFault
+with_failed changed x = and_then (field tells_of_task (codes "ignore_errors") switched x.ahead) (with_all changed x.value)
 
-behind_changed : (is_ignored : Bool) (a b : Ahead Modules) (changed : Option (List Tree)) → field tells_of_task (codes "changed_when") conditions a ≡ Ok (record { value = changed; ahead = b })
-    → told is_ignored a ≡ and_then (field tells_of_task (codes "failed_when") conditions b) (with_failed is_ignored changed)
-behind_changed is_ignored a b changed e = ap (λ r. and_then r (λ x. and_then (field tells_of_task (codes "failed_when") conditions x.ahead) (with_failed is_ignored x.value))) e
+behind_changed : (a b : Ahead Modules) (changed : Option (List Tree)) → field tells_of_task (codes "changed_when") conditions a ≡ Ok (record { value = changed; ahead = b })
+    → told a ≡ and_then (field tells_of_task (codes "failed_when") conditions b) (with_failed changed)
+behind_changed a b changed e = ap (λ r. and_then r (λ x. and_then (field tells_of_task (codes "failed_when") conditions x.ahead) (with_failed x.value))) e
 
-behind_failed : (is_ignored : Bool) (a b d : Ahead Modules) (changed failed : Option (List Tree)) → field tells_of_task (codes "changed_when") conditions a ≡ Ok (record { value = changed; ahead = b })
+behind_failed : (a b d : Ahead Modules) (changed failed : Option (List Tree)) → field tells_of_task (codes "changed_when") conditions a ≡ Ok (record { value = changed; ahead = b })
     → field tells_of_task (codes "failed_when") conditions b ≡ Ok (record { value = failed; ahead = d })
-    → told is_ignored a ≡ and_then (field_or tells_of_task (codes "ignore_errors") switched is_ignored d) (with_all changed failed)
-behind_failed is_ignored a b d changed failed e f = behind_changed is_ignored a b changed e ∙ ap (λ r. and_then r (with_failed is_ignored changed)) f
+    → told a ≡ and_then (field tells_of_task (codes "ignore_errors") switched d) (with_all changed failed)
+behind_failed a b d changed failed e f = behind_changed a b changed e ∙ ap (λ r. and_then r (with_failed changed)) f
 
-pub failed_stops : (is_ignored : Bool) (a b : Ahead Modules) (changed : Option (List Tree)) (s : Stop LoadFault) → field tells_of_task (codes "changed_when") conditions a ≡ Ok (record { value = changed; ahead = b })
-    → Stops s (field tells_of_task (codes "failed_when") conditions b) → Stops s (told is_ignored a)
-failed_stops is_ignored a b changed s e stops =
-    subst (Stops s) (sym (behind_changed is_ignored a b changed e)) (stops_then s (field tells_of_task (codes "failed_when") conditions b) (with_failed is_ignored changed) stops)
+pub failed_stops : (a b : Ahead Modules) (changed : Option (List Tree)) (s : Stop LoadFault) → field tells_of_task (codes "changed_when") conditions a ≡ Ok (record { value = changed; ahead = b })
+    → Stops s (field tells_of_task (codes "failed_when") conditions b) → Stops s (told a)
+failed_stops a b changed s e stops =
+    subst (Stops s) (sym (behind_changed a b changed e)) (stops_then s (field tells_of_task (codes "failed_when") conditions b) (with_failed changed) stops)
 
-pub ignored_stops : (is_ignored : Bool) (a b d : Ahead Modules) (changed failed : Option (List Tree)) (s : Stop LoadFault) → field tells_of_task (codes "changed_when") conditions a ≡ Ok (record { value = changed; ahead = b })
+pub ignored_stops : (a b d : Ahead Modules) (changed failed : Option (List Tree)) (s : Stop LoadFault) → field tells_of_task (codes "changed_when") conditions a ≡ Ok (record { value = changed; ahead = b })
     → field tells_of_task (codes "failed_when") conditions b ≡ Ok (record { value = failed; ahead = d })
-    → Stops s (field_or tells_of_task (codes "ignore_errors") switched is_ignored d) → Stops s (told is_ignored a)
-ignored_stops is_ignored a b d changed failed s e f stops =
-    subst (Stops s) (sym (behind_failed is_ignored a b d changed failed e f))
-    (stops_then s (field_or tells_of_task (codes "ignore_errors") switched is_ignored d) (with_all changed failed) stops)
+    → Stops s (field tells_of_task (codes "ignore_errors") switched d) → Stops s (told a)
+ignored_stops a b d changed failed s e f stops =
+    subst (Stops s) (sym (behind_failed a b d changed failed e f))
+    (stops_then s (field tells_of_task (codes "ignore_errors") switched d) (with_all changed failed) stops)
 
-pub told_is : (is_ignored : Bool) (a b d g : Ahead Modules) (changed failed : Option (List Tree)) (ignored : Bool)
+pub told_is : (a b d g : Ahead Modules) (changed failed : Option (List Tree)) (ignored : Option Bool)
     → field tells_of_task (codes "changed_when") conditions a ≡ Ok (record { value = changed; ahead = b })
     → field tells_of_task (codes "failed_when") conditions b ≡ Ok (record { value = failed; ahead = d })
-    → field_or tells_of_task (codes "ignore_errors") switched is_ignored d ≡ Ok (record { value = ignored; ahead = g })
-    → told is_ignored a ≡ Ok (record { value = record { changed_when = changed; failed_when = failed; ignore_errors = ignored }; ahead = g })
-told_is is_ignored a b d g changed failed ignored e f h = behind_failed is_ignored a b d changed failed e f ∙ ap (λ r. and_then r (with_all changed failed)) h
+    → field tells_of_task (codes "ignore_errors") switched d ≡ Ok (record { value = ignored; ahead = g })
+    → told a ≡ Ok (record { value = record { changed_when = changed; failed_when = failed; ignore_errors = ignored }; ahead = g })
+told_is a b d g changed failed ignored e f h = behind_failed a b d changed failed e f ∙ ap (λ r. and_then r (with_all changed failed)) h
 
 -- a play behind its lists of tasks: its variables, then its other keys, then the rules over what was read
-abbrev with_hosts : Option Bool → Option (List ℕ) → Lists → List (List ℕ × Datum) → Read PlayHosts WithoutEffect → Reading (Read Play WithoutEffect) LoadFault
-with_hosts facts name ls vars x = rule (Ok (play_of (unwrap_or facts true) (unwrap_or name x.value.text) x.value.pattern vars ls)) x.ahead
+abbrev with_hosts : Option Bool → Bool → Option (List ℕ) → Lists → List (List ℕ × Datum) → Read PlayHosts WithoutEffect → Reading (Read Play WithoutEffect) LoadFault
+with_hosts facts ig name ls vars x = rule (Ok (play_of (unwrap_or facts true) (unwrap_or name x.value.text) x.value.pattern vars ig ls)) x.ahead
 
-abbrev with_others : List ℕ → Option Bool → Option PlayHosts → Option (List ℕ) → Lists → List (List ℕ × Datum) → Read WithoutEffect WithoutEffect → Reading (Read Play WithoutEffect) LoadFault
-with_others path facts hosts name ls vars x = and_then (rule (required path hosts) x.ahead) (with_hosts facts name ls vars)
+abbrev with_others : List ℕ → Option Bool → Option PlayHosts → Bool → Option (List ℕ) → Lists → List (List ℕ × Datum) → Read WithoutEffect WithoutEffect → Reading (Read Play WithoutEffect) LoadFault
+with_others path facts hosts ig name ls vars x = and_then (rule (required path hosts) x.ahead) (with_hosts facts ig name ls vars)
 
-abbrev with_variables : List ℕ → Option Bool → Option PlayHosts → Option (List ℕ) → Lists → Read (List (List ℕ × Datum)) WithoutEffect → Reading (Read Play WithoutEffect) LoadFault
-with_variables path facts hosts name ls x = and_then (others has_no_effect x.ahead) (with_others path facts hosts name ls x.value)
+abbrev with_variables : List ℕ → Option Bool → Option PlayHosts → Bool → Option (List ℕ) → Lists → Read (List (List ℕ × Datum)) WithoutEffect → Reading (Read Play WithoutEffect) LoadFault
+with_variables path facts hosts ig name ls x = and_then (others has_no_effect x.ahead) (with_others path facts hosts ig name ls x.value)
 
 -- what is read up to them
-pub record AreRead (a : Ahead WithoutEffect) (name : Option (List ℕ)) (ls : Lists) (after : Ahead WithoutEffect) : Type 0 where
-  pub is_ignored : Bool
+pub record AreRead (a : Ahead WithoutEffect) (is_ignored : Bool) (name : Option (List ℕ)) (ls : Lists) (after : Ahead WithoutEffect) : Type 0 where
   pub second : Ahead WithoutEffect
   pub third : Ahead WithoutEffect
   pub ignored : key_or (codes "ignore_errors") switched false a ≡ Ok (record { value = is_ignored; ahead = second })
   pub named : key (codes "name") text second ≡ Ok (record { value = name; ahead = third })
-  pub listed : lists is_ignored third ≡ Ok (record { value = ls; ahead = after })
+  pub listed : lists third ≡ Ok (record { value = ls; ahead = after })
 
-behind_lists : (path : List ℕ) (facts : Option Bool) (hosts : Option PlayHosts) (a b : Ahead WithoutEffect) (name : Option (List ℕ)) (ls : Lists) → AreRead a name ls b
-    → rest_of_play path facts hosts a ≡ and_then (key_or (codes "vars") variables [] b) (with_variables path facts hosts name ls)
-behind_lists path facts hosts a b name ls e =
-    ap (λ r. and_then r (λ x. and_then (key (codes "name") text x.ahead) (λ y. and_then (lists x.value y.ahead) (λ z. and_then (key_or (codes "vars") variables [] z.ahead) (with_variables path facts hosts y.value z.value))))) e.ignored
-    ∙ ap (λ r. and_then r (λ y. and_then (lists e.is_ignored y.ahead) (λ z. and_then (key_or (codes "vars") variables [] z.ahead) (with_variables path facts hosts y.value z.value)))) e.named
-    ∙ ap (λ r. and_then r (λ z. and_then (key_or (codes "vars") variables [] z.ahead) (with_variables path facts hosts name z.value))) e.listed
+behind_lists : (path : List ℕ) (facts : Option Bool) (hosts : Option PlayHosts) (a b : Ahead WithoutEffect) (ig : Bool) (name : Option (List ℕ)) (ls : Lists) → AreRead a ig name ls b
+    → rest_of_play path facts hosts a ≡ and_then (key_or (codes "vars") variables [] b) (with_variables path facts hosts ig name ls)
+behind_lists path facts hosts a b ig name ls e =
+    ap (λ r. and_then r (λ x. and_then (key (codes "name") text x.ahead) (λ y. and_then (lists y.ahead) (λ z. and_then (key_or (codes "vars") variables [] z.ahead) (with_variables path facts hosts x.value y.value z.value))))) e.ignored
+    ∙ ap (λ r. and_then r (λ y. and_then (lists y.ahead) (λ z. and_then (key_or (codes "vars") variables [] z.ahead) (with_variables path facts hosts ig y.value z.value)))) e.named
+    ∙ ap (λ r. and_then r (λ z. and_then (key_or (codes "vars") variables [] z.ahead) (with_variables path facts hosts ig name z.value))) e.listed
 
-behind_variables : (path : List ℕ) (facts : Option Bool) (hosts : Option PlayHosts) (a b d : Ahead WithoutEffect) (name : Option (List ℕ)) (ls : Lists) (vars : List (List ℕ × Datum)) → AreRead a name ls b
+behind_variables : (path : List ℕ) (facts : Option Bool) (hosts : Option PlayHosts) (a b d : Ahead WithoutEffect) (ig : Bool) (name : Option (List ℕ)) (ls : Lists) (vars : List (List ℕ × Datum)) → AreRead a ig name ls b
     → key_or (codes "vars") variables [] b ≡ Ok (record { value = vars; ahead = d })
-    → rest_of_play path facts hosts a ≡ and_then (others has_no_effect d) (with_others path facts hosts name ls vars)
-behind_variables path facts hosts a b d name ls vars e f = behind_lists path facts hosts a b name ls e ∙ ap (λ r. and_then r (with_variables path facts hosts name ls)) f
+    → rest_of_play path facts hosts a ≡ and_then (others has_no_effect d) (with_others path facts hosts ig name ls vars)
+behind_variables path facts hosts a b d ig name ls vars e f = behind_lists path facts hosts a b ig name ls e ∙ ap (λ r. and_then r (with_variables path facts hosts ig name ls)) f
 
-behind_others : (path : List ℕ) (facts : Option Bool) (hosts : Option PlayHosts) (a b d g : Ahead WithoutEffect) (name : Option (List ℕ)) (ls : Lists) (vars : List (List ℕ × Datum)) (none : WithoutEffect)
-    → AreRead a name ls b → key_or (codes "vars") variables [] b ≡ Ok (record { value = vars; ahead = d }) → others has_no_effect d ≡ Ok (record { value = none; ahead = g })
-    → rest_of_play path facts hosts a ≡ and_then (rule (required path hosts) g) (with_hosts facts name ls vars)
-behind_others path facts hosts a b d g name ls vars none e f o = behind_variables path facts hosts a b d name ls vars e f ∙ ap (λ r. and_then r (with_others path facts hosts name ls vars)) o
+behind_others : (path : List ℕ) (facts : Option Bool) (hosts : Option PlayHosts) (a b d g : Ahead WithoutEffect) (ig : Bool) (name : Option (List ℕ)) (ls : Lists) (vars : List (List ℕ × Datum)) (none : WithoutEffect)
+    → AreRead a ig name ls b → key_or (codes "vars") variables [] b ≡ Ok (record { value = vars; ahead = d }) → others has_no_effect d ≡ Ok (record { value = none; ahead = g })
+    → rest_of_play path facts hosts a ≡ and_then (rule (required path hosts) g) (with_hosts facts ig name ls vars)
+behind_others path facts hosts a b d g ig name ls vars none e f o = behind_variables path facts hosts a b d ig name ls vars e f ∙ ap (λ r. and_then r (with_others path facts hosts ig name ls vars)) o
 
-pub variables_stop : (path : List ℕ) (facts : Option Bool) (hosts : Option PlayHosts) (a b : Ahead WithoutEffect) (name : Option (List ℕ)) (ls : Lists) (s : Stop LoadFault) → AreRead a name ls b
+pub variables_stop : (path : List ℕ) (facts : Option Bool) (hosts : Option PlayHosts) (a b : Ahead WithoutEffect) (ig : Bool) (name : Option (List ℕ)) (ls : Lists) (s : Stop LoadFault) → AreRead a ig name ls b
     → Stops s (key_or (codes "vars") variables [] b) → Stops s (value_of (rest_of_play path facts hosts a))
-variables_stop path facts hosts a b name ls s e stops =
+variables_stop path facts hosts a b ig name ls s e stops =
     stops_value s (rest_of_play path facts hosts a)
-    (subst (Stops s) (sym (behind_lists path facts hosts a b name ls e)) (stops_then s (key_or (codes "vars") variables [] b) (with_variables path facts hosts name ls) stops))
+    (subst (Stops s) (sym (behind_lists path facts hosts a b ig name ls e)) (stops_then s (key_or (codes "vars") variables [] b) (with_variables path facts hosts ig name ls) stops))
 
-pub others_stop : (path : List ℕ) (facts : Option Bool) (hosts : Option PlayHosts) (a b d : Ahead WithoutEffect) (name : Option (List ℕ)) (ls : Lists) (vars : List (List ℕ × Datum)) (s : Stop LoadFault)
-    → AreRead a name ls b → key_or (codes "vars") variables [] b ≡ Ok (record { value = vars; ahead = d }) → Stops s (others has_no_effect d) → Stops s (value_of (rest_of_play path facts hosts a))
-others_stop path facts hosts a b d name ls vars s e f stops =
+pub others_stop : (path : List ℕ) (facts : Option Bool) (hosts : Option PlayHosts) (a b d : Ahead WithoutEffect) (ig : Bool) (name : Option (List ℕ)) (ls : Lists) (vars : List (List ℕ × Datum)) (s : Stop LoadFault)
+    → AreRead a ig name ls b → key_or (codes "vars") variables [] b ≡ Ok (record { value = vars; ahead = d }) → Stops s (others has_no_effect d) → Stops s (value_of (rest_of_play path facts hosts a))
+others_stop path facts hosts a b d ig name ls vars s e f stops =
     stops_value s (rest_of_play path facts hosts a)
-    (subst (Stops s) (sym (behind_variables path facts hosts a b d name ls vars e f)) (stops_then s (others has_no_effect d) (with_others path facts hosts name ls vars) stops))
+    (subst (Stops s) (sym (behind_variables path facts hosts a b d ig name ls vars e f)) (stops_then s (others has_no_effect d) (with_others path facts hosts ig name ls vars) stops))
 
-pub no_hosts_stop : (path : List ℕ) (facts : Option Bool) (hosts : Option PlayHosts) (a b d g : Ahead WithoutEffect) (name : Option (List ℕ)) (ls : Lists) (vars : List (List ℕ × Datum)) (none : WithoutEffect) (s : Stop LoadFault)
-    → AreRead a name ls b → key_or (codes "vars") variables [] b ≡ Ok (record { value = vars; ahead = d }) → others has_no_effect d ≡ Ok (record { value = none; ahead = g })
+pub no_hosts_stop : (path : List ℕ) (facts : Option Bool) (hosts : Option PlayHosts) (a b d g : Ahead WithoutEffect) (ig : Bool) (name : Option (List ℕ)) (ls : Lists) (vars : List (List ℕ × Datum)) (none : WithoutEffect) (s : Stop LoadFault)
+    → AreRead a ig name ls b → key_or (codes "vars") variables [] b ≡ Ok (record { value = vars; ahead = d }) → others has_no_effect d ≡ Ok (record { value = none; ahead = g })
     → Stops s (required path hosts) → Stops s (value_of (rest_of_play path facts hosts a))
-no_hosts_stop path facts hosts a b d g name ls vars none s e f o stops =
+no_hosts_stop path facts hosts a b d g ig name ls vars none s e f o stops =
     stops_value s (rest_of_play path facts hosts a)
-    (subst (Stops s) (sym (behind_others path facts hosts a b d g name ls vars none e f o)) (stops_then s (rule (required path hosts) g) (with_hosts facts name ls vars) (stops_rule s (required path hosts) g stops)))
+    (subst (Stops s) (sym (behind_others path facts hosts a b d g ig name ls vars none e f o)) (stops_then s (rule (required path hosts) g) (with_hosts facts ig name ls vars) (stops_rule s (required path hosts) g stops)))
 
 -- once the hosts are there
-behind_hosts : (path : List ℕ) (facts : Option Bool) (hosts : Option PlayHosts) (h : PlayHosts) (g : Ahead WithoutEffect) (name : Option (List ℕ)) (ls : Lists) (vars : List (List ℕ × Datum)) → required {F = LoadFault} path hosts ≡ Ok h
-    → and_then (rule (required path hosts) g) (with_hosts facts name ls vars) ≡ with_hosts facts name ls vars (record { value = h; ahead = g })
-behind_hosts path facts hosts h g name ls vars e = ap (λ r. and_then (rule r g) (with_hosts facts name ls vars)) e
+behind_hosts : (path : List ℕ) (facts : Option Bool) (hosts : Option PlayHosts) (h : PlayHosts) (g : Ahead WithoutEffect) (ig : Bool) (name : Option (List ℕ)) (ls : Lists) (vars : List (List ℕ × Datum)) → required {F = LoadFault} path hosts ≡ Ok h
+    → and_then (rule (required path hosts) g) (with_hosts facts ig name ls vars) ≡ with_hosts facts ig name ls vars (record { value = h; ahead = g })
+behind_hosts path facts hosts h g ig name ls vars e = ap (λ r. and_then (rule r g) (with_hosts facts ig name ls vars)) e
 
-pub play_is : (path : List ℕ) (facts : Option Bool) (hosts : Option PlayHosts) (h : PlayHosts) (a b d g : Ahead WithoutEffect) (name : Option (List ℕ)) (ls : Lists) (vars : List (List ℕ × Datum)) (none : WithoutEffect)
-    → AreRead a name ls b → key_or (codes "vars") variables [] b ≡ Ok (record { value = vars; ahead = d }) → others has_no_effect d ≡ Ok (record { value = none; ahead = g })
-    → required {F = LoadFault} path hosts ≡ Ok h → value_of (rest_of_play path facts hosts a) ≡ Ok (play_of (unwrap_or facts true) (unwrap_or name h.text) h.pattern vars ls)
-play_is path facts hosts h a b d g name ls vars none e f o at =
-    ap value_of (behind_others path facts hosts a b d g name ls vars none e f o ∙ behind_hosts path facts hosts h g name ls vars at)
+pub play_is : (path : List ℕ) (facts : Option Bool) (hosts : Option PlayHosts) (h : PlayHosts) (a b d g : Ahead WithoutEffect) (ig : Bool) (name : Option (List ℕ)) (ls : Lists) (vars : List (List ℕ × Datum)) (none : WithoutEffect)
+    → AreRead a ig name ls b → key_or (codes "vars") variables [] b ≡ Ok (record { value = vars; ahead = d }) → others has_no_effect d ≡ Ok (record { value = none; ahead = g })
+    → required {F = LoadFault} path hosts ≡ Ok h → value_of (rest_of_play path facts hosts a) ≡ Ok (play_of (unwrap_or facts true) (unwrap_or name h.text) h.pattern vars ig ls)
+play_is path facts hosts h a b d g ig name ls vars none e f o at =
+    ap value_of (behind_others path facts hosts a b d g ig name ls vars none e f o ∙ behind_hosts path facts hosts h g ig name ls vars at)

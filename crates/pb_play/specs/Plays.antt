@@ -5,14 +5,15 @@ use Rattle.pb_value.specs.Datum.{Datum}
 use Rattle.pb_value.specs.Reading.{below}
 use Rattle.pb_patterns.specs.declared.element.Element.{Element}
 use Rattle.pb_patterns.specs.Expressions.{behind}
-use Rattle.pb_reading.specs.Fields.{◌>>=◌, Part, field, field_or, others, object, rule, value_at}
+use Rattle.pb_reading.specs.Fields.{◌>>=◌, Part, others, object, rule, value_at}
 use Rattle.pb_reading.specs.Reading.{Reading, required}
 use Rattle.pb_reading.specs.Simple.{text}
 use Rattle.pb_play.specs.Gathering.{begun}
 use Rattle.pb_play.specs.Hosts.{hosts, expressions_of_hosts}
-use Rattle.pb_play.specs.NoEffect.{has_no_effect}
+use Rattle.pb_play.specs.NodeLists.{node_list}
+use Rattle.pb_play.specs.Nodes.{Nothing}
+use Rattle.pb_play.specs.NoEffect.{has_no_effect, key, key_or}
 use Rattle.pb_written.specs.Simple.{switched}
-use Rattle.pb_play.specs.Tasks.{tasks}
 use Rattle.pb_play.specs.Variables.{variables}
 use Rattle.pb_play.specs.declared.fault.LoadFault.{LoadFault}
 use Rattle.pb_play.specs.declared.hosts.PlayHosts.{PlayHosts}
@@ -20,36 +21,38 @@ use Rattle.pb_play.specs.declared.other_keys.WithoutEffect.{WithoutEffect}
 use Rattle.pb_play.specs.declared.play.Lists.{Lists}
 use Rattle.pb_play.specs.declared.play.Play.{Play}
 
-abbrev pub key : {A : Type 0} → List ℕ → (List ℕ → json.Data → Reading A LoadFault) → Part WithoutEffect LoadFault (Option A)
-key = field has_no_effect
-
-abbrev pub key_or : {A : Type 0} → List ℕ → (List ℕ → json.Data → Reading A LoadFault) → A → Part WithoutEffect LoadFault A
-key_or = field_or has_no_effect
-
--- the three lists of tasks, in a play that ignores their failures or not
-abbrev pub lists : Bool → Part WithoutEffect LoadFault Lists
-lists is_ignored = do
-  post_tasks ← key_or (codes "post_tasks") (tasks is_ignored) []
-  pre_tasks ← key_or (codes "pre_tasks") (tasks is_ignored) []
-  tasks ← key_or (codes "tasks") (tasks is_ignored) []
-  rule (Ok (record { is_ignored = is_ignored; post_tasks = post_tasks; pre_tasks = pre_tasks; tasks = tasks }))
+-- the three lists of nodes
+abbrev pub lists : Part WithoutEffect LoadFault Lists
+lists = do
+  post_tasks ← key_or (codes "post_tasks") node_list Nothing
+  pre_tasks ← key_or (codes "pre_tasks") node_list Nothing
+  tasks ← key_or (codes "tasks") node_list Nothing
+  rule (Ok (record { post_tasks = post_tasks; pre_tasks = pre_tasks; tasks = tasks }))
 
 -- where it gathers facts, it begins with that
-abbrev pub play_of : (gathers : Bool) → List ℕ → List Element → List (List ℕ × Datum) → Lists → Play
-play_of gathers name hosts vars lists =
-    record { name = name; hosts = hosts; vars = vars; pre_tasks = begun gathers lists.is_ignored lists.pre_tasks; tasks = lists.tasks; post_tasks = lists.post_tasks }
+abbrev pub play_of : (gathers : Bool) → List ℕ → List Element → List (List ℕ × Datum) → Bool → Lists → Play
+play_of gathers name hosts vars ignore_errors lists =
+    record {
+      name = name;
+      hosts = hosts;
+      vars = vars;
+      ignore_errors = ignore_errors;
+      pre_tasks = begun gathers lists.pre_tasks;
+      tasks = lists.tasks;
+      post_tasks = lists.post_tasks;
+    }
 
 -- a play behind its hosts; one without a name has its pattern's text as it is written, one without variables has none, and one that doesn't say whether
 -- it gathers facts does (Ansible's documentation, "Playbook Keywords", gather_facts)
 abbrev pub rest_of_play : List ℕ → Option Bool → Option PlayHosts → Part WithoutEffect LoadFault Play
 rest_of_play path gather_facts hosts = do
-  is_ignored ← key_or (codes "ignore_errors") switched false
+  ignore_errors ← key_or (codes "ignore_errors") switched false
   name ← key (codes "name") text
-  lists ← lists is_ignored
+  lists ← lists
   vars ← key_or (codes "vars") variables []
   _ ← others has_no_effect
   h ← rule (required path hosts)
-  rule (Ok (play_of (unwrap_or gather_facts true) (unwrap_or name h.text) h.pattern vars lists))
+  rule (Ok (play_of (unwrap_or gather_facts true) (unwrap_or name h.text) h.pattern vars ignore_errors lists))
 
 -- a play
 unfoldable pub play : List ℕ → json.Data → Reading Play LoadFault

@@ -19,29 +19,37 @@ use Rattle.pb_play.specs.Conditions.{conditions}
 use Rattle.pb_play.specs.Playbooks.{playbook_of, expressions_of_book}
 use Rattle.pb_reading.specs.Fields.{field, field_or, others}
 use Rattle.pb_play.specs.Plays.{play, expressions_of_play}
+use Rattle.pb_play.specs.NodeLists.{nodes}
+use Rattle.pb_play.specs.Nodes.{Written, Nothing, Task}
 use Rattle.pb_play.specs.Tasks.{task, tells_of_task, plain_task}
 use Rattle.pb_written.specs.Templates.{is_template}
 use Rattle.pb_play.specs.declared.fault.LoadFault.TheVariants.{NotJson, WrongShape, NotInProfile, NoModule, TwoModules, BadExpression, BadPattern}
 use Rattle.pb_play.specs.declared.commands.CommandWords.TheVariants.{Line, Argv}
 use Rattle.pb_play.specs.declared.modules.Module.TheVariants.{Assert, Command, Debug, DebugVar, Fail, SetFact, Setup, Shell}
+use Rattle.pb_play.specs.declared.task.Task as declared
 
 -- what computes a row from its text
 unfoldable on_literals : ⊤
-unfolding conditions playbook_of expressions_of_book play expressions_of_play task tells_of_task field field_or others pattern_of expressions_of is_template template_of tree_of tree_of_tokens json_in utf8_valid_len is_utf8 chars digits value_of serde_json_on_literals
+unfolding conditions playbook_of expressions_of_book play expressions_of_play nodes task tells_of_task field field_or others pattern_of expressions_of is_template template_of tree_of tree_of_tokens json_in utf8_valid_len is_utf8 chars digits value_of serde_json_on_literals
 on_literals = tt
+
+-- a list of tasks alone
+abbrev only : List declared.Task → Written
+only [] = Nothing
+only (t ∷ ts) = Task t (only ts)
 
 -- the elements of the pattern `all`
 abbrev all_hosts : List Element
 all_hosts = record { text = codes "all"; mark = Unmarked; what = Term (codes "all") None } ∷ []
 
 hello : playbook_of (codes "[{\"hosts\":\"all\",\"gather_facts\":false,\"tasks\":[{\"name\":\"hi\",\"debug\":{\"msg\":\"hello\"}}]}]")
-    ≡ Ok (record { plays = record { name = codes "all"; hosts = all_hosts; vars = []; pre_tasks = []; tasks = plain_task (codes "hi") [] (Debug (text (codes "hello"))) ∷ []; post_tasks = [] } ∷ [] })
+    ≡ Ok (record { plays = record { name = codes "all"; hosts = all_hosts; vars = []; ignore_errors = false; pre_tasks = Nothing; tasks = only (plain_task (codes "hi") [] (Debug (text (codes "hello"))) ∷ []); post_tasks = Nothing } ∷ [] })
 unfolding on_literals
 hello = refl
 
 -- a task without a name has its module's, without the prefix; `debug` shows `Hello world!` where nothing is said
 nothing_said : playbook_of (codes "[{\"hosts\":\"all\",\"name\":\"p\",\"gather_facts\":\"No\",\"tasks\":[{\"ansible.builtin.debug\":{}}]}]")
-    ≡ Ok (record { plays = record { name = codes "p"; hosts = all_hosts; vars = []; pre_tasks = []; tasks = plain_task (codes "debug") [] (Debug (text (codes "Hello world!"))) ∷ []; post_tasks = [] } ∷ [] })
+    ≡ Ok (record { plays = record { name = codes "p"; hosts = all_hosts; vars = []; ignore_errors = false; pre_tasks = Nothing; tasks = only (plain_task (codes "debug") [] (Debug (text (codes "Hello world!"))) ∷ []); post_tasks = Nothing } ∷ [] })
 unfolding on_literals
 nothing_said = refl
 
@@ -65,7 +73,7 @@ no_arguments = refl
 
 -- a template is kept as it is written
 template : playbook_of (codes "[{\"hosts\":\"all\",\"gather_facts\":false,\"tasks\":[{\"debug\":{\"msg\":\"{{ x }}\"}}]}]")
-    ≡ Ok (record { plays = record { name = codes "all"; hosts = all_hosts; vars = []; pre_tasks = []; tasks = plain_task (codes "debug") [] (Debug (text (codes "{{ x }}"))) ∷ []; post_tasks = [] } ∷ [] })
+    ≡ Ok (record { plays = record { name = codes "all"; hosts = all_hosts; vars = []; ignore_errors = false; pre_tasks = Nothing; tasks = only (plain_task (codes "debug") [] (Debug (text (codes "{{ x }}"))) ∷ []); post_tasks = Nothing } ∷ [] })
 unfolding on_literals
 template = refl
 
@@ -89,22 +97,21 @@ no_hosts = refl
 
 -- facts are gathered where that isn't switched off: a play's first task does it, in front of its pre_tasks
 gathering : playbook_of (codes "[{\"hosts\":\"all\"}]")
-    ≡ Ok (record { plays = record { name = codes "all"; hosts = all_hosts; vars = []; pre_tasks = plain_task (codes "Gathering Facts") [] Setup ∷ []; tasks = []; post_tasks = [] } ∷ [] })
+    ≡ Ok (record { plays = record { name = codes "all"; hosts = all_hosts; vars = []; ignore_errors = false; pre_tasks = only (plain_task (codes "Gathering Facts") [] Setup ∷ []); tasks = Nothing; post_tasks = Nothing } ∷ [] })
 unfolding on_literals
 gathering = refl
 
--- it ignores failures as the play does
+-- whether failures are ignored the play says, and each task where it has something to say
 gathering_first : playbook_of (codes "[{\"hosts\":\"all\",\"gather_facts\":\"Yes\",\"ignore_errors\":true,\"pre_tasks\":[{\"debug\":{}}]}]")
     ≡ Ok (record {
       plays = record {
         name = codes "all";
         hosts = all_hosts;
         vars = [];
-        pre_tasks =
-            record (plain_task (codes "Gathering Facts") [] Setup) { ignore_errors = true }
-            ∷ record (plain_task (codes "debug") [] (Debug (text (codes "Hello world!")))) { ignore_errors = true } ∷ [];
-        tasks = [];
-        post_tasks = [];
+        ignore_errors = true;
+        pre_tasks = only (plain_task (codes "Gathering Facts") [] Setup ∷ plain_task (codes "debug") [] (Debug (text (codes "Hello world!"))) ∷ []);
+        tasks = Nothing;
+        post_tasks = Nothing;
       } ∷ [];
     })
 unfolding on_literals
@@ -121,9 +128,10 @@ text_of_hosts : playbook_of (codes "[{\"hosts\":\" web : &db\",\"gather_facts\":
         name = codes " web : &db";
         hosts = record { text = codes "web"; mark = Unmarked; what = Term (codes "web") None } ∷ record { text = codes "&db"; mark = Met; what = Term (codes "db") None } ∷ [];
         vars = [];
-        pre_tasks = [];
-        tasks = [];
-        post_tasks = [];
+        ignore_errors = false;
+        pre_tasks = Nothing;
+        tasks = Nothing;
+        post_tasks = Nothing;
       } ∷ [];
     })
 unfolding on_literals
@@ -136,9 +144,10 @@ list_of_hosts : playbook_of (codes "[{\"hosts\":[\"web[0]\",\" \",\"!a\"],\"gath
         name = codes "web[0], ,!a";
         hosts = record { text = codes "web[0]"; mark = Unmarked; what = Term (codes "web") (Some (At 0)) } ∷ record { text = codes "!a"; mark = Excluded; what = Term (codes "a") None } ∷ [];
         vars = [];
-        pre_tasks = [];
-        tasks = [];
-        post_tasks = [];
+        ignore_errors = false;
+        pre_tasks = Nothing;
+        tasks = Nothing;
+        post_tasks = Nothing;
       } ∷ [];
     })
 unfolding on_literals
@@ -146,7 +155,7 @@ list_of_hosts = refl
 
 -- `~` alone is the empty regular expression
 empty_regex : playbook_of (codes "[{\"hosts\":\"~\",\"gather_facts\":false}]")
-    ≡ Ok (record { plays = record { name = codes "~"; hosts = record { text = codes "~"; mark = Unmarked; what = Regex [] } ∷ []; vars = []; pre_tasks = []; tasks = []; post_tasks = [] } ∷ [] })
+    ≡ Ok (record { plays = record { name = codes "~"; hosts = record { text = codes "~"; mark = Unmarked; what = Regex [] } ∷ []; vars = []; ignore_errors = false; pre_tasks = Nothing; tasks = Nothing; post_tasks = Nothing } ∷ [] })
 unfolding on_literals
 empty_regex = refl
 
@@ -196,9 +205,10 @@ three_lists : playbook_of (codes "[{\"hosts\":\"all\",\"gather_facts\":false,\"p
         name = codes "all";
         hosts = all_hosts;
         vars = [];
-        pre_tasks = plain_task (codes "a") [] (Debug (text (codes "Hello world!"))) ∷ [];
-        tasks = [];
-        post_tasks = plain_task (codes "debug") [] (Debug (text (codes "Hello world!"))) ∷ [];
+        ignore_errors = false;
+        pre_tasks = only (plain_task (codes "a") [] (Debug (text (codes "Hello world!"))) ∷ []);
+        tasks = Nothing;
+        post_tasks = only (plain_task (codes "debug") [] (Debug (text (codes "Hello world!"))) ∷ []);
       } ∷ [];
     })
 unfolding on_literals
@@ -210,12 +220,12 @@ no_pre_task = refl
 
 -- keys without effect aren't read as values
 without_effect_on_plays : playbook_of (codes "[{\"hosts\":\"all\",\"gather_facts\":false,\"connection\":\"local\",\"gather_subset\":1.5,\"no_log\":\"Off\",\"remote_user\":1.5,\"tags\":\"nevermore,always\"}]")
-    ≡ Ok (record { plays = record { name = codes "all"; hosts = all_hosts; vars = []; pre_tasks = []; tasks = []; post_tasks = [] } ∷ [] })
+    ≡ Ok (record { plays = record { name = codes "all"; hosts = all_hosts; vars = []; ignore_errors = false; pre_tasks = Nothing; tasks = Nothing; post_tasks = Nothing } ∷ [] })
 unfolding on_literals
 without_effect_on_plays = refl
 
 without_effect_on_tasks : playbook_of (codes "[{\"hosts\":\"all\",\"gather_facts\":false,\"tasks\":[{\"debug\":{},\"connection\":\"local\",\"gather_subset\":1.5,\"no_log\":false,\"remote_user\":1.5,\"tags\":[1.5,\"a\"]}]}]")
-    ≡ Ok (record { plays = record { name = codes "all"; hosts = all_hosts; vars = []; pre_tasks = []; tasks = plain_task (codes "debug") [] (Debug (text (codes "Hello world!"))) ∷ []; post_tasks = [] } ∷ [] })
+    ≡ Ok (record { plays = record { name = codes "all"; hosts = all_hosts; vars = []; ignore_errors = false; pre_tasks = Nothing; tasks = only (plain_task (codes "debug") [] (Debug (text (codes "Hello world!"))) ∷ []); post_tasks = Nothing } ∷ [] })
 unfolding on_literals
 without_effect_on_tasks = refl
 
@@ -242,12 +252,13 @@ commands : playbook_of (codes "[{\"hosts\":\"all\",\"gather_facts\":false,\"task
         name = codes "all";
         hosts = all_hosts;
         vars = [];
-        pre_tasks = [];
+        ignore_errors = false;
+        pre_tasks = Nothing;
         tasks =
-            plain_task (codes "command") [] (Command (Line (codes "ls -l"))) ∷
+            only (plain_task (codes "command") [] (Command (Line (codes "ls -l"))) ∷
             plain_task (codes "command") [] (Command (Line (codes "'"))) ∷
-            plain_task (codes "command") [] (Command (Argv (text (codes "ls") ∷ int (pos 1) ∷ null ∷ []))) ∷ [];
-        post_tasks = [];
+            plain_task (codes "command") [] (Command (Argv (text (codes "ls") ∷ int (pos 1) ∷ null ∷ []))) ∷ []);
+        post_tasks = Nothing;
       } ∷ [];
     })
 unfolding on_literals
@@ -259,9 +270,10 @@ shells : playbook_of (codes "[{\"hosts\":\"all\",\"gather_facts\":false,\"tasks\
         name = codes "all";
         hosts = all_hosts;
         vars = [];
-        pre_tasks = [];
-        tasks = plain_task (codes "shell") [] (Shell []) ∷ plain_task (codes "shell") [] (Shell (codes "a | b")) ∷ [];
-        post_tasks = [];
+        ignore_errors = false;
+        pre_tasks = Nothing;
+        tasks = only (plain_task (codes "shell") [] (Shell []) ∷ plain_task (codes "shell") [] (Shell (codes "a | b")) ∷ []);
+        post_tasks = Nothing;
       } ∷ [];
     })
 unfolding on_literals
@@ -273,9 +285,10 @@ fails : playbook_of (codes "[{\"hosts\":\"all\",\"gather_facts\":false,\"tasks\"
         name = codes "all";
         hosts = all_hosts;
         vars = [];
-        pre_tasks = [];
-        tasks = plain_task (codes "fail") [] (Fail (text (codes "Failed as requested from task"))) ∷ plain_task (codes "fail") [] (Fail (int (pos 1))) ∷ [];
-        post_tasks = [];
+        ignore_errors = false;
+        pre_tasks = Nothing;
+        tasks = only (plain_task (codes "fail") [] (Fail (text (codes "Failed as requested from task"))) ∷ plain_task (codes "fail") [] (Fail (int (pos 1))) ∷ []);
+        post_tasks = Nothing;
       } ∷ [];
     })
 unfolding on_literals
@@ -288,9 +301,10 @@ setups : playbook_of (codes "[{\"hosts\":\"all\",\"gather_facts\":false,\"tasks\
         name = codes "all";
         hosts = all_hosts;
         vars = [];
-        pre_tasks = [];
-        tasks = plain_task (codes "setup") [] Setup ∷ plain_task (codes "setup") [] Setup ∷ [];
-        post_tasks = [];
+        ignore_errors = false;
+        pre_tasks = Nothing;
+        tasks = only (plain_task (codes "setup") [] Setup ∷ plain_task (codes "setup") [] Setup ∷ []);
+        post_tasks = Nothing;
       } ∷ [];
     })
 unfolding on_literals
@@ -341,9 +355,10 @@ no_template_in_key : playbook_of (codes "[{\"hosts\":\"all\",\"gather_facts\":fa
         name = codes "all";
         hosts = all_hosts;
         vars = [];
-        pre_tasks = [];
-        tasks = plain_task (codes "fail") [] (Fail (dict (member (codes "{% x") (text (codes "a")) no_members))) ∷ [];
-        post_tasks = [];
+        ignore_errors = false;
+        pre_tasks = Nothing;
+        tasks = only (plain_task (codes "fail") [] (Fail (dict (member (codes "{% x") (text (codes "a")) no_members))) ∷ []);
+        post_tasks = Nothing;
       } ∷ [];
     })
 unfolding on_literals
@@ -356,9 +371,10 @@ variables : playbook_of (codes "[{\"hosts\":\"all\",\"gather_facts\":false,\"var
         name = codes "all";
         hosts = all_hosts;
         vars = (codes "a", int (pos 1)) ∷ (codes "b", text (codes "{{ a }}")) ∷ [];
-        pre_tasks = [];
-        tasks = plain_task (codes "debug") ((codes "-", null) ∷ []) (Debug (text (codes "Hello world!"))) ∷ [];
-        post_tasks = [];
+        ignore_errors = false;
+        pre_tasks = Nothing;
+        tasks = only (plain_task (codes "debug") ((codes "-", null) ∷ []) (Debug (text (codes "Hello world!"))) ∷ []);
+        post_tasks = Nothing;
       } ∷ [];
     })
 unfolding on_literals
@@ -378,7 +394,7 @@ no_template_in_variable = refl
 
 -- `debug` shows the value of an expression, which stands without braces
 shown : playbook_of (codes "[{\"hosts\":\"all\",\"gather_facts\":false,\"tasks\":[{\"debug\":{\"var\":\"x\"}}]}]")
-    ≡ Ok (record { plays = record { name = codes "all"; hosts = all_hosts; vars = []; pre_tasks = []; tasks = plain_task (codes "debug") [] (DebugVar (codes "x") (Name (codes "x"))) ∷ []; post_tasks = [] } ∷ [] })
+    ≡ Ok (record { plays = record { name = codes "all"; hosts = all_hosts; vars = []; ignore_errors = false; pre_tasks = Nothing; tasks = only (plain_task (codes "debug") [] (DebugVar (codes "x") (Name (codes "x"))) ∷ []); post_tasks = Nothing } ∷ [] })
 unfolding on_literals
 shown = refl
 
@@ -413,9 +429,10 @@ all_keys_of_play : playbook_of (codes "[{\"connection\":\"local\",\"gather_facts
         name = codes "p";
         hosts = all_hosts;
         vars = (codes "x", int (pos 1)) ∷ [];
-        pre_tasks = plain_task (codes "shell") [] (Shell (codes "a")) ∷ [];
-        tasks = plain_task (codes "shell") [] (Shell (codes "b")) ∷ [];
-        post_tasks = plain_task (codes "shell") [] (Shell (codes "c")) ∷ [];
+        ignore_errors = false;
+        pre_tasks = only (plain_task (codes "shell") [] (Shell (codes "a")) ∷ []);
+        tasks = only (plain_task (codes "shell") [] (Shell (codes "b")) ∷ []);
+        post_tasks = only (plain_task (codes "shell") [] (Shell (codes "c")) ∷ []);
       } ∷ [];
     })
 unfolding on_literals
@@ -428,9 +445,10 @@ all_keys_of_task : playbook_of (codes "[{\"hosts\":\"all\",\"gather_facts\":fals
         name = codes "all";
         hosts = all_hosts;
         vars = [];
-        pre_tasks = [];
-        tasks = plain_task (codes "n") ((codes "x", int (pos 1)) ∷ []) (Shell (codes "a")) ∷ [];
-        post_tasks = [];
+        ignore_errors = false;
+        pre_tasks = Nothing;
+        tasks = only (plain_task (codes "n") ((codes "x", int (pos 1)) ∷ []) (Shell (codes "a")) ∷ []);
+        post_tasks = Nothing;
       } ∷ [];
     })
 unfolding on_literals
@@ -451,9 +469,10 @@ all_arguments_of_fail_and_shell : playbook_of (codes "[{\"hosts\":\"all\",\"gath
         name = codes "all";
         hosts = all_hosts;
         vars = [];
-        pre_tasks = [];
-        tasks = plain_task (codes "fail") [] (Fail (text (codes "a"))) ∷ plain_task (codes "shell") [] (Shell (codes "b")) ∷ [];
-        post_tasks = [];
+        ignore_errors = false;
+        pre_tasks = Nothing;
+        tasks = only (plain_task (codes "fail") [] (Fail (text (codes "a"))) ∷ plain_task (codes "shell") [] (Shell (codes "b")) ∷ []);
+        post_tasks = Nothing;
       } ∷ [];
     })
 unfolding on_literals
@@ -466,31 +485,33 @@ keys_of_a_task : playbook_of (codes "[{\"hosts\":\"all\",\"gather_facts\":false,
         name = codes "all";
         hosts = all_hosts;
         vars = [];
-        pre_tasks = [];
+        ignore_errors = false;
+        pre_tasks = Nothing;
         tasks =
-            record (plain_task (codes "debug") [] (Debug (text (codes "m")))) {
+            only (record (plain_task (codes "debug") [] (Debug (text (codes "m")))) {
               conditions = Name (codes "x") ∷ [];
               looped = Some (record { over = list (items_of (int (pos 1) ∷ [])); variable = codes "v" });
-              ignore_errors = true;
-            } ∷ [];
-        post_tasks = [];
+              ignore_errors = Some true;
+            } ∷ []);
+        post_tasks = Nothing;
       } ∷ [];
     })
 unfolding on_literals
 keys_of_a_task = refl
 
--- a play that ignores failures does so for each of its tasks that says nothing else; `assert` is a module
+-- a play may ignore failures, and a task of it may not; `assert` is a module
 keys_of_a_play : playbook_of (codes "[{\"hosts\":\"all\",\"gather_facts\":false,\"ignore_errors\":true,\"tasks\":[{\"assert\":{\"that\":\"x\"}},{\"ignore_errors\":false,\"fail\":{}}]}]")
     ≡ Ok (record {
       plays = record {
         name = codes "all";
         hosts = all_hosts;
         vars = [];
-        pre_tasks = [];
+        ignore_errors = true;
+        pre_tasks = Nothing;
         tasks =
-            record (plain_task (codes "assert") [] (Assert (Name (codes "x") ∷ []) (text (codes "Assertion failed")) (text (codes "All assertions passed")))) { ignore_errors = true }
-            ∷ plain_task (codes "fail") [] (Fail (text (codes "Failed as requested from task"))) ∷ [];
-        post_tasks = [];
+            only (plain_task (codes "assert") [] (Assert (Name (codes "x") ∷ []) (text (codes "Assertion failed")) (text (codes "All assertions passed"))) ∷
+            record (plain_task (codes "fail") [] (Fail (text (codes "Failed as requested from task")))) { ignore_errors = Some false } ∷ []);
+        post_tasks = Nothing;
       } ∷ [];
     })
 unfolding on_literals
@@ -508,11 +529,12 @@ keys_of_a_result : playbook_of (codes "[{\"hosts\":\"all\",\"gather_facts\":fals
         name = codes "all";
         hosts = all_hosts;
         vars = [];
-        pre_tasks = [];
+        ignore_errors = false;
+        pre_tasks = Nothing;
         tasks =
-            record (plain_task (codes "shell") [] (Shell (codes "a"))) { register = Some (codes "r"); changed_when = Some (Truth false ∷ []); failed_when = Some (Name (codes "x") ∷ []) }
-            ∷ plain_task (codes "set_fact") [] (SetFact ((codes "y", int (pos 1)) ∷ [])) ∷ [];
-        post_tasks = [];
+            only (record (plain_task (codes "shell") [] (Shell (codes "a"))) { register = Some (codes "r"); changed_when = Some (Truth false ∷ []); failed_when = Some (Name (codes "x") ∷ []) }
+            ∷ plain_task (codes "set_fact") [] (SetFact ((codes "y", int (pos 1)) ∷ [])) ∷ []);
+        post_tasks = Nothing;
       } ∷ [];
     })
 unfolding on_literals

@@ -20,6 +20,7 @@ use Rattle.pb_play.specs.Conditions.{conditions}
 use Rattle.pb_play.specs.Facts.{set_fact, setup}
 use Rattle.pb_play.specs.Gathering.{begun}
 use Rattle.pb_play.specs.Loops.{over, control, looped}
+use Rattle.pb_play.specs.Nodes.{Nothing, Task}
 use Rattle.pb_play.specs.Tasks.{plain_task}
 use Rattle.pb_play.specs.declared.fault.LoadFault.{LoadFault}
 use Rattle.pb_play.specs.declared.fault.LoadFault.TheVariants.{NotInProfile, BadExpression}
@@ -184,7 +185,7 @@ gathers_nothing : read setup (codes "null") ≡ Some (Err (WrongShape (codes "p"
 unfolding on_literals
 gathers_nothing = refl
 
--- gathering is a switch; it is the first task of a play, which ignores its failures as the play does
+-- gathering is a switch; it is the first task of a play
 no_switch : read switched (codes "1") ≡ Some (Err (WrongShape (codes "p")))
 unfolding on_literals
 no_switch = refl
@@ -193,8 +194,8 @@ switched_off : read switched (codes "\"no\"") ≡ Some (Ok false)
 unfolding on_literals
 switched_off = refl
 
-gathers_first : begun true false (plain_task (codes "a") [] (Debug null) ∷ []) ≡ plain_task (codes "Gathering Facts") [] Setup ∷ plain_task (codes "a") [] (Debug null) ∷ []
+gathers_first : begun true (Task (plain_task (codes "a") [] (Debug null)) Nothing) ≡ Task (plain_task (codes "Gathering Facts") [] Setup) (Task (plain_task (codes "a") [] (Debug null)) Nothing)
 gathers_first = refl
 
-gathers_not : begun false true [] ≡ []
+gathers_not : begun false Nothing ≡ Nothing
 gathers_not = refl

@@ -10,11 +10,12 @@
 //!
 //! The texts of a module's arguments and of variables are templates: a text that is none is `BadExpression`. They are
 //! kept as they are written, since what they give is known only when a task starts on a host. The expression at `var` of `debug` is kept
-//! as its tree, too, and so are conditions. A task is handed the play's `ignore_errors` where it has none of its own, and a play that gathers
-//! facts begins with a task that does.
+//! as its tree, too, and so are conditions. What a play, its blocks and its tasks say of ignored failures is kept as each says it, and a play that
+//! gathers facts begins with a task that does. `nodes::read_nodes_at` reads one list of tasks and blocks, for whoever finds such lists elsewhere.
 #![tactic(auto)]
 
 mod assert;
+mod blocks;
 pub mod commands;
 mod conditions;
 mod debug;
@@ -24,8 +25,11 @@ mod gathering;
 mod hosts;
 pub mod loops;
 mod messages;
+mod meta;
 pub mod modules;
 mod no_effect;
+pub mod node;
+pub mod nodes;
 mod other_keys;
 pub mod play;
 pub mod playbook;

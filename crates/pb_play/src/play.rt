@@ -1,4 +1,4 @@
-ghost use Rattle.std.specs.Prelude.{◌≡◌, [], IfOk, option_map, codes};
+ghost use Rattle.std.specs.Prelude.{◌≡◌, IfOk, option_map, codes};
 ghost use Rattle.serde_json.specs.Data as json;
 ghost use Rattle.serde_json.specs.View.{view, members_view};
 ghost use Rattle.pb_value.specs.Reading.{below};
@@ -7,21 +7,20 @@ ghost use Rattle.pb_reading.specs.Fields.{optional, value_of};
 ghost use Rattle.pb_reading.specs.Reading.{Gives};
 ghost use Rattle.pb_play.specs.Refusals.{GivesOf};
 ghost use Rattle.pb_play.specs.Hosts.{hosts};
-ghost use Rattle.pb_play.specs.Tasks.{tasks};
-ghost use Rattle.pb_play.specs.Plays.{key_or, play_of, lists, rest_of_play, play, expressions_at, expressions_of_play};
+ghost use Rattle.pb_play.specs.Plays.{play_of, lists, rest_of_play, play, expressions_at, expressions_of_play};
 
 use crate::fault::LoadFault;
 use crate::gathering::begun;
 use crate::hosts::{PlayHosts, read_hosts};
+use crate::node::NodeList;
+use crate::nodes::no_nodes;
 use crate::other_keys::WithoutEffect;
 use crate::simple::TemplateValue;
-use crate::task::{Ignored, Task};
 use pb_patterns::pattern::Pattern;
 use pb_reading::keys::Keys;
-use pb_reading::list::{Each, EachNamed};
+use pb_reading::list::EachNamed;
 use pb_reading::simple::PlainText;
 use pb_reading::stop::{Stop, required, wrong};
-use pb_value::items::Items;
 use pb_value::path::child;
 use pb_value::text::Text;
 use pb_value::val::Dict;
@@ -42,12 +41,14 @@ pub struct Play {
     /// Its variables, each a value under its name, as they are written: their texts are templates. They are layer 5 of those that a task
     /// sees (`pb_layers`): over those of the inventory, under those of the task. See Ansible's documentation, "Using variables".
     pub vars: Dict,
+    /// Whether failures in it are ignored, where neither the task nor a block round it says so.
+    pub ignore_errors: bool,
     /// What it does before its tasks, in this order: first it gathers the facts of its hosts, where that isn't switched off.
-    pub pre_tasks: Items<Task>,
+    pub pre_tasks: NodeList,
     /// What it does, in this order.
-    pub tasks: Items<Task>,
+    pub tasks: NodeList,
     /// What it does after its tasks, in this order.
-    pub post_tasks: Items<Task>,
+    pub post_tasks: NodeList,
 }
 
 /// The hosts, where they are written.
@@ -70,35 +71,16 @@ fn read_hosts_at(
     }
 }
 
-/// The tasks at a key, in a play that ignores failures or not.
-fn read_tasks(
-    alloc: Global,
-    keys: &mut Keys<'_, WithoutEffect>,
-    key: &str,
-    is_ignored: bool,
-) -> Result<Items<Task>, Stop<LoadFault>>
-    ensures value { Takes (λ v. v) result (ahead keys.new) (key_or key.now (tasks is_ignored) [] (ahead keys.old)) }
-    ensures path { (ahead keys.new).path ≡ (ahead keys.old).path }
-{
-    if is_ignored {
-        keys.field_or::<Each<Ignored>>(alloc, key, Items::new(alloc))
-    } else {
-        keys.field_or::<Each<Task>>(alloc, key, Items::new(alloc))
-    }
-}
-
-/// The three lists of tasks of a play, and whether it ignores their failures.
+/// The three lists of nodes of a play.
 struct Lists {
-    is_ignored: bool,
-    post_tasks: Items<Task>,
-    pre_tasks: Items<Task>,
-    tasks: Items<Task>,
+    post_tasks: NodeList,
+    pre_tasks: NodeList,
+    tasks: NodeList,
 }
 
 impl Drop for Lists {
     fn drop(self) {
         let Lists {
-            is_ignored: _,
             post_tasks,
             pre_tasks,
             tasks,
@@ -118,20 +100,21 @@ impl Lists {
         name: Text,
         hosts: Pattern,
         vars: Dict,
+        ignore_errors: bool,
     ) -> Result<Play, AllocError>
-        ensures { IfOk result (λ play. play ≡ play_of gathers name hosts vars self) }
+        ensures { IfOk result (λ play. play ≡ play_of gathers name hosts vars ignore_errors self) }
     {
         let Lists {
-            is_ignored,
             post_tasks,
             pre_tasks,
             tasks,
         } = self;
-        let pre_tasks = begun(alloc, gathers, is_ignored, pre_tasks)?;
+        let pre_tasks = begun(alloc, gathers, pre_tasks)?;
         Ok(Play {
             name,
             hosts,
             vars,
+            ignore_errors,
             pre_tasks,
             tasks,
             post_tasks,
@@ -139,19 +122,14 @@ impl Lists {
     }
 }
 
-fn read_lists(
-    alloc: Global,
-    keys: &mut Keys<'_, WithoutEffect>,
-    is_ignored: bool,
-) -> Result<Lists, Stop<LoadFault>>
-    ensures value { Takes (λ v. v) result (ahead keys.new) (lists is_ignored (ahead keys.old)) }
+fn read_lists(alloc: Global, keys: &mut Keys<'_, WithoutEffect>) -> Result<Lists, Stop<LoadFault>>
+    ensures value { Takes (λ v. v) result (ahead keys.new) (lists (ahead keys.old)) }
     ensures path { (ahead keys.new).path ≡ (ahead keys.old).path }
 {
-    let post_tasks = read_tasks(alloc, keys, "post_tasks", is_ignored)?;
-    let pre_tasks = read_tasks(alloc, keys, "pre_tasks", is_ignored)?;
-    let tasks = read_tasks(alloc, keys, "tasks", is_ignored)?;
+    let post_tasks = keys.field_or::<NodeList>(alloc, "post_tasks", no_nodes(alloc))?;
+    let pre_tasks = keys.field_or::<NodeList>(alloc, "pre_tasks", no_nodes(alloc))?;
+    let tasks = keys.field_or::<NodeList>(alloc, "tasks", no_nodes(alloc))?;
     Ok(Lists {
-        is_ignored,
         post_tasks,
         pre_tasks,
         tasks,
@@ -168,9 +146,9 @@ fn read_rest(
 ) -> Result<Play, Stop<LoadFault>>
     ensures { Gives result (value_of (rest_of_play path.now gather_facts hosts (ahead keys.entry))) }
 {
-    let is_ignored = keys.field_or::<Switch>(alloc, "ignore_errors", false)?;
+    let ignore_errors = keys.field_or::<Switch>(alloc, "ignore_errors", false)?;
     let name = keys.field::<PlainText>(alloc, "name")?;
-    let lists = read_lists(alloc, &mut keys, is_ignored)?;
+    let lists = read_lists(alloc, &mut keys)?;
     let vars = keys.field_or::<EachNamed<TemplateValue>>(alloc, "vars", Dict::new(alloc))?;
     keys.others(alloc)?;
     let PlayHosts { text, pattern } = required(path, hosts)?;
@@ -180,6 +158,7 @@ fn read_rest(
         name.unwrap_or(text),
         pattern,
         vars,
+        ignore_errors,
     )?)
 }
 

@@ -1,0 +1,68 @@
+-- Tasks that steer the run: they are told by the key `meta`, with the prefix or without. See Ansible's documentation of `ansible.builtin.meta`.
+use Rattle.std.specs.Prelude.{ℕ, List, [], Ok, Err, Option, Some, None, codes, unwrap_or, if◌then◌else◌}
+use Rattle.std.specs.Str.{bytes_eq}
+use Rattle.serde_json.specs.Data as json
+use Rattle.pb_expr_syntax.specs.Tree.{Tree}
+use Rattle.pb_reading.specs.Fields.{◌>>=◌, Part, others, object, rule}
+use Rattle.pb_reading.specs.Reading.{Reading, Own}
+use Rattle.pb_reading.specs.Simple.{text}
+use Rattle.pb_play.specs.Conditions.{conditions}
+use Rattle.pb_play.specs.Faults.{refused_key}
+use Rattle.pb_play.specs.NoEffect.{has_no_effect, key}
+use Rattle.pb_play.specs.Nodes.{Written, Nothing, Task, Flush}
+use Rattle.pb_play.specs.Tasks.{plain_task}
+use Rattle.pb_play.specs.declared.fault.LoadFault.{LoadFault}
+use Rattle.pb_play.specs.declared.fault.LoadFault.TheVariants.{NoModule}
+use Rattle.pb_play.specs.declared.meta.Said.{Said}
+use Rattle.pb_play.specs.declared.meta.Said.TheVariants.{Does, Flushes}
+use Rattle.pb_play.specs.declared.modules.Meta.{Meta}
+use Rattle.pb_play.specs.declared.modules.Meta.TheVariants.{Noop, EndHost}
+use Rattle.pb_play.specs.declared.modules.Module.TheVariants as called
+use Rattle.pb_play.specs.declared.other_keys.WithoutEffect.{WithoutEffect}
+use Rattle.pb_play.specs.declared.task.Task as declared
+
+-- what a meta task may say; any other word, and what is no text, isn't read
+abbrev pub said_by : List ℕ → Reading Said LoadFault
+said_by s =
+    if bytes_eq s (codes "end_host") then Ok (Does EndHost)
+    else (if bytes_eq s (codes "flush_handlers") then Ok Flushes
+    else (if bytes_eq s (codes "noop") then Ok (Does Noop) else refused_key (codes "meta")))
+
+abbrev pub said : List ℕ → json.Data → Reading Said LoadFault
+said path (json.string s) = said_by s
+said path d = refused_key (codes "meta")
+
+-- the key stands once: beside the one with the prefix, the other is a key that isn't read
+abbrev pub one_of : Option Said → Option Said → Reading Said LoadFault
+one_of (Some s) None = Ok s
+one_of None (Some s) = Ok s
+one_of (Some s) (Some t) = refused_key (codes "meta")
+one_of None None = Err (Own NoModule)
+
+abbrev pub what_is_said : Part WithoutEffect LoadFault Said
+what_is_said = do
+  full ← key (codes "ansible.builtin.meta") said
+  short ← key (codes "meta") said
+  rule (one_of full short)
+
+-- a task that steers the run; one without a name is named `meta`
+abbrev pub meta_task : Meta → Option (List ℕ) → Option (List Tree) → declared.Task
+meta_task m name conditions = record (plain_task (unwrap_or name (codes "meta")) [] (called.Meta m)) { conditions = unwrap_or conditions [] }
+
+-- where the handlers run that are pending no condition is asked
+abbrev pub made_of : Said → Option (List ℕ) → Option (List Tree) → Reading Written LoadFault
+made_of (Does m) name conditions = Ok (Task (meta_task m name conditions) Nothing)
+made_of Flushes name (Some ts) = refused_key (codes "when")
+made_of Flushes name None = Ok (Flush Nothing)
+
+abbrev pub rest_of_meta : Said → Part WithoutEffect LoadFault Written
+rest_of_meta said = do
+  name ← key (codes "name") text
+  conditions ← key (codes "when") conditions
+  _ ← others has_no_effect
+  rule (made_of said name conditions)
+
+abbrev pub meta : List ℕ → json.Data → Reading Written LoadFault
+meta = object (record {}) do
+  said ← what_is_said
+  rest_of_meta said

@@ -1,0 +1,151 @@
+ghost use Rattle.std.specs.Prelude.{◌≡◌, IfOk};
+ghost use Rattle.serde_json.specs.Data as json;
+ghost use Rattle.serde_json.specs.View.{view, members_view};
+ghost use Rattle.pb_reading.specs.Ahead.{ahead, Takes};
+ghost use Rattle.pb_reading.specs.Fields.{value_of};
+ghost use Rattle.pb_reading.specs.Reading.{Gives};
+ghost use Rattle.pb_play.specs.MetaTasks.{said_by, said, one_of, what_is_said, meta_task, made_of, rest_of_meta, meta};
+ghost use Rattle.pb_play.specs.View.{IsRead};
+
+use crate::conditions::Conditions;
+use crate::fault::{LoadFault, not_in_profile};
+use crate::modules::{Meta, Module};
+use crate::node::Node;
+use crate::other_keys::WithoutEffect;
+use crate::task::Task;
+use pb_expr_syntax::tree::Expr;
+use pb_reading::keys::Keys;
+use pb_reading::reads::Reads;
+use pb_reading::simple::PlainText;
+use pb_reading::stop::Stop;
+use pb_value::items::Items;
+use pb_value::text::Text;
+use pb_value::val::Dict;
+use serde_json::{Map, Value};
+use std::alloc::{AllocError, Global};
+
+/// What a task that steers the run says.
+#[derive(Clone, Copy)]
+pub(crate) enum Said {
+    /// It does this at a place of its own.
+    Does(Meta),
+    /// The handlers run that are pending.
+    Flushes,
+}
+
+fn said_by(alloc: Global, word: &str) -> Result<Said, Stop<LoadFault>>
+    ensures { Gives result (said_by word.now) }
+{
+    if word == "end_host" {
+        Ok(Said::Does(Meta::EndHost))
+    } else if word == "flush_handlers" {
+        Ok(Said::Flushes)
+    } else if word == "noop" {
+        Ok(Said::Does(Meta::Noop))
+    } else {
+        not_in_profile(alloc, "meta")
+    }
+}
+
+impl Reads<LoadFault> for Said {
+    type Value = Said;
+
+    ghost reads = { said };
+
+    fn read(alloc: Global, _path: &Text, json: &Value) -> Result<Said, Stop<LoadFault>> {
+        match json {
+            Value::String(word) => said_by(alloc, word.as_str()),
+            _ => not_in_profile(alloc, "meta"),
+        }
+    }
+}
+
+/// What stands at one of the two keys.
+fn one_of(alloc: Global, full: Option<Said>, short: Option<Said>) -> Result<Said, Stop<LoadFault>>
+    ensures { Gives result (one_of full short) }
+{
+    match (full, short) {
+        (Some(said), None) => Ok(said),
+        (None, Some(said)) => Ok(said),
+        (Some(_), Some(_)) => not_in_profile(alloc, "meta"),
+        (None, None) => Err(Stop::Fault(LoadFault::NoModule)),
+    }
+}
+
+fn what_is_said(alloc: Global, keys: &mut Keys<'_, WithoutEffect>) -> Result<Said, Stop<LoadFault>>
+    ensures value { Takes (λ v. v) result (ahead keys.new) (what_is_said (ahead keys.old)) }
+    ensures path { (ahead keys.new).path ≡ (ahead keys.old).path }
+{
+    let full = keys.field::<Said>(alloc, "ansible.builtin.meta")?;
+    let short = keys.field::<Said>(alloc, "meta")?;
+    one_of(alloc, full, short)
+}
+
+fn meta_task(
+    alloc: Global,
+    meta: Meta,
+    name: Option<Text>,
+    conditions: Option<Items<Expr>>,
+) -> Result<Task, AllocError>
+    ensures { IfOk result (λ t. t ≡ meta_task meta name conditions) }
+{
+    let name = match name {
+        Some(name) => name,
+        None => Text::from_str(alloc, "meta")?,
+    };
+    Ok(Task {
+        name,
+        vars: Dict::new(alloc),
+        module: Module::Meta(meta),
+        conditions: conditions.unwrap_or(Items::new(alloc)),
+        looped: None,
+        register: None,
+        changed_when: None,
+        failed_when: None,
+        ignore_errors: None,
+    })
+}
+
+/// The node that says this.
+fn made_of(
+    alloc: Global,
+    said: Said,
+    name: Option<Text>,
+    conditions: Option<Items<Expr>>,
+) -> Result<Node, Stop<LoadFault>>
+    ensures { IsRead result (made_of said name conditions) }
+{
+    match said {
+        Said::Does(meta) => Ok(Node::Task(meta_task(alloc, meta, name, conditions)?)),
+        Said::Flushes => match conditions {
+            Some(_) => not_in_profile(alloc, "when"),
+            None => Ok(Node::Flush),
+        },
+    }
+}
+
+/// A task that steers the run, as the members of an object spell it.
+pub(crate) fn read_meta(
+    alloc: Global,
+    path: &Text,
+    members: &Map<String, Value>,
+) -> Result<Node, Stop<LoadFault>>
+    ensures { IsRead result (meta path.now (json.object (members_view members.now.entries))) }
+{
+    let mut keys = Keys::of(path, members, WithoutEffect);
+    let said = what_is_said(alloc, &mut keys)?;
+    read_rest(alloc, keys, said)
+}
+
+fn read_rest(
+    alloc: Global,
+    mut keys: Keys<'_, WithoutEffect>,
+    said: Said,
+) -> Result<Node, Stop<LoadFault>>
+    ensures { IsRead result (value_of (rest_of_meta said (ahead keys.entry))) }
+{
+    let name = keys.field::<PlainText>(alloc, "name")?;
+    let conditions = keys.field::<Conditions>(alloc, "when")?;
+    keys.others(alloc)?;
+    made_of(alloc, said, name, conditions)
+}
