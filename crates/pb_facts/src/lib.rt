@@ -7,5 +7,5 @@
 
 pub mod book;
 pub mod facts;
-mod put;
+pub mod put;
 mod reading;

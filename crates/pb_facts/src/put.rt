@@ -1,11 +1,12 @@
+//! Variables over others.
 ghost use Rattle.std.specs.Prelude.{◌≡◌, OnOk};
 ghost use Rattle.pb_facts.specs.Facts.{put_all};
 
 use pb_value::val::Dict;
 use std::alloc::{AllocError, Global};
 
-/// Puts a copy of each value under its name, in place of one that stands there.
-pub(crate) fn put_all(alloc: Global, known: &mut Dict, entries: &Dict) -> Result<(), AllocError>
+/// Puts a copy of each value under its name, in place of one that stands there. The only error is want of memory.
+pub fn put_all(alloc: Global, known: &mut Dict, entries: &Dict) -> Result<(), AllocError>
     ensures { OnOk result (known.new ≡ put_all entries.now known.old) }
 {
     for (name, value) in entries.map.iter() {

@@ -1,6 +1,7 @@
 -- What the module of an item does when its task starts on a host, in the scope that the host has then. `debug` shows its message or the
 -- value of an expression, `fail` fails with its message, `assert` fails where one of its conditions doesn't hold, `set_fact` sets facts,
--- `command` and `shell` are sent as jobs; so is `setup`, where there is a program that gathers facts. What can't be read fails the item.
+-- `meta` steers the run alone, `command` and `shell` are sent as jobs; so is `setup`, where there is a program that gathers facts. What can't be read
+-- fails the item.
 -- See Ansible's documentation of these modules, in ansible.builtin.
 use Rattle.std.specs.Prelude.{⊤, Bool, true, false, List, Result, Ok, Err, codes}
 use Rattle.pb_value.specs.Datum.{Datum, text, dict, no_members, members_of}
@@ -19,12 +20,12 @@ use Rattle.pb_outcome.specs.declared.item.Planned.{Planned}
 use Rattle.pb_outcome.specs.declared.item.Planned.TheVariants.{Decided, Sends}
 use Rattle.pb_outcome.specs.declared.job.Call.TheVariants.{Setup as SetupCall}
 use Rattle.pb_play.specs.declared.modules.Module.{Module}
-use Rattle.pb_play.specs.declared.modules.Module.TheVariants.{Assert, Command, Debug, DebugVar, Fail, SetFact, Setup, Shell}
+use Rattle.pb_play.specs.declared.modules.Module.TheVariants.{Assert, Command, Debug, DebugVar, Fail, Meta, SetFact, Setup, Shell}
 use Rattle.pb_items.specs.declared.fault.ItemFault.{ItemFault}
 use Rattle.pb_items.specs.Faults.{said, evaluated}
 use Rattle.pb_items.specs.Calls.{command_in, shell_in}
 use Rattle.pb_items.specs.Facts.{facts_of}
-use Rattle.pb_items.specs.Results.{assert_result}
+use Rattle.pb_items.specs.Results.{assert_result, meta_result}
 
 -- what `var` shows where a name stands for nothing
 abbrev pub or_not_defined : Value → Value
@@ -48,6 +49,7 @@ done_by program scope (Command words) = map_ok Sends (command_in scope words)
 done_by program scope (Debug msg) = map_ok (λ v. Decided (debug_result v)) (evaluated (rendered_of scope msg))
 done_by program scope (DebugVar name expr) = map_ok (λ v. Decided (shown_result name v)) (evaluated (or_not_defined (eval_of scope expr)))
 done_by program scope (Fail msg) = map_ok (λ v. Decided (fail_result v)) (evaluated (rendered_of scope msg))
+done_by program scope (Meta meta) = Ok (Decided meta_result)
 done_by program scope (SetFact facts) = map_ok (λ fs. Decided (facts_result (dict (members_of fs)))) (facts_of scope facts)
 done_by program scope Setup = Ok (setup_of program)
 done_by program scope (Shell cmd) = map_ok Sends (shell_in scope cmd)

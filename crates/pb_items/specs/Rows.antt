@@ -15,9 +15,11 @@ use Rattle.pb_outcome.specs.Decided.{faulty_result, debug_result, shown_result, 
 use Rattle.pb_outcome.specs.Results.{facts_result}
 use Rattle.pb_outcome.specs.declared.job.Call.TheVariants as call
 use Rattle.pb_play.specs.declared.commands.CommandWords.TheVariants.{Line, Argv}
-use Rattle.pb_play.specs.declared.modules.Module.TheVariants.{Assert, Command, Debug, DebugVar, Fail, SetFact, Setup, Shell}
+use Rattle.pb_play.specs.declared.modules.Module.TheVariants.{Assert, Command, Debug, DebugVar, Fail, Meta, SetFact, Setup, Shell}
+use Rattle.pb_play.specs.declared.modules.Meta.TheVariants.{Noop, EndHost}
 use Rattle.pb_outcome.specs.declared.item.Planned.TheVariants.{Decided, Sends}
 use Rattle.pb_items.specs.Planning.{done_by, planned_by}
+use Rattle.pb_items.specs.Results.{meta_result}
 
 -- what computes the values of templates and the words of texts
 unfoldable on_items : ⊤
@@ -123,3 +125,12 @@ no_facts_program = refl
 facts_program_is_sent : done_by true [] Setup ≡ Ok (Sends call.Setup)
 unfolding on_items
 facts_program_is_sent = refl
+
+-- what steers the run is decided at once, with or without a facts program
+noop_is_decided : done_by true [] (Meta Noop) ≡ Ok (Decided meta_result)
+unfolding on_items
+noop_is_decided = refl
+
+end_host_is_decided : planned_by [] (Meta EndHost) ≡ Decided meta_result
+unfolding on_items
+end_host_is_decided = refl

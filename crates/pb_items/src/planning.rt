@@ -11,7 +11,7 @@ use crate::calls::{command_in, shell_in};
 use crate::facts::facts_of;
 use crate::fault::ItemFault;
 use crate::planned::Planned;
-use crate::results::assert_result;
+use crate::results::{assert_result, meta_result};
 use pb_conditions::holds::holds;
 use pb_expr_eval::eval::{eval, render_value};
 use pb_expr_syntax::tree::Expr;
@@ -101,6 +101,7 @@ pub(crate) fn done_by(
             shown_result(alloc, text.as_str(), &value)?
         }
         Module::Fail { msg } => fail_result(alloc, &render_value(alloc, msg, scope)?)?,
+        Module::Meta(_) => meta_result(alloc)?,
         Module::SetFact { facts } => facts_result(
             alloc,
             Val::dict(facts_of(alloc, facts, scope)?),

@@ -1,6 +1,6 @@
 //! Results of items that are decided when their task starts.
 ghost use Rattle.std.specs.Prelude.{◌≡◌, IfOk};
-ghost use Rattle.pb_items.specs.Results.{skipped_result, assert_result};
+ghost use Rattle.pb_items.specs.Results.{skipped_result, meta_result, assert_result};
 
 use pb_outcome::decided::{debug_result, fail_result};
 use pb_outcome::gather::{Ending, ItemResult};
@@ -20,6 +20,22 @@ pub(crate) fn skipped_result(alloc: Global) -> Result<ItemResult, AllocError>
     members.put(alloc, "skipped", Val::boolean(true))?;
     Ok(ItemResult {
         ending: Ending::Skipped,
+        result: Val::dict(members),
+    })
+}
+
+/// The result of an item of `meta`: it has changed nothing and says nothing. See Ansible's documentation of `ansible.builtin.meta`.
+pub(crate) fn meta_result(alloc: Global) -> Result<ItemResult, AllocError>
+    ensures { IfOk result (λ r. r ≡ meta_result) }
+{
+    let mut members = Dict::new(alloc);
+    members.put(alloc, "changed", Val::boolean(false))?;
+    members.put(alloc, "failed", Val::boolean(false))?;
+    Ok(ItemResult {
+        ending: Ending::Ran {
+            changed: false,
+            failed: false,
+        },
         result: Val::dict(members),
     })
 }

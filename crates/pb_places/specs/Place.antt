@@ -1,6 +1,6 @@
 -- What stands at a place of a play's tree: a task, with all that it has from its own keys, the blocks round it, its role and its play
 -- (Ansible's documentation, "Playbook keywords", "Blocks" and "Roles").
-use Rattle.std.specs.Prelude.{ℕ, Bool, false, List, [], Option, None}
+use Rattle.std.specs.Prelude.{ℕ, Bool, false, List, [], Option, None, unwrap_or}
 use Rattle.pb_expr_syntax.specs.Tree.{Tree}
 use Rattle.pb_layers.specs.Scope.{Map}
 use Rattle.pb_play.specs.Tasks.{plain_task}
@@ -42,7 +42,7 @@ place_of task =
       conditions = task.conditions;
       block_vars = [];
       role = no_role;
-      ignore_errors = task.ignore_errors;
+      ignore_errors = unwrap_or task.ignore_errors false;
       any_errors_fatal = false;
       throttle = 0;
       run_once = false;

@@ -10,7 +10,7 @@ abbrev pub placed : Task → Surroundings → PlaceOf
 placed task given =
     record {
       task = task;
-      conditions = given.conditions;
+      conditions = unwrap_or (option_map arc_value given.conditions) task.conditions;
       block_vars = unwrap_or (option_map arc_value given.block_vars) [];
       role = unwrap_or (option_map arc_value given.role) no_role;
       ignore_errors = given.ignore_errors;

@@ -5,6 +5,7 @@
 //! its task and one pointer, and blocks and roles share their variables among their places.
 #![tactic(auto)]
 
+pub mod conditions;
 mod place;
 mod surroundings;
 

@@ -79,7 +79,10 @@ impl Place {
         ensures { result.now ≡ self.now.conditions }
     {
         match &self.surroundings {
-            Some(given) => given.conditions.as_slice(),
+            Some(given) => match &given.conditions {
+                Some(conditions) => conditions.as_ref().as_slice(),
+                None => self.task.conditions.as_slice(),
+            },
             None => self.task.conditions.as_slice(),
         }
     }
@@ -118,7 +121,7 @@ impl Place {
     {
         match &self.surroundings {
             Some(given) => given.ignore_errors,
-            None => self.task.ignore_errors,
+            None => self.task.ignore_errors.unwrap_or(false),
         }
     }
 

@@ -49,8 +49,9 @@ impl Role {
 /// What a place has beside its task: from the task's own keys, the blocks round it, its role and its play
 /// (Ansible's documentation, "Playbook keywords").
 pub struct Surroundings {
-    /// The conditions that have to hold for it to run: those of the role, of the outer blocks, of the inner blocks, and the task's own.
-    pub conditions: Items<Expr>,
+    /// The conditions that have to hold for it to run: those of the role, of the outer blocks, of the inner blocks, and the task's own. None where
+    /// the task's own are all; where it has none itself, all such places of a block share them.
+    pub conditions: Option<Arc<Items<Expr>>>,
     /// The variables of the blocks, the inner over the outer, which all places of the innermost block share.
     pub block_vars: Option<Arc<Dict>>,
     /// The variables of its role, which all places of the role share.

@@ -19,7 +19,7 @@ use Rattle.pb_play.specs.declared.commands.CommandWords.{CommandWords}
 use Rattle.pb_play.specs.declared.commands.CommandWords.TheVariants.{Line, Argv}
 use Rattle.pb_play.specs.declared.loops.Loop.{Loop}
 use Rattle.pb_play.specs.declared.modules.Module.{Module}
-use Rattle.pb_play.specs.declared.modules.Module.TheVariants.{Assert, Command, Debug, DebugVar, Fail, SetFact, Setup, Shell}
+use Rattle.pb_play.specs.declared.modules.Module.TheVariants.{Assert, Command, Debug, DebugVar, Fail, Meta, SetFact, Setup, Shell}
 use Rattle.pb_play.specs.declared.task.Task.{Task}
 use Rattle.pb_items.specs.Calls.{words_in, command_in}
 use Rattle.pb_items.specs.Facts.{facts_of}
@@ -77,6 +77,7 @@ done_own word some program scope other apart (Command words) e = rw (command_own
 done_own word some program scope other apart (Debug msg) e = rw (value_own word some scope other apart msg e) refl
 done_own word some program scope other apart (DebugVar name expr) e = rw (eval_alike word scope other apart expr e) refl
 done_own word some program scope other apart (Fail msg) e = rw (value_own word some scope other apart msg e) refl
+done_own word some program scope other apart (Meta meta) e = refl
 done_own word some program scope other apart (SetFact facts) e = rw (facts_own word some scope other apart facts e) refl
 done_own word some program scope other apart Setup e = refl
 done_own word some program scope other apart (Shell cmd) e = rw (value_own word some scope other apart (text cmd) e) refl

@@ -9,7 +9,7 @@ use Rattle.pb_play.specs.declared.commands.CommandWords.{CommandWords}
 use Rattle.pb_play.specs.declared.commands.CommandWords.TheVariants.{Line, Argv}
 use Rattle.pb_play.specs.declared.loops.Loop.{Loop}
 use Rattle.pb_play.specs.declared.modules.Module.{Module}
-use Rattle.pb_play.specs.declared.modules.Module.TheVariants.{Assert, Command, Debug, DebugVar, Fail, SetFact, Setup, Shell}
+use Rattle.pb_play.specs.declared.modules.Module.TheVariants.{Assert, Command, Debug, DebugVar, Fail, Meta, SetFact, Setup, Shell}
 use Rattle.pb_play.specs.declared.task.Task.{Task}
 use Rattle.pb_items.specs.Items.{StartOf}
 use Rattle.pb_reach.specs.Named.{in_tree, in_trees}
@@ -25,6 +25,7 @@ module_mentions word (Command words) = words_mention word words
 module_mentions word (Debug msg) = mentions word msg
 module_mentions word (DebugVar name expr) = in_tree word expr
 module_mentions word (Fail msg) = mentions word msg
+module_mentions word (Meta meta) = false
 module_mentions word (SetFact facts) = members_mention word (members_of facts)
 module_mentions word Setup = false
 module_mentions word (Shell cmd) = has_inside word cmd

@@ -48,6 +48,7 @@ fn module_mentions(word: &str, called: &Module) -> bool
         Module::Debug { msg } => mentions(word, msg),
         Module::DebugVar { text: _, expr } => has_name(word, expr),
         Module::Fail { msg } => mentions(word, msg),
+        Module::Meta(_) => false,
         Module::SetFact { facts } => members_mention(word, facts),
         Module::Setup => false,
         Module::Shell { cmd } => has_inside(word, cmd.as_str()),
