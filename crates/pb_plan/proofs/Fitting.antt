@@ -1,49 +1,82 @@
 -- What a play has at its places fits its tree.
-use Rattle.std.proofs.Common.{◌≡◌, ◌+◌, ℕ, zero, suc, false, List, [], ◌∷◌, ◌++◌, map, refl, sym, ap, subst, ◌∙◌, length, arith}
-use Rattle.std.specs.Prelude.{Bool, replicate}
+use Rattle.std.proofs.Common.{◌≡◌, ℕ, Bool, false, ◌||◌, List, [], ◌∷◌, ◌++◌, refl, sym, ap, subst, ◌∙◌, length, length-append, append_assoc, arith}
+use Rattle.std.specs.Prelude.{not}
 use Rattle.std.specs.List.{All}
+use Rattle.std.proofs.lemmas.List.{append-nil, map-append}
 use Rattle.std.proofs.lemmas.List.Elements.{All-cons}
 use Rattle.pb_inventory.specs.InventoryOf.{InventoryOf}
 use Rattle.pb_play.specs.declared.play.Play.{Play}
-use Rattle.pb_play.specs.declared.task.Task.{Task as PlayTask}
-use Rattle.pb_tree.specs.Tree.{Nodes, Nothing, Flush, size, size_of}
+use Rattle.pb_play.specs.Nodes as written
+use Rattle.pb_play.specs.Nodes.{Written}
+use Rattle.pb_tree.specs.Tree.{Nodes, Nothing, Flush, size_of}
+use Rattle.pb_tree.specs.Walk.{is_empty}
 use Rattle.pb_places.specs.Caught.{are_caught, caught_in, caught_places}
-use Rattle.pb_places.specs.Place.{place_of}
-use Rattle.pb_plan.specs.Bundle.{tasks_then, tree_for, all_places, play_with, both, ArePlaysOf, IsPlanOf}
+use Rattle.pb_places.specs.Place.{PlaceOf}
+use Rattle.pb_plan.specs.Building.{RoundOf, inside, is_nothing, places_of, nodes_then, section_places, sections_of, tree_with, round_of_play}
+use Rattle.pb_plan.specs.Seen.{alone, places_in}
+use Rattle.pb_plan.specs.Bundle.{play_with, both, ArePlaysOf, IsPlanOf}
 use Rattle.pb_plan.specs.Plan.{PlayOf, PlanOf, Fits}
 use Rattle.pb_plan.specs.declared.bundle.Bundle.{Bundle}
-use Rattle.pb_plan.proofs.Trees.{all_have_places}
+use Rattle.pb_plan.proofs.Trees.{size_tree}
 
--- no plain task is caught
-none_caught : (ts : List PlayTask) → are_caught (map place_of ts) ≡ replicate (length (map place_of ts)) false
-none_caught [] = refl
-none_caught (t ∷ ts) = ap (λ l. false ∷ l) (none_caught ts)
+-- each place of the nodes has its record
+pub as_many : (round : RoundOf) (is_caught : Bool) (w : Written) → length (places_of round is_caught w) ≡ places_in w
+as_many round is_caught written.Nothing = refl
+as_many round is_caught (written.Task task rest) = omega (arith, as_many round is_caught rest)
+as_many round is_caught (written.Block block body rescue always rest) =
+    let b = as_many (inside round block) (is_caught || not (is_nothing rescue)) body in
+    let r = as_many (inside round block) is_caught rescue in
+    let a = as_many (inside round block) is_caught always in
+    let m = as_many round is_caught rest in
+    rw (length-append, length-append, length-append, b, r, a, m) refl
+as_many round is_caught (written.Flush rest) = omega (arith, as_many round is_caught rest)
 
--- nor is one outside of blocks
-plain_then : (n : ℕ) (rest : Nodes) → caught_in 0 false rest ≡ replicate (size 0 rest) false → caught_in 0 false (tasks_then n rest) ≡ replicate (size 0 (tasks_then n rest)) false
-plain_then zero rest e = e
-plain_then (suc n) rest e =
-    ap (λ l. false ∷ l) (plain_then n rest e)
-    ∙ ap (λ k. replicate k false) (let same : suc (size 0 (tasks_then n rest)) ≡ 1 + size 0 (tasks_then n rest) = omega arith in same)
+none_is_empty : (w : Written) → is_empty (alone w) ≡ is_nothing w
+none_is_empty written.Nothing = refl
+none_is_empty (written.Task task rest) = refl
+none_is_empty (written.Block block body rescue always rest) = refl
+none_is_empty (written.Flush rest) = refl
 
-flush_then : (rest : Nodes) → caught_in 0 false rest ≡ replicate (size 0 rest) false → caught_in 0 false (Flush rest) ≡ replicate (size 0 (Flush rest)) false
-flush_then rest e = e ∙ ap (λ k. replicate k false) (let same : size 0 rest ≡ 0 + size 0 rest = omega arith in same)
+four_caught : (bs rs es ms : List PlaceOf) (rest : List Bool)
+    → (((are_caught bs ++ []) ++ (are_caught rs ++ [])) ++ (are_caught es ++ [])) ++ (are_caught ms ++ rest) ≡ are_caught (((bs ++ rs) ++ es) ++ ms) ++ rest
+four_caught bs rs es ms rest = simp (map-append, append-nil, append_assoc) refl
 
-tree_caught : (pre tasks post : ℕ) → caught_places (tree_for pre tasks post) ≡ replicate (size_of (tree_for pre tasks post)) false
-tree_caught pre tasks post =
-    plain_then pre (Flush (tasks_then tasks (Flush (tasks_then post (Flush Nothing)))))
-    (flush_then (tasks_then tasks (Flush (tasks_then post (Flush Nothing))))
-    (plain_then tasks (Flush (tasks_then post (Flush Nothing))) (flush_then (tasks_then post (Flush Nothing)) (plain_then post (Flush Nothing) refl))))
+-- it says of a failure there what the tree says
+caught_then : (round : RoundOf) (is_caught : Bool) (w : Written) (rest : Nodes)
+    → caught_in 0 is_caught (nodes_then w rest) ≡ are_caught (places_of round is_caught w) ++ caught_in 0 is_caught rest
+caught_then round is_caught written.Nothing rest = refl
+caught_then round is_caught (written.Task task more) rest = ap (λ (l : List Bool). is_caught ∷ l) (caught_then round is_caught more rest)
+caught_then round is_caught (written.Block block body rescue always more) rest =
+    let b = caught_then (inside round block) (is_caught || not (is_nothing rescue)) body Nothing in
+    let r = caught_then (inside round block) is_caught rescue Nothing in
+    let a = caught_then (inside round block) is_caught always Nothing in
+    let m = caught_then round is_caught more rest in
+    rw (none_is_empty rescue, b, r, a, m)
+    (four_caught (places_of (inside round block) (is_caught || not (is_nothing rescue)) body) (places_of (inside round block) is_caught rescue)
+    (places_of (inside round block) is_caught always) (places_of round is_caught more) (caught_in 0 is_caught rest))
+caught_then round is_caught (written.Flush more) rest = caught_then round is_caught more rest
+
+three_caught : (ps ts qs : List PlaceOf) → are_caught ps ++ (are_caught ts ++ (are_caught qs ++ [])) ≡ are_caught ((ps ++ ts) ++ qs)
+three_caught ps ts qs = simp (map-append, append-nil, append_assoc) refl
+
+pub sections_fit : (round : RoundOf) (pre tasks post : Written) → length (section_places round pre tasks post) ≡ size_of (tree_with (sections_of pre tasks post))
+sections_fit round pre tasks post =
+    rw (length-append, length-append, as_many round false pre, as_many round false tasks, as_many round false post) (sym (size_tree pre tasks post))
+
+sections_caught : (round : RoundOf) (pre tasks post : Written) → are_caught (section_places round pre tasks post) ≡ caught_places (tree_with (sections_of pre tasks post))
+sections_caught round pre tasks post =
+    sym
+    (caught_then round false pre (Flush (nodes_then tasks (Flush (nodes_then post (Flush Nothing)))))
+    ∙ ap (λ (l : List Bool). are_caught (places_of round false pre) ++ l)
+    (caught_then round false tasks (Flush (nodes_then post (Flush Nothing)))
+    ∙ ap (λ (l : List Bool). are_caught (places_of round false tasks) ++ l) (caught_then round false post (Flush Nothing)))
+    ∙ three_caught (places_of round false pre) (places_of round false tasks) (places_of round false post))
 
 play_fits : (inventory : InventoryOf) (hosts : List Bool) (play : Play) → Fits (play_with inventory hosts play)
 play_fits inventory hosts play =
-    let sized = all_have_places play.pre_tasks play.tasks play.post_tasks (all_places play) _ _ _ _ refl refl refl refl refl in
     record {
-      places = sized;
-      caught =
-          none_caught (play.pre_tasks ++ play.tasks ++ play.post_tasks)
-          ∙ ap (λ n. replicate n false) sized
-          ∙ sym (tree_caught (length play.pre_tasks) (length play.tasks) (length play.post_tasks));
+      places = sections_fit (round_of_play play.ignore_errors) play.pre_tasks play.tasks play.post_tasks;
+      caught = sections_caught (round_of_play play.ignore_errors) play.pre_tasks play.tasks play.post_tasks;
     }
 
 all_fit : (inventory : InventoryOf) (limit : List Bool) (plays : List Play) (planned : List PlayOf) (lines : List (List ℕ)) → ArePlaysOf inventory limit plays planned lines → All Fits planned

@@ -1,5 +1,5 @@
 -- What is left of the plays of a bundle, and what its faults are.
-use Rattle.std.proofs.Common.{◌≡◌, ℕ, ◌++◌, Bool, true, false, List, [], ◌∷◌, refl, sym, ap, subst, ◌∙◌, append_assoc, inl, inr, ◌||◌}
+use Rattle.std.proofs.Common.{◌≡◌, ℕ, ◌++◌, Bool, true, false, List, [], ◌∷◌, map, refl, sym, ap, subst, ◌∙◌, append_assoc, inl, inr, ◌||◌}
 use Rattle.std.specs.Prelude.{nat_lt, Option, Some, Ok, Err}
 use Rattle.std.specs.List.{list_any}
 use Rattle.std.proofs.lemmas.List.{append-nil}
@@ -10,7 +10,9 @@ use Rattle.pb_layers.specs.Scope.{Map}
 use Rattle.pb_patterns.specs.Expressions.{AreTaken, IsFirstFault}
 use Rattle.pb_patterns.specs.Reading.{pattern_of, expressions_of}
 use Rattle.pb_patterns.proofs.Firsts.{made_of}
+use Rattle.pb_patterns.specs.Selection.{IsSelection}
 use Rattle.pb_patterns.specs.declared.element.Element.{Element}
+use Rattle.pb_patterns.specs.declared.selected.Selected.{Selected}
 use Rattle.pb_patterns.specs.declared.fault.PatFault.{PatFault}
 use Rattle.pb_patterns.specs.declared.fault.PatFault.TheVariants.{BadRegex}
 use Rattle.pb_play.specs.Playbooks.{playbook_of, expressions_of_book}
@@ -23,7 +25,7 @@ use Rattle.pb_plan.specs.declared.bundle.BundleFault.{BundleFault}
 use Rattle.pb_plan.specs.declared.bundle.BundleFault.TheVariants.{Inventory, Playbook as InPlaybook, Roles, Limit, BadForks, TooLarge}
 use Rattle.pb_plan.specs.declared.bundle.RoleFault.TheVariants.{TooLarge as TooManyPlaces}
 use Rattle.pb_plan.specs.Plan.{PlayOf, PlanOf}
-use Rattle.pb_plan.specs.Bundle.{in_part, limit_of, limited, extra_in, with_places, variables_of, readings_of, expressions_of_limit, expressions_in_plays, expressions_in_limit, has_too_many_places, are_bad_forks, bundle_bytes, IsPlayOf, ArePlaysOf, IsPlaybookFault, IsLimitFault, IsBundleFault, IsPlanIn, IsPlanOf}
+use Rattle.pb_plan.specs.Bundle.{in_part, limit_of, limited, extra_in, with_places, variables_of, readings_of, expressions_of_limit, expressions_in_plays, expressions_in_limit, has_too_large_tree, are_bad_forks, bundle_bytes, both, play_with, unmatched_line, IsPlayOf, ArePlaysOf, IsPlaybookFault, IsLimitFault, IsBundleFault, IsPlanIn, IsPlanOf}
 
 -- the plays in front are planned
 abbrev pub ArePlannedTo : InventoryOf → List Bool → List Play → List Play → List PlayOf → List (List ℕ) → Type 0
@@ -34,6 +36,13 @@ one_more : (inventory : InventoryOf) (limit : List Bool) (all rest : List Play) 
     → ArePlannedTo inventory limit all (play ∷ rest) planned lines → IsPlayOf inventory limit play p more → ArePlannedTo inventory limit all rest (planned ++ p ∷ []) (lines ++ more)
 one_more inventory limit all rest play planned p lines more before is later others are =
     rw (append_assoc planned (p ∷ []) later, append_assoc lines more others) (before (p ∷ later) (more ++ others) (more, others, is, are, refl))
+
+-- a play has the hosts that both select, and lines of the elements that select none
+pub play_planned : (inventory : InventoryOf) (limit : List Bool) (play : Play) (own : Selected) (hosts : List Bool) (planned : PlayOf) (names before after : List (List ℕ))
+    → IsSelection inventory play.hosts own → hosts ≡ both own.hosts limit → planned ≡ play_with inventory hosts play → names ≡ own.unmatched → after ≡ before ++ map unmatched_line names
+    → (more : List (List ℕ)) × IsPlayOf inventory limit play planned more × (after ≡ before ++ more)
+play_planned inventory limit play own hosts planned names before after selects are is named put =
+    (map unmatched_line own.unmatched, (own, selects, is ∙ ap (λ (h : List Bool). play_with inventory h play) are, refl), put ∙ ap (λ (ns : List (List ℕ)). before ++ map unmatched_line ns) named)
 
 -- the next play is planned
 pub next_planned : (inventory : InventoryOf) (limit : List Bool) (all old rest : List Play) (play : Play) (planned built : List PlayOf) (p : PlayOf) (first before after : List (List ℕ))
@@ -55,8 +64,8 @@ all_planned inventory limit all rest planned built first lines none same (m, are
     let whole : ArePlaysOf inventory limit all (planned ++ []) (m ++ []) = are [] [] (subst (λ r. ArePlaysOf inventory limit r [] []) (sym none) refl) in
     (m, subst (λ b. ArePlaysOf inventory limit all b m) (sym same) (rw (← append-nil planned, ← append-nil m) whole), is)
 
-pub rest_few : (old rest : List Play) (play : Play) → old ≡ play ∷ rest → list_any has_too_many_places old ≡ false → list_any has_too_many_places rest ≡ false
-rest_few old rest play steps few = few_of (has_too_many_places play) (list_any has_too_many_places rest) (subst (λ o. list_any has_too_many_places o ≡ false) steps few)
+pub rest_few : (old rest : List Play) (play : Play) → old ≡ play ∷ rest → list_any has_too_large_tree old ≡ false → list_any has_too_large_tree rest ≡ false
+rest_few old rest play steps few = few_of (has_too_large_tree play) (list_any has_too_large_tree rest) (subst (λ o. list_any has_too_large_tree o ≡ false) steps few)
   where
     few_of : (a b : Bool) → (a || b) ≡ false → b ≡ false
     few_of true b e = cc
@@ -152,12 +161,12 @@ behind_limit : (bundle : Bundle) (inventory : InventoryOf) (extra : Map) (book :
 behind_limit bundle inventory extra book limit has limited = behind_book bundle inventory extra book has ∙ rw limited.read refl
 
 pub places_fault : (bundle : Bundle) (inventory : InventoryOf) (extra : Map) (book : Playbook) (limit : Option (List Element)) → HasBook bundle inventory extra book → HasLimit bundle limit
-    → list_any has_too_many_places book.plays ≡ true → IsBundleFault bundle (Roles TooManyPlaces)
+    → list_any has_too_large_tree book.plays ≡ true → IsBundleFault bundle (Roles TooManyPlaces)
 places_fault bundle inventory extra book limit has limited many =
     inr (plays_taken bundle inventory extra book has, inl (limit_taken bundle inventory extra book limit has limited, behind_limit bundle inventory extra book limit has limited ∙ rw many refl))
 
 pub plan_made : (bundle : Bundle) (inventory : InventoryOf) (extra : Map) (book : Playbook) (limit : Option (List Element)) (plan : PlanOf) → HasBook bundle inventory extra book → HasLimit bundle limit
-    → list_any has_too_many_places book.plays ≡ false → IsPlanIn inventory extra limit bundle.forks bundle.has_facts_program book plan → IsPlanOf bundle plan
+    → list_any has_too_large_tree book.plays ≡ false → IsPlanIn inventory extra limit bundle.forks bundle.has_facts_program book plan → IsPlanOf bundle plan
 plan_made bundle inventory extra book limit plan has limited few made =
     record {
       readings = record { inventory = inventory; extra = extra; book = book; limit = limit };

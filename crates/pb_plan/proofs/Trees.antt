@@ -1,88 +1,85 @@
--- The tree of a play that has tasks alone, in its three lists.
-use Rattle.std.proofs.Common.{◌≡◌, ℕ, zero, suc, ◌+◌, false, List, [], ◌∷◌, ◌++◌, map, refl, ap, ◌∙◌, append_assoc, length, length-append, arith}
-use Rattle.std.proofs.lemmas.List.{length-map, map-append}
-use Rattle.std.specs.Prelude.{replicate}
-use Rattle.pb_tree.specs.declared.tree.Node.{Node, roll-Node}
-use Rattle.pb_tree.specs.declared.tree.Node.TheVariants.{Task as OneTask, Flush as OneFlush}
-use Rattle.pb_tree.specs.declared.tree.Node.TheOpen.{Task as OpenTask, Flush as OpenFlush}
-use Rattle.pb_tree.specs.declared.tree.Node.TheFolds.{fold-roll-Node}
-use Rattle.pb_play.specs.declared.task.Task.{Task as PlayTask}
-use Rattle.pb_tree.specs.Tree.{Nodes, Nothing, Task, Flush, TreeOf, size, size_of}
-use Rattle.pb_tree.specs.View.{tree_of, node_of, node_step}
-use Rattle.pb_places.specs.Place.{PlaceOf, place_of}
+-- The tree of what is written in a play: its nodes, its size and its depth.
+use Rattle.std.proofs.Common.{◌≡◌, ℕ, ◌+◌, ◌<◌, List, [], ◌∷◌, ◌++◌, length, get_or, drop, max, sym, ap, ◌∙◌, arith}
+use Rattle.pb_play.specs.declared.node.Node.{Node as PlayNode}
+use Rattle.pb_play.specs.Nodes as written
+use Rattle.pb_play.specs.Nodes.{Written}
+use Rattle.pb_play.specs.View as play
+use Rattle.pb_tree.specs.declared.tree.Node.{Node}
+use Rattle.pb_tree.specs.declared.tree.Node.TheVariants.{Flush as OneFlush}
+use Rattle.pb_tree.specs.Tree.{Nodes, Nothing, Flush, size, size_of}
+use Rattle.pb_tree.specs.View.{tree_of}
 use Rattle.pb_flat.specs.Deep.{always_depth}
-use Rattle.pb_plan.specs.Bundle.{tasks_then, play_nodes, tree_for}
+use Rattle.pb_plan.specs.Building.{nodes_then, sections_of, tree_with}
+use Rattle.pb_plan.specs.Seen.{in_front, IsNode, AddsNodes, AddsSection, alone, places_in, depth_in}
+use Rattle.pb_plan.proofs.TreeNodes.{tree_flush, front_both, front_is}
+use Rattle.pb_plan.proofs.PlayNodes.{written_turn, then_split}
 
-node_task : (rest : Nodes) → node_of OneTask rest ≡ Task rest
-unfolding roll-Node denote.Hole.Carrier.roll
-node_task rest = ap (λ (g : Nodes → Nodes). g rest) (fold-roll-Node (Nodes → Nodes) node_step OpenTask)
+-- ---- nodes
 
-node_flush : (rest : Nodes) → node_of OneFlush rest ≡ Flush rest
-unfolding roll-Node denote.Hole.Carrier.roll
-node_flush rest = ap (λ (g : Nodes → Nodes). g rest) (fold-roll-Node (Nodes → Nodes) node_step OpenFlush)
+-- the nodes in front of one were added, and that node now
+pub one_added : (old mid new : List Node) (nodes : List PlayNode) (i : ℕ) (x : PlayNode) (node : Node) (all : Written) → i < length nodes → x ≡ get_or nodes i x
+    → ((rest : Nodes) → in_front mid (nodes_then (play.written_of (drop i nodes)) rest) ≡ in_front old (nodes_then all rest))
+    → IsNode node (play.node_of x written.Nothing) → new ≡ mid ++ node ∷ []
+    → (rest : Nodes) → in_front new (nodes_then (play.written_of (drop (i + 1) nodes)) rest) ≡ in_front old (nodes_then all rest)
+one_added old mid new nodes i x node all lt is before one pushed rest =
+    let behind : Nodes = nodes_then (play.written_of (drop (i + 1) nodes)) rest in
+    ap (λ (ns : List Node). in_front ns behind) pushed
+    ∙ front_both mid (node ∷ []) behind
+    ∙ ap (in_front mid) (one behind ∙ sym (then_split x (play.written_of (drop (i + 1) nodes)) rest) ∙ ap (λ (w : Written). nodes_then w rest) (sym (written_turn nodes i x lt is)))
+    ∙ before rest
 
-tasks_are : (n : ℕ) (rest : List Node) → tree_of ((replicate n OneTask ++ OneFlush ∷ []) ++ rest) ≡ tasks_then n (Flush (tree_of rest))
-tasks_are zero rest = node_flush (tree_of rest)
-tasks_are (suc n) rest = node_task (tree_of ((replicate n OneTask ++ OneFlush ∷ []) ++ rest)) ∙ ap Task (tasks_are n rest)
+pub section_added : (old mid new : List Node) (w : Written) → AddsNodes old mid w → new ≡ mid ++ OneFlush ∷ [] → AddsSection old new w
+section_added old mid new w adds pushed rest =
+    ap (λ (ns : List Node). in_front ns rest) pushed ∙ front_both mid (OneFlush ∷ []) rest ∙ ap (in_front mid) (tree_flush rest) ∙ adds (Flush rest)
 
-last_are : (n : ℕ) → tree_of (replicate n OneTask ++ OneFlush ∷ []) ≡ tasks_then n (Flush Nothing)
-last_are zero = node_flush Nothing
-last_are (suc n) = node_task (tree_of (replicate n OneTask ++ OneFlush ∷ [])) ∙ ap Task (last_are n)
+pub part_is : (none nodes : List Node) (w : Written) → none ≡ [] → AddsNodes none nodes w → tree_of nodes ≡ alone w
+part_is none nodes w empty adds = front_is nodes ∙ adds Nothing ∙ ap (λ (ns : List Node). in_front ns (alone w)) empty
 
--- a list's tasks and the flush behind them
-abbrev section : ℕ → List Node
-section n = replicate n OneTask ++ OneFlush ∷ []
+pub sections_are : (none one two three : List Node) (pre tasks post : Written) → none ≡ [] → AddsSection none one pre → AddsSection one two tasks → AddsSection two three post
+    → tree_of three ≡ sections_of pre tasks post
+sections_are none one two three pre tasks post empty a b c =
+    front_is three
+    ∙ c Nothing
+    ∙ b (nodes_then post (Flush Nothing))
+    ∙ a (nodes_then tasks (Flush (nodes_then post (Flush Nothing))))
+    ∙ ap (λ (ns : List Node). in_front ns (sections_of pre tasks post)) empty
 
-behind : (nodes after : List Node) (n : ℕ) → after ≡ (nodes ++ replicate n OneTask) ++ OneFlush ∷ [] → after ≡ nodes ++ section n
-behind nodes after n e = e ∙ append_assoc nodes (replicate n OneTask) (OneFlush ∷ [])
+-- ---- places
 
-three_are : (pre tasks post : ℕ) → tree_of ((section pre ++ section tasks) ++ section post) ≡ play_nodes pre tasks post
-three_are pre tasks post =
-    ap tree_of (append_assoc (section pre) (section tasks) (section post))
-    ∙ tasks_are pre (section tasks ++ section post)
-    ∙ ap (λ t. tasks_then pre (Flush t)) (tasks_are tasks (section post))
-    ∙ ap (λ t. tasks_then pre (Flush (tasks_then tasks (Flush t)))) (last_are post)
+pub size_then : (w : Written) (rest : Nodes) → size 0 (nodes_then w rest) ≡ places_in w + size 0 rest
+size_then written.Nothing rest = omega arith
+size_then (written.Task task more) rest = omega (arith, size_then more rest)
+size_then (written.Block block body rescue always more) rest = omega (arith, size_then more rest)
+size_then (written.Flush more) rest = omega (arith, size_then more rest)
 
--- the nodes of the three lists, each put behind those before it
-pub nodes_are : (pre tasks post : ℕ) (none before between nodes : List Node) → none ≡ [] → before ≡ (none ++ replicate pre OneTask) ++ OneFlush ∷ [] → between ≡ (before ++ replicate tasks OneTask) ++ OneFlush ∷ [] → nodes ≡ (between ++ replicate post OneTask) ++ OneFlush ∷ [] → tree_of nodes ≡ play_nodes pre tasks post
-nodes_are pre tasks post none before between nodes z e f g =
-    let first : before ≡ section pre = behind none before pre e ∙ ap (λ t. t ++ section pre) z in
-    let second : between ≡ section pre ++ section tasks = behind before between tasks f ∙ ap (λ t. t ++ section tasks) first in
-    let third : nodes ≡ (section pre ++ section tasks) ++ section post = behind between nodes post g ∙ ap (λ t. t ++ section post) second in
-    ap tree_of third ∙ three_are pre tasks post
+pub places_split : (n : PlayNode) (rest : Written) → places_in (play.node_of n rest) ≡ places_in (play.node_of n written.Nothing) + places_in rest
+places_split n rest = ap (size 0) (then_split n rest Nothing) ∙ size_then (play.node_of n written.Nothing) (alone rest)
 
-pub unforced_tree : (pre tasks post : ℕ) (tree : TreeOf) → tree ≡ tree_for pre tasks post → tree.force_handlers ≡ false
-unforced_tree pre tasks post tree e = ap (λ (t : TreeOf). t.force_handlers) e
+pub places_turn : (nodes : List PlayNode) (i : ℕ) (x : PlayNode) → i < length nodes → x ≡ get_or nodes i x
+    → places_in (play.written_of (drop i nodes)) ≡ places_in (play.node_of x written.Nothing) + places_in (play.written_of (drop (i + 1) nodes))
+places_turn nodes i x lt is = ap places_in (written_turn nodes i x lt is) ∙ places_split x (play.written_of (drop (i + 1) nodes))
 
-depth_then : (n : ℕ) (rest : Nodes) → always_depth rest ≡ 0 → always_depth (tasks_then n rest) ≡ 0
-depth_then zero rest e = e
-depth_then (suc n) rest e = depth_then n rest e
-
--- no part of it is an always part
-pub no_depth : (pre tasks post : ℕ) (tree : TreeOf) → tree ≡ tree_for pre tasks post → always_depth tree.nodes ≡ 0
-no_depth pre tasks post tree e = rw e (depth_then pre _ (depth_then tasks _ (depth_then post (Flush Nothing) refl)))
-
-size_then : (n : ℕ) (rest : Nodes) → size 0 (tasks_then n rest) ≡ n + size 0 rest
-size_then zero rest = omega arith
-size_then (suc n) rest = omega (arith, size_then n rest)
-
-pub size_tree : (pre tasks post : ℕ) → size_of (tree_for pre tasks post) ≡ pre + tasks + post
+pub size_tree : (pre tasks post : Written) → size_of (tree_with (sections_of pre tasks post)) ≡ places_in pre + places_in tasks + places_in post
 size_tree pre tasks post =
-    omega (arith, size_then pre (Flush (tasks_then tasks (Flush (tasks_then post (Flush Nothing))))), size_then tasks (Flush (tasks_then post (Flush Nothing))), size_then post (Flush Nothing))
+    omega (arith, size_then pre (Flush (nodes_then tasks (Flush (nodes_then post (Flush Nothing))))), size_then tasks (Flush (nodes_then post (Flush Nothing))), size_then post (Flush Nothing))
 
--- the places of the three lists, each put behind those before it
-pub places_are : (pre tasks post : List PlayTask) (none before between after all : List PlaceOf) → none ≡ [] → before ≡ none ++ map place_of pre → between ≡ before ++ map place_of tasks → after ≡ between ++ map place_of post → all ≡ after → all ≡ map place_of (pre ++ tasks ++ post)
-places_are pre tasks post none before between after all z e f g a = rw (a, g, f, e, z) (three_places pre tasks post)
-  where
-    three_places : (one two three : List PlayTask) → (map place_of one ++ map place_of two) ++ map place_of three ≡ map place_of (one ++ two ++ three)
-    three_places one two three = simp (map-append, append_assoc) refl
+-- ---- depth
 
-length_of_three : (before middle after : List PlayTask) → length (map place_of (before ++ middle ++ after)) ≡ length before + length middle + length after
-length_of_three before middle after = simp (length-map, length-append) refl
+pub depth_then : (w : Written) (rest : Nodes) → always_depth (nodes_then w rest) ≡ max (depth_in w) (always_depth rest)
+depth_then written.Nothing rest = omega arith
+depth_then (written.Task task more) rest = depth_then more rest
+depth_then (written.Block block body rescue always more) rest = omega (arith, depth_then more rest)
+depth_then (written.Flush more) rest = depth_then more rest
 
--- each place of a play has its task
-pub all_have_places : (before middle after : List PlayTask) (all : List PlaceOf) (pre tasks post : ℕ) (tree : TreeOf) → all ≡ map place_of (before ++ middle ++ after) → tree ≡ tree_for pre tasks post → pre ≡ length before → tasks ≡ length middle → post ≡ length after → length all ≡ size_of tree
-all_have_places before middle after all pre tasks post tree a t p m b =
-    let sizes = size_tree pre tasks post in
-    let lengths = length_of_three before middle after in
-    rw a (rw t (omega (arith, sizes, lengths, p, m, b)))
+pub depth_turn : (nodes : List PlayNode) (i : ℕ) (x : PlayNode) → i < length nodes → x ≡ get_or nodes i x
+    → depth_in (play.written_of (drop i nodes)) ≡ max (depth_in (play.node_of x written.Nothing)) (depth_in (play.written_of (drop (i + 1) nodes)))
+depth_turn nodes i x lt is =
+    ap depth_in (written_turn nodes i x lt is)
+    ∙ ap always_depth (then_split x (play.written_of (drop (i + 1) nodes)) Nothing)
+    ∙ depth_then (play.node_of x written.Nothing) (alone (play.written_of (drop (i + 1) nodes)))
+
+pub depth_tree : (pre tasks post : Written) → always_depth (sections_of pre tasks post) ≡ max (depth_in pre) (max (depth_in tasks) (depth_in post))
+depth_tree pre tasks post =
+    let a = depth_then pre (Flush (nodes_then tasks (Flush (nodes_then post (Flush Nothing))))) in
+    let b = depth_then tasks (Flush (nodes_then post (Flush Nothing))) in
+    let c = depth_then post (Flush Nothing) in omega arith

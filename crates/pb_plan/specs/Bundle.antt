@@ -1,5 +1,5 @@
 -- The plan of a bundle, or its first fault.
-use Rattle.std.specs.Prelude.{◌≡◌, ◌⊎◌, ℕ, zero, suc, ◌+◌, Bool, true, false, ◌&&◌, ◌||◌, List, [], ◌∷◌, ◌++◌, map, length, replicate, nat_lt, nat_eq, Option, Some, None, Result, Ok, Err, codes, if◌then◌else◌}
+use Rattle.std.specs.Prelude.{◌≡◌, ◌⊎◌, ℕ, ◌+◌, Bool, true, ◌&&◌, ◌||◌, List, [], ◌∷◌, ◌++◌, map, length, replicate, nat_lt, nat_eq, Option, Some, None, Result, Ok, Err, codes, if◌then◌else◌}
 use Rattle.std.specs.List.{list_any}
 use Rattle.std.specs.Option.{option_map_or}
 use Rattle.std.specs.Simd.Lanes.{zip2}
@@ -19,45 +19,21 @@ use Rattle.pb_patterns.specs.Selection.{IsSelection}
 use Rattle.pb_patterns.specs.declared.element.Element.{Element}
 use Rattle.pb_patterns.specs.declared.selected.Selected.{Selected}
 use Rattle.pb_play.specs.declared.play.Play.{Play}
-use Rattle.pb_play.specs.declared.task.Task.{Task as OneTask}
 use Rattle.pb_play.specs.declared.playbook.Playbook.{Playbook}
 use Rattle.pb_play.specs.Playbooks.{playbook_of, expressions_of_book}
-use Rattle.pb_tree.specs.Tree.{Nodes, Nothing, Task, Flush, TreeOf, size_of}
-use Rattle.pb_places.specs.Place.{PlaceOf, place_of}
+use Rattle.pb_tree.specs.Tree.{size_of}
+use Rattle.pb_flat.specs.Deep.{always_depth}
 use Rattle.pb_plan.specs.declared.bundle.Bundle.{Bundle}
 use Rattle.pb_plan.specs.declared.bundle.BundleFault.{BundleFault}
 use Rattle.pb_plan.specs.declared.bundle.BundleFault.TheVariants.{Inventory, Playbook as InPlaybook, Roles, Limit, Extra, BadForks, TooLarge}
 use Rattle.pb_plan.specs.declared.bundle.RoleFault.TheVariants.{TooLarge as TooManyPlaces}
+use Rattle.pb_plan.specs.Building.{play_tree, all_places}
 use Rattle.pb_plan.specs.Plan.{PlayOf, PlanOf}
 
 -- a fault of a part is a fault of the bundle
 abbrev pub in_part : {A F : Type 0} → (F → BundleFault) → Result A F → Result A BundleFault
 in_part of (Ok x) = Ok x
 in_part of (Err e) = Err (of e)
-
--- this many tasks in front of other nodes
-abbrev pub tasks_then : ℕ → Nodes → Nodes
-tasks_then zero rest = rest
-tasks_then (suc n) rest = Task (tasks_then n rest)
-
--- a play has three lists of tasks: its pre_tasks, its tasks and its post_tasks; behind each its handlers run
--- (Ansible's documentation, "Handlers: running operations on change")
-abbrev pub play_nodes : ℕ → ℕ → ℕ → Nodes
-play_nodes pre tasks post = tasks_then pre (Flush (tasks_then tasks (Flush (tasks_then post (Flush Nothing)))))
-
-abbrev pub tree_for : ℕ → ℕ → ℕ → TreeOf
-tree_for pre tasks post = record { nodes = play_nodes pre tasks post; handlers = 0; force_handlers = false }
-
-abbrev pub play_tree : Play → TreeOf
-play_tree play = tree_for (length play.pre_tasks) (length play.tasks) (length play.post_tasks)
-
--- the tasks of a play, in the order of their places
-abbrev pub all_tasks : Play → List OneTask
-all_tasks play = play.pre_tasks ++ play.tasks ++ play.post_tasks
-
--- what stands at its places: no play has blocks, roles or handlers yet
-abbrev pub all_places : Play → List PlaceOf
-all_places play = map place_of (all_tasks play)
 
 -- a play has at most so many places
 abbrev pub max_places : ℕ
@@ -70,6 +46,16 @@ play_with inventory hosts play =
 
 abbrev pub has_too_many_places : Play → Bool
 has_too_many_places play = nat_lt max_places (size_of (play_tree play))
+
+-- always parts stand in one another at most so deep
+abbrev pub max_depth : ℕ
+max_depth = 32
+
+abbrev pub is_too_deep : Play → Bool
+is_too_deep play = nat_lt max_depth (always_depth (play_tree play).nodes)
+
+abbrev pub has_too_large_tree : Play → Bool
+has_too_large_tree play = has_too_many_places play || is_too_deep play
 
 abbrev pub bytes_in : Option (List ℕ) → ℕ
 bytes_in given = option_map_or length given 0
@@ -99,7 +85,7 @@ expressions_of_limit None = []
 expressions_of_limit (Some text) = expressions_of (text ∷ [])
 
 abbrev pub with_places : Readings → Result Readings BundleFault
-with_places readings = if list_any has_too_many_places readings.book.plays then Err (Roles TooManyPlaces) else Ok readings
+with_places readings = if list_any has_too_large_tree readings.book.plays then Err (Roles TooManyPlaces) else Ok readings
 
 -- the extra variables, if there are some
 abbrev pub extra_in : Option (List ℕ) → Result Map BundleFault

@@ -1,2 +1,5 @@
+pub mod Building
 pub mod Bundle
 pub mod Plan
+pub mod Seen
+pub mod Rows

@@ -1,6 +1,6 @@
 -- A plan as plain lists: what the machine reads of a bundle.
-use Rattle.std.specs.Prelude.{◌≡◌, ℕ, Bool, false, List, [], length}
-use Rattle.pb_tree.specs.Tree.{TreeOf, size_of}
+use Rattle.std.specs.Prelude.{◌≡◌, ℕ, zero, suc, Bool, false, List, [], length}
+use Rattle.pb_tree.specs.Tree.{Nodes, Nothing, Task, Flush, TreeOf, size_of}
 use Rattle.pb_inventory.specs.InventoryOf.{InventoryOf}
 use Rattle.pb_layers.specs.Scope.{Map}
 use Rattle.pb_places.specs.Caught.{are_caught, caught_places}
@@ -33,7 +33,16 @@ pub record PlanOf : Type 0 where
   pub extra : Map
   pub magic : Map
 
--- what worked examples are made of: hosts in no group, and a play and a plan without variables or a facts program
+-- what worked examples are made of: the tree of a play with so many tasks in each of its three lists, hosts in no group, and a play and a plan without
+-- variables or a facts program
+abbrev pub tasks_then : ℕ → Nodes → Nodes
+tasks_then zero rest = rest
+tasks_then (suc n) rest = Task (tasks_then n rest)
+
+abbrev pub bare_tree : ℕ → ℕ → ℕ → TreeOf
+bare_tree pre tasks post =
+    record { nodes = tasks_then pre (Flush (tasks_then tasks (Flush (tasks_then post (Flush Nothing))))); handlers = 0; force_handlers = false }
+
 abbrev pub bare_inventory : List (List ℕ) → InventoryOf
 bare_inventory hosts = record { hosts = hosts; groups = []; own = []; links = []; group_vars = []; host_vars = [] }
 

@@ -1,24 +1,23 @@
 //! What a run is made of, and its plan.
 
-ghost use Rattle.std.specs.Prelude.{◌≡◌, ◌≢◌, ◌<◌, [], ◌∷◌, ◌++◌, map, length, replicate, false, nat_lt, IfOk, IfErr, Ok, Err};
+ghost use Rattle.std.specs.Prelude.{◌≡◌, ◌≢◌, ◌<◌, length, false, nat_lt, IfOk, IfErr};
 ghost use Rattle.pb_flat.specs.Deep.{always_depth};
-ghost use Rattle.pb_tree.specs.View.{tree_of};
-ghost use Rattle.pb_places.specs.Place.{place_of};
-ghost use Rattle.pb_plan.specs.Bundle.{play_with, has_too_many_places, tree_for, play_nodes, bundle_bytes, bytes_in};
+ghost use Rattle.pb_plan.specs.Building.{play_tree};
+ghost use Rattle.pb_plan.specs.Bundle.{play_with, has_too_large_tree, has_too_many_places, is_too_deep, bundle_bytes, bytes_in};
 ghost use Rattle.pb_value.specs.Limits.{max_bytes};
 
+use crate::nodes::{are_deeper, places_left, tree_of};
+use crate::placing::all_places;
 use crate::plan::PlanPlay;
 use pb_cursors::LaidTree;
 use pb_flat::FlatFault;
 use pb_inventory::fault::InvFault;
 use pb_inventory::inventory::Inventory;
 use pb_patterns::fault::PatFault;
-use pb_places::Place;
 use pb_planes::HostSet;
 use pb_play::fault::LoadFault;
 use pb_play::play::Play;
-use pb_play::task::Task;
-use pb_tree::{Node, PlayTree};
+use pb_tree::PlayTree;
 use pb_value::items::Items;
 use pb_value::limits::MAX_BYTES;
 use pb_value::text::Text;
@@ -29,7 +28,10 @@ use std::rc::Rc;
 use thiserror::Error;
 
 /// The most places of a play.
-const MAX_PLACES: u64 = 16_384;
+const MAX_PLACES: u32 = 16_384;
+
+/// How deep always parts of a play may stand in one another.
+const MAX_DEPTH: u32 = 32;
 
 /// What a run is made of: the bytes of its files and of its extra variables, how many hosts may run at once, and whether a program gathers facts.
 #[derive(Drop)]
@@ -51,7 +53,7 @@ pub struct Bundle {
 /// Why a play has no tree.
 #[derive(Clone, Copy, Debug, PartialEq, Eq, Error)]
 pub enum RoleFault {
-    /// A play has more than 16,384 places.
+    /// A play has more than 16,384 places, or always parts stand in one another, more than 32 deep.
     #[error("5 TooLarge")]
     TooLarge,
 }
@@ -107,46 +109,6 @@ impl<T: Drop> From<AllocFailed<T>> for BundleFault {
     }
 }
 
-/// The nodes, and behind them this many tasks and a flush.
-fn with_tasks(nodes: Vec<Node>, tasks: usize) -> Result<Vec<Node>, AllocError>
-    ensures { IfOk result (λ after. after.items ≡ nodes.items ++ replicate tasks Node.Task ++ Node.Flush ∷ []) }
-{
-    let mut after = nodes;
-    for _ in 0..tasks {
-        after.push(Node::Task)?;
-    }
-    after.push(Node::Flush)?;
-    Ok(after)
-}
-
-/// The nodes of a play with this many tasks in each of its three lists.
-fn nodes_for(
-    alloc: Global,
-    pre_tasks: usize,
-    tasks: usize,
-    post_tasks: usize,
-) -> Result<Vec<Node>, AllocError>
-    ensures { IfOk result (λ nodes. tree_of nodes.items ≡ play_nodes pre_tasks tasks post_tasks) }
-{
-    let before = with_tasks(Vec::new(alloc), pre_tasks)?;
-    let between = with_tasks(before, tasks)?;
-    let after = with_tasks(between, post_tasks)?;
-    Ok(after)
-}
-
-/// The tree of a play with this many tasks in each of its three lists.
-fn tree_for(
-    alloc: Global,
-    pre_tasks: usize,
-    tasks: usize,
-    post_tasks: usize,
-) -> Result<PlayTree, AllocError>
-    ensures { IfOk result (λ tree. tree ≡ tree_for pre_tasks tasks post_tasks) }
-{
-    let nodes = nodes_for(alloc, pre_tasks, tasks, post_tasks)?;
-    Ok(PlayTree::of(alloc, nodes, 0, false)?)
-}
-
 /// A play's tree, laid out for its hosts. A tree in which always parts stand in one another, more than 32 deep, is too large.
 fn laid_out(alloc: Global, tree: PlayTree) -> Result<Rc<LaidTree>, BundleFault>
     ensures value { IfOk result (λ laid. laid.value.tree ≡ tree) }
@@ -160,18 +122,18 @@ fn laid_out(alloc: Global, tree: PlayTree) -> Result<Rc<LaidTree>, BundleFault>
     }
 }
 
-/// The tree of a play with this many tasks in each of its three lists, laid out for its hosts. It has no always part.
-#[tactic(auto, using(crate::proofs::Trees::no_depth))]
-fn laid_tree_for(
-    alloc: Global,
-    pre_tasks: usize,
-    tasks: usize,
-    post_tasks: usize,
-) -> Result<Rc<LaidTree>, BundleFault>
-    ensures value { IfOk result (λ laid. laid.value.tree ≡ tree_for pre_tasks tasks post_tasks) }
+/// A play's tree, laid out for its hosts.
+fn laid_tree(alloc: Global, play: &Play) -> Result<Rc<LaidTree>, BundleFault>
+    requires { has_too_large_tree play.now ≡ false }
+    ensures value { IfOk result (λ laid. laid.value.tree ≡ play_tree play.now) }
     ensures fault { IfErr result (λ e. e ≡ BundleFault.Memory) }
 {
-    let tree = tree_for(alloc, pre_tasks, tasks, post_tasks)?;
+    let tree = tree_of(
+        alloc,
+        play.pre_tasks.nodes.as_slice(),
+        play.tasks.nodes.as_slice(),
+        play.post_tasks.nodes.as_slice(),
+    )?;
     match laid_out(alloc, tree) {
         Ok(laid) => Ok(laid),
         Err(BundleFault::Memory) => Err(BundleFault::Memory),
@@ -179,66 +141,58 @@ fn laid_tree_for(
     }
 }
 
-/// The places, and behind them those of these tasks.
-fn push_places(places: Vec<Place>, tasks: Items<Task>) -> Result<Vec<Place>, AllocError>
-    ensures { IfOk result (λ all. all.items ≡ places.items ++ map place_of tasks) }
+/// Whether a play has more than 16,384 places, or always parts stand in one another, more than 32 deep.
+pub(crate) fn has_too_large_tree(play: &Play) -> bool
+    ensures { result ≡ has_too_large_tree play.now }
 {
-    let mut all = places;
-    for task in tasks.into_vec() {
-        all.push(Place::of(task))?;
-    }
-    Ok(all)
+    has_too_many_places(play) || is_too_deep(play)
 }
 
-/// What stands at the places of a play: the tasks of its three lists, in order.
-fn all_places(
-    alloc: Global,
-    pre_tasks: Items<Task>,
-    tasks: Items<Task>,
-    post_tasks: Items<Task>,
-) -> Result<Items<Place>, AllocError>
-    ensures { IfOk result (λ all. all ≡ map place_of (pre_tasks ++ tasks ++ post_tasks)) }
-{
-    let before = push_places(Vec::new(alloc), pre_tasks)?;
-    let between = push_places(before, tasks)?;
-    let after = push_places(between, post_tasks)?;
-    Ok(Items::from_vec(after))
-}
-
-/// Whether a play has more than 16,384 places.
 #[tactic(auto, using(crate::proofs::Trees::size_tree))]
-pub(crate) fn has_too_many_places(play: &Play) -> bool
+fn has_too_many_places(play: &Play) -> bool
     ensures { result ≡ has_too_many_places play.now }
 {
-    let pre_tasks = play.pre_tasks.len() as u64;
-    let tasks = play.tasks.len() as u64;
-    let post_tasks = play.post_tasks.len() as u64;
-    pre_tasks > MAX_PLACES
-        || tasks > MAX_PLACES - pre_tasks
-        || post_tasks > MAX_PLACES - pre_tasks - tasks
+    let left = match places_left(play.pre_tasks.nodes.as_slice(), MAX_PLACES) {
+        Some(left) => left,
+        None => return true,
+    };
+    let left = match places_left(play.tasks.nodes.as_slice(), left) {
+        Some(left) => left,
+        None => return true,
+    };
+    places_left(play.post_tasks.nodes.as_slice(), left).is_none()
+}
+
+#[tactic(auto, using(crate::proofs::Trees::depth_tree))]
+fn is_too_deep(play: &Play) -> bool
+    ensures { result ≡ is_too_deep play.now }
+{
+    are_deeper(play.pre_tasks.nodes.as_slice(), MAX_DEPTH)
+        || are_deeper(play.tasks.nodes.as_slice(), MAX_DEPTH)
+        || are_deeper(play.post_tasks.nodes.as_slice(), MAX_DEPTH)
 }
 
 /// A play with its tree, whose own hosts are these.
-#[tactic(auto, using(crate::proofs::Trees::unforced_tree))]
 pub(crate) fn play_with(
     alloc: Global,
     inventory: &Inventory,
     play: Play,
     hosts: HostSet,
 ) -> Result<PlanPlay, BundleFault>
-    requires places { has_too_many_places play ≡ false }
+    requires tree { has_too_large_tree play ≡ false }
     requires width { length hosts ≡ length inventory.now.hosts }
     ensures value { IfOk result (λ p. p ≡ play_with inventory.now hosts play) }
     ensures fault { IfErr result (λ e. e ≡ BundleFault.Memory) }
 {
-    let laid = laid_tree_for(
-        alloc,
-        play.pre_tasks.len(),
-        play.tasks.len(),
-        play.post_tasks.len(),
-    )?;
-    let places = all_places(alloc, play.pre_tasks, play.tasks, play.post_tasks)?;
+    let laid = laid_tree(alloc, &play)?;
     let magic = play_magic(alloc, inventory, &hosts)?;
+    let places = all_places(
+        alloc,
+        play.ignore_errors,
+        play.pre_tasks,
+        play.tasks,
+        play.post_tasks,
+    )?;
     Ok(PlanPlay::of(play.name, laid, places, hosts, play.vars, magic))
 }
 

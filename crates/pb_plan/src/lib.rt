@@ -6,8 +6,11 @@
 #![tactic(auto)]
 
 mod bundle;
+mod nodes;
+mod placing;
 mod plan;
 mod planning;
+mod round;
 
 pub use bundle::{Bundle, BundleFault, RoleFault};
 pub use pb_value::limits::MAX_BYTES;

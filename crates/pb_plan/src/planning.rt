@@ -7,9 +7,9 @@ ghost use Rattle.pb_patterns.specs.Expressions.{AreTaken};
 ghost use Rattle.pb_inventory.specs.Vars.{strangers};
 ghost use Rattle.pb_play.specs.Playbooks.{playbook_of, expressions_of_book};
 ghost use Rattle.pb_plan.specs.Plan.{Fits};
-ghost use Rattle.pb_plan.specs.Bundle.{in_part, limit_of, expressions_of_limit, extra_in, has_too_many_places, stranger_line, unmatched_line, IsLimit, IsPlayOf, ArePlaysOf, IsPlanIn, IsPlanOf, IsBundleFault, IsPlaybookFault, IsLimitFault};
+ghost use Rattle.pb_plan.specs.Bundle.{in_part, limit_of, expressions_of_limit, extra_in, has_too_large_tree, stranger_line, unmatched_line, IsLimit, IsPlayOf, ArePlaysOf, IsPlanIn, IsPlanOf, IsBundleFault, IsPlaybookFault, IsLimitFault};
 
-use crate::bundle::{Bundle, BundleFault, RoleFault, has_too_many_places, is_too_large, play_with};
+use crate::bundle::{Bundle, BundleFault, RoleFault, has_too_large_tree, is_too_large, play_with};
 use crate::plan::{Plan, PlanPlay};
 use pb_inventory::fault::InvFault;
 use pb_inventory::inventory::Inventory;
@@ -85,11 +85,11 @@ fn limit_in(alloc: Global, limit: &Option<Text>) -> Result<Option<Pattern>, Bund
     }
 }
 
-/// Whether one of the plays has too many places.
+/// Whether one of the plays has too large a tree.
 fn some_too_large(plays: &[Play]) -> bool
-    ensures { result ≡ list_any has_too_many_places plays.now }
+    ensures { result ≡ list_any has_too_large_tree plays.now }
 {
-    plays.iter().any(|play| has_too_many_places(play))
+    plays.iter().any(|play| has_too_large_tree(play))
 }
 
 /// What a limit selects: all hosts where there is none.
@@ -147,7 +147,7 @@ fn plan_play(
     play: Play,
     lines: &mut Items<Text>,
 ) -> Result<PlanPlay, BundleFault>
-    requires places { has_too_many_places play ≡ false }
+    requires places { has_too_large_tree play ≡ false }
     requires width { length limit.now ≡ length inventory.now.hosts }
     ensures value { IfOk result (λ planned. (more : List (List ℕ)) × IsPlayOf inventory.now limit.now play planned more × (lines.new ≡ lines.old ++ more)) }
     ensures fault { IfErr result (λ e. e ≡ BundleFault.Memory) }
@@ -172,7 +172,7 @@ fn plan_plays(
     plays: Items<Play>,
     lines: &mut Items<Text>,
 ) -> Result<Items<PlanPlay>, BundleFault>
-    requires places { list_any has_too_many_places plays ≡ false }
+    requires places { list_any has_too_large_tree plays ≡ false }
     requires width { length limit.now ≡ length inventory.now.hosts }
     ensures value { IfOk result (λ planned. (more : List (List ℕ)) × ArePlaysOf inventory.now limit.now plays planned more × (lines.new ≡ lines.old ++ more)) }
     ensures count { IfOk result (λ planned. length planned ≡ length plays) }
@@ -224,7 +224,7 @@ fn plan_with(
     requires some { 0 < forks }
     requires bound { forks ≤ 256 }
     requires plays { length playbook.plays ≤ 256 }
-    requires places { list_any has_too_many_places playbook.plays ≡ false }
+    requires places { list_any has_too_large_tree playbook.plays ≡ false }
     ensures value { IfOk result (λ plan. IsPlanIn inventory extra limit.now forks has_facts_program playbook plan) }
     ensures fault { IfErr result (λ e. e ≡ BundleFault.Memory) }
 {

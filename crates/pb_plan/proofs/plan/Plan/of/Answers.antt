@@ -2,7 +2,7 @@ use Rattle.std.proofs.Common.{◌≡◌, ◌≤◌, ◌<◌, ℕ, true, false, �
 use Rattle.std.specs.List.{list_any}
 use Rattle.std.proofs.lemmas.Bool.Decides.{nat_tests}
 use Rattle.std.proofs.lemmas.Result.{IfOk-weaker}
-use Rattle.pb_plan.specs.Bundle.{are_bad_forks, has_too_many_places}
+use Rattle.pb_plan.specs.Bundle.{are_bad_forks, has_too_large_tree}
 use Rattle.pb_plan.proofs.Fitting.{plan_fits}
 use Rattle.pb_plan.proofs.Plans.{IsSized, HasVariables, HasBook, HasLimit, size_fault, forks_fault, inventory_fault, extra_fault, book_fault, limit_met, places_fault, plan_made}
 use Rattle.pb_plan.proofs.plan.Plan.of.Goals as goal
@@ -57,8 +57,8 @@ returns-then-some_too_large-clause-fault c =
     let book : HasBook c.args.bundle.now c.in-Ok.inventory c.in-Ok-extra_in.extra c.in-Ok-playbook_in.playbook =
     record { variables = has; read = c.in-Ok-playbook_in.ensures.value; taken = c.in-Ok-playbook_in.ensures.taken } in
     let limit : HasLimit c.args.bundle.now c.in-Ok-limit_in.limit = record { read = c.in-Ok-limit_in.ensures.value; taken = c.in-Ok-limit_in.ensures.taken } in
-    let many : list_any has_too_many_places c.in-Ok-playbook_in.playbook.plays ≡ true =
-    ap (list_any has_too_many_places) (sym c.as_slice.ensures) ∙ sym c.some_too_large.ensures ∙ c.if-some_too_large.true in
+    let many : list_any has_too_large_tree c.in-Ok-playbook_in.playbook.plays ≡ true =
+    ap (list_any has_too_large_tree) (sym c.as_slice.ensures) ∙ sym c.some_too_large.ensures ∙ c.if-some_too_large.true in
     λ other.
     places_fault c.args.bundle.now c.in-Ok.inventory c.in-Ok-extra_in.extra c.in-Ok-playbook_in.playbook c.in-Ok-limit_in.limit book limit many
 
@@ -70,8 +70,8 @@ returns-clause-value c =
     let book : HasBook c.args.bundle.now c.in-Ok.inventory c.in-Ok-extra_in.extra c.in-Ok-playbook_in.playbook =
     record { variables = has; read = c.in-Ok-playbook_in.ensures.value; taken = c.in-Ok-playbook_in.ensures.taken } in
     let limit : HasLimit c.args.bundle.now c.in-Ok-limit_in.limit = record { read = c.in-Ok-limit_in.ensures.value; taken = c.in-Ok-limit_in.ensures.taken } in
-    let few : list_any has_too_many_places c.in-Ok-playbook_in.playbook.plays ≡ false =
-    ap (list_any has_too_many_places) (sym c.as_slice.ensures) ∙ sym c.some_too_large.ensures ∙ c.if-some_too_large.false in
+    let few : list_any has_too_large_tree c.in-Ok-playbook_in.playbook.plays ≡ false =
+    ap (list_any has_too_large_tree) (sym c.as_slice.ensures) ∙ sym c.some_too_large.ensures ∙ c.if-some_too_large.false in
     IfOk-weaker c.plan_with.result _ _
     (λ plan made. plan_made c.args.bundle.now c.in-Ok.inventory c.in-Ok-extra_in.extra c.in-Ok-playbook_in.playbook c.in-Ok-limit_in.limit plan book limit few made)
     c.plan_with.ensures.value
