@@ -17,4 +17,5 @@ pub mod Overwritten
 pub mod Numbered
 pub mod Went
 pub mod Once
+pub mod Rising
 pub mod Walks

@@ -6,7 +6,6 @@ use Rattle.std.specs.Option.{option_map_or}
 use Rattle.std.proofs.lemmas.Bool.{eqb-true}
 use Rattle.pb_ids.specs.declared.numbers.HostNo.{HostNo}
 use Rattle.pb_ids.specs.declared.numbers.Ticket.{Ticket}
-use Rattle.pb_tree.specs.declared.answer.Kind.TheVariants.{Gone}
 use Rattle.pb_tree.specs.declared.tree.Reach.{Reach}
 use Rattle.pb_tree.specs.declared.tree.Reach.TheVariants.{At, Done}
 use Rattle.pb_tree.specs.Tree.{TreeOf}
@@ -15,16 +14,17 @@ use Rattle.pb_tree.specs.Laws.{counts, IsAbove}
 use Rattle.pb_tree.specs.Walk.{reach, is_halted}
 use Rattle.pb_tree.proofs.Rise.{places_rise}
 use Rattle.pb_facts.specs.Facts.{FactsOf}
-use Rattle.pb_outcome.specs.declared.gather.TaskResult.{TaskResult}
 use Rattle.pb_outcome.specs.declared.item.Item.{Item}
 use Rattle.pb_outcome.specs.declared.job.Report.{Report}
 use Rattle.pb_outcome.specs.declared.outcome.Form.{Form}
 use Rattle.pb_outcome.specs.Items.{is_over}
+use Rattle.pb_state.specs.declared.decided.TaskEnd.{TaskEnd}
 use Rattle.pb_state.specs.declared.event.Event.{Event}
 use Rattle.pb_state.specs.declared.event.Event.TheVariants.{Open, Start, Send, Report as Reported, Turn, Close, Stop, Forks}
 use Rattle.pb_state.specs.declared.row.Running.{Running}
 use Rattle.pb_plan.specs.Plan.{PlayOf, PlanOf}
-use Rattle.pb_state.specs.Row.{HostRow, place_of, next_place, joined, failed_kind, kind_of, answer_of, finished, task_at, taught, came_back, items_after, progressed, sent, sent_running, reported, reported_running}
+use Rattle.pb_state.specs.Row.{HostRow, place_of, next_place, joined, finished, task_at, taught, came_back, items_after, progressed, sent, sent_running, reported, reported_running}
+use Rattle.pb_state.specs.Ends.{kind_of, answer_of}
 use Rattle.pb_state.specs.State.{State}
 use Rattle.pb_state.specs.Kept.{first_waiting}
 use Rattle.pb_state.specs.Results.{items_at}
@@ -33,13 +33,14 @@ use Rattle.pb_state.specs.Run.{legal_from, IsRun}
 use Rattle.pb_state.proofs.FewItems.{few_items}
 use Rattle.pb_state.proofs.InOrder.{first_most, is_next_so, length_back, back_later}
 use Rattle.pb_state.proofs.Opening.{next_is}
+use Rattle.pb_state.proofs.Walked.{not_halted}
 use Rattle.pb_state.specs.Once.{StartOf, SendOf, running_place, place_run_by, starts_from, sends_from, IsNotIn, NoTwice, IsOnce, NothingTwice}
 
-and_left : (a b : Bool) → (a && b) ≡ true → a ≡ true
+pub and_left : (a b : Bool) → (a && b) ≡ true → a ≡ true
 and_left true b e = refl
 and_left false b e = cc
 
-and_right : (a b : Bool) → (a && b) ≡ true → b ≡ true
+pub and_right : (a b : Bool) → (a && b) ≡ true → b ≡ true
 and_right true b e = e
 and_right false b e = cc
 
@@ -50,23 +51,23 @@ not_false false e = refl
 -- ---- one host
 -- The start at a place has the number 10002 times that place, and the send of the item with the number i there the number i + 1 more: a task has
 -- 10,000 items at most. A host's next step has at least the number n.
-abbrev IsFrom : ℕ → Reach → Type 0
+abbrev pub IsFrom : ℕ → Reach → Type 0
 IsFrom n (At place) = n ≤ 10002 * place
 IsFrom n (Done ending) = Unit {0}
 
 -- the next item's send comes next, or what is behind it
-abbrev behind : Option Ticket → ℕ
+abbrev pub behind : Option Ticket → ℕ
 behind None = 1
 behind (Some ticket) = 2
 
-abbrev RunsFrom : ℕ → HostRow → Option Running → Type 0
+abbrev pub RunsFrom : ℕ → HostRow → Option Running → Type 0
 RunsFrom n row None = IsFrom n (reach row.tree row.answers)
 RunsFrom n row (Some r) = (reach row.tree row.answers ≡ At r.place) × (n ≤ 10002 * r.place + first_waiting r.items + behind r.out) × (length r.items ≤ 10000)
 
-abbrev RowFrom : ℕ → HostRow → Type 0
+abbrev pub RowFrom : ℕ → HostRow → Type 0
 RowFrom n row = RunsFrom n row row.running
 
-abbrev FoundFrom : ℕ → Option HostRow → Type 0
+abbrev pub FoundFrom : ℕ → Option HostRow → Type 0
 FoundFrom n None = Unit {0}
 FoundFrom n (Some row) = RowFrom n row
 
@@ -74,20 +75,15 @@ above_from : (n p : ℕ) (r : Reach) → IsAbove p r → n ≤ 10002 * p + 10002
 above_from n p (At place) a l = omega (arith, a, l)
 above_from n p (Done ending) a l = tt
 
--- no task's result is halted, so that each answer counts
-kind_counts : (unreachable failed : Bool) → is_halted (if unreachable then Gone else failed_kind failed) ≡ false
-kind_counts true failed = refl
-kind_counts false true = refl
-kind_counts false false = refl
-
+-- no task's answer is halted, so that each counts
 all_count : (any halted : Bool) → halted ≡ false → not (any && halted) ≡ true
 all_count true halted e = rw e refl
 all_count false halted e = refl
 
-answer_counts : (answers : List AnswerOf) (task : TaskResult) → counts answers (answer_of task) ≡ true
-answer_counts answers task = all_count (list_any (λ (b : AnswerOf). is_halted b.kind) answers) (is_halted (kind_of task)) (kind_counts task.unreachable (task.failed && not task.ignored))
+answer_counts : (answers : List AnswerOf) (task : TaskEnd) → counts answers (answer_of task) ≡ true
+answer_counts answers task = all_count (list_any (λ (b : AnswerOf). is_halted b.kind) answers) (is_halted (kind_of task)) (not_halted task)
 
-finished_from : (n p : ℕ) (task : TaskResult) (facts : FactsOf) (row : HostRow) → reach row.tree row.answers ≡ At p → n ≤ 10002 * p + 10002 → RowFrom n (finished p task facts row)
+finished_from : (n p : ℕ) (task : TaskEnd) (facts : FactsOf) (row : HostRow) → reach row.tree row.answers ≡ At p → n ≤ 10002 * p + 10002 → RowFrom n (finished p task facts row)
 finished_from n p task facts row e l =
     above_from n p (reach row.tree (row.answers ++ answer_of task ∷ [])) (places_rise row.tree row.answers (answer_of task) p e (answer_counts row.answers task)) l
 
@@ -204,27 +200,27 @@ joined_from tree hosts (row ∷ rows) (suc h) = joined_from tree hosts rows h
 
 -- ---- the states
 -- a host that runs is at its next place
-abbrev IsSound : State → Type 0
+abbrev pub IsSound : State → Type 0
 IsSound s = s.is_open ≡ true → (h : ℕ) → FoundFrom 0 (slice_get s.rows h)
 
 -- each further step of a host is in a later play, or has at least the number n in this one
-abbrev IsPast : State → ℕ → ℕ → ℕ → Type 0
+abbrev pub IsPast : State → ℕ → ℕ → ℕ → Type 0
 IsPast s h play n = (play < s.play) ⊎ ((play ≡ s.play) × (s.is_open ≡ true) × FoundFrom n (slice_get s.rows h))
 
 -- what an event does to the batch: it stays, opens or closes
-abbrev Stays : State → State → Type 0
+abbrev pub Stays : State → State → Type 0
 Stays s new = (new.play ≡ s.play) × (new.is_open ≡ s.is_open) × ((h n : ℕ) → FoundFrom n (slice_get s.rows h) → FoundFrom n (slice_get new.rows h))
 
-abbrev Opens : State → State → Type 0
+abbrev pub Opens : State → State → Type 0
 Opens s new = (s.is_open ≡ false) × (s.play ≤ new.play) × ((h : ℕ) → FoundFrom 0 (slice_get new.rows h))
 
-abbrev Closes : State → State → Type 0
+abbrev pub Closes : State → State → Type 0
 Closes s new = (new.play ≡ s.play + 1) × (new.is_open ≡ false)
 
-abbrev Moves : State → State → Type 0
+abbrev pub Moves : State → State → Type 0
 Moves s new = Stays s new ⊎ (Opens s new ⊎ Closes s new)
 
-past_kept : (s new : State) (h play n : ℕ) → Moves s new → IsPast s h play n → IsPast new h play n
+pub past_kept : (s new : State) (h play n : ℕ) → Moves s new → IsPast s h play n → IsPast new h play n
 past_kept s new h play n (inl stays) (inl l) = inl (omega (arith, l, stays.0))
 past_kept s new h play n (inl stays) (inr w) = inr (w.0 ∙ sym stays.0, stays.1 ∙ w.1, stays.2 h n w.2)
 past_kept s new h play n (inr (inl opens)) (inl l) = inl (omega (arith, l, opens.1))
@@ -232,7 +228,7 @@ past_kept s new h play n (inr (inl opens)) (inr w) = absurd (let closed = opens.
 past_kept s new h play n (inr (inr closes)) (inl l) = inl (omega (arith, l, closes.0))
 past_kept s new h play n (inr (inr closes)) (inr w) = inl (omega (arith, w.0, closes.0))
 
-sound_kept : (s new : State) → Moves s new → IsSound s → IsSound new
+pub sound_kept : (s new : State) → Moves s new → IsSound s → IsSound new
 sound_kept s new (inl stays) w = λ o h. stays.2 h 0 (w (sym stays.1 ∙ o) h)
 sound_kept s new (inr (inl opens)) w = λ o h. opens.2 h
 sound_kept s new (inr (inr closes)) w = λ o. absurd (let closed = closes.1 in cc)
@@ -300,7 +296,7 @@ may_open_closed stopped true ended more e =
     absurd (let no = and_right (not stopped) false one in cc)
 may_open_closed stopped false ended more e = refl
 
-moves : (plan : PlanOf) (s : State) (e : Event) → possible plan s e ≡ true → Moves s (after plan s e)
+pub moves : (plan : PlanOf) (s : State) (e : Event) → possible plan s e ≡ true → Moves s (after plan s e)
 moves plan s Open p = open_moves plan s (next_play plan s) refl (may_open_closed s.stopped s.is_open s.ended _ p)
 moves plan s (Start host) p = start_moves plan s host.0 (open_play plan s) refl p
 moves plan s (Send host item ticket) p = send_moves plan s host.0 item ticket (open_play plan s) refl p
@@ -324,7 +320,7 @@ start_place_in : (s : State) (k : ℕ) (play : PlayOf) (place : Option ℕ) → 
 start_place_in s k play (Some p) e = (p, refl)
 start_place_in s k play None e = absurd (none_stands (slice_get s.rows k) e)
 
-start_place : (plan : PlanOf) (s : State) (k : ℕ) (found : Option PlayOf) → option_map_or (may_start_in s k) found false ≡ true → (p : ℕ) × (s.place ≡ Some p)
+pub start_place : (plan : PlanOf) (s : State) (k : ℕ) (found : Option PlayOf) → option_map_or (may_start_in s k) found false ≡ true → (p : ℕ) × (s.place ≡ Some p)
 start_place plan s k None e = cc
 start_place plan s k (Some play) e = start_place_in s k play s.place (and_right (has_room s) _ e)
 
@@ -343,7 +339,7 @@ start_at_raises plan s k play (Some q) p w o f e =
           (w opened k),
     )
 
-start_raises : (plan : PlanOf) (s : State) (k p : ℕ) (found : Option PlayOf) → IsSound s → open_play plan s ≡ found → s.place ≡ Some p → option_map_or (may_start_in s k) found false ≡ true → IsPast (option_map_or (started_in plan s k) found s) k s.play (10002 * p + 1)
+pub start_raises : (plan : PlanOf) (s : State) (k p : ℕ) (found : Option PlayOf) → IsSound s → open_play plan s ≡ found → s.place ≡ Some p → option_map_or (may_start_in s k) found false ≡ true → IsPast (option_map_or (started_in plan s k) found s) k s.play (10002 * p + 1)
 start_raises plan s k p None w o f e = cc
 start_raises plan s k p (Some play) w o f e = start_at_raises plan s k play s.place p w o f (and_right (has_room s) _ e)
 
@@ -352,7 +348,7 @@ found_start : (n p : ℕ) (found : Option HostRow) → option_map_or (stands_at 
 found_start n p None e w = cc
 found_start n p (Some row) e w = start_number n p row e w
 
-start_least : (s : State) (k n p : ℕ) (found : Option PlayOf) → s.place ≡ Some p → option_map_or (may_start_in s k) found false ≡ true → FoundFrom n (slice_get s.rows k) → n ≤ 10002 * p
+pub start_least : (s : State) (k n p : ℕ) (found : Option PlayOf) → s.place ≡ Some p → option_map_or (may_start_in s k) found false ≡ true → FoundFrom n (slice_get s.rows k) → n ≤ 10002 * p
 start_least s k n p None f e w = cc
 start_least s k n p (Some play) f e w =
     found_start n p (slice_get s.rows k) (subst (λ (place : Option ℕ). at_row (stands_at place) s.rows k ≡ true) f (and_right (has_room s) _ e)) w
@@ -467,7 +463,7 @@ sends_once plan s (e ∷ es) w l =
     sends_once plan (after plan s e) es (sound_kept s (after plan s e) (moves plan s e (and_left (possible plan s e) _ l)) w) (and_right (possible plan s e) _ l)
 
 -- ---- runs
-first_sound : (plan : PlanOf) (forks pool : ℕ) → IsSound (first_state plan forks pool)
+pub first_sound : (plan : PlanOf) (forks pool : ℕ) → IsSound (first_state plan forks pool)
 first_sound plan forks pool = λ o. cc
 
 pub nothing_twice : NothingTwice

@@ -5,27 +5,29 @@ use Rattle.std.proofs.lemmas.Bool.{eqb-true}
 use Rattle.pb_tree.specs.declared.tree.Reach.{Reach}
 use Rattle.pb_tree.specs.declared.tree.Reach.TheVariants.{At, Done}
 use Rattle.pb_tree.specs.declared.answer.Kind.TheVariants.{Gone}
-use Rattle.pb_outcome.specs.declared.gather.TaskResult.{TaskResult}
 use Rattle.pb_tree.specs.Tree.{TreeOf, size_of}
 use Rattle.pb_tree.specs.Answer.{AnswerOf}
 use Rattle.pb_tree.specs.declared.tree.Status.{Status}
 use Rattle.pb_tree.specs.Walk.{reach, status_of, one_halted, without_halted, is_halted}
 use Rattle.pb_tree.proofs.Rise.{places_bounded}
-use Rattle.pb_state.specs.Row.{HostRow, kind_of, failed_kind, answer_of, is_active, place_of, next_place, unforced, status_at}
+use Rattle.pb_state.specs.declared.decided.TaskEnd.{TaskEnd}
+use Rattle.pb_state.specs.Ends.{fails, has_run, ends_play, kind_if, kind_of, answer_of}
+use Rattle.pb_state.specs.Row.{HostRow, is_active, place_of, next_place, unforced, status_at}
 use Rattle.pb_state.specs.Machine.{same_place, stands_at, is_running}
 
 -- the walk takes an answer at most for each place
 pub at_below : (tree : TreeOf) (answers : List AnswerOf) (p : ℕ) → reach tree answers ≡ At p → length (one_halted answers) < size_of tree
 at_below tree answers p e = let bounds = places_bounded tree answers p e in omega (arith, bounds.0, bounds.1)
 
--- a task's answer is good, bad or gone
-pub not_halted : (task : TaskResult) → is_halted (kind_of task) ≡ false
-not_halted task = by_kind task.unreachable (task.failed && not task.ignored)
+-- no task's answer is halted
+pub not_halted : (task : TaskEnd) → is_halted (kind_of task) ≡ false
+not_halted task = by_kind task.result.unreachable (fails task.result) (ends_play task.meta && has_run task.result)
   where
-    by_kind : (lost failed : Bool) → is_halted (if lost then Gone else failed_kind failed) ≡ false
-    by_kind true failed = refl
-    by_kind false true = refl
-    by_kind false false = refl
+    by_kind : (lost bad ends : Bool) → is_halted (if lost then Gone else kind_if bad ends) ≡ false
+    by_kind true bad ends = refl
+    by_kind false true ends = refl
+    by_kind false false true = refl
+    by_kind false false false = refl
 
 without_more : (answers : List AnswerOf) (last : AnswerOf) → is_halted last.kind ≡ false → length (without_halted (answers ++ last ∷ [])) ≡ length (without_halted answers) + 1
 without_more [] last k = rw k refl
@@ -44,7 +46,7 @@ one_more (a ∷ answers) last k = chosen (is_halted a.kind) a (without_halted an
     chosen false a xs ys us vs e f = omega (arith, f)
 
 -- each task that ends is one answer more
-pub one_halted_answer : (answers : List AnswerOf) (task : TaskResult) → length (one_halted (answers ++ answer_of task ∷ [])) ≡ length (one_halted answers) + 1
+pub one_halted_answer : (answers : List AnswerOf) (task : TaskEnd) → length (one_halted (answers ++ answer_of task ∷ [])) ≡ length (one_halted answers) + 1
 one_halted_answer answers task = one_more answers (answer_of task) (not_halted task)
 
 pub same_is : (a b : Option ℕ) → same_place a b ≡ true → (p : ℕ) × (a ≡ Some p) × (b ≡ Some p)

@@ -14,9 +14,11 @@ use Rattle.pb_plan.specs.Plan.{PlayOf, PlanOf}
 use Rattle.pb_tree.specs.Tree.{TreeOf, size_of}
 use Rattle.pb_tree.specs.Walk.{one_halted}
 use Rattle.pb_items.specs.Loops.{max_items}
+use Rattle.pb_state.specs.declared.decided.TaskEnd.{TaskEnd}
 use Rattle.pb_state.specs.declared.row.Counts.{Counts}
 use Rattle.pb_state.specs.declared.row.Running.{Running}
-use Rattle.pb_state.specs.Row.{HostRow, no_tree, none_counted, first_rows, is_called, joined, left, finished, task_at, taught, came_back, items_after, progressed, sent, sent_running, reported, reported_running, counted, more}
+use Rattle.pb_state.specs.Row.{HostRow, no_tree, none_counted, first_rows, is_called, joined, left, finished, task_at, taught, came_back, items_after, progressed, sent, sent_running, reported, reported_running}
+use Rattle.pb_state.specs.Ends.{counted, counted_result, is_counted, more}
 use Rattle.pb_state.specs.Machine.{change, at_row, stands_at, is_ticket, sends_running, awaits_running, awaits, may_send_item, is_running}
 use Rattle.pb_state.specs.Bounds.{IsAtMost, run_places, out_jobs, running_jobs, running_items, IsWithin, AllWithin, most_jobs, IsBounded}
 use Rattle.pb_state.specs.Kept.{first_waiting}
@@ -29,18 +31,6 @@ more_at_most : (b : Bool) (n m : ℕ) → n ≤ m → more b n ≤ m + 1
 more_at_most true n m e = omega (arith, e)
 more_at_most false n m e = omega (arith, e)
 
-counted_at_most : (task : TaskResult) (counts : Counts) (n : ℕ) → IsAtMost counts n → IsAtMost (counted task counts) (n + 1)
-counted_at_most task counts n m =
-    record {
-      ok = more_at_most _ counts.ok n m.ok;
-      changed = more_at_most _ counts.changed n m.changed;
-      unreachable = more_at_most _ counts.unreachable n m.unreachable;
-      failed = more_at_most _ counts.failed n m.failed;
-      skipped = more_at_most _ counts.skipped n m.skipped;
-      rescued = omega (arith, m.rescued);
-      ignored = more_at_most _ counts.ignored n m.ignored;
-    }
-
 at_most_to : (counts : Counts) (n m : ℕ) → n ≤ m → IsAtMost counts n → IsAtMost counts m
 at_most_to counts n m e a =
     record {
@@ -52,6 +42,25 @@ at_most_to counts n m e a =
       rescued = omega (arith, e, a.rescued);
       ignored = omega (arith, e, a.ignored);
     }
+
+result_at_most : (is_caught : Bool) (result : TaskResult) (counts : Counts) (n : ℕ) → IsAtMost counts n → IsAtMost (counted_result is_caught result counts) (n + 1)
+result_at_most is_caught result counts n m =
+    record {
+      ok = more_at_most _ counts.ok n m.ok;
+      changed = more_at_most _ counts.changed n m.changed;
+      unreachable = more_at_most _ counts.unreachable n m.unreachable;
+      failed = more_at_most _ counts.failed n m.failed;
+      skipped = more_at_most _ counts.skipped n m.skipped;
+      rescued = more_at_most _ counts.rescued n m.rescued;
+      ignored = more_at_most _ counts.ignored n m.ignored;
+    }
+
+counted_at_most : (task : TaskEnd) (counts : Counts) (n : ℕ) → IsAtMost counts n → IsAtMost (counted task counts) (n + 1)
+counted_at_most task counts n m = by_counted (is_counted task)
+  where
+    by_counted : (counts_so : Bool) → IsAtMost (if counts_so then counted_result task.is_caught task.result counts else counts) (n + 1)
+    by_counted true = result_at_most task.is_caught task.result counts n m
+    by_counted false = at_most_to counts n (n + 1) (omega arith) m
 
 none_at_most : (n : ℕ) → IsAtMost none_counted n
 none_at_most n = record { ok = omega arith; changed = omega arith; unreachable = omega arith; failed = omega arith; skipped = omega arith; rescued = omega arith; ignored = omega arith }
@@ -107,7 +116,7 @@ none_running : (row : HostRow) (found : Option Running) → row.running ≡ foun
 none_running row None e n = e
 none_running row (Some r) e n = let yes : is_running row ≡ true = rw e refl in cc
 
-finished_within : (play p : ℕ) (task : TaskResult) (facts : FactsOf) (row : HostRow) → length (one_halted row.answers) < 16384 → IsWithin true play row → IsWithin true play (finished p task facts row)
+finished_within : (play p : ℕ) (task : TaskEnd) (facts : FactsOf) (row : HostRow) → length (one_halted row.answers) < 16384 → IsWithin true play row → IsWithin true play (finished p task facts row)
 finished_within play p task facts row b w =
     let more = one_halted_answer row.answers task in
     (at_most_to (counted task row.counts) _ _ (omega (arith, more)) (counted_at_most task row.counts _ w.0), omega (arith, more, b), w.2, omega arith)
@@ -131,7 +140,7 @@ progressed_within k p play items row most b w = by_over (is_over items)
     by_over false = (w.0, omega (arith, b), w.2, most)
 
 -- a task that ends leaves room for all that its items can have sent
-finished_jobs : (k p n : ℕ) (task : TaskResult) (facts : FactsOf) (row : HostRow) → n ≤ max_items → (max_items * (16384 * k + length (one_halted row.answers)) + n) + 0 ≤ most_jobs true k (finished p task facts row)
+finished_jobs : (k p n : ℕ) (task : TaskEnd) (facts : FactsOf) (row : HostRow) → n ≤ max_items → (max_items * (16384 * k + length (one_halted row.answers)) + n) + 0 ≤ most_jobs true k (finished p task facts row)
 finished_jobs k p n task facts row m = let more = one_halted_answer row.answers task in omega (arith, more, m)
 
 start_keeps : (k : ℕ) (place : Option ℕ) (play : PlayOf) (p : ℕ) (items : List Item) → length items ≤ max_items → Keeps k (progressed play p items) (stands_at place) 0

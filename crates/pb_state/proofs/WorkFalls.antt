@@ -9,12 +9,12 @@ use Rattle.std.proofs.lemmas.Option.{slice_get_within, get_or_from_slice_get}
 use Rattle.std.proofs.lemmas.Bool.{lt-ltb, leb-true, leb-false, eq-eqb}
 use Rattle.pb_tree.specs.Tree.{TreeOf, size_of}
 use Rattle.pb_ids.specs.declared.numbers.Ticket.{Ticket}
-use Rattle.pb_outcome.specs.declared.gather.TaskResult.{TaskResult}
 use Rattle.pb_outcome.specs.declared.job.Report.{Report}
 use Rattle.pb_outcome.specs.declared.outcome.Form.{Form}
 use Rattle.pb_facts.specs.Facts.{FactsOf}
 use Rattle.pb_items.specs.Loops.{max_items}
 use Rattle.pb_state.specs.declared.decided.Decided.{Decided as DecidedOf}
+use Rattle.pb_state.specs.declared.decided.TaskEnd.{TaskEnd}
 use Rattle.pb_outcome.specs.declared.item.Item.{Item}
 use Rattle.pb_outcome.specs.Items.{is_over}
 use Rattle.pb_state.specs.declared.row.Running.{Running}
@@ -47,11 +47,11 @@ not_false true e = cc
 not_false false e = refl
 
 -- a finished task is one answer more
-finished_at : (row : HostRow) (p : ℕ) (task : TaskResult) (facts : FactsOf) (next : Option ℕ) → place_work (finished p task facts row) next ≤ most_events * (places_left row - 1)
+finished_at : (row : HostRow) (p : ℕ) (task : TaskEnd) (facts : FactsOf) (next : Option ℕ) → place_work (finished p task facts row) next ≤ most_events * (places_left row - 1)
 finished_at row p task facts None = omega arith
 finished_at row p task facts (Some q) = omega (arith, one_halted_answer row.answers task)
 
-finished_less : (row : HostRow) (p : ℕ) (task : TaskResult) (facts : FactsOf) → row_work (finished p task facts row) ≤ most_events * (places_left row - 1)
+finished_less : (row : HostRow) (p : ℕ) (task : TaskEnd) (facts : FactsOf) → row_work (finished p task facts row) ≤ most_events * (places_left row - 1)
 finished_less row p task facts = finished_at row p task facts (next_place (finished p task facts row))
 
 -- a start

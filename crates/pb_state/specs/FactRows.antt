@@ -18,20 +18,19 @@ use Rattle.pb_outcome.specs.declared.outcome.Form.TheVariants.{Ran, Unreachable 
 use Rattle.pb_play.specs.declared.modules.Module.TheVariants.{Debug, DebugVar, SetFact, Shell}
 use Rattle.pb_play.specs.declared.task.Task.{Task}
 use Rattle.pb_places.specs.Place.{place_of, bare_task}
-use Rattle.pb_plan.specs.Bundle.{tree_for}
-use Rattle.pb_plan.specs.Plan.{PlayOf, PlanOf, bare_play, bare_plan}
+use Rattle.pb_plan.specs.Plan.{PlayOf, PlanOf, bare_play, bare_plan, bare_tree}
 use Rattle.pb_variables.specs.Magic.{host_magic}
 use Rattle.pb_state.specs.Results.{items_at, on_tasks}
 use Rattle.pb_state.specs.Row.{HostRow, first_row, none_counted, joined, progressed, sent, reported}
 
 -- what computes these rows
-unfoldable on_facts : ⊤
+unfoldable pub on_facts : ⊤
 unfolding on_tasks eval_of measured host_magic
 on_facts = tt
 
 -- two tasks on one host
 abbrev two : Task → Task → PlayOf
-two first second = bare_play (codes "p") (tree_for 0 2 0) (place_of first ∷ place_of second ∷ []) (true ∷ [])
+two first second = bare_play (codes "p") (bare_tree 0 2 0) (place_of first ∷ place_of second ∷ []) (true ∷ [])
 
 abbrev on : PlayOf → PlanOf
 on play = bare_plan (codes "h" ∷ []) (play ∷ [])
@@ -71,7 +70,7 @@ unfolding on_facts
 left_out_by_result = refl
 
 -- a task that failed registers its result too
-asked_of_failed : next (two (record registers { ignore_errors = true }) asks) (ended (two (record registers { ignore_errors = true }) asks) badly) ≡ alone (debug_result (text (codes "hi")))
+asked_of_failed : next (two (record registers { ignore_errors = Some true }) asks) (ended (two (record registers { ignore_errors = Some true }) asks) badly) ≡ alone (debug_result (text (codes "hi")))
 unfolding on_facts
 asked_of_failed = refl
 

@@ -12,8 +12,7 @@ use Rattle.pb_outcome.specs.Results.{ran_result, lost}
 use Rattle.pb_play.specs.declared.modules.Module.TheVariants.{Shell}
 use Rattle.pb_play.specs.declared.task.Task.{Task}
 use Rattle.pb_places.specs.Place.{place_of, bare_task, bare_place}
-use Rattle.pb_plan.specs.Bundle.{tree_for}
-use Rattle.pb_plan.specs.Plan.{PlayOf, PlanOf, bare_play, bare_plan}
+use Rattle.pb_plan.specs.Plan.{PlayOf, PlanOf, bare_play, bare_plan, bare_tree}
 use Rattle.pb_tree.specs.declared.tree.Status.TheVariants.{Gone as Lost}
 use Rattle.pb_state.specs.Row.{HostRow, first_row, none_counted, joined, progressed, sent, reported}
 use Rattle.pb_state.specs.Machine.{is_running, is_out, item_of, may_send_item, awaits, report_decides}
@@ -21,7 +20,7 @@ use Rattle.pb_state.specs.declared.decided.Decided.{Decided}
 use Rattle.pb_state.specs.Results.{items_at, on_tasks}
 
 abbrev play : PlayOf
-play = bare_play (codes "p") (tree_for 0 1 0) (bare_place (codes "list") (Shell (codes "ls")) ∷ []) (true ∷ [])
+play = bare_play (codes "p") (bare_tree 0 1 0) (bare_place (codes "list") (Shell (codes "ls")) ∷ []) (true ∷ [])
 
 abbrev plan : PlanOf
 plan = bare_plan (codes "h" ∷ []) (play ∷ [])
@@ -126,7 +125,7 @@ looped =
     record (bare_task (codes "list") (Shell (codes "ls"))) { looped = Some (record { over = list (items_of (text (codes "a") ∷ text (codes "b") ∷ [])); variable = codes "item" }) }
 
 abbrev looping : PlayOf
-looping = bare_play (codes "p") (tree_for 0 1 0) (place_of looped ∷ []) (true ∷ [])
+looping = bare_play (codes "p") (bare_tree 0 1 0) (place_of looped ∷ []) (true ∷ [])
 
 abbrev one_host : PlanOf
 one_host = bare_plan (codes "h" ∷ []) (looping ∷ [])

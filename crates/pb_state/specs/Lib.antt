@@ -3,6 +3,7 @@ pub mod Results
 pub mod Seen
 pub mod Unread
 pub mod Own
+pub mod Ends
 pub mod Row
 pub mod Walking
 pub mod Kept
@@ -15,9 +16,11 @@ pub mod Oldest
 pub mod Due
 pub mod Run
 pub mod Once
+pub mod Rising
 pub mod Walks
 pub mod Work
 pub mod Bounds
 pub mod Rows
 pub mod ItemRows
 pub mod FactRows
+pub mod BlockRows

@@ -1,10 +1,8 @@
 -- What the state keeps of one host, and what a step does to it alone.
-use Rattle.std.specs.Prelude.{ℕ, zero, suc, ◌+◌, Bool, true, false, ◌&&◌, not, List, [], ◌∷◌, ◌++◌, Option, Some, None, option_map, slice_get, if◌then◌else◌}
+use Rattle.std.specs.Prelude.{ℕ, zero, suc, ◌+◌, Bool, true, false, ◌&&◌, List, [], ◌∷◌, ◌++◌, Option, Some, None, option_map, slice_get, if◌then◌else◌}
 use Rattle.std.specs.Option.{option_map_or}
 use Rattle.pb_ids.specs.declared.numbers.Ticket.{Ticket}
 use Rattle.pb_planes.specs.Set.{is_in as is_member}
-use Rattle.pb_tree.specs.declared.answer.Kind.{Kind}
-use Rattle.pb_tree.specs.declared.answer.Kind.TheVariants.{Good, Bad, Gone}
 use Rattle.pb_tree.specs.declared.tree.Status.{Status}
 use Rattle.pb_tree.specs.declared.tree.Status.TheVariants.{Active, Failed, Halted as Stopped, Gone as Lost}
 use Rattle.pb_tree.specs.declared.tree.Reach.{Reach}
@@ -13,7 +11,6 @@ use Rattle.pb_tree.specs.Tree.{TreeOf, Nothing}
 use Rattle.pb_tree.specs.Answer.{AnswerOf}
 use Rattle.pb_tree.specs.Walk.{reach, status_of}
 use Rattle.pb_outcome.specs.declared.gather.ItemResult.{ItemResult}
-use Rattle.pb_outcome.specs.declared.gather.TaskResult.{TaskResult}
 use Rattle.pb_outcome.specs.declared.item.Item.{Item}
 use Rattle.pb_outcome.specs.declared.job.Call.{Call}
 use Rattle.pb_outcome.specs.declared.outcome.Form.{Form}
@@ -21,9 +18,14 @@ use Rattle.pb_facts.specs.Facts.{FactsOf, no_facts}
 use Rattle.pb_outcome.specs.Items.{task_of, back_in, is_over, result_of}
 use Rattle.pb_outcome.specs.Results.{judged}
 use Rattle.pb_places.specs.Place.{PlaceOf}
+use Rattle.pb_play.specs.declared.modules.Meta.{Meta}
+use Rattle.pb_play.specs.declared.modules.Module.{Module}
+use Rattle.pb_play.specs.declared.modules.Module.TheVariants.{Meta as CalledMeta}
 use Rattle.pb_plan.specs.Plan.{PlayOf, PlanOf}
+use Rattle.pb_state.specs.Ends.{kind_of, answer_of, counted}
 use Rattle.pb_state.specs.Learning.{taught_by}
 use Rattle.pb_state.specs.Results.{settled_at, variable_at}
+use Rattle.pb_state.specs.declared.decided.TaskEnd.{TaskEnd}
 use Rattle.pb_state.specs.declared.row.Counts.{Counts}
 use Rattle.pb_state.specs.declared.row.Finish.{Finish}
 use Rattle.pb_state.specs.declared.row.Running.{Running}
@@ -84,45 +86,12 @@ unforced tree = record tree { force_handlers = false }
 abbrev pub status_at : TreeOf → List AnswerOf → Status
 status_at tree answers = if is_active (status_of tree answers) then status_of (unforced tree) answers else status_of tree answers
 
--- what a task's result is for the walk: a host that can't be reached is gone, and a failure that isn't ignored is bad
-abbrev pub failed_kind : Bool → Kind
-failed_kind true = Bad
-failed_kind false = Good
-
-abbrev pub kind_of : TaskResult → Kind
-kind_of task = if task.unreachable then Gone else failed_kind (task.failed && not task.ignored)
-
-abbrev pub answer_of : TaskResult → AnswerOf
-answer_of task = record { kind = kind_of task; notified = [] }
-
--- a task that is neither skipped nor unreachable, nor failed unless that is ignored
-abbrev pub is_okay : TaskResult → Bool
-is_okay task = not task.unreachable && not task.skipped && not (task.failed && not task.ignored)
-
--- one more where it counts
-abbrev pub more : Bool → ℕ → ℕ
-more counts n = if counts then n + 1 else n
-
--- a finished task in the recap: no play has blocks yet, so that no failure is rescued
--- (Ansible's documentation, "Return Values")
-abbrev pub counted : TaskResult → Counts → Counts
-counted task counts =
-    record {
-      ok = more (is_okay task) counts.ok;
-      changed = more (is_okay task && task.changed) counts.changed;
-      unreachable = more task.unreachable counts.unreachable;
-      failed = more (task.failed && not task.ignored) counts.failed;
-      skipped = more task.skipped counts.skipped;
-      rescued = counts.rescued;
-      ignored = more (task.failed && task.ignored) counts.ignored;
-    }
-
 -- one answer more
 abbrev pub answered : AnswerOf → HostRow → HostRow
 answered answer row = record row { answers = row.answers ++ answer ∷ []; status = status_at row.tree (row.answers ++ answer ∷ []) }
 
--- the task at a place ends with this result, after which the host knows this
-abbrev pub finished : ℕ → TaskResult → FactsOf → HostRow → HostRow
+-- the task at a place ends so, after which the host knows this
+abbrev pub finished : ℕ → TaskEnd → FactsOf → HostRow → HostRow
 finished place task facts row =
     record (answered (answer_of task) row) {
       running = None;
@@ -131,17 +100,28 @@ finished place task facts row =
       counts = counted task row.counts;
     }
 
--- whether the task at a place is told to ignore its failure; a place without a task is told nothing
+-- what a place says of the task that ends there: whether its failure is ignored, whether that is caught, and which task of `meta` it is; a place
+-- without a task says nothing
 abbrev pub ignores_at : PlayOf → ℕ → Bool
 ignores_at play p = option_map_or (λ (place : PlaceOf). place.ignore_errors) (slice_get play.places p) false
 
+abbrev pub caught_at : PlayOf → ℕ → Bool
+caught_at play p = option_map_or (λ (place : PlaceOf). place.is_caught) (slice_get play.places p) false
+
+abbrev pub meta_in : Module → Option Meta
+meta_in (CalledMeta which) = Some which
+meta_in other = None
+
+abbrev pub meta_at : PlayOf → ℕ → Option Meta
+meta_at play p = option_map_or (λ (place : PlaceOf). meta_in place.task.«module») (slice_get play.places p) None
+
 -- how the task at a place ended, by its items
-abbrev pub task_at : PlayOf → ℕ → List Item → TaskResult
-task_at play p items = task_of (ignores_at play p) items
+abbrev pub task_at : PlayOf → ℕ → List Item → TaskEnd
+task_at play p items = record { result = task_of (ignores_at play p) items; is_caught = caught_at play p; meta = meta_at play p }
 
 -- what the host knows once the task at a place has ended with these items
 abbrev pub taught : PlayOf → ℕ → List Item → FactsOf → FactsOf
-taught play p items facts = taught_by play p (task_at play p items) (result_of (variable_at play p) items) items facts
+taught play p items facts = taught_by play p (task_at play p items).result (result_of (variable_at play p) items) items facts
 
 -- the task at a place has come to these items: it goes on, or ends
 abbrev pub progressed : PlayOf → ℕ → List Item → HostRow → HostRow

@@ -6,9 +6,8 @@ use Rattle.pb_play.specs.declared.modules.Module.TheVariants.{Debug}
 use Rattle.pb_state.specs.declared.event.Event.{Event}
 use Rattle.pb_state.specs.declared.event.Event.TheVariants.{Open, Start, Turn, Close}
 use Rattle.pb_places.specs.Place.{bare_place}
-use Rattle.pb_plan.specs.Bundle.{tree_for}
 use Rattle.pb_state.specs.Results.{on_tasks}
-use Rattle.pb_plan.specs.Plan.{PlayOf, PlanOf, bare_play, bare_plan}
+use Rattle.pb_plan.specs.Plan.{PlayOf, PlanOf, bare_play, bare_plan, bare_tree}
 use Rattle.pb_state.specs.Row.{HostRow, first_row}
 use Rattle.pb_state.specs.State.{State}
 use Rattle.pb_state.specs.Machine.{possible, first_state, first_play}
@@ -16,7 +15,7 @@ use Rattle.pb_state.specs.Run.{legal_from, state_from}
 
 -- a play with one task
 abbrev play_on : List Bool → PlayOf
-play_on hosts = bare_play (codes "p") (tree_for 0 1 0) (bare_place (codes "hi") (Debug (text (codes "hello"))) ∷ []) hosts
+play_on hosts = bare_play (codes "p") (bare_tree 0 1 0) (bare_place (codes "hi") (Debug (text (codes "hello"))) ∷ []) hosts
 
 -- three plays for two hosts: the first is the first host's, the second has no hosts, and the third is the second host's
 abbrev three_plays : PlanOf

@@ -3,6 +3,7 @@
 ghost use Rattle.std.specs.Prelude.{◌≡◌};
 
 use pb_outcome::gather::{ItemResult, TaskResult};
+use pb_play::modules::Meta;
 use pb_value::items::Items;
 use pb_value::val::Val;
 
@@ -31,11 +32,21 @@ impl Drop for Decided {
     }
 }
 
-/// How a task ended on a host.
+/// How a task ended on a host, with what its place says of that.
+#[derive(Clone, Copy)]
+pub struct TaskEnd {
+    pub result: TaskResult,
+    /// Whether a block round the place rescues a failure there.
+    pub is_caught: bool,
+    /// Which task of `meta` it is, if it is one.
+    pub meta: Option<Meta>,
+}
+
+/// How a task ended on a host, and what is shown of it.
 pub struct Done {
     /// The task's result, as it is shown.
     pub result: Val,
-    pub task: TaskResult,
+    pub task: TaskEnd,
 }
 
 impl Drop for Done {

@@ -31,6 +31,7 @@ fn gives_of(called: &Module) -> Gives
         Module::Debug { msg: _ } => Gives::Nothing,
         Module::DebugVar { text: _, expr: _ } => Gives::Nothing,
         Module::Fail { msg: _ } => Gives::Nothing,
+        Module::Meta(_) => Gives::Nothing,
         Module::Shell { cmd: _ } => Gives::Nothing,
     }
 }
@@ -101,9 +102,9 @@ pub(crate) fn taught(
     items: &TaskItems,
     facts: &Facts,
 ) -> Result<Option<Facts>, AllocError>
-    ensures { IfOk result (λ known. unwrap_or known facts.now ≡ taught_by play.now place done.now.task done.now.result items.now facts.now) }
+    ensures { IfOk result (λ known. unwrap_or known facts.now ≡ taught_by play.now place done.now.task.result done.now.result items.now facts.now) }
 {
-    if done.task.unreachable {
+    if done.task.result.unreachable {
         return Ok(None);
     }
     match play.place(place) {

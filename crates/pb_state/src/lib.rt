@@ -6,9 +6,11 @@
 #![tactic(auto)]
 
 ghost use Rattle.pb_state.specs.Walks.{WalksLead, RowsStay};
+ghost use Rattle.pb_state.specs.Rising.{StartsRise};
 
 mod decided;
 mod due;
+mod ends;
 mod event;
 mod hosts;
 mod items;
@@ -23,15 +25,16 @@ mod settling;
 mod state;
 mod told;
 
-pub use decided::{Decided, Done};
+pub use decided::{Decided, Done, TaskEnd};
 pub use event::{Event, Trail};
 pub use pb_plan::{Bundle, BundleFault, MAX_BYTES, Plan, PlanPlay, RoleFault};
 pub use row::Counts;
 pub use state::{EngineState, StepFault};
 
 /// What holds of every run: each host of the open batch is at the place to which its answers lead in the play's tree, and no other host
-/// is at a place; and each row is its host's.
+/// is at a place; each row is its host's; and the places at which a host starts in a play rise.
 pub fn walks_lead()
     ensures walks { WalksLead }
     ensures rows { RowsStay }
+    ensures rise { StartsRise }
 {}

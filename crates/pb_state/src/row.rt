@@ -6,7 +6,8 @@ ghost use Rattle.pb_tree.specs.Answer.{AnswerOf};
 ghost use Rattle.pb_planes.specs.Set.{is_in as is_member};
 ghost use Rattle.pb_cursors.specs.Walks.{walk_after};
 
-use crate::decided::{Decided, Done};
+use crate::decided::{Decided, Done, TaskEnd};
+use crate::ends::{counted, kind_of};
 use crate::items::{Before, TaskItems};
 use crate::learning::taught;
 use crate::seen::Seen;
@@ -14,7 +15,6 @@ use crate::told::{done_at, told_of};
 use pb_cursors::{LaidTree, PlayWalk};
 use pb_facts::facts::Facts;
 use pb_ids::{HostNo, Ticket};
-use pb_outcome::gather::TaskResult;
 use pb_outcome::outcome::Outcome;
 use pb_plan::PlanPlay;
 use pb_planes::HostSet;
@@ -134,47 +134,9 @@ pub fn is_active(status: Status) -> bool
     matches!(status, Status::Active)
 }
 
-ghost use Rattle.pb_state.specs.Row.{is_active, more, counted, is_okay, kind_of, status_at, place_of};
+ghost use Rattle.pb_state.specs.Row.{is_active, status_at, place_of};
 ghost use Rattle.pb_state.specs.Back.{back_running, undone_running};
 ghost use Rattle.pb_state.specs.Bounds.{IsAtMost};
-
-fn more(counts: bool, n: u64) -> u64
-    requires { n < 2 ^ 64 - 1 }
-    ensures { result ≡ more counts n }
-{
-    if counts { n + 1 } else { n }
-}
-
-/// What a task's result is for the walk through the play.
-fn kind_of(task: TaskResult) -> Kind
-    ensures { result ≡ kind_of task }
-{
-    if task.unreachable {
-        Kind::Gone
-    } else if task.failed && !task.ignored {
-        Kind::Bad
-    } else {
-        Kind::Good
-    }
-}
-
-/// The counts with one finished task more.
-fn counted(counts: Counts, task: TaskResult) -> Counts
-    requires { IsAtMost counts (2 ^ 64 - 2) }
-    ensures { result ≡ counted task counts }
-{
-    let is_bad = task.failed && !task.ignored;
-    let is_okay = !task.unreachable && !task.skipped && !is_bad;
-    Counts {
-        ok: more(is_okay, counts.ok),
-        changed: more(is_okay && task.changed, counts.changed),
-        unreachable: more(task.unreachable, counts.unreachable),
-        failed: more(is_bad, counts.failed),
-        skipped: more(task.skipped, counts.skipped),
-        rescued: counts.rescued,
-        ignored: more(task.failed && task.ignored, counts.ignored),
-    }
-}
 
 /// The walk takes one answer more. An `Err` changes nothing.
 #[tactic(auto, using(crate::proofs::Walked::unforced_status))]
@@ -283,7 +245,7 @@ impl Row {
         &mut self,
         alloc: Global,
         place: usize,
-        task: TaskResult,
+        task: TaskEnd,
         known: Option<Facts>,
     ) -> Result<(), AllocError>
         requires batch { self.old.in_batch ≡ true }

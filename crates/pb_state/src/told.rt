@@ -5,15 +5,16 @@ ghost use Rattle.std.specs.Option.{option_copied};
 ghost use Rattle.pb_outcome.specs.Items.{numbered, numbered_at, numbered_then};
 ghost use Rattle.pb_state.specs.Machine.{told_in, done_at};
 ghost use Rattle.pb_state.specs.Results.{variable_at};
-ghost use Rattle.pb_state.specs.Row.{ignores_at, task_at};
+ghost use Rattle.pb_state.specs.Row.{ignores_at, caught_at, meta_in, meta_at, task_at};
 
-use crate::decided::Done;
+use crate::decided::{Done, TaskEnd};
 use crate::items::TaskItems;
-use pb_outcome::gather::{ItemResult, TaskResult};
+use pb_outcome::gather::ItemResult;
 use pb_outcome::item::{Item, Planned};
 use pb_outcome::items::gather_items;
 use pb_outcome::registered::registered;
 use pb_plan::PlanPlay;
+use pb_play::modules::{Meta, Module};
 use pb_value::items::Items;
 use std::alloc::{AllocError, Global};
 
@@ -128,11 +129,56 @@ fn variable_at(play: &PlanPlay, place: usize) -> &str
     }
 }
 
+/// Whether a failure of the task at a place is caught.
+fn caught_at(play: &PlanPlay, place: usize) -> bool
+    ensures { result ≡ caught_at play.now place }
+{
+    match play.place(place) {
+        Some(place) => place.is_caught(),
+        None => false,
+    }
+}
+
+/// Which task of `meta` a module is, if it is one.
+fn meta_in(called: &Module) -> Option<Meta>
+    ensures { result ≡ meta_in called.now }
+{
+    match called {
+        Module::Meta(which) => Some(*which),
+        Module::Assert {
+            that: _,
+            fail_msg: _,
+            success_msg: _,
+        } => None,
+        Module::Command(_) => None,
+        Module::Debug { msg: _ } => None,
+        Module::DebugVar { text: _, expr: _ } => None,
+        Module::Fail { msg: _ } => None,
+        Module::SetFact { facts: _ } => None,
+        Module::Setup => None,
+        Module::Shell { cmd: _ } => None,
+    }
+}
+
+/// Which task of `meta` stands at a place, if one does.
+fn meta_at(play: &PlanPlay, place: usize) -> Option<Meta>
+    ensures { result ≡ meta_at play.now place }
+{
+    match play.place(place) {
+        Some(place) => meta_in(&place.task().module),
+        None => None,
+    }
+}
+
 /// How the task at a place ended, by its items.
-pub fn task_at(play: &PlanPlay, place: usize, items: &TaskItems) -> TaskResult
+pub fn task_at(play: &PlanPlay, place: usize, items: &TaskItems) -> TaskEnd
     ensures { result ≡ task_at play.now place items.now }
 {
-    gather_items(items.as_slice(), ignores_at(play, place))
+    TaskEnd {
+        result: gather_items(items.as_slice(), ignores_at(play, place)),
+        is_caught: caught_at(play, place),
+        meta: meta_at(play, place),
+    }
 }
 
 /// How the task at a place ended, and what is shown of it.

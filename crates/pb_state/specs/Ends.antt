@@ -1,0 +1,66 @@
+-- How a task ends on a host: what that is for the host's walk, and how it counts in the recap
+-- (Ansible's documentation, "Error handling in playbooks", "Blocks" and "Return Values").
+use Rattle.std.specs.Prelude.{ℕ, ◌+◌, Bool, true, false, ◌&&◌, ◌||◌, not, [], Option, Some, None, is_none, if◌then◌else◌}
+use Rattle.pb_outcome.specs.declared.gather.TaskResult.{TaskResult}
+use Rattle.pb_play.specs.declared.modules.Meta.{Meta}
+use Rattle.pb_play.specs.declared.modules.Meta.TheVariants.{Noop, EndHost}
+use Rattle.pb_tree.specs.Answer.{AnswerOf}
+use Rattle.pb_tree.specs.declared.answer.Kind.{Kind}
+use Rattle.pb_tree.specs.declared.answer.Kind.TheVariants.{Good, Bad, Gone, Ended}
+use Rattle.pb_state.specs.declared.decided.TaskEnd.{TaskEnd}
+use Rattle.pb_state.specs.declared.row.Counts.{Counts}
+
+-- a failure that isn't ignored
+abbrev pub fails : TaskResult → Bool
+fails result = result.failed && not result.ignored
+
+-- ---- the walk
+-- `end_host` ends the play for its host where it ran: where it was neither left out nor failed
+abbrev pub ends_play : Option Meta → Bool
+ends_play None = false
+ends_play (Some Noop) = false
+ends_play (Some EndHost) = true
+
+abbrev pub has_run : TaskResult → Bool
+has_run result = not result.failed && not result.skipped
+
+abbrev pub kind_if : Bool → Bool → Kind
+kind_if true ends = Bad
+kind_if false true = Ended
+kind_if false false = Good
+
+-- a host that can't be reached is gone, and a failure that isn't ignored is bad
+abbrev pub kind_of : TaskEnd → Kind
+kind_of task = if task.result.unreachable then Gone else kind_if (fails task.result) (ends_play task.meta && has_run task.result)
+
+abbrev pub answer_of : TaskEnd → AnswerOf
+answer_of task = record { kind = kind_of task; notified = [] }
+
+-- ---- the counts
+-- one more where it counts
+abbrev pub more : Bool → ℕ → ℕ
+more counts n = if counts then n + 1 else n
+
+-- a task that is neither skipped nor unreachable, nor failed unless that is ignored
+abbrev pub is_okay : TaskResult → Bool
+is_okay result = not result.unreachable && not result.skipped && not (fails result)
+
+-- a failure that isn't ignored is rescued where its place is caught
+abbrev pub counted_result : Bool → TaskResult → Counts → Counts
+counted_result is_caught result counts =
+    record {
+      ok = more (is_okay result) counts.ok;
+      changed = more (is_okay result && result.changed) counts.changed;
+      unreachable = more result.unreachable counts.unreachable;
+      failed = more (fails result && not is_caught) counts.failed;
+      skipped = more result.skipped counts.skipped;
+      rescued = more (fails result && is_caught) counts.rescued;
+      ignored = more (result.failed && result.ignored) counts.ignored;
+    }
+
+-- a task of `meta` counts only where it failed, which it does where its conditions can't be read
+abbrev pub is_counted : TaskEnd → Bool
+is_counted task = is_none task.meta || task.result.failed
+
+abbrev pub counted : TaskEnd → Counts → Counts
+counted task counts = if is_counted task then counted_result task.is_caught task.result counts else counts
