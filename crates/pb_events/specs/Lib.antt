@@ -3,3 +3,4 @@ pub mod Line
 pub mod Batch
 pub mod Lines
 pub mod Rows
+pub mod BlockRows

@@ -5,6 +5,8 @@ use Rattle.pb_value.specs.Datum.{Datum, text, int, boolean, list, items_of}
 use Rattle.pb_ids.specs.Dotted.{dotted}
 use Rattle.pb_tree.specs.Tree.{path_at}
 use Rattle.pb_places.specs.Place.{PlaceOf}
+use Rattle.pb_play.specs.Modules.{is_meta}
+use Rattle.pb_play.specs.declared.task.Task.{Task}
 use Rattle.pb_state.specs.declared.event.Event.{Event}
 use Rattle.pb_state.specs.declared.event.Event.TheVariants.{Open, Start, Send, Report as Reported, Turn, Close, Stop, Forks}
 use Rattle.pb_state.specs.declared.decided.Decided.{Decided}
@@ -49,9 +51,9 @@ host_failed ignored host place play result =
 -- the line of a task's result: a host that can't be reached comes first, then a failure, then what was left out
 abbrev pub result_line : List ℕ → List ℕ → ℕ → Done → List ℕ
 result_line host place play done =
-    if done.task.unreachable then host_end (codes "runner_on_unreachable") host place play done.result
-    else (if done.task.failed then host_failed done.task.ignored host place play done.result
-    else (if done.task.skipped then host_end (codes "runner_on_skipped") host place play done.result
+    if done.task.result.unreachable then host_end (codes "runner_on_unreachable") host place play done.result
+    else (if done.task.result.failed then host_failed done.task.result.ignored host place play done.result
+    else (if done.task.result.skipped then host_end (codes "runner_on_skipped") host place play done.result
     else host_end (codes "runner_on_ok") host place play done.result))
 
 -- none as long as the task waits for a job
@@ -69,12 +71,21 @@ abbrev pub task_text : Bool → ℕ → Decided → List ℕ → List ℕ → Li
 task_text starts play decided host name place =
     start_text starts decided.is_new host name place play ++ item_lines host place play decided.items ++ done_text host place play decided.done
 
-abbrev pub task_lines : Bool → ℕ → Decided → List ℕ → List ℕ → List ℕ → List ℕ
-task_lines starts play decided host name path = task_text starts play decided host name (dotted path)
+-- a task of `meta` has no line but that of its failure: its conditions can't be read, which nothing ignores
+abbrev pub meta_text : List ℕ → List ℕ → ℕ → Option Done → List ℕ
+meta_text host place play None = []
+meta_text host place play (Some done) = if done.task.result.failed then host_failed false host place play done.result else []
+
+abbrev pub lines_at : Bool → ℕ → Decided → List ℕ → Task → List ℕ → List ℕ
+lines_at starts play decided host task place =
+    if is_meta task.«module» then meta_text host place play decided.done else task_text starts play decided host task.name place
+
+abbrev pub lines_on : Bool → ℕ → Decided → List ℕ → Task → List ℕ → List ℕ
+lines_on starts play decided host task path = lines_at starts play decided host task (dotted path)
 
 -- of the task at this place, which is printed by its path in the play's tree
 abbrev pub of_place : Bool → PlayOf → ℕ → Decided → List ℕ → PlaceOf → List ℕ
-of_place starts play number decided host place = option_map_or (task_lines starts number decided host place.task.name) (path_at play.tree decided.place) []
+of_place starts play number decided host place = option_map_or (lines_on starts number decided host place.task) (path_at play.tree decided.place) []
 
 -- of a host with this name
 abbrev pub for_host : Bool → PlayOf → ℕ → Decided → List ℕ → List ℕ

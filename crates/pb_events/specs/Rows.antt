@@ -1,5 +1,5 @@
 -- Worked runs: two hosts, and a play with one task.
-use Rattle.std.specs.Prelude.{◌≡◌, ⊤, ℕ, pos, Bool, true, false, List, [], ◌∷◌, ◌++◌, codes, refl}
+use Rattle.std.specs.Prelude.{◌≡◌, ⊤, ℕ, pos, Bool, true, false, List, [], ◌∷◌, ◌++◌, codes, None, refl}
 use Rattle.std.specs.Fmt.{digits}
 use Rattle.serde_json.proofs.OnLiterals.{serde_json_on_literals}
 use Rattle.pb_value.specs.Datum.{text, null}
@@ -11,9 +11,8 @@ use Rattle.pb_play.specs.declared.modules.Module.TheVariants.{Debug, Fail, Shell
 use Rattle.pb_state.specs.declared.event.Event.{Event}
 use Rattle.pb_state.specs.declared.event.Event.TheVariants.{Open, Start, Send, Report as Reported, Turn, Close, Stop, Forks}
 use Rattle.pb_places.specs.Place.{bare_place}
-use Rattle.pb_plan.specs.Bundle.{tree_for}
 use Rattle.pb_state.specs.Machine.{first_state}
-use Rattle.pb_plan.specs.Plan.{PlayOf, PlanOf, bare_play, bare_plan}
+use Rattle.pb_plan.specs.Plan.{PlayOf, PlanOf, bare_play, bare_plan, bare_tree}
 use Rattle.pb_state.specs.Results.{on_tasks}
 use Rattle.pb_state.specs.Run.{state_from}
 use Rattle.pb_state.specs.State.{State}
@@ -28,7 +27,7 @@ on_literals = tt
 abbrev one_task : Module → PlanOf
 one_task called =
     bare_plan (codes "a" ∷ codes "b" ∷ [])
-    (bare_play (codes "all") (tree_for 0 1 0) (bare_place (codes "hi") called ∷ []) (true ∷ true ∷ []) ∷ [])
+    (bare_play (codes "all") (bare_tree 0 1 0) (bare_place (codes "hi") called ∷ []) (true ∷ true ∷ []) ∷ [])
 
 abbrev two_hosts : PlanOf
 two_hosts = one_task (Debug (text (codes "hello")))
@@ -130,7 +129,7 @@ has_other_forks = refl
 
 -- three plays for two hosts: the first has both, the second none, and the third the second host
 abbrev with_hosts : List ℕ → List Bool → PlayOf
-with_hosts name hosts = bare_play name (tree_for 0 1 0) (bare_place (codes "hi") (Debug (text (codes "hello"))) ∷ []) hosts
+with_hosts name hosts = bare_play name (bare_tree 0 1 0) (bare_place (codes "hi") (Debug (text (codes "hello"))) ∷ []) hosts
 
 abbrev three_plays : PlanOf
 three_plays =
@@ -147,7 +146,7 @@ opens_the_third = refl
 
 -- the lines of results that no module has yet
 abbrev ends_as : TaskResult → List ℕ
-ends_as task = result_line (codes "a") (codes "1") 0 (record { result = null; task = task })
+ends_as task = result_line (codes "a") (codes "1") 0 (record { result = null; task = record { result = task; is_caught = false; meta = None } })
 
 skipped_line : ends_as (record { unreachable = false; failed = false; skipped = true; changed = false; ignored = false })
     ≡ codes "{\"event\":\"runner_on_skipped\",\"host\":\"a\",\"place\":\"1\",\"play\":0,\"result\":null}\n"

@@ -2,7 +2,7 @@
 
 ghost use Rattle.std.specs.Prelude.{◌≡◌, ◌∷◌, [], IfOk, codes, pos};
 ghost use Rattle.pb_value.specs.Datum.{text, int, boolean};
-ghost use Rattle.pb_events.specs.Lines.{host_end, host_failed, result_line, done_text};
+ghost use Rattle.pb_events.specs.Lines.{host_end, host_failed, result_line, done_text, meta_text};
 
 use crate::line::{at_end, line};
 use pb_state::Done;
@@ -25,6 +25,24 @@ pub fn done_text(
     }
 }
 
+/// The line of a task of `meta` whose conditions can't be read; none of any other.
+pub fn meta_text(
+    alloc: Global,
+    host: &str,
+    place: &str,
+    play: u32,
+    done: &Option<Done>,
+) -> Result<Vec<u8>, AllocError>
+    ensures { IfOk result (λ bytes. bytes.items ≡ meta_text host.now place.now play done.now) }
+{
+    match done {
+        Some(done) if done.task.result.failed => {
+            host_failed(alloc, false, host, place, play, &done.result)
+        }
+        _ => Ok(Vec::new(alloc)),
+    }
+}
+
 /// The line of a task's result: the host can't be reached, or else the task failed, or else it was skipped, or else it went well.
 fn result_line(
     alloc: Global,
@@ -35,7 +53,7 @@ fn result_line(
 ) -> Result<Vec<u8>, AllocError>
     ensures { IfOk result (λ bytes. bytes.items ≡ result_line host.now place.now play done.now) }
 {
-    let task = done.task;
+    let task = done.task.result;
     if task.unreachable {
         host_end(
             alloc,

@@ -4,14 +4,17 @@ ghost use Rattle.std.specs.Prelude.{◌≡◌, ◌<◌, ◌^◌, ◌∷◌, ◌+
 ghost use Rattle.std.specs.Option.{option_copied, option_map_or};
 ghost use Rattle.pb_value.specs.Datum.{text, int};
 ghost use Rattle.pb_ids.specs.Dotted.{dotted};
-ghost use Rattle.pb_events.specs.Lines.{start_line, play_start, task_start, host_start, start_text, task_text, of_place, for_host, in_play, told_in, told_of, opened_in, lines_of};
+ghost use Rattle.pb_play.specs.Modules.{is_meta};
+ghost use Rattle.pb_events.specs.Lines.{start_line, play_start, task_start, host_start, start_text, task_text, lines_at, of_place, for_host, in_play, told_in, told_of, opened_in, lines_of};
 
 use crate::batch::batch_names;
-use crate::end::done_text;
+use crate::end::{done_text, meta_text};
 use crate::item::item_lines;
 use crate::line::{at_host, at_place, line, put_text};
 use pb_ids::HostNo;
 use pb_places::Place;
+use pb_play::modules::Module;
+use pb_play::task::Task;
 use pb_state::{Decided, EngineState, Event, Plan, PlanPlay};
 use pb_value::val::{Dict, Val, ValList};
 use std::alloc::{AllocError, Global};
@@ -188,10 +191,51 @@ fn of_place(
     match play.tree().place(decided.place) {
         Some(at) => {
             let path = at.text(alloc)?;
-            let name = place.task().name.as_str();
-            task_lines(alloc, starts, number, decided, host, name, path.as_str())
+            let task = place.task();
+            lines_at(alloc, starts, number, decided, host, task, path.as_str())
         }
         None => Ok(Vec::new(alloc)),
+    }
+}
+
+/// Whether a module is `meta`.
+fn is_meta(called: &Module) -> bool
+    ensures { result ≡ is_meta called.now }
+{
+    match called {
+        Module::Meta(_) => true,
+        Module::Assert {
+            that: _,
+            fail_msg: _,
+            success_msg: _,
+        } => false,
+        Module::Command(_) => false,
+        Module::Debug { msg: _ } => false,
+        Module::DebugVar { text: _, expr: _ } => false,
+        Module::Fail { msg: _ } => false,
+        Module::SetFact { facts: _ } => false,
+        Module::Setup => false,
+        Module::Shell { cmd: _ } => false,
+    }
+}
+
+/// The lines of a task at a place: of one of `meta` its failure alone.
+fn lines_at(
+    alloc: Global,
+    starts: bool,
+    play: u32,
+    decided: &Decided,
+    host: &str,
+    task: &Task,
+    place: &str,
+) -> Result<Vec<u8>, AllocError>
+    ensures { IfOk result (λ bytes. bytes.items ≡ lines_at starts play decided.now host.now task.now place.now) }
+{
+    if is_meta(&task.module) {
+        meta_text(alloc, host, place, play, &decided.done)
+    } else {
+        let name = task.name.as_str();
+        task_lines(alloc, starts, play, decided, host, name, place)
     }
 }
 

@@ -15,7 +15,7 @@ use Rattle.pb_state.specs.declared.event.Event.TheVariants.{Open, Start, Send, R
 use Rattle.pb_state.specs.declared.row.Counts.{Counts}
 use Rattle.pb_state.specs.declared.row.Running.{Running}
 use Rattle.pb_plan.specs.Plan.{PlayOf, PlanOf}
-use Rattle.pb_state.specs.Row.{HostRow, first_rows, next_place, joined, left, finished, ignores_at, task_at, taught, items_after, progressed, sent, reported, reported_running}
+use Rattle.pb_state.specs.Row.{HostRow, first_rows, next_place, joined, left, finished, ignores_at, caught_at, meta_at, task_at, taught, items_after, progressed, sent, reported, reported_running}
 use Rattle.pb_state.specs.State.{State}
 use Rattle.pb_state.specs.Results.{items_at}
 use Rattle.pb_state.specs.Machine.{change, open_play, possible, after, first_state, next_play, opened_in, opened_at, started_in, facts_at, plan_seen, start_at, start_with, sent_in, reported_in, done_at, done_if, report_decides, decided_by, turned_in, may_start_in, may_report_in, at_row, stands_at, same_place, has_room}
@@ -25,10 +25,7 @@ use Rattle.pb_recap.specs.declared.kind.CountKind.{CountKind}
 use Rattle.pb_recap.specs.declared.kind.CountKind.TheVariants.{Okay, Changed, Unreachable, Failed, Skipped, Rescued, Ignored}
 use Rattle.pb_recap.specs.Kinds.{count_of}
 use Rattle.pb_recap.specs.Recap.{by_host, ended_by, ended_in, finishes, counts_under, counted, count_from, counts_from, hosts_from, recap}
-use Rattle.pb_recap.proofs.Formed.{one, task_counts}
-
-none_more : (n : ℕ) → n ≡ 0 + n
-none_more n = omega arith
+use Rattle.pb_recap.proofs.Formed.{one, none_more, task_counts}
 
 -- one row's count of a kind
 abbrev row_count : CountKind → List HostRow → ℕ → ℕ
@@ -87,7 +84,7 @@ progressed_row kind play p items row = by_over (is_over items)
   where
     by_over : (over : Bool) → count_of kind (if over then finished p (task_at play p items) (taught play p items row.facts) row else record row { running = Some (record { place = p; items = items; out = None }) }).counts
         ≡ (if over then one (counts_under kind (task_at play p items)) else 0) + count_of kind row.counts
-    by_over true = task_counts (ignores_at play p) items row.counts kind
+    by_over true = task_counts (ignores_at play p) items (caught_at play p) (meta_at play p) row.counts kind
     by_over false = none_more (count_of kind row.counts)
 
 progressed_told : (kind : CountKind) (play : PlayOf) (p : ℕ) (items : List Item) (h k : ℕ) → counted k kind (option_map (by_host h) (done_if play p items)) ≡ added (items_add kind play p items) h k

@@ -2,9 +2,9 @@
 use Rattle.std.proofs.Common.{◌≡◌, ℕ, refl, ap}
 use Rattle.std.specs.Prelude.{Option, Some, None, option_map}
 use Rattle.std.specs.Option.{option_map_or}
-use Rattle.pb_outcome.specs.declared.gather.TaskResult.{TaskResult}
 use Rattle.pb_state.specs.declared.decided.Decided.{Decided}
 use Rattle.pb_state.specs.declared.decided.Done.{Done}
+use Rattle.pb_state.specs.declared.decided.TaskEnd.{TaskEnd}
 use Rattle.pb_state.specs.declared.event.Event.{Event}
 use Rattle.pb_state.specs.declared.event.Event.TheVariants.{Open, Start, Send, Report as Reported, Turn, Close, Stop, Forks}
 use Rattle.pb_state.specs.State.{State}
@@ -19,7 +19,7 @@ by_decided : (h : ℕ) (decided : Option Decided) → option_map_or (ended_by h)
 by_decided h None = refl
 by_decided h (Some d) = by_done h d.done
 
-abbrev pub finished_by : Option ℕ → Option TaskResult → Option FinishedTask
+abbrev pub finished_by : Option ℕ → Option TaskEnd → Option FinishedTask
 finished_by None task = None
 finished_by (Some h) task = option_map (λ t. record { host = h; task = t }) task
 

@@ -1,18 +1,20 @@
 -- How the result of a task's items counts: in the host's counts as in the recap from scratch.
 use Rattle.std.proofs.Common.{◌≡◌, ℕ, ◌+◌, Bool, true, false, ◌&&◌, ◌||◌, not, List, [], ◌∷◌, refl, arith}
-use Rattle.std.specs.Prelude.{if◌then◌else◌}
+use Rattle.std.specs.Prelude.{Option, is_none, if◌then◌else◌}
 use Rattle.std.specs.List.{list_any, list_all}
 use Rattle.pb_outcome.specs.declared.gather.ItemResult.{ItemResult}
 use Rattle.pb_outcome.specs.declared.gather.TaskResult.{TaskResult}
 use Rattle.pb_outcome.specs.declared.item.Item.{Item}
 use Rattle.pb_outcome.specs.Gathered.{some_unreachable, is_failed, is_skipped, is_changed, is_faulty, gathered}
 use Rattle.pb_outcome.specs.Items.{ended, task_of}
+use Rattle.pb_play.specs.declared.modules.Meta.{Meta}
+use Rattle.pb_state.specs.declared.decided.TaskEnd.{TaskEnd}
 use Rattle.pb_state.specs.declared.row.Counts.{Counts}
-use Rattle.pb_state.specs.Row.{more, counted, is_okay}
+use Rattle.pb_state.specs.Ends.{more, counted, counted_result, is_okay}
 use Rattle.pb_recap.specs.declared.kind.CountKind.{CountKind}
 use Rattle.pb_recap.specs.declared.kind.CountKind.TheVariants.{Okay, Changed, Unreachable, Failed, Skipped, Rescued, Ignored}
 use Rattle.pb_recap.specs.Kinds.{count_of}
-use Rattle.pb_recap.specs.Recap.{went_well, is_ignored, counts_under}
+use Rattle.pb_recap.specs.Recap.{went_well, is_ignored, result_counts, counts_under}
 
 -- one or none
 abbrev pub one : Bool → ℕ
@@ -33,21 +35,34 @@ okay_formed false true s c false = refl
 okay_formed false false true c i = refl
 okay_formed false false false c i = refl
 
-one_formed : (u f s c i : Bool) (counts : Counts) (kind : CountKind) → count_of kind (counted (formed u f s c i) counts) ≡ one (counts_under kind (formed u f s c i)) + count_of kind counts
-one_formed u f s c i counts Okay = rw (more_is, okay_formed u f s c i) refl
-one_formed u f s c i counts Changed = rw (more_is, okay_formed u f s c i) refl
-one_formed u f s c i counts Unreachable = more_is u counts.unreachable
-one_formed u f s c i counts Failed = more_is ((not u && f) && not ((not u && f) && i)) counts.failed
-one_formed u f s c i counts Skipped = more_is (not u && (not (not u && f) && s)) counts.skipped
-one_formed u f s c i counts Rescued = omega arith
-one_formed u f s c i counts Ignored = more_is ((not u && f) && ((not u && f) && i)) counts.ignored
+one_formed : (is_caught u f s c i : Bool) (counts : Counts) (kind : CountKind)
+    → count_of kind (counted_result is_caught (formed u f s c i) counts) ≡ one (result_counts kind is_caught (formed u f s c i)) + count_of kind counts
+one_formed is_caught u f s c i counts Okay = rw (more_is, okay_formed u f s c i) refl
+one_formed is_caught u f s c i counts Changed = rw (more_is, okay_formed u f s c i) refl
+one_formed is_caught u f s c i counts Unreachable = more_is u counts.unreachable
+one_formed is_caught u f s c i counts Failed = more_is (((not u && f) && not ((not u && f) && i)) && not is_caught) counts.failed
+one_formed is_caught u f s c i counts Skipped = more_is (not u && (not (not u && f) && s)) counts.skipped
+one_formed is_caught u f s c i counts Rescued = more_is (((not u && f) && not ((not u && f) && i)) && is_caught) counts.rescued
+one_formed is_caught u f s c i counts Ignored = more_is ((not u && f) && ((not u && f) && i)) counts.ignored
 
-gathered_counts : (ignore : Bool) (items : List ItemResult) (counts : Counts) (kind : CountKind)
-    → count_of kind (counted (gathered ignore items) counts) ≡ one (counts_under kind (gathered ignore items)) + count_of kind counts
-gathered_counts ignore items counts kind =
-    one_formed (some_unreachable items) (list_any (λ (item : ItemResult). is_failed item.ending) items) (list_all (λ (item : ItemResult). is_skipped item.ending) items)
+gathered_counts : (ignore : Bool) (items : List ItemResult) (is_caught : Bool) (counts : Counts) (kind : CountKind)
+    → count_of kind (counted_result is_caught (gathered ignore items) counts) ≡ one (result_counts kind is_caught (gathered ignore items)) + count_of kind counts
+gathered_counts ignore items is_caught counts kind =
+    one_formed is_caught (some_unreachable items) (list_any (λ (item : ItemResult). is_failed item.ending) items) (list_all (λ (item : ItemResult). is_skipped item.ending) items)
     (list_any (λ (item : ItemResult). is_changed item.ending) items) (ignore && not (list_any (λ (item : ItemResult). is_faulty item.ending) items)) counts kind
 
-pub task_counts : (ignore : Bool) (items : List Item) (counts : Counts) (kind : CountKind)
-    → count_of kind (counted (task_of ignore items) counts) ≡ one (counts_under kind (task_of ignore items)) + count_of kind counts
-task_counts ignore items counts kind = gathered_counts ignore (ended items) counts kind
+pub none_more : (n : ℕ) → n ≡ 0 + n
+none_more n = omega arith
+
+-- a task that ended with these items, at a place that says so of it
+abbrev end_of : Bool → List Item → Bool → Option Meta → TaskEnd
+end_of ignore items is_caught meta = record { result = task_of ignore items; is_caught = is_caught; meta = meta }
+
+pub task_counts : (ignore : Bool) (items : List Item) (is_caught : Bool) (meta : Option Meta) (counts : Counts) (kind : CountKind)
+    → count_of kind (counted (end_of ignore items is_caught meta) counts) ≡ one (counts_under kind (end_of ignore items is_caught meta)) + count_of kind counts
+task_counts ignore items is_caught meta counts kind = by_counted (is_none meta || (task_of ignore items).failed)
+  where
+    by_counted : (so : Bool) → count_of kind (if so then counted_result is_caught (task_of ignore items) counts else counts)
+        ≡ one (so && result_counts kind is_caught (task_of ignore items)) + count_of kind counts
+    by_counted true = gathered_counts ignore (ended items) is_caught counts kind
+    by_counted false = none_more (count_of kind counts)

@@ -3,11 +3,12 @@ use Rattle.std.proofs.Common.{◌≡◌, ℕ, zero, suc, ◌+◌, Bool, true, fa
 use Rattle.std.specs.Prelude.{Option, Some, None, slice_get, slice_set}
 use Rattle.std.specs.Option.{option_map_or}
 use Rattle.std.proofs.lemmas.Bool.{eq-eqb, ne_eqb}
-use Rattle.pb_outcome.specs.declared.gather.TaskResult.{TaskResult}
+use Rattle.pb_state.specs.declared.decided.TaskEnd.{TaskEnd}
 use Rattle.pb_state.specs.declared.event.Event.{Event}
 use Rattle.pb_state.specs.declared.row.Counts.{Counts}
 use Rattle.pb_plan.specs.Plan.{PlanOf}
-use Rattle.pb_state.specs.Row.{none_counted, more}
+use Rattle.pb_state.specs.Ends.{more}
+use Rattle.pb_state.specs.Row.{none_counted}
 use Rattle.pb_state.specs.State.{State}
 use Rattle.pb_state.specs.Machine.{after, first_state}
 use Rattle.pb_state.specs.Run.{state_from, IsRun, IsStep}
@@ -51,7 +52,7 @@ counts_stay plan s es e h none =
 none_counts : (h : ℕ) (kind : CountKind) (found : Option FinishedTask) → found ≡ None → counted h kind found ≡ 0
 none_counts h kind found e = rw e refl
 
-other_counts : (n h : ℕ) (task : TaskResult) (kind : CountKind) (found : Option FinishedTask) → found ≡ Some (record { host = n; task = task }) → (n ≡ h → ⊥) → counted h kind found ≡ 0
+other_counts : (n h : ℕ) (task : TaskEnd) (kind : CountKind) (found : Option FinishedTask) → found ≡ Some (record { host = n; task = task }) → (n ≡ h → ⊥) → counted h kind found ≡ 0
 other_counts n h task kind found e other = rw (e, ne_eqb n h other) refl
 
 hosts_stay : (plan : PlanOf) (s : State) (es : List Event) (e : Event) (h : ℕ) (hosts : List (List ℕ)) → ((k : ℕ) (kind : CountKind) → counted (h + k) kind (finishes plan (state_from plan s es) e) ≡ 0)
@@ -69,16 +70,16 @@ more_is : (b : Bool) (n : ℕ) → more b n ≡ one b + n
 more_is true n = omega arith
 more_is false n = omega arith
 
-task_tally : (task : TaskResult) (f : CountKind → ℕ) → with_task task (tally f) ≡ tally (λ kind. one (counts_under kind task) + f kind)
+task_tally : (task : TaskEnd) (f : CountKind → ℕ) → with_task task (tally f) ≡ tally (λ kind. one (counts_under kind task) + f kind)
 task_tally task f =
     seven (with_task task (tally f)) _ _ _ _ _ _ _ (more_is (counts_under Okay task) (f Okay)) (more_is (counts_under Changed task) (f Changed))
     (more_is (counts_under Unreachable task) (f Unreachable)) (more_is (counts_under Failed task) (f Failed)) (more_is (counts_under Skipped task) (f Skipped))
     (more_is (counts_under Rescued task) (f Rescued)) (more_is (counts_under Ignored task) (f Ignored))
 
-own_counts : (n h : ℕ) (task : TaskResult) (kind : CountKind) (found : Option FinishedTask) → found ≡ Some (record { host = n; task = task }) → n ≡ h → counted h kind found ≡ one (counts_under kind task)
+own_counts : (n h : ℕ) (task : TaskEnd) (kind : CountKind) (found : Option FinishedTask) → found ≡ Some (record { host = n; task = task }) → n ≡ h → counted h kind found ≡ one (counts_under kind task)
 own_counts n h task kind found e own = rw (e, eq-eqb n h own) refl
 
-counts_rise : (plan : PlanOf) (s : State) (es : List Event) (e : Event) (n h : ℕ) (task : TaskResult) → finishes plan (state_from plan s es) e ≡ Some (record { host = n; task = task }) → n ≡ h
+counts_rise : (plan : PlanOf) (s : State) (es : List Event) (e : Event) (n h : ℕ) (task : TaskEnd) → finishes plan (state_from plan s es) e ≡ Some (record { host = n; task = task }) → n ≡ h
     → with_task task (counts_from plan s es h) ≡ counts_from plan s (es ++ e ∷ []) h
 counts_rise plan s es e n h task found own =
     task_tally task (λ kind. count_from plan s es h kind)
@@ -93,7 +94,7 @@ changed_later : (c : Counts) (all : List Counts) (i : ℕ) (f : Counts → Count
 changed_later c all i f None e = rw e refl
 changed_later c all i f (Some d) e = rw e refl
 
-hosts_rise : (plan : PlanOf) (s : State) (es : List Event) (e : Event) (n h i : ℕ) (task : TaskResult) (hosts : List (List ℕ)) → finishes plan (state_from plan s es) e ≡ Some (record { host = n; task = task }) → n ≡ h + i
+hosts_rise : (plan : PlanOf) (s : State) (es : List Event) (e : Event) (n h i : ℕ) (task : TaskEnd) (hosts : List (List ℕ)) → finishes plan (state_from plan s es) e ≡ Some (record { host = n; task = task }) → n ≡ h + i
     → changed_at (hosts_from plan s es h hosts) i (with_task task) ≡ hosts_from plan s (es ++ e ∷ []) h hosts
 hosts_rise plan s es e n h i task [] found at = refl
 hosts_rise plan s es e n h zero task (host ∷ hosts) found at =

@@ -1,13 +1,13 @@
 -- The counts after one event more.
 use Rattle.std.specs.Prelude.{ℕ, ◌<◌, ◌-◌, ◌^◌, List, Option, Some, None, option_map, slice_get, slice_set}
 use Rattle.std.specs.Option.{option_map_or}
-use Rattle.pb_outcome.specs.declared.gather.TaskResult.{TaskResult}
 use Rattle.pb_state.specs.declared.decided.Decided.{Decided}
 use Rattle.pb_state.specs.declared.decided.Done.{Done}
+use Rattle.pb_state.specs.declared.decided.TaskEnd.{TaskEnd}
 use Rattle.pb_state.specs.declared.event.Event.{Event}
 use Rattle.pb_state.specs.declared.event.Event.TheVariants.{Open, Start, Send, Report as Reported, Turn, Close, Stop, Forks}
 use Rattle.pb_state.specs.declared.row.Counts.{Counts}
-use Rattle.pb_state.specs.Row.{more}
+use Rattle.pb_state.specs.Ends.{more}
 use Rattle.pb_state.specs.State.{State}
 use Rattle.pb_recap.specs.declared.kind.CountKind.TheVariants.{Okay, Changed, Unreachable, Failed, Skipped, Rescued, Ignored}
 use Rattle.pb_recap.specs.Recap.{FinishedTask, counts_under}
@@ -19,7 +19,7 @@ HasRoom c =
     × (c.ignored < 2 ^ 64 - 1)
 
 -- a host's counts with a finished task
-abbrev pub with_task : TaskResult → Counts → Counts
+abbrev pub with_task : TaskEnd → Counts → Counts
 with_task task c =
     record {
       ok = more (counts_under Okay task) c.ok;
@@ -50,8 +50,8 @@ host_of Stop = None
 host_of (Forks n) = None
 
 -- how the step that led to a state ended a task
-abbrev pub task_done : Decided → Option TaskResult
+abbrev pub task_done : Decided → Option TaskEnd
 task_done decided = option_map (λ (d : Done). d.task) decided.done
 
-abbrev pub task_in : State → Option TaskResult
+abbrev pub task_in : State → Option TaskEnd
 task_in s = option_map_or task_done s.decided None

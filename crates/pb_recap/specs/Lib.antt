@@ -4,4 +4,5 @@ pub mod Hosts
 pub mod Text
 pub mod Stats
 pub mod Rows
+pub mod BlockRows
 pub mod Counting

@@ -1,10 +1,11 @@
 -- The recap, counted from scratch: which tasks the events of a run finish, and how each of them counts
 -- (Ansible's documentation, "Return Values").
-use Rattle.std.specs.Prelude.{ℕ, ◌+◌, ◌==◌, Bool, false, ◌&&◌, ◌||◌, not, List, [], ◌∷◌, Option, Some, None, option_map, if◌then◌else◌}
+use Rattle.std.specs.Prelude.{ℕ, ◌+◌, ◌==◌, Bool, ◌&&◌, ◌||◌, not, List, [], ◌∷◌, Option, Some, None, is_none, option_map, if◌then◌else◌}
 use Rattle.std.specs.Option.{option_map_or}
 use Rattle.pb_outcome.specs.declared.gather.TaskResult.{TaskResult}
 use Rattle.pb_state.specs.declared.decided.Decided.{Decided}
 use Rattle.pb_state.specs.declared.decided.Done.{Done}
+use Rattle.pb_state.specs.declared.decided.TaskEnd.{TaskEnd}
 use Rattle.pb_state.specs.declared.event.Event.{Event}
 use Rattle.pb_state.specs.declared.event.Event.TheVariants.{Open, Start, Send, Report as Reported, Turn, Close, Stop, Forks}
 use Rattle.pb_state.specs.declared.row.Counts.{Counts}
@@ -17,7 +18,7 @@ use Rattle.pb_recap.specs.declared.kind.CountKind.TheVariants.{Okay, Changed, Un
 -- a finished task: the host's number, and how the task ended there
 pub record FinishedTask : Type 0 where
   pub host : ℕ
-  pub task : TaskResult
+  pub task : TaskEnd
 
 abbrev pub by_host : ℕ → Done → FinishedTask
 by_host h done = record { host = h; task = done.task }
@@ -50,15 +51,27 @@ went_well task = not (task.failed || task.skipped || task.unreachable)
 abbrev pub is_ignored : TaskResult → Bool
 is_ignored task = task.failed && task.ignored
 
--- how a finished task counts; no play has blocks yet, so that none rescues a failure
-abbrev pub counts_under : CountKind → TaskResult → Bool
-counts_under Okay task = went_well task || is_ignored task
-counts_under Changed task = (went_well task || is_ignored task) && task.changed
-counts_under Unreachable task = task.unreachable
-counts_under Failed task = task.failed && not task.ignored
-counts_under Skipped task = task.skipped
-counts_under Rescued task = false
-counts_under Ignored task = is_ignored task
+abbrev pub is_failure : TaskResult → Bool
+is_failure task = task.failed && not task.ignored
+
+-- how a result counts at a place that is caught or not: a failure that isn't ignored is rescued where a block round its place has it in its body and
+-- has a rescue, whatever becomes of that rescue
+abbrev pub result_counts : CountKind → Bool → TaskResult → Bool
+result_counts Okay is_caught task = went_well task || is_ignored task
+result_counts Changed is_caught task = (went_well task || is_ignored task) && task.changed
+result_counts Unreachable is_caught task = task.unreachable
+result_counts Failed is_caught task = is_failure task && not is_caught
+result_counts Skipped is_caught task = task.skipped
+result_counts Rescued is_caught task = is_failure task && is_caught
+result_counts Ignored is_caught task = is_ignored task
+
+-- a task of `meta` counts only where its conditions can't be read, so that it failed
+abbrev pub counts_at_all : TaskEnd → Bool
+counts_at_all task = is_none task.meta || task.result.failed
+
+-- how a finished task counts
+abbrev pub counts_under : CountKind → TaskEnd → Bool
+counts_under kind task = counts_at_all task && result_counts kind task.is_caught task.result
 
 abbrev pub counted : ℕ → CountKind → Option FinishedTask → ℕ
 counted h kind None = 0

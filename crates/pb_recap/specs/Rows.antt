@@ -1,9 +1,9 @@
 -- Worked recaps.
-use Rattle.std.specs.Prelude.{◌≡◌, ⊤, ℕ, pos, true, false, List, [], ◌∷◌, ◌++◌, codes, refl}
+use Rattle.std.specs.Prelude.{◌≡◌, ⊤, ℕ, pos, true, false, List, [], ◌∷◌, ◌++◌, codes, None, refl}
 use Rattle.std.specs.Fmt.{digits}
 use Rattle.serde_json.proofs.OnLiterals.{serde_json_on_literals}
 use Rattle.pb_value.specs.Datum.{text}
-use Rattle.pb_outcome.specs.declared.gather.TaskResult.{TaskResult}
+use Rattle.pb_state.specs.declared.decided.TaskEnd.{TaskEnd}
 use Rattle.pb_outcome.specs.declared.outcome.Form.{Form}
 use Rattle.pb_outcome.specs.declared.outcome.Form.TheVariants.{Ran, Unreachable as NoAnswer}
 use Rattle.pb_play.specs.declared.modules.Module.TheVariants.{Debug, Shell}
@@ -11,8 +11,7 @@ use Rattle.pb_state.specs.declared.event.Event.{Event}
 use Rattle.pb_state.specs.declared.event.Event.TheVariants.{Open, Start, Send, Report as Reported, Turn, Close}
 use Rattle.pb_state.specs.declared.row.Counts.{Counts}
 use Rattle.pb_places.specs.Place.{bare_place}
-use Rattle.pb_plan.specs.Bundle.{tree_for}
-use Rattle.pb_plan.specs.Plan.{PlanOf, bare_play, bare_plan}
+use Rattle.pb_plan.specs.Plan.{PlanOf, bare_play, bare_plan, bare_tree}
 use Rattle.pb_state.specs.Machine.{first_state}
 use Rattle.pb_state.specs.Row.{none_counted}
 use Rattle.pb_state.specs.Results.{on_tasks}
@@ -32,7 +31,7 @@ on_literals = tt
 abbrev two_hosts : PlanOf
 two_hosts =
     bare_plan (codes "b" ∷ codes "a" ∷ [])
-    (bare_play (codes "all") (tree_for 0 1 0) (bare_place (codes "hi") (Debug (text (codes "hello"))) ∷ []) (true ∷ true ∷ []) ∷ [])
+    (bare_play (codes "all") (bare_tree 0 1 0) (bare_place (codes "hi") (Debug (text (codes "hello"))) ∷ []) (true ∷ true ∷ []) ∷ [])
 
 abbrev one_okay : Counts
 one_okay = record none_counted { ok = 1 }
@@ -91,7 +90,7 @@ status_of_good = refl
 abbrev commanded : PlanOf
 commanded =
     bare_plan (codes "a" ∷ codes "b" ∷ [])
-    (bare_play (codes "all") (tree_for 0 2 0)
+    (bare_play (codes "all") (bare_tree 0 2 0)
     (bare_place (codes "one") (Shell (codes "true")) ∷ bare_place (codes "two") (Debug (text (codes "hello"))) ∷ [])
     (true ∷ true ∷ []) ∷ [])
 
@@ -123,8 +122,8 @@ unfolding on_tasks
 still_out = refl
 
 -- a failure that is ignored counts as a task that went well, and as ignored
-abbrev ignored_change : TaskResult
-ignored_change = record { unreachable = false; failed = true; skipped = false; changed = true; ignored = true }
+abbrev ignored_change : TaskEnd
+ignored_change = record { result = record { unreachable = false; failed = true; skipped = false; changed = true; ignored = true }; is_caught = false; meta = None }
 
 ignored_is_okay : counts_under Okay ignored_change ≡ true
 ignored_is_okay = refl
@@ -139,8 +138,8 @@ ignored_is_no_failure : counts_under Failed ignored_change ≡ false
 ignored_is_no_failure = refl
 
 -- what changed before the host was lost isn't counted
-abbrev lost_after_change : TaskResult
-lost_after_change = record { unreachable = true; failed = false; skipped = false; changed = true; ignored = false }
+abbrev lost_after_change : TaskEnd
+lost_after_change = record { result = record { unreachable = true; failed = false; skipped = false; changed = true; ignored = false }; is_caught = false; meta = None }
 
 lost_is_unreachable : counts_under Unreachable lost_after_change ≡ true
 lost_is_unreachable = refl

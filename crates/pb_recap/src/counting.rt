@@ -1,14 +1,13 @@
 //! The counts after one event more.
 
 ghost use Rattle.std.specs.Prelude.{◌≡◌, ◌<◌, ◌-◌, ◌^◌, ℕ, IfSome, Some, option_map, slice_get};
-ghost use Rattle.pb_state.specs.Row.{more};
+ghost use Rattle.pb_state.specs.Ends.{more};
 ghost use Rattle.pb_recap.specs.Counting.{HasRoom, with_task, with_finished, host_of, task_in};
 ghost use Rattle.pb_recap.specs.Recap.{FinishedTask, finished_in};
 
 use crate::kind::CountKind;
 use pb_ids::HostNo;
-use pb_outcome::gather::TaskResult;
-use pb_state::{Counts, EngineState, Event};
+use pb_state::{Counts, EngineState, Event, TaskEnd};
 
 /// One more, where it counts.
 fn more(count: u64, counts: bool) -> u64
@@ -19,7 +18,7 @@ fn more(count: u64, counts: bool) -> u64
 }
 
 /// The counts of a host with one finished task more.
-fn with_task(counts: Counts, task: TaskResult) -> Counts
+fn with_task(counts: Counts, task: TaskEnd) -> Counts
     requires { HasRoom counts }
     ensures { result ≡ with_task task counts }
 {
@@ -35,7 +34,7 @@ fn with_task(counts: Counts, task: TaskResult) -> Counts
 }
 
 /// A host's counts with one finished task more. A number that is no host's changes nothing.
-fn add_task(counts: &mut [Counts], host: HostNo, task: TaskResult)
+fn add_task(counts: &mut [Counts], host: HostNo, task: TaskEnd)
     requires { (h : ℕ) → IfSome (slice_get counts.old h) HasRoom }
     ensures { counts.new ≡ with_finished (Some (record { host = host.0; task = task })) counts.old }
 {
@@ -57,7 +56,7 @@ fn host_of(event: &Event) -> Option<HostNo>
 }
 
 /// How the step that led to a state ended a task, if it did.
-fn task_of(state: &EngineState) -> Option<TaskResult>
+fn task_of(state: &EngineState) -> Option<TaskEnd>
     ensures { result ≡ task_in state.now }
 {
     match state.decided() {

@@ -3,11 +3,11 @@
 ghost use Rattle.std.specs.Prelude.{◌≡◌, slice_get};
 ghost use Rattle.std.specs.Option.{option_copied};
 ghost use Rattle.pb_recap.specs.Kinds.{count_of, has_count};
-ghost use Rattle.pb_recap.specs.Recap.{counts_under};
+ghost use Rattle.pb_recap.specs.Recap.{went_well, is_ignored, is_failure, result_counts, counts_at_all, counts_under};
 
 use pb_ids::HostNo;
 use pb_outcome::gather::TaskResult;
-use pb_state::Counts;
+use pb_state::{Counts, TaskEnd};
 
 /// What a finished task counts as (Ansible's documentation, "Return Values" and "Error handling in playbooks").
 #[derive(Clone, Copy, Debug, PartialEq, Eq)]
@@ -45,22 +45,38 @@ impl CountKind {
     }
 
     /// Whether a finished task counts under this kind. A task counts as okay where it went well or its failure is
-    /// ignored, and as changed too where it changed something. No play has blocks yet, so that nothing is rescued.
-    pub fn counts(self, task: TaskResult) -> bool
+    /// ignored, and as changed too where it changed something. Another failure is rescued where its place is caught. A
+    /// task of `meta` counts only where it failed.
+    pub fn counts(self, task: TaskEnd) -> bool
         ensures { result ≡ counts_under self task }
     {
+        counts_at_all(task) && self.counts_result(task.is_caught, task.result)
+    }
+
+    /// Whether a result counts under this kind, at a place that is caught or not.
+    fn counts_result(self, is_caught: bool, task: TaskResult) -> bool
+        ensures { result ≡ result_counts self is_caught task }
+    {
         let is_ignored = task.failed && task.ignored;
+        let is_failure = task.failed && !task.ignored;
         let is_okay = is_ignored || !(task.failed || task.skipped || task.unreachable);
         match self {
             CountKind::Okay => is_okay,
             CountKind::Changed => is_okay && task.changed,
             CountKind::Unreachable => task.unreachable,
-            CountKind::Failed => task.failed && !task.ignored,
+            CountKind::Failed => is_failure && !is_caught,
             CountKind::Skipped => task.skipped,
-            CountKind::Rescued => false,
+            CountKind::Rescued => is_failure && is_caught,
             CountKind::Ignored => is_ignored,
         }
     }
+}
+
+/// Whether a finished task counts at all.
+fn counts_at_all(task: TaskEnd) -> bool
+    ensures { result ≡ counts_at_all task }
+{
+    task.meta.is_none() || task.result.failed
 }
 
 /// Whether some count isn't 0.
