@@ -1,6 +1,6 @@
 //! The largest bundles that are taken, and those that are one larger.
 
-use crate::made::{inventory, playbook};
+use crate::made::{blocks, inventory, playbook};
 use pb_kept::{Kept, Seen, play_texts};
 use std::fs;
 use std::test::Fail;
@@ -54,6 +54,19 @@ fn many_places(rt: HostRuntime) -> Result<(), Fail> {
     assert!(rt; is_taken(&seen));
     let seen = play_tasks(&rt, 1, 16_385)?;
     assert!(rt; is_refused(&seen, "pb-play: roles: 5 TooLarge\n"));
+    Ok(())
+}
+
+/// 50 blocks of 100 places: each fails once and is rescued.
+#[test]
+fn many_blocks(rt: HostRuntime) -> Result<(), Fail> {
+    let made = blocks(rt.alloc(), 50, 98)?;
+    fs::write(&rt, "blocks_inventory", "{\"all\":{\"hosts\":[\"a\"]}}")?;
+    fs::write(&rt, "blocks_playbook", made.as_str())?;
+    let seen = play(&rt, "blocks_inventory", "blocks_playbook")?;
+    assert!(rt; is_taken(&seen));
+    let recap = "a : ok=4951 changed=0 unreachable=0 failed=0 skipped=0 rescued=50 ignored=0\n";
+    assert!(rt; seen.out.ends_with(recap.as_bytes()));
     Ok(())
 }
 

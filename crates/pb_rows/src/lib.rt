@@ -8,6 +8,8 @@ mod bundles;
 #[cfg(test)]
 mod cut;
 #[cfg(test)]
+mod loops;
+#[cfg(test)]
 mod made;
 #[cfg(test)]
 mod outcomes;

@@ -24,3 +24,20 @@ pub fn playbook(alloc: Global, tasks: u32) -> Result<String, AllocError> {
     text.push_str("]}]")?;
     Ok(text)
 }
+
+/// A playbook of one play of this many blocks: in each body so many tasks that go well and one that fails, and a rescue of one task.
+pub fn blocks(alloc: Global, blocks: u32, tasks: u32) -> Result<String, AllocError> {
+    let mut text = String::from_str(
+        alloc,
+        "[{\"hosts\":\"all\",\"gather_facts\":false,\"tasks\":[{\"debug\":{}}",
+    )?;
+    for _ in 0..blocks {
+        text.push_str(",{\"block\":[")?;
+        for _ in 0..tasks {
+            text.push_str("{\"debug\":{}},")?;
+        }
+        text.push_str("{\"fail\":{}}],\"rescue\":[{\"debug\":{}}]}")?;
+    }
+    text.push_str("]}]")?;
+    Ok(text)
+}

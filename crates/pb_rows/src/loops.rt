@@ -1,0 +1,80 @@
+//! The jobs of a loop: which items are sent, and under which tickets.
+
+use crate::silent::Silent;
+use crate::trails::plan_of;
+use pb_driver::run_plain;
+use pb_engine::Lowest;
+use pb_runner::table::TableRunner;
+use pb_state::Event;
+use std::alloc::{AllocError, Global};
+use std::test::Fail;
+
+/// A loop on host a alone, whose second item is skipped.
+const LOOP: &str =
+    "[{\"hosts\":\"a\",\"gather_facts\":false,\"tasks\":[{\"command\":\"run {{ item }}\",\"loop\":[\"x\",\"y\",\"z\"],\"when\":\"item != 'y'\",\"ignore_errors\":true,\"register\":\"r\"}]}]";
+
+/// The third item fails.
+const OUTCOMES: &[u8] =
+    b"{\"rows\":[{\"item\":2,\"outcome\":{\"err\":\"\",\"out\":\"\",\"rc\":1}}]}";
+
+/// Writes an event's name, with the item and the ticket of its job.
+fn put(text: &mut String, event: &Event) -> Result<(), AllocError> {
+    match event {
+        Event::Open => text.push_str("open "),
+        Event::Start(_) => text.push_str("start "),
+        Event::Send {
+            host: _,
+            item,
+            ticket,
+        } => {
+            let ticket = ticket.0;
+            write!(text, "send {item} as {ticket} ")
+        }
+        Event::Report(report) => {
+            let item = report.item;
+            let ticket = report.ticket.0;
+            write!(text, "report {item} of {ticket} ")
+        }
+        Event::Turn => text.push_str("turn "),
+        Event::Close => text.push_str("close "),
+        Event::Stop => text.push_str("stop "),
+        Event::Forks(_) => text.push_str("forks "),
+    }
+}
+
+fn runner(alloc: Global) -> Result<TableRunner, Fail> {
+    match TableRunner::read(alloc, OUTCOMES) {
+        Ok(runner) => Ok(runner),
+        Err(_) => Err(Fail::new("a table")),
+    }
+}
+
+/// The events of a run of the loop to its good end.
+fn trail_of(alloc: Global, forks: u32) -> Result<String, Fail> {
+    let mut runner = runner(alloc)?;
+    let plan = plan_of(alloc, LOOP, forks)?;
+    let ended = match run_plain(alloc, plan, &mut runner, &mut Lowest, &mut Silent) {
+        Ok(ended) => ended,
+        Err(_) => return Err(Fail::new("an end")),
+    };
+    let mut text = String::new(alloc);
+    for event in ended.trail.as_slice() {
+        put(&mut text, event)?;
+    }
+    if ended.status != 0 {
+        return Err(Fail::new("a good end"));
+    }
+    Ok(text)
+}
+
+#[test]
+fn skipped_items_are_not_sent(rt: HostRuntime) -> Result<(), Fail> {
+    for forks in [1, 5] {
+        let trail = trail_of(rt.alloc(), forks)?;
+        assert_eq!(rt;
+            trail.as_str(),
+            "open start send 0 as 0 report 0 of 0 send 2 as 1 report 2 of 1 turn close "
+        );
+    }
+    Ok(())
+}
