@@ -19,3 +19,4 @@ pub mod Went
 pub mod Once
 pub mod Rising
 pub mod Walks
+pub mod Taught

@@ -104,6 +104,18 @@ fact_stays : (begun (two (record sets { register = Some (codes "x") }) shows)).f
 unfolding on_facts
 fact_stays = refl
 
+-- a task that failed sets nothing, also where that is ignored: its result alone is registered
+abbrev fails_at : Task → Task
+fails_at task = record task { failed_when = Some (tree.Truth true ∷ []) }
+
+failed_sets_nothing : (begun (two (fails_at sets) shows)).facts ≡ no_facts
+unfolding on_facts
+failed_sets_nothing = refl
+
+ignored_sets_nothing : (begun (two (record (fails_at sets) { ignore_errors = Some true }) shows)).facts ≡ no_facts
+unfolding on_facts
+ignored_sets_nothing = refl
+
 -- a command that changed nothing, as its task says
 abbrev unchanged : Task
 unchanged = record (bare_task (codes "list") (Shell (codes "ls"))) { changed_when = Some (tree.Truth false ∷ []) }

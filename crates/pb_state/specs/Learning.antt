@@ -1,6 +1,7 @@
--- What a task that ended leaves with its host: its result under the name that it registers, and then the facts of its items. A task that found
--- its host out of reach leaves nothing (Ansible's documentation, "Using variables", "Registering variables").
-use Rattle.std.specs.Prelude.{ℕ, List, slice_get, if◌then◌else◌}
+-- What a task that ended leaves with its host: its result under the name that it registers, and then, where it went well, the facts of its
+-- items. A task that failed, be that ignored or not, or that was left out gives no facts, and one that found its host out of reach leaves nothing
+-- (Ansible's documentation, "Using variables", "Registering variables", and "Discovering variables: facts and magic variables").
+use Rattle.std.specs.Prelude.{ℕ, Bool, true, false, List, slice_get, if◌then◌else◌}
 use Rattle.std.specs.Option.{option_map_or}
 use Rattle.pb_value.specs.Datum.{Datum}
 use Rattle.pb_facts.specs.declared.facts.Gives.{Gives}
@@ -13,6 +14,7 @@ use Rattle.pb_play.specs.declared.modules.Module.{Module}
 use Rattle.pb_play.specs.declared.modules.Module.TheVariants.{SetFact, Setup}
 use Rattle.pb_play.specs.declared.task.Task.{Task}
 use Rattle.pb_plan.specs.Plan.{PlayOf}
+use Rattle.pb_state.specs.Ends.{has_run}
 
 -- what a module gives beside its result
 abbrev pub gives_of : Module → Gives
@@ -20,12 +22,18 @@ gives_of (SetFact facts) = Sets
 gives_of Setup = Gathers
 gives_of other = Nothing
 
-abbrev pub learns : Datum → List Item → FactsOf → Task → FactsOf
-learns result items facts task = learnt (gives_of task.«module») task.register result items facts
+-- what a task gives beside its result: what its module gives, where it went well
+abbrev pub gives_if : Bool → Module → Gives
+gives_if true called = gives_of called
+gives_if false called = Nothing
 
-abbrev pub learns_at : Datum → List Item → FactsOf → PlaceOf → FactsOf
-learns_at result items facts place = learns result items facts place.task
+abbrev pub learns : Datum → Bool → List Item → FactsOf → Task → FactsOf
+learns result went_well items facts task = learnt (gives_if went_well task.«module») task.register result items facts
+
+abbrev pub learns_at : Datum → Bool → List Item → FactsOf → PlaceOf → FactsOf
+learns_at result went_well items facts place = learns result went_well items facts place.task
 
 -- what a host knows once the task at a place ended there with this result, which is shown so
 unfoldable pub taught_by : PlayOf → ℕ → TaskResult → Datum → List Item → FactsOf → FactsOf
-taught_by play p task result items facts = if task.unreachable then facts else option_map_or (learns_at result items facts) (slice_get play.places p) facts
+taught_by play p task result items facts =
+    if task.unreachable then facts else option_map_or (learns_at result (has_run task) items facts) (slice_get play.places p) facts

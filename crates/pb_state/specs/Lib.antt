@@ -1,4 +1,5 @@
 pub mod Learning
+pub mod Teaching
 pub mod Results
 pub mod Seen
 pub mod Unread

@@ -18,7 +18,7 @@ fn fails(task: TaskResult) -> bool
 }
 
 /// Whether a task neither failed nor was left out.
-fn has_run(task: TaskResult) -> bool
+pub(crate) fn has_run(task: TaskResult) -> bool
     ensures { result ≡ has_run task }
 {
     !task.failed && !task.skipped

@@ -3,9 +3,10 @@
 ghost use Rattle.std.specs.Prelude.{◌≡◌, IfOk, unwrap_or};
 ghost use Rattle.std.specs.Option.{option_copied};
 ghost use Rattle.pb_facts.specs.Facts.{learnt, with_each, given_in};
-ghost use Rattle.pb_state.specs.Learning.{gives_of, learns, taught_by};
+ghost use Rattle.pb_state.specs.Learning.{gives_of, gives_if, learns, taught_by};
 
 use crate::decided::Done;
+use crate::ends::has_run;
 use crate::items::TaskItems;
 use pb_facts::facts::{Facts, Gives};
 use pb_outcome::item::Item;
@@ -33,6 +34,17 @@ fn gives_of(called: &Module) -> Gives
         Module::Fail { msg: _ } => Gives::Nothing,
         Module::Meta(_) => Gives::Nothing,
         Module::Shell { cmd: _ } => Gives::Nothing,
+    }
+}
+
+/// What a task gives beside its result: what its module gives, where it went well.
+fn gives_if(went_well: bool, called: &Module) -> Gives
+    ensures { result ≡ gives_if went_well called.now }
+{
+    if went_well {
+        gives_of(called)
+    } else {
+        Gives::Nothing
     }
 }
 
@@ -71,17 +83,18 @@ fn given(
     }
 }
 
-/// What a host knows once a task ended with these items and this result, where that is more than before.
+/// What a host knows once a task ended with these items and this result, well or not, where that is more than before.
 fn learns(
     alloc: Global,
     shown: &Val,
+    went_well: bool,
     items: &[Item],
     facts: &Facts,
     task: &Task,
 ) -> Result<Option<Facts>, AllocError>
-    ensures { IfOk result (λ known. unwrap_or known facts.now ≡ learns shown.now items.now facts.now task.now) }
+    ensures { IfOk result (λ known. unwrap_or known facts.now ≡ learns shown.now went_well items.now facts.now task.now) }
 {
-    let gives = gives_of(&task.module);
+    let gives = gives_if(went_well, &task.module);
     match &task.register {
         Some(name) => {
             let shown = shown.try_clone(alloc)?;
@@ -104,11 +117,22 @@ pub(crate) fn taught(
 ) -> Result<Option<Facts>, AllocError>
     ensures { IfOk result (λ known. unwrap_or known facts.now ≡ taught_by play.now place done.now.task.result done.now.result items.now facts.now) }
 {
-    if done.task.result.unreachable {
+    let ended = done.task.result;
+    if ended.unreachable {
         return Ok(None);
     }
     match play.place(place) {
-        Some(place) => learns(alloc, &done.result, items.as_slice(), facts, place.task()),
+        Some(place) => {
+            let went_well = has_run(ended);
+            learns(
+                alloc,
+                &done.result,
+                went_well,
+                items.as_slice(),
+                facts,
+                place.task(),
+            )
+        }
         None => Ok(None),
     }
 }
