@@ -8,7 +8,7 @@ use Rattle.pb_value.specs.Reading.{and_then, below}
 use Rattle.pb_reading.specs.Reading.{Reading, each}
 use Rattle.pb_play.specs.Plays.{play}
 use Rattle.pb_play.specs.Playbooks.{count}
-use Rattle.pb_play.specs.declared.fault.LoadFault.{LoadFault}
+use Rattle.pb_written.specs.declared.fault.LoadFault.{LoadFault}
 use Rattle.pb_play.specs.declared.play.Play.{Play}
 
 pub count_items : (vs : List Value) → count (items_view vs) ≡ length vs

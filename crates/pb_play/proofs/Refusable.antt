@@ -1,5 +1,5 @@
 -- Patterns, plays and lists of plays, whose regular expressions may be refused.
-use Rattle.std.proofs.Common.{◌≡◌, ◌≢◌, ◌<◌, ℕ, ◌+◌, Bool, true, false, List, [], ◌∷◌, ◌++◌, Result, Ok, Err, inl, inr, refl, sym, ◌∙◌, ap, subst, length, drop, get_or}
+use Rattle.std.proofs.Common.{◌≡◌, ◌≢◌, ◌<◌, ℕ, ◌+◌, true, false, List, [], ◌∷◌, ◌++◌, Result, Ok, Err, inl, inr, refl, sym, ◌∙◌, ap, subst, length, drop, get_or}
 use Rattle.std.proofs.lemmas.List.{append_assoc, append-nil, drop_more}
 use Rattle.std.specs.Prelude.{decimal, Option, Some, None, codes}
 use Rattle.std.specs.List.{list_any}
@@ -19,16 +19,18 @@ use Rattle.pb_reading.specs.Reading.{Reading, Fault, WrongShape, Own, Stops, Giv
 use Rattle.pb_reading.specs.declared.stop.Stop.{Stop}
 use Rattle.pb_reading.specs.declared.stop.Stop.TheVariants as stop
 use Rattle.pb_play.specs.Refusals.{GivesOf}
-use Rattle.pb_play.specs.Hosts.{texts, has_braces, as_read, pattern, expressions_in, joined, hosts, expressions_of_hosts}
+use Rattle.pb_play.specs.Hosts.{has_braces, as_read, pattern, expressions_in, joined, hosts, expressions_of_hosts}
 use Rattle.pb_play.specs.NoEffect.{has_no_effect, key}
-use Rattle.pb_play.specs.Playbooks.{plays, of_json, playbook_of, as_load_fault, as_playbook, each_expression, expressions_of_plays, expressions_of_book}
-use Rattle.pb_written.specs.Simple.{switched}
-use Rattle.pb_play.specs.Plays.{rest_of_play, play, expressions_at, expressions_of_play}
-use Rattle.pb_play.specs.declared.fault.LoadFault.{LoadFault}
-use Rattle.pb_play.specs.declared.fault.LoadFault.TheVariants as load
-use Rattle.pb_play.specs.declared.fault.LoadFault.TheVariants.{BadPattern}
+use Rattle.pb_play.specs.Playbooks.{plays, of_json, playbook_of, as_playbook, each_expression, expressions_of_plays, expressions_of_book}
+use Rattle.pb_written.specs.Faults.{as_load_fault}
+use Rattle.pb_written.specs.Texts.{texts}
+use Rattle.pb_play.specs.Plays.{before_hosts, rest_of_play, play, expressions_at, expressions_of_play}
+use Rattle.pb_written.specs.declared.fault.LoadFault.{LoadFault}
+use Rattle.pb_written.specs.declared.fault.LoadFault.TheVariants as load
+use Rattle.pb_written.specs.declared.fault.LoadFault.TheVariants.{BadPattern}
 use Rattle.pb_play.specs.declared.hosts.PlayHosts.{PlayHosts}
 use Rattle.pb_play.specs.declared.other_keys.WithoutEffect.{WithoutEffect}
+use Rattle.pb_play.specs.declared.play.BeforeHosts.{BeforeHosts}
 use Rattle.pb_play.specs.declared.play.Play.{Play}
 use Rattle.pb_play.proofs.Refusals.{IsRest, gives_plain, gives_first, gives_next, gives_made, gives_last, gives_rest}
 
@@ -150,39 +152,39 @@ pub next_left : (vs : List Value) (i : ℕ) (v : Value) → i < length vs → v 
 next_left vs i v within is = ap items_view (drop_more vs i v within) ∙ ap (λ w. items_view (w ∷ drop (i + 1) vs)) (sym is)
 
 -- a play, once its keys up to `hosts` are read: where the reading of the hosts stops, and the rest of the play
-abbrev hosts_and_rest : List ℕ → Option Bool → Option json.Data → Ahead WithoutEffect → Reading Play LoadFault
-hosts_and_rest path facts d ahead = and_then (optional hosts (below path (codes "hosts")) d) (λ h. value_of (rest_of_play path facts h ahead))
+abbrev hosts_and_rest : List ℕ → BeforeHosts → Option json.Data → Ahead WithoutEffect → Reading Play LoadFault
+hosts_and_rest path before d ahead = and_then (optional hosts (below path (codes "hosts")) d) (λ h. value_of (rest_of_play path before h ahead))
 
 abbrev with_ahead : Ahead WithoutEffect → Option PlayHosts → Reading (Read (Option PlayHosts) WithoutEffect) LoadFault
 with_ahead ahead v = Ok (record { value = v; ahead = ahead })
 
-last_part : (r : Reading (Option PlayHosts) LoadFault) (path : List ℕ) (facts : Option Bool) (ahead : Ahead WithoutEffect)
-    → value_of (and_then (and_then r (with_ahead ahead)) (λ y. rest_of_play path facts y.value y.ahead)) ≡ and_then r (λ h. value_of (rest_of_play path facts h ahead))
-last_part (Ok h) path facts ahead = refl
-last_part (Err e) path facts ahead = refl
+last_part : (r : Reading (Option PlayHosts) LoadFault) (path : List ℕ) (before : BeforeHosts) (ahead : Ahead WithoutEffect)
+    → value_of (and_then (and_then r (with_ahead ahead)) (λ y. rest_of_play path before y.value y.ahead)) ≡ and_then r (λ h. value_of (rest_of_play path before h ahead))
+last_part (Ok h) path before ahead = refl
+last_part (Err e) path before ahead = refl
 
--- the first field of a play, and the value at its hosts
+-- the first fields of a play, and the value at its hosts
 abbrev pub front_of : List ℕ → json.Members → Ahead WithoutEffect
 front_of path ms = record { path = path; members = ms; told = record {} }
 
-play_rest : (path : List ℕ) (ms : json.Members) (facts : Option Bool) (d : Option json.Data) (first second : Ahead WithoutEffect)
-    → key (codes "gather_facts") switched (front_of path ms) ≡ Ok (record { value = facts; ahead = first }) → first.path ≡ path
+play_rest : (path : List ℕ) (ms : json.Members) (before : BeforeHosts) (d : Option json.Data) (first second : Ahead WithoutEffect)
+    → before_hosts (front_of path ms) ≡ Ok (record { value = before; ahead = first }) → first.path ≡ path
     → value_at has_no_effect (codes "hosts") first ≡ Ok (record { value = d; ahead = second })
-    → play path (json.object ms) ≡ hosts_and_rest path facts d second
+    → play path (json.object ms) ≡ hosts_and_rest path before d second
 unfolding play field
-play_rest path ms facts d first second e at f =
+play_rest path ms before d first second e at f =
     ap (λ r. value_of (and_then r (λ x. and_then (field has_no_effect (codes "hosts") hosts x.ahead) (λ y. rest_of_play path x.value y.value y.ahead)))) e
-    ∙ ap (λ r. value_of (and_then (and_then r (λ x. and_then (optional hosts (below first.path (codes "hosts")) x.value) (with_ahead x.ahead))) (λ y. rest_of_play path facts y.value y.ahead))) f
-    ∙ ap (λ p. value_of (and_then (and_then (optional hosts (below p (codes "hosts")) d) (with_ahead second)) (λ y. rest_of_play path facts y.value y.ahead))) at
-    ∙ last_part (optional hosts (below path (codes "hosts")) d) path facts second
+    ∙ ap (λ r. value_of (and_then (and_then r (λ x. and_then (optional hosts (below first.path (codes "hosts")) x.value) (with_ahead x.ahead))) (λ y. rest_of_play path before y.value y.ahead))) f
+    ∙ ap (λ p. value_of (and_then (and_then (optional hosts (below p (codes "hosts")) d) (with_ahead second)) (λ y. rest_of_play path before y.value y.ahead))) at
+    ∙ last_part (optional hosts (below path (codes "hosts")) d) path before second
 
-met_rest : (path : List ℕ) (ms : json.Members) (facts : Option Bool) (d : Option json.Data) (first second : Ahead WithoutEffect)
-    → key (codes "gather_facts") switched (front_of path ms) ≡ Ok (record { value = facts; ahead = first })
+met_rest : (path : List ℕ) (ms : json.Members) (before : BeforeHosts) (d : Option json.Data) (first second : Ahead WithoutEffect)
+    → before_hosts (front_of path ms) ≡ Ok (record { value = before; ahead = first })
     → value_at has_no_effect (codes "hosts") first ≡ Ok (record { value = d; ahead = second })
     → expressions_of_play path (json.object ms) ≡ expressions_at (below path (codes "hosts")) d
 unfolding expressions_of_play
-met_rest path ms facts d first second e f =
-    ap (λ r. behind r (λ facts. behind (value_at has_no_effect (codes "hosts") facts.ahead) (λ hosts. expressions_at (below path (codes "hosts")) hosts.value))) e
+met_rest path ms before d first second e f =
+    ap (λ r. behind r (λ before. behind (value_at has_no_effect (codes "hosts") before.ahead) (λ hosts. expressions_at (below path (codes "hosts")) hosts.value))) e
     ∙ ap (λ r. behind r (λ hosts. expressions_at (below path (codes "hosts")) hosts.value)) f
 
 value_then : {A B S : Type 0} (r : Reading A LoadFault) (f : A → Reading (Read B S) LoadFault) → value_of (and_then r f) ≡ and_then r (λ x. value_of (f x))
@@ -200,25 +202,25 @@ stops_first e first next more met whole met_is is stopped =
     subst (λ m. GivesOf {A = Play} (Err e) m whole) (sym met_is)
     (subst (λ w. GivesOf {A = Play} (Err e) (behind first more) w) (sym is) (gives_first e [] first next more (gives_plain (Err e) first stopped)))
 
--- the first field stops a reader, or the keys in front of the hosts
-pub facts_stop : (path : List ℕ) (ms : json.Members) (e : Stop LoadFault) → Stops e (key (codes "gather_facts") switched (front_of path ms))
+-- the first fields stop a reader, or the keys in front of the hosts
+pub before_stop : (path : List ℕ) (ms : json.Members) (e : Stop LoadFault) → Stops e (before_hosts (front_of path ms))
     → GivesOf {A = Play} (Err e) (expressions_of_play path (json.object ms)) (play path (json.object ms))
 unfolding play expressions_of_play
-facts_stop path ms e stopped =
-    stops_first e (key (codes "gather_facts") switched (front_of path ms)) _ _ (expressions_of_play path (json.object ms)) (play path (json.object ms))
+before_stop path ms e stopped =
+    stops_first e (before_hosts (front_of path ms)) _ _ (expressions_of_play path (json.object ms)) (play path (json.object ms))
     refl
-    (value_then (key (codes "gather_facts") switched (front_of path ms)) (λ x. and_then (key (codes "hosts") hosts x.ahead) (λ y. rest_of_play path x.value y.value y.ahead))) stopped
+    (value_then (before_hosts (front_of path ms)) (λ x. and_then (key (codes "hosts") hosts x.ahead) (λ y. rest_of_play path x.value y.value y.ahead))) stopped
 
-pub front_stop : (path : List ℕ) (ms : json.Members) (facts : Option Bool) (first : Ahead WithoutEffect) (e : Stop LoadFault)
-    → key (codes "gather_facts") switched (front_of path ms) ≡ Ok (record { value = facts; ahead = first })
+pub front_stop : (path : List ℕ) (ms : json.Members) (before : BeforeHosts) (first : Ahead WithoutEffect) (e : Stop LoadFault)
+    → before_hosts (front_of path ms) ≡ Ok (record { value = before; ahead = first })
     → Stops e (value_at has_no_effect (codes "hosts") first) → GivesOf {A = Play} (Err e) (expressions_of_play path (json.object ms)) (play path (json.object ms))
 unfolding play field expressions_of_play
-front_stop path ms facts first e one stopped =
+front_stop path ms before first e one stopped =
     let hosts_in = λ (x : Read (Option json.Data) WithoutEffect). and_then (optional hosts (below first.path (codes "hosts")) x.value) (with_ahead x.ahead) in
-    let after = λ (y : Read (Option PlayHosts) WithoutEffect). rest_of_play path facts y.value y.ahead in
+    let after = λ (y : Read (Option PlayHosts) WithoutEffect). rest_of_play path before y.value y.ahead in
     stops_first e (value_at has_no_effect (codes "hosts") first) _ (λ (x : Read (Option json.Data) WithoutEffect). expressions_at (below path (codes "hosts")) x.value)
     (expressions_of_play path (json.object ms)) (play path (json.object ms))
-    (ap (λ r. behind r (λ facts. behind (value_at has_no_effect (codes "hosts") facts.ahead) (λ hosts. expressions_at (below path (codes "hosts")) hosts.value))) one)
+    (ap (λ r. behind r (λ before. behind (value_at has_no_effect (codes "hosts") before.ahead) (λ hosts. expressions_at (below path (codes "hosts")) hosts.value))) one)
     (
     ap (λ r. value_of (and_then r (λ x. and_then (field has_no_effect (codes "hosts") hosts x.ahead) (λ y. rest_of_play path x.value y.value y.ahead)))) one
     ∙ ap value_of (then_then (value_at has_no_effect (codes "hosts") first) hosts_in after)
@@ -227,31 +229,31 @@ front_stop path ms facts first e one stopped =
     stopped
 
 -- where the hosts stop a reader, and where they don't
-pub hosts_stop : (path : List ℕ) (ms : json.Members) (facts : Option Bool) (d : Option json.Data) (first second : Ahead WithoutEffect) (e : Stop LoadFault)
-    → key (codes "gather_facts") switched (front_of path ms) ≡ Ok (record { value = facts; ahead = first }) → first.path ≡ path
+pub hosts_stop : (path : List ℕ) (ms : json.Members) (before : BeforeHosts) (d : Option json.Data) (first second : Ahead WithoutEffect) (e : Stop LoadFault)
+    → before_hosts (front_of path ms) ≡ Ok (record { value = before; ahead = first }) → first.path ≡ path
     → value_at has_no_effect (codes "hosts") first ≡ Ok (record { value = d; ahead = second })
     → GivesOf {A = Option PlayHosts} (Err e) (expressions_at (below path (codes "hosts")) d) (optional hosts (below path (codes "hosts")) d)
     → GivesOf {A = Play} (Err e) (expressions_of_play path (json.object ms)) (play path (json.object ms))
-hosts_stop path ms facts d first second e one at two stopped =
-    subst (λ m. GivesOf {A = Play} (Err e) m (play path (json.object ms))) (sym (met_rest path ms facts d first second one two))
+hosts_stop path ms before d first second e one at two stopped =
+    subst (λ m. GivesOf {A = Play} (Err e) m (play path (json.object ms))) (sym (met_rest path ms before d first second one two))
     (
-    subst (λ r. GivesOf {A = Play} (Err e) (expressions_at (below path (codes "hosts")) d) r) (sym (play_rest path ms facts d first second one at two))
+    subst (λ r. GivesOf {A = Play} (Err e) (expressions_at (below path (codes "hosts")) d) r) (sym (play_rest path ms before d first second one at two))
     (
-    gives_made e (expressions_at (below path (codes "hosts")) d) (optional hosts (below path (codes "hosts")) d) (λ h. value_of (rest_of_play path facts h second)) stopped
+    gives_made e (expressions_at (below path (codes "hosts")) d) (optional hosts (below path (codes "hosts")) d) (λ h. value_of (rest_of_play path before h second)) stopped
     )
     )
 
-pub hosts_read : (path : List ℕ) (ms : json.Members) (facts : Option Bool) (d : Option json.Data) (first second : Ahead WithoutEffect) (h : Option PlayHosts) (result : Result Play (Stop LoadFault))
-    → key (codes "gather_facts") switched (front_of path ms) ≡ Ok (record { value = facts; ahead = first }) → first.path ≡ path
+pub hosts_read : (path : List ℕ) (ms : json.Members) (before : BeforeHosts) (d : Option json.Data) (first second : Ahead WithoutEffect) (h : Option PlayHosts) (result : Result Play (Stop LoadFault))
+    → before_hosts (front_of path ms) ≡ Ok (record { value = before; ahead = first }) → first.path ≡ path
     → value_at has_no_effect (codes "hosts") first ≡ Ok (record { value = d; ahead = second })
-    → GivesOf {A = Option PlayHosts} (Ok h) (expressions_at (below path (codes "hosts")) d) (optional hosts (below path (codes "hosts")) d) → Gives result (value_of (rest_of_play path facts h second))
+    → GivesOf {A = Option PlayHosts} (Ok h) (expressions_at (below path (codes "hosts")) d) (optional hosts (below path (codes "hosts")) d) → Gives result (value_of (rest_of_play path before h second))
     → GivesOf result (expressions_of_play path (json.object ms)) (play path (json.object ms))
-hosts_read path ms facts d first second h result one at two read rest =
-    subst (λ m. GivesOf result m (play path (json.object ms))) (sym (met_rest path ms facts d first second one two))
+hosts_read path ms before d first second h result one at two read rest =
+    subst (λ m. GivesOf result m (play path (json.object ms))) (sym (met_rest path ms before d first second one two))
     (
-    subst (λ r. GivesOf result (expressions_at (below path (codes "hosts")) d) r) (sym (play_rest path ms facts d first second one at two))
+    subst (λ r. GivesOf result (expressions_at (below path (codes "hosts")) d) r) (sym (play_rest path ms before d first second one at two))
     (
-    gives_last result (expressions_at (below path (codes "hosts")) d) (optional hosts (below path (codes "hosts")) d) h (λ h. value_of (rest_of_play path facts h second)) read.0 read.1 rest
+    gives_last result (expressions_at (below path (codes "hosts")) d) (optional hosts (below path (codes "hosts")) d) h (λ h. value_of (rest_of_play path before h second)) read.0 read.1 rest
     )
     )
 

@@ -7,8 +7,8 @@ use Rattle.pb_reading.specs.Reading.{Reading, WrongShape, Own, Gives}
 use Rattle.pb_reading.specs.declared.stop.Stop.{Stop}
 use Rattle.pb_reading.specs.declared.stop.Stop.TheVariants as stop
 use Rattle.pb_play.specs.Refusals.{GivesOf}
-use Rattle.pb_play.specs.declared.fault.LoadFault.{LoadFault}
-use Rattle.pb_play.specs.declared.fault.LoadFault.TheVariants.{BadPattern}
+use Rattle.pb_written.specs.declared.fault.LoadFault.{LoadFault}
+use Rattle.pb_written.specs.declared.fault.LoadFault.TheVariants.{BadPattern}
 
 -- a reader that meets no expression
 pub gives_plain : {A : Type 0} (result : Result A (Stop LoadFault)) (r : Reading A LoadFault) → Gives result r → GivesOf result [] r

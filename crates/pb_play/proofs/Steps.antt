@@ -1,33 +1,39 @@
 -- Readers of objects, once their first parts are read: what stops a part stops the reader, and what is read is handed on.
-use Rattle.std.proofs.Common.{◌≡◌, ℕ, Bool, true, false, List, [], Result, Ok, Err, ap, sym, subst, ◌∙◌}
+use Rattle.std.proofs.Common.{◌≡◌, ℕ, Bool, true, false, List, [], Result, Ok, Err, refl, ap, sym, subst, ◌∙◌}
 use Rattle.std.specs.Prelude.{Option, codes, unwrap_or}
 use Rattle.std.specs.Result.{IsErrAnd}
 use Rattle.pb_value.specs.Datum.{Datum}
-use Rattle.pb_value.specs.Reading.{and_then}
+use Rattle.pb_value.specs.Reading.{and_then, map_ok}
 use Rattle.pb_expr_syntax.specs.Tree.{Tree}
 use Rattle.pb_reading.specs.Ahead.{Takes}
 use Rattle.pb_reading.specs.Fields.{Ahead, Read, field, field_or, others, rule, value_of}
-use Rattle.pb_reading.specs.Reading.{Reading, Stops, Gives, required}
+use Rattle.pb_reading.specs.Reading.{Reading, Stops, Gives, each_of, required}
 use Rattle.pb_reading.specs.Simple.{text}
 use Rattle.pb_reading.specs.declared.stop.Stop.{Stop}
 use Rattle.pb_reading.specs.declared.stop.Stop.TheVariants as stop
 use Rattle.pb_written.specs.Simple.{switched}
+use Rattle.pb_written.specs.Texts.{texts}
 use Rattle.pb_play.specs.Arguments.{argument}
 use Rattle.pb_play.specs.Assert.{said}
-use Rattle.pb_play.specs.Conditions.{conditions}
+use Rattle.pb_written.specs.Conditions.{conditions}
+use Rattle.pb_play.specs.Handlers.{handler, rest_of_handler}
 use Rattle.pb_play.specs.NoEffect.{has_no_effect, key, key_or}
-use Rattle.pb_play.specs.Plays.{lists, play_of, rest_of_play}
-use Rattle.pb_play.specs.Simple.{template_value}
-use Rattle.pb_play.specs.Tasks.{tells_of_task, told}
+use Rattle.pb_play.specs.Plays.{before_hosts, lists, play_of, rest_of_play}
+use Rattle.pb_written.specs.Values.{template_value}
+use Rattle.pb_play.specs.Tasks.{tells_of_task, told, looping, rest_of_task}
 use Rattle.pb_play.specs.Variables.{variables}
 use Rattle.pb_play.specs.declared.assert.Said.{Said}
-use Rattle.pb_play.specs.declared.fault.LoadFault.{LoadFault}
+use Rattle.pb_written.specs.declared.fault.LoadFault.{LoadFault}
+use Rattle.pb_play.specs.declared.handlers.Handler.{Handler}
 use Rattle.pb_play.specs.declared.hosts.PlayHosts.{PlayHosts}
+use Rattle.pb_play.specs.declared.loops.Loop.{Loop}
 use Rattle.pb_play.specs.declared.other_keys.NoArguments.{NoArguments}
 use Rattle.pb_play.specs.declared.other_keys.WithoutEffect.{WithoutEffect}
+use Rattle.pb_play.specs.declared.play.BeforeHosts.{BeforeHosts}
 use Rattle.pb_play.specs.declared.play.Lists.{Lists}
 use Rattle.pb_play.specs.declared.play.Play.{Play}
 use Rattle.pb_play.specs.declared.task.Modules.{Modules}
+use Rattle.pb_play.specs.declared.task.Task.{Task}
 use Rattle.pb_play.specs.declared.task.Told.{Told}
 
 -- what a stop is handed out as
@@ -111,15 +117,50 @@ pub told_is : (a b d g : Ahead Modules) (changed failed : Option (List Tree)) (i
     → told a ≡ Ok (record { value = record { changed_when = changed; failed_when = failed; ignore_errors = ignored }; ahead = g })
 told_is a b d g changed failed ignored e f h = behind_failed a b d changed failed e f ∙ ap (λ r. and_then r (with_all changed failed)) h
 
+-- what a play says in front of its hosts, behind `force_handlers`
+abbrev with_handlers : Bool → Bool → Read (List Handler) WithoutEffect → Reading (Read BeforeHosts WithoutEffect) LoadFault
+with_handlers forced gathers x = rule (Ok (record { force_handlers = forced; gathers = gathers; handlers = x.value })) x.ahead
+
+abbrev with_gathers : Bool → Read Bool WithoutEffect → Reading (Read BeforeHosts WithoutEffect) LoadFault
+with_gathers forced x = and_then (key_or (codes "handlers") (each_of handler) [] x.ahead) (with_handlers forced x.value)
+
+behind_forced : (a b : Ahead WithoutEffect) (forced : Bool) → key_or (codes "force_handlers") switched false a ≡ Ok (record { value = forced; ahead = b })
+    → before_hosts a ≡ and_then (key_or (codes "gather_facts") switched true b) (with_gathers forced)
+behind_forced a b forced e = ap (λ r. and_then r (λ x. and_then (key_or (codes "gather_facts") switched true x.ahead) (with_gathers x.value))) e
+
+behind_gathers : (a b d : Ahead WithoutEffect) (forced gathers : Bool) → key_or (codes "force_handlers") switched false a ≡ Ok (record { value = forced; ahead = b })
+    → key_or (codes "gather_facts") switched true b ≡ Ok (record { value = gathers; ahead = d })
+    → before_hosts a ≡ and_then (key_or (codes "handlers") (each_of handler) [] d) (with_handlers forced gathers)
+behind_gathers a b d forced gathers e f = behind_forced a b forced e ∙ ap (λ r. and_then r (with_gathers forced)) f
+
+pub gathers_stop : (a b : Ahead WithoutEffect) (forced : Bool) (s : Stop LoadFault) → key_or (codes "force_handlers") switched false a ≡ Ok (record { value = forced; ahead = b })
+    → Stops s (key_or (codes "gather_facts") switched true b) → Stops s (before_hosts a)
+gathers_stop a b forced s e stops =
+    subst (Stops s) (sym (behind_forced a b forced e)) (stops_then s (key_or (codes "gather_facts") switched true b) (with_gathers forced) stops)
+
+pub handlers_stop : (a b d : Ahead WithoutEffect) (forced gathers : Bool) (s : Stop LoadFault) → key_or (codes "force_handlers") switched false a ≡ Ok (record { value = forced; ahead = b })
+    → key_or (codes "gather_facts") switched true b ≡ Ok (record { value = gathers; ahead = d })
+    → Stops s (key_or (codes "handlers") (each_of handler) [] d) → Stops s (before_hosts a)
+handlers_stop a b d forced gathers s e f stops =
+    subst (Stops s) (sym (behind_gathers a b d forced gathers e f))
+    (stops_then s (key_or (codes "handlers") (each_of handler) [] d) (with_handlers forced gathers) stops)
+
+pub before_is : (a b d g : Ahead WithoutEffect) (forced gathers : Bool) (handlers : List Handler)
+    → key_or (codes "force_handlers") switched false a ≡ Ok (record { value = forced; ahead = b })
+    → key_or (codes "gather_facts") switched true b ≡ Ok (record { value = gathers; ahead = d })
+    → key_or (codes "handlers") (each_of handler) [] d ≡ Ok (record { value = handlers; ahead = g })
+    → before_hosts a ≡ Ok (record { value = record { force_handlers = forced; gathers = gathers; handlers = handlers }; ahead = g })
+before_is a b d g forced gathers handlers e f h = behind_gathers a b d forced gathers e f ∙ ap (λ r. and_then r (with_handlers forced gathers)) h
+
 -- a play behind its lists of tasks: its variables, then its other keys, then the rules over what was read
-abbrev with_hosts : Option Bool → Bool → Option (List ℕ) → Lists → List (List ℕ × Datum) → Read PlayHosts WithoutEffect → Reading (Read Play WithoutEffect) LoadFault
-with_hosts facts ig name ls vars x = rule (Ok (play_of (unwrap_or facts true) (unwrap_or name x.value.text) x.value.pattern vars ig ls)) x.ahead
+abbrev with_hosts : BeforeHosts → Bool → Option (List ℕ) → Lists → List (List ℕ × Datum) → Read PlayHosts WithoutEffect → Reading (Read Play WithoutEffect) LoadFault
+with_hosts before ig name ls vars x = rule (Ok (play_of before (unwrap_or name x.value.text) x.value.pattern vars ig ls)) x.ahead
 
-abbrev with_others : List ℕ → Option Bool → Option PlayHosts → Bool → Option (List ℕ) → Lists → List (List ℕ × Datum) → Read WithoutEffect WithoutEffect → Reading (Read Play WithoutEffect) LoadFault
-with_others path facts hosts ig name ls vars x = and_then (rule (required path hosts) x.ahead) (with_hosts facts ig name ls vars)
+abbrev with_others : List ℕ → BeforeHosts → Option PlayHosts → Bool → Option (List ℕ) → Lists → List (List ℕ × Datum) → Read WithoutEffect WithoutEffect → Reading (Read Play WithoutEffect) LoadFault
+with_others path before hosts ig name ls vars x = and_then (rule (required path hosts) x.ahead) (with_hosts before ig name ls vars)
 
-abbrev with_variables : List ℕ → Option Bool → Option PlayHosts → Bool → Option (List ℕ) → Lists → Read (List (List ℕ × Datum)) WithoutEffect → Reading (Read Play WithoutEffect) LoadFault
-with_variables path facts hosts ig name ls x = and_then (others has_no_effect x.ahead) (with_others path facts hosts ig name ls x.value)
+abbrev with_variables : List ℕ → BeforeHosts → Option PlayHosts → Bool → Option (List ℕ) → Lists → Read (List (List ℕ × Datum)) WithoutEffect → Reading (Read Play WithoutEffect) LoadFault
+with_variables path before hosts ig name ls x = and_then (others has_no_effect x.ahead) (with_others path before hosts ig name ls x.value)
 
 -- what is read up to them
 pub record AreRead (a : Ahead WithoutEffect) (is_ignored : Bool) (name : Option (List ℕ)) (ls : Lists) (after : Ahead WithoutEffect) : Type 0 where
@@ -129,49 +170,83 @@ pub record AreRead (a : Ahead WithoutEffect) (is_ignored : Bool) (name : Option 
   pub named : key (codes "name") text second ≡ Ok (record { value = name; ahead = third })
   pub listed : lists third ≡ Ok (record { value = ls; ahead = after })
 
-behind_lists : (path : List ℕ) (facts : Option Bool) (hosts : Option PlayHosts) (a b : Ahead WithoutEffect) (ig : Bool) (name : Option (List ℕ)) (ls : Lists) → AreRead a ig name ls b
-    → rest_of_play path facts hosts a ≡ and_then (key_or (codes "vars") variables [] b) (with_variables path facts hosts ig name ls)
-behind_lists path facts hosts a b ig name ls e =
-    ap (λ r. and_then r (λ x. and_then (key (codes "name") text x.ahead) (λ y. and_then (lists y.ahead) (λ z. and_then (key_or (codes "vars") variables [] z.ahead) (with_variables path facts hosts x.value y.value z.value))))) e.ignored
-    ∙ ap (λ r. and_then r (λ y. and_then (lists y.ahead) (λ z. and_then (key_or (codes "vars") variables [] z.ahead) (with_variables path facts hosts ig y.value z.value)))) e.named
-    ∙ ap (λ r. and_then r (λ z. and_then (key_or (codes "vars") variables [] z.ahead) (with_variables path facts hosts ig name z.value))) e.listed
+behind_lists : (path : List ℕ) (before : BeforeHosts) (hosts : Option PlayHosts) (a b : Ahead WithoutEffect) (ig : Bool) (name : Option (List ℕ)) (ls : Lists) → AreRead a ig name ls b
+    → rest_of_play path before hosts a ≡ and_then (key_or (codes "vars") variables [] b) (with_variables path before hosts ig name ls)
+behind_lists path before hosts a b ig name ls e =
+    ap (λ r. and_then r (λ x. and_then (key (codes "name") text x.ahead) (λ y. and_then (lists y.ahead) (λ z. and_then (key_or (codes "vars") variables [] z.ahead) (with_variables path before hosts x.value y.value z.value))))) e.ignored
+    ∙ ap (λ r. and_then r (λ y. and_then (lists y.ahead) (λ z. and_then (key_or (codes "vars") variables [] z.ahead) (with_variables path before hosts ig y.value z.value)))) e.named
+    ∙ ap (λ r. and_then r (λ z. and_then (key_or (codes "vars") variables [] z.ahead) (with_variables path before hosts ig name z.value))) e.listed
 
-behind_variables : (path : List ℕ) (facts : Option Bool) (hosts : Option PlayHosts) (a b d : Ahead WithoutEffect) (ig : Bool) (name : Option (List ℕ)) (ls : Lists) (vars : List (List ℕ × Datum)) → AreRead a ig name ls b
+behind_variables : (path : List ℕ) (before : BeforeHosts) (hosts : Option PlayHosts) (a b d : Ahead WithoutEffect) (ig : Bool) (name : Option (List ℕ)) (ls : Lists) (vars : List (List ℕ × Datum)) → AreRead a ig name ls b
     → key_or (codes "vars") variables [] b ≡ Ok (record { value = vars; ahead = d })
-    → rest_of_play path facts hosts a ≡ and_then (others has_no_effect d) (with_others path facts hosts ig name ls vars)
-behind_variables path facts hosts a b d ig name ls vars e f = behind_lists path facts hosts a b ig name ls e ∙ ap (λ r. and_then r (with_variables path facts hosts ig name ls)) f
+    → rest_of_play path before hosts a ≡ and_then (others has_no_effect d) (with_others path before hosts ig name ls vars)
+behind_variables path before hosts a b d ig name ls vars e f = behind_lists path before hosts a b ig name ls e ∙ ap (λ r. and_then r (with_variables path before hosts ig name ls)) f
 
-behind_others : (path : List ℕ) (facts : Option Bool) (hosts : Option PlayHosts) (a b d g : Ahead WithoutEffect) (ig : Bool) (name : Option (List ℕ)) (ls : Lists) (vars : List (List ℕ × Datum)) (none : WithoutEffect)
+behind_others : (path : List ℕ) (before : BeforeHosts) (hosts : Option PlayHosts) (a b d g : Ahead WithoutEffect) (ig : Bool) (name : Option (List ℕ)) (ls : Lists) (vars : List (List ℕ × Datum)) (none : WithoutEffect)
     → AreRead a ig name ls b → key_or (codes "vars") variables [] b ≡ Ok (record { value = vars; ahead = d }) → others has_no_effect d ≡ Ok (record { value = none; ahead = g })
-    → rest_of_play path facts hosts a ≡ and_then (rule (required path hosts) g) (with_hosts facts ig name ls vars)
-behind_others path facts hosts a b d g ig name ls vars none e f o = behind_variables path facts hosts a b d ig name ls vars e f ∙ ap (λ r. and_then r (with_others path facts hosts ig name ls vars)) o
+    → rest_of_play path before hosts a ≡ and_then (rule (required path hosts) g) (with_hosts before ig name ls vars)
+behind_others path before hosts a b d g ig name ls vars none e f o = behind_variables path before hosts a b d ig name ls vars e f ∙ ap (λ r. and_then r (with_others path before hosts ig name ls vars)) o
 
-pub variables_stop : (path : List ℕ) (facts : Option Bool) (hosts : Option PlayHosts) (a b : Ahead WithoutEffect) (ig : Bool) (name : Option (List ℕ)) (ls : Lists) (s : Stop LoadFault) → AreRead a ig name ls b
-    → Stops s (key_or (codes "vars") variables [] b) → Stops s (value_of (rest_of_play path facts hosts a))
-variables_stop path facts hosts a b ig name ls s e stops =
-    stops_value s (rest_of_play path facts hosts a)
-    (subst (Stops s) (sym (behind_lists path facts hosts a b ig name ls e)) (stops_then s (key_or (codes "vars") variables [] b) (with_variables path facts hosts ig name ls) stops))
+pub variables_stop : (path : List ℕ) (before : BeforeHosts) (hosts : Option PlayHosts) (a b : Ahead WithoutEffect) (ig : Bool) (name : Option (List ℕ)) (ls : Lists) (s : Stop LoadFault) → AreRead a ig name ls b
+    → Stops s (key_or (codes "vars") variables [] b) → Stops s (value_of (rest_of_play path before hosts a))
+variables_stop path before hosts a b ig name ls s e stops =
+    stops_value s (rest_of_play path before hosts a)
+    (subst (Stops s) (sym (behind_lists path before hosts a b ig name ls e)) (stops_then s (key_or (codes "vars") variables [] b) (with_variables path before hosts ig name ls) stops))
 
-pub others_stop : (path : List ℕ) (facts : Option Bool) (hosts : Option PlayHosts) (a b d : Ahead WithoutEffect) (ig : Bool) (name : Option (List ℕ)) (ls : Lists) (vars : List (List ℕ × Datum)) (s : Stop LoadFault)
-    → AreRead a ig name ls b → key_or (codes "vars") variables [] b ≡ Ok (record { value = vars; ahead = d }) → Stops s (others has_no_effect d) → Stops s (value_of (rest_of_play path facts hosts a))
-others_stop path facts hosts a b d ig name ls vars s e f stops =
-    stops_value s (rest_of_play path facts hosts a)
-    (subst (Stops s) (sym (behind_variables path facts hosts a b d ig name ls vars e f)) (stops_then s (others has_no_effect d) (with_others path facts hosts ig name ls vars) stops))
+pub others_stop : (path : List ℕ) (before : BeforeHosts) (hosts : Option PlayHosts) (a b d : Ahead WithoutEffect) (ig : Bool) (name : Option (List ℕ)) (ls : Lists) (vars : List (List ℕ × Datum)) (s : Stop LoadFault)
+    → AreRead a ig name ls b → key_or (codes "vars") variables [] b ≡ Ok (record { value = vars; ahead = d }) → Stops s (others has_no_effect d) → Stops s (value_of (rest_of_play path before hosts a))
+others_stop path before hosts a b d ig name ls vars s e f stops =
+    stops_value s (rest_of_play path before hosts a)
+    (subst (Stops s) (sym (behind_variables path before hosts a b d ig name ls vars e f)) (stops_then s (others has_no_effect d) (with_others path before hosts ig name ls vars) stops))
 
-pub no_hosts_stop : (path : List ℕ) (facts : Option Bool) (hosts : Option PlayHosts) (a b d g : Ahead WithoutEffect) (ig : Bool) (name : Option (List ℕ)) (ls : Lists) (vars : List (List ℕ × Datum)) (none : WithoutEffect) (s : Stop LoadFault)
+pub no_hosts_stop : (path : List ℕ) (before : BeforeHosts) (hosts : Option PlayHosts) (a b d g : Ahead WithoutEffect) (ig : Bool) (name : Option (List ℕ)) (ls : Lists) (vars : List (List ℕ × Datum)) (none : WithoutEffect) (s : Stop LoadFault)
     → AreRead a ig name ls b → key_or (codes "vars") variables [] b ≡ Ok (record { value = vars; ahead = d }) → others has_no_effect d ≡ Ok (record { value = none; ahead = g })
-    → Stops s (required path hosts) → Stops s (value_of (rest_of_play path facts hosts a))
-no_hosts_stop path facts hosts a b d g ig name ls vars none s e f o stops =
-    stops_value s (rest_of_play path facts hosts a)
-    (subst (Stops s) (sym (behind_others path facts hosts a b d g ig name ls vars none e f o)) (stops_then s (rule (required path hosts) g) (with_hosts facts ig name ls vars) (stops_rule s (required path hosts) g stops)))
+    → Stops s (required path hosts) → Stops s (value_of (rest_of_play path before hosts a))
+no_hosts_stop path before hosts a b d g ig name ls vars none s e f o stops =
+    stops_value s (rest_of_play path before hosts a)
+    (subst (Stops s) (sym (behind_others path before hosts a b d g ig name ls vars none e f o)) (stops_then s (rule (required path hosts) g) (with_hosts before ig name ls vars) (stops_rule s (required path hosts) g stops)))
 
 -- once the hosts are there
-behind_hosts : (path : List ℕ) (facts : Option Bool) (hosts : Option PlayHosts) (h : PlayHosts) (g : Ahead WithoutEffect) (ig : Bool) (name : Option (List ℕ)) (ls : Lists) (vars : List (List ℕ × Datum)) → required {F = LoadFault} path hosts ≡ Ok h
-    → and_then (rule (required path hosts) g) (with_hosts facts ig name ls vars) ≡ with_hosts facts ig name ls vars (record { value = h; ahead = g })
-behind_hosts path facts hosts h g ig name ls vars e = ap (λ r. and_then (rule r g) (with_hosts facts ig name ls vars)) e
+behind_hosts : (path : List ℕ) (before : BeforeHosts) (hosts : Option PlayHosts) (h : PlayHosts) (g : Ahead WithoutEffect) (ig : Bool) (name : Option (List ℕ)) (ls : Lists) (vars : List (List ℕ × Datum)) → required {F = LoadFault} path hosts ≡ Ok h
+    → and_then (rule (required path hosts) g) (with_hosts before ig name ls vars) ≡ with_hosts before ig name ls vars (record { value = h; ahead = g })
+behind_hosts path before hosts h g ig name ls vars e = ap (λ r. and_then (rule r g) (with_hosts before ig name ls vars)) e
 
-pub play_is : (path : List ℕ) (facts : Option Bool) (hosts : Option PlayHosts) (h : PlayHosts) (a b d g : Ahead WithoutEffect) (ig : Bool) (name : Option (List ℕ)) (ls : Lists) (vars : List (List ℕ × Datum)) (none : WithoutEffect)
+pub play_is : (path : List ℕ) (before : BeforeHosts) (hosts : Option PlayHosts) (h : PlayHosts) (a b d g : Ahead WithoutEffect) (ig : Bool) (name : Option (List ℕ)) (ls : Lists) (vars : List (List ℕ × Datum)) (none : WithoutEffect)
     → AreRead a ig name ls b → key_or (codes "vars") variables [] b ≡ Ok (record { value = vars; ahead = d }) → others has_no_effect d ≡ Ok (record { value = none; ahead = g })
-    → required {F = LoadFault} path hosts ≡ Ok h → value_of (rest_of_play path facts hosts a) ≡ Ok (play_of (unwrap_or facts true) (unwrap_or name h.text) h.pattern vars ig ls)
-play_is path facts hosts h a b d g ig name ls vars none e f o at =
-    ap value_of (behind_others path facts hosts a b d g ig name ls vars none e f o ∙ behind_hosts path facts hosts h g ig name ls vars at)
+    → required {F = LoadFault} path hosts ≡ Ok h → value_of (rest_of_play path before hosts a) ≡ Ok (play_of before (unwrap_or name h.text) h.pattern vars ig ls)
+play_is path before hosts h a b d g ig name ls vars none e f o at =
+    ap value_of (behind_others path before hosts a b d g ig name ls vars none e f o ∙ behind_hosts path before hosts h g ig name ls vars at)
+
+-- a value that is made of what a part gives
+value_made : {A B S : Type 0} (f : A → B) (r : Reading (Read A S) LoadFault) → value_of (and_then r (λ x. rule (Ok (f x.value)) x.ahead)) ≡ map_ok f (value_of r)
+value_made f (Ok x) = refl
+value_made f (Err e) = refl
+
+stops_made : {A B : Type 0} (s : Stop LoadFault) (f : A → B) (r : Reading A LoadFault) → Stops s r → Stops s (map_ok f r)
+stops_made stop.Memory f r stops = stops
+stops_made (stop.WrongShape path) f r stops = ap (map_ok f) stops
+stops_made (stop.Fault fault) f r stops = ap (map_ok f) stops
+
+-- a handler behind its topics and its loop
+abbrev listening : List (List ℕ) → Task → Handler
+listening topics task = record { task = task; listens = topics }
+
+abbrev with_task : List (List ℕ) → Read Task Modules → Reading (Read Handler Modules) LoadFault
+with_task topics x = rule (Ok (record { task = x.value; listens = topics })) x.ahead
+
+handler_behind : (t : Told) (a b d : Ahead Modules) (topics : List (List ℕ)) (repeated : Option Loop) → field_or tells_of_task (codes "listen") texts [] a ≡ Ok (record { value = topics; ahead = b })
+    → looping b ≡ Ok (record { value = repeated; ahead = d }) → value_of (rest_of_handler t a) ≡ map_ok (listening topics) (value_of (rest_of_task t repeated d))
+handler_behind t a b d topics repeated e f =
+    ap (λ r. value_of (and_then r (λ x. and_then (looping x.ahead) (λ y. and_then (rest_of_task t y.value y.ahead) (with_task x.value))))) e
+    ∙ ap (λ r. value_of (and_then r (λ y. and_then (rest_of_task t y.value y.ahead) (with_task topics)))) f
+    ∙ value_made (listening topics) (rest_of_task t repeated d)
+
+pub handler_stops : (t : Told) (a b d : Ahead Modules) (topics : List (List ℕ)) (repeated : Option Loop) (s : Stop LoadFault)
+    → field_or tells_of_task (codes "listen") texts [] a ≡ Ok (record { value = topics; ahead = b }) → looping b ≡ Ok (record { value = repeated; ahead = d })
+    → Stops s (value_of (rest_of_task t repeated d)) → Stops s (value_of (rest_of_handler t a))
+handler_stops t a b d topics repeated s e f stops = subst (Stops s) (sym (handler_behind t a b d topics repeated e f)) (stops_made s (listening topics) (value_of (rest_of_task t repeated d)) stops)
+
+pub handler_is : (t : Told) (a b d : Ahead Modules) (topics : List (List ℕ)) (repeated : Option Loop) (task : Task)
+    → field_or tells_of_task (codes "listen") texts [] a ≡ Ok (record { value = topics; ahead = b }) → looping b ≡ Ok (record { value = repeated; ahead = d })
+    → value_of (rest_of_task t repeated d) ≡ Ok task → value_of (rest_of_handler t a) ≡ Ok (record { task = task; listens = topics })
+handler_is t a b d topics repeated task e f is = handler_behind t a b d topics repeated e f ∙ ap (map_ok (listening topics)) is

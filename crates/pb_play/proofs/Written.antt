@@ -11,7 +11,7 @@ use Rattle.pb_play.specs.Blocks.{Lists, block}
 use Rattle.pb_play.specs.NodeLists.{each_node, inner, nodes}
 use Rattle.pb_play.specs.Nodes.{Written, Nothing, Task, Block, Flush, followed}
 use Rattle.pb_play.specs.View.{node_step, node_of, written_of}
-use Rattle.pb_play.specs.declared.fault.LoadFault.{LoadFault}
+use Rattle.pb_written.specs.declared.fault.LoadFault.{LoadFault}
 use Rattle.pb_play.specs.declared.node.Node.{Node, out-Node}
 use Rattle.pb_play.specs.declared.node.Node.TheOpen.{Node-F, Task as OneTask, Block as OneBlock, Flush as OneFlush}
 use Rattle.pb_play.specs.declared.node.Node.TheFolds.{fold-Node, fold_out-Node, map-Node}

@@ -9,11 +9,11 @@ use Rattle.pb_value.specs.Reading.{and_then, map_ok}
 use Rattle.pb_reading.specs.Fields.{◌>>=◌, Part, rule}
 use Rattle.pb_reading.specs.Reading.{Reading, wrong, required}
 use Rattle.pb_play.specs.Arguments.{argument, no_other, arguments}
-use Rattle.pb_play.specs.Conditions.{conditions}
+use Rattle.pb_written.specs.Conditions.{conditions}
 use Rattle.pb_play.specs.Messages.{or_said}
-use Rattle.pb_play.specs.Simple.{template_value}
+use Rattle.pb_written.specs.Values.{template_value}
 use Rattle.pb_play.specs.declared.assert.Said.{Said}
-use Rattle.pb_play.specs.declared.fault.LoadFault.{LoadFault}
+use Rattle.pb_written.specs.declared.fault.LoadFault.{LoadFault}
 use Rattle.pb_play.specs.declared.modules.Module.{Module}
 use Rattle.pb_play.specs.declared.modules.Module.TheVariants as called
 use Rattle.pb_play.specs.declared.other_keys.NoArguments.{NoArguments}

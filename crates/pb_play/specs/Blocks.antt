@@ -5,12 +5,12 @@ use Rattle.pb_reading.specs.Fields.{◌>>=◌, Part, others, object, rule}
 use Rattle.pb_reading.specs.Reading.{Reading}
 use Rattle.pb_reading.specs.Simple.{text}
 use Rattle.pb_written.specs.Simple.{switched}
-use Rattle.pb_play.specs.Conditions.{conditions}
+use Rattle.pb_written.specs.Conditions.{conditions}
 use Rattle.pb_play.specs.NoEffect.{has_no_effect, key, key_or}
 use Rattle.pb_play.specs.Nodes.{Written, Nothing, Block}
 use Rattle.pb_play.specs.Variables.{variables}
 use Rattle.pb_play.specs.declared.blocks.Early.{Early}
-use Rattle.pb_play.specs.declared.fault.LoadFault.{LoadFault}
+use Rattle.pb_written.specs.declared.fault.LoadFault.{LoadFault}
 use Rattle.pb_play.specs.declared.other_keys.WithoutEffect.{WithoutEffect}
 
 -- how a list of nodes is read

@@ -9,10 +9,10 @@ use Rattle.pb_value.specs.Words.{is_name}
 use Rattle.pb_reading.specs.Fields.{◌>>=◌, others, object, rule}
 use Rattle.pb_reading.specs.Reading.{Reading, wrong}
 use Rattle.pb_play.specs.Arguments.{no_other, arguments}
-use Rattle.pb_play.specs.Faults.{refused_key}
-use Rattle.pb_play.specs.Simple.{template_value}
+use Rattle.pb_written.specs.Faults.{refused_key}
+use Rattle.pb_written.specs.Values.{template_value}
 use Rattle.pb_play.specs.declared.facts.Facts.{Facts}
-use Rattle.pb_play.specs.declared.fault.LoadFault.{LoadFault}
+use Rattle.pb_written.specs.declared.fault.LoadFault.{LoadFault}
 use Rattle.pb_play.specs.declared.modules.Module.{Module}
 use Rattle.pb_play.specs.declared.modules.Module.TheVariants as called
 

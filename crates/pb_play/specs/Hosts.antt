@@ -8,17 +8,11 @@ use Rattle.pb_patterns.specs.Expressions.{behind}
 use Rattle.pb_patterns.specs.Reading.{pattern_of, expressions_of}
 use Rattle.pb_patterns.specs.declared.element.Element.{Element}
 use Rattle.pb_patterns.specs.declared.fault.PatFault.{PatFault}
-use Rattle.pb_reading.specs.Reading.{Reading, Own, wrong, each}
-use Rattle.pb_reading.specs.Simple.{text}
-use Rattle.pb_play.specs.declared.fault.LoadFault.{LoadFault}
-use Rattle.pb_play.specs.declared.fault.LoadFault.TheVariants.{BadPattern}
+use Rattle.pb_reading.specs.Reading.{Reading, Own}
+use Rattle.pb_written.specs.Texts.{texts}
+use Rattle.pb_written.specs.declared.fault.LoadFault.{LoadFault}
+use Rattle.pb_written.specs.declared.fault.LoadFault.TheVariants.{BadPattern}
 use Rattle.pb_play.specs.declared.hosts.PlayHosts.{PlayHosts}
-
--- a text, or a list of texts
-abbrev pub texts : List ℕ → json.Data → Reading (List (List ℕ)) LoadFault
-texts path (json.string s) = Ok (s ∷ [])
-texts path (json.array ds) = each text path 0 ds
-texts path d = wrong path
 
 -- `{{` stands somewhere in a text
 abbrev pub has_braces : List ℕ → Bool

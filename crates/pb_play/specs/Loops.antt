@@ -6,8 +6,8 @@ use Rattle.pb_reading.specs.Fields.{◌>>=◌, rule, value_at}
 use Rattle.pb_reading.specs.Reading.{Reading, wrong}
 use Rattle.pb_play.specs.Arguments.{refuses, argument, no_other, arguments}
 use Rattle.pb_written.specs.Simple.{variable_name}
-use Rattle.pb_play.specs.Simple.{template_value}
-use Rattle.pb_play.specs.declared.fault.LoadFault.{LoadFault}
+use Rattle.pb_written.specs.Values.{template_value}
+use Rattle.pb_written.specs.declared.fault.LoadFault.{LoadFault}
 use Rattle.pb_play.specs.declared.loops.Loop.{Loop}
 
 -- a list, or a text that may give one when the task starts

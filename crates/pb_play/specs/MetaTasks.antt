@@ -6,13 +6,13 @@ use Rattle.pb_expr_syntax.specs.Tree.{Tree}
 use Rattle.pb_reading.specs.Fields.{◌>>=◌, Part, others, object, rule}
 use Rattle.pb_reading.specs.Reading.{Reading, Own}
 use Rattle.pb_reading.specs.Simple.{text}
-use Rattle.pb_play.specs.Conditions.{conditions}
-use Rattle.pb_play.specs.Faults.{refused_key}
+use Rattle.pb_written.specs.Conditions.{conditions}
+use Rattle.pb_written.specs.Faults.{refused_key}
 use Rattle.pb_play.specs.NoEffect.{has_no_effect, key}
 use Rattle.pb_play.specs.Nodes.{Written, Nothing, Task, Flush}
 use Rattle.pb_play.specs.Tasks.{plain_task}
-use Rattle.pb_play.specs.declared.fault.LoadFault.{LoadFault}
-use Rattle.pb_play.specs.declared.fault.LoadFault.TheVariants.{NoModule}
+use Rattle.pb_written.specs.declared.fault.LoadFault.{LoadFault}
+use Rattle.pb_written.specs.declared.fault.LoadFault.TheVariants.{NoModule}
 use Rattle.pb_play.specs.declared.meta.Said.{Said}
 use Rattle.pb_play.specs.declared.meta.Said.TheVariants.{Does, Flushes}
 use Rattle.pb_play.specs.declared.modules.Meta.{Meta}

@@ -9,9 +9,9 @@ use Rattle.pb_play.specs.MetaTasks.{meta}
 use Rattle.pb_play.specs.Modules.{names}
 use Rattle.pb_play.specs.Nodes.{Written, Nothing, Task, followed}
 use Rattle.pb_play.specs.Tasks.{task}
-use Rattle.pb_play.specs.declared.fault.Limit.TheVariants.{Blocks}
-use Rattle.pb_play.specs.declared.fault.LoadFault.{LoadFault}
-use Rattle.pb_play.specs.declared.fault.LoadFault.TheVariants.{TooLarge}
+use Rattle.pb_written.specs.declared.fault.Limit.TheVariants.{Blocks}
+use Rattle.pb_written.specs.declared.fault.LoadFault.{LoadFault}
+use Rattle.pb_written.specs.declared.fault.LoadFault.TheVariants.{TooLarge}
 
 -- such a key stands in an object
 abbrev pub has : (List ℕ → Bool) → json.Members → Bool

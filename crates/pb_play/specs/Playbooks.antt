@@ -5,12 +5,13 @@ use Rattle.serde_json.specs.Data as json
 use Rattle.pb_value.specs.Bytes.{json_in}
 use Rattle.pb_value.specs.Reading.{below}
 use Rattle.pb_patterns.specs.Expressions.{behind}
-use Rattle.pb_reading.specs.Reading.{Reading, Fault, WrongShape, Own, wrong, each}
+use Rattle.pb_reading.specs.Reading.{Reading, Own, wrong, each}
+use Rattle.pb_written.specs.Faults.{as_load_fault}
 use Rattle.pb_play.specs.Plays.{play, expressions_of_play}
-use Rattle.pb_play.specs.declared.fault.LoadFault.{LoadFault}
-use Rattle.pb_play.specs.declared.fault.LoadFault.TheVariants as load
-use Rattle.pb_play.specs.declared.fault.LoadFault.TheVariants.{TooLarge}
-use Rattle.pb_play.specs.declared.fault.Limit.TheVariants.{Plays}
+use Rattle.pb_written.specs.declared.fault.LoadFault.{LoadFault}
+use Rattle.pb_written.specs.declared.fault.LoadFault.TheVariants as load
+use Rattle.pb_written.specs.declared.fault.LoadFault.TheVariants.{TooLarge}
+use Rattle.pb_written.specs.declared.fault.Limit.TheVariants.{Plays}
 use Rattle.pb_play.specs.declared.play.Play.{Play}
 use Rattle.pb_play.specs.declared.playbook.Playbook.{Playbook}
 
@@ -26,11 +27,6 @@ max_plays = 256
 abbrev pub plays : json.Data → Reading (List Play) LoadFault
 plays (json.array ds) = if nat_lt max_plays (count ds) then Err (Own (TooLarge Plays)) else each play [] 0 ds
 plays d = wrong []
-
--- the fault of a playbook for that of a reading
-abbrev pub as_load_fault : Fault LoadFault → LoadFault
-as_load_fault (WrongShape path) = load.WrongShape path
-as_load_fault (Own f) = f
 
 abbrev pub as_playbook : Reading (List Play) LoadFault → Result Playbook LoadFault
 as_playbook (Ok ps) = Ok (record { plays = ps })

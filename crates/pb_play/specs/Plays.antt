@@ -6,60 +6,74 @@ use Rattle.pb_value.specs.Reading.{below}
 use Rattle.pb_patterns.specs.declared.element.Element.{Element}
 use Rattle.pb_patterns.specs.Expressions.{behind}
 use Rattle.pb_reading.specs.Fields.{◌>>=◌, Part, others, object, rule, value_at}
-use Rattle.pb_reading.specs.Reading.{Reading, required}
+use Rattle.pb_reading.specs.Reading.{Reading, each_of, required}
 use Rattle.pb_reading.specs.Simple.{text}
+use Rattle.pb_role_entries.specs.RoleEntries.{role_entry}
 use Rattle.pb_play.specs.Gathering.{begun}
+use Rattle.pb_play.specs.Handlers.{handler}
 use Rattle.pb_play.specs.Hosts.{hosts, expressions_of_hosts}
 use Rattle.pb_play.specs.NodeLists.{node_list}
 use Rattle.pb_play.specs.Nodes.{Nothing}
 use Rattle.pb_play.specs.NoEffect.{has_no_effect, key, key_or}
 use Rattle.pb_written.specs.Simple.{switched}
 use Rattle.pb_play.specs.Variables.{variables}
-use Rattle.pb_play.specs.declared.fault.LoadFault.{LoadFault}
+use Rattle.pb_written.specs.declared.fault.LoadFault.{LoadFault}
 use Rattle.pb_play.specs.declared.hosts.PlayHosts.{PlayHosts}
 use Rattle.pb_play.specs.declared.other_keys.WithoutEffect.{WithoutEffect}
+use Rattle.pb_play.specs.declared.play.BeforeHosts.{BeforeHosts}
 use Rattle.pb_play.specs.declared.play.Lists.{Lists}
 use Rattle.pb_play.specs.declared.play.Play.{Play}
 
--- the three lists of nodes
+-- what the keys in front of `hosts` say; a play that doesn't say whether it gathers facts does (Ansible's documentation, "Playbook Keywords", gather_facts)
+abbrev pub before_hosts : Part WithoutEffect LoadFault BeforeHosts
+before_hosts = do
+  force_handlers ← key_or (codes "force_handlers") switched false
+  gathers ← key_or (codes "gather_facts") switched true
+  handlers ← key_or (codes "handlers") (each_of handler) []
+  rule (Ok (record { force_handlers = force_handlers; gathers = gathers; handlers = handlers }))
+
+-- the lists of nodes, and the one of roles
 abbrev pub lists : Part WithoutEffect LoadFault Lists
 lists = do
   post_tasks ← key_or (codes "post_tasks") node_list Nothing
   pre_tasks ← key_or (codes "pre_tasks") node_list Nothing
+  roles ← key_or (codes "roles") (each_of role_entry) []
   tasks ← key_or (codes "tasks") node_list Nothing
-  rule (Ok (record { post_tasks = post_tasks; pre_tasks = pre_tasks; tasks = tasks }))
+  rule (Ok (record { post_tasks = post_tasks; pre_tasks = pre_tasks; roles = roles; tasks = tasks }))
 
 -- where it gathers facts, it begins with that
-abbrev pub play_of : (gathers : Bool) → List ℕ → List Element → List (List ℕ × Datum) → Bool → Lists → Play
-play_of gathers name hosts vars ignore_errors lists =
+abbrev pub play_of : BeforeHosts → List ℕ → List Element → List (List ℕ × Datum) → Bool → Lists → Play
+play_of before name hosts vars ignore_errors lists =
     record {
       name = name;
       hosts = hosts;
       vars = vars;
       ignore_errors = ignore_errors;
-      pre_tasks = begun gathers lists.pre_tasks;
+      pre_tasks = begun before.gathers lists.pre_tasks;
       tasks = lists.tasks;
       post_tasks = lists.post_tasks;
+      roles = lists.roles;
+      handlers = before.handlers;
+      force_handlers = before.force_handlers;
     }
 
--- a play behind its hosts; one without a name has its pattern's text as it is written, one without variables has none, and one that doesn't say whether
--- it gathers facts does (Ansible's documentation, "Playbook Keywords", gather_facts)
-abbrev pub rest_of_play : List ℕ → Option Bool → Option PlayHosts → Part WithoutEffect LoadFault Play
-rest_of_play path gather_facts hosts = do
+-- a play behind its hosts; one without a name has its pattern's text as it is written, and one without variables has none
+abbrev pub rest_of_play : List ℕ → BeforeHosts → Option PlayHosts → Part WithoutEffect LoadFault Play
+rest_of_play path before hosts = do
   ignore_errors ← key_or (codes "ignore_errors") switched false
   name ← key (codes "name") text
   lists ← lists
   vars ← key_or (codes "vars") variables []
   _ ← others has_no_effect
   h ← rule (required path hosts)
-  rule (Ok (play_of (unwrap_or gather_facts true) (unwrap_or name h.text) h.pattern vars ignore_errors lists))
+  rule (Ok (play_of before (unwrap_or name h.text) h.pattern vars ignore_errors lists))
 
 -- a play
 unfoldable pub play : List ℕ → json.Data → Reading Play LoadFault
 play path = object (record {}) (do
-  gather_facts ← key (codes "gather_facts") switched
+  before ← before_hosts
   hosts ← key (codes "hosts") hosts
-  rest_of_play path gather_facts hosts) path
+  rest_of_play path before hosts) path
 
 -- the regular expressions that are met in a play: those of its hosts, where the keys before them have no fault
 abbrev pub expressions_at : List ℕ → Option json.Data → List (List ℕ)
@@ -68,6 +82,6 @@ expressions_at path (Some d) = expressions_of_hosts path d
 
 unfoldable pub expressions_of_play : List ℕ → json.Data → List (List ℕ)
 expressions_of_play path (json.object ms) =
-    behind (key (codes "gather_facts") switched (record { path = path; members = ms; told = record {} })) (λ facts.
-    behind (value_at has_no_effect (codes "hosts") facts.ahead) (λ hosts. expressions_at (below path (codes "hosts")) hosts.value))
+    behind (before_hosts (record { path = path; members = ms; told = record {} })) (λ before.
+    behind (value_at has_no_effect (codes "hosts") before.ahead) (λ hosts. expressions_at (below path (codes "hosts")) hosts.value))
 expressions_of_play path d = []

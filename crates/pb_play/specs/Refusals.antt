@@ -4,8 +4,8 @@ use Rattle.pb_patterns.specs.Expressions.{AreTaken, IsFirstFault}
 use Rattle.pb_reading.specs.Reading.{Reading, WrongShape, Own}
 use Rattle.pb_reading.specs.declared.stop.Stop.{Stop}
 use Rattle.pb_reading.specs.declared.stop.Stop.TheVariants as stop
-use Rattle.pb_play.specs.declared.fault.LoadFault.{LoadFault}
-use Rattle.pb_play.specs.declared.fault.LoadFault.TheVariants.{BadPattern}
+use Rattle.pb_written.specs.declared.fault.LoadFault.{LoadFault}
+use Rattle.pb_written.specs.declared.fault.LoadFault.TheVariants.{BadPattern}
 
 -- What a reader returned that meets these expressions: the value that its definition gives, where all of them are taken; or the first fault, which is
 -- BadPattern for one that is refused.

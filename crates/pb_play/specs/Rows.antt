@@ -15,7 +15,9 @@ use Rattle.pb_patterns.specs.declared.element.Element.{Element}
 use Rattle.pb_patterns.specs.declared.element.Mark.TheVariants.{Unmarked, Met, Excluded}
 use Rattle.pb_patterns.specs.declared.element.Subscript.TheVariants.{At}
 use Rattle.pb_patterns.specs.declared.element.What.TheVariants.{Term, Regex}
-use Rattle.pb_play.specs.Conditions.{conditions}
+use Rattle.pb_written.specs.Conditions.{conditions}
+use Rattle.pb_role_entries.specs.RoleEntries.{named_alone, role_entry}
+use Rattle.pb_play.specs.Handlers.{handler}
 use Rattle.pb_play.specs.Playbooks.{playbook_of, expressions_of_book}
 use Rattle.pb_reading.specs.Fields.{field, field_or, others}
 use Rattle.pb_play.specs.Plays.{play, expressions_of_play}
@@ -23,14 +25,14 @@ use Rattle.pb_play.specs.NodeLists.{nodes}
 use Rattle.pb_play.specs.Nodes.{Written, Nothing, Task}
 use Rattle.pb_play.specs.Tasks.{task, tells_of_task, plain_task}
 use Rattle.pb_written.specs.Templates.{is_template}
-use Rattle.pb_play.specs.declared.fault.LoadFault.TheVariants.{NotJson, WrongShape, NotInProfile, NoModule, TwoModules, BadExpression, BadPattern}
+use Rattle.pb_written.specs.declared.fault.LoadFault.TheVariants.{NotJson, WrongShape, NotInProfile, NoModule, TwoModules, BadExpression, BadPattern}
 use Rattle.pb_play.specs.declared.commands.CommandWords.TheVariants.{Line, Argv}
 use Rattle.pb_play.specs.declared.modules.Module.TheVariants.{Assert, Command, Debug, DebugVar, Fail, SetFact, Setup, Shell}
 use Rattle.pb_play.specs.declared.task.Task as declared
 
 -- what computes a row from its text
 unfoldable on_literals : ⊤
-unfolding conditions playbook_of expressions_of_book play expressions_of_play nodes task tells_of_task field field_or others pattern_of expressions_of is_template template_of tree_of tree_of_tokens json_in utf8_valid_len is_utf8 chars digits value_of serde_json_on_literals
+unfolding role_entry handler conditions playbook_of expressions_of_book play expressions_of_play nodes task tells_of_task field field_or others pattern_of expressions_of is_template template_of tree_of tree_of_tokens json_in utf8_valid_len is_utf8 chars digits value_of serde_json_on_literals
 on_literals = tt
 
 -- a list of tasks alone
@@ -43,13 +45,13 @@ abbrev all_hosts : List Element
 all_hosts = record { text = codes "all"; mark = Unmarked; what = Term (codes "all") None } ∷ []
 
 hello : playbook_of (codes "[{\"hosts\":\"all\",\"gather_facts\":false,\"tasks\":[{\"name\":\"hi\",\"debug\":{\"msg\":\"hello\"}}]}]")
-    ≡ Ok (record { plays = record { name = codes "all"; hosts = all_hosts; vars = []; ignore_errors = false; pre_tasks = Nothing; tasks = only (plain_task (codes "hi") [] (Debug (text (codes "hello"))) ∷ []); post_tasks = Nothing } ∷ [] })
+    ≡ Ok (record { plays = record { name = codes "all"; hosts = all_hosts; vars = []; ignore_errors = false; pre_tasks = Nothing; tasks = only (plain_task (codes "hi") [] (Debug (text (codes "hello"))) ∷ []); post_tasks = Nothing; roles = []; handlers = []; force_handlers = false } ∷ [] })
 unfolding on_literals
 hello = refl
 
 -- a task without a name has its module's, without the prefix; `debug` shows `Hello world!` where nothing is said
 nothing_said : playbook_of (codes "[{\"hosts\":\"all\",\"name\":\"p\",\"gather_facts\":\"No\",\"tasks\":[{\"ansible.builtin.debug\":{}}]}]")
-    ≡ Ok (record { plays = record { name = codes "p"; hosts = all_hosts; vars = []; ignore_errors = false; pre_tasks = Nothing; tasks = only (plain_task (codes "debug") [] (Debug (text (codes "Hello world!"))) ∷ []); post_tasks = Nothing } ∷ [] })
+    ≡ Ok (record { plays = record { name = codes "p"; hosts = all_hosts; vars = []; ignore_errors = false; pre_tasks = Nothing; tasks = only (plain_task (codes "debug") [] (Debug (text (codes "Hello world!"))) ∷ []); post_tasks = Nothing; roles = []; handlers = []; force_handlers = false } ∷ [] })
 unfolding on_literals
 nothing_said = refl
 
@@ -73,7 +75,7 @@ no_arguments = refl
 
 -- a template is kept as it is written
 template : playbook_of (codes "[{\"hosts\":\"all\",\"gather_facts\":false,\"tasks\":[{\"debug\":{\"msg\":\"{{ x }}\"}}]}]")
-    ≡ Ok (record { plays = record { name = codes "all"; hosts = all_hosts; vars = []; ignore_errors = false; pre_tasks = Nothing; tasks = only (plain_task (codes "debug") [] (Debug (text (codes "{{ x }}"))) ∷ []); post_tasks = Nothing } ∷ [] })
+    ≡ Ok (record { plays = record { name = codes "all"; hosts = all_hosts; vars = []; ignore_errors = false; pre_tasks = Nothing; tasks = only (plain_task (codes "debug") [] (Debug (text (codes "{{ x }}"))) ∷ []); post_tasks = Nothing; roles = []; handlers = []; force_handlers = false } ∷ [] })
 unfolding on_literals
 template = refl
 
@@ -97,7 +99,7 @@ no_hosts = refl
 
 -- facts are gathered where that isn't switched off: a play's first task does it, in front of its pre_tasks
 gathering : playbook_of (codes "[{\"hosts\":\"all\"}]")
-    ≡ Ok (record { plays = record { name = codes "all"; hosts = all_hosts; vars = []; ignore_errors = false; pre_tasks = only (plain_task (codes "Gathering Facts") [] Setup ∷ []); tasks = Nothing; post_tasks = Nothing } ∷ [] })
+    ≡ Ok (record { plays = record { name = codes "all"; hosts = all_hosts; vars = []; ignore_errors = false; pre_tasks = only (plain_task (codes "Gathering Facts") [] Setup ∷ []); tasks = Nothing; post_tasks = Nothing; roles = []; handlers = []; force_handlers = false } ∷ [] })
 unfolding on_literals
 gathering = refl
 
@@ -112,6 +114,9 @@ gathering_first : playbook_of (codes "[{\"hosts\":\"all\",\"gather_facts\":\"Yes
         pre_tasks = only (plain_task (codes "Gathering Facts") [] Setup ∷ plain_task (codes "debug") [] (Debug (text (codes "Hello world!"))) ∷ []);
         tasks = Nothing;
         post_tasks = Nothing;
+        roles = [];
+        handlers = [];
+        force_handlers = false;
       } ∷ [];
     })
 unfolding on_literals
@@ -132,6 +137,9 @@ text_of_hosts : playbook_of (codes "[{\"hosts\":\" web : &db\",\"gather_facts\":
         pre_tasks = Nothing;
         tasks = Nothing;
         post_tasks = Nothing;
+        roles = [];
+        handlers = [];
+        force_handlers = false;
       } ∷ [];
     })
 unfolding on_literals
@@ -148,6 +156,9 @@ list_of_hosts : playbook_of (codes "[{\"hosts\":[\"web[0]\",\" \",\"!a\"],\"gath
         pre_tasks = Nothing;
         tasks = Nothing;
         post_tasks = Nothing;
+        roles = [];
+        handlers = [];
+        force_handlers = false;
       } ∷ [];
     })
 unfolding on_literals
@@ -155,7 +166,7 @@ list_of_hosts = refl
 
 -- `~` alone is the empty regular expression
 empty_regex : playbook_of (codes "[{\"hosts\":\"~\",\"gather_facts\":false}]")
-    ≡ Ok (record { plays = record { name = codes "~"; hosts = record { text = codes "~"; mark = Unmarked; what = Regex [] } ∷ []; vars = []; ignore_errors = false; pre_tasks = Nothing; tasks = Nothing; post_tasks = Nothing } ∷ [] })
+    ≡ Ok (record { plays = record { name = codes "~"; hosts = record { text = codes "~"; mark = Unmarked; what = Regex [] } ∷ []; vars = []; ignore_errors = false; pre_tasks = Nothing; tasks = Nothing; post_tasks = Nothing; roles = []; handlers = []; force_handlers = false } ∷ [] })
 unfolding on_literals
 empty_regex = refl
 
@@ -209,6 +220,9 @@ three_lists : playbook_of (codes "[{\"hosts\":\"all\",\"gather_facts\":false,\"p
         pre_tasks = only (plain_task (codes "a") [] (Debug (text (codes "Hello world!"))) ∷ []);
         tasks = Nothing;
         post_tasks = only (plain_task (codes "debug") [] (Debug (text (codes "Hello world!"))) ∷ []);
+        roles = [];
+        handlers = [];
+        force_handlers = false;
       } ∷ [];
     })
 unfolding on_literals
@@ -220,12 +234,12 @@ no_pre_task = refl
 
 -- keys without effect aren't read as values
 without_effect_on_plays : playbook_of (codes "[{\"hosts\":\"all\",\"gather_facts\":false,\"connection\":\"local\",\"gather_subset\":1.5,\"no_log\":\"Off\",\"remote_user\":1.5,\"tags\":\"nevermore,always\"}]")
-    ≡ Ok (record { plays = record { name = codes "all"; hosts = all_hosts; vars = []; ignore_errors = false; pre_tasks = Nothing; tasks = Nothing; post_tasks = Nothing } ∷ [] })
+    ≡ Ok (record { plays = record { name = codes "all"; hosts = all_hosts; vars = []; ignore_errors = false; pre_tasks = Nothing; tasks = Nothing; post_tasks = Nothing; roles = []; handlers = []; force_handlers = false } ∷ [] })
 unfolding on_literals
 without_effect_on_plays = refl
 
 without_effect_on_tasks : playbook_of (codes "[{\"hosts\":\"all\",\"gather_facts\":false,\"tasks\":[{\"debug\":{},\"connection\":\"local\",\"gather_subset\":1.5,\"no_log\":false,\"remote_user\":1.5,\"tags\":[1.5,\"a\"]}]}]")
-    ≡ Ok (record { plays = record { name = codes "all"; hosts = all_hosts; vars = []; ignore_errors = false; pre_tasks = Nothing; tasks = only (plain_task (codes "debug") [] (Debug (text (codes "Hello world!"))) ∷ []); post_tasks = Nothing } ∷ [] })
+    ≡ Ok (record { plays = record { name = codes "all"; hosts = all_hosts; vars = []; ignore_errors = false; pre_tasks = Nothing; tasks = only (plain_task (codes "debug") [] (Debug (text (codes "Hello world!"))) ∷ []); post_tasks = Nothing; roles = []; handlers = []; force_handlers = false } ∷ [] })
 unfolding on_literals
 without_effect_on_tasks = refl
 
@@ -259,6 +273,9 @@ commands : playbook_of (codes "[{\"hosts\":\"all\",\"gather_facts\":false,\"task
             plain_task (codes "command") [] (Command (Line (codes "'"))) ∷
             plain_task (codes "command") [] (Command (Argv (text (codes "ls") ∷ int (pos 1) ∷ null ∷ []))) ∷ []);
         post_tasks = Nothing;
+        roles = [];
+        handlers = [];
+        force_handlers = false;
       } ∷ [];
     })
 unfolding on_literals
@@ -274,6 +291,9 @@ shells : playbook_of (codes "[{\"hosts\":\"all\",\"gather_facts\":false,\"tasks\
         pre_tasks = Nothing;
         tasks = only (plain_task (codes "shell") [] (Shell []) ∷ plain_task (codes "shell") [] (Shell (codes "a | b")) ∷ []);
         post_tasks = Nothing;
+        roles = [];
+        handlers = [];
+        force_handlers = false;
       } ∷ [];
     })
 unfolding on_literals
@@ -289,6 +309,9 @@ fails : playbook_of (codes "[{\"hosts\":\"all\",\"gather_facts\":false,\"tasks\"
         pre_tasks = Nothing;
         tasks = only (plain_task (codes "fail") [] (Fail (text (codes "Failed as requested from task"))) ∷ plain_task (codes "fail") [] (Fail (int (pos 1))) ∷ []);
         post_tasks = Nothing;
+        roles = [];
+        handlers = [];
+        force_handlers = false;
       } ∷ [];
     })
 unfolding on_literals
@@ -305,6 +328,9 @@ setups : playbook_of (codes "[{\"hosts\":\"all\",\"gather_facts\":false,\"tasks\
         pre_tasks = Nothing;
         tasks = only (plain_task (codes "setup") [] Setup ∷ plain_task (codes "setup") [] Setup ∷ []);
         post_tasks = Nothing;
+        roles = [];
+        handlers = [];
+        force_handlers = false;
       } ∷ [];
     })
 unfolding on_literals
@@ -359,6 +385,9 @@ no_template_in_key : playbook_of (codes "[{\"hosts\":\"all\",\"gather_facts\":fa
         pre_tasks = Nothing;
         tasks = only (plain_task (codes "fail") [] (Fail (dict (member (codes "{% x") (text (codes "a")) no_members))) ∷ []);
         post_tasks = Nothing;
+        roles = [];
+        handlers = [];
+        force_handlers = false;
       } ∷ [];
     })
 unfolding on_literals
@@ -375,6 +404,9 @@ variables : playbook_of (codes "[{\"hosts\":\"all\",\"gather_facts\":false,\"var
         pre_tasks = Nothing;
         tasks = only (plain_task (codes "debug") ((codes "-", null) ∷ []) (Debug (text (codes "Hello world!"))) ∷ []);
         post_tasks = Nothing;
+        roles = [];
+        handlers = [];
+        force_handlers = false;
       } ∷ [];
     })
 unfolding on_literals
@@ -394,7 +426,7 @@ no_template_in_variable = refl
 
 -- `debug` shows the value of an expression, which stands without braces
 shown : playbook_of (codes "[{\"hosts\":\"all\",\"gather_facts\":false,\"tasks\":[{\"debug\":{\"var\":\"x\"}}]}]")
-    ≡ Ok (record { plays = record { name = codes "all"; hosts = all_hosts; vars = []; ignore_errors = false; pre_tasks = Nothing; tasks = only (plain_task (codes "debug") [] (DebugVar (codes "x") (Name (codes "x"))) ∷ []); post_tasks = Nothing } ∷ [] })
+    ≡ Ok (record { plays = record { name = codes "all"; hosts = all_hosts; vars = []; ignore_errors = false; pre_tasks = Nothing; tasks = only (plain_task (codes "debug") [] (DebugVar (codes "x") (Name (codes "x"))) ∷ []); post_tasks = Nothing; roles = []; handlers = []; force_handlers = false } ∷ [] })
 unfolding on_literals
 shown = refl
 
@@ -423,16 +455,19 @@ unfolding on_literals
 other_prefix = refl
 
 -- all keys of a play at once, in the order of their bytes
-all_keys_of_play : playbook_of (codes "[{\"connection\":\"local\",\"gather_facts\":false,\"gather_subset\":[],\"hosts\":\"all\",\"name\":\"p\",\"no_log\":false,\"post_tasks\":[{\"shell\":\"c\"}],\"pre_tasks\":[{\"shell\":\"a\"}],\"remote_user\":\"r\",\"tags\":\"t\",\"tasks\":[{\"shell\":\"b\"}],\"vars\":{\"x\":1}}]")
+all_keys_of_play : playbook_of (codes "[{\"connection\":\"local\",\"force_handlers\":true,\"gather_facts\":false,\"gather_subset\":[],\"handlers\":[{\"shell\":\"h\"}],\"hosts\":\"all\",\"ignore_errors\":true,\"name\":\"p\",\"no_log\":false,\"post_tasks\":[{\"shell\":\"c\"}],\"pre_tasks\":[{\"shell\":\"a\"}],\"remote_user\":\"r\",\"roles\":[\"app\"],\"tags\":\"t\",\"tasks\":[{\"shell\":\"b\"}],\"vars\":{\"x\":1}}]")
     ≡ Ok (record {
       plays = record {
         name = codes "p";
         hosts = all_hosts;
         vars = (codes "x", int (pos 1)) ∷ [];
-        ignore_errors = false;
+        ignore_errors = true;
         pre_tasks = only (plain_task (codes "shell") [] (Shell (codes "a")) ∷ []);
         tasks = only (plain_task (codes "shell") [] (Shell (codes "b")) ∷ []);
         post_tasks = only (plain_task (codes "shell") [] (Shell (codes "c")) ∷ []);
+        roles = named_alone (codes "app") ∷ [];
+        handlers = record { task = plain_task (codes "shell") [] (Shell (codes "h")); listens = [] } ∷ [];
+        force_handlers = true;
       } ∷ [];
     })
 unfolding on_literals
@@ -449,6 +484,9 @@ all_keys_of_task : playbook_of (codes "[{\"hosts\":\"all\",\"gather_facts\":fals
         pre_tasks = Nothing;
         tasks = only (plain_task (codes "n") ((codes "x", int (pos 1)) ∷ []) (Shell (codes "a")) ∷ []);
         post_tasks = Nothing;
+        roles = [];
+        handlers = [];
+        force_handlers = false;
       } ∷ [];
     })
 unfolding on_literals
@@ -473,6 +511,9 @@ all_arguments_of_fail_and_shell : playbook_of (codes "[{\"hosts\":\"all\",\"gath
         pre_tasks = Nothing;
         tasks = only (plain_task (codes "fail") [] (Fail (text (codes "a"))) ∷ plain_task (codes "shell") [] (Shell (codes "b")) ∷ []);
         post_tasks = Nothing;
+        roles = [];
+        handlers = [];
+        force_handlers = false;
       } ∷ [];
     })
 unfolding on_literals
@@ -494,6 +535,9 @@ keys_of_a_task : playbook_of (codes "[{\"hosts\":\"all\",\"gather_facts\":false,
               ignore_errors = Some true;
             } ∷ []);
         post_tasks = Nothing;
+        roles = [];
+        handlers = [];
+        force_handlers = false;
       } ∷ [];
     })
 unfolding on_literals
@@ -512,6 +556,9 @@ keys_of_a_play : playbook_of (codes "[{\"hosts\":\"all\",\"gather_facts\":false,
             only (plain_task (codes "assert") [] (Assert (Name (codes "x") ∷ []) (text (codes "Assertion failed")) (text (codes "All assertions passed"))) ∷
             record (plain_task (codes "fail") [] (Fail (text (codes "Failed as requested from task")))) { ignore_errors = Some false } ∷ []);
         post_tasks = Nothing;
+        roles = [];
+        handlers = [];
+        force_handlers = false;
       } ∷ [];
     })
 unfolding on_literals
@@ -535,6 +582,9 @@ keys_of_a_result : playbook_of (codes "[{\"hosts\":\"all\",\"gather_facts\":fals
             only (record (plain_task (codes "shell") [] (Shell (codes "a"))) { register = Some (codes "r"); changed_when = Some (Truth false ∷ []); failed_when = Some (Name (codes "x") ∷ []) }
             ∷ plain_task (codes "set_fact") [] (SetFact ((codes "y", int (pos 1)) ∷ [])) ∷ []);
         post_tasks = Nothing;
+        roles = [];
+        handlers = [];
+        force_handlers = false;
       } ∷ [];
     })
 unfolding on_literals
@@ -547,6 +597,151 @@ no_name_of_register = refl
 no_condition_of_change : playbook_of (codes "[{\"hosts\":\"all\",\"gather_facts\":false,\"tasks\":[{\"changed_when\":1,\"zzz\":1,\"debug\":{}}]}]") ≡ Err (WrongShape (codes "0/tasks/0/changed_when"))
 unfolding on_literals
 no_condition_of_change = refl
+
+-- the handlers that a task notifies, a text or a list of texts; a block notifies none
+notified : playbook_of (codes "[{\"hosts\":\"all\",\"gather_facts\":false,\"tasks\":[{\"notify\":\"h\",\"setup\":{}},{\"notify\":[\"h\",\"web\"],\"setup\":{}},{\"notify\":[],\"setup\":{}}]}]")
+    ≡ Ok (record {
+      plays = record {
+        name = codes "all";
+        hosts = all_hosts;
+        vars = [];
+        ignore_errors = false;
+        pre_tasks = Nothing;
+        tasks =
+            only (record (plain_task (codes "setup") [] Setup) { notify = codes "h" ∷ [] } ∷ record (plain_task (codes "setup") [] Setup) { notify = codes "h" ∷ codes "web" ∷ [] } ∷ plain_task (codes "setup") [] Setup ∷ []);
+        post_tasks = Nothing;
+        roles = [];
+        handlers = [];
+        force_handlers = false;
+      } ∷ [];
+    })
+unfolding on_literals
+notified = refl
+
+number_is_notified : playbook_of (codes "[{\"hosts\":\"all\",\"tasks\":[{\"notify\":5,\"zzz\":1,\"debug\":{}}]}]") ≡ Err (WrongShape (codes "0/tasks/0/notify"))
+unfolding on_literals
+number_is_notified = refl
+
+null_is_notified : playbook_of (codes "[{\"hosts\":\"all\",\"tasks\":[{\"notify\":[\"h\",null],\"debug\":{}}]}]") ≡ Err (WrongShape (codes "0/tasks/0/notify/1"))
+unfolding on_literals
+null_is_notified = refl
+
+block_notifies : playbook_of (codes "[{\"hosts\":\"all\",\"tasks\":[{\"block\":[],\"notify\":\"h\"}]}]") ≡ Err (NotInProfile (codes "notify"))
+unfolding on_literals
+block_notifies = refl
+
+meta_notifies : playbook_of (codes "[{\"hosts\":\"all\",\"tasks\":[{\"meta\":\"noop\",\"notify\":\"h\"}]}]") ≡ Err (NotInProfile (codes "notify"))
+unfolding on_literals
+meta_notifies = refl
+
+-- a play's roles, its handlers, and whether they are forced
+keys_of_roles_and_handlers : playbook_of (codes "[{\"force_handlers\":\"on\",\"gather_facts\":false,\"handlers\":[{\"name\":\"h\",\"setup\":{},\"listen\":\"web\",\"notify\":\"g\",\"register\":\"r\"},{\"shell\":\"a\"}],\"hosts\":\"all\",\"roles\":[\"app\",{\"role\":\"base\",\"x\":1}]}]")
+    ≡ Ok (record {
+      plays = record {
+        name = codes "all";
+        hosts = all_hosts;
+        vars = [];
+        ignore_errors = false;
+        pre_tasks = Nothing;
+        tasks = Nothing;
+        post_tasks = Nothing;
+        roles = named_alone (codes "app") ∷ record (named_alone (codes "base")) { params = (codes "x", int (pos 1)) ∷ [] } ∷ [];
+        handlers =
+            record { task = record (plain_task (codes "h") [] Setup) { notify = codes "g" ∷ []; register = Some (codes "r") }; listens = codes "web" ∷ [] } ∷
+            record { task = plain_task (codes "shell") [] (Shell (codes "a")); listens = [] } ∷ [];
+        force_handlers = true;
+      } ∷ [];
+    })
+unfolding on_literals
+keys_of_roles_and_handlers = refl
+
+-- all keys of a handler at once, with one module
+all_keys_of_handler : playbook_of (codes "[{\"gather_facts\":false,\"handlers\":[{\"changed_when\":\"a\",\"failed_when\":\"b\",\"ignore_errors\":true,\"listen\":[\"web\",\"db\"],\"loop\":[1],\"loop_control\":{\"loop_var\":\"v\"},\"name\":\"n\",\"notify\":[\"g\"],\"register\":\"r\",\"setup\":{},\"vars\":{\"x\":1},\"when\":\"c\"}],\"hosts\":\"all\"}]")
+    ≡ Ok (record {
+      plays = record {
+        name = codes "all";
+        hosts = all_hosts;
+        vars = [];
+        ignore_errors = false;
+        pre_tasks = Nothing;
+        tasks = Nothing;
+        post_tasks = Nothing;
+        roles = [];
+        handlers =
+            record {
+              task = record {
+                name = codes "n";
+                vars = (codes "x", int (pos 1)) ∷ [];
+                «module» = Setup;
+                conditions = Name (codes "c") ∷ [];
+                looped = Some (record { over = list (items_of (int (pos 1) ∷ [])); variable = codes "v" });
+                register = Some (codes "r");
+                changed_when = Some (Name (codes "a") ∷ []);
+                failed_when = Some (Name (codes "b") ∷ []);
+                ignore_errors = Some true;
+                notify = codes "g" ∷ [];
+              };
+              listens = codes "web" ∷ codes "db" ∷ [];
+            } ∷ [];
+        force_handlers = false;
+      } ∷ [];
+    })
+unfolding on_literals
+all_keys_of_handler = refl
+
+no_switch_of_handlers : playbook_of (codes "[{\"force_handlers\":1,\"gather_facts\":1}]") ≡ Err (WrongShape (codes "0/force_handlers"))
+unfolding on_literals
+no_switch_of_handlers = refl
+
+-- a handler is neither a block nor a meta task: their keys aren't read there, as `listen` isn't on a task
+block_as_handler : playbook_of (codes "[{\"handlers\":[{\"setup\":{}},{\"block\":[]}],\"hosts\":3}]") ≡ Err (NotInProfile (codes "block"))
+unfolding on_literals
+block_as_handler = refl
+
+meta_as_handler : playbook_of (codes "[{\"handlers\":[{\"meta\":\"noop\"}],\"hosts\":\"all\"}]") ≡ Err (NotInProfile (codes "meta"))
+unfolding on_literals
+meta_as_handler = refl
+
+task_listens : playbook_of (codes "[{\"hosts\":\"all\",\"tasks\":[{\"listen\":\"x\",\"setup\":{}}]}]") ≡ Err (NotInProfile (codes "listen"))
+unfolding on_literals
+task_listens = refl
+
+number_listens : playbook_of (codes "[{\"handlers\":[{\"listen\":[\"x\",1],\"setup\":{}}],\"hosts\":\"all\"}]") ≡ Err (WrongShape (codes "0/handlers/0/listen/1"))
+unfolding on_literals
+number_listens = refl
+
+no_module_of_handler : playbook_of (codes "[{\"handlers\":[{\"name\":\"h\"}],\"hosts\":\"all\"}]") ≡ Err NoModule
+unfolding on_literals
+no_module_of_handler = refl
+
+text_as_handler : playbook_of (codes "[{\"handlers\":[{\"setup\":{}},\"h\"],\"hosts\":\"all\"}]") ≡ Err (WrongShape (codes "0/handlers/1"))
+unfolding on_literals
+text_as_handler = refl
+
+no_list_of_handlers : playbook_of (codes "[{\"handlers\":{},\"hosts\":\"all\"}]") ≡ Err (WrongShape (codes "0/handlers"))
+unfolding on_literals
+no_list_of_handlers = refl
+
+-- handlers stand in front of hosts, and roles behind them, between `pre_tasks` and `tasks`
+handlers_before_hosts : playbook_of (codes "[{\"handlers\":1,\"hosts\":[]}]") ≡ Err (WrongShape (codes "0/handlers"))
+unfolding on_literals
+handlers_before_hosts = refl
+
+no_expression_behind_handlers : expressions_of_book (codes "[{\"handlers\":1,\"hosts\":\"~b\"}]") ≡ []
+unfolding on_literals
+no_expression_behind_handlers = refl
+
+roles_before_tasks : playbook_of (codes "[{\"hosts\":\"all\",\"roles\":\"app\",\"tasks\":1}]") ≡ Err (WrongShape (codes "0/roles"))
+unfolding on_literals
+roles_before_tasks = refl
+
+no_role_at_entry : playbook_of (codes "[{\"hosts\":\"all\",\"roles\":[\"app\",{\"x\":1}]}]") ≡ Err (WrongShape (codes "0/roles/1"))
+unfolding on_literals
+no_role_at_entry = refl
+
+refused_at_entry : playbook_of (codes "[{\"hosts\":\"all\",\"roles\":[{\"become\":true,\"role\":\"app\"}]}]") ≡ Err (NotInProfile (codes "become"))
+unfolding on_literals
+refused_at_entry = refl
 
 -- a key in front comes first
 fault_in_front : playbook_of (codes "[{\"hosts\":\"all\",\"gather_facts\":false,\"tasks\":[{\"name\":1,\"when\":\"x\"}]}]") ≡ Err (WrongShape (codes "0/tasks/0/name"))

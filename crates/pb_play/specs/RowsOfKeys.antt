@@ -16,14 +16,14 @@ use Rattle.pb_reading.specs.Reading.{Reading, WrongShape, Own}
 use Rattle.pb_written.specs.Simple.{switched}
 use Rattle.pb_written.specs.Templates.{is_template}
 use Rattle.pb_play.specs.Assert.{assert}
-use Rattle.pb_play.specs.Conditions.{conditions}
+use Rattle.pb_written.specs.Conditions.{conditions}
 use Rattle.pb_play.specs.Facts.{set_fact, setup}
 use Rattle.pb_play.specs.Gathering.{begun}
 use Rattle.pb_play.specs.Loops.{over, control, looped}
 use Rattle.pb_play.specs.Nodes.{Nothing, Task}
 use Rattle.pb_play.specs.Tasks.{plain_task}
-use Rattle.pb_play.specs.declared.fault.LoadFault.{LoadFault}
-use Rattle.pb_play.specs.declared.fault.LoadFault.TheVariants.{NotInProfile, BadExpression}
+use Rattle.pb_written.specs.declared.fault.LoadFault.{LoadFault}
+use Rattle.pb_written.specs.declared.fault.LoadFault.TheVariants.{NotInProfile, BadExpression}
 use Rattle.pb_play.specs.declared.modules.Module.TheVariants.{Assert, Debug, SetFact, Setup}
 
 -- what computes a row from its text

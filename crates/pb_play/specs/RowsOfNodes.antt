@@ -14,13 +14,13 @@ use Rattle.pb_template.specs.Computed.{template_of}
 use Rattle.pb_reading.specs.Fields.{field, field_or, others}
 use Rattle.pb_reading.specs.Reading.{Reading, WrongShape, Own}
 use Rattle.pb_written.specs.Templates.{is_template}
-use Rattle.pb_play.specs.Conditions.{conditions}
+use Rattle.pb_written.specs.Conditions.{conditions}
 use Rattle.pb_play.specs.NodeLists.{nodes, node_list}
 use Rattle.pb_play.specs.Nodes.{Written, Nothing, Task, Block, Flush}
 use Rattle.pb_play.specs.Tasks.{task, tells_of_task, plain_task}
-use Rattle.pb_play.specs.declared.fault.Limit.TheVariants.{Blocks}
-use Rattle.pb_play.specs.declared.fault.LoadFault.{LoadFault}
-use Rattle.pb_play.specs.declared.fault.LoadFault.TheVariants.{NotInProfile, NoModule, TooLarge}
+use Rattle.pb_written.specs.declared.fault.Limit.TheVariants.{Blocks}
+use Rattle.pb_written.specs.declared.fault.LoadFault.{LoadFault}
+use Rattle.pb_written.specs.declared.fault.LoadFault.TheVariants.{NotInProfile, NoModule, TooLarge}
 use Rattle.pb_play.specs.declared.modules.Meta.TheVariants.{Noop, EndHost}
 use Rattle.pb_play.specs.declared.modules.Module.TheVariants.{Meta, Shell}
 use Rattle.pb_play.specs.declared.node.BlockKeys.{BlockKeys}

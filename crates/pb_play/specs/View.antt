@@ -3,7 +3,7 @@ use Rattle.std.specs.Prelude.{◌≡◌, List, [], ◌∷◌, map, Result, Ok, E
 use Rattle.pb_reading.specs.Reading.{Reading, Stops}
 use Rattle.pb_reading.specs.declared.stop.Stop.{Stop}
 use Rattle.pb_play.specs.Nodes.{Written, Nothing, Task, Block, Flush}
-use Rattle.pb_play.specs.declared.fault.LoadFault.{LoadFault}
+use Rattle.pb_written.specs.declared.fault.LoadFault.{LoadFault}
 use Rattle.pb_play.specs.declared.node.Node.{Node}
 use Rattle.pb_play.specs.declared.node.Node.TheOpen.{Node-F, Task as OneTask, Block as OneBlock, Flush as OneFlush}
 use Rattle.pb_play.specs.declared.node.Node.TheFolds.{fold-Node}

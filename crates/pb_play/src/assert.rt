@@ -4,18 +4,18 @@ ghost use Rattle.pb_reading.specs.Ahead.{ahead, Takes};
 ghost use Rattle.pb_reading.specs.Reading.{Gives};
 ghost use Rattle.pb_play.specs.Assert.{at_most_one, asserted, said, assert};
 
-use crate::conditions::Conditions;
-use crate::fault::LoadFault;
 use crate::messages::or_said;
 use crate::modules::Module;
 use crate::other_keys::NoArguments;
-use crate::simple::TemplateValue;
 use pb_expr_syntax::tree::Expr;
 use pb_reading::keys::Keys;
 use pb_reading::stop::{Stop, required, wrong};
 use pb_value::items::Items;
 use pb_value::text::Text;
 use pb_value::val::Val;
+use pb_written::conditions::Conditions;
+use pb_written::fault::LoadFault;
+use pb_written::values::TemplateValue;
 use serde_json::Value;
 use std::alloc::Global;
 

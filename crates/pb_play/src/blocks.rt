@@ -7,18 +7,18 @@ ghost use Rattle.pb_play.specs.Blocks.{told_of_block, rest_of_block};
 ghost use Rattle.pb_play.specs.Nodes.{Nothing, Block};
 ghost use Rattle.pb_play.specs.View.{IsRead, node_of};
 
-use crate::conditions::Conditions;
-use crate::fault::LoadFault;
 use crate::node::{BlockKeys, Node, NodeList};
 use crate::other_keys::WithoutEffect;
-use crate::simple::TemplateValue;
 use pb_reading::keys::Keys;
 use pb_reading::list::EachNamed;
 use pb_reading::simple::PlainText;
 use pb_reading::stop::Stop;
 use pb_value::items::Items;
 use pb_value::val::Dict;
+use pb_written::conditions::Conditions;
+use pb_written::fault::LoadFault;
 use pb_written::simple::Switch;
+use pb_written::values::TemplateValue;
 use std::alloc::Global;
 
 /// The parts of a block whose keys come first.

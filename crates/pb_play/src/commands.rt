@@ -3,14 +3,14 @@ ghost use Rattle.serde_json.specs.View.{view};
 ghost use Rattle.pb_reading.specs.Reading.{Gives};
 ghost use Rattle.pb_play.specs.Commands.{listed, argv, one_of, command, shell};
 
-use crate::fault::LoadFault;
 use crate::other_keys::NoArguments;
-use crate::simple::{TemplateText, TemplateValue};
 use pb_reading::keys::Keys;
 use pb_reading::reads::Reads;
 use pb_reading::stop::{Stop, required, wrong};
 use pb_value::text::Text;
 use pb_value::val::{Node, Val, ValList};
+use pb_written::fault::LoadFault;
+use pb_written::values::{TemplateText, TemplateValue};
 use serde_json::Value;
 use std::alloc::Global;
 

@@ -2,16 +2,16 @@ ghost use Rattle.serde_json.specs.View.{view};
 ghost use Rattle.pb_reading.specs.Reading.{Gives};
 ghost use Rattle.pb_play.specs.Facts.{one_more_fact, set_fact, setup};
 
-use crate::fault::{LoadFault, not_in_profile};
 use crate::modules::Module;
 use crate::other_keys::NoArguments;
-use crate::simple::TemplateValue;
 use pb_reading::keys::{Keys, Others};
 use pb_reading::reads::Reads;
 use pb_reading::stop::{Stop, wrong};
 use pb_value::text::Text;
 use pb_value::val::Dict;
 use pb_value::words::is_name;
+use pb_written::fault::{LoadFault, not_in_profile};
+use pb_written::values::TemplateValue;
 use serde_json::Value;
 use std::alloc::Global;
 

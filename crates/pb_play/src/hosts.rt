@@ -2,20 +2,19 @@ ghost use Rattle.std.specs.Prelude.{◌≡◌, ◌≢◌, ◌++◌, IfOk};
 ghost use Rattle.std.specs.List.{list_any};
 ghost use Rattle.serde_json.specs.View.{view};
 ghost use Rattle.pb_patterns.specs.declared.fault.PatFault.TheVariants as pattern_fault;
-ghost use Rattle.pb_reading.specs.Reading.{Gives};
 ghost use Rattle.pb_reading.specs.declared.stop.Stop.TheVariants.{Memory, Fault};
 ghost use Rattle.pb_play.specs.Refusals.{GivesOf};
-ghost use Rattle.pb_play.specs.Hosts.{texts, has_braces, pattern, expressions_in, behind_commas, joined, hosts, expressions_of_hosts};
-ghost use Rattle.pb_play.specs.declared.fault.LoadFault.TheVariants.{BadPattern};
+ghost use Rattle.pb_play.specs.Hosts.{has_braces, pattern, expressions_in, behind_commas, joined, hosts, expressions_of_hosts};
+ghost use Rattle.pb_written.specs.declared.fault.LoadFault.TheVariants.{BadPattern};
 
-use crate::fault::LoadFault;
 use pb_patterns::fault::PatFault;
 use pb_patterns::pattern::Pattern;
-use pb_reading::list::read_each;
-use pb_reading::simple::PlainText;
-use pb_reading::stop::{Stop, wrong};
+use pb_reading::reads::Reads;
+use pb_reading::stop::Stop;
 use pb_value::items::Items;
 use pb_value::text::Text;
+use pb_written::fault::LoadFault;
+use pb_written::texts::Texts;
 use serde_json::Value;
 use std::alloc::{AllocError, Global};
 
@@ -26,21 +25,6 @@ pub(crate) struct PlayHosts {
     pub(crate) text: Text,
     /// What they mean, taken together.
     pub(crate) pattern: Pattern,
-}
-
-/// A text, or the texts of a list.
-fn read_texts(alloc: Global, path: &Text, json: &Value) -> Result<Items<Text>, Stop<LoadFault>>
-    ensures { Gives result (texts path.now (view json.now)) }
-{
-    match json {
-        Value::String(text) => {
-            let mut texts = Items::new(alloc);
-            texts.push(Text::from_str(alloc, text.as_str())?)?;
-            Ok(texts)
-        }
-        Value::Array(items) => read_each::<LoadFault, PlainText>(alloc, path, items.as_slice()),
-        _ => wrong(path),
-    }
 }
 
 /// Whether `{{` stands in the text.
@@ -121,7 +105,7 @@ pub(crate) fn read_hosts(
 ) -> Result<PlayHosts, Stop<LoadFault>>
     ensures { GivesOf result (expressions_of_hosts path.now (view json.now)) (hosts path.now (view json.now)) }
 {
-    let texts = match read_texts(alloc, path, json) {
+    let texts = match Texts::read(alloc, path, json) {
         Ok(texts) => texts,
         Err(stop) => return Err(stop),
     };

@@ -3,15 +3,15 @@ ghost use Rattle.serde_json.specs.View.{view};
 ghost use Rattle.pb_reading.specs.Reading.{Gives};
 ghost use Rattle.pb_play.specs.Loops.{over, control, looped};
 
-use crate::fault::LoadFault;
 use crate::other_keys::NoArguments;
-use crate::simple::TemplateValue;
 use pb_reading::keys::Keys;
 use pb_reading::reads::Reads;
 use pb_reading::stop::{Stop, wrong};
 use pb_value::text::Text;
 use pb_value::val::Val;
+use pb_written::fault::LoadFault;
 use pb_written::simple::VariableName;
+use pb_written::values::TemplateValue;
 use serde_json::Value;
 use std::alloc::Global;
 

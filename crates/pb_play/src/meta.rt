@@ -7,8 +7,6 @@ ghost use Rattle.pb_reading.specs.Reading.{Gives};
 ghost use Rattle.pb_play.specs.MetaTasks.{said_by, said, one_of, what_is_said, meta_task, made_of, rest_of_meta, meta};
 ghost use Rattle.pb_play.specs.View.{IsRead};
 
-use crate::conditions::Conditions;
-use crate::fault::{LoadFault, not_in_profile};
 use crate::modules::{Meta, Module};
 use crate::node::Node;
 use crate::other_keys::WithoutEffect;
@@ -21,6 +19,8 @@ use pb_reading::stop::Stop;
 use pb_value::items::Items;
 use pb_value::text::Text;
 use pb_value::val::Dict;
+use pb_written::conditions::Conditions;
+use pb_written::fault::{LoadFault, not_in_profile};
 use serde_json::{Map, Value};
 use std::alloc::{AllocError, Global};
 
@@ -103,6 +103,7 @@ fn meta_task(
         changed_when: None,
         failed_when: None,
         ignore_errors: None,
+        notify: Items::new(alloc),
     })
 }
 

@@ -11,7 +11,6 @@ ghost use Rattle.pb_play.specs.Nodes.{Nothing};
 ghost use Rattle.pb_play.specs.View.{IsRead};
 
 use crate::blocks::{Early, read_rest, read_told};
-use crate::fault::{Limit, LoadFault};
 use crate::meta::read_meta;
 use crate::modules::names;
 use crate::node::{Node, NodeList};
@@ -22,6 +21,7 @@ use pb_reading::reads::Reads;
 use pb_reading::stop::{Stop, wrong};
 use pb_value::path::{child, child_at};
 use pb_value::text::Text;
+use pb_written::fault::{Limit, LoadFault};
 use serde_json::{Map, Value};
 use std::alloc::Global;
 

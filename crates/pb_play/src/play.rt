@@ -7,24 +7,27 @@ ghost use Rattle.pb_reading.specs.Fields.{optional, value_of};
 ghost use Rattle.pb_reading.specs.Reading.{Gives};
 ghost use Rattle.pb_play.specs.Refusals.{GivesOf};
 ghost use Rattle.pb_play.specs.Hosts.{hosts};
-ghost use Rattle.pb_play.specs.Plays.{play_of, lists, rest_of_play, play, expressions_at, expressions_of_play};
+ghost use Rattle.pb_play.specs.Plays.{before_hosts, play_of, lists, rest_of_play, play, expressions_at, expressions_of_play};
 
-use crate::fault::LoadFault;
 use crate::gathering::begun;
+use crate::handlers::Handler;
 use crate::hosts::{PlayHosts, read_hosts};
 use crate::node::NodeList;
 use crate::nodes::no_nodes;
 use crate::other_keys::WithoutEffect;
-use crate::simple::TemplateValue;
 use pb_patterns::pattern::Pattern;
 use pb_reading::keys::Keys;
-use pb_reading::list::EachNamed;
+use pb_reading::list::{Each, EachNamed};
 use pb_reading::simple::PlainText;
 use pb_reading::stop::{Stop, required, wrong};
+use pb_role_entries::entry::RoleEntry;
+use pb_value::items::Items;
 use pb_value::path::child;
 use pb_value::text::Text;
 use pb_value::val::Dict;
+use pb_written::fault::LoadFault;
 use pb_written::simple::Switch;
+use pb_written::values::TemplateValue;
 use serde_json::{Map, Value};
 use std::alloc::{AllocError, Global};
 
@@ -49,6 +52,12 @@ pub struct Play {
     pub tasks: NodeList,
     /// What it does after its tasks, in this order.
     pub post_tasks: NodeList,
+    /// The roles that it takes between its `pre_tasks` and its `tasks`, in this order.
+    pub roles: Items<RoleEntry>,
+    /// Its handlers, in the order of their definition: they come behind those of its roles.
+    pub handlers: Items<Handler>,
+    /// Whether a host on which it failed still runs, at its end, the handlers that are pending there.
+    pub force_handlers: bool,
 }
 
 /// The hosts, where they are written.
@@ -71,10 +80,36 @@ fn read_hosts_at(
     }
 }
 
-/// The three lists of nodes of a play.
+/// What the keys in front of `hosts` say.
+#[derive(Drop)]
+struct BeforeHosts {
+    force_handlers: bool,
+    gathers: bool,
+    handlers: Items<Handler>,
+}
+
+fn read_before_hosts(
+    alloc: Global,
+    keys: &mut Keys<'_, WithoutEffect>,
+) -> Result<BeforeHosts, Stop<LoadFault>>
+    ensures value { Takes (λ v. v) result (ahead keys.new) (before_hosts (ahead keys.old)) }
+    ensures path { (ahead keys.new).path ≡ (ahead keys.old).path }
+{
+    let force_handlers = keys.field_or::<Switch>(alloc, "force_handlers", false)?;
+    let gathers = keys.field_or::<Switch>(alloc, "gather_facts", true)?;
+    let handlers = keys.field_or::<Each<Handler>>(alloc, "handlers", Items::new(alloc))?;
+    Ok(BeforeHosts {
+        force_handlers,
+        gathers,
+        handlers,
+    })
+}
+
+/// The lists of nodes of a play, and the one of its roles.
 struct Lists {
     post_tasks: NodeList,
     pre_tasks: NodeList,
+    roles: Items<RoleEntry>,
     tasks: NodeList,
 }
 
@@ -83,10 +118,12 @@ impl Drop for Lists {
         let Lists {
             post_tasks,
             pre_tasks,
+            roles,
             tasks,
         } = self;
         drop(post_tasks);
         drop(pre_tasks);
+        drop(roles);
         drop(tasks);
     }
 }
@@ -96,19 +133,25 @@ impl Lists {
     fn of(
         self,
         alloc: Global,
-        gathers: bool,
+        before: BeforeHosts,
         name: Text,
         hosts: Pattern,
         vars: Dict,
         ignore_errors: bool,
     ) -> Result<Play, AllocError>
-        ensures { IfOk result (λ play. play ≡ play_of gathers name hosts vars ignore_errors self) }
+        ensures { IfOk result (λ play. play ≡ play_of before name hosts vars ignore_errors self) }
     {
         let Lists {
             post_tasks,
             pre_tasks,
+            roles,
             tasks,
         } = self;
+        let BeforeHosts {
+            force_handlers,
+            gathers,
+            handlers,
+        } = before;
         let pre_tasks = begun(alloc, gathers, pre_tasks)?;
         Ok(Play {
             name,
@@ -118,6 +161,9 @@ impl Lists {
             pre_tasks,
             tasks,
             post_tasks,
+            roles,
+            handlers,
+            force_handlers,
         })
     }
 }
@@ -128,10 +174,12 @@ fn read_lists(alloc: Global, keys: &mut Keys<'_, WithoutEffect>) -> Result<Lists
 {
     let post_tasks = keys.field_or::<NodeList>(alloc, "post_tasks", no_nodes(alloc))?;
     let pre_tasks = keys.field_or::<NodeList>(alloc, "pre_tasks", no_nodes(alloc))?;
+    let roles = keys.field_or::<Each<RoleEntry>>(alloc, "roles", Items::new(alloc))?;
     let tasks = keys.field_or::<NodeList>(alloc, "tasks", no_nodes(alloc))?;
     Ok(Lists {
         post_tasks,
         pre_tasks,
+        roles,
         tasks,
     })
 }
@@ -141,10 +189,10 @@ fn read_rest(
     alloc: Global,
     mut keys: Keys<'_, WithoutEffect>,
     path: &Text,
-    gather_facts: Option<bool>,
+    before: BeforeHosts,
     hosts: Option<PlayHosts>,
 ) -> Result<Play, Stop<LoadFault>>
-    ensures { Gives result (value_of (rest_of_play path.now gather_facts hosts (ahead keys.entry))) }
+    ensures { Gives result (value_of (rest_of_play path.now before hosts (ahead keys.entry))) }
 {
     let ignore_errors = keys.field_or::<Switch>(alloc, "ignore_errors", false)?;
     let name = keys.field::<PlainText>(alloc, "name")?;
@@ -154,7 +202,7 @@ fn read_rest(
     let PlayHosts { text, pattern } = required(path, hosts)?;
     Ok(lists.of(
         alloc,
-        gather_facts.unwrap_or(true),
+        before,
         name.unwrap_or(text),
         pattern,
         vars,
@@ -171,8 +219,8 @@ fn read_members(
     ensures { GivesOf result (expressions_of_play path.now (json.object (members_view members.now.entries))) (play path.now (json.object (members_view members.now.entries))) }
 {
     let mut keys = Keys::of(path, members, WithoutEffect);
-    let gather_facts = match keys.field::<Switch>(alloc, "gather_facts") {
-        Ok(found) => found,
+    let before = match read_before_hosts(alloc, &mut keys) {
+        Ok(before) => before,
         Err(stop) => return Err(stop),
     };
     let found = match keys.value_at(alloc, "hosts") {
@@ -180,7 +228,7 @@ fn read_members(
         Err(stop) => return Err(stop),
     };
     match read_hosts_at(alloc, path, found) {
-        Ok(hosts) => read_rest(alloc, keys, path, gather_facts, hosts),
+        Ok(hosts) => read_rest(alloc, keys, path, before, hosts),
         Err(stop) => Err(stop),
     }
 }

@@ -1,21 +1,19 @@
-ghost use Rattle.std.specs.Prelude.{◌≡◌, ◌≢◌, ◌≤◌, ℕ, List, length, IfOk, IfErr, OnOk, Ok, Err, nat_lt, decimal};
+ghost use Rattle.std.specs.Prelude.{◌≡◌, ◌≢◌, ◌≤◌, length, IfOk, IfErr, OnOk, Ok, Err, nat_lt, decimal};
 ghost use Rattle.serde_json.specs.View.{view, items_view};
 ghost use Rattle.pb_value.specs.Reading.{below};
 ghost use Rattle.pb_patterns.specs.Expressions.{AreTaken, IsFirstFault};
-ghost use Rattle.pb_reading.specs.Reading as reading;
-ghost use Rattle.pb_reading.specs.Reading.{each, Own};
-ghost use Rattle.pb_reading.specs.declared.stop.Stop.TheVariants.{Memory, WrongShape, Fault};
+ghost use Rattle.pb_reading.specs.Reading.{each};
 ghost use Rattle.pb_play.specs.Refusals.{GivesOf};
 ghost use Rattle.pb_play.specs.Plays.{play, expressions_of_play};
-ghost use Rattle.pb_play.specs.Playbooks.{count, max_plays, plays, playbook_of, as_load_fault, each_expression, expressions_of_plays, expressions_of_book};
+ghost use Rattle.pb_play.specs.Playbooks.{count, max_plays, plays, playbook_of, each_expression, expressions_of_plays, expressions_of_book};
 
-use crate::fault::{Limit, LoadFault};
 use crate::play::{Play, read_play};
 use pb_reading::stop::{Stop, wrong};
 use pb_value::items::Items;
 use pb_value::path::child_at;
 use pb_value::read_json::{JsonFault, read_json};
 use pb_value::text::Text;
+use pb_written::fault::{Limit, LoadFault, fault_of};
 use serde_json::Value;
 use std::alloc::Global;
 
@@ -55,19 +53,6 @@ fn are_too_many(items: &[Value]) -> bool
     ensures length { result ≡ nat_lt max_plays (length items.now) }
 {
     items.len() > MAX_PLAYS
-}
-
-/// The fault that stopped a reader.
-fn fault_of(stop: Stop<LoadFault>) -> LoadFault
-    ensures memory { stop ≡ Memory → result ≡ LoadFault.Memory }
-    ensures wrong { (path : List ℕ) → stop ≡ WrongShape path → result ≡ as_load_fault (reading.WrongShape path) }
-    ensures fault { (f : LoadFault) → stop ≡ Fault f → result ≡ as_load_fault (Own f) }
-{
-    match stop {
-        Stop::Memory => LoadFault::Memory,
-        Stop::WrongShape { path } => LoadFault::WrongShape { path },
-        Stop::Fault(fault) => fault,
-    }
 }
 
 #[tactic(auto, using(crate::proofs::Counts::each_length))]

@@ -1,4 +1,4 @@
-use Rattle.std.proofs.Common.{drop, ◌+◌, subst, sym, ap}
+use Rattle.std.proofs.Common.{drop, ◌+◌, subst, sym}
 use Rattle.serde_json.specs.Data as json
 use Rattle.serde_json.specs.View.{view, items_view, members_view}
 use Rattle.pb_play.specs.NodeLists.{node, each_node, inner}

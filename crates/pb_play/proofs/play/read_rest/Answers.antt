@@ -19,7 +19,7 @@ returns-in_err-vars c =
     } in
     stopped _ c.in_err-vars.field-0.0 _ c.from_residual-in_err-vars.ensures.1
     (
-    variables_stop c.args.path.now c.args.gather_facts c.args.hosts (ahead c.args.keys) (ahead c.read_lists.new.keys) c.in_ok-ignore_errors.ignore_errors c.in_ok-name.name c.in_ok-lists.lists c.in_err-vars.field-0.0 read
+    variables_stop c.args.path.now c.args.before c.args.hosts (ahead c.args.keys) (ahead c.read_lists.new.keys) c.in_ok-ignore_errors.ignore_errors c.in_ok-name.name c.in_ok-lists.lists c.in_err-vars.field-0.0 read
     (subst (λ none. Stops c.in_err-vars.field-0.0 (key_or (codes "vars") variables none (ahead c.read_lists.new.keys))) c.new.ensures c.in_err-vars.ensures.value)
     )
 
@@ -36,7 +36,7 @@ returns-in_err-others c =
     let vars : key_or (codes "vars") variables [] (ahead c.read_lists.new.keys) ≡ Ok (record { value = c.in_ok-vars.vars; ahead = ahead c.field_or-2.new.self }) =
     subst (λ none. key_or (codes "vars") variables none (ahead c.read_lists.new.keys) ≡ Ok (record { value = c.in_ok-vars.vars; ahead = ahead c.field_or-2.new.self })) c.new.ensures c.in_ok-vars.ensures.value in
     stopped _ c.in_err-others.field-0.0 _ c.from_residual-in_err-others.ensures.1
-    (others_stop c.args.path.now c.args.gather_facts c.args.hosts (ahead c.args.keys) (ahead c.read_lists.new.keys) (ahead c.field_or-2.new.self) c.in_ok-ignore_errors.ignore_errors c.in_ok-name.name c.in_ok-lists.lists _ c.in_err-others.field-0.0 read vars c.in_err-others.ensures)
+    (others_stop c.args.path.now c.args.before c.args.hosts (ahead c.args.keys) (ahead c.read_lists.new.keys) (ahead c.field_or-2.new.self) c.in_ok-ignore_errors.ignore_errors c.in_ok-name.name c.in_ok-lists.lists _ c.in_err-others.field-0.0 read vars c.in_err-others.ensures)
 
 pub returns-in_err-text : goal.returns-in_err-text
 returns-in_err-text c =
@@ -51,7 +51,7 @@ returns-in_err-text c =
     let vars : key_or (codes "vars") variables [] (ahead c.read_lists.new.keys) ≡ Ok (record { value = c.in_ok-vars.vars; ahead = ahead c.field_or-2.new.self }) =
     subst (λ none. key_or (codes "vars") variables none (ahead c.read_lists.new.keys) ≡ Ok (record { value = c.in_ok-vars.vars; ahead = ahead c.field_or-2.new.self })) c.new.ensures c.in_ok-vars.ensures.value in
     stopped _ c.in_err-text.field-0.0 _ c.from_residual-in_err-text.ensures.1
-    (no_hosts_stop c.args.path.now c.args.gather_facts c.args.hosts (ahead c.args.keys) (ahead c.read_lists.new.keys) (ahead c.field_or-2.new.self) _ c.in_ok-ignore_errors.ignore_errors c.in_ok-name.name c.in_ok-lists.lists _ _ c.in_err-text.field-0.0 read vars c.in_ok-others.ensures
+    (no_hosts_stop c.args.path.now c.args.before c.args.hosts (ahead c.args.keys) (ahead c.read_lists.new.keys) (ahead c.field_or-2.new.self) _ c.in_ok-ignore_errors.ignore_errors c.in_ok-name.name c.in_ok-lists.lists _ _ c.in_err-text.field-0.0 read vars c.in_ok-others.ensures
     c.in_err-text.ensures)
 
 pub returns : goal.returns
@@ -66,6 +66,6 @@ returns c =
     } in
     let vars : key_or (codes "vars") variables [] (ahead c.read_lists.new.keys) ≡ Ok (record { value = c.in_ok-vars.vars; ahead = ahead c.field_or-2.new.self }) =
     subst (λ none. key_or (codes "vars") variables none (ahead c.read_lists.new.keys) ≡ Ok (record { value = c.in_ok-vars.vars; ahead = ahead c.field_or-2.new.self })) c.new.ensures c.in_ok-vars.ensures.value in
-    play_is c.args.path.now c.args.gather_facts c.args.hosts c.in_ok-text.field-0 (ahead c.args.keys) (ahead c.read_lists.new.keys) (ahead c.field_or-2.new.self) _ c.in_ok-ignore_errors.ignore_errors c.in_ok-name.name c.in_ok-lists.lists _ _ read vars
+    play_is c.args.path.now c.args.before c.args.hosts c.in_ok-text.field-0 (ahead c.args.keys) (ahead c.read_lists.new.keys) (ahead c.field_or-2.new.self) _ c.in_ok-ignore_errors.ignore_errors c.in_ok-name.name c.in_ok-lists.lists _ _ read vars
     c.in_ok-others.ensures c.in_ok-text.ensures
-    ∙ cc (c.in_ok-of.ensures, c.unwrap_or.ensures, c.unwrap_or-2.ensures)
+    ∙ cc (c.in_ok-of.ensures, c.unwrap_or.ensures)

@@ -1,6 +1,6 @@
 use Rattle.std.proofs.Common.{refl}
 use Rattle.serde_json.specs.View.{view}
-use Rattle.pb_play.specs.declared.fault.LoadFault.TheVariants.{NotJson}
+use Rattle.pb_written.specs.declared.fault.LoadFault.TheVariants.{NotJson}
 use Rattle.pb_play.proofs.Refusable.{not_json, playbook_stopped, playbook_is, playbook_taken}
 use Rattle.pb_play.proofs.playbook.Playbook.read.Goals as goal
 

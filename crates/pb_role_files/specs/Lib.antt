@@ -1,0 +1,3 @@
+pub mod Meta
+pub mod RoleFiles
+pub mod Rows
