@@ -2,7 +2,7 @@
 //!
 //! `HostWalk` is one host, `Cursors` all hosts of a play with the play's plan. `PlayWalk` is one host with its play's tree, which
 //! a `LaidTree` holds for all of them: it stands by itself, so that its calls need no plan. An answer leads a host's cursor on and
-//! walks no tree; `reach`, `status` and `pending` say what the walk of the host's whole list of answers says (`pb_tree`).
+//! walks no tree; `reach`, `status`, `status_now` and `pending` say what the walk of the host's whole list of answers says (`pb_tree`).
 #![tactic(auto)]
 
 pub mod cursors;

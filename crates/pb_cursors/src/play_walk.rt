@@ -1,5 +1,5 @@
 ghost use Rattle.std.specs.Prelude.{◌≡◌, ◌∷◌, ◌++◌, [], IfOk, OnOk, OnErr};
-ghost use Rattle.pb_tree.specs.Walk.{reach, status_of, marks_of};
+ghost use Rattle.pb_tree.specs.Walk.{reach, status_now, marks_of};
 
 use crate::laid::LaidTree;
 use crate::walk::HostWalk;
@@ -75,11 +75,11 @@ impl PlayWalk {
         self.walk.reach()
     }
 
-    /// What the host is for the plays that follow.
-    pub fn status(&self) -> Status
-        ensures { result ≡ status_of self.now.tree self.now.answers }
+    /// What the host is at once: one whose walk went bad is out also while handlers run that are forced.
+    pub fn status_now(&self) -> Status
+        ensures { result ≡ status_now self.now.tree self.now.answers }
     {
-        self.walk.status()
+        self.walk.status_now()
     }
 
     /// For each handler whether it is pending: notified, and not run since.

@@ -1,6 +1,6 @@
 ghost use Rattle.std.specs.Prelude.{◌≡◌, ◌∷◌, ◌++◌, [], IfOk, OnOk, OnErr};
 ghost use Rattle.pb_tree.specs.Tree.{TreeOf};
-ghost use Rattle.pb_tree.specs.Walk.{reach, status_of, marks_of};
+ghost use Rattle.pb_tree.specs.Walk.{reach, status_of, status_now, marks_of};
 ghost use Rattle.pb_flat.specs.Seen.{PlanOf, LaysOut};
 ghost use Rattle.pb_cursors.specs.Tracked.{IsTracked};
 
@@ -79,6 +79,13 @@ impl HostWalk {
         ensures { (plan : PlanOf) (tree : TreeOf) → IsTracked plan self.now → LaysOut plan tree → result ≡ status_of tree self.now.answers }
     {
         self.cursor.status()
+    }
+
+    /// What the host is at once: one whose walk went bad is out also while handlers run that are forced.
+    pub fn status_now(&self) -> Status
+        ensures { (plan : PlanOf) (tree : TreeOf) → IsTracked plan self.now → LaysOut plan tree → result ≡ status_now tree self.now.answers }
+    {
+        self.cursor.status_now()
     }
 
     /// For each handler whether it is pending: notified, and not run since.

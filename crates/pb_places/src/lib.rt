@@ -1,11 +1,12 @@
 //! What stands at a place of a play's tree: a task, with all that it has from its own keys, the blocks round it, its role and its play.
 //!
 //! For the layers above: a `Place` is one of these, as `specs/Place.antt` says. `Place::of` is the place of a plain task, which has nothing
-//! beside the task; `Place::within` is that of a task in its surroundings. What a place doesn't have takes no memory: a plain task's place is
+//! beside the task; `Place::within` is that of a task in its surroundings, `Place::sharing` that of one that several places share. What a place doesn't have takes no memory: a plain task's place is
 //! its task and one pointer, and blocks and roles share their variables among their places.
 #![tactic(auto)]
 
 pub mod conditions;
+mod held;
 mod place;
 mod surroundings;
 

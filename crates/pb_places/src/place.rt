@@ -2,8 +2,11 @@
 
 ghost use Rattle.std.specs.Prelude.{◌≡◌, [], IfOk, option_copied};
 ghost use Rattle.pb_places.specs.Place.{place_of, no_role};
+ghost use Rattle.std.specs.Arc.{arc_value};
+ghost use Rattle.pb_places.specs.Held.{task_held};
 ghost use Rattle.pb_places.specs.Within.{placed};
 
+use crate::held::Held;
 use crate::surroundings::{Role, Surroundings};
 use pb_expr_syntax::tree::Expr;
 use pb_play::task::Task;
@@ -11,10 +14,11 @@ use pb_value::text::Text;
 use pb_value::val::Dict;
 use std::alloc::{AllocError, Global};
 use std::marker::Model;
+use std::sync::Arc;
 
 /// What stands at a place: a task, with all that it has from its own keys, the blocks round it, its role and its play.
 pub struct Place {
-    task: Task,
+    task: Held,
     /// None where the task stands alone.
     surroundings: Option<Box<Surroundings>>,
 }
@@ -33,12 +37,13 @@ impl Model for Place {
     ghost use Rattle.pb_expr_syntax.specs.contracts.tree.Expr as expr;
     ghost use Rattle.pb_places.specs.Place.{PlaceOf};
     ghost use Rattle.pb_places.specs.Within.{placed_in};
+    ghost use Rattle.pb_places.specs.Held.{task_held};
 
     ghost Value = { PlaceOf };
 
     ghost coded = { Prim.hlevel (codes, val.the_row.coded, expr.the_row.coded) };
 
-    ghost view = { λ p. placed_in p.task p.surroundings };
+    ghost view = { λ p. placed_in (task_held p.task) p.surroundings };
 }
 
 impl Place {
@@ -47,7 +52,7 @@ impl Place {
         ensures { result ≡ place_of task }
     {
         Place {
-            task,
+            task: Held::Own(task),
             surroundings: None,
         }
     }
@@ -62,8 +67,23 @@ impl Place {
     {
         let surroundings = Box::new(alloc, surroundings)?;
         Ok(Place {
-            task,
+            task: Held::Own(task),
             surroundings: Some(surroundings),
+        })
+    }
+
+    /// The place of a task that several places share, as the places of a handler do, in its surroundings. The only error is want of memory.
+    pub fn sharing(
+        alloc: Global,
+        task: Arc<Task>,
+        surroundings: Surroundings,
+    ) -> Result<Place, AllocError>
+        ensures { IfOk result (λ place. place ≡ placed (arc_value task) surroundings) }
+    {
+        let surroundings = Some(Box::new(alloc, surroundings)?);
+        Ok(Place {
+            task: Held::Shared(task),
+            surroundings,
         })
     }
 
@@ -71,7 +91,7 @@ impl Place {
     pub fn task(&self) -> &Task
         ensures { result.now ≡ self.now.task }
     {
-        &self.task
+        task_of(&self.task)
     }
 
     /// The conditions that have to hold for it to run: those of the role, of the outer blocks, of the inner blocks, and the task's own.
@@ -81,9 +101,9 @@ impl Place {
         match &self.surroundings {
             Some(given) => match &given.conditions {
                 Some(conditions) => conditions.as_ref().as_slice(),
-                None => self.task.conditions.as_slice(),
+                None => task_of(&self.task).conditions.as_slice(),
             },
-            None => self.task.conditions.as_slice(),
+            None => task_of(&self.task).conditions.as_slice(),
         }
     }
 
@@ -121,7 +141,7 @@ impl Place {
     {
         match &self.surroundings {
             Some(given) => given.ignore_errors,
-            None => self.task.ignore_errors.unwrap_or(false),
+            None => task_of(&self.task).ignore_errors.unwrap_or(false),
         }
     }
 
@@ -203,5 +223,15 @@ impl Place {
             Some(given) => given.handler,
             None => None,
         }
+    }
+}
+
+/// The task that a place holds.
+fn task_of(held: &Held) -> &Task
+    ensures { result.now ≡ task_held held.now }
+{
+    match held {
+        Held::Own(task) => task,
+        Held::Shared(task) => task.as_ref(),
     }
 }
