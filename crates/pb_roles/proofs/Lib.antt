@@ -1,0 +1,9 @@
+mod Each
+mod Fitting
+mod Notified
+mod Placed
+mod PlayNodes
+mod Stack
+mod TreeNodes
+mod Trees
+mod Unknowns

@@ -1,0 +1,12 @@
+pub mod Answers
+pub mod Building
+pub mod Entries
+pub mod Expansion
+pub mod Files
+pub mod Open
+pub mod Origins
+pub mod Plays
+pub mod Rows
+pub mod Seen
+pub mod Sections
+pub mod Unknown

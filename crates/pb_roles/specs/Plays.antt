@@ -1,0 +1,64 @@
+-- The plays of a playbook with their trees and what stands at their places, or the first fault.
+use Rattle.std.specs.Prelude.{◌≡◌, ◌≤◌, ℕ, Bool, ◌||◌, List, [], ◌∷◌, length, nat_lt, Option, Some, None, Result, Ok, Err, if◌then◌else◌}
+use Rattle.pb_value.specs.Reading.{and_then, map_ok}
+use Rattle.pb_tree.specs.Tree.{size_of}
+use Rattle.pb_flat.specs.Deep.{always_depth}
+use Rattle.pb_places.specs.Caught.{are_caught, caught_places}
+use Rattle.pb_play.specs.declared.play.Play.{Play}
+use Rattle.pb_roles.specs.Building.{all_places, nodes_of, tree_of}
+use Rattle.pb_roles.specs.Expansion.{roles_of}
+use Rattle.pb_roles.specs.Sections.{sections_of}
+use Rattle.pb_roles.specs.Unknown.{unknown_of}
+use Rattle.pb_roles.specs.declared.fault.RoleFault.{RoleFault}
+use Rattle.pb_roles.specs.declared.fault.RoleFault.TheVariants.{Unknown, TooLarge}
+use Rattle.pb_roles.specs.declared.files.RoleFiles.{RoleFiles}
+use Rattle.pb_roles.specs.declared.sections.Expanded.{Expanded}
+use Rattle.pb_roles.specs.declared.sections.Head.{Head}
+use Rattle.pb_roles.specs.declared.sections.Sections.{Sections}
+
+-- a play has at most so many places, and always parts stand in one another at most so deep
+abbrev pub max_places : ℕ
+max_places = 16384
+
+abbrev pub max_depth : ℕ
+max_depth = 32
+
+abbrev pub has_too_many_places : Sections → Bool
+has_too_many_places play = nat_lt max_places (size_of (tree_of play))
+
+abbrev pub is_too_deep : Sections → Bool
+is_too_deep play = nat_lt max_depth (always_depth (nodes_of play))
+
+-- what stays of a play as it is
+abbrev pub head_of : Play → Head
+head_of play = record { name = play.name; hosts = play.hosts; vars = play.vars }
+
+abbrev pub built : Head → Sections → Expanded
+built head play = record { name = head.name; hosts = head.hosts; vars = head.vars; tree = tree_of play; places = all_places play }
+
+abbrev pub within_limits : Head → Sections → Result Expanded RoleFault
+within_limits head play = if has_too_many_places play || is_too_deep play then Err TooLarge else Ok (built head play)
+
+-- what is notified is looked at before the number of places
+abbrev pub unless_unknown : Option (List ℕ) → Result Expanded RoleFault → Result Expanded RoleFault
+unless_unknown None r = r
+unless_unknown (Some name) r = Err (Unknown name)
+
+abbrev pub checked : Head → Sections → Result Expanded RoleFault
+checked head play = unless_unknown (unknown_of play) (within_limits head play)
+
+abbrev pub expanded : RoleFiles → Play → Result Expanded RoleFault
+expanded files play = and_then (roles_of files play.roles) (λ met. checked (head_of play) (sections_of play met))
+
+-- play by play, in their order
+unfoldable pub expansion_of : RoleFiles → List Play → Result (List Expanded) RoleFault
+expansion_of files [] = Ok []
+expansion_of files (play ∷ plays) = and_then (expanded files play) (λ one. and_then (expansion_of files plays) (λ rest. Ok (one ∷ rest)))
+
+-- what a play has at its places fits its tree, which is within the limits: there is a record for each place, and it says of a failure there what the
+-- tree says
+pub record IsBuilt (play : Expanded) : Type 0 where
+  pub few : size_of play.tree ≤ max_places
+  pub flat : always_depth play.tree.nodes ≤ max_depth
+  pub places : length play.places ≡ size_of play.tree
+  pub caught : are_caught play.places ≡ caught_places play.tree

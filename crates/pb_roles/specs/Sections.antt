@@ -1,0 +1,37 @@
+-- What stands in a play, with its roles, in the order in which it runs (Ansible's documentation, "Roles", Using roles at the play level, and "Handlers:
+-- running operations on change").
+use Rattle.std.specs.Prelude.{Bool, List, [], ◌∷◌, ◌++◌, map}
+use Rattle.pb_play.specs.Nodes.{Written}
+use Rattle.pb_play.specs.declared.play.Play.{Play}
+use Rattle.pb_handlers.specs.Naming.{counting, kept}
+use Rattle.pb_handlers.specs.declared.naming.HandlerNames.{HandlerNames}
+use Rattle.pb_roles.specs.Expansion.{handlers_in}
+use Rattle.pb_roles.specs.Origins.{from_play}
+use Rattle.pb_roles.specs.declared.met.HandlerIn.{HandlerIn}
+use Rattle.pb_roles.specs.declared.met.Met.{Met}
+use Rattle.pb_roles.specs.declared.met.Section.{Section}
+use Rattle.pb_roles.specs.declared.sections.Sections.{Sections}
+
+-- nodes that stand in the play itself
+abbrev pub own : Written → Section
+own nodes = record { origin = from_play; nodes = nodes }
+
+-- what a handler is notified by
+abbrev pub names_of : HandlerIn → HandlerNames
+names_of handler = record { name = handler.handler.task.name; listens = handler.handler.listens }
+
+-- of handlers with one name the last counts, at its own position
+abbrev pub counted : List HandlerIn → List HandlerIn
+counted handlers = kept (counting (map names_of handlers)) handlers
+
+-- the roles stand between the play's pre_tasks and its own tasks, and their handlers in front of its own
+abbrev pub sections_of : Play → Met → Sections
+sections_of play met =
+    record {
+      ignore_errors = play.ignore_errors;
+      pre = own play.pre_tasks ∷ [];
+      tasks = met.sections ++ own play.tasks ∷ [];
+      post = own play.post_tasks ∷ [];
+      handlers = counted (met.handlers ++ handlers_in from_play play.handlers);
+      force_handlers = play.force_handlers;
+    }

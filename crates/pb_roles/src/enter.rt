@@ -1,0 +1,181 @@
+//! The role that an entry names.
+ghost use Rattle.std.specs.Prelude.{◌≡◌, ◌++◌, ◌∷◌, ◌&&◌, [], IfOk, IfSome, OnOk, not};
+ghost use Rattle.pb_roles.specs.Answers.{Gives};
+ghost use Rattle.pb_roles.specs.Entries.{are_same, are_written_alike, came_of, has_come, is_again};
+ghost use Rattle.pb_roles.specs.Expansion.{opened, role_of, origin_of};
+ghost use Rattle.pb_roles.specs.Files.{read_of};
+ghost use Rattle.pb_roles.specs.Open.{dependencies_of};
+
+use crate::came::Came;
+use crate::fault::RoleFault;
+use crate::files::{RoleFiles, has_none};
+use crate::line::Line;
+use crate::load::{load_handlers, load_meta, load_nodes, load_variables};
+use crate::opened::OpenRole;
+use crate::origin::Origin;
+use pb_expr_syntax::tree::Expr;
+use pb_facts::put::put_all;
+use pb_operators::compare::is_same;
+use pb_places::Role;
+use pb_places::conditions::joined;
+use pb_role_entries::entry::{EntryAsWritten, RoleEntry};
+use pb_value::items::Items;
+use pb_value::val::{Dict, Val};
+use std::alloc::{AllocError, Global};
+
+/// Whether the values of a key are written alike.
+fn are_same(a: &Option<Val>, b: &Option<Val>) -> bool
+    ensures { result ≡ are_same a.now b.now }
+{
+    match (a, b) {
+        (None, None) => true,
+        (Some(a), Some(b)) => is_same(a, b),
+        _ => false,
+    }
+}
+
+/// Whether the keys that tell entries apart are written alike.
+fn are_written_alike(a: &EntryAsWritten, b: &EntryAsWritten) -> bool
+    ensures { result ≡ are_written_alike a.now b.now }
+{
+    are_same(&a.vars, &b.vars) && are_same(&a.when, &b.when) && are_same(&a.tags, &b.tags)
+}
+
+/// Whether two entries are one and the same.
+fn is_again(a: &Came, b: &Came) -> bool
+    ensures { result ≡ is_again a.now b.now }
+{
+    a.name.as_str() == b.name.as_str()
+        && is_same(&a.params, &b.params)
+        && are_written_alike(&a.as_written, &b.as_written)
+}
+
+/// Whether an entry has come.
+fn has_come(entry: &Came, came: &[Came]) -> bool
+    ensures { result ≡ has_come entry.now came.now }
+{
+    for other in came {
+        if is_again(entry, other) {
+            return true;
+        }
+    }
+    false
+}
+
+/// Whether an entry is left out, whose role allows that it comes again or not.
+fn is_left_out(allow_duplicates: bool, entry: &Came, came: &[Came]) -> bool
+    ensures { result ≡ (not allow_duplicates && has_come entry.now came.now) }
+{
+    !allow_duplicates && has_come(entry, came)
+}
+
+/// A copy of a value, if there is one.
+fn copy_of(alloc: Global, value: &Option<Val>) -> Result<Option<Val>, AllocError>
+    ensures { IfOk result (λ other. other ≡ value.now) }
+{
+    match value {
+        Some(value) => Ok(Some(value.try_clone(alloc)?)),
+        None => Ok(None),
+    }
+}
+
+/// What an entry is told apart by.
+fn came_of(alloc: Global, entry: &RoleEntry) -> Result<Came, AllocError>
+    ensures { IfOk result (λ came. came ≡ came_of entry.now) }
+{
+    let name = entry.name.try_clone()?;
+    let params = Val::dict(entry.params.try_clone(alloc)?);
+    let vars = copy_of(alloc, &entry.as_written.vars)?;
+    let when = copy_of(alloc, &entry.as_written.when)?;
+    let tags = copy_of(alloc, &entry.as_written.tags)?;
+    Ok(Came {
+        name,
+        params,
+        as_written: EntryAsWritten { vars, when, tags },
+    })
+}
+
+/// Where all that a role brings comes from.
+fn origin_of(
+    alloc: Global,
+    outer: &[Expr],
+    entry: &RoleEntry,
+    defaults: Dict,
+    vars: Dict,
+) -> Result<Origin, AllocError>
+    ensures { IfOk result (λ origin. origin ≡ origin_of outer.now entry.now defaults vars) }
+{
+    let mut vars = vars;
+    put_all(alloc, &mut vars, &entry.vars)?;
+    let conditions = joined(alloc, outer, entry.conditions.as_slice())?;
+    let params = entry.params.try_clone(alloc)?;
+    Origin::of_role(
+        alloc,
+        Role {
+            defaults,
+            vars,
+            params,
+        },
+        conditions,
+    )
+}
+
+/// The role that an entry names, open: its files are read.
+fn open_role(
+    alloc: Global,
+    files: &RoleFiles,
+    left: usize,
+    outer: &[Expr],
+    entry: &RoleEntry,
+    dependencies: Items<RoleEntry>,
+) -> Result<OpenRole, RoleFault>
+    ensures value { Gives result (opened left (read_of files.now entry.now.name) outer.now entry.now dependencies) }
+    ensures left { IfOk result (λ role. role.left ≡ left) }
+    ensures name { IfOk result (λ role. role.name ≡ entry.now.name) }
+    ensures dependencies { IfOk result (λ role. role.dependencies ≡ dependencies) }
+{
+    let defaults = load_variables(alloc, files, &entry.name, "defaults")?;
+    let vars = load_variables(alloc, files, &entry.name, "vars")?;
+    let nodes = load_nodes(alloc, files, &entry.name)?;
+    let handlers = load_handlers(alloc, files, &entry.name)?;
+    let name = entry.name.try_clone()?;
+    let origin = origin_of(alloc, outer, entry, defaults, vars)?;
+    Ok(OpenRole {
+        left,
+        name,
+        origin,
+        nodes,
+        handlers,
+        dependencies: Line::of(dependencies),
+    })
+}
+
+/// The role that an entry names, open, unless the entry is left out. The entry has come then.
+#[tactic(auto, unfolding(crate::specs::Expansion::role_of))]
+pub(crate) fn role_of(
+    alloc: Global,
+    files: &RoleFiles,
+    left: usize,
+    outer: &[Expr],
+    entry: &RoleEntry,
+    came: &mut Items<Came>,
+) -> Result<Option<OpenRole>, RoleFault>
+    ensures value { Gives result (role_of left (read_of files.now) outer.now entry.now came.old) }
+    ensures came { OnOk result (came.new ≡ came.old ++ came_of entry.now ∷ []) }
+    ensures left { IfOk result (λ found. IfSome found (λ role. role.left ≡ left)) }
+    ensures dependencies { IfOk result (λ found. IfSome found (λ role. role.dependencies ≡ dependencies_of (read_of files.now) entry.now.name)) }
+{
+    if has_none(alloc, files, &entry.name)? {
+        let name = entry.name.try_clone()?;
+        return Err(RoleFault::Unknown { name });
+    }
+    let meta = load_meta(alloc, files, &entry.name)?;
+    let this = came_of(alloc, entry)?;
+    let out = is_left_out(meta.allow_duplicates, &this, came.as_slice());
+    came.push(this)?;
+    if out {
+        return Ok(None);
+    }
+    let role = open_role(alloc, files, left, outer, entry, meta.dependencies)?;
+    Ok(Some(role))
+}

@@ -1,0 +1,148 @@
+//! What stands at the places of a play, from the nodes that are written in it and in its roles.
+
+ghost use Rattle.std.specs.Prelude.{◌≡◌, ◌||◌, not, ◌++◌, ◌∷◌, [], false, None, map, IfOk};
+ghost use Rattle.pb_play.specs.Nodes.{Nothing};
+ghost use Rattle.pb_play.specs.View.{node_of, written_of};
+ghost use Rattle.pb_roles.specs.Building.{all_places, is_nothing, part_places, places_of, placed, round_of};
+ghost use Rattle.pb_roles.specs.Sections.{names_of};
+
+use crate::flush::{all_tasks, push_flush};
+use crate::met::Section;
+use crate::ready::Flushes;
+use crate::round::Round;
+use crate::sections::Sections;
+use pb_handlers::Handlers;
+use pb_places::Place;
+use pb_play::node::Node;
+use pb_play::task::Task;
+use pb_value::items::Items;
+use std::alloc::{AllocError, Global};
+
+/// What stands at the places of a play, whose handlers are notified by these names. Every task outside of handlers has one place, to which it is moved.
+pub(crate) fn all_places(
+    alloc: Global,
+    names: Handlers,
+    play: Sections,
+) -> Result<Items<Place>, AllocError>
+    requires { names ≡ map names_of play.handlers }
+    ensures { IfOk result (λ all. all ≡ all_places play) }
+{
+    let Sections {
+        ignore_errors,
+        pre,
+        tasks,
+        post,
+        handlers,
+        force_handlers: _,
+    } = play;
+    let handlers = all_tasks(alloc, ignore_errors, handlers)?;
+    let flushes = Flushes { names, handlers };
+    let mut places = Vec::new(alloc);
+    push_part(alloc, &mut places, &flushes, ignore_errors, pre)?;
+    push_part(alloc, &mut places, &flushes, ignore_errors, tasks)?;
+    push_part(alloc, &mut places, &flushes, ignore_errors, post)?;
+    Ok(Items::from_vec(places))
+}
+
+/// Adds the places of some sections, and of the Flush behind them.
+fn push_part(
+    alloc: Global,
+    places: &mut Vec<Place>,
+    flushes: &Flushes,
+    ignore_errors: bool,
+    sections: Items<Section>,
+) -> Result<(), AllocError>
+    ensures { IfOk result (λ _. places.new.items ≡ places.old.items ++ part_places flushes.now ignore_errors sections) }
+{
+    for section in sections.into_vec() {
+        push_section(alloc, places, flushes, ignore_errors, section)?;
+    }
+    push_flush(alloc, places, flushes, false)
+}
+
+/// Adds the places of a section.
+fn push_section(
+    alloc: Global,
+    places: &mut Vec<Place>,
+    flushes: &Flushes,
+    ignore_errors: bool,
+    section: Section,
+) -> Result<(), AllocError>
+    ensures { IfOk result (λ _. places.new.items ≡ places.old.items ++ places_of flushes.now (round_of ignore_errors section.origin) false section.nodes) }
+{
+    let Section { origin, nodes } = section;
+    let round = Round::of(ignore_errors, &origin)?;
+    push_all(alloc, places, flushes, &round, false, nodes.nodes)
+}
+
+/// Adds the places of these nodes.
+#[cycle(placing)]
+fn push_all(
+    alloc: Global,
+    places: &mut Vec<Place>,
+    flushes: &Flushes,
+    round: &Round,
+    is_caught: bool,
+    nodes: Vec<Node>,
+) -> Result<(), AllocError>
+    ensures { IfOk result (λ _. places.new.items ≡ places.old.items ++ places_of flushes.now round.now is_caught (written_of nodes.items)) }
+{
+    for node in nodes {
+        push_one(alloc, places, flushes, round, is_caught, node)?;
+    }
+    Ok(())
+}
+
+/// Adds the places of a node.
+#[cycle(placing)]
+fn push_one(
+    alloc: Global,
+    places: &mut Vec<Place>,
+    flushes: &Flushes,
+    round: &Round,
+    is_caught: bool,
+    node: Node,
+) -> Result<(), AllocError>
+    ensures { IfOk result (λ _. places.new.items ≡ places.old.items ++ places_of flushes.now round.now is_caught (node_of node Nothing)) }
+{
+    match node {
+        Node::Task(task) => push_task(alloc, places, &flushes.names, round, is_caught, task),
+        Node::Block {
+            keys,
+            body,
+            rescue,
+            always,
+        } => {
+            let inside = round.inside(alloc, &keys)?;
+            let is_rescued = is_caught_in(is_caught, &rescue);
+            push_all(alloc, places, flushes, &inside, is_rescued, body)?;
+            push_all(alloc, places, flushes, &inside, is_caught, rescue)?;
+            push_all(alloc, places, flushes, &inside, is_caught, always)
+        }
+        Node::Flush => push_flush(alloc, places, flushes, is_caught),
+    }
+}
+
+/// Whether a failure in the body of a block is caught, from whether it is round the block, and from the block's rescue.
+#[tactic(auto, using(crate::proofs::PlayNodes::is_none))]
+fn is_caught_in(is_caught: bool, rescue: &[Node]) -> bool
+    ensures { result ≡ (is_caught || not (is_nothing (written_of rescue.now))) }
+{
+    is_caught || !rescue.is_empty()
+}
+
+/// Adds the place of a task.
+fn push_task(
+    alloc: Global,
+    places: &mut Vec<Place>,
+    names: &Handlers,
+    round: &Round,
+    is_caught: bool,
+    task: Task,
+) -> Result<(), AllocError>
+    ensures { IfOk result (λ _. places.new.items ≡ places.old.items ++ placed names.now round.now is_caught None task ∷ []) }
+{
+    let place = round.place(alloc, names, is_caught, task)?;
+    places.push(place)?;
+    Ok(())
+}

@@ -1,0 +1,178 @@
+//! What the roles of a play bring, each after the roles that it depends on.
+ghost use Rattle.std.specs.Prelude.{◌≡◌, ◌≤◌, ◌+◌, [], ◌∷◌, ◌++◌, IfOk, IfErr, OnOk, Ok};
+ghost use Rattle.pb_value.specs.Reading.{and_then};
+ghost use Rattle.pb_roles.specs.Answers.{Faults, Gives};
+ghost use Rattle.pb_roles.specs.Expansion.{closed, handlers_in, is_open, meets, most_open, roles_of};
+ghost use Rattle.pb_roles.specs.Files.{read_of};
+ghost use Rattle.pb_roles.specs.Open.{conditions_in, cost_in, cost_of, left_in, names_of, pushed, rest_of, to_do};
+
+use crate::enter::role_of;
+use crate::fault::RoleFault;
+use crate::files::RoleFiles;
+use crate::met::{HandlerIn, Met, Section};
+use crate::opened::OpenRole;
+use crate::origin::Origin;
+use pb_expr_syntax::tree::Expr;
+use pb_play::handlers::Handler;
+use pb_role_entries::entry::RoleEntry;
+use pb_value::items::Items;
+use pb_value::text::Text;
+use std::alloc::{AllocError, Global};
+use std::collections::VecDeque;
+
+/// Whether a role of this name is open.
+fn is_open(name: &Text, open: &VecDeque<OpenRole>) -> bool
+    ensures { result ≡ is_open name.now (names_of open.now.items) }
+{
+    for role in open.iter() {
+        if name.as_str() == role.name.as_str() {
+            return true;
+        }
+    }
+    false
+}
+
+/// How many roles may be opened inside the open ones.
+fn left_in(files: &RoleFiles, open: &VecDeque<OpenRole>) -> usize
+    ensures { result ≡ left_in (most_open files.now) open.now.items }
+{
+    match open.front() {
+        Some(role) => role.left,
+        None => files.files.as_slice().len() + 1,
+    }
+}
+
+/// The conditions under which the dependencies of the open roles stand.
+fn conditions_in(open: &VecDeque<OpenRole>) -> &[Expr]
+    ensures { result.now ≡ conditions_in open.now.items }
+{
+    match open.front() {
+        Some(role) => role.origin.conditions(),
+        None => &[],
+    }
+}
+
+/// A role that was found is open.
+fn push_found(open: &mut VecDeque<OpenRole>, found: Option<OpenRole>) -> Result<(), AllocError>
+    ensures { OnOk result (open.new.items ≡ pushed found open.old.items) }
+{
+    if let Some(role) = found {
+        open.push_front(role)?;
+    }
+    Ok(())
+}
+
+/// An entry is met inside the roles that are open.
+#[tactic(auto, using(crate::proofs::Stack::entered, crate::proofs::Stack::enter_fault, crate::proofs::Stack::enter_open, crate::proofs::Stack::enter_none, crate::proofs::Stack::cost_entered))]
+fn enter(
+    alloc: Global,
+    files: &RoleFiles,
+    open: &mut VecDeque<OpenRole>,
+    entry: &RoleEntry,
+    met: &mut Met,
+) -> Result<(), RoleFault>
+    ensures value { OnOk result (rest_of (read_of files.now) open.new.items met.new ≡ to_do (most_open files.now) (read_of files.now) open.old.items entry.now met.old) }
+    ensures cost { OnOk result (cost_in (read_of files.now) open.new.items + 1 ≤ cost_in (read_of files.now) open.old.items + cost_of (left_in (most_open files.now) open.old.items) (read_of files.now) entry.now) }
+    ensures fault { IfErr result (λ e. Faults e (to_do (most_open files.now) (read_of files.now) open.old.items entry.now met.old)) }
+{
+    let left = left_in(files, open);
+    if left == 0 {
+        return Err(RoleFault::Cycle);
+    }
+    if is_open(&entry.name, open) {
+        return Err(RoleFault::Cycle);
+    }
+    let found = role_of(
+        alloc,
+        files,
+        left - 1,
+        conditions_in(open),
+        entry,
+        &mut met.came,
+    )?;
+    push_found(open, found)?;
+    Ok(())
+}
+
+/// Adds the handlers of a role, or of the play, each with where it comes from.
+pub(crate) fn push_handlers(
+    origin: &Origin,
+    handlers: Items<Handler>,
+    all: &mut Items<HandlerIn>,
+) -> Result<(), AllocError>
+    ensures { OnOk result (all.new ≡ all.old ++ handlers_in origin.now handlers) }
+{
+    for handler in handlers.into_vec() {
+        let origin = origin.share()?;
+        all.push(HandlerIn { handler, origin })?;
+    }
+    Ok(())
+}
+
+/// The dependencies of a role are through: what it brings comes behind what they brought.
+fn close(role: OpenRole, met: &mut Met) -> Result<(), AllocError>
+    ensures { OnOk result (met.new ≡ closed role met.old) }
+{
+    let (origin, nodes, handlers) = role.into_parts();
+    push_handlers(&origin, handlers, &mut met.handlers)?;
+    met.sections.push(Section { origin, nodes })?;
+    Ok(())
+}
+
+/// The next step inside the open roles: an entry is met, or the innermost role is closed.
+#[tactic(auto, using(crate::proofs::Stack::next_entry, crate::proofs::Stack::cost_next, crate::proofs::Stack::no_entry, crate::proofs::Stack::cost_none))]
+fn step(
+    alloc: Global,
+    files: &RoleFiles,
+    open: &mut VecDeque<OpenRole>,
+    role: OpenRole,
+    met: &mut Met,
+) -> Result<(), RoleFault>
+    ensures value { OnOk result (rest_of (read_of files.now) open.new.items met.new ≡ rest_of (read_of files.now) (role ∷ open.old.items) met.old) }
+    ensures cost { OnOk result (cost_in (read_of files.now) open.new.items + 1 ≤ cost_in (read_of files.now) (role ∷ open.old.items)) }
+    ensures fault { IfErr result (λ e. Faults e (rest_of (read_of files.now) (role ∷ open.old.items) met.old)) }
+{
+    let mut role = role;
+    match role.dependencies.pop() {
+        Some(entry) => {
+            open.push_front(role)?;
+            enter(alloc, files, open, &entry, met)
+        }
+        None => {
+            close(role, met)?;
+            Ok(())
+        }
+    }
+}
+
+/// An entry of a play is met, with all that its role depends on.
+fn meet(alloc: Global, files: &RoleFiles, entry: &RoleEntry, met: &mut Met) -> Result<(), RoleFault>
+    ensures value { OnOk result (meets (most_open files.now) (read_of files.now) [] [] entry.now met.old ≡ Ok met.new) }
+    ensures fault { IfErr result (λ e. Faults e (meets (most_open files.now) (read_of files.now) [] [] entry.now met.old)) }
+{
+    let mut open = VecDeque::new(alloc);
+    enter(alloc, files, &mut open, entry, met)?;
+    while let Some(role) = open.pop_front() {
+        step(alloc, files, &mut open, role, met)?;
+    }
+    Ok(())
+}
+
+/// What the roles of a play bring.
+pub(crate) fn roles_of(
+    alloc: Global,
+    files: &RoleFiles,
+    entries: &[RoleEntry],
+) -> Result<Met, RoleFault>
+    ensures { Gives result (roles_of files.now entries.now) }
+{
+    let mut met = Met {
+        came: Items::new(alloc),
+        sections: Items::new(alloc),
+        handlers: Items::new(alloc),
+    };
+    for entry in entries {
+        meet(alloc, files, entry, &mut met)?;
+    }
+    Ok(met)
+}

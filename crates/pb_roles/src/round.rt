@@ -1,0 +1,287 @@
+//! What is handed down to the tasks of a play, by the play, by roles and by blocks.
+
+ghost use Rattle.std.specs.Arc.{arc_value};
+ghost use Rattle.std.specs.Prelude.{◌≡◌, ◌++◌, [], List, true, false, Some, None, option_map, unwrap_or, IfOk};
+ghost use Rattle.pb_layers.specs.Scope.{or_else};
+ghost use Rattle.pb_facts.specs.Facts.{put_all};
+ghost use Rattle.pb_play.specs.declared.task.Task.{Task as OneTask};
+ghost use Rattle.pb_places.specs.Place.{place_of};
+ghost use Rattle.pb_places.specs.Within.{placed as stands_in};
+ghost use Rattle.pb_roles.specs.Building.{inside, placed, round_of};
+ghost use Rattle.pb_handlers.specs.Naming.{notified_from};
+ghost use Rattle.pb_handlers.specs.declared.naming.HandlerNames.{HandlerNames};
+ghost use Rattle.pb_roles.specs.Origins.{listed};
+
+use crate::origin::Origin;
+use pb_expr_syntax::tree::Expr;
+use pb_facts::put::put_all;
+use pb_handlers::Handlers;
+use pb_places::conditions::joined;
+use pb_places::{Place, Role, Surroundings};
+use pb_play::node::BlockKeys;
+use pb_play::task::Task;
+use pb_value::items::Items;
+use pb_value::val::Dict;
+use std::alloc::{AllocError, Global};
+use std::marker::Model;
+use std::sync::Arc;
+
+/// What stands round some nodes: what their role, their blocks and their play hand down to the tasks, the variables of the blocks, and those of the role.
+pub(crate) struct Round {
+    /// None where there is no condition.
+    conditions: Option<Arc<Items<Expr>>>,
+    ignore_errors: Option<bool>,
+    /// None where there is no variable.
+    block_vars: Option<Arc<Dict>>,
+    /// None outside of roles.
+    role: Option<Arc<Role>>,
+}
+
+impl Drop for Round {
+    fn drop(self) {
+        let Round {
+            conditions,
+            ignore_errors: _,
+            block_vars,
+            role,
+        } = self;
+        drop(conditions);
+        drop(block_vars);
+        drop(role);
+    }
+}
+
+impl Model for Round {
+    ghost use Rattle.std.specs.Coded.{codes};
+    ghost use Rattle.pb_value.specs.contracts.val.Val as val;
+    ghost use Rattle.pb_expr_syntax.specs.contracts.tree.Expr as expr;
+    ghost use Rattle.pb_roles.specs.Building.{RoundOf};
+    ghost use Rattle.std.specs.Prelude.{option_map, unwrap_or};
+    ghost use Rattle.std.specs.Arc.{arc_value};
+    ghost use Rattle.pb_places.specs.Place.{no_role};
+    ghost use Rattle.pb_roles.specs.Origins.{listed};
+
+    ghost Value = { RoundOf };
+
+    ghost coded = { Prim.hlevel (codes, val.the_row.coded, expr.the_row.coded) };
+
+    ghost view = { λ r. record { keys = record { conditions = listed r.conditions; ignore_errors = r.ignore_errors }; block_vars = listed r.block_vars; role = unwrap_or (option_map arc_value r.role) no_role } };
+}
+
+impl Round {
+    /// What stands round all that comes from there, in a play that ignores failures or not.
+    pub(crate) fn of(ignore_errors: bool, origin: &Origin) -> Result<Round, AllocError>
+        ensures { IfOk result (λ round. round ≡ round_of ignore_errors origin.now) }
+    {
+        let conditions = sharing(&origin.conditions)?;
+        let role = sharing(&origin.role)?;
+        Ok(Round {
+            conditions,
+            ignore_errors: Some(ignore_errors),
+            block_vars: None,
+            role,
+        })
+    }
+
+    /// What stands round the nodes of a block.
+    pub(crate) fn inside(&self, alloc: Global, keys: &BlockKeys) -> Result<Round, AllocError>
+        ensures { IfOk result (λ round. round ≡ inside self.now keys.now) }
+    {
+        let conditions = conditions_inside(alloc, &self.conditions, &keys.conditions)?;
+        let block_vars = vars_inside(alloc, &self.block_vars, &keys.vars)?;
+        let role = sharing(&self.role)?;
+        Ok(Round {
+            conditions,
+            ignore_errors: inner(keys.ignore_errors, self.ignore_errors),
+            block_vars,
+            role,
+        })
+    }
+
+    /// What stands at a task's place, in a play with these handlers.
+    #[tactic(auto, using(crate::proofs::Notified::none_notified))]
+    pub(crate) fn place(
+        &self,
+        alloc: Global,
+        names: &Handlers,
+        is_caught: bool,
+        task: Task,
+    ) -> Result<Place, AllocError>
+        ensures { IfOk result (λ place. place ≡ placed names.now self.now is_caught None task) }
+    {
+        if self.is_plain(is_caught) && task.notify.is_empty() {
+            return Ok(Place::of(task));
+        }
+        let surroundings = self.surroundings(alloc, names, is_caught, None, &task)?;
+        Place::within(alloc, task, surroundings)
+    }
+
+    /// What stands at the place of the handler with this number, in a Flush.
+    pub(crate) fn handler_place(
+        &self,
+        alloc: Global,
+        names: &Handlers,
+        is_caught: bool,
+        number: u32,
+        task: &Arc<Task>,
+    ) -> Result<Place, AllocError>
+        ensures { IfOk result (λ place. place ≡ placed names.now self.now is_caught (Some number) (arc_value task.now)) }
+    {
+        let surroundings = self.surroundings(alloc, names, is_caught, Some(number), task.as_ref())?;
+        Place::sharing(alloc, task.clone()?, surroundings)
+    }
+
+    /// Whether nothing is handed down to a task: then it stands alone, if it notifies nothing.
+    fn is_plain(&self, is_caught: bool) -> bool
+        ensures { result ≡ true → (names : List HandlerNames) (task : OneTask) → notified_from task.notify 0 names ≡ [] → placed names self.now is_caught None task ≡ place_of task }
+    {
+        self.conditions.is_none()
+            && self.block_vars.is_none()
+            && self.role.is_none()
+            && !is_caught
+            && !self.ignore_errors.unwrap_or(false)
+    }
+
+    /// What a task's place has beside the task.
+    fn surroundings(
+        &self,
+        alloc: Global,
+        names: &Handlers,
+        is_caught: bool,
+        handler: Option<u32>,
+        task: &Task,
+    ) -> Result<Surroundings, AllocError>
+        ensures { IfOk result (λ given. stands_in task.now given ≡ placed names.now self.now is_caught handler task.now) }
+    {
+        let conditions = conditions_at(alloc, &self.conditions, &task.conditions)?;
+        let block_vars = sharing(&self.block_vars)?;
+        let role = sharing(&self.role)?;
+        let notifies = notified(alloc, names, task)?;
+        Ok(Surroundings {
+            conditions,
+            block_vars,
+            role,
+            ignore_errors: inner(task.ignore_errors, self.ignore_errors).unwrap_or(false),
+            any_errors_fatal: false,
+            throttle: 0,
+            run_once: false,
+            delegate_to: None,
+            delegate_facts: false,
+            is_caught,
+            notifies,
+            handler,
+        })
+    }
+}
+
+/// The numbers of the handlers that a task notifies.
+#[tactic(auto, using(crate::proofs::Notified::none_notified))]
+fn notified(alloc: Global, names: &Handlers, task: &Task) -> Result<Items<u32>, AllocError>
+    ensures { IfOk result (λ numbers. numbers ≡ notified_from task.now.notify 0 names.now) }
+{
+    if task.notify.is_empty() {
+        return Ok(Items::new(alloc));
+    }
+    let numbers = names.notified(alloc, task.notify.as_slice())?;
+    Ok(Items::from_vec(numbers))
+}
+
+/// Of a key, the inner value counts, where it is written.
+fn inner(own: Option<bool>, outer: Option<bool>) -> Option<bool>
+    ensures { result ≡ or_else own outer }
+{
+    match own {
+        Some(own) => Some(own),
+        None => outer,
+    }
+}
+
+/// Another owner of what is listed.
+fn sharing<T: Drop>(given: &Option<Arc<T>>) -> Result<Option<Arc<T>>, AllocError>
+    ensures { IfOk result (λ other. option_map arc_value other ≡ option_map arc_value given.now) }
+{
+    match given {
+        Some(given) => Ok(Some(given.clone()?)),
+        None => Ok(None),
+    }
+}
+
+/// The conditions in a block: the outer ones, and its own behind them.
+fn conditions_inside(
+    alloc: Global,
+    outer: &Option<Arc<Items<Expr>>>,
+    own: &Items<Expr>,
+) -> Result<Option<Arc<Items<Expr>>>, AllocError>
+    ensures { IfOk result (λ all. listed all ≡ listed outer.now ++ own.now) }
+{
+    if own.is_empty() {
+        return sharing(outer);
+    }
+    let all = joined(alloc, conditions_of(outer), own.as_slice())?;
+    Ok(Some(Arc::new(alloc, all)?))
+}
+
+/// The conditions that are handed down.
+fn conditions_of(given: &Option<Arc<Items<Expr>>>) -> &[Expr]
+    ensures { result.now ≡ listed given.now }
+{
+    match given {
+        Some(given) => given.as_ref().as_slice(),
+        None => &[],
+    }
+}
+
+/// The conditions at a task's place, unless they are the task's own.
+fn conditions_at(
+    alloc: Global,
+    outer: &Option<Arc<Items<Expr>>>,
+    own: &Items<Expr>,
+) -> Result<Option<Arc<Items<Expr>>>, AllocError>
+    ensures { IfOk result (λ all. unwrap_or (option_map arc_value all) own.now ≡ listed outer.now ++ own.now) }
+{
+    match outer {
+        Some(outer) => Ok(Some(behind(alloc, outer, own)?)),
+        None => Ok(None),
+    }
+}
+
+/// A task's conditions behind those that are handed down to it; all tasks without conditions share these.
+fn behind(
+    alloc: Global,
+    outer: &Arc<Items<Expr>>,
+    own: &Items<Expr>,
+) -> Result<Arc<Items<Expr>>, AllocError>
+    ensures { IfOk result (λ all. arc_value all ≡ arc_value outer.now ++ own.now) }
+{
+    if own.is_empty() {
+        return Ok(outer.clone()?);
+    }
+    let all = joined(alloc, outer.as_ref().as_slice(), own.as_slice())?;
+    Ok(Arc::new(alloc, all)?)
+}
+
+/// The variables of a block over those of the blocks round it; a block without variables shares these.
+fn vars_inside(
+    alloc: Global,
+    outer: &Option<Arc<Dict>>,
+    own: &Dict,
+) -> Result<Option<Arc<Dict>>, AllocError>
+    ensures { IfOk result (λ vars. listed vars ≡ put_all own.now (listed outer.now)) }
+{
+    if own.is_empty() {
+        return sharing(outer);
+    }
+    let mut known = copied(alloc, outer)?;
+    put_all(alloc, &mut known, own)?;
+    Ok(Some(Arc::new(alloc, known)?))
+}
+
+/// A copy of the variables of the blocks round a block.
+fn copied(alloc: Global, outer: &Option<Arc<Dict>>) -> Result<Dict, AllocError>
+    ensures { IfOk result (λ known. known ≡ listed outer.now) }
+{
+    match outer {
+        Some(outer) => Ok(outer.as_ref().try_clone(alloc)?),
+        None => Ok(Dict::new(alloc)),
+    }
+}
