@@ -1,6 +1,2 @@
-pub mod TreeNodes
-pub mod PlayNodes
-pub mod Trees
-pub mod Placed
-pub mod Plans
-pub mod Fitting
+mod Fitting
+mod Plans

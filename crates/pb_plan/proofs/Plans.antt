@@ -1,9 +1,11 @@
 -- What is left of the plays of a bundle, and what its faults are.
 use Rattle.std.proofs.Common.{◌≡◌, ℕ, ◌++◌, Bool, true, false, List, [], ◌∷◌, map, refl, sym, ap, subst, ◌∙◌, append_assoc, inl, inr, ◌||◌}
 use Rattle.std.specs.Prelude.{nat_lt, Option, Some, Ok, Err}
-use Rattle.std.specs.List.{list_any}
+use Rattle.std.specs.List.{All}
+use Rattle.std.proofs.lemmas.List.Elements.{All-head, All-tail}
 use Rattle.std.proofs.lemmas.List.{append-nil}
 use Rattle.pb_value.specs.Limits.{max_bytes}
+use Rattle.pb_value.specs.Reading.{and_then}
 use Rattle.pb_inventory.specs.InventoryOf.{InventoryOf}
 use Rattle.pb_inventory.specs.Reading.{inventory_of}
 use Rattle.pb_layers.specs.Scope.{Map}
@@ -16,36 +18,36 @@ use Rattle.pb_patterns.specs.declared.selected.Selected.{Selected}
 use Rattle.pb_patterns.specs.declared.fault.PatFault.{PatFault}
 use Rattle.pb_patterns.specs.declared.fault.PatFault.TheVariants.{BadRegex}
 use Rattle.pb_play.specs.Playbooks.{playbook_of, expressions_of_book}
-use Rattle.pb_play.specs.declared.fault.LoadFault.{LoadFault}
-use Rattle.pb_play.specs.declared.fault.LoadFault.TheVariants.{BadPattern}
-use Rattle.pb_play.specs.declared.play.Play.{Play}
+use Rattle.pb_written.specs.declared.fault.LoadFault.{LoadFault}
+use Rattle.pb_written.specs.declared.fault.LoadFault.TheVariants.{BadPattern}
+use Rattle.pb_roles.specs.Plays.{IsBuilt, expansion_of}
+use Rattle.pb_roles.specs.declared.sections.Expanded.{Expanded}
 use Rattle.pb_play.specs.declared.playbook.Playbook.{Playbook}
 use Rattle.pb_plan.specs.declared.bundle.Bundle.{Bundle}
 use Rattle.pb_plan.specs.declared.bundle.BundleFault.{BundleFault}
 use Rattle.pb_plan.specs.declared.bundle.BundleFault.TheVariants.{Inventory, Playbook as InPlaybook, Roles, Limit, BadForks, TooLarge}
-use Rattle.pb_plan.specs.declared.bundle.RoleFault.TheVariants.{TooLarge as TooManyPlaces}
 use Rattle.pb_plan.specs.Plan.{PlayOf, PlanOf}
-use Rattle.pb_plan.specs.Bundle.{in_part, limit_of, limited, extra_in, with_places, variables_of, readings_of, expressions_of_limit, expressions_in_plays, expressions_in_limit, has_too_large_tree, are_bad_forks, bundle_bytes, both, play_with, unmatched_line, IsPlayOf, ArePlaysOf, IsPlaybookFault, IsLimitFault, IsBundleFault, IsPlanIn, IsPlanOf}
+use Rattle.pb_plan.specs.Bundle.{in_part, limit_of, limited, extra_in, variables_of, readings_of, expressions_of_limit, expressions_in_plays, expressions_in_limit, are_bad_forks, bundle_bytes, both, play_with, unmatched_line, IsPlayOf, ArePlaysOf, IsPlaybookFault, IsLimitFault, IsBundleFault, IsPlanIn, IsPlanOf}
 
 -- the plays in front are planned
-abbrev pub ArePlannedTo : InventoryOf → List Bool → List Play → List Play → List PlayOf → List (List ℕ) → Type 0
+abbrev pub ArePlannedTo : InventoryOf → List Bool → List Expanded → List Expanded → List PlayOf → List (List ℕ) → Type 0
 ArePlannedTo inventory limit all rest planned lines =
     (later : List PlayOf) (more : List (List ℕ)) → ArePlaysOf inventory limit rest later more → ArePlaysOf inventory limit all (planned ++ later) (lines ++ more)
 
-one_more : (inventory : InventoryOf) (limit : List Bool) (all rest : List Play) (play : Play) (planned : List PlayOf) (p : PlayOf) (lines more : List (List ℕ))
+one_more : (inventory : InventoryOf) (limit : List Bool) (all rest : List Expanded) (play : Expanded) (planned : List PlayOf) (p : PlayOf) (lines more : List (List ℕ))
     → ArePlannedTo inventory limit all (play ∷ rest) planned lines → IsPlayOf inventory limit play p more → ArePlannedTo inventory limit all rest (planned ++ p ∷ []) (lines ++ more)
 one_more inventory limit all rest play planned p lines more before is later others are =
     rw (append_assoc planned (p ∷ []) later, append_assoc lines more others) (before (p ∷ later) (more ++ others) (more, others, is, are, refl))
 
 -- a play has the hosts that both select, and lines of the elements that select none
-pub play_planned : (inventory : InventoryOf) (limit : List Bool) (play : Play) (own : Selected) (hosts : List Bool) (planned : PlayOf) (names before after : List (List ℕ))
+pub play_planned : (inventory : InventoryOf) (limit : List Bool) (play : Expanded) (own : Selected) (hosts : List Bool) (planned : PlayOf) (names before after : List (List ℕ))
     → IsSelection inventory play.hosts own → hosts ≡ both own.hosts limit → planned ≡ play_with inventory hosts play → names ≡ own.unmatched → after ≡ before ++ map unmatched_line names
     → (more : List (List ℕ)) × IsPlayOf inventory limit play planned more × (after ≡ before ++ more)
 play_planned inventory limit play own hosts planned names before after selects are is named put =
     (map unmatched_line own.unmatched, (own, selects, is ∙ ap (λ (h : List Bool). play_with inventory h play) are, refl), put ∙ ap (λ (ns : List (List ℕ)). before ++ map unmatched_line ns) named)
 
 -- the next play is planned
-pub next_planned : (inventory : InventoryOf) (limit : List Bool) (all old rest : List Play) (play : Play) (planned built : List PlayOf) (p : PlayOf) (first before after : List (List ℕ))
+pub next_planned : (inventory : InventoryOf) (limit : List Bool) (all old rest : List Expanded) (play : Expanded) (planned built : List PlayOf) (p : PlayOf) (first before after : List (List ℕ))
     → old ≡ play ∷ rest → built ≡ planned ++ p ∷ []
     → ((more : List (List ℕ)) × ArePlannedTo inventory limit all old planned more × (before ≡ first ++ more))
     → ((more : List (List ℕ)) × IsPlayOf inventory limit play p more × (after ≡ before ++ more))
@@ -57,19 +59,18 @@ next_planned inventory limit all old rest play planned built p first before afte
   more ∙ ap (λ t. t ++ n) is ∙ append_assoc first m n,
 )
 
-pub all_planned : (inventory : InventoryOf) (limit : List Bool) (all rest : List Play) (planned built : List PlayOf) (first lines : List (List ℕ))
+pub all_planned : (inventory : InventoryOf) (limit : List Bool) (all rest : List Expanded) (planned built : List PlayOf) (first lines : List (List ℕ))
     → rest ≡ [] → built ≡ planned → ((more : List (List ℕ)) × ArePlannedTo inventory limit all rest planned more × (lines ≡ first ++ more))
     → (more : List (List ℕ)) × ArePlaysOf inventory limit all built more × (lines ≡ first ++ more)
 all_planned inventory limit all rest planned built first lines none same (m, are, is) =
     let whole : ArePlaysOf inventory limit all (planned ++ []) (m ++ []) = are [] [] (subst (λ r. ArePlaysOf inventory limit r [] []) (sym none) refl) in
     (m, subst (λ b. ArePlaysOf inventory limit all b m) (sym same) (rw (← append-nil planned, ← append-nil m) whole), is)
 
-pub rest_few : (old rest : List Play) (play : Play) → old ≡ play ∷ rest → list_any has_too_large_tree old ≡ false → list_any has_too_large_tree rest ≡ false
-rest_few old rest play steps few = few_of (has_too_large_tree play) (list_any has_too_large_tree rest) (subst (λ o. list_any has_too_large_tree o ≡ false) steps few)
-  where
-    few_of : (a b : Bool) → (a || b) ≡ false → b ≡ false
-    few_of true b e = cc
-    few_of false b e = e
+pub rest_built : (old rest : List Expanded) (play : Expanded) → old ≡ play ∷ rest → All IsBuilt old → All IsBuilt rest
+rest_built old rest play steps built = All-tail IsBuilt play rest (subst (All IsBuilt) steps built)
+
+pub first_built : (old rest : List Expanded) (play : Expanded) → old ≡ play ∷ rest → All IsBuilt old → IsBuilt play
+first_built old rest play steps built = All-head IsBuilt play rest (subst (All IsBuilt) steps built)
 
 pub playbook_fault : (bytes : List ℕ) (fault : LoadFault) → IsFirstFault (expressions_of_book bytes) (playbook_of bytes) BadPattern fault → IsPlaybookFault bytes (InPlaybook fault)
 playbook_fault bytes fault (inl (taken, is)) = inl (taken, ap (in_part InPlaybook) is)
@@ -129,7 +130,7 @@ plays_taken : (bundle : Bundle) (inventory : InventoryOf) (extra : Map) (book : 
 plays_taken bundle inventory extra book has = rw (variables_read bundle inventory extra has.variables) has.taken
 
 behind_book : (bundle : Bundle) (inventory : InventoryOf) (extra : Map) (book : Playbook) → HasBook bundle inventory extra book
-    → readings_of bundle ≡ limited bundle.limit (record { inventory = inventory; extra = extra }) book
+    → readings_of bundle ≡ limited bundle (record { inventory = inventory; extra = extra }) book
 behind_book bundle inventory extra book has = rw (variables_read bundle inventory extra has.variables, has.read) refl
 
 limit_met_is : (bundle : Bundle) (inventory : InventoryOf) (extra : Map) (book : Playbook) → HasBook bundle inventory extra book → expressions_in_limit bundle ≡ expressions_of_limit bundle.limit
@@ -143,7 +144,7 @@ limit_met bundle inventory extra book fault has bad =
       subst (λ m. IsFirstFault m (readings_of bundle) (Limit BadRegex) fault) (sym (limit_met_is bundle inventory extra book has))
           (
           subst (λ r. IsFirstFault (expressions_of_limit bundle.limit) r (Limit BadRegex) fault) (sym (behind_book bundle inventory extra book has))
-          (made_of (expressions_of_limit bundle.limit) (limit_of bundle.limit) (λ elements. with_places (record { inventory = inventory; extra = extra; book = book; limit = elements })) (Limit BadRegex) fault bad)
+          (made_of (expressions_of_limit bundle.limit) (limit_of bundle.limit) (λ elements. and_then (in_part Roles (expansion_of bundle.roles book.plays)) (λ plays. Ok (record { inventory = inventory; extra = extra; plays = plays; limit = elements }))) (Limit BadRegex) fault bad)
           ),
     )
 
@@ -157,21 +158,23 @@ limit_taken : (bundle : Bundle) (inventory : InventoryOf) (extra : Map) (book : 
 limit_taken bundle inventory extra book limit has limited = subst AreTaken (sym (limit_met_is bundle inventory extra book has)) limited.taken
 
 behind_limit : (bundle : Bundle) (inventory : InventoryOf) (extra : Map) (book : Playbook) (limit : Option (List Element)) → HasBook bundle inventory extra book → HasLimit bundle limit
-    → readings_of bundle ≡ with_places (record { inventory = inventory; extra = extra; book = book; limit = limit })
+    → readings_of bundle
+    ≡ and_then (in_part Roles (expansion_of bundle.roles book.plays)) (λ plays. Ok (record { inventory = inventory; extra = extra; plays = plays; limit = limit }))
 behind_limit bundle inventory extra book limit has limited = behind_book bundle inventory extra book has ∙ rw limited.read refl
 
-pub places_fault : (bundle : Bundle) (inventory : InventoryOf) (extra : Map) (book : Playbook) (limit : Option (List Element)) → HasBook bundle inventory extra book → HasLimit bundle limit
-    → list_any has_too_large_tree book.plays ≡ true → IsBundleFault bundle (Roles TooManyPlaces)
-places_fault bundle inventory extra book limit has limited many =
-    inr (plays_taken bundle inventory extra book has, inl (limit_taken bundle inventory extra book limit has limited, behind_limit bundle inventory extra book limit has limited ∙ rw many refl))
+pub roles_fault : (bundle : Bundle) (inventory : InventoryOf) (extra : Map) (book : Playbook) (limit : Option (List Element)) (fault : BundleFault) → HasBook bundle inventory extra book
+    → HasLimit bundle limit → in_part Roles (expansion_of bundle.roles book.plays) ≡ Err fault → IsBundleFault bundle fault
+roles_fault bundle inventory extra book limit fault has limited is =
+    inr (plays_taken bundle inventory extra book has, inl (limit_taken bundle inventory extra book limit has limited, behind_limit bundle inventory extra book limit has limited ∙ rw is refl))
 
-pub plan_made : (bundle : Bundle) (inventory : InventoryOf) (extra : Map) (book : Playbook) (limit : Option (List Element)) (plan : PlanOf) → HasBook bundle inventory extra book → HasLimit bundle limit
-    → list_any has_too_large_tree book.plays ≡ false → IsPlanIn inventory extra limit bundle.forks bundle.has_facts_program book plan → IsPlanOf bundle plan
-plan_made bundle inventory extra book limit plan has limited few made =
+pub plan_made : (bundle : Bundle) (inventory : InventoryOf) (extra : Map) (book : Playbook) (limit : Option (List Element)) (plays : List Expanded) (plan : PlanOf)
+    → HasBook bundle inventory extra book → HasLimit bundle limit → in_part Roles (expansion_of bundle.roles book.plays) ≡ Ok plays
+    → IsPlanIn inventory extra limit bundle.forks bundle.has_facts_program plays plan → IsPlanOf bundle plan
+plan_made bundle inventory extra book limit plays plan has limited is made =
     record {
-      readings = record { inventory = inventory; extra = extra; book = book; limit = limit };
+      readings = record { inventory = inventory; extra = extra; plays = plays; limit = limit };
       plays_taken = plays_taken bundle inventory extra book has;
       limit_taken = limit_taken bundle inventory extra book limit has limited;
-      read = behind_limit bundle inventory extra book limit has limited ∙ rw few refl;
+      read = behind_limit bundle inventory extra book limit has limited ∙ rw is refl;
       planned = made;
     }

@@ -14,20 +14,18 @@ use Rattle.pb_variables.specs.Magic.{plan_magic, play_magic}
 use Rattle.pb_patterns.specs.Expressions.{AreTaken, IsFirstFault, behind}
 use Rattle.pb_patterns.specs.Reading.{pattern_of, expressions_of}
 use Rattle.pb_patterns.specs.declared.fault.PatFault.TheVariants.{BadRegex}
-use Rattle.pb_play.specs.declared.fault.LoadFault.TheVariants.{BadPattern}
+use Rattle.pb_written.specs.declared.fault.LoadFault.TheVariants.{BadPattern}
 use Rattle.pb_patterns.specs.Selection.{IsSelection}
 use Rattle.pb_patterns.specs.declared.element.Element.{Element}
 use Rattle.pb_patterns.specs.declared.selected.Selected.{Selected}
-use Rattle.pb_play.specs.declared.play.Play.{Play}
 use Rattle.pb_play.specs.declared.playbook.Playbook.{Playbook}
 use Rattle.pb_play.specs.Playbooks.{playbook_of, expressions_of_book}
-use Rattle.pb_tree.specs.Tree.{size_of}
-use Rattle.pb_flat.specs.Deep.{always_depth}
+use Rattle.pb_roles.specs.Plays.{expansion_of}
+use Rattle.pb_roles.specs.declared.files.RoleFile.{RoleFile}
+use Rattle.pb_roles.specs.declared.sections.Expanded.{Expanded}
 use Rattle.pb_plan.specs.declared.bundle.Bundle.{Bundle}
 use Rattle.pb_plan.specs.declared.bundle.BundleFault.{BundleFault}
 use Rattle.pb_plan.specs.declared.bundle.BundleFault.TheVariants.{Inventory, Playbook as InPlaybook, Roles, Limit, Extra, BadForks, TooLarge}
-use Rattle.pb_plan.specs.declared.bundle.RoleFault.TheVariants.{TooLarge as TooManyPlaces}
-use Rattle.pb_plan.specs.Building.{play_tree, all_places}
 use Rattle.pb_plan.specs.Plan.{PlayOf, PlanOf}
 
 -- a fault of a part is a fault of the bundle
@@ -35,33 +33,21 @@ abbrev pub in_part : {A F : Type 0} → (F → BundleFault) → Result A F → R
 in_part of (Ok x) = Ok x
 in_part of (Err e) = Err (of e)
 
--- a play has at most so many places
-abbrev pub max_places : ℕ
-max_places = 16384
-
--- a play whose own hosts are these
-abbrev pub play_with : InventoryOf → List Bool → Play → PlayOf
+-- a play with its roles, whose own hosts are these
+abbrev pub play_with : InventoryOf → List Bool → Expanded → PlayOf
 play_with inventory hosts play =
-    record { name = play.name; tree = play_tree play; places = all_places play; hosts = hosts; vars = play.vars; magic = play_magic inventory hosts }
-
-abbrev pub has_too_many_places : Play → Bool
-has_too_many_places play = nat_lt max_places (size_of (play_tree play))
-
--- always parts stand in one another at most so deep
-abbrev pub max_depth : ℕ
-max_depth = 32
-
-abbrev pub is_too_deep : Play → Bool
-is_too_deep play = nat_lt max_depth (always_depth (play_tree play).nodes)
-
-abbrev pub has_too_large_tree : Play → Bool
-has_too_large_tree play = has_too_many_places play || is_too_deep play
+    record { name = play.name; tree = play.tree; places = play.places; hosts = hosts; vars = play.vars; magic = play_magic inventory hosts }
 
 abbrev pub bytes_in : Option (List ℕ) → ℕ
 bytes_in given = option_map_or length given 0
 
+-- the files of roles count with their paths
+abbrev pub role_bytes : List RoleFile → ℕ
+role_bytes [] = 0
+role_bytes (file ∷ files) = length file.path + length file.bytes + role_bytes files
+
 abbrev pub bundle_bytes : Bundle → ℕ
-bundle_bytes bundle = length bundle.inventory + length bundle.playbook + bytes_in bundle.limit + bytes_in bundle.extra
+bundle_bytes bundle = length bundle.inventory + length bundle.playbook + bytes_in bundle.limit + bytes_in bundle.extra + role_bytes bundle.roles.files
 
 -- 1 to 256
 abbrev pub are_bad_forks : ℕ → Bool
@@ -71,7 +57,8 @@ are_bad_forks forks = nat_eq forks 0 || nat_lt 256 forks
 pub record Readings : Type 0 where
   pub inventory : InventoryOf
   pub extra : Map
-  pub book : Playbook
+  -- the plays with their roles
+  pub plays : List Expanded
   -- the elements of the pattern that the plays are limited to, if there is one
   pub limit : Option (List Element)
 
@@ -83,9 +70,6 @@ limit_of (Some text) = in_part Limit (map_ok Some (pattern_of (text ∷ [])))
 abbrev pub expressions_of_limit : Option (List ℕ) → List (List ℕ)
 expressions_of_limit None = []
 expressions_of_limit (Some text) = expressions_of (text ∷ [])
-
-abbrev pub with_places : Readings → Result Readings BundleFault
-with_places readings = if list_any has_too_large_tree readings.book.plays then Err (Roles TooManyPlaces) else Ok readings
 
 -- the extra variables, if there are some
 abbrev pub extra_in : Option (List ℕ) → Result Map BundleFault
@@ -111,13 +95,15 @@ variables_of bundle =
 abbrev pub book_of : Bundle → Result Playbook BundleFault
 book_of bundle = and_then (variables_of bundle) (λ _. in_part InPlaybook (playbook_of bundle.playbook))
 
-abbrev pub limited : Option (List ℕ) → Variables → Playbook → Result Readings BundleFault
-limited limit variables book =
-    and_then (limit_of limit) (λ elements. with_places (record { inventory = variables.inventory; extra = variables.extra; book = book; limit = elements }))
+abbrev pub limited : Bundle → Variables → Playbook → Result Readings BundleFault
+limited bundle variables book =
+    and_then (limit_of bundle.limit) (λ elements.
+    and_then (in_part Roles (expansion_of bundle.roles book.plays)) (λ plays.
+    Ok (record { inventory = variables.inventory; extra = variables.extra; plays = plays; limit = elements })))
 
--- what a bundle says, or its first fault, where every regular expression is taken: behind the playbook come the limit, and the plays' trees
+-- what a bundle says, or its first fault, where every regular expression is taken: behind the playbook come the limit, and the plays' roles and trees
 abbrev pub readings_of : Bundle → Result Readings BundleFault
-readings_of bundle = and_then (variables_of bundle) (λ variables. and_then (in_part InPlaybook (playbook_of bundle.playbook)) (limited bundle.limit variables))
+readings_of bundle = and_then (variables_of bundle) (λ variables. and_then (in_part InPlaybook (playbook_of bundle.playbook)) (limited bundle variables))
 
 -- the regular expressions that are met in the plays' patterns: none, where a fault stands in front of the playbook
 abbrev pub expressions_in_plays : Bundle → List (List ℕ)
@@ -144,24 +130,24 @@ abbrev pub stranger_line : List ℕ → List ℕ
 stranger_line name = codes "warning: no such host " ++ name
 
 -- a play has the hosts that its own pattern and the limit select; the lines warn of the elements of its pattern
-abbrev pub IsPlayOf : InventoryOf → List Bool → Play → PlayOf → List (List ℕ) → Type 0
+abbrev pub IsPlayOf : InventoryOf → List Bool → Expanded → PlayOf → List (List ℕ) → Type 0
 IsPlayOf inventory limit play planned lines =
     (own : Selected) × IsSelection inventory play.hosts own × (planned ≡ play_with inventory (both own.hosts limit) play) × (lines ≡ map unmatched_line own.unmatched)
 
-abbrev pub ArePlaysOf : InventoryOf → List Bool → List Play → List PlayOf → List (List ℕ) → Type 0
+abbrev pub ArePlaysOf : InventoryOf → List Bool → List Expanded → List PlayOf → List (List ℕ) → Type 0
 ArePlaysOf inventory limit [] [] lines = lines ≡ []
 ArePlaysOf inventory limit [] (planned ∷ rest) lines = ⊥
 ArePlaysOf inventory limit (play ∷ plays) [] lines = ⊥
 ArePlaysOf inventory limit (play ∷ plays) (planned ∷ rest) lines =
     (first : List (List ℕ)) × (later : List (List ℕ)) × IsPlayOf inventory limit play planned first × ArePlaysOf inventory limit plays rest later × (lines ≡ first ++ later)
 
--- a plan of an inventory, extra variables, a limit's elements and a playbook: the hosts, the plays with their hosts, the forks, whether there is a facts
+-- a plan of an inventory, extra variables, a limit's elements and the plays of a playbook: the hosts, the plays with their hosts, the forks, whether there is a facts
 -- program, the variables, and what is warned of, of the inventory, of the limit, and of each play
-pub record IsPlanIn (inventory : InventoryOf) (extra : Map) (limit : Option (List Element)) (forks : ℕ) (has_facts_program : Bool) (book : Playbook) (plan : PlanOf) : Type 0 where
+pub record IsPlanIn (inventory : InventoryOf) (extra : Map) (limit : Option (List Element)) (forks : ℕ) (has_facts_program : Bool) (book : List Expanded) (plan : PlanOf) : Type 0 where
   pub selected : Selected
   pub lines : List (List ℕ)
   pub limited : IsLimit inventory limit selected
-  pub plays : ArePlaysOf inventory selected.hosts book.plays plan.plays lines
+  pub plays : ArePlaysOf inventory selected.hosts book plan.plays lines
   pub has_forks : plan.forks ≡ forks
   pub has_program : plan.has_facts_program ≡ has_facts_program
   pub has_inventory : plan.inventory ≡ inventory
@@ -174,7 +160,7 @@ pub record IsPlanOf (bundle : Bundle) (plan : PlanOf) : Type 0 where
   pub plays_taken : AreTaken (expressions_in_plays bundle)
   pub limit_taken : AreTaken (expressions_in_limit bundle)
   pub read : readings_of bundle ≡ Ok readings
-  pub planned : IsPlanIn readings.inventory readings.extra readings.limit bundle.forks bundle.has_facts_program readings.book plan
+  pub planned : IsPlanIn readings.inventory readings.extra readings.limit bundle.forks bundle.has_facts_program readings.plays plan
 
 -- the first fault of a playbook, and of a limit, as faults of a bundle
 abbrev pub IsPlaybookFault : List ℕ → BundleFault → Type 0

@@ -1,13 +1,11 @@
 //! What a run is made of, and its plan.
 
-ghost use Rattle.std.specs.Prelude.{◌≡◌, ◌≢◌, ◌<◌, length, false, nat_lt, IfOk, IfErr};
+ghost use Rattle.std.specs.Prelude.{◌≡◌, ◌<◌, ◌≤◌, ◌+◌, length, nat_lt, IfOk, IfErr, IfSome, IfNone};
 ghost use Rattle.pb_flat.specs.Deep.{always_depth};
-ghost use Rattle.pb_plan.specs.Building.{play_tree};
-ghost use Rattle.pb_plan.specs.Bundle.{play_with, has_too_large_tree, has_too_many_places, is_too_deep, bundle_bytes, bytes_in};
+ghost use Rattle.pb_plan.specs.Bundle.{play_with, bundle_bytes, bytes_in, role_bytes};
+ghost use Rattle.pb_roles.specs.Plays.{IsBuilt};
 ghost use Rattle.pb_value.specs.Limits.{max_bytes};
 
-use crate::nodes::{are_deeper, places_left, tree_of};
-use crate::placing::all_places;
 use crate::plan::PlanPlay;
 use pb_cursors::LaidTree;
 use pb_flat::FlatFault;
@@ -15,23 +13,17 @@ use pb_inventory::fault::InvFault;
 use pb_inventory::inventory::Inventory;
 use pb_patterns::fault::PatFault;
 use pb_planes::HostSet;
-use pb_play::fault::LoadFault;
-use pb_play::play::Play;
+use pb_roles::{Expanded, RoleFault, RoleFile, RoleFiles};
 use pb_tree::PlayTree;
 use pb_value::items::Items;
 use pb_value::limits::MAX_BYTES;
 use pb_value::text::Text;
 use pb_variables::fault::ExtraFault;
 use pb_variables::magic::play_magic;
+use pb_written::fault::LoadFault;
 use std::alloc::{AllocError, AllocFailed, Global};
 use std::rc::Rc;
 use thiserror::Error;
-
-/// The most places of a play.
-const MAX_PLACES: u32 = 16_384;
-
-/// How deep always parts of a play may stand in one another.
-const MAX_DEPTH: u32 = 32;
 
 /// What a run is made of: the bytes of its files and of its extra variables, how many hosts may run at once, and whether a program gathers facts.
 #[derive(Drop)]
@@ -40,6 +32,8 @@ pub struct Bundle {
     pub inventory: Items<u8>,
     /// The bytes of the playbook's file.
     pub playbook: Items<u8>,
+    /// The files of roles.
+    pub roles: RoleFiles,
     /// The pattern of the hosts that the plays are limited to, if there is one.
     pub limit: Option<Text>,
     /// The extra variables, an object in JSON, if some are given.
@@ -48,14 +42,6 @@ pub struct Bundle {
     pub forks: u32,
     /// Whether there is a program that gathers the facts of hosts.
     pub has_facts_program: bool,
-}
-
-/// Why a play has no tree.
-#[derive(Clone, Copy, Debug, PartialEq, Eq, Error)]
-pub enum RoleFault {
-    /// A play has more than 16,384 places, or always parts stand in one another, more than 32 deep.
-    #[error("5 TooLarge")]
-    TooLarge,
 }
 
 /// Why a bundle has no plan.
@@ -67,7 +53,7 @@ pub enum BundleFault {
     /// A fault of the playbook.
     #[error("2 Playbook {0}")]
     Playbook(LoadFault),
-    /// A fault of the plays' trees.
+    /// A fault of the plays' roles or trees.
     #[error("3 Roles {0}")]
     Roles(RoleFault),
     /// A fault of the limit's pattern.
@@ -109,91 +95,34 @@ impl<T: Drop> From<AllocFailed<T>> for BundleFault {
     }
 }
 
-/// A play's tree, laid out for its hosts. A tree in which always parts stand in one another, more than 32 deep, is too large.
+/// A play's tree, laid out for its hosts. Its always parts stand in one another at most 32 deep.
 fn laid_out(alloc: Global, tree: PlayTree) -> Result<Rc<LaidTree>, BundleFault>
+    requires { always_depth tree.nodes ≤ 32 }
     ensures value { IfOk result (λ laid. laid.value.tree ≡ tree) }
-    ensures deep { IfErr result (λ e. e ≢ BundleFault.Memory → 32 < always_depth tree.nodes) }
-    ensures fault { IfErr result (λ e. e ≢ BundleFault.Memory → e ≡ BundleFault.Roles RoleFault.TooLarge) }
+    ensures fault { IfErr result (λ e. e ≡ BundleFault.Memory) }
 {
     match LaidTree::of(alloc, tree) {
         Ok(laid) => Ok(Rc::new(alloc, laid)?),
-        Err(FlatFault::TooDeep) => Err(BundleFault::Roles(RoleFault::TooLarge)),
+        Err(FlatFault::TooDeep) => unreachable!(),
         Err(FlatFault::Memory) => Err(BundleFault::Memory),
     }
 }
 
-/// A play's tree, laid out for its hosts.
-fn laid_tree(alloc: Global, play: &Play) -> Result<Rc<LaidTree>, BundleFault>
-    requires { has_too_large_tree play.now ≡ false }
-    ensures value { IfOk result (λ laid. laid.value.tree ≡ play_tree play.now) }
-    ensures fault { IfErr result (λ e. e ≡ BundleFault.Memory) }
-{
-    let tree = tree_of(
-        alloc,
-        play.pre_tasks.nodes.as_slice(),
-        play.tasks.nodes.as_slice(),
-        play.post_tasks.nodes.as_slice(),
-    )?;
-    match laid_out(alloc, tree) {
-        Ok(laid) => Ok(laid),
-        Err(BundleFault::Memory) => Err(BundleFault::Memory),
-        Err(_) => unreachable!(),
-    }
-}
-
-/// Whether a play has more than 16,384 places, or always parts stand in one another, more than 32 deep.
-pub(crate) fn has_too_large_tree(play: &Play) -> bool
-    ensures { result ≡ has_too_large_tree play.now }
-{
-    has_too_many_places(play) || is_too_deep(play)
-}
-
-#[tactic(auto, using(crate::proofs::Trees::size_tree))]
-fn has_too_many_places(play: &Play) -> bool
-    ensures { result ≡ has_too_many_places play.now }
-{
-    let left = match places_left(play.pre_tasks.nodes.as_slice(), MAX_PLACES) {
-        Some(left) => left,
-        None => return true,
-    };
-    let left = match places_left(play.tasks.nodes.as_slice(), left) {
-        Some(left) => left,
-        None => return true,
-    };
-    places_left(play.post_tasks.nodes.as_slice(), left).is_none()
-}
-
-#[tactic(auto, using(crate::proofs::Trees::depth_tree))]
-fn is_too_deep(play: &Play) -> bool
-    ensures { result ≡ is_too_deep play.now }
-{
-    are_deeper(play.pre_tasks.nodes.as_slice(), MAX_DEPTH)
-        || are_deeper(play.tasks.nodes.as_slice(), MAX_DEPTH)
-        || are_deeper(play.post_tasks.nodes.as_slice(), MAX_DEPTH)
-}
-
-/// A play with its tree, whose own hosts are these.
+/// A play with its roles, whose own hosts are these.
 pub(crate) fn play_with(
     alloc: Global,
     inventory: &Inventory,
-    play: Play,
+    play: Expanded,
     hosts: HostSet,
 ) -> Result<PlanPlay, BundleFault>
-    requires tree { has_too_large_tree play ≡ false }
+    requires built { IsBuilt play }
     requires width { length hosts ≡ length inventory.now.hosts }
     ensures value { IfOk result (λ p. p ≡ play_with inventory.now hosts play) }
     ensures fault { IfErr result (λ e. e ≡ BundleFault.Memory) }
 {
-    let laid = laid_tree(alloc, &play)?;
+    let laid = laid_out(alloc, play.tree)?;
     let magic = play_magic(alloc, inventory, &hosts)?;
-    let places = all_places(
-        alloc,
-        play.ignore_errors,
-        play.pre_tasks,
-        play.tasks,
-        play.post_tasks,
-    )?;
-    Ok(PlanPlay::of(play.name, laid, places, hosts, play.vars, magic))
+    Ok(PlanPlay::of(play.name, laid, play.places, hosts, play.vars, magic))
 }
 
 /// How many bytes a text has that may be given.
@@ -206,16 +135,32 @@ fn bytes_in(given: &Option<Text>) -> usize
     }
 }
 
+/// How many bytes of a number of bytes are left, if the files of roles, with their paths, have no more.
+fn behind_files(files: &[RoleFile], bytes: usize) -> Option<usize>
+    ensures some { IfSome result (λ left. left + role_bytes files.now ≡ bytes) }
+    ensures none { IfNone result (bytes < role_bytes files.now) }
+{
+    let mut left = bytes;
+    for file in files {
+        let behind_path = left.checked_sub(file.path.len())?;
+        left = behind_path.checked_sub(file.bytes.len())?;
+    }
+    Some(left)
+}
+
 /// Whether a bundle is too large.
 pub(crate) fn is_too_large(bundle: &Bundle) -> bool
     ensures { result ≡ nat_lt max_bytes (bundle_bytes bundle.now) }
 {
+    let Some(left) = behind_files(bundle.roles.files.as_slice(), MAX_BYTES) else {
+        return true;
+    };
     let inventory = bundle.inventory.len();
     let playbook = bundle.playbook.len();
     let limit = bytes_in(&bundle.limit);
     let extra = bytes_in(&bundle.extra);
-    inventory > MAX_BYTES
-        || playbook > MAX_BYTES - inventory
-        || limit > MAX_BYTES - inventory - playbook
-        || extra > MAX_BYTES - inventory - playbook - limit
+    inventory > left
+        || playbook > left - inventory
+        || limit > left - inventory - playbook
+        || extra > left - inventory - playbook - limit
 }

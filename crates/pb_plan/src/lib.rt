@@ -1,17 +1,15 @@
 //! What a run is made of, and its plan.
 //!
-//! For the layers above: a `Bundle` has the bytes of a run's files and what its words give. `Plan::of` makes its plan: the hosts
+//! For the layers above: a `Bundle` has the bytes of a run's files, those of roles too, and what its words give. `Plan::of` makes its plan: the hosts
 //! and their variables, and of each play its name, its tree, what stands at each place and the hosts that its pattern and the limit
 //! select; or it answers the bundle's first fault, both as `specs/Bundle.antt` says (`IsPlanOf`, `IsBundleFault`).
 #![tactic(auto)]
 
 mod bundle;
-mod nodes;
-mod placing;
 mod plan;
 mod planning;
-mod round;
 
-pub use bundle::{Bundle, BundleFault, RoleFault};
+pub use bundle::{Bundle, BundleFault};
+pub use pb_roles::{RoleFault, RoleFile, RoleFiles};
 pub use pb_value::limits::MAX_BYTES;
 pub use plan::{Plan, PlanPlay};

@@ -1,6 +1,6 @@
 //! What the machine reads of a bundle.
 
-ghost use Rattle.std.specs.Prelude.{◌≡◌, ◌<◌, ◌≤◌, length, slice_get, option_map, false, IfOk, Some};
+ghost use Rattle.std.specs.Prelude.{◌≡◌, ◌<◌, ◌≤◌, length, slice_get, option_map, IfOk, Some};
 ghost use Rattle.std.specs.Option.{option_copied};
 ghost use Rattle.pb_tree.specs.Tree.{size_of};
 
@@ -61,10 +61,10 @@ impl Model for PlanPlay {
 
     ghost view = { λ p. record { name = p.name; tree = p.laid.value.tree; places = p.places; hosts = p.hosts; vars = p.vars; magic = p.magic } };
 
-    ghost use Rattle.std.specs.Prelude.{◌≡◌, ◌≤◌, length, false};
+    ghost use Rattle.std.specs.Prelude.{◌≡◌, ◌≤◌, length};
     ghost use Rattle.pb_tree.specs.Tree.{size_of};
 
-    ghost invariant = { λ p. (p.laid.value.tree.force_handlers ≡ false) × (size_of p.laid.value.tree ≤ 16384) × (length p.places ≡ size_of p.laid.value.tree) };
+    ghost invariant = { λ p. (size_of p.laid.value.tree ≤ 16384) × (length p.places ≡ size_of p.laid.value.tree) };
 }
 
 impl PlanPlay {
@@ -77,7 +77,6 @@ impl PlanPlay {
         vars: Dict,
         magic: Dict,
     ) -> PlanPlay
-        requires unforced { laid.value.tree.force_handlers ≡ false }
         requires bound { size_of laid.value.tree ≤ 16384 }
         requires places { length places ≡ size_of laid.value.tree }
         ensures { result ≡ record { name = name; tree = laid.value.tree; places = places; hosts = hosts; vars = vars; magic = magic } }
@@ -107,11 +106,10 @@ impl PlanPlay {
         self.laid.tree()
     }
 
-    /// The play's tree with the plan that it is laid out as, for the walks of all hosts. No play runs its handlers after a failure too.
+    /// The play's tree with the plan that it is laid out as, for the walks of all hosts.
     pub fn laid(&self) -> &Rc<LaidTree>
         ensures value { result.now.value.tree ≡ self.now.tree }
         ensures bound { size_of self.now.tree ≤ 16384 }
-        ensures unforced { self.now.tree.force_handlers ≡ false }
     {
         &self.laid
     }

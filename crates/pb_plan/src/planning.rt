@@ -1,15 +1,16 @@
 //! The plan of a bundle.
 
-ghost use Rattle.std.specs.Prelude.{◌≡◌, ◌≢◌, ◌<◌, ◌≤◌, [], ◌∷◌, ◌++◌, List, ℕ, map, length, false, IfOk, IfErr, OnOk, Ok, Err};
-ghost use Rattle.std.specs.List.{All, list_any};
+ghost use Rattle.std.specs.Prelude.{◌≡◌, ◌≢◌, ◌<◌, ◌≤◌, [], ◌∷◌, ◌++◌, List, ℕ, map, length, IfOk, IfErr, OnOk, Ok, Err};
+ghost use Rattle.std.specs.List.{All};
 ghost use Rattle.pb_inventory.specs.Reading.{inventory_of};
 ghost use Rattle.pb_patterns.specs.Expressions.{AreTaken};
 ghost use Rattle.pb_inventory.specs.Vars.{strangers};
 ghost use Rattle.pb_play.specs.Playbooks.{playbook_of, expressions_of_book};
+ghost use Rattle.pb_roles.specs.Plays.{expansion_of, IsBuilt};
 ghost use Rattle.pb_plan.specs.Plan.{Fits};
-ghost use Rattle.pb_plan.specs.Bundle.{in_part, limit_of, expressions_of_limit, extra_in, has_too_large_tree, stranger_line, unmatched_line, IsLimit, IsPlayOf, ArePlaysOf, IsPlanIn, IsPlanOf, IsBundleFault, IsPlaybookFault, IsLimitFault};
+ghost use Rattle.pb_plan.specs.Bundle.{in_part, limit_of, expressions_of_limit, extra_in, stranger_line, unmatched_line, IsLimit, IsPlayOf, ArePlaysOf, IsPlanIn, IsPlanOf, IsBundleFault, IsPlaybookFault, IsLimitFault};
 
-use crate::bundle::{Bundle, BundleFault, RoleFault, has_too_large_tree, is_too_large, play_with};
+use crate::bundle::{Bundle, BundleFault, is_too_large, play_with};
 use crate::plan::{Plan, PlanPlay};
 use pb_inventory::fault::InvFault;
 use pb_inventory::inventory::Inventory;
@@ -17,15 +18,15 @@ use pb_patterns::fault::PatFault;
 use pb_patterns::pattern::Pattern;
 use pb_patterns::selected::Selected;
 use pb_planes::HostSet;
-use pb_play::fault::LoadFault;
-use pb_play::play::Play;
 use pb_play::playbook::Playbook;
+use pb_roles::{Expanded, RoleFault, expand};
 use pb_value::items::Items;
 use pb_value::text::Text;
 use pb_value::val::Dict;
 use pb_variables::extra::read_extra;
 use pb_variables::fault::ExtraFault;
 use pb_variables::magic::plan_magic;
+use pb_written::fault::LoadFault;
 use std::alloc::{AllocError, Global};
 
 /// The inventory of a bundle.
@@ -85,11 +86,22 @@ fn limit_in(alloc: Global, limit: &Option<Text>) -> Result<Option<Pattern>, Bund
     }
 }
 
-/// Whether one of the plays has too large a tree.
-fn some_too_large(plays: &[Play]) -> bool
-    ensures { result ≡ list_any has_too_large_tree plays.now }
+/// The plays with their roles.
+fn plays_in(
+    alloc: Global,
+    bundle: &Bundle,
+    playbook: Playbook,
+) -> Result<Items<Expanded>, BundleFault>
+    ensures value { IfOk result (λ plays. in_part BundleFault.Roles (expansion_of bundle.now.roles playbook.plays) ≡ Ok plays) }
+    ensures built { IfOk result (All IsBuilt) }
+    ensures count { IfOk result (λ plays. length plays ≡ length playbook.plays) }
+    ensures fault { IfErr result (λ e. e ≢ BundleFault.Memory → in_part BundleFault.Roles (expansion_of bundle.now.roles playbook.plays) ≡ Err e) }
 {
-    plays.iter().any(|play| has_too_large_tree(play))
+    match expand(alloc, playbook, &bundle.roles) {
+        Ok(plays) => Ok(plays),
+        Err(RoleFault::Memory) => Err(BundleFault::Memory),
+        Err(fault) => Err(BundleFault::Roles(fault)),
+    }
 }
 
 /// What a limit selects: all hosts where there is none.
@@ -144,10 +156,10 @@ fn plan_play(
     alloc: Global,
     inventory: &Inventory,
     limit: &HostSet,
-    play: Play,
+    play: Expanded,
     lines: &mut Items<Text>,
 ) -> Result<PlanPlay, BundleFault>
-    requires places { has_too_large_tree play ≡ false }
+    requires built { IsBuilt play }
     requires width { length limit.now ≡ length inventory.now.hosts }
     ensures value { IfOk result (λ planned. (more : List (List ℕ)) × IsPlayOf inventory.now limit.now play planned more × (lines.new ≡ lines.old ++ more)) }
     ensures fault { IfErr result (λ e. e ≡ BundleFault.Memory) }
@@ -169,10 +181,10 @@ fn plan_plays(
     alloc: Global,
     inventory: &Inventory,
     limit: &HostSet,
-    plays: Items<Play>,
+    plays: Items<Expanded>,
     lines: &mut Items<Text>,
 ) -> Result<Items<PlanPlay>, BundleFault>
-    requires places { list_any has_too_large_tree plays ≡ false }
+    requires built { All IsBuilt plays }
     requires width { length limit.now ≡ length inventory.now.hosts }
     ensures value { IfOk result (λ planned. (more : List (List ℕ)) × ArePlaysOf inventory.now limit.now plays planned more × (lines.new ≡ lines.old ++ more)) }
     ensures count { IfOk result (λ planned. length planned ≡ length plays) }
@@ -218,25 +230,19 @@ fn plan_with(
     has_facts_program: bool,
     inventory: Inventory,
     extra: Dict,
-    playbook: Playbook,
+    plays: Items<Expanded>,
     limit: &Option<Pattern>,
 ) -> Result<Plan, BundleFault>
     requires some { 0 < forks }
     requires bound { forks ≤ 256 }
-    requires plays { length playbook.plays ≤ 256 }
-    requires places { list_any has_too_large_tree playbook.plays ≡ false }
-    ensures value { IfOk result (λ plan. IsPlanIn inventory extra limit.now forks has_facts_program playbook plan) }
+    requires plays { length plays ≤ 256 }
+    requires built { All IsBuilt plays }
+    ensures value { IfOk result (λ plan. IsPlanIn inventory extra limit.now forks has_facts_program plays plan) }
     ensures fault { IfErr result (λ e. e ≡ BundleFault.Memory) }
 {
     let selected = limit_selects(alloc, &inventory, limit)?;
     let mut lines = first_lines(alloc, &inventory, &selected)?;
-    let plays = plan_plays(
-        alloc,
-        &inventory,
-        &selected.hosts,
-        playbook.plays,
-        &mut lines,
-    )?;
+    let plays = plan_plays(alloc, &inventory, &selected.hosts, plays, &mut lines)?;
     let magic = plan_magic(alloc, &inventory)?;
     Ok(Plan::from_parts(
         inventory,
@@ -254,7 +260,7 @@ impl Plan {
     ///
     /// # Errors
     /// In this order: `TooLarge` where the bundle has more than 64 MiB, `BadForks` where its forks aren't 1 to 256, a fault of
-    /// the inventory, one of the extra variables, one of the playbook, one of the limit, one of the plays' trees. `Memory` may come at any point, where
+    /// the inventory, one of the extra variables, one of the playbook, one of the limit, one of the plays' roles and trees. `Memory` may come at any point, where
     /// memory was refused. Which regular expressions are refused for their size is the `regex` crate's own choice.
     pub fn of(alloc: Global, bundle: &Bundle) -> Result<Plan, BundleFault>
         ensures value { IfOk result (IsPlanOf bundle.now) }
@@ -286,16 +292,17 @@ impl Plan {
             Ok(limit) => limit,
             Err(fault) => return Err(fault),
         };
-        if some_too_large(playbook.plays.as_slice()) {
-            return Err(BundleFault::Roles(RoleFault::TooLarge));
-        }
+        let plays = match plays_in(alloc, bundle, playbook) {
+            Ok(plays) => plays,
+            Err(fault) => return Err(fault),
+        };
         plan_with(
             alloc,
             forks,
             bundle.has_facts_program,
             inventory,
             extra,
-            playbook,
+            plays,
             &limit,
         )
     }

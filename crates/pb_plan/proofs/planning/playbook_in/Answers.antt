@@ -1,6 +1,6 @@
 use Rattle.std.proofs.Common.{◌≢◌, subst, arith}
 use Rattle.std.proofs.lemmas.Grind.{common_steps}
-use Rattle.pb_play.specs.declared.fault.LoadFault.TheVariants.{Memory}
+use Rattle.pb_written.specs.declared.fault.LoadFault.TheVariants.{Memory}
 use Rattle.pb_plan.specs.declared.bundle.BundleFault.TheVariants.{Playbook}
 use Rattle.pb_plan.specs.Bundle.{IsPlaybookFault}
 use Rattle.pb_plan.proofs.Plans.{playbook_fault}

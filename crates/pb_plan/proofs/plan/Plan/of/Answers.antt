@@ -1,10 +1,9 @@
 use Rattle.std.proofs.Common.{◌≡◌, ◌≤◌, ◌<◌, ℕ, true, false, ◌⊎◌, inl, inr, arith, refl, sym, ap, ◌∙◌}
-use Rattle.std.specs.List.{list_any}
 use Rattle.std.proofs.lemmas.Bool.Decides.{nat_tests}
 use Rattle.std.proofs.lemmas.Result.{IfOk-weaker}
-use Rattle.pb_plan.specs.Bundle.{are_bad_forks, has_too_large_tree}
+use Rattle.pb_plan.specs.Bundle.{are_bad_forks}
 use Rattle.pb_plan.proofs.Fitting.{plan_fits}
-use Rattle.pb_plan.proofs.Plans.{IsSized, HasVariables, HasBook, HasLimit, size_fault, forks_fault, inventory_fault, extra_fault, book_fault, limit_met, places_fault, plan_made}
+use Rattle.pb_plan.proofs.Plans.{IsSized, HasVariables, HasBook, HasLimit, size_fault, forks_fault, inventory_fault, extra_fault, book_fault, limit_met, roles_fault, plan_made}
 use Rattle.pb_plan.proofs.plan.Plan.of.Goals as goal
 
 good_forks : (n : ℕ) → (n ≡ 0 → ⊥) → n ≤ 256 → are_bad_forks n ≡ false
@@ -49,18 +48,17 @@ returns-in-Err-limit_in-clause-fault c =
     record { variables = has; read = c.in-Ok-playbook_in.ensures.value; taken = c.in-Ok-playbook_in.ensures.taken } in
     λ other. limit_met c.args.bundle.now c.in-Ok.inventory c.in-Ok-extra_in.extra c.in-Ok-playbook_in.playbook c.in-Err-limit_in.fault book (c.in-Err-limit_in.ensures.fault other)
 
-pub returns-then-some_too_large-clause-fault : goal.returns-then-some_too_large-clause-fault
-returns-then-some_too_large-clause-fault c =
+pub returns-in-Err-plays_in-clause-fault : goal.returns-in-Err-plays_in-clause-fault
+returns-in-Err-plays_in-clause-fault c =
     let sized : IsSized c.args.bundle.now =
     record { size = sym c.is_too_large.ensures ∙ c.if-is_too_large.false; forks = good_forks _ c.if-forks-eq0.false c.if-forks-gt256.false } in
     let has : HasVariables c.args.bundle.now c.in-Ok.inventory c.in-Ok-extra_in.extra = record { sized = sized; read = c.in-Ok.ensures.value; extra_read = c.in-Ok-extra_in.ensures.value } in
     let book : HasBook c.args.bundle.now c.in-Ok.inventory c.in-Ok-extra_in.extra c.in-Ok-playbook_in.playbook =
     record { variables = has; read = c.in-Ok-playbook_in.ensures.value; taken = c.in-Ok-playbook_in.ensures.taken } in
     let limit : HasLimit c.args.bundle.now c.in-Ok-limit_in.limit = record { read = c.in-Ok-limit_in.ensures.value; taken = c.in-Ok-limit_in.ensures.taken } in
-    let many : list_any has_too_large_tree c.in-Ok-playbook_in.playbook.plays ≡ true =
-    ap (list_any has_too_large_tree) (sym c.as_slice.ensures) ∙ sym c.some_too_large.ensures ∙ c.if-some_too_large.true in
     λ other.
-    places_fault c.args.bundle.now c.in-Ok.inventory c.in-Ok-extra_in.extra c.in-Ok-playbook_in.playbook c.in-Ok-limit_in.limit book limit many
+    roles_fault c.args.bundle.now c.in-Ok.inventory c.in-Ok-extra_in.extra c.in-Ok-playbook_in.playbook c.in-Ok-limit_in.limit c.in-Err-plays_in.fault book limit
+    (c.in-Err-plays_in.ensures.fault other)
 
 pub returns-clause-value : goal.returns-clause-value
 returns-clause-value c =
@@ -70,11 +68,12 @@ returns-clause-value c =
     let book : HasBook c.args.bundle.now c.in-Ok.inventory c.in-Ok-extra_in.extra c.in-Ok-playbook_in.playbook =
     record { variables = has; read = c.in-Ok-playbook_in.ensures.value; taken = c.in-Ok-playbook_in.ensures.taken } in
     let limit : HasLimit c.args.bundle.now c.in-Ok-limit_in.limit = record { read = c.in-Ok-limit_in.ensures.value; taken = c.in-Ok-limit_in.ensures.taken } in
-    let few : list_any has_too_large_tree c.in-Ok-playbook_in.playbook.plays ≡ false =
-    ap (list_any has_too_large_tree) (sym c.as_slice.ensures) ∙ sym c.some_too_large.ensures ∙ c.if-some_too_large.false in
     IfOk-weaker c.plan_with.result _ _
-    (λ plan made. plan_made c.args.bundle.now c.in-Ok.inventory c.in-Ok-extra_in.extra c.in-Ok-playbook_in.playbook c.in-Ok-limit_in.limit plan book limit few made)
+    (λ plan made.
+    plan_made c.args.bundle.now c.in-Ok.inventory c.in-Ok-extra_in.extra c.in-Ok-playbook_in.playbook c.in-Ok-limit_in.limit c.in-Ok-plays_in.plays plan book limit
+    c.in-Ok-plays_in.ensures.value made)
     c.plan_with.ensures.value
 
 pub returns-clause-fit : goal.returns-clause-fit
-returns-clause-fit c = IfOk-weaker c.plan_with.result _ _ (λ plan made. plan_fits c.args.bundle.now plan made) (returns-clause-value c)
+returns-clause-fit c =
+    IfOk-weaker c.plan_with.result _ _ (λ plan made. plan_fits _ _ _ _ _ c.in-Ok-plays_in.plays plan made c.in-Ok-plays_in.ensures.built) c.plan_with.ensures.value
