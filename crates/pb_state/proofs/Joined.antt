@@ -4,18 +4,12 @@ use Rattle.std.specs.Prelude.{Option, Some, None, slice_get, is_some, if◌then�
 use Rattle.std.proofs.lemmas.List.{length-map}
 use Rattle.pb_cursors.specs.Walks.{PlayWalkOf, walk_from}
 use Rattle.pb_tree.specs.Tree.{TreeOf}
-use Rattle.pb_state.specs.Joining.{walk_for, with_walk, joined_from, AllUnforced}
+use Rattle.pb_state.specs.Joining.{walk_for, with_walk, joined_from}
 use Rattle.pb_state.specs.Machine.{change}
 use Rattle.pb_state.specs.Row.{HostRow, no_tree, is_called, joined}
-use Rattle.pb_state.specs.Walking.{tree_in, answers_in, AreUnforced}
+use Rattle.pb_state.specs.Walking.{tree_in, answers_in}
 
 -- a step of the loop over the walks
-pub first_unforced : (walks rest : List (Option PlayWalkOf)) (walk : Option PlayWalkOf) → walks ≡ walk ∷ rest → AllUnforced walks → AreUnforced walk
-first_unforced walks rest walk e all = (subst AllUnforced e all).0
-
-pub rest_unforced : (walks rest : List (Option PlayWalkOf)) (walk : Option PlayWalkOf) → walks ≡ walk ∷ rest → AllUnforced walks → AllUnforced rest
-rest_unforced walks rest walk e all = (subst AllUnforced e all).1
-
 pub joined_step : (n : ℕ) (walks rest : List (Option PlayWalkOf)) (walk : Option PlayWalkOf) (rows new all : List HostRow) → walks ≡ walk ∷ rest → new ≡ change rows n (with_walk walk)
     → joined_from n walks rows ≡ all → joined_from (n + 1) rest new ≡ all
 joined_step n walks rest walk rows new all w c e = ap (joined_from (n + 1) rest) c ∙ subst (λ (ws : List (Option PlayWalkOf)). joined_from n ws rows ≡ all) w e
@@ -35,17 +29,6 @@ as_joined false tree row = refl
 
 walk_joins : (tree : TreeOf) (hosts : List Bool) (row : HostRow) → with_walk (walk_for tree hosts row) row ≡ joined tree hosts row
 walk_joins tree hosts row = as_joined (is_called hosts row) tree row
-
-unforced_walk : (called : Bool) (tree : TreeOf) → tree.force_handlers ≡ false → AreUnforced (walked called tree)
-unforced_walk true tree e = e
-unforced_walk false tree e = tt
-
-all_unforced : (tree : TreeOf) (hosts : List Bool) (rows : List HostRow) → tree.force_handlers ≡ false → AllUnforced (map (walk_for tree hosts) rows)
-all_unforced tree hosts [] e = tt
-all_unforced tree hosts (row ∷ rows) e = (unforced_walk (is_called hosts row) tree e, all_unforced tree hosts rows e)
-
-pub unforced_walks : (tree : TreeOf) (hosts : List Bool) (rows : List HostRow) (walks : List (Option PlayWalkOf)) → walks ≡ map (walk_for tree hosts) rows → tree.force_handlers ≡ false → AllUnforced walks
-unforced_walks tree hosts rows walks e unforced = rw e (all_unforced tree hosts rows unforced)
 
 pub few_walks : (tree : TreeOf) (hosts : List Bool) (rows : List HostRow) (walks : List (Option PlayWalkOf)) (most : ℕ) → walks ≡ map (walk_for tree hosts) rows → length rows < most → length walks < most
 few_walks tree hosts rows walks most e below = rw (e, length-map rows (walk_for tree hosts)) below

@@ -23,8 +23,9 @@ use Rattle.pb_state.specs.declared.event.Event.{Event}
 use Rattle.pb_state.specs.declared.event.Event.TheVariants.{Open, Start, Send, Report as Reported, Turn, Close, Stop, Forks}
 use Rattle.pb_state.specs.declared.row.Running.{Running}
 use Rattle.pb_plan.specs.Plan.{PlayOf, PlanOf}
-use Rattle.pb_state.specs.Row.{HostRow, place_of, next_place, joined, finished, task_at, taught, came_back, items_after, progressed, sent, sent_running, reported, reported_running}
+use Rattle.pb_state.specs.Row.{HostRow, place_of, next_place, joined, finished, ended, task_at, taught, came_back, items_after, progressed, sent, sent_running, reported, reported_running}
 use Rattle.pb_state.specs.Ends.{kind_of, answer_of}
+use Rattle.pb_state.specs.Handlers.{notified_by}
 use Rattle.pb_state.specs.State.{State}
 use Rattle.pb_state.specs.Kept.{first_waiting}
 use Rattle.pb_state.specs.Results.{items_at}
@@ -80,19 +81,19 @@ all_count : (any halted : Bool) → halted ≡ false → not (any && halted) ≡
 all_count true halted e = rw e refl
 all_count false halted e = refl
 
-answer_counts : (answers : List AnswerOf) (task : TaskEnd) → counts answers (answer_of task) ≡ true
-answer_counts answers task = all_count (list_any (λ (b : AnswerOf). is_halted b.kind) answers) (is_halted (kind_of task)) (not_halted task)
+answer_counts : (answers : List AnswerOf) (task : TaskEnd) (notified : List ℕ) → counts answers (answer_of task notified) ≡ true
+answer_counts answers task notified = all_count (list_any (λ (b : AnswerOf). is_halted b.kind) answers) (is_halted (kind_of task)) (not_halted task)
 
-finished_from : (n p : ℕ) (task : TaskEnd) (facts : FactsOf) (row : HostRow) → reach row.tree row.answers ≡ At p → n ≤ 10002 * p + 10002 → RowFrom n (finished p task facts row)
-finished_from n p task facts row e l =
-    above_from n p (reach row.tree (row.answers ++ answer_of task ∷ [])) (places_rise row.tree row.answers (answer_of task) p e (answer_counts row.answers task)) l
+finished_from : (n p : ℕ) (task : TaskEnd) (notified : List ℕ) (facts : FactsOf) (row : HostRow) → reach row.tree row.answers ≡ At p → n ≤ 10002 * p + 10002 → RowFrom n (finished p task notified facts row)
+finished_from n p task notified facts row e l =
+    above_from n p (reach row.tree (row.answers ++ answer_of task notified ∷ [])) (places_rise row.tree row.answers (answer_of task notified) p e (answer_counts row.answers task notified)) l
 
 progressed_from : (n p : ℕ) (play : PlayOf) (items : List Item) (row : HostRow) → reach row.tree row.answers ≡ At p → n ≤ 10002 * p + first_waiting items + 1 → length items ≤ 10000
     → RowFrom n (progressed play p items row)
 progressed_from n p play items row e l few = by_over (is_over items)
   where
-    by_over : (over : Bool) → RowFrom n (if over then finished p (task_at play p items) (taught play p items row.facts) row else record row { running = Some (record { place = p; items = items; out = None }) })
-    by_over true = let most = first_most items in finished_from n p (task_at play p items) (taught play p items row.facts) row e (omega (arith, l, few, most))
+    by_over : (over : Bool) → RowFrom n (if over then ended play p items row else record row { running = Some (record { place = p; items = items; out = None }) })
+    by_over true = let most = first_most items in finished_from n p (task_at play p items) (notified_by play p (task_at play p items)) (taught play p items row.facts) row e (omega (arith, l, few, most))
     by_over false = (e, l, few)
 
 same_is : (a b : Option ℕ) → same_place a b ≡ true → (p : ℕ) × (a ≡ Some p) × (b ≡ Some p)

@@ -36,7 +36,7 @@ use Rattle.pb_state.specs.declared.row.Running.{Running}
 use Rattle.pb_state.specs.Back.{SameTold}
 use Rattle.pb_state.specs.Machine.{change, learnt_by, report_decides, reported_seen, decided_by, decided_with, told_in}
 use Rattle.pb_state.specs.Results.{start_with, magic_of, nothing, place_for, items_for, items_at, settled_for, settled_at}
-use Rattle.pb_state.specs.Row.{HostRow, items_after, progressed, reported, reported_running}
+use Rattle.pb_state.specs.Row.{HostRow, pending, items_after, progressed, reported, reported_running}
 use Rattle.pb_state.specs.Seen.{with_hosts, seen_with}
 use Rattle.pb_state.specs.State.{State}
 use Rattle.pb_state.specs.Unread.{ItemsUnread, ToldUnread}
@@ -129,7 +129,7 @@ decided_same : (one other : PlanOf) (play : PlayOf) (outcome : Form) (row : Host
     option_map (decided_by one play outcome row) running ≡ option_map (decided_by other play outcome row) running
 decided_same one other play outcome row None same = refl
 decided_same one other play outcome row (Some r) same =
-    ap (λ (items : List Item). Some (decided_with play r.place false (told_in items (next_item r.items)) items)) (after_same one other play row.host row.facts outcome r same)
+    ap (λ (items : List Item). Some (decided_with play r.place (pending row) false (told_in items (next_item r.items)) items)) (after_same one other play row.host row.facts outcome r same)
 
 -- in all rows, of which this one alone changes
 change_same : (rows : List HostRow) (h : ℕ) (f g : HostRow → HostRow) (found : Option HostRow) → slice_get rows h ≡ found → IfSome found (λ row. f row ≡ g row) → change rows h f ≡ change rows h g

@@ -7,12 +7,11 @@ use Rattle.pb_tree.specs.declared.tree.Reach.TheVariants.{At, Done}
 use Rattle.pb_tree.specs.declared.answer.Kind.TheVariants.{Gone}
 use Rattle.pb_tree.specs.Tree.{TreeOf, size_of}
 use Rattle.pb_tree.specs.Answer.{AnswerOf}
-use Rattle.pb_tree.specs.declared.tree.Status.{Status}
-use Rattle.pb_tree.specs.Walk.{reach, status_of, one_halted, without_halted, is_halted}
+use Rattle.pb_tree.specs.Walk.{reach, one_halted, without_halted, is_halted}
 use Rattle.pb_tree.proofs.Rise.{places_bounded}
 use Rattle.pb_state.specs.declared.decided.TaskEnd.{TaskEnd}
 use Rattle.pb_state.specs.Ends.{fails, has_run, ends_play, kind_if, kind_of, answer_of}
-use Rattle.pb_state.specs.Row.{HostRow, is_active, place_of, next_place, unforced, status_at}
+use Rattle.pb_state.specs.Row.{HostRow, place_of, next_place}
 use Rattle.pb_state.specs.Machine.{same_place, stands_at, is_running}
 
 -- the walk takes an answer at most for each place
@@ -46,8 +45,8 @@ one_more (a ∷ answers) last k = chosen (is_halted a.kind) a (without_halted an
     chosen false a xs ys us vs e f = omega (arith, f)
 
 -- each task that ends is one answer more
-pub one_halted_answer : (answers : List AnswerOf) (task : TaskEnd) → length (one_halted (answers ++ answer_of task ∷ [])) ≡ length (one_halted answers) + 1
-one_halted_answer answers task = one_more answers (answer_of task) (not_halted task)
+pub one_halted_answer : (answers : List AnswerOf) (task : TaskEnd) (notified : List ℕ) → length (one_halted (answers ++ answer_of task notified ∷ [])) ≡ length (one_halted answers) + 1
+one_halted_answer answers task notified = one_more answers (answer_of task notified) (not_halted task)
 
 pub same_is : (a b : Option ℕ) → same_place a b ≡ true → (p : ℕ) × (a ≡ Some p) × (b ≡ Some p)
 same_is (Some p) (Some q) e = (p, refl, ap Some (sym (eqb-true p q e)))
@@ -78,14 +77,3 @@ pub stands_in : (place : Option ℕ) (row : HostRow) → stands_at place row ≡
 stands_in place row e =
     let stood = same_is (next_place row) place (and_right (not (is_running row)) _ e) in
     in_if row.in_batch (place_of (reach row.tree row.answers)) stood.0 stood.1
-
--- where no handlers are forced, a status is what it would be if none were
-unforced_is : (tree : TreeOf) → tree.force_handlers ≡ false → unforced tree ≡ tree
-unforced_is tree e = λ i. record { nodes = tree.nodes; handlers = tree.handlers; force_handlers = sym e i }
-
-either_way : (b : Bool) (s t : Status) → s ≡ t → t ≡ (if b then s else t)
-either_way true s t e = sym e
-either_way false s t e = refl
-
-pub unforced_status : (tree : TreeOf) (answers : List AnswerOf) → tree.force_handlers ≡ false → status_of tree answers ≡ status_at tree answers
-unforced_status tree answers e = either_way (is_active (status_of tree answers)) (status_of (unforced tree) answers) (status_of tree answers) (ap (λ (t : TreeOf). status_of t answers) (unforced_is tree e))

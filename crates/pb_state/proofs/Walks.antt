@@ -13,7 +13,7 @@ use Rattle.pb_outcome.specs.declared.item.Item.{Item}
 use Rattle.pb_outcome.specs.Items.{is_over}
 use Rattle.pb_state.specs.declared.row.Running.{Running}
 use Rattle.pb_plan.specs.Plan.{PlayOf, PlanOf}
-use Rattle.pb_state.specs.Row.{HostRow, no_tree, place_of, finished, task_at, taught, items_after, progressed, sent, reported, reported_running, is_called, joined, left, first_rows}
+use Rattle.pb_state.specs.Row.{HostRow, no_tree, place_of, ended, items_after, progressed, sent, reported, reported_running, is_called, joined, left, first_rows}
 use Rattle.pb_state.specs.State.{State}
 use Rattle.pb_state.specs.Results.{items_at}
 use Rattle.pb_state.specs.Machine.{after, change, open_play, next_play, opened_in, opened_at, started_in, facts_at, plan_seen, start_at, sent_in, reported_in, turned_in, first_state}
@@ -44,7 +44,7 @@ in_change tree f keeps (row ∷ rows) (suc h) all = rw (change_on row rows h f (
 progressed_in_tree : (tree : TreeOf) (play : PlayOf) (p : ℕ) (items : List Item) (row : HostRow) → IsIn tree row → IsIn tree (progressed play p items row)
 progressed_in_tree tree play p items row is = by_over (is_over items)
   where
-    by_over : (over : Bool) → IsIn tree (if over then finished p (task_at play p items) (taught play p items row.facts) row else record row { running = Some (record { place = p; items = items; out = None }) })
+    by_over : (over : Bool) → IsIn tree (if over then ended play p items row else record row { running = Some (record { place = p; items = items; out = None }) })
     by_over true = is
     by_over false = is
 
@@ -167,7 +167,7 @@ number_map h f same (row ∷ rows) all = (same row ∙ all.0, number_map (h + 1)
 progressed_host : (play : PlayOf) (p : ℕ) (items : List Item) (row : HostRow) → (progressed play p items row).host ≡ row.host
 progressed_host play p items row = by_over (is_over items)
   where
-    by_over : (over : Bool) → (if over then finished p (task_at play p items) (taught play p items row.facts) row else record row { running = Some (record { place = p; items = items; out = None }) }).host ≡ row.host
+    by_over : (over : Bool) → (if over then ended play p items row else record row { running = Some (record { place = p; items = items; out = None }) }).host ≡ row.host
     by_over true = refl
     by_over false = refl
 

@@ -42,7 +42,7 @@ pub decided_as : (plan : PlanOf) (play : PlayOf) (outcome : Form) (row : HostRow
 decided_as plan play outcome row = by_running row.running
   where
     by_running : (running : Option Running)
-        → option_map (decided_back play (option_map_or (λ (r : Running). next_item r.items) running None)) (back_running plan play row.host row.facts outcome running)
+        → option_map (decided_back play (option_map_or (λ (r : Running). next_item r.items) running None) row) (back_running plan play row.host row.facts outcome running)
         ≡ option_map (decided_by plan play outcome row) running
     by_running None = refl
     by_running (Some r) = refl

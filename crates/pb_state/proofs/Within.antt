@@ -17,7 +17,8 @@ use Rattle.pb_items.specs.Loops.{max_items}
 use Rattle.pb_state.specs.declared.decided.TaskEnd.{TaskEnd}
 use Rattle.pb_state.specs.declared.row.Counts.{Counts}
 use Rattle.pb_state.specs.declared.row.Running.{Running}
-use Rattle.pb_state.specs.Row.{HostRow, no_tree, none_counted, first_rows, is_called, joined, left, finished, task_at, taught, came_back, items_after, progressed, sent, sent_running, reported, reported_running}
+use Rattle.pb_state.specs.Handlers.{notified_by}
+use Rattle.pb_state.specs.Row.{HostRow, no_tree, none_counted, first_rows, is_called, joined, left, finished, ended, task_at, taught, came_back, items_after, progressed, sent, sent_running, reported, reported_running}
 use Rattle.pb_state.specs.Ends.{counted, counted_result, is_counted, more}
 use Rattle.pb_state.specs.Machine.{change, at_row, stands_at, is_ticket, sends_running, awaits_running, awaits, may_send_item, is_running}
 use Rattle.pb_state.specs.Bounds.{IsAtMost, run_places, out_jobs, running_jobs, running_items, IsWithin, AllWithin, most_jobs, IsBounded}
@@ -116,9 +117,9 @@ none_running : (row : HostRow) (found : Option Running) → row.running ≡ foun
 none_running row None e n = e
 none_running row (Some r) e n = let yes : is_running row ≡ true = rw e refl in cc
 
-finished_within : (play p : ℕ) (task : TaskEnd) (facts : FactsOf) (row : HostRow) → length (one_halted row.answers) < 16384 → IsWithin true play row → IsWithin true play (finished p task facts row)
-finished_within play p task facts row b w =
-    let more = one_halted_answer row.answers task in
+finished_within : (play p : ℕ) (task : TaskEnd) (notified : List ℕ) (facts : FactsOf) (row : HostRow) → length (one_halted row.answers) < 16384 → IsWithin true play row → IsWithin true play (finished p task notified facts row)
+finished_within play p task notified facts row b w =
+    let more = one_halted_answer row.answers task notified in
     (at_most_to (counted task row.counts) _ _ (omega (arith, more)) (counted_at_most task row.counts _ w.0), omega (arith, more, b), w.2, omega arith)
 
 -- a host that starts has a place left
@@ -135,13 +136,13 @@ stands_idle place row e = none_running row row.running refl (not_true (is_runnin
 progressed_within : (k p : ℕ) (play : PlayOf) (items : List Item) (row : HostRow) → length items ≤ max_items → length (one_halted row.answers) < 16384 → IsWithin true k row → IsWithin true k (progressed play p items row)
 progressed_within k p play items row most b w = by_over (is_over items)
   where
-    by_over : (over : Bool) → IsWithin true k (if over then finished p (task_at play p items) (taught play p items row.facts) row else record row { running = Some (record { place = p; items = items; out = None }) })
-    by_over true = finished_within k p (task_at play p items) (taught play p items row.facts) row b w
+    by_over : (over : Bool) → IsWithin true k (if over then ended play p items row else record row { running = Some (record { place = p; items = items; out = None }) })
+    by_over true = finished_within k p (task_at play p items) (notified_by play p (task_at play p items)) (taught play p items row.facts) row b w
     by_over false = (w.0, omega (arith, b), w.2, most)
 
 -- a task that ends leaves room for all that its items can have sent
-finished_jobs : (k p n : ℕ) (task : TaskEnd) (facts : FactsOf) (row : HostRow) → n ≤ max_items → (max_items * (16384 * k + length (one_halted row.answers)) + n) + 0 ≤ most_jobs true k (finished p task facts row)
-finished_jobs k p n task facts row m = let more = one_halted_answer row.answers task in omega (arith, more, m)
+finished_jobs : (k p n : ℕ) (task : TaskEnd) (notified : List ℕ) (facts : FactsOf) (row : HostRow) → n ≤ max_items → (max_items * (16384 * k + length (one_halted row.answers)) + n) + 0 ≤ most_jobs true k (finished p task notified facts row)
+finished_jobs k p n task notified facts row m = let more = one_halted_answer row.answers task notified in omega (arith, more, m)
 
 start_keeps : (k : ℕ) (place : Option ℕ) (play : PlayOf) (p : ℕ) (items : List Item) → length items ≤ max_items → Keeps k (progressed play p items) (stands_at place) 0
 start_keeps k place play p items most =
@@ -151,8 +152,8 @@ start_keeps k place play p items most =
     }
   where
     by_over : (row : HostRow) (over : Bool)
-        → (max_items * (16384 * k + length (one_halted row.answers)) + 0) + 0 ≤ most_jobs true k (if over then finished p (task_at play p items) (taught play p items row.facts) row else record row { running = Some (record { place = p; items = items; out = None }) })
-    by_over row true = finished_jobs k p 0 (task_at play p items) (taught play p items row.facts) row (omega arith)
+        → (max_items * (16384 * k + length (one_halted row.answers)) + 0) + 0 ≤ most_jobs true k (if over then ended play p items row else record row { running = Some (record { place = p; items = items; out = None }) })
+    by_over row true = finished_jobs k p 0 (task_at play p items) (notified_by play p (task_at play p items)) (taught play p items row.facts) row (omega arith)
     by_over row false = omega arith
 
 -- a host that has a job to send runs, and no job of it is out
@@ -203,8 +204,8 @@ report_keeps k item plan play outcome ticket =
 
     by_over : (row : HostRow) (r : Running) (items : List Item) (over : Bool) → length items ≡ length r.items → first_waiting r.items + 1 ≤ first_waiting items → first_waiting items ≤ length items → length r.items ≤ max_items
         → (max_items * (16384 * k + length (one_halted row.answers)) + running_jobs (Some r)) + 0
-        ≤ most_jobs true k (if over then finished r.place (task_at play r.place items) (taught play r.place items row.facts) row else record row { running = Some (record { place = r.place; items = items; out = None }) })
-    by_over row r items true same later within most = finished_jobs k r.place (running_jobs (Some r)) (task_at play r.place items) (taught play r.place items row.facts) row (omega (arith, most))
+        ≤ most_jobs true k (if over then ended play r.place items row else record row { running = Some (record { place = r.place; items = items; out = None }) })
+    by_over row r items true same later within most = finished_jobs k r.place (running_jobs (Some r)) (task_at play r.place items) (notified_by play r.place (task_at play r.place items)) (taught play r.place items row.facts) row (omega (arith, most))
     by_over row r items false same later within most = omega (arith, same, later, within, at_most_one r.out)
 
     reported_jobs : (row : HostRow) (found : Option Running) → row.running ≡ found → option_map_or (awaits_running ticket item) found false ≡ true → IsWithin true k row

@@ -21,7 +21,8 @@ use Rattle.pb_state.specs.declared.row.Running.{Running}
 use Rattle.pb_state.specs.declared.event.Event.{Event}
 use Rattle.pb_state.specs.declared.event.Event.TheVariants.{Open, Start, Send, Report as Reported, Turn, Close, Stop, Forks}
 use Rattle.pb_plan.specs.Plan.{PlayOf, PlanOf}
-use Rattle.pb_state.specs.Row.{HostRow, no_tree, next_place, is_called, joined, left, finished, task_at, taught, came_back, items_after, progressed, sent, sent_running, reported, reported_running}
+use Rattle.pb_state.specs.Handlers.{notified_by}
+use Rattle.pb_state.specs.Row.{HostRow, no_tree, next_place, is_called, joined, left, finished, ended, task_at, taught, came_back, items_after, progressed, sent, sent_running, reported, reported_running}
 use Rattle.pb_state.specs.State.{State}
 use Rattle.pb_state.specs.Machine.{possible, after, change, at_row, open_play, least_place, lesser, same_place, stands_at, has_room, may_open, next_play, may_start_in, may_turn_in, may_close_in, some_may_start, opened_in, opened_at, started_in, facts_at, plan_seen, start_at, turned_in, closed, is_running, running_count, is_ticket, sends_running, may_send_item, awaits_running, awaits, may_send_in, may_report_in, sent_in, reported_in}
 use Rattle.pb_state.specs.Results.{items_at}
@@ -47,12 +48,12 @@ not_false true e = cc
 not_false false e = refl
 
 -- a finished task is one answer more
-finished_at : (row : HostRow) (p : ℕ) (task : TaskEnd) (facts : FactsOf) (next : Option ℕ) → place_work (finished p task facts row) next ≤ most_events * (places_left row - 1)
-finished_at row p task facts None = omega arith
-finished_at row p task facts (Some q) = omega (arith, one_halted_answer row.answers task)
+finished_at : (row : HostRow) (p : ℕ) (task : TaskEnd) (notified : List ℕ) (facts : FactsOf) (next : Option ℕ) → place_work (finished p task notified facts row) next ≤ most_events * (places_left row - 1)
+finished_at row p task notified facts None = omega arith
+finished_at row p task notified facts (Some q) = omega (arith, one_halted_answer row.answers task notified)
 
-finished_less : (row : HostRow) (p : ℕ) (task : TaskEnd) (facts : FactsOf) → row_work (finished p task facts row) ≤ most_events * (places_left row - 1)
-finished_less row p task facts = finished_at row p task facts (next_place (finished p task facts row))
+finished_less : (row : HostRow) (p : ℕ) (task : TaskEnd) (notified : List ℕ) (facts : FactsOf) → row_work (finished p task notified facts row) ≤ most_events * (places_left row - 1)
+finished_less row p task notified facts = finished_at row p task notified facts (next_place (finished p task notified facts row))
 
 -- a start
 with_more : (a b c : ℕ) → a ≤ b → a ≤ c + b
@@ -61,11 +62,11 @@ with_more a b c e = omega (arith, e)
 progressed_less : (play : PlayOf) (p : ℕ) (items : List Item) (row : HostRow) → row_work (progressed play p items row) ≤ 2 * (length items - first_waiting items) + most_events * (places_left row - 1)
 progressed_less play p items row = by_over (is_over items)
   where
-    by_over : (over : Bool) → row_work (if over then finished p (task_at play p items) (taught play p items row.facts) row else record row { running = Some (record { place = p; items = items; out = None }) })
+    by_over : (over : Bool) → row_work (if over then ended play p items row else record row { running = Some (record { place = p; items = items; out = None }) })
         ≤ 2 * (length items - first_waiting items) + most_events * (places_left row - 1)
     by_over true =
-        with_more (row_work (finished p (task_at play p items) (taught play p items row.facts) row)) (most_events * (places_left row - 1)) (2 * (length items - first_waiting items))
-        (finished_less row p (task_at play p items) (taught play p items row.facts))
+        with_more (row_work (ended play p items row)) (most_events * (places_left row - 1)) (2 * (length items - first_waiting items))
+        (finished_less row p (task_at play p items) (notified_by play p (task_at play p items)) (taught play p items row.facts))
     by_over false = omega arith
 
 not_running : (row : HostRow) (running : Option Running) → not (is_some running) ≡ true → running_work row running ≡ place_work row (next_place row)

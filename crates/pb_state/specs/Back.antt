@@ -14,7 +14,7 @@ use Rattle.pb_state.specs.declared.row.Running.{Running}
 use Rattle.pb_state.specs.Kept.{with_step}
 use Rattle.pb_state.specs.Machine.{decided_with, done_if, told_in}
 use Rattle.pb_state.specs.Results.{settled_at}
-use Rattle.pb_state.specs.Row.{HostRow, items_after, progressed}
+use Rattle.pb_state.specs.Row.{HostRow, pending, items_after, progressed}
 
 -- a result of the item with this number, as its task says of it
 abbrev pub settled_in : PlanOf → PlayOf → ℕ → FactsOf → ℕ → List Item → ℕ → ItemResult → ItemResult
@@ -39,18 +39,18 @@ went_with play row r = progressed play r.place r.items row
 abbrev pub went_on : PlayOf → HostRow → HostRow
 went_on play row = option_map_or (went_with play row) row.running row
 
-abbrev pub ended_with : PlayOf → Running → Option Done
-ended_with play r = done_if play r.place r.items
+abbrev pub ended_with : PlayOf → HostRow → Running → Option Done
+ended_with play row r = done_if play r.place (pending row) r.items
 
 abbrev pub ended_now : PlayOf → HostRow → Option Done
-ended_now play row = option_map_or (ended_with play) row.running None
+ended_now play row = option_map_or (ended_with play row) row.running None
 
 -- what is decided of it, where the item with this number came back
-abbrev pub decided_back : PlayOf → Option ℕ → Running → Decided
-decided_back play number r = decided_with play r.place false (told_in r.items number) r.items
+abbrev pub decided_back : PlayOf → Option ℕ → HostRow → Running → Decided
+decided_back play number row r = decided_with play r.place (pending row) false (told_in r.items number) r.items
 
 abbrev pub decided_now : PlayOf → Option ℕ → HostRow → Option Decided
-decided_now play number row = option_map (decided_back play number) row.running
+decided_now play number row = option_map (decided_back play number row) row.running
 
 -- an item as it was
 abbrev pub undone_items : Option Before → List Item → List Item

@@ -1,5 +1,5 @@
 -- Worked runs through blocks, and of tasks of `meta`.
-use Rattle.std.specs.Prelude.{◌≡◌, ℕ, pos, true, false, List, [], ◌∷◌, map, codes, Option, Some, refl}
+use Rattle.std.specs.Prelude.{◌≡◌, ℕ, pos, true, false, List, [], ◌∷◌, ◌++◌, map, codes, Option, Some, refl}
 use Rattle.pb_value.specs.Datum.{text}
 use Rattle.pb_expr_syntax.specs.Tree as tree
 use Rattle.pb_outcome.specs.declared.outcome.Form.{Form}
@@ -59,10 +59,10 @@ comes outcome = Reported (record { ticket = record { 0 = 0 }; host = record { 0 
 abbrev pub after_of : PlanOf → List Event → State
 after_of plan events = state_from plan (first_state plan 5 5) events
 
-abbrev statuses : PlanOf → List Event → List Status
+abbrev pub statuses : PlanOf → List Event → List Status
 statuses plan events = map (λ (row : HostRow). row.status) (after_of plan events).rows
 
-abbrev starts_at : PlanOf → List Event → List (Option ℕ)
+abbrev pub starts_at : PlanOf → List Event → List (Option ℕ)
 starts_at plan events = map (λ (x : StartOf). x.place) (starts_from plan (first_state plan 5 5) events)
 
 -- ---- a rescue
@@ -70,9 +70,13 @@ starts_at plan events = map (λ (x : StartOf). x.place) (starts_from plan (first
 abbrev pub rescued_by : PlaceOf → PlanOf
 rescued_by rescue = alone (a_play (Block (Task (Task Nothing)) (Task Nothing) (Task Nothing) (Task last)) (caught says ∷ caught runs ∷ rescue ∷ says ∷ says ∷ []) ∷ [])
 
--- the command comes to this, and then comes the rest
+-- the command comes to this
+abbrev pub body_ends : Form → List Event
+body_ends outcome = Open ∷ start ∷ Turn ∷ start ∷ Send (record { 0 = 0 }) 0 (record { 0 = 0 }) ∷ comes outcome ∷ []
+
+-- and then comes the rest
 abbrev pub body_comes : Form → List Event → List Event
-body_comes outcome rest = Open ∷ start ∷ Turn ∷ start ∷ Send (record { 0 = 0 }) 0 (record { 0 = 0 }) ∷ comes outcome ∷ Turn ∷ rest
+body_comes outcome rest = body_ends outcome ++ Turn ∷ rest
 
 abbrev pub rescued_run : List Event
 rescued_run = body_comes (Ran (pos 1) [] []) (start ∷ Turn ∷ start ∷ Turn ∷ start ∷ Turn ∷ Close ∷ [])
@@ -118,6 +122,21 @@ may_be_lost = refl
 is_lost : statuses (rescued_by says) lost_run ≡ Lost ∷ []
 unfolding on_facts
 is_lost = refl
+
+-- an always part that fails, behind what went well: its failure isn't cleared, and what stands behind the block isn't walked
+abbrev pub always_fails : PlanOf
+always_fails = alone (a_play (Block (Task Nothing) Nothing (Task Nothing) (Task last)) (says ∷ refuses ∷ says ∷ []) ∷ [])
+
+abbrev pub always_fails_run : List Event
+always_fails_run = Open ∷ start ∷ Turn ∷ start ∷ Turn ∷ Close ∷ []
+
+may_fail_in_always : legal_from always_fails (first_state always_fails 5 5) always_fails_run ≡ true
+unfolding on_facts
+may_fail_in_always = refl
+
+fails_in_always : statuses always_fails always_fails_run ≡ Failed ∷ []
+unfolding on_facts
+fails_in_always = refl
 
 -- ---- tasks of `meta`
 -- a host that ends its play by itself is active in the next one

@@ -1,6 +1,6 @@
 -- How a task ends on a host: what that is for the host's walk, and how it counts in the recap
 -- (Ansible's documentation, "Error handling in playbooks", "Blocks" and "Return Values").
-use Rattle.std.specs.Prelude.{ℕ, ◌+◌, Bool, true, false, ◌&&◌, ◌||◌, not, [], Option, Some, None, is_none, if◌then◌else◌}
+use Rattle.std.specs.Prelude.{ℕ, ◌+◌, Bool, true, false, ◌&&◌, ◌||◌, not, List, Option, Some, None, is_none, if◌then◌else◌}
 use Rattle.pb_outcome.specs.declared.gather.TaskResult.{TaskResult}
 use Rattle.pb_play.specs.declared.modules.Meta.{Meta}
 use Rattle.pb_play.specs.declared.modules.Meta.TheVariants.{Noop, EndHost}
@@ -33,8 +33,13 @@ kind_if false false = Good
 abbrev pub kind_of : TaskEnd → Kind
 kind_of task = if task.result.unreachable then Gone else kind_if (fails task.result) (ends_play task.meta && has_run task.result)
 
-abbrev pub answer_of : TaskEnd → AnswerOf
-answer_of task = record { kind = kind_of task; notified = [] }
+-- a task that changed something notifies handlers, where it neither failed nor lost its host: a failure that is ignored is one
+abbrev pub does_notify : TaskResult → Bool
+does_notify result = result.changed && not result.failed && not result.unreachable
+
+-- what the host answers, where the task notified these handlers
+abbrev pub answer_of : TaskEnd → List ℕ → AnswerOf
+answer_of task notified = record { kind = kind_of task; notified = notified }
 
 -- ---- the counts
 -- one more where it counts

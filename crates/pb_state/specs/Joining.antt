@@ -4,7 +4,7 @@ use Rattle.pb_cursors.specs.Walks.{PlayWalkOf, walk_from}
 use Rattle.pb_tree.specs.Tree.{TreeOf}
 use Rattle.pb_state.specs.Machine.{change}
 use Rattle.pb_state.specs.Row.{HostRow, is_called}
-use Rattle.pb_state.specs.Walking.{tree_in, answers_in, AreUnforced}
+use Rattle.pb_state.specs.Walking.{tree_in, answers_in}
 
 -- the walk of a host through this tree, where it takes part
 abbrev pub walk_for : TreeOf → List Bool → HostRow → Option PlayWalkOf
@@ -18,7 +18,3 @@ with_walk walk row = record row { tree = tree_in walk; answers = answers_in walk
 abbrev pub joined_from : ℕ → List (Option PlayWalkOf) → List HostRow → List HostRow
 joined_from n [] rows = rows
 joined_from n (walk ∷ walks) rows = joined_from (n + 1) walks (change rows n (with_walk walk))
-
-abbrev pub AllUnforced : List (Option PlayWalkOf) → Type 0
-AllUnforced [] = Unit {0}
-AllUnforced (walk ∷ walks) = AreUnforced walk × AllUnforced walks

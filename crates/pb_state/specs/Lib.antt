@@ -5,6 +5,7 @@ pub mod Seen
 pub mod Unread
 pub mod Own
 pub mod Ends
+pub mod Handlers
 pub mod Row
 pub mod Walking
 pub mod Kept
@@ -25,3 +26,4 @@ pub mod Rows
 pub mod ItemRows
 pub mod FactRows
 pub mod BlockRows
+pub mod HandlerRows

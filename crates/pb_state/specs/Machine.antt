@@ -16,8 +16,10 @@ use Rattle.pb_state.specs.declared.event.Event.TheVariants.{Open, Start, Send, R
 use Rattle.pb_state.specs.declared.row.Running.{Running}
 use Rattle.pb_state.specs.declared.decided.Decided.{Decided}
 use Rattle.pb_state.specs.declared.decided.Done.{Done as DoneTask}
+use Rattle.pb_state.specs.declared.decided.TaskEnd.{TaskEnd}
 use Rattle.pb_plan.specs.Plan.{PlayOf, PlanOf}
-use Rattle.pb_state.specs.Row.{HostRow, first_rows, is_active, is_called, next_place, sent, reported, joined, left, task_at, items_after, progressed}
+use Rattle.pb_state.specs.Row.{HostRow, first_rows, is_active, is_called, next_place, sent, reported, joined, left, pending, task_at, items_after, progressed}
+use Rattle.pb_state.specs.Handlers.{handler_at, notified_by, newly}
 use Rattle.pb_state.specs.State.{State}
 use Rattle.pb_state.specs.Results.{items_at, variable_at}
 use Rattle.pb_state.specs.Seen.{seen_with}
@@ -166,16 +168,27 @@ ready plan s = option_map_or (ready_in s) (open_play plan s) (replicate (length 
 abbrev pub change : List HostRow → ℕ → (HostRow → HostRow) → List HostRow
 change rows h f = option_map_or (λ row. slice_set rows h (f row)) (slice_get rows h) rows
 
--- how the task at a place ended, if these items end it
-abbrev pub done_at : PlayOf → ℕ → List Item → DoneTask
-done_at play p items = record { result = result_of (variable_at play p) items; task = task_at play p items }
+-- how the task at a place ended, if these items end it, on a host with these marks: the handlers that it notified are told where they weren't pending
+abbrev pub newly_at : PlayOf → ℕ → List Bool → TaskEnd → List ℕ
+newly_at play p marks task = newly marks (handler_at play p) (notified_by play p task)
 
-abbrev pub done_if : PlayOf → ℕ → List Item → Option DoneTask
-done_if play p items = if is_over items then Some (done_at play p items) else None
+abbrev pub done_at : PlayOf → ℕ → List Bool → List Item → DoneTask
+done_at play p marks items =
+    record { result = result_of (variable_at play p) items; task = task_at play p items; notified = newly_at play p marks (task_at play p items) }
 
--- what a step decided of the task at a place: the items that ended in it, and how the task ended
-abbrev pub decided_with : PlayOf → ℕ → Bool → List (ℕ × ItemResult) → List Item → Decided
-decided_with play p is_new told items = record { place = p; is_new = is_new; items = told; done = done_if play p items }
+abbrev pub done_if : PlayOf → ℕ → List Bool → List Item → Option DoneTask
+done_if play p marks items = if is_over items then Some (done_at play p marks items) else None
+
+-- what a step decided of the task at a place on a host with these marks: the items that ended in it, and how the task ended
+abbrev pub decided_with : PlayOf → ℕ → List Bool → Bool → List (ℕ × ItemResult) → List Item → Decided
+decided_with play p marks is_new told items = record { place = p; is_new = is_new; items = told; done = done_if play p marks items }
+
+-- the handlers that are pending on a host; there are none of a number that is no host's
+abbrev pub pending_in : List HostRow → ℕ → List Bool
+pending_in rows h = option_map_or pending (slice_get rows h) []
+
+abbrev pub pending_at : State → ℕ → List Bool
+pending_at s h = pending_in s.rows h
 
 -- what each event leads to
 abbrev pub opened_with : State → ℕ → List HostRow → PlayOf → State
@@ -193,7 +206,7 @@ start_with s h play p items =
     record s {
       rows = change s.rows h (progressed play p items);
       begun = slice_set s.begun p true;
-      decided = Some (decided_with play p (not (is_member s.begun p)) (numbered 0 items) items);
+      decided = Some (decided_with play p (pending_at s h) (not (is_member s.begun p)) (numbered 0 items) items);
     }
 
 -- what a host has learnt; there is nothing of a number that is no host's
@@ -226,7 +239,8 @@ told_in items number = option_map_or (told_at items) number []
 -- what a report decides of the task that waited for it
 abbrev pub decided_by : PlanOf → PlayOf → Form → HostRow → Running → Decided
 decided_by plan play outcome row r =
-    decided_with play r.place false (told_in (items_after plan play row.host row.facts outcome r) (next_item r.items)) (items_after plan play row.host row.facts outcome r)
+    decided_with play r.place (pending row) false (told_in (items_after plan play row.host row.facts outcome r) (next_item r.items))
+    (items_after plan play row.host row.facts outcome r)
 
 abbrev pub report_decides : PlanOf → PlayOf → Form → HostRow → Option Decided
 report_decides plan play outcome row = option_map (decided_by plan play outcome row) row.running

@@ -9,7 +9,7 @@ use Rattle.pb_tree.specs.declared.tree.Reach.{Reach}
 use Rattle.pb_tree.specs.declared.tree.Reach.TheVariants.{At, Done}
 use Rattle.pb_tree.specs.Tree.{TreeOf, Nothing}
 use Rattle.pb_tree.specs.Answer.{AnswerOf}
-use Rattle.pb_tree.specs.Walk.{reach, status_of}
+use Rattle.pb_tree.specs.Walk.{reach, status_now, marks_of}
 use Rattle.pb_outcome.specs.declared.gather.ItemResult.{ItemResult}
 use Rattle.pb_outcome.specs.declared.item.Item.{Item}
 use Rattle.pb_outcome.specs.declared.job.Call.{Call}
@@ -23,6 +23,7 @@ use Rattle.pb_play.specs.declared.modules.Module.{Module}
 use Rattle.pb_play.specs.declared.modules.Module.TheVariants.{Meta as CalledMeta}
 use Rattle.pb_plan.specs.Plan.{PlayOf, PlanOf}
 use Rattle.pb_state.specs.Ends.{kind_of, answer_of, counted}
+use Rattle.pb_state.specs.Handlers.{notified_by}
 use Rattle.pb_state.specs.Learning.{taught_by}
 use Rattle.pb_state.specs.Results.{settled_at, variable_at}
 use Rattle.pb_state.specs.declared.decided.TaskEnd.{TaskEnd}
@@ -77,23 +78,18 @@ place_of (Done ending) = None
 abbrev pub next_place : HostRow → Option ℕ
 next_place row = if row.in_batch then place_of (reach row.tree row.answers) else None
 
--- What answers make of a host. One whose walk went bad before the handlers that are forced is out at once: it is what it would be if none were
--- forced, unless one of those handlers found it gone
--- (Ansible's documentation, "Error handling in playbooks").
-abbrev pub unforced : TreeOf → TreeOf
-unforced tree = record tree { force_handlers = false }
+-- of each handler of the play whether it is pending on a host; none is on a host that is in no batch
+abbrev pub pending : HostRow → List Bool
+pending row = marks_of row.tree row.answers
 
-abbrev pub status_at : TreeOf → List AnswerOf → Status
-status_at tree answers = if is_active (status_of tree answers) then status_of (unforced tree) answers else status_of tree answers
-
--- one answer more
+-- one answer more: a host whose walk went bad is out at once, also while handlers run that are forced
 abbrev pub answered : AnswerOf → HostRow → HostRow
-answered answer row = record row { answers = row.answers ++ answer ∷ []; status = status_at row.tree (row.answers ++ answer ∷ []) }
+answered answer row = record row { answers = row.answers ++ answer ∷ []; status = status_now row.tree (row.answers ++ answer ∷ []) }
 
--- the task at a place ends so, after which the host knows this
-abbrev pub finished : ℕ → TaskEnd → FactsOf → HostRow → HostRow
-finished place task facts row =
-    record (answered (answer_of task) row) {
+-- the task at a place ends so, with these handlers notified, after which the host knows this
+abbrev pub finished : ℕ → TaskEnd → List ℕ → FactsOf → HostRow → HostRow
+finished place task notified facts row =
+    record (answered (answer_of task notified) row) {
       running = None;
       last = Some (record { place = place; kind = kind_of task });
       facts = facts;
@@ -123,10 +119,14 @@ task_at play p items = record { result = task_of (ignores_at play p) items; is_c
 abbrev pub taught : PlayOf → ℕ → List Item → FactsOf → FactsOf
 taught play p items facts = taught_by play p (task_at play p items).result (result_of (variable_at play p) items) items facts
 
+-- the task at a place ends with these items
+abbrev pub ended : PlayOf → ℕ → List Item → HostRow → HostRow
+ended play p items row = finished p (task_at play p items) (notified_by play p (task_at play p items)) (taught play p items row.facts) row
+
 -- the task at a place has come to these items: it goes on, or ends
 abbrev pub progressed : PlayOf → ℕ → List Item → HostRow → HostRow
 progressed play p items row =
-    if is_over items then finished p (task_at play p items) (taught play p items row.facts) row
+    if is_over items then ended play p items row
     else record row { running = Some (record { place = p; items = items; out = None }) }
 
 -- a job goes out under this ticket

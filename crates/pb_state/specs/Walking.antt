@@ -1,5 +1,5 @@
 -- What a row's walk tells.
-use Rattle.std.specs.Prelude.{◌≡◌, true, false, List, [], Option, is_some, IfSome}
+use Rattle.std.specs.Prelude.{◌≡◌, true, List, [], Option, is_some, IfSome}
 use Rattle.std.specs.Option.{option_map_or}
 use Rattle.pb_tree.specs.Answer.{AnswerOf}
 use Rattle.pb_tree.specs.Tree.{TreeOf}
@@ -13,10 +13,6 @@ tree_in walk = option_map_or (λ (w : PlayWalkOf). w.tree) walk no_tree
 
 abbrev pub answers_in : Option PlayWalkOf → List AnswerOf
 answers_in walk = option_map_or (λ (w : PlayWalkOf). w.answers) walk []
-
--- no play runs its handlers after a failure too
-abbrev pub AreUnforced : Option PlayWalkOf → Type 0
-AreUnforced walk = IfSome walk (λ w. w.tree.force_handlers ≡ false)
 
 -- a host that runs is in the batch
 abbrev pub RunsInBatch : Option Running → Option PlayWalkOf → Type 0

@@ -47,12 +47,19 @@ pub struct Done {
     /// The task's result, as it is shown.
     pub result: Val,
     pub task: TaskEnd,
+    /// The numbers of the handlers that it notified and that were not pending before, in the order of definition.
+    pub notified: Items<u32>,
 }
 
 impl Drop for Done {
     fn drop(self) {
-        let Done { result, task: _ } = self;
+        let Done {
+            result,
+            task: _,
+            notified,
+        } = self;
         drop(result);
+        drop(notified);
     }
 }
 

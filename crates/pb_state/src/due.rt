@@ -6,7 +6,7 @@ ghost use Rattle.std.specs.Option.{option_map_or};
 ghost use Rattle.std.specs.Simd.Lanes.{zip2};
 ghost use Rattle.pb_state.specs.Row.{first_rows, joined, left, progressed, sent, reported};
 ghost use Rattle.pb_state.specs.Bounds.{IsAtMost};
-ghost use Rattle.pb_state.specs.Machine.{is_ready, stands_at, same_place, is_running, has_send, change, running_count, done_if, report_decides};
+ghost use Rattle.pb_state.specs.Machine.{is_ready, stands_at, same_place, is_running, has_send, change, running_count, pending_in, done_if, report_decides};
 ghost use Rattle.pb_state.specs.Due.{asked_at, is_due};
 
 use crate::decided::{Decided, Done};
@@ -177,7 +177,7 @@ pub fn start_row(
     requires batch { IfSome (slice_get rows.old host.0) (λ row. row.in_batch ≡ true) }
     requires room { IfSome (slice_get rows.old host.0) (λ row. IsAtMost row.counts (2 ^ 64 - 2)) }
     ensures rows { OnOk result (rows.new ≡ change rows.old host.0 (progressed play.now place items)) }
-    ensures done { IfOk result (λ done. done ≡ done_if play.now place items) }
+    ensures done { IfOk result (λ done. done ≡ done_if play.now place (pending_in rows.old host.0) items) }
     ensures err { OnErr result (rows.new ≡ rows.old) }
 {
     let done = rows::start_row(alloc, &mut rows.rows, host, play, place, items)?;
@@ -237,7 +237,6 @@ pub fn join_all(
     hosts: &HostSet,
     laid: &Rc<LaidTree>,
 ) -> Result<(), AllocError>
-    requires { laid.now.value.tree.force_handlers ≡ false }
     ensures ok { OnOk result (rows.new ≡ map (joined laid.now.value.tree hosts.now) rows.old) }
     ensures err { OnErr result (rows.new ≡ rows.old) }
 {

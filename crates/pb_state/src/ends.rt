@@ -2,7 +2,7 @@
 
 ghost use Rattle.std.specs.Prelude.{◌≡◌, ◌<◌, ◌-◌, ◌^◌};
 ghost use Rattle.pb_state.specs.Bounds.{IsAtMost};
-ghost use Rattle.pb_state.specs.Ends.{fails, has_run, ends_play, kind_if, kind_of, more, is_okay, counted_result, is_counted, counted};
+ghost use Rattle.pb_state.specs.Ends.{fails, has_run, does_notify, ends_play, kind_if, kind_of, more, is_okay, counted_result, is_counted, counted};
 
 use crate::decided::TaskEnd;
 use crate::row::Counts;
@@ -22,6 +22,13 @@ pub(crate) fn has_run(task: TaskResult) -> bool
     ensures { result ≡ has_run task }
 {
     !task.failed && !task.skipped
+}
+
+/// Whether a task notifies its handlers.
+pub fn does_notify(task: TaskResult) -> bool
+    ensures { result ≡ does_notify task }
+{
+    task.changed && !task.failed && !task.unreachable
 }
 
 /// Whether a task of `meta` ends the play for its host.

@@ -13,6 +13,7 @@ mod decided;
 mod due;
 mod ends;
 mod event;
+mod handlers;
 mod hosts;
 mod items;
 mod job;

@@ -3,11 +3,13 @@
 ghost use Rattle.std.specs.Prelude.{◌≡◌, ◌<◌, ◌-◌, ◌^◌, ◌∷◌, ◌++◌, [], OnOk, OnErr, IfOk, IfSome, option_map, unwrap_or, true, false};
 ghost use Rattle.std.specs.Option.{option_copied, option_map_or};
 ghost use Rattle.pb_tree.specs.Answer.{AnswerOf};
+ghost use Rattle.pb_tree.specs.Walk.{status_now};
 ghost use Rattle.pb_planes.specs.Set.{is_in as is_member};
 ghost use Rattle.pb_cursors.specs.Walks.{walk_after};
 
 use crate::decided::{Decided, Done, TaskEnd};
 use crate::ends::{counted, kind_of};
+use crate::handlers::{marks_in, notified_by};
 use crate::items::{Before, TaskItems};
 use crate::learning::taught;
 use crate::seen::Seen;
@@ -110,7 +112,7 @@ impl Model for Row {
 
     ghost coded = { Prim.hlevel (codes, val.the_row.coded, play_tree.the_row.coded) };
 
-    ghost use Rattle.pb_state.specs.Walking.{tree_in, answers_in, AreUnforced, RunsInBatch};
+    ghost use Rattle.pb_state.specs.Walking.{tree_in, answers_in, RunsInBatch};
 
     ghost view = { λ r. record {
       host = r.host.0;
@@ -124,7 +126,7 @@ impl Model for Row {
       counts = r.counts;
     } };
 
-    ghost invariant = { λ r. AreUnforced r.walk × RunsInBatch r.running r.walk };
+    ghost invariant = { λ r. RunsInBatch r.running r.walk };
 }
 
 /// Whether a host still takes part.
@@ -134,20 +136,19 @@ pub fn is_active(status: Status) -> bool
     matches!(status, Status::Active)
 }
 
-ghost use Rattle.pb_state.specs.Row.{is_active, status_at, place_of};
+ghost use Rattle.pb_state.specs.Row.{is_active, place_of};
+ghost use Rattle.pb_state.specs.Handlers.{notified_by};
 ghost use Rattle.pb_state.specs.Back.{back_running, undone_running};
 ghost use Rattle.pb_state.specs.Bounds.{IsAtMost};
 
 /// The walk takes one answer more. An `Err` changes nothing.
-#[tactic(auto, using(crate::proofs::Walked::unforced_status))]
 fn go_on(walk: &mut PlayWalk, answer: Answer) -> Result<Status, AllocError>
-    requires { walk.old.tree.force_handlers ≡ false }
     ensures ok { OnOk result (walk.new ≡ walk_after answer walk.old) }
-    ensures status { IfOk result (λ status. status ≡ status_at walk.old.tree (walk.old.answers ++ answer ∷ [])) }
+    ensures status { IfOk result (λ status. status ≡ status_now walk.old.tree (walk.old.answers ++ answer ∷ [])) }
     ensures err { OnErr result (walk.new ≡ walk.old) }
 {
     walk.answer(answer)?;
-    Ok(walk.status())
+    Ok(walk.status_now())
 }
 
 /// Puts down a host's walk, where it takes part.
@@ -211,9 +212,8 @@ fn come_back(
 }
 
 impl Row {
-    ghost use Rattle.pb_state.specs.Row.{first_row, finished, progressed, sent, reported, left};
+    ghost use Rattle.pb_state.specs.Row.{first_row, finished, progressed, sent, reported, left, pending};
     ghost use Rattle.pb_state.specs.Joining.{walk_for, with_walk};
-    ghost use Rattle.pb_state.specs.Walking.{AreUnforced};
     ghost use Rattle.pb_state.specs.Machine.{done_if, report_decides};
     ghost use Rattle.pb_state.specs.Back.{back_row, waiting, went_on, ended_now, decided_now, undone};
 
@@ -244,20 +244,22 @@ impl Row {
     fn finish(
         &mut self,
         alloc: Global,
+        play: &PlanPlay,
         place: usize,
         task: TaskEnd,
         known: Option<Facts>,
     ) -> Result<(), AllocError>
         requires batch { self.old.in_batch ≡ true }
         requires room { IsAtMost self.old.counts (2 ^ 64 - 2) }
-        ensures ok { OnOk result (self.new ≡ finished place task (unwrap_or known self.old.facts) self.old) }
+        ensures ok { OnOk result (self.new ≡ finished place task (notified_by play.now place task) (unwrap_or known self.old.facts) self.old) }
         ensures err { OnErr result (self.new ≡ self.old) }
     {
         let kind = kind_of(task);
+        let notified = Vec::from_slice(alloc, notified_by(play, place, task))?;
         let Some(walk) = &mut self.walk else {
             unreachable!();
         };
-        self.status = go_on(walk, Answer::plain(alloc, kind))?;
+        self.status = go_on(walk, Answer::of(kind, notified))?;
         run(&mut self.running, None);
         self.last = Some(Finish { place, kind });
         put_facts(&mut self.facts, known);
@@ -276,7 +278,7 @@ impl Row {
         requires batch { self.old.in_batch ≡ true }
         requires room { IsAtMost self.old.counts (2 ^ 64 - 2) }
         ensures row { OnOk result (self.new ≡ progressed play.now place items self.old) }
-        ensures done { IfOk result (λ done. done ≡ done_if play.now place items) }
+        ensures done { IfOk result (λ done. done ≡ done_if play.now place (pending self.old) items) }
         ensures err { OnErr result (self.new ≡ self.old) }
     {
         if !items.is_over() {
@@ -290,9 +292,9 @@ impl Row {
             );
             return Ok(None);
         }
-        let done = done_at(alloc, play, place, &items)?;
+        let done = done_at(alloc, play, place, self.pending(), &items)?;
         let known = taught(alloc, play, place, &done, &items, &self.facts)?;
-        self.finish(alloc, place, done.task, known)?;
+        self.finish(alloc, play, place, done.task, known)?;
         Ok(Some(done))
     }
 
@@ -415,9 +417,10 @@ impl Row {
                     return Ok(None);
                 }
                 let place = running.place;
-                let done = done_at(alloc, play, place, &running.items)?;
+                let marks = marks_in(&self.walk);
+                let done = done_at(alloc, play, place, marks, &running.items)?;
                 let known = taught(alloc, play, place, &done, &running.items, &self.facts)?;
-                self.finish(alloc, place, done.task, known)?;
+                self.finish(alloc, play, place, done.task, known)?;
                 Ok(Some(done))
             }
         }
@@ -442,7 +445,6 @@ impl Row {
 
     /// The batch opens, in which the host takes this walk, if it takes part. What it has learnt stays where it is.
     pub fn join(&mut self, walk: Option<PlayWalk>)
-        requires { AreUnforced walk }
         ensures { self.new ≡ with_walk walk self.old }
     {
         put_walk(&mut self.walk, walk);
@@ -461,7 +463,7 @@ impl Row {
 }
 
 impl Row {
-    ghost use Rattle.pb_state.specs.Row.{is_called, next_place};
+    ghost use Rattle.pb_state.specs.Row.{is_called, next_place, pending};
     ghost use Rattle.pb_state.specs.Machine.{is_ready, stands_at, is_in, is_running, has_send, is_out, has_ticket, is_ticket, is_next, may_send_item, awaits, item_of};
 
     /// Whether the host still takes part in the playbook.
@@ -571,6 +573,13 @@ impl Row {
             Some(walk) => place_of(walk.reach()),
             None => None,
         }
+    }
+
+    /// Of each handler of the play whether it is pending: notified, and not run since. It walks no tree.
+    pub fn pending(&self) -> &[bool]
+        ensures { result.now ≡ pending self.now }
+    {
+        marks_in(&self.walk)
     }
 
     /// Whether the host doesn't run and its next place is the current one.

@@ -5,10 +5,9 @@ ghost use Rattle.std.specs.List.{list_any};
 ghost use Rattle.std.specs.Option.{option_map_or};
 ghost use Rattle.pb_state.specs.Row.{HostRow, first_rows, next_place, is_called, joined, left, progressed, sent, reported};
 ghost use Rattle.pb_state.specs.Bounds.{IsAtMost};
-ghost use Rattle.pb_state.specs.Joining.{walk_for, with_walk, joined_from, AllUnforced};
-ghost use Rattle.pb_state.specs.Walking.{AreUnforced};
+ghost use Rattle.pb_state.specs.Joining.{walk_for, with_walk, joined_from};
 ghost use Rattle.pb_state.specs.Oldest.{oldest_out, out_at, older};
-ghost use Rattle.pb_state.specs.Machine.{is_ready, stands_at, is_in, is_running, has_send, is_out, has_ticket, least_place, lesser, change, one_if, running_count, done_if, report_decides, has_hosts, first_play};
+ghost use Rattle.pb_state.specs.Machine.{is_ready, stands_at, is_in, is_running, has_send, is_out, has_ticket, least_place, lesser, change, one_if, running_count, pending_in, done_if, report_decides, has_hosts, first_play};
 
 use crate::decided::{Decided, Done};
 use crate::items::TaskItems;
@@ -170,7 +169,7 @@ pub fn start_row(
     requires batch { IfSome (slice_get rows.old host.0) (λ row. row.in_batch ≡ true) }
     requires room { IfSome (slice_get rows.old host.0) (λ row. IsAtMost row.counts (2 ^ 64 - 2)) }
     ensures rows { OnOk result (rows.new ≡ change rows.old host.0 (progressed play.now place items)) }
-    ensures done { IfOk result (λ done. done ≡ done_if play.now place items) }
+    ensures done { IfOk result (λ done. done ≡ done_if play.now place (pending_in rows.old host.0) items) }
     ensures err { OnErr result (rows.new ≡ rows.old) }
 {
     match rows.rows.get_mut(host.0 as usize) {
@@ -276,7 +275,6 @@ fn walks_for(
 
 /// A host takes its walk.
 fn join_row(rows: &mut Vec<Row>, at: usize, walk: Option<PlayWalk>)
-    requires { AreUnforced walk }
     ensures { rows.new.items ≡ change rows.old.items at (with_walk walk) }
 {
     if let Some(row) = rows.get_mut(at) {
@@ -286,8 +284,7 @@ fn join_row(rows: &mut Vec<Row>, at: usize, walk: Option<PlayWalk>)
 
 /// Each host takes its walk.
 fn join_each(rows: &mut Vec<Row>, walks: Vec<Option<PlayWalk>>)
-    requires unforced { AllUnforced walks.items }
-    requires room { length walks.items < 2 ^ 32 }
+    requires { length walks.items < 2 ^ 32 }
     ensures { rows.new.items ≡ joined_from 0 walks.items rows.old.items }
 {
     let mut at: usize = 0;
@@ -304,7 +301,6 @@ pub fn join_all(
     hosts: &HostSet,
     laid: &Rc<LaidTree>,
 ) -> Result<(), AllocError>
-    requires { laid.now.value.tree.force_handlers ≡ false }
     ensures ok { OnOk result (rows.new ≡ map (joined laid.now.value.tree hosts.now) rows.old) }
     ensures err { OnErr result (rows.new ≡ rows.old) }
 {

@@ -7,7 +7,7 @@ ghost use Rattle.std.specs.Option.{option_copied, option_map_or};
 ghost use Rattle.pb_planes.specs.Set.{is_in as is_member};
 ghost use Rattle.pb_plan.specs.Plan.{PlanOf};
 ghost use Rattle.pb_state.specs.Row.{HostRow, left};
-ghost use Rattle.pb_state.specs.Machine.{facts_at, plan_seen};
+ghost use Rattle.pb_state.specs.Machine.{facts_at, pending_at, plan_seen};
 ghost use Rattle.pb_state.specs.Results.{items_at};
 ghost use Rattle.pb_state.specs.Seen.{with_hosts};
 ghost use Rattle.pb_state.specs.Back.{SameTold};
@@ -672,6 +672,17 @@ impl EngineState {
     {
         match self.rows.as_slice().get(host.0 as usize) {
             Some(row) => row.facts(),
+            None => unreachable!(),
+        }
+    }
+
+    /// Of each handler of the play whether it is pending on a host: notified, and not run since. Where the host is in no batch there is none.
+    pub fn pending(&self, host: HostNo) -> &[bool]
+        requires { host.0 < length self.now.rows }
+        ensures { result.now ≡ pending_at self.now host.0 }
+    {
+        match self.rows.as_slice().get(host.0 as usize) {
+            Some(row) => row.pending(),
             None => unreachable!(),
         }
     }

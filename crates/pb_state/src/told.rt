@@ -8,6 +8,7 @@ ghost use Rattle.pb_state.specs.Results.{variable_at};
 ghost use Rattle.pb_state.specs.Row.{ignores_at, caught_at, meta_in, meta_at, task_at};
 
 use crate::decided::{Done, TaskEnd};
+use crate::handlers::newly_at;
 use crate::items::TaskItems;
 use pb_outcome::gather::ItemResult;
 use pb_outcome::item::{Item, Planned};
@@ -181,18 +182,22 @@ pub fn task_at(play: &PlanPlay, place: usize, items: &TaskItems) -> TaskEnd
     }
 }
 
-/// How the task at a place ended, and what is shown of it.
+/// How the task at a place ended on a host with these marks, and what is shown of it.
 pub fn done_at(
     alloc: Global,
     play: &PlanPlay,
     place: usize,
+    marks: &[bool],
     items: &TaskItems,
 ) -> Result<Done, AllocError>
-    ensures { IfOk result (λ done. done ≡ done_at play.now place items.now) }
+    ensures { IfOk result (λ done. done ≡ done_at play.now place marks.now items.now) }
 {
+    let task = task_at(play, place, items);
+    let notified = newly_at(alloc, play, place, marks, task)?;
     let result = registered(alloc, variable_at(play, place), items.as_slice())?;
     Ok(Done {
         result,
-        task: task_at(play, place, items),
+        task,
+        notified,
     })
 }

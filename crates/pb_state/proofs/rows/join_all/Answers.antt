@@ -2,17 +2,11 @@ use Rattle.std.proofs.Common.{◌∙◌, map, ap}
 use Rattle.pb_state.specs.Joining.{walk_for}
 use Rattle.pb_state.specs.Row.{joined}
 use Rattle.pb_state.proofs.Counting.{joined_holds}
-use Rattle.pb_state.proofs.Joined.{unforced_walks, few_walks, joined_as}
+use Rattle.pb_state.proofs.Joined.{few_walks, joined_as}
 use Rattle.pb_state.proofs.rows.join_all.Goals as goal
 
-pub join_each-requires-clause-unforced : goal.join_each-requires-clause-unforced
-join_each-requires-clause-unforced c =
-    unforced_walks c.args.laid.now.value.tree c.args.hosts.now c.rows.inside.rows.items c.in_ok-walks.walks.items
-    (c.in_ok-walks.ensures ∙ ap (map (walk_for c.args.laid.now.value.tree c.args.hosts.now)) c.as_slice.ensures.value)
-    c.requires
-
-pub join_each-requires-clause-room : goal.join_each-requires-clause-room
-join_each-requires-clause-room c =
+pub join_each-requires : goal.join_each-requires
+join_each-requires c =
     few_walks c.args.laid.now.value.tree c.args.hosts.now c.rows.inside.rows.items c.in_ok-walks.walks.items _
     (c.in_ok-walks.ensures ∙ ap (map (walk_for c.args.laid.now.value.tree c.args.hosts.now)) c.as_slice.ensures.value)
     c.rows.invariant.1
