@@ -6,7 +6,6 @@ use Rattle.pb_ids.specs.Dotted.{dotted}
 use Rattle.pb_tree.specs.Tree.{path_at}
 use Rattle.pb_places.specs.Place.{PlaceOf}
 use Rattle.pb_play.specs.Modules.{is_meta}
-use Rattle.pb_play.specs.declared.task.Task.{Task}
 use Rattle.pb_state.specs.declared.event.Event.{Event}
 use Rattle.pb_state.specs.declared.event.Event.TheVariants.{Open, Start, Send, Report as Reported, Turn, Close, Stop, Forks}
 use Rattle.pb_state.specs.declared.decided.Decided.{Decided}
@@ -16,6 +15,7 @@ use Rattle.pb_state.specs.State.{State}
 use Rattle.pb_events.specs.Line.{line, at_host, at_end}
 use Rattle.pb_events.specs.Batch.{batch_names}
 use Rattle.pb_events.specs.Items.{item_lines}
+use Rattle.pb_events.specs.Notify.{notify_text}
 
 -- before all events: how many plays there are
 abbrev pub start_line : ℕ → List ℕ
@@ -28,10 +28,14 @@ play_start play name hosts =
     ((codes "batch", int (pos 0)) ∷ (codes "event", text (codes "playbook_on_play_start")) ∷ (codes "hosts", list (items_of hosts))
     ∷ (codes "name", text name) ∷ (codes "play", int (pos play)) ∷ [])
 
--- a task starts on the first host of the batch
-abbrev pub task_start : List ℕ → List ℕ → ℕ → List ℕ
-task_start name place play =
-    line ((codes "event", text (codes "playbook_on_task_start")) ∷ (codes "name", text name) ∷ (codes "place", text place) ∷ (codes "play", int (pos play)) ∷ [])
+-- a task, or a handler, starts on the first host of the batch
+abbrev pub start_event : Option ℕ → List ℕ
+start_event None = codes "playbook_on_task_start"
+start_event (Some handler) = codes "playbook_on_handler_task_start"
+
+abbrev pub task_start : List ℕ → List ℕ → List ℕ → ℕ → List ℕ
+task_start event name place play =
+    line ((codes "event", text event) ∷ (codes "name", text name) ∷ (codes "place", text place) ∷ (codes "play", int (pos play)) ∷ [])
 
 -- a host starts a task
 abbrev pub host_start : List ℕ → List ℕ → ℕ → List ℕ
@@ -62,30 +66,32 @@ done_text host place play None = []
 done_text host place play (Some done) = result_line host place play done
 
 -- what is told before the end: of a start the task, where the host is the first there, and the host; of a report nothing
-abbrev pub start_text : Bool → Bool → List ℕ → List ℕ → List ℕ → ℕ → List ℕ
-start_text true is_new host name place play = (if is_new then task_start name place play else []) ++ host_start host place play
-start_text false is_new host name place play = []
+abbrev pub start_text : Bool → Bool → List ℕ → List ℕ → List ℕ → List ℕ → ℕ → List ℕ
+start_text true is_new event host name place play = (if is_new then task_start event name place play else []) ++ host_start host place play
+start_text false is_new event host name place play = []
 
--- of a task with this name at this place, which the host started or which a report was for: the items of a loop come before the task's own end
-abbrev pub task_text : Bool → ℕ → Decided → List ℕ → List ℕ → List ℕ → List ℕ
-task_text starts play decided host name place =
-    start_text starts decided.is_new host name place play ++ item_lines host place play decided.items ++ done_text host place play decided.done
+-- of the task at a place, which the host started or which a report was for: the items of a loop come before the task's own end, and the handlers that it
+-- notified behind it
+abbrev pub task_text : Bool → PlayOf → ℕ → Decided → List ℕ → PlaceOf → List ℕ → List ℕ
+task_text starts play number decided host at place =
+    start_text starts decided.is_new (start_event at.handler) host at.task.name place number ++ item_lines host place number decided.items
+    ++ done_text host place number decided.done ++ notify_text host play number decided.done
 
 -- a task of `meta` has no line but that of its failure: its conditions can't be read, which nothing ignores
 abbrev pub meta_text : List ℕ → List ℕ → ℕ → Option Done → List ℕ
 meta_text host place play None = []
 meta_text host place play (Some done) = if done.task.result.failed then host_failed false host place play done.result else []
 
-abbrev pub lines_at : Bool → ℕ → Decided → List ℕ → Task → List ℕ → List ℕ
-lines_at starts play decided host task place =
-    if is_meta task.«module» then meta_text host place play decided.done else task_text starts play decided host task.name place
+abbrev pub lines_at : Bool → PlayOf → ℕ → Decided → List ℕ → PlaceOf → List ℕ → List ℕ
+lines_at starts play number decided host at place =
+    if is_meta at.task.«module» then meta_text host place number decided.done else task_text starts play number decided host at place
 
-abbrev pub lines_on : Bool → ℕ → Decided → List ℕ → Task → List ℕ → List ℕ
-lines_on starts play decided host task path = lines_at starts play decided host task (dotted path)
+abbrev pub lines_on : Bool → PlayOf → ℕ → Decided → List ℕ → PlaceOf → List ℕ → List ℕ
+lines_on starts play number decided host at path = lines_at starts play number decided host at (dotted path)
 
 -- of the task at this place, which is printed by its path in the play's tree
 abbrev pub of_place : Bool → PlayOf → ℕ → Decided → List ℕ → PlaceOf → List ℕ
-of_place starts play number decided host place = option_map_or (lines_on starts number decided host place.task) (path_at play.tree decided.place) []
+of_place starts play number decided host at = option_map_or (lines_on starts play number decided host at) (path_at play.tree decided.place) []
 
 -- of a host with this name
 abbrev pub for_host : Bool → PlayOf → ℕ → Decided → List ℕ → List ℕ

@@ -146,7 +146,7 @@ opens_the_third = refl
 
 -- the lines of results that no module has yet
 abbrev ends_as : TaskResult → List ℕ
-ends_as task = result_line (codes "a") (codes "1") 0 (record { result = null; task = record { result = task; is_caught = false; meta = None } })
+ends_as task = result_line (codes "a") (codes "1") 0 (record { result = null; task = record { result = task; is_caught = false; meta = None }; notified = [] })
 
 skipped_line : ends_as (record { unreachable = false; failed = false; skipped = true; changed = false; ignored = false })
     ≡ codes "{\"event\":\"runner_on_skipped\",\"host\":\"a\",\"place\":\"1\",\"play\":0,\"result\":null}\n"

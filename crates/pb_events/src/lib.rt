@@ -10,5 +10,6 @@ mod end;
 mod item;
 mod line;
 mod lines;
+mod notify;
 
 pub use lines::{lines_of, start_line};

@@ -5,16 +5,16 @@ ghost use Rattle.std.specs.Option.{option_copied, option_map_or};
 ghost use Rattle.pb_value.specs.Datum.{text, int};
 ghost use Rattle.pb_ids.specs.Dotted.{dotted};
 ghost use Rattle.pb_play.specs.Modules.{is_meta};
-ghost use Rattle.pb_events.specs.Lines.{start_line, play_start, task_start, host_start, start_text, task_text, lines_at, of_place, for_host, in_play, told_in, told_of, opened_in, lines_of};
+ghost use Rattle.pb_events.specs.Lines.{start_line, play_start, start_event, task_start, host_start, start_text, task_text, lines_at, of_place, for_host, in_play, told_in, told_of, opened_in, lines_of};
 
 use crate::batch::batch_names;
 use crate::end::{done_text, meta_text};
 use crate::item::item_lines;
 use crate::line::{at_host, at_place, line, put_text};
+use crate::notify::notify_text;
 use pb_ids::HostNo;
 use pb_places::Place;
 use pb_play::modules::Module;
-use pb_play::task::Task;
 use pb_state::{Decided, EngineState, Event, Plan, PlanPlay};
 use pb_value::val::{Dict, Val, ValList};
 use std::alloc::{AllocError, Global};
@@ -191,8 +191,16 @@ fn of_place(
     match play.tree().place(decided.place) {
         Some(at) => {
             let path = at.text(alloc)?;
-            let task = place.task();
-            lines_at(alloc, starts, number, decided, host, task, path.as_str())
+            lines_at(
+                alloc,
+                starts,
+                play,
+                number,
+                decided,
+                host,
+                place,
+                path.as_str(),
+            )
         }
         None => Ok(Vec::new(alloc)),
     }
@@ -223,40 +231,64 @@ fn is_meta(called: &Module) -> bool
 fn lines_at(
     alloc: Global,
     starts: bool,
-    play: u32,
+    play: &PlanPlay,
+    number: u32,
     decided: &Decided,
     host: &str,
-    task: &Task,
+    at: &Place,
     place: &str,
 ) -> Result<Vec<u8>, AllocError>
-    ensures { IfOk result (λ bytes. bytes.items ≡ lines_at starts play decided.now host.now task.now place.now) }
+    ensures { IfOk result (λ bytes. bytes.items ≡ lines_at starts play.now number decided.now host.now at.now place.now) }
 {
-    if is_meta(&task.module) {
-        meta_text(alloc, host, place, play, &decided.done)
+    if is_meta(&at.task().module) {
+        meta_text(alloc, host, place, number, &decided.done)
     } else {
-        let name = task.name.as_str();
-        task_lines(alloc, starts, play, decided, host, name, place)
+        task_lines(alloc, starts, play, number, decided, host, at, place)
     }
 }
 
-/// The lines of a task: its start, if it starts, the items of a loop that ended, and its end, if it ended.
+/// The lines of a task: its start, if it starts, the items of a loop that ended, its end, if it ended, and the handlers that it notified then.
 fn task_lines(
     alloc: Global,
     starts: bool,
-    play: u32,
+    play: &PlanPlay,
+    number: u32,
     decided: &Decided,
     host: &str,
-    name: &str,
+    at: &Place,
     place: &str,
 ) -> Result<Vec<u8>, AllocError>
-    ensures { IfOk result (λ bytes. bytes.items ≡ task_text starts play decided.now host.now name.now place.now) }
+    ensures { IfOk result (λ bytes. bytes.items ≡ task_text starts play.now number decided.now host.now at.now place.now) }
 {
-    let mut lines = start_text(alloc, starts, decided.is_new, host, name, place, play)?;
-    let items = item_lines(alloc, host, place, play, decided.items.as_slice())?;
+    let event = start_event(at.handler());
+    let name = at.task().name.as_str();
+    let mut lines = start_text(
+        alloc,
+        starts,
+        decided.is_new,
+        event,
+        host,
+        name,
+        place,
+        number,
+    )?;
+    let items = item_lines(alloc, host, place, number, decided.items.as_slice())?;
     lines.extend_from_slice(items.as_slice())?;
-    let end = done_text(alloc, host, place, play, &decided.done)?;
+    let end = done_text(alloc, host, place, number, &decided.done)?;
     lines.extend_from_slice(end.as_slice())?;
+    let notified = notify_text(alloc, host, play, number, &decided.done)?;
+    lines.extend_from_slice(notified.as_slice())?;
     Ok(lines)
+}
+
+/// The name of the event of a task's start, or of a handler's.
+fn start_event(handler: Option<u32>) -> &'static str
+    ensures { result.now ≡ start_event handler }
+{
+    match handler {
+        Some(_) => "playbook_on_handler_task_start",
+        None => "playbook_on_task_start",
+    }
 }
 
 /// What is told of a start: the task, if the host is the first to start there, and the host. Of a report it is nothing.
@@ -264,17 +296,18 @@ fn start_text(
     alloc: Global,
     starts: bool,
     is_new: bool,
+    event: &str,
     host: &str,
     name: &str,
     place: &str,
     play: u32,
 ) -> Result<Vec<u8>, AllocError>
-    ensures { IfOk result (λ bytes. bytes.items ≡ start_text starts is_new host.now name.now place.now play) }
+    ensures { IfOk result (λ bytes. bytes.items ≡ start_text starts is_new event.now host.now name.now place.now play) }
 {
     if !starts {
         return Ok(Vec::new(alloc));
     }
-    let mut lines = task_if_new(alloc, is_new, name, place, play)?;
+    let mut lines = task_if_new(alloc, is_new, event, name, place, play)?;
     let begin = host_start(alloc, host, place, play)?;
     lines.extend_from_slice(begin.as_slice())?;
     Ok(lines)
@@ -292,34 +325,47 @@ fn host_start(alloc: Global, host: &str, place: &str, play: u32) -> Result<Vec<u
 fn task_if_new(
     alloc: Global,
     is_new: bool,
+    event: &str,
     name: &str,
     place: &str,
     play: u32,
 ) -> Result<Vec<u8>, AllocError>
-    ensures { IfOk result (λ bytes. bytes.items ≡ (if is_new then task_start name.now place.now play else [])) }
+    ensures { IfOk result (λ bytes. bytes.items ≡ (if is_new then task_start event.now name.now place.now play else [])) }
 {
     if is_new {
-        task_start(alloc, name, place, play)
+        task_start(alloc, event, name, place, play)
     } else {
         Ok(Vec::new(alloc))
     }
 }
 
 /// The line of a task.
-fn task_start(alloc: Global, name: &str, place: &str, play: u32) -> Result<Vec<u8>, AllocError>
-    ensures { IfOk result (λ bytes. bytes.items ≡ task_start name.now place.now play) }
+fn task_start(
+    alloc: Global,
+    event: &str,
+    name: &str,
+    place: &str,
+    play: u32,
+) -> Result<Vec<u8>, AllocError>
+    ensures { IfOk result (λ bytes. bytes.items ≡ task_start event.now name.now place.now play) }
 {
-    let members = task_members(alloc, name, place, play)?;
+    let members = task_members(alloc, event, name, place, play)?;
     line(alloc, members)
 }
 
 /// What a task's line has.
-fn task_members(alloc: Global, name: &str, place: &str, play: u32) -> Result<Dict, AllocError>
+fn task_members(
+    alloc: Global,
+    event: &str,
+    name: &str,
+    place: &str,
+    play: u32,
+) -> Result<Dict, AllocError>
     ensures { IfOk result (λ members. members
-        ≡ (codes "event", text (codes "playbook_on_task_start")) ∷ (codes "name", text name.now) ∷ (codes "place", text place.now)
+        ≡ (codes "event", text event.now) ∷ (codes "name", text name.now) ∷ (codes "place", text place.now)
         ∷ (codes "play", int (pos play)) ∷ []) }
 {
-    let mut members = at_place(alloc, "playbook_on_task_start", place, play)?;
+    let mut members = at_place(alloc, event, place, play)?;
     put_text(alloc, &mut members, "name", name)?;
     Ok(members)
 }

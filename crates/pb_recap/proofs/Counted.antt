@@ -15,10 +15,10 @@ use Rattle.pb_state.specs.declared.event.Event.TheVariants.{Open, Start, Send, R
 use Rattle.pb_state.specs.declared.row.Counts.{Counts}
 use Rattle.pb_state.specs.declared.row.Running.{Running}
 use Rattle.pb_plan.specs.Plan.{PlayOf, PlanOf}
-use Rattle.pb_state.specs.Row.{HostRow, first_rows, next_place, joined, left, finished, ignores_at, caught_at, meta_at, task_at, taught, items_after, progressed, sent, reported, reported_running}
+use Rattle.pb_state.specs.Row.{HostRow, first_rows, next_place, joined, left, ended, pending, ignores_at, caught_at, meta_at, task_at, items_after, progressed, sent, reported, reported_running}
 use Rattle.pb_state.specs.State.{State}
 use Rattle.pb_state.specs.Results.{items_at}
-use Rattle.pb_state.specs.Machine.{change, open_play, possible, after, first_state, next_play, opened_in, opened_at, started_in, facts_at, plan_seen, start_at, start_with, sent_in, reported_in, done_at, done_if, report_decides, decided_by, turned_in, may_start_in, may_report_in, at_row, stands_at, same_place, has_room}
+use Rattle.pb_state.specs.Machine.{change, open_play, possible, after, first_state, next_play, opened_in, opened_at, started_in, facts_at, plan_seen, start_at, start_with, sent_in, reported_in, done_at, done_if, report_decides, decided_by, pending_at, turned_in, may_start_in, may_report_in, at_row, stands_at, same_place, has_room}
 use Rattle.pb_state.specs.Run.{legal_from, state_from, IsRun}
 use Rattle.pb_state.proofs.Opening.{length-first}
 use Rattle.pb_recap.specs.declared.kind.CountKind.{CountKind}
@@ -82,15 +82,15 @@ items_add kind play p items = if is_over items then one (counts_under kind (task
 progressed_row : (kind : CountKind) (play : PlayOf) (p : ℕ) (items : List Item) (row : HostRow) → count_of kind (progressed play p items row).counts ≡ items_add kind play p items + count_of kind row.counts
 progressed_row kind play p items row = by_over (is_over items)
   where
-    by_over : (over : Bool) → count_of kind (if over then finished p (task_at play p items) (taught play p items row.facts) row else record row { running = Some (record { place = p; items = items; out = None }) }).counts
+    by_over : (over : Bool) → count_of kind (if over then ended play p items row else record row { running = Some (record { place = p; items = items; out = None }) }).counts
         ≡ (if over then one (counts_under kind (task_at play p items)) else 0) + count_of kind row.counts
     by_over true = task_counts (ignores_at play p) items (caught_at play p) (meta_at play p) row.counts kind
     by_over false = none_more (count_of kind row.counts)
 
-progressed_told : (kind : CountKind) (play : PlayOf) (p : ℕ) (items : List Item) (h k : ℕ) → counted k kind (option_map (by_host h) (done_if play p items)) ≡ added (items_add kind play p items) h k
-progressed_told kind play p items h k = by_over (is_over items)
+progressed_told : (kind : CountKind) (play : PlayOf) (p : ℕ) (marks : List Bool) (items : List Item) (h k : ℕ) → counted k kind (option_map (by_host h) (done_if play p marks items)) ≡ added (items_add kind play p items) h k
+progressed_told kind play p marks items h k = by_over (is_over items)
   where
-    by_over : (over : Bool) → counted k kind (option_map (by_host h) (if over then Some (done_at play p items) else None)) ≡ added (if over then one (counts_under kind (task_at play p items)) else 0) h k
+    by_over : (over : Bool) → counted k kind (option_map (by_host h) (if over then Some (done_at play p marks items) else None)) ≡ added (if over then one (counts_under kind (task_at play p items)) else 0) h k
     by_over true = if_both (h == k) (counts_under kind (task_at play p items))
     by_over false = none_if (h == k)
 
@@ -99,7 +99,7 @@ start_with_counts : (kind : CountKind) (s : State) (h k : ℕ) (play : PlayOf) (
     → row_count kind (start_with s h play p items).rows k ≡ counted k kind (ended_in (start_with s h play p items) h) + row_count kind s.rows k
 start_with_counts kind s h k play p items b =
     changed_count kind (progressed play p items) (items_add kind play p items) s.rows h k b (λ row e. progressed_row kind play p items row)
-    ∙ ap (λ n. n + row_count kind s.rows k) (sym (progressed_told kind play p items h k))
+    ∙ ap (λ n. n + row_count kind s.rows k) (sym (progressed_told kind play p (pending_at s h) items h k))
 
 -- no host starts where there is no place
 no_same : (a : Bool) (q : Option ℕ) → (a && same_place q None) ≡ true → ⊥
@@ -144,7 +144,7 @@ report_row kind plan play outcome row (Some r) = progressed_row kind play r.plac
 report_told : (kind : CountKind) (plan : PlanOf) (play : PlayOf) (outcome : Form) (h k : ℕ) (row : HostRow) (running : Option Running)
     → counted k kind (option_map_or (ended_by h) (option_map (decided_by plan play outcome row) running) None) ≡ added (report_adds kind plan play outcome row running) h k
 report_told kind plan play outcome h k row None = none_if (h == k)
-report_told kind plan play outcome h k row (Some r) = progressed_told kind play r.place (items_after plan play row.host row.facts outcome r) h k
+report_told kind plan play outcome h k row (Some r) = progressed_told kind play r.place (pending row) (items_after plan play row.host row.facts outcome r) h k
 
 report_counts : (kind : CountKind) (plan : PlanOf) (play : PlayOf) (outcome : Form) (rows : List HostRow) (h k : ℕ) (found : Option HostRow) → slice_get rows h ≡ found → k < length rows
     → row_count kind (change rows h (reported plan play outcome)) k ≡ counted k kind (option_map_or (ended_by h) (option_map_or (report_decides plan play outcome) found None) None) + row_count kind rows k

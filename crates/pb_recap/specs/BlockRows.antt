@@ -3,7 +3,7 @@ use Rattle.std.specs.Prelude.{◌≡◌, true, false, [], ◌∷◌, Some, None,
 use Rattle.pb_outcome.specs.declared.gather.TaskResult.{TaskResult}
 use Rattle.pb_play.specs.declared.modules.Meta.TheVariants.{Noop}
 use Rattle.pb_state.specs.declared.decided.TaskEnd.{TaskEnd}
-use Rattle.pb_state.specs.BlockRows.{says, refuses, rescued_by, rescued_run, failed_run, lost_run, two_plays, ending_run, left_out, does_nothing, goes_on_run, ends_after, ends_after_run, unread_rescued, unread_rescued_run, unread_alone, unread_run}
+use Rattle.pb_state.specs.BlockRows.{says, refuses, rescued_by, rescued_run, failed_run, lost_run, always_fails, always_fails_run, two_plays, ending_run, left_out, does_nothing, goes_on_run, ends_after, ends_after_run, unread_rescued, unread_rescued_run, unread_alone, unread_run}
 use Rattle.pb_state.specs.FactRows.{on_facts}
 use Rattle.pb_state.specs.Row.{none_counted}
 use Rattle.pb_recap.specs.declared.kind.CountKind.TheVariants.{Okay, Failed, Rescued, Ignored}
@@ -30,6 +30,11 @@ bad_status = refl
 loses : recap (rescued_by says) 5 lost_run ≡ record none_counted { ok = 1; unreachable = 1 } ∷ []
 unfolding on_facts
 loses = refl
+
+-- a failing always part counts as any failure does
+always_counts : recap always_fails 5 always_fails_run ≡ record none_counted { ok = 1; failed = 1 } ∷ []
+unfolding on_facts
+always_counts = refl
 
 -- tasks of `meta` that end the play, that are left out and that do nothing don't count
 ends_twice : recap two_plays 5 ending_run ≡ record none_counted { ok = 2 } ∷ []
