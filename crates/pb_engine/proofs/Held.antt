@@ -18,7 +18,7 @@ use Rattle.pb_state.specs.declared.event.Event.{Event}
 use Rattle.pb_state.specs.declared.event.Event.TheVariants.{Open, Start, Send, Report as Reported, Turn, Close, Stop, Forks}
 use Rattle.pb_state.specs.declared.row.Running.{Running}
 use Rattle.pb_plan.specs.Plan.{PlayOf, PlanOf}
-use Rattle.pb_state.specs.Row.{HostRow, first_rows, joined, place_of, next_place, finished, task_at, taught, items_after, progressed, sent, sent_running, reported, reported_running, left}
+use Rattle.pb_state.specs.Row.{HostRow, first_rows, joined, place_of, next_place, ended, items_after, progressed, sent, sent_running, reported, reported_running, left}
 use Rattle.pb_state.specs.State.{State}
 use Rattle.pb_state.specs.Machine.{possible, after, change, at_row, open_play, same_place, stands_at, has_room, may_start_in, may_send_in, next_play, opened_in, opened_at, started_in, facts_at, plan_seen, start_at, sent_in, reported_in, turned_in, first_state}
 use Rattle.pb_state.specs.Results.{items_at}
@@ -102,7 +102,7 @@ held_more size sends (row ∷ rows) held = (task_more size sends row.running hel
 progressed_held : (p size sends : ℕ) (play : PlayOf) (items : List Item) (row : HostRow) → p < size → IsHeldTask size sends (progressed play p items row).running
 progressed_held p size sends play items row below = by_over (is_over items) refl
   where
-    by_over : (over : Bool) → is_over items ≡ over → IsHeldTask size sends (if over then finished p (task_at play p items) (taught play p items row.facts) row else record row { running = Some (record { place = p; items = items; out = None }) }).running
+    by_over : (over : Bool) → is_over items ≡ over → IsHeldTask size sends (if over then ended play p items row else record row { running = Some (record { place = p; items = items; out = None }) }).running
     by_over true e = tt
     by_over false e = (below, tt, e)
 

@@ -3,12 +3,13 @@
 ghost use Rattle.std.specs.Prelude.{◌≡◌, ◌≢◌, ◌≤◌, ◌<◌, ◌++◌, ◌∷◌, [], length, true, false, IfOk, OnOk, OnErr, IfErr, Ok, Err, Some, None};
 ghost use Rattle.std.specs.Prelude.{◌-◌, slice_get};
 ghost use Rattle.std.specs.Option.{option_copied};
-ghost use Rattle.pb_state.specs.Machine.{possible, after, first_state, facts_at};
+ghost use Rattle.pb_state.specs.Machine.{possible, after, first_state, facts_at, pending_at};
 ghost use Rattle.pb_state.specs.Once.{IsOnce};
 ghost use Rattle.pb_state.specs.Run.{IsRun, is_command};
 ghost use Rattle.pb_state.specs.Work.{work};
 ghost use Rattle.pb_recap.specs.Recap.{recap};
 ghost use Rattle.pb_engine.specs.EngineOf.{EngineOf, Takes, LessWork, IsSound, engine_of};
+ghost use Rattle.pb_engine.specs.Notes.{noted_at};
 ghost use Rattle.pb_engine.specs.Choice.{NextIs};
 ghost use Rattle.pb_engine.specs.Refusals.{refusal_of, is_waited_for, fits};
 
@@ -168,6 +169,20 @@ impl Engine {
         ensures { result.now ≡ facts_at self.now.state host.0 }
     {
         self.state.facts(host)
+    }
+
+    /// The handlers that are pending on a host: of each handler of the open play, by its number, whether a task of the open batch notified it there, and
+    /// it hasn't run since. Where the host is in no open batch there are none.
+    #[tactic(auto, using(crate::proofs::Held::host_has_row))]
+    pub fn pending(&self, host: HostNo) -> &[bool]
+        requires { host.0 < length self.now.plan.inventory.hosts }
+        ensures value { result.now ≡ pending_at self.now.state host.0 }
+
+        // So says all that happened on the host: a handler is pending where an answer notified it, and it hasn't run since.
+        ensures notes { result.now ≡ noted_at self.now.state host.0 }
+    {
+        pb_handlers::marks_are_notes();
+        self.state.pending(host)
     }
 
     /// The events so far, in order. They do nothing twice.
