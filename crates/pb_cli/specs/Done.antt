@@ -12,10 +12,12 @@ use Rattle.pb_command_line.specs.declared.words.Purpose.{Purpose}
 use Rattle.pb_command_line.specs.declared.words.Purpose.TheVariants.{Run}
 use Rattle.pb_command_line.specs.declared.words.WordsFault.TheVariants.{Help}
 use Rattle.pb_command_line.specs.CommandLine.{Asks, IsRefused}
+use Rattle.pb_cli.specs.RoleFiles.{AreRolesIn}
 use Rattle.pb_cli.specs.Played.{IsBadTable, IsGiven}
 use Rattle.pb_cli.specs.Warned.{IsWarned}
 
--- the bundle of a request: its forks, limit and extra variables, whether it names a facts program, and of each file's bytes no more than there is room for, and one byte that tells that there are more
+-- the bundle of a request: its forks, limit and extra variables, whether it names a facts program, and of each file's bytes no more than there is room for, and one byte that tells that there are more;
+-- the files of roles stand behind the inventory and the playbook
 pub record IsBundleOf (request : Request) (bundle : Bundle) : Type 0 where
   pub forks : bundle.forks ≡ request.forks
   pub limit : bundle.limit ≡ request.limit
@@ -23,6 +25,7 @@ pub record IsBundleOf (request : Request) (bundle : Bundle) : Type 0 where
   pub gathers : bundle.has_facts_program ≡ is_some request.facts_program
   pub inventory : length bundle.inventory ≤ max_bytes + 1
   pub playbook : length bundle.playbook ≤ max_bytes - length bundle.inventory + 1
+  pub roles : AreRolesIn (max_bytes - length bundle.inventory - length bundle.playbook) request.roles bundle.roles.files
 
 -- a file of outcomes has at most 64 MiB
 abbrev pub is_too_long : Option (List ℕ) → Bool

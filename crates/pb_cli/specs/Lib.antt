@@ -4,3 +4,4 @@ pub mod Listing
 pub mod Played
 pub mod Warned
 pub mod Done
+pub mod RoleFiles

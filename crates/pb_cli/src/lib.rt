@@ -7,5 +7,6 @@ pub mod files;
 pub mod listing;
 pub mod messages;
 pub mod program;
+pub mod role_files;
 
 pub use pb_command_line::words;

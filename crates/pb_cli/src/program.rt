@@ -7,6 +7,7 @@ ghost use Rattle.pb_plan.specs.Bundle.{IsPlanOf, IsBundleFault};
 ghost use Rattle.pb_driver.specs.Taken.{with_more};
 ghost use Rattle.pb_cli.specs.Done.{IsBundleOf, is_too_long, IsUntold, IsShown, IsDone, IsHelped, IsAnswered};
 ghost use Rattle.pb_cli.specs.Listing.{listing};
+ghost use Rattle.pb_cli.specs.RoleFiles.{AreRolesIn};
 ghost use Rattle.pb_runner.specs.Local.{LocalAllows, LocalGives};
 ghost use Rattle.pb_cli.specs.Played.{IsBadTable, IsRunBy, IsTabled, IsPlayed, IsGiven};
 ghost use Rattle.pb_runner.specs.Reading.{table_of};
@@ -15,9 +16,11 @@ ghost use Rattle.pb_cli.specs.Warned.{ended, warning_text, IsWarned};
 use crate::files::read_file;
 use crate::listing::listing;
 use crate::messages::{Part, message};
+use crate::role_files::read_role_files;
 use pb_command_line::words::{Purpose, Request, WordsFault, read_words};
 use pb_driver::{LineOut, RunFault, put_all, run_plain};
 use pb_engine::Lowest;
+use pb_roles::RoleFiles;
 use pb_runner::fault::TableFault;
 use pb_runner::local::LocalRunner;
 use pb_runner::runner::Runner;
@@ -327,18 +330,22 @@ fn read_files<R: Files + AllocGlobal>(rt: &R, request: Request) -> io::Result<As
         outcomes,
         limit,
         extra,
+        roles,
         facts_program,
         purpose,
     } = request;
     let inventory = read_file(rt, inventory.as_str(), MAX_BYTES)?;
-    let left = MAX_BYTES.saturating_sub(inventory.len());
-    let playbook = read_file(rt, playbook.as_str(), left)?;
+    let room = MAX_BYTES.saturating_sub(inventory.len());
+    let playbook = read_file(rt, playbook.as_str(), room)?;
+    let room = room.saturating_sub(playbook.len());
+    let roles = read_roles(rt, &roles, room)?;
     let outcomes = read_outcomes(rt, &outcomes)?;
     let bundle = Bundle {
         inventory: Items::from_vec(inventory),
         playbook: Items::from_vec(playbook),
         limit,
         extra,
+        roles,
         forks,
         has_facts_program: facts_program.is_some(),
     };
@@ -348,6 +355,23 @@ fn read_files<R: Files + AllocGlobal>(rt: &R, request: Request) -> io::Result<As
         outcomes,
         purpose,
     })
+}
+
+/// The files of the roles, if a folder of them was asked for.
+fn read_roles<R: Files + AllocGlobal>(
+    rt: &R,
+    dir: &Option<Text>,
+    room: usize,
+) -> io::Result<RoleFiles>
+    requires { room ≤ max_bytes }
+    ensures { IfOk result (λ roles. AreRolesIn room dir.now roles.files) }
+{
+    match dir {
+        Some(dir) => read_role_files(rt, dir.as_str(), room),
+        None => Ok(RoleFiles {
+            files: Items::new(rt.alloc()),
+        }),
+    }
 }
 
 /// The bytes of the file of outcomes, if one was asked for: at most 64 MiB and one more.

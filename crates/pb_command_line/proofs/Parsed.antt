@@ -1,13 +1,13 @@
 -- What a parse by a command that reads as the program's says of the words.
-use Rattle.std.proofs.Common.{◌≡◌, ◌∙◌, List, [], Some, None, true, refl, sym, ap, subst, inl, inr}
+use Rattle.std.proofs.Common.{◌≡◌, ◌∙◌, List, [], true, Result, Ok, Err, IfOk, IfErr, refl, sym, ap, subst, inl, inr}
 use Rattle.std.specs.Prelude.{Option, codes}
 use Rattle.clap.specs.Words.{App, HasKind, HasMatchesOf, IsAmong, Text, fault_of, first_of, first_value, found_of, is_simple, is_simple_and_free, kind_of}
 use Rattle.clap.specs.declared.error.Error.{Error}
 use Rattle.clap.specs.declared.parser.matches.ArgMatches.{ArgMatches}
 use Rattle.clap.proofs.OnLiterals.{clap_on_literals}
 use Rattle.clap.proofs.WalkLemmas.{first_value-rows}
-use Rattle.pb_command_line.specs.CommandLine.{program, value_in, errors_in, is_true, purpose_of, purpose_in, NoForks, IsBadForks, IsRefused, TellsKind}
-use Rattle.pb_command_line.specs.declared.words.Purpose.{Purpose}
+use Rattle.pb_command_line.specs.CommandLine.{program, value_in, errors_in, AreForks, NoForks, AskFor, AreRefused, Asks, IsRefused, TellsKind, is_true, purpose_of}
+use Rattle.pb_command_line.specs.declared.words.Request.{Request}
 use Rattle.pb_command_line.specs.declared.words.WordsFault.{WordsFault}
 use Rattle.pb_command_line.specs.declared.words.WordsFault.TheVariants.{Help, Wrong, Missing, Memory}
 
@@ -19,38 +19,53 @@ program_free : is_simple_and_free program ≡ true
 unfolding clap_on_literals
 program_free = refl
 
-pub found_read : (app : App) (m : ArgMatches) (words : List Text) (id : Text) (found : Option Text) → app ≡ program → HasMatchesOf app words m → found ≡ first_value (found_of m) id
-    → value_in id words ≡ found
+-- the words give an argument what the parse found for it
+read : (app : App) (m : ArgMatches) (words : List Text) (id : Text) → app ≡ program → HasMatchesOf app words m → first_value (found_of m) id ≡ value_in id words
 unfolding value_in
-found_read app m words id found is has got =
+read app m words id is has =
     let rows = (subst (λ (a : App). HasMatchesOf a words m) is has program_simple).0 in
-    ap (first_of id) (sym rows) ∙ sym (first_value-rows (found_of m) id) ∙ sym got
+    sym (ap (first_of id) (sym rows) ∙ sym (first_value-rows (found_of m) id))
 
-pub value_read : (app : App) (m : ArgMatches) (words : List Text) (id t : Text) → app ≡ program → HasMatchesOf app words m → Some t ≡ first_value (found_of m) id
-    → value_in id words ≡ Some t
-value_read app m words id t is has got = found_read app m words id (Some t) is has got
-
-pub purpose_read : (app : App) (m : ArgMatches) (words : List Text) (p : Purpose) → app ≡ program → HasMatchesOf app words m
-    → p ≡ purpose_of (is_true (first_value (found_of m) (codes "syntax_check"))) (is_true (first_value (found_of m) (codes "list_hosts"))) → purpose_in words ≡ p
-purpose_read app m words p is has e =
-    let checks = found_read app m words (codes "syntax_check") _ is has refl in
-    let lists = found_read app m words (codes "list_hosts") _ is has refl in
-    rw checks (rw lists (sym e))
-
--- a count of forks that is none
-bad_forks : (words : List Text) (w : WordsFault) → IsBadForks w → NoForks (value_in (codes "forks") words) → IsRefused words w
-bad_forks words (Help text) bad none = absurd bad
-bad_forks words (Wrong text) bad none = inr none
-bad_forks words Missing bad none = absurd bad
-bad_forks words Memory bad none = tt
-
-pub forks_refused : (app : App) (m : ArgMatches) (words : List Text) (found : Option Text) (w : WordsFault) → app ≡ program → HasMatchesOf app words m → found ≡ first_value (found_of m) (codes "forks")
-    → IsBadForks w → NoForks found → IsRefused words w
-forks_refused app m words found w is has got bad none = bad_forks words w bad (subst NoForks (sym (found_read app m words (codes "forks") found is has got)) none)
-
-pub none_met : (app : App) (words : List Text) → app ≡ program → (is_simple_and_free app ≡ true → fault_of app words ≡ []) → errors_in words ≡ []
+none_met : (app : App) (words : List Text) → app ≡ program → (is_simple_and_free app ≡ true → fault_of app words ≡ []) → errors_in words ≡ []
 unfolding errors_in
 none_met app words is none = subst (λ (a : App). is_simple_and_free a ≡ true → fault_of a words ≡ []) is none program_free
+
+request_met : (app : App) (m : ArgMatches) (words : List Text) (request : Request) → app ≡ program → (is_simple_and_free app ≡ true → fault_of app words ≡ []) → HasMatchesOf app words m
+    → AskFor (first_value (found_of m)) request → Asks words request
+request_met app m words request is none has asked =
+    let same = λ (id : Text). read app m words id is has in (
+      none_met app words is none,
+      (
+        sym (same (codes "inventory")) ∙ asked.0,
+        sym (same (codes "playbook")) ∙ asked.1,
+        subst (λ (found : Option Text). AreForks found request.forks) (same (codes "forks")) asked.2,
+        sym (same (codes "outcomes")) ∙ asked.3,
+        sym (same (codes "limit")) ∙ asked.4,
+        sym (same (codes "extra")) ∙ asked.5,
+        sym (same (codes "roles")) ∙ asked.6,
+        sym (same (codes "facts_program")) ∙ asked.7,
+        subst (λ (found : Option Text). purpose_of (is_true found) (is_true (value_in (codes "list_hosts") words)) ≡ request.purpose) (same (codes "syntax_check"))
+            (subst (λ (found : Option Text). purpose_of (is_true (first_value (found_of m) (codes "syntax_check"))) (is_true found) ≡ request.purpose) (same (codes "list_hosts")) asked.8),
+      ),
+    )
+
+pub value_answered : (app : App) (m : ArgMatches) (words : List Text) (result : Result Request WordsFault) → app ≡ program → (is_simple_and_free app ≡ true → fault_of app words ≡ []) → HasMatchesOf app words m
+    → IfOk result (AskFor (first_value (found_of m))) → IfOk result (Asks words)
+value_answered app m words (Ok request) is none has asked = request_met app m words request is none has asked
+value_answered app m words (Err w) is none has asked = tt
+
+-- values that ask for nothing
+values_refused : (app : App) (m : ArgMatches) (words : List Text) (w : WordsFault) → app ≡ program → HasMatchesOf app words m → AreRefused (first_value (found_of m)) w → IsRefused words w
+values_refused app m words (Help text) is has refused = absurd refused
+values_refused app m words (Wrong text) is has refused = inr (subst NoForks (read app m words (codes "forks") is has) refused)
+values_refused app m words Missing is has (inl none) = inl (sym (read app m words (codes "inventory") is has) ∙ none)
+values_refused app m words Missing is has (inr none) = inr (sym (read app m words (codes "playbook") is has) ∙ none)
+values_refused app m words Memory is has refused = tt
+
+pub fault_answered : (app : App) (m : ArgMatches) (words : List Text) (result : Result Request WordsFault) → app ≡ program → HasMatchesOf app words m → IfErr result (AreRefused (first_value (found_of m)))
+    → IfErr result (IsRefused words)
+fault_answered app m words (Ok request) is has refused = tt
+fault_answered app m words (Err w) is has refused = values_refused app m words w is has refused
 
 refused : (words : List Text) (e : Error) (w : WordsFault) → HasKind (errors_in words) e → TellsKind (kind_of e) w → IsRefused words w
 refused words e (Help text) (inl memory) tells = cc
@@ -65,10 +80,3 @@ pub error_met : (app : App) (words : List Text) (e : Error) (w : WordsFault) →
 unfolding errors_in
 error_met app words e w is has tells =
     refused words e w (subst (λ (a : App). is_simple_and_free a ≡ true → HasKind (fault_of a words) e) is has program_free) tells
-
--- a file that the words don't name
-pub inventory_missing : (app : App) (m : ArgMatches) (words : List Text) → app ≡ program → HasMatchesOf app words m → None ≡ first_value (found_of m) (codes "inventory") → IsRefused words Missing
-inventory_missing app m words is has none = inl (found_read app m words (codes "inventory") None is has none)
-
-pub playbook_missing : (app : App) (m : ArgMatches) (words : List Text) → app ≡ program → HasMatchesOf app words m → None ≡ first_value (found_of m) (codes "playbook") → IsRefused words Missing
-playbook_missing app m words is has none = inr (found_read app m words (codes "playbook") None is has none)

@@ -1,4 +1,4 @@
--- What the words of the command line mean: `pb-play -i FILE [-f N] [-l PATTERN] [-e JSON] [--facts-program PATH] [--outcomes FILE] [--syntax-check] [--list-hosts]
+-- What the words of the command line mean: `pb-play -i FILE [-f N] [-l PATTERN] [-e JSON] [--roles DIR] [--facts-program PATH] [--outcomes FILE] [--syntax-check] [--list-hosts]
 -- PLAYBOOK`, and `--help`.
 -- clap's own definitions say how words are read; the program's arguments are stated here. std's say how a number is read.
 use Rattle.std.specs.Prelude.{◌≡◌, ◌≢◌, ◌⊎◌, ◌≤◌, ℕ, Bool, true, false, List, [], Some, None, Option, codes}
@@ -38,6 +38,10 @@ limit = record (new_rule (codes "limit")) { short = Some 108; value_names = 1 }
 abbrev pub extra : Rule
 extra = record (new_rule (codes "extra")) { short = Some 101; value_names = 1 }
 
+-- `--roles DIR`
+abbrev pub roles : Rule
+roles = record (new_rule (codes "roles")) { long = Some (codes "roles"); value_names = 1 }
+
 -- `--facts-program PATH`
 abbrev pub facts_program : Rule
 facts_program = record (new_rule (codes "facts_program")) { long = Some (codes "facts-program"); value_names = 1 }
@@ -60,7 +64,7 @@ abbrev pub limited_program : App
 limited_program = with_rule (with_rule run_program limit) extra
 
 abbrev pub gathering_program : App
-gathering_program = with_rule limited_program facts_program
+gathering_program = with_rule (with_rule limited_program roles) facts_program
 
 abbrev pub program : App
 program = with_rule (with_rule gathering_program syntax_check) list_hosts
@@ -84,9 +88,6 @@ purpose_of true lists = CheckSyntax
 purpose_of false true = ListHosts
 purpose_of false false = Run
 
-abbrev pub purpose_in : List Text → Purpose
-purpose_in words = purpose_of (is_true (value_in (codes "syntax_check") words)) (is_true (value_in (codes "list_hosts") words))
-
 -- a number from 1 to 256, in decimal digits, with a plus sign before them or none
 abbrev pub IsCount : Text → ℕ → Type 0
 IsCount text n = IsNumeral 10 (without_leading_plus text) × (n ≡ digits_value 10 (without_leading_plus text)) × (1 ≤ n) × (n ≤ 256)
@@ -104,19 +105,32 @@ abbrev pub NoForks : Option Text → Type 0
 NoForks None = ⊥
 NoForks (Some text) = IsNoCount text
 
+-- what a count of forks that is none is told as
 abbrev pub IsBadForks : WordsFault → Type 0
 IsBadForks (Help text) = ⊥
 IsBadForks (Wrong text) = Unit
 IsBadForks Missing = ⊥
 IsBadForks Memory = Unit
 
--- the words are the program's, and ask for these files, so many forks, this limit, these extra variables, this facts program and this purpose
+-- what the values of the arguments, each by its name, ask for: these files, so many forks, this limit, these extra variables, this folder of roles, this facts program
+-- and this purpose
+abbrev pub AskFor : (Text → Option Text) → Request → Type 0
+AskFor value request = (value (codes "inventory") ≡ Some request.inventory) × (value (codes "playbook") ≡ Some request.playbook)
+    × AreForks (value (codes "forks")) request.forks × (value (codes "outcomes") ≡ request.outcomes)
+    × (value (codes "limit") ≡ request.limit) × (value (codes "extra") ≡ request.extra) × (value (codes "roles") ≡ request.roles)
+    × (value (codes "facts_program") ≡ request.facts_program)
+    × (purpose_of (is_true (value (codes "syntax_check"))) (is_true (value (codes "list_hosts"))) ≡ request.purpose)
+
+-- why values ask for nothing to be played
+abbrev pub AreRefused : (Text → Option Text) → WordsFault → Type 0
+AreRefused value (Help text) = ⊥
+AreRefused value (Wrong text) = NoForks (value (codes "forks"))
+AreRefused value Missing = (value (codes "inventory") ≡ None) ⊎ (value (codes "playbook") ≡ None)
+AreRefused value Memory = Unit
+
+-- the words are the program's, and ask for this
 abbrev pub Asks : List Text → Request → Type 0
-Asks words request = (errors_in words ≡ [])
-    × (value_in (codes "inventory") words ≡ Some request.inventory) × (value_in (codes "playbook") words ≡ Some request.playbook)
-    × AreForks (value_in (codes "forks") words) request.forks × (value_in (codes "outcomes") words ≡ request.outcomes)
-    × (value_in (codes "limit") words ≡ request.limit) × (value_in (codes "extra") words ≡ request.extra)
-    × (value_in (codes "facts_program") words ≡ request.facts_program) × (purpose_in words ≡ request.purpose)
+Asks words request = (errors_in words ≡ []) × AskFor (λ id. value_in id words) request
 
 -- what an error of that kind is told as
 abbrev pub TellsKind : ErrorKind → WordsFault → Type 0
@@ -128,6 +142,6 @@ TellsKind kind Memory = Unit
 -- why the words ask for nothing to be played
 abbrev pub IsRefused : List Text → WordsFault → Type 0
 IsRefused words (Help text) = IsAmong DisplayHelp (errors_in words)
-IsRefused words (Wrong text) = ((kind : ErrorKind) × IsAmong kind (errors_in words) × (kind ≢ DisplayHelp)) ⊎ NoForks (value_in (codes "forks") words)
-IsRefused words Missing = (value_in (codes "inventory") words ≡ None) ⊎ (value_in (codes "playbook") words ≡ None)
+IsRefused words (Wrong text) = ((kind : ErrorKind) × IsAmong kind (errors_in words) × (kind ≢ DisplayHelp)) ⊎ AreRefused (λ id. value_in id words) (Wrong text)
+IsRefused words Missing = AreRefused (λ id. value_in id words) Missing
 IsRefused words Memory = Unit

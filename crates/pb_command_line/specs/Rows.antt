@@ -10,38 +10,44 @@ unfoldable on_literals : ⊤
 unfolding errors_in value_in clap_on_literals
 on_literals = tt
 
-asked : Asks (codes "pb-play" ∷ codes "-i" ∷ codes "hosts.json" ∷ codes "site.json" ∷ []) (record { inventory = codes "hosts.json"; playbook = codes "site.json"; forks = 5; outcomes = None; limit = None; extra = None; facts_program = None; purpose = Run })
+asked : Asks (codes "pb-play" ∷ codes "-i" ∷ codes "hosts.json" ∷ codes "site.json" ∷ []) (record { inventory = codes "hosts.json"; playbook = codes "site.json"; forks = 5; outcomes = None; limit = None; extra = None; roles = None; facts_program = None; purpose = Run })
 unfolding on_literals
-asked = (refl, refl, refl, refl, refl, refl, refl, refl, refl)
+asked = (refl, (refl, refl, refl, refl, refl, refl, refl, refl, refl))
 
 -- the inventory may come last, and stand in its option's word
-asked_last : Asks (codes "pb-play" ∷ codes "site.json" ∷ codes "-ihosts.json" ∷ []) (record { inventory = codes "hosts.json"; playbook = codes "site.json"; forks = 5; outcomes = None; limit = None; extra = None; facts_program = None; purpose = Run })
+asked_last : Asks (codes "pb-play" ∷ codes "site.json" ∷ codes "-ihosts.json" ∷ []) (record { inventory = codes "hosts.json"; playbook = codes "site.json"; forks = 5; outcomes = None; limit = None; extra = None; roles = None; facts_program = None; purpose = Run })
 unfolding on_literals
-asked_last = (refl, refl, refl, refl, refl, refl, refl, refl, refl)
+asked_last = (refl, (refl, refl, refl, refl, refl, refl, refl, refl, refl))
 
 -- hosts are listed, within a limit
 lists : Asks (codes "pb-play" ∷ codes "-i" ∷ codes "hosts.json" ∷ codes "-l" ∷ codes "web:!db" ∷ codes "--list-hosts" ∷ codes "site.json" ∷ [])
-    (record { inventory = codes "hosts.json"; playbook = codes "site.json"; forks = 5; outcomes = None; limit = Some (codes "web:!db"); extra = None; facts_program = None; purpose = ListHosts })
+    (record { inventory = codes "hosts.json"; playbook = codes "site.json"; forks = 5; outcomes = None; limit = Some (codes "web:!db"); extra = None; roles = None; facts_program = None; purpose = ListHosts })
 unfolding on_literals
-lists = (refl, refl, refl, refl, refl, refl, refl, refl, refl)
+lists = (refl, (refl, refl, refl, refl, refl, refl, refl, refl, refl))
 
 -- the check goes before the list
 checks : Asks (codes "pb-play" ∷ codes "--list-hosts" ∷ codes "--syntax-check" ∷ codes "-i" ∷ codes "hosts.json" ∷ codes "site.json" ∷ [])
-    (record { inventory = codes "hosts.json"; playbook = codes "site.json"; forks = 5; outcomes = None; limit = None; extra = None; facts_program = None; purpose = CheckSyntax })
+    (record { inventory = codes "hosts.json"; playbook = codes "site.json"; forks = 5; outcomes = None; limit = None; extra = None; roles = None; facts_program = None; purpose = CheckSyntax })
 unfolding on_literals
-checks = (refl, refl, refl, refl, refl, refl, refl, refl, refl)
+checks = (refl, (refl, refl, refl, refl, refl, refl, refl, refl, refl))
 
 -- extra variables
 varied : Asks (codes "pb-play" ∷ codes "-i" ∷ codes "hosts.json" ∷ codes "-e" ∷ codes "{\"x\":6}" ∷ codes "site.json" ∷ [])
-    (record { inventory = codes "hosts.json"; playbook = codes "site.json"; forks = 5; outcomes = None; limit = None; extra = Some (codes "{\"x\":6}"); facts_program = None; purpose = Run })
+    (record { inventory = codes "hosts.json"; playbook = codes "site.json"; forks = 5; outcomes = None; limit = None; extra = Some (codes "{\"x\":6}"); roles = None; facts_program = None; purpose = Run })
 unfolding on_literals
-varied = (refl, refl, refl, refl, refl, refl, refl, refl, refl)
+varied = (refl, (refl, refl, refl, refl, refl, refl, refl, refl, refl))
+
+-- a folder of roles
+roled : Asks (codes "pb-play" ∷ codes "-i" ∷ codes "hosts.json" ∷ codes "--roles=roles" ∷ codes "site.json" ∷ [])
+    (record { inventory = codes "hosts.json"; playbook = codes "site.json"; forks = 5; outcomes = None; limit = None; extra = None; roles = Some (codes "roles"); facts_program = None; purpose = Run })
+unfolding on_literals
+roled = (refl, (refl, refl, refl, refl, refl, refl, refl, refl, refl))
 
 -- a program that gathers facts
 gathers : Asks (codes "pb-play" ∷ codes "-i" ∷ codes "hosts.json" ∷ codes "--facts-program" ∷ codes "./facts" ∷ codes "site.json" ∷ [])
-    (record { inventory = codes "hosts.json"; playbook = codes "site.json"; forks = 5; outcomes = None; limit = None; extra = None; facts_program = Some (codes "./facts"); purpose = Run })
+    (record { inventory = codes "hosts.json"; playbook = codes "site.json"; forks = 5; outcomes = None; limit = None; extra = None; roles = None; facts_program = Some (codes "./facts"); purpose = Run })
 unfolding on_literals
-gathers = (refl, refl, refl, refl, refl, refl, refl, refl, refl)
+gathers = (refl, (refl, refl, refl, refl, refl, refl, refl, refl, refl))
 
 help : errors_in (codes "pb-play" ∷ codes "--help" ∷ []) ≡ DisplayHelp ∷ []
 unfolding on_literals

@@ -1,7 +1,7 @@
 ghost use Rattle.pb_command_line.specs.declared.words.WordsFault.TheVariants.{Memory};
 ghost use Rattle.std.specs.Prelude.{◌≡◌, ◌⊎◌, IfOk, IfErr, map, codes, string_bytes};
 ghost use Rattle.clap.specs.Words.{app_of, kind_of, found_of, first_value};
-ghost use Rattle.pb_command_line.specs.CommandLine.{file_program, run_program, limited_program, gathering_program, program, is_true, purpose_of, Asks, IsCount, IsNoCount, AreForks, NoForks, IsBadForks, IsRefused, TellsKind};
+ghost use Rattle.pb_command_line.specs.CommandLine.{file_program, run_program, limited_program, gathering_program, program, is_true, purpose_of, AskFor, AreRefused, Asks, IsCount, IsNoCount, AreForks, NoForks, IsBadForks, IsRefused, TellsKind};
 
 use clap::error::ErrorKind;
 use clap::{Arg, ArgAction, ArgMatches, Command, Error};
@@ -23,6 +23,8 @@ pub struct Request {
     pub limit: Option<Text>,
     /// The extra variables, an object in JSON, if some are given.
     pub extra: Option<Text>,
+    /// The path of the folder that roles stand in, if one is given.
+    pub roles: Option<Text>,
     /// The program that gathers the facts of hosts, if one is given.
     pub facts_program: Option<Text>,
     /// What is to be done with the plan.
@@ -110,15 +112,19 @@ fn limited_words<'a>(alloc: Global) -> Result<Command<'a>, AllocError>
     run_words(alloc)?.arg(limit)?.arg(extra)
 }
 
-/// The program with its files, what a run takes, the limit, the extra variables and the facts program.
+/// The program with its files, what a run takes, the limit, the extra variables, the roles and the facts program.
 fn gathering_words<'a>(alloc: Global) -> Result<Command<'a>, AllocError>
     ensures { IfOk result (λ c. app_of c ≡ gathering_program) }
 {
+    let roles = Arg::new(alloc, "roles")
+        .long("roles")
+        .value_name("DIR")
+        .help("The folder that the roles stand in");
     let facts_program = Arg::new(alloc, "facts_program")
         .long("facts-program")
         .value_name("PATH")
         .help("The program that prints a host's facts, a JSON object");
-    limited_words(alloc)?.arg(facts_program)
+    limited_words(alloc)?.arg(roles)?.arg(facts_program)
 }
 
 fn command<'a>(alloc: Global) -> Result<Command<'a>, AllocError>
@@ -226,6 +232,39 @@ fn purpose_in(matches: &ArgMatches<'_>) -> Purpose
     Purpose::Run
 }
 
+/// What the values of the arguments ask for.
+fn request_in(alloc: Global, matches: &ArgMatches<'_>) -> Result<Request, WordsFault>
+    ensures value { IfOk result (AskFor (first_value (found_of matches.now))) }
+    ensures fault { IfErr result (AreRefused (first_value (found_of matches.now))) }
+{
+    let Some(inventory) = matches.get_str("inventory") else {
+        return Err(WordsFault::Missing);
+    };
+    let Some(playbook) = matches.get_str("playbook") else {
+        return Err(WordsFault::Missing);
+    };
+    let forks = match forks_in(alloc, matches) {
+        Ok(forks) => forks,
+        Err(fault) => return Err(fault),
+    };
+    let outcomes = text_in(alloc, matches, "outcomes")?;
+    let limit = text_in(alloc, matches, "limit")?;
+    let extra = text_in(alloc, matches, "extra")?;
+    let roles = text_in(alloc, matches, "roles")?;
+    let facts_program = text_in(alloc, matches, "facts_program")?;
+    Ok(Request {
+        inventory: Text::from_str(alloc, inventory)?,
+        playbook: Text::from_str(alloc, playbook)?,
+        forks,
+        outcomes,
+        limit,
+        extra,
+        roles,
+        facts_program,
+        purpose: purpose_in(matches),
+    })
+}
+
 /// What the words ask for. The first of them is the program's name.
 pub fn read_words(alloc: Global, words: &[String]) -> Result<Request, WordsFault>
     ensures value { IfOk result (Asks (map string_bytes words.now)) }
@@ -233,32 +272,7 @@ pub fn read_words(alloc: Global, words: &[String]) -> Result<Request, WordsFault
 {
     let command = command(alloc)?;
     match command.try_get_matches_from(words) {
-        Ok(matches) => {
-            let Some(inventory) = matches.get_str("inventory") else {
-                return Err(WordsFault::Missing);
-            };
-            let Some(playbook) = matches.get_str("playbook") else {
-                return Err(WordsFault::Missing);
-            };
-            let forks = match forks_in(alloc, &matches) {
-                Ok(forks) => forks,
-                Err(fault) => return Err(fault),
-            };
-            let outcomes = text_in(alloc, &matches, "outcomes")?;
-            let limit = text_in(alloc, &matches, "limit")?;
-            let extra = text_in(alloc, &matches, "extra")?;
-            let facts_program = text_in(alloc, &matches, "facts_program")?;
-            Ok(Request {
-                inventory: Text::from_str(alloc, inventory)?,
-                playbook: Text::from_str(alloc, playbook)?,
-                forks,
-                outcomes,
-                limit,
-                extra,
-                facts_program,
-                purpose: purpose_in(&matches),
-            })
-        }
+        Ok(matches) => request_in(alloc, &matches),
         Err(error) => Err(fault(alloc, &error)),
     }
 }
