@@ -1,10 +1,12 @@
 //! Tests alone, of what no case shows: writers that fail or take little, files of outcomes that are cut at each byte, the largest
-//! bundles and files of outcomes that are taken with those that are one larger, the events of runs in their order, and reports
-//! that are refused and handed back.
+//! bundles and files of outcomes that are taken with those that are one larger, long chains of roles, the events of runs in their order,
+//! reports that are refused and handed back, and folders of roles as the system has them.
 #![tactic(auto)]
 
 #[cfg(test)]
 mod bundles;
+#[cfg(test)]
+mod chain;
 #[cfg(test)]
 mod cut;
 #[cfg(test)]
@@ -16,8 +18,12 @@ mod outcomes;
 #[cfg(test)]
 mod reports;
 #[cfg(test)]
+mod roles;
+#[cfg(test)]
 mod silent;
 #[cfg(test)]
 mod trails;
+#[cfg(test)]
+mod vanishing;
 #[cfg(test)]
 mod writers;

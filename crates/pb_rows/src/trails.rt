@@ -4,6 +4,7 @@ use crate::silent::Silent;
 use pb_driver::{Ended, run_plain};
 use pb_engine::Lowest;
 use pb_ids::{HostNo, Ticket};
+use pb_roles::RoleFiles;
 use pb_runner::table::TableRunner;
 use pb_state::{Bundle, Event, Plan};
 use pb_value::items::Items;
@@ -32,6 +33,9 @@ fn bundle_of(alloc: Global, playbook: &str, forks: u32) -> Result<Bundle, AllocE
         playbook,
         limit: None,
         extra: None,
+        roles: RoleFiles {
+            files: Items::new(alloc),
+        },
         forks,
         has_facts_program: false,
     })
