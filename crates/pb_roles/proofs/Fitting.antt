@@ -1,5 +1,5 @@
 -- What a play has at its places fits its tree.
-use Rattle.std.proofs.Common.{◌≡◌, ◌≤◌, ℕ, zero, suc, ◌+◌, Bool, true, false, ◌||◌, List, [], ◌∷◌, ◌++◌, map, Option, Some, None, Result, Ok, Err, refl, sym, ap, subst, ◌∙◌, length, length-append, append_assoc, arith, nat_lt}
+use Rattle.std.proofs.Common.{◌≡◌, ℕ, suc, ◌+◌, Bool, true, false, ◌||◌, List, [], ◌∷◌, ◌++◌, map, Option, Some, None, Result, Ok, Err, refl, sym, ap, subst, ◌∙◌, length, length-append, append_assoc, arith, nat_lt}
 use Rattle.std.specs.Prelude.{not, replicate, if◌then◌else◌}
 use Rattle.std.specs.List.{All}
 use Rattle.std.proofs.lemmas.List.{append-nil, map-append}
@@ -16,7 +16,7 @@ use Rattle.pb_places.specs.Place.{PlaceOf}
 use Rattle.pb_handlers.specs.declared.naming.HandlerNames.{HandlerNames}
 use Rattle.pb_roles.specs.Building.{Flushed, RoundOf, TaskIn, inside, is_nothing, all_places, flush_from, flush_places, flushed_in, part_places, places_of, nodes_of, nodes_then, round_of, section_places, sections_then, task_of, tree_of}
 use Rattle.pb_roles.specs.Seen.{alone, places_in, places_in_all}
-use Rattle.pb_roles.specs.Plays.{IsBuilt, built, checked, expanded, expansion_of, has_too_many_places, head_of, is_too_deep, max_depth, max_places, unless_unknown, within_limits}
+use Rattle.pb_roles.specs.Plays.{IsBuilt, built, checked, expanded, expansion_of, has_too_many_places, head_of, is_too_deep, max_places, unless_unknown, within_limits}
 use Rattle.pb_roles.specs.Expansion.{roles_of}
 use Rattle.pb_roles.specs.Sections.{sections_of}
 use Rattle.pb_roles.specs.Unknown.{unknown_of}

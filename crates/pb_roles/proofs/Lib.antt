@@ -1,9 +1,13 @@
+mod Circling
 mod Each
+mod FewOpen
 mod Fitting
 mod Notified
 mod Placed
 mod PlayNodes
 mod Stack
+mod Taking
+mod Tests
 mod TreeNodes
 mod Trees
 mod Unknowns

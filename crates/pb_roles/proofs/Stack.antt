@@ -1,12 +1,12 @@
 -- What is left to be met, step by step.
-use Rattle.std.proofs.Common.{◌≡◌, ◌≤◌, ℕ, zero, suc, ◌+◌, Bool, true, false, List, [], ◌∷◌, Option, Some, None, Result, Ok, Err, IfSome, ◌++◌, ◌-◌, refl, ap, sym, subst, ◌∙◌, arith}
+use Rattle.std.proofs.Common.{◌≡◌, ◌≤◌, ℕ, zero, suc, ◌+◌, true, false, List, [], ◌∷◌, Option, Some, None, Result, Ok, Err, IfSome, ◌++◌, ◌-◌, refl, sym, subst, arith}
 use Rattle.pb_value.specs.Reading.{and_then, map_ok}
 use Rattle.pb_expr_syntax.specs.Tree.{Tree}
 use Rattle.pb_role_entries.specs.declared.entry.RoleEntry.{RoleEntry}
 use Rattle.pb_roles.specs.Answers.{Faults}
 use Rattle.pb_roles.specs.Entries.{came_of}
 use Rattle.pb_roles.specs.Expansion.{closed, finished, in_order, is_open, meets, role_of, with_come}
-use Rattle.pb_roles.specs.Open.{conditions_in, cost_in, cost_of, dependencies_of, left_in, names_of, pushed, rest_of, sum_over, to_do}
+use Rattle.pb_roles.specs.Open.{conditions_in, cost_in, cost_of, dependencies_of, left_in, names_of, pushed, rest_of, to_do}
 use Rattle.pb_roles.specs.declared.fault.RoleFault.{RoleFault}
 use Rattle.pb_roles.specs.declared.fault.RoleFault.TheVariants.{Unknown, Cycle, Load, Memory, TooLarge}
 use Rattle.pb_roles.specs.Files.{RoleRead}

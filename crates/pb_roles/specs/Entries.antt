@@ -1,6 +1,6 @@
 -- Which role entries are one and the same: a role is taken once for each way in which it is asked for
 -- (Ansible's documentation, "Roles", Running a role multiple times in one play).
-use Rattle.std.specs.Prelude.{ℕ, Bool, true, false, ◌&&◌, List, Option, Some, None}
+use Rattle.std.specs.Prelude.{Bool, true, false, ◌&&◌, List, Option, Some, None}
 use Rattle.std.specs.List.{list_any}
 use Rattle.std.specs.Str.{bytes_eq}
 use Rattle.pb_value.specs.Datum.{Datum, dict, members_of}

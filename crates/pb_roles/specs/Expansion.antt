@@ -1,6 +1,6 @@
 -- Which role entries of a play count, in what order, and what they bring (Ansible's documentation, "Roles", Using role dependencies, and Running a role
 -- multiple times in one play).
-use Rattle.std.specs.Prelude.{ℕ, zero, suc, Bool, true, false, ◌&&◌, not, List, [], ◌∷◌, ◌++◌, length, Option, Some, None, Result, Ok, Err, codes, if◌then◌else◌}
+use Rattle.std.specs.Prelude.{ℕ, zero, suc, Bool, ◌&&◌, not, List, [], ◌∷◌, ◌++◌, length, Option, Some, None, Result, Ok, Err, if◌then◌else◌}
 use Rattle.std.specs.List.{list_any}
 use Rattle.std.specs.Str.{bytes_eq}
 use Rattle.pb_value.specs.Reading.{and_then, map_ok}
@@ -19,7 +19,6 @@ use Rattle.pb_roles.specs.declared.files.RoleFiles.{RoleFiles}
 use Rattle.pb_roles.specs.declared.came.Came.{Came}
 use Rattle.pb_roles.specs.declared.met.HandlerIn.{HandlerIn}
 use Rattle.pb_roles.specs.declared.met.Met.{Met}
-use Rattle.pb_roles.specs.declared.met.Section.{Section}
 use Rattle.pb_roles.specs.declared.opened.OpenRole.{OpenRole}
 
 -- A role stands under the conditions of the roles that depend on it, and under its entry's own behind them. Its entry's `vars` go over the variables of its

@@ -1,5 +1,6 @@
 pub mod Answers
 pub mod Building
+pub mod Circles
 pub mod Entries
 pub mod Expansion
 pub mod Files
@@ -9,4 +10,5 @@ pub mod Plays
 pub mod Rows
 pub mod Seen
 pub mod Sections
+pub mod Taken
 pub mod Unknown

@@ -1,6 +1,6 @@
 -- The plays of a playbook with their trees and what stands at their places, or the first fault.
 use Rattle.std.specs.Prelude.{◌≡◌, ◌≤◌, ℕ, Bool, ◌||◌, List, [], ◌∷◌, length, nat_lt, Option, Some, None, Result, Ok, Err, if◌then◌else◌}
-use Rattle.pb_value.specs.Reading.{and_then, map_ok}
+use Rattle.pb_value.specs.Reading.{and_then}
 use Rattle.pb_tree.specs.Tree.{size_of}
 use Rattle.pb_flat.specs.Deep.{always_depth}
 use Rattle.pb_places.specs.Caught.{are_caught, caught_places}

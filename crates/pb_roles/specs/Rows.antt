@@ -1,7 +1,7 @@
 -- Worked examples: each is proved by computing both sides.
-use Rattle.std.specs.Prelude.{◌≡◌, ℕ, zero, suc, pos, Bool, true, false, List, [], ◌∷◌, map, Option, Some, None, Result, Ok, Err, codes, refl, if◌then◌else◌}
+use Rattle.std.specs.Prelude.{◌≡◌, ℕ, pos, Bool, true, false, List, [], ◌∷◌, map, Option, Some, None, Result, Ok, Err, codes, refl, if◌then◌else◌}
 use Rattle.std.specs.Str.{bytes_eq}
-use Rattle.pb_value.specs.Datum.{Datum, dict, int, no_members, text}
+use Rattle.pb_value.specs.Datum.{dict, int, no_members, text}
 use Rattle.pb_value.specs.Reading.{map_ok}
 use Rattle.pb_expr_syntax.specs.Tree.{Tree, Name}
 use Rattle.pb_layers.specs.Scope.{Map}
@@ -15,7 +15,7 @@ use Rattle.pb_role_entries.specs.declared.entry.RoleEntry.{RoleEntry}
 use Rattle.pb_play.specs.declared.task.Task.{Task as OneTask}
 use Rattle.pb_places.specs.Place.{PlaceOf, bare_task, no_role, place_of}
 use Rattle.pb_places.specs.declared.surroundings.Role.{Role}
-use Rattle.pb_tree.specs.Tree.{paths, size_of}
+use Rattle.pb_tree.specs.Tree.{paths}
 use Rattle.pb_roles.specs.Building.{all_places, tree_of}
 use Rattle.pb_roles.specs.Expansion.{handlers_in, meets, role_of, roles_with}
 use Rattle.pb_roles.specs.Files.{RoleRead, no_meta}

@@ -1,6 +1,6 @@
 -- What stands in a play, with its roles, in the order in which it runs (Ansible's documentation, "Roles", Using roles at the play level, and "Handlers:
 -- running operations on change").
-use Rattle.std.specs.Prelude.{Bool, List, [], ◌∷◌, ◌++◌, map}
+use Rattle.std.specs.Prelude.{List, [], ◌∷◌, ◌++◌, map}
 use Rattle.pb_play.specs.Nodes.{Written}
 use Rattle.pb_play.specs.declared.play.Play.{Play}
 use Rattle.pb_handlers.specs.Naming.{counting, kept}

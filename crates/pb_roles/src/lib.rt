@@ -4,6 +4,9 @@
 //! places, or answers the first fault, both as `specs/Plays.antt` says.
 #![tactic(auto)]
 
+ghost use Rattle.pb_roles.specs.Circles.{CyclesAreCircles};
+ghost use Rattle.pb_roles.specs.Taken.{RolesAreInOrder};
+
 mod came;
 mod enter;
 mod expansion;
@@ -27,3 +30,11 @@ pub use expansion::expand;
 pub use fault::RoleFault;
 pub use files::{RoleFile, RoleFiles};
 pub use sections::Expanded;
+
+/// What holds of the roles that a play takes, whatever stands in their files: each comes behind those that it depends on, and none comes twice for entries that
+/// are alike, unless its file of dependencies allows it; and a cycle is told only where a role depends on itself.
+#[tactic(auto, using(crate::proofs::Taking::roles_are_in_order, crate::proofs::Circling::cycles_are_circles))]
+pub fn roles_are_in_order()
+    ensures order { RolesAreInOrder }
+    ensures circles { CyclesAreCircles }
+{}

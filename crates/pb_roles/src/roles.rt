@@ -21,10 +21,10 @@ use std::alloc::{AllocError, Global};
 use std::collections::VecDeque;
 
 /// Whether a role of this name is open.
-fn is_open(name: &Text, open: &VecDeque<OpenRole>) -> bool
-    ensures { result ≡ is_open name.now (names_of open.now.items) }
+fn is_open(name: &Text, roles: &VecDeque<OpenRole>) -> bool
+    ensures { result ≡ is_open name.now (names_of roles.now.items) }
 {
-    for role in open.iter() {
+    for role in roles.iter() {
         if name.as_str() == role.name.as_str() {
             return true;
         }
@@ -33,31 +33,31 @@ fn is_open(name: &Text, open: &VecDeque<OpenRole>) -> bool
 }
 
 /// How many roles may be opened inside the open ones.
-fn left_in(files: &RoleFiles, open: &VecDeque<OpenRole>) -> usize
-    ensures { result ≡ left_in (most_open files.now) open.now.items }
+fn left_in(files: &RoleFiles, roles: &VecDeque<OpenRole>) -> usize
+    ensures { result ≡ left_in (most_open files.now) roles.now.items }
 {
-    match open.front() {
+    match roles.front() {
         Some(role) => role.left,
         None => files.files.as_slice().len() + 1,
     }
 }
 
 /// The conditions under which the dependencies of the open roles stand.
-fn conditions_in(open: &VecDeque<OpenRole>) -> &[Expr]
-    ensures { result.now ≡ conditions_in open.now.items }
+fn conditions_in(roles: &VecDeque<OpenRole>) -> &[Expr]
+    ensures { result.now ≡ conditions_in roles.now.items }
 {
-    match open.front() {
+    match roles.front() {
         Some(role) => role.origin.conditions(),
         None => &[],
     }
 }
 
 /// A role that was found is open.
-fn push_found(open: &mut VecDeque<OpenRole>, found: Option<OpenRole>) -> Result<(), AllocError>
-    ensures { OnOk result (open.new.items ≡ pushed found open.old.items) }
+fn push_found(roles: &mut VecDeque<OpenRole>, found: Option<OpenRole>) -> Result<(), AllocError>
+    ensures { OnOk result (roles.new.items ≡ pushed found roles.old.items) }
 {
     if let Some(role) = found {
-        open.push_front(role)?;
+        roles.push_front(role)?;
     }
     Ok(())
 }
@@ -67,30 +67,30 @@ fn push_found(open: &mut VecDeque<OpenRole>, found: Option<OpenRole>) -> Result<
 fn enter(
     alloc: Global,
     files: &RoleFiles,
-    open: &mut VecDeque<OpenRole>,
+    roles: &mut VecDeque<OpenRole>,
     entry: &RoleEntry,
     met: &mut Met,
 ) -> Result<(), RoleFault>
-    ensures value { OnOk result (rest_of (read_of files.now) open.new.items met.new ≡ to_do (most_open files.now) (read_of files.now) open.old.items entry.now met.old) }
-    ensures cost { OnOk result (cost_in (read_of files.now) open.new.items + 1 ≤ cost_in (read_of files.now) open.old.items + cost_of (left_in (most_open files.now) open.old.items) (read_of files.now) entry.now) }
-    ensures fault { IfErr result (λ e. Faults e (to_do (most_open files.now) (read_of files.now) open.old.items entry.now met.old)) }
+    ensures value { OnOk result (rest_of (read_of files.now) roles.new.items met.new ≡ to_do (most_open files.now) (read_of files.now) roles.old.items entry.now met.old) }
+    ensures cost { OnOk result (cost_in (read_of files.now) roles.new.items + 1 ≤ cost_in (read_of files.now) roles.old.items + cost_of (left_in (most_open files.now) roles.old.items) (read_of files.now) entry.now) }
+    ensures fault { IfErr result (λ e. Faults e (to_do (most_open files.now) (read_of files.now) roles.old.items entry.now met.old)) }
 {
-    let left = left_in(files, open);
+    let left = left_in(files, roles);
     if left == 0 {
         return Err(RoleFault::Cycle);
     }
-    if is_open(&entry.name, open) {
+    if is_open(&entry.name, roles) {
         return Err(RoleFault::Cycle);
     }
     let found = role_of(
         alloc,
         files,
         left - 1,
-        conditions_in(open),
+        conditions_in(roles),
         entry,
         &mut met.came,
     )?;
-    push_found(open, found)?;
+    push_found(roles, found)?;
     Ok(())
 }
 
@@ -124,19 +124,19 @@ fn close(role: OpenRole, met: &mut Met) -> Result<(), AllocError>
 fn step(
     alloc: Global,
     files: &RoleFiles,
-    open: &mut VecDeque<OpenRole>,
+    roles: &mut VecDeque<OpenRole>,
     role: OpenRole,
     met: &mut Met,
 ) -> Result<(), RoleFault>
-    ensures value { OnOk result (rest_of (read_of files.now) open.new.items met.new ≡ rest_of (read_of files.now) (role ∷ open.old.items) met.old) }
-    ensures cost { OnOk result (cost_in (read_of files.now) open.new.items + 1 ≤ cost_in (read_of files.now) (role ∷ open.old.items)) }
-    ensures fault { IfErr result (λ e. Faults e (rest_of (read_of files.now) (role ∷ open.old.items) met.old)) }
+    ensures value { OnOk result (rest_of (read_of files.now) roles.new.items met.new ≡ rest_of (read_of files.now) (role ∷ roles.old.items) met.old) }
+    ensures cost { OnOk result (cost_in (read_of files.now) roles.new.items + 1 ≤ cost_in (read_of files.now) (role ∷ roles.old.items)) }
+    ensures fault { IfErr result (λ e. Faults e (rest_of (read_of files.now) (role ∷ roles.old.items) met.old)) }
 {
     let mut role = role;
     match role.dependencies.pop() {
         Some(entry) => {
-            open.push_front(role)?;
-            enter(alloc, files, open, &entry, met)
+            roles.push_front(role)?;
+            enter(alloc, files, roles, &entry, met)
         }
         None => {
             close(role, met)?;
@@ -150,10 +150,10 @@ fn meet(alloc: Global, files: &RoleFiles, entry: &RoleEntry, met: &mut Met) -> R
     ensures value { OnOk result (meets (most_open files.now) (read_of files.now) [] [] entry.now met.old ≡ Ok met.new) }
     ensures fault { IfErr result (λ e. Faults e (meets (most_open files.now) (read_of files.now) [] [] entry.now met.old)) }
 {
-    let mut open = VecDeque::new(alloc);
-    enter(alloc, files, &mut open, entry, met)?;
-    while let Some(role) = open.pop_front() {
-        step(alloc, files, &mut open, role, met)?;
+    let mut roles = VecDeque::new(alloc);
+    enter(alloc, files, &mut roles, entry, met)?;
+    while let Some(role) = roles.pop_front() {
+        step(alloc, files, &mut roles, role, met)?;
     }
     Ok(())
 }
