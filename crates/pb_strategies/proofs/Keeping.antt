@@ -77,6 +77,21 @@ copied (a ∷ set) (b ∷ from) e =
     ap (λ head. head ∷ zip2 (λ (x y : Bool). x || y) (zip2 (λ (x y : Bool). x && y) set from) from) (absorbed a b)
     ∙ ap (λ rest. b ∷ rest) (copied set from (omega (arith, e)))
 
+-- what is in both and not in the second is nothing
+without_it : (a b : Bool) → ((a && b) && not b) ≡ false
+without_it true true = refl
+without_it true false = refl
+without_it false b = refl
+
+pub emptied : (set from : List Bool) → length set ≡ length from
+    → zip2 (λ (a b : Bool). a && not b) (zip2 (λ (a b : Bool). a && b) set from) from ≡ replicate (length set) false
+emptied [] [] e = refl
+emptied [] (b ∷ from) e = absurd (omega (arith, e))
+emptied (a ∷ set) [] e = absurd (omega (arith, e))
+emptied (a ∷ set) (b ∷ from) e =
+    ap (λ head. head ∷ zip2 (λ (x y : Bool). x && not y) (zip2 (λ (x y : Bool). x && y) set from) from) (without_it a b)
+    ∙ ap (λ rest. false ∷ rest) (emptied set from (omega (arith, e)))
+
 pub both_width : (set from both : List Bool) → length set ≡ length from → both ≡ zip2 (λ (a b : Bool). a && b) set from → length both ≡ length from
 both_width set from both e t = ap length t ∙ length-zip2 (λ (a b : Bool). a && b) set from e ∙ e
 

@@ -1,15 +1,17 @@
 //! Which hosts may start their next task.
 //!
-//! For the layers above: a `View` is what a strategy sees of a run; `ready` gives exactly the hosts that may start, and `turn_ready` says whether the
-//! batch goes on from its current place, as `specs/MayStart.antt` says. Neither takes memory. Where each host stands is kept in a `Standings`, which
+//! For the layers above: a `View` is what a strategy sees of a run; `ready` gives exactly the hosts that may start, `may_start` says it of one, and
+//! `turn_ready` says whether the batch goes on from its current place, as `specs/MayStart.antt` says. None of them takes memory. Where each host stands is kept in a `Standings`, which
 //! contracts see as a plain list: the layer above says of a host where it stands as that changes (`put`), and lends the list to a view.
 #![tactic(auto)]
 
+mod single;
 pub mod standings;
 pub mod starts;
 pub mod strategy;
 pub mod view;
 
+pub use single::may_start;
 pub use standings::{Standing, Standings};
 pub use starts::{ready, turn_ready};
 pub use strategy::Strategy;

@@ -1,6 +1,6 @@
 //! Where each host stands.
 
-ghost use Rattle.std.specs.Prelude.{◌≡◌, ◌<◌, ◌&&◌, ◌^◌, ℕ, List, Option, Some, None, IfOk, length, map, not, count_by, replicate, slice_get, slice_set};
+ghost use Rattle.std.specs.Prelude.{◌≡◌, ◌<◌, ◌&&◌, ◌^◌, ℕ, List, Option, Some, None, IfOk, false, length, map, not, count_by, replicate, slice_get, slice_set};
 ghost use Rattle.std.specs.List.{list_any};
 ghost use Rattle.std.specs.Simd.Lanes.{zip2};
 ghost use Rattle.pb_limits.specs.Counts.{limits_of, running, running_at};
@@ -65,7 +65,7 @@ impl Model for Standings {
 }
 
 /// Whether both are the same place.
-fn same_place(one: Option<usize>, other: Option<usize>) -> bool
+pub(crate) fn same_place(one: Option<usize>, other: Option<usize>) -> bool
     ensures { result ≡ same_place one other }
 {
     match (one, other) {
@@ -113,6 +113,15 @@ fn copy_into(from: &HostSet, set: &mut HostSet)
     set.or_with(from);
 }
 
+/// Takes all hosts out of a set that is as wide as another.
+fn empty_by(other: &HostSet, set: &mut HostSet)
+    requires { length set.old ≡ length other.now }
+    ensures { set.new ≡ replicate (length set.old) false }
+{
+    set.and_with(other);
+    set.minus_with(other);
+}
+
 /// Puts the hosts whose next place is this one into a set.
 fn next_at_into(hosts: &[Standing], place: Option<usize>, set: &mut HostSet)
     requires { length set.old ≡ length hosts.now }
@@ -140,7 +149,7 @@ fn count_at(hosts: &[Standing], place: usize) -> u32
 }
 
 /// Whether some host's next place is this one.
-fn some_next(hosts: &[Standing], place: usize) -> bool
+pub(crate) fn some_next(hosts: &[Standing], place: usize) -> bool
     ensures { result ≡ list_any (is_next_at (Some place)) hosts.now }
 {
     for host in hosts {
@@ -230,6 +239,14 @@ impl Standings {
         copy_into(&self.begun, set);
         set.and_with(&self.unended);
         set.count()
+    }
+
+    /// Takes all hosts out of a set.
+    pub(crate) fn none_into(&self, set: &mut HostSet)
+        requires { length set.old ≡ length self.now }
+        ensures { set.new ≡ replicate (length set.old) false }
+    {
+        empty_by(&self.running, set);
     }
 
     /// Puts the hosts that wait to start a task into a set.

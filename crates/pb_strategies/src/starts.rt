@@ -16,18 +16,8 @@ use pb_ids::HostNo;
 use pb_limits::limits::is_below;
 use pb_planes::HostSet;
 
-/// Takes all hosts out of a set.
-fn none_into(set: &mut HostSet)
-    ensures { set.new ≡ replicate (length set.old) false }
-{
-    let width = set.width();
-    for i in 0..width {
-        set.remove(HostNo(i));
-    }
-}
-
 /// Whether hosts may run beside those that do.
-fn has_room(view: &View) -> bool
+pub(crate) fn has_room(view: &View) -> bool
     ensures { result ≡ has_room view.now }
 {
     !view.is_stopped && view.hosts.running() < view.forks
@@ -44,7 +34,7 @@ fn throttle_at(throttles: &[u32], place: usize) -> u32
 }
 
 /// Whether hosts may run the task at a place beside those that do.
-fn has_room_at(view: &View, place: usize) -> bool
+pub(crate) fn has_room_at(view: &View, place: usize) -> bool
     ensures { result ≡ has_room_at view.now place }
 {
     is_below(
@@ -54,7 +44,7 @@ fn has_room_at(view: &View, place: usize) -> bool
 }
 
 /// Whether the task at a place runs once.
-fn runs_once(view: &View, place: usize) -> bool
+pub(crate) fn runs_once(view: &View, place: usize) -> bool
     ensures { result ≡ runs_once view.now place }
 {
     match view.run_once.get(place) {
@@ -64,7 +54,7 @@ fn runs_once(view: &View, place: usize) -> bool
 }
 
 /// Whether no host runs the task at a place, which runs once, and it isn't settled.
-fn is_open_once(view: &View, place: usize) -> bool
+pub(crate) fn is_open_once(view: &View, place: usize) -> bool
     ensures { result ≡ is_open_once view.now place }
 {
     view.hosts.running_at(place) == 0 && !view.is_settled
@@ -176,11 +166,12 @@ fn is_running(hosts: &Standings, host: HostNo) -> bool
 }
 
 /// Puts one host alone into a set, or none.
-fn one_into(host: HostNo, is_in: bool, set: &mut HostSet)
-    requires { host.0 < length set.old }
+fn one_into(hosts: &Standings, host: HostNo, is_in: bool, set: &mut HostSet)
+    requires width { length set.old ≡ length hosts.now }
+    requires host { host.0 < length set.old }
     ensures { set.new ≡ slice_set (replicate (length set.old) false) host.0 is_in }
 {
-    none_into(set);
+    hosts.none_into(set);
     set.put(host, is_in);
 }
 
@@ -191,7 +182,7 @@ fn first_into(hosts: &Standings, place: usize, set: &mut HostSet)
 {
     hosts.next_into(place, set);
     if let Some(first) = set.next_at(0) {
-        one_into(first, !is_running(hosts, first), set);
+        one_into(hosts, first, !is_running(hosts, first), set);
     }
 }
 
@@ -209,7 +200,7 @@ fn linear_at(view: &View, place: usize, set: &mut HostSet)
     } else if is_open_once(view, place) {
         first_into(view.hosts, place, set);
     } else {
-        none_into(set);
+        view.hosts.none_into(set);
     }
 }
 
@@ -225,10 +216,10 @@ fn linear_into(view: &View, set: &mut HostSet)
             if has_room_at(view, place) {
                 linear_at(view, place, set);
             } else {
-                none_into(set);
+                view.hosts.none_into(set);
             }
         }
-        None => none_into(set),
+        None => view.hosts.none_into(set),
     }
 }
 
@@ -238,7 +229,7 @@ pub fn ready(view: &View, set: &mut HostSet)
     ensures { set.new ≡ ready view.now }
 {
     if !has_room(view) {
-        none_into(set);
+        view.hosts.none_into(set);
         return;
     }
     match view.strategy {

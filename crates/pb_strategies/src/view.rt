@@ -5,6 +5,7 @@ use crate::strategy::Strategy;
 use std::marker::Model;
 
 /// What a strategy sees of a run in which a batch is open.
+#[derive(Drop)]
 pub struct View<'a> {
     pub strategy: Strategy,
     /// How many hosts may run at once.

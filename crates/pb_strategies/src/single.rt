@@ -1,0 +1,97 @@
+//! Whether one host may start its next task.
+
+ghost use Rattle.std.specs.Prelude.{◌≡◌, take, count_by};
+ghost use Rattle.pb_strategies.specs.Hosts.{is_under_way};
+ghost use Rattle.pb_strategies.specs.MayStart.{is_first_at, may_run_once, has_room_to_begin, suits, may_start_at, may_start_from, may_start};
+
+use crate::standings::{Standing, same_place, some_next};
+use crate::starts::{has_room, has_room_at, is_open_once, runs_once};
+use crate::strategy::Strategy;
+use crate::view::View;
+use pb_ids::HostNo;
+
+/// The hosts before this one.
+fn before(hosts: &[Standing], host: usize) -> &[Standing]
+    ensures { result.now ≡ take host hosts.now }
+{
+    if host < hosts.len() {
+        &hosts[..host]
+    } else {
+        hosts
+    }
+}
+
+/// Whether no host before this one has this next place.
+fn is_first_at(hosts: &[Standing], place: usize, host: usize) -> bool
+    ensures { result ≡ is_first_at hosts.now place host }
+{
+    !some_next(before(hosts, host), place)
+}
+
+/// Whether a host starts a task that runs once.
+fn may_run_once(view: &View, host: usize, place: usize) -> bool
+    ensures { result ≡ may_run_once view.now host place }
+{
+    is_open_once(view, place) && is_first_at(view.hosts.as_slice(), place, host)
+}
+
+/// Whether a host has begun and isn't at its end.
+fn is_under_way(host: &Standing) -> bool
+    ensures { result ≡ is_under_way host.now }
+{
+    host.has_begun && host.next.is_some()
+}
+
+/// How many hosts have begun and aren't at their end.
+fn under_way(hosts: &[Standing]) -> usize
+    ensures { result ≡ count_by is_under_way hosts.now }
+{
+    hosts.iter().filter(|host| is_under_way(host)).count()
+}
+
+/// Whether a host may begin.
+fn has_room_to_begin(view: &View) -> bool
+    ensures { result ≡ has_room_to_begin view.now }
+{
+    under_way(view.hosts.as_slice()) < view.forks as usize
+}
+
+/// What the strategy asks of a host whose next place is this one.
+fn suits(view: &View, host: usize, standing: Standing, place: usize) -> bool
+    ensures { result ≡ suits view.now.strategy view.now host standing place }
+{
+    match view.strategy {
+        Strategy::Linear => {
+            same_place(view.place, Some(place))
+                && (!runs_once(view, place) || may_run_once(view, host, place))
+        }
+        Strategy::Free => true,
+        Strategy::HostPinned => standing.has_begun || has_room_to_begin(view),
+    }
+}
+
+/// Whether a host that stands here may start, where hosts may run beside those that do.
+fn may_start_from(view: &View, host: usize, standing: Standing) -> bool
+    ensures { result ≡ may_start_from view.now host standing }
+{
+    if standing.runs.is_some() {
+        return false;
+    }
+    match standing.next {
+        Some(place) => has_room_at(view, place) && suits(view, host, standing, place),
+        None => false,
+    }
+}
+
+/// Whether a host may start its next task. Under `HostPinned` it looks at all hosts where this one hasn't begun.
+pub fn may_start(view: &View, host: HostNo) -> bool
+    ensures { result ≡ may_start view.now host.0 }
+{
+    if !has_room(view) {
+        return false;
+    }
+    match view.hosts.as_slice().get(host.0 as usize) {
+        Some(standing) => may_start_from(view, host.0 as usize, *standing),
+        None => false,
+    }
+}
