@@ -13,7 +13,7 @@ pub mod fault;
 mod glob;
 mod hits;
 pub mod meaning;
-mod number;
+pub mod number;
 mod order;
 pub mod pattern;
 mod reading;

@@ -8,6 +8,7 @@ use Rattle.pb_written.specs.Simple.{switched}
 use Rattle.pb_written.specs.Conditions.{conditions}
 use Rattle.pb_play.specs.NoEffect.{has_no_effect, key, key_or}
 use Rattle.pb_play.specs.Nodes.{Written, Nothing, Block}
+use Rattle.pb_play.specs.Throttles.{throttle}
 use Rattle.pb_play.specs.Variables.{variables}
 use Rattle.pb_play.specs.declared.blocks.Early.{Early}
 use Rattle.pb_written.specs.declared.fault.LoadFault.{LoadFault}
@@ -34,10 +35,11 @@ told_of_block = do
 -- the block, whose keys up to `rescue` have told this
 abbrev pub rest_of_block : Early → Option Bool → Written → Part WithoutEffect LoadFault Written
 rest_of_block early ignore_errors rescue = do
+  throttle ← key (codes "throttle") throttle
   vars ← key_or (codes "vars") variables []
   conditions ← key_or (codes "when") conditions []
   _ ← others has_no_effect
-  rule (Ok (Block (record { conditions = conditions; vars = vars; ignore_errors = ignore_errors }) early.body rescue early.always Nothing))
+  rule (Ok (Block (record { conditions = conditions; vars = vars; ignore_errors = ignore_errors; throttle = throttle }) early.body rescue early.always Nothing))
 
 abbrev pub late : Lists → Early → Option Bool → Part WithoutEffect LoadFault Written
 late nodes early ignore_errors = do

@@ -9,6 +9,7 @@ use Rattle.pb_reading.specs.Fields.{◌>>=◌, Part, others, object, rule, value
 use Rattle.pb_reading.specs.Reading.{Reading, each_of, required}
 use Rattle.pb_reading.specs.Simple.{text}
 use Rattle.pb_role_entries.specs.RoleEntries.{role_entry}
+use Rattle.pb_play.specs.Batches.{serial, sizes}
 use Rattle.pb_play.specs.Gathering.{begun}
 use Rattle.pb_play.specs.Handlers.{handler}
 use Rattle.pb_play.specs.Hosts.{hosts, expressions_of_hosts}
@@ -16,13 +17,16 @@ use Rattle.pb_play.specs.NodeLists.{node_list}
 use Rattle.pb_play.specs.Nodes.{Nothing}
 use Rattle.pb_play.specs.NoEffect.{has_no_effect, key, key_or}
 use Rattle.pb_written.specs.Simple.{switched}
+use Rattle.pb_play.specs.Strategies.{strategy}
 use Rattle.pb_play.specs.Variables.{variables}
 use Rattle.pb_written.specs.declared.fault.LoadFault.{LoadFault}
 use Rattle.pb_play.specs.declared.hosts.PlayHosts.{PlayHosts}
 use Rattle.pb_play.specs.declared.other_keys.WithoutEffect.{WithoutEffect}
 use Rattle.pb_play.specs.declared.play.BeforeHosts.{BeforeHosts}
 use Rattle.pb_play.specs.declared.play.Lists.{Lists}
+use Rattle.pb_play.specs.declared.play.Manner.{Manner}
 use Rattle.pb_play.specs.declared.play.Play.{Play}
+use Rattle.pb_strategies.specs.declared.strategy.Strategy.TheVariants.{Linear}
 
 -- what the keys in front of `hosts` say; a play that doesn't say whether it gathers facts does (Ansible's documentation, "Playbook Keywords", gather_facts)
 abbrev pub before_hosts : Part WithoutEffect LoadFault BeforeHosts
@@ -32,14 +36,22 @@ before_hosts = do
   handlers ← key_or (codes "handlers") (each_of handler) []
   rule (Ok (record { force_handlers = force_handlers; gathers = gathers; handlers = handlers }))
 
--- the lists of nodes, and the one of roles
+-- how the hosts go through a play: a play that doesn't say so goes over all of them at once, task by task
+abbrev pub manner : Part WithoutEffect LoadFault Manner
+manner = do
+  serial ← key_or (codes "serial") serial (sizes [])
+  strategy ← key_or (codes "strategy") strategy Linear
+  rule (Ok (record { serial = serial; strategy = strategy }))
+
+-- the lists of nodes, and the one of roles, with what stands between their keys
 abbrev pub lists : Part WithoutEffect LoadFault Lists
 lists = do
   post_tasks ← key_or (codes "post_tasks") node_list Nothing
   pre_tasks ← key_or (codes "pre_tasks") node_list Nothing
   roles ← key_or (codes "roles") (each_of role_entry) []
+  manner ← manner
   tasks ← key_or (codes "tasks") node_list Nothing
-  rule (Ok (record { post_tasks = post_tasks; pre_tasks = pre_tasks; roles = roles; tasks = tasks }))
+  rule (Ok (record { post_tasks = post_tasks; pre_tasks = pre_tasks; roles = roles; manner = manner; tasks = tasks }))
 
 -- where it gathers facts, it begins with that
 abbrev pub play_of : BeforeHosts → List ℕ → List Element → List (List ℕ × Datum) → Bool → Lists → Play
@@ -55,6 +67,8 @@ play_of before name hosts vars ignore_errors lists =
       roles = lists.roles;
       handlers = before.handlers;
       force_handlers = before.force_handlers;
+      strategy = lists.manner.strategy;
+      serial = lists.manner.serial;
     }
 
 -- a play behind its hosts; one without a name has its pattern's text as it is written, and one without variables has none

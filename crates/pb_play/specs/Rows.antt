@@ -4,6 +4,7 @@ use Rattle.std.specs.Fmt.{digits}
 use Rattle.std.specs.Str.{chars, is_utf8}
 use Rattle.std.specs.Str.Lossy.{utf8_valid_len}
 use Rattle.serde_json.proofs.OnLiterals.{serde_json_on_literals}
+use Rattle.pb_batches.specs.declared.serial.Entry.TheVariants.{Number, Percent}
 use Rattle.pb_value.specs.Bytes.{json_in}
 use Rattle.pb_expr_syntax.specs.Computed.{tree_of, tree_of_tokens}
 use Rattle.pb_expr_syntax.specs.Tree.{Name, Truth}
@@ -17,6 +18,7 @@ use Rattle.pb_patterns.specs.declared.element.Subscript.TheVariants.{At}
 use Rattle.pb_patterns.specs.declared.element.What.TheVariants.{Term, Regex}
 use Rattle.pb_written.specs.Conditions.{conditions}
 use Rattle.pb_role_entries.specs.RoleEntries.{named_alone, role_entry}
+use Rattle.pb_play.specs.Batches.{sizes}
 use Rattle.pb_play.specs.Handlers.{handler}
 use Rattle.pb_play.specs.Playbooks.{playbook_of, expressions_of_book}
 use Rattle.pb_reading.specs.Fields.{field, field_or, others}
@@ -25,10 +27,11 @@ use Rattle.pb_play.specs.NodeLists.{nodes}
 use Rattle.pb_play.specs.Nodes.{Written, Nothing, Task}
 use Rattle.pb_play.specs.Tasks.{task, tells_of_task, plain_task}
 use Rattle.pb_written.specs.Templates.{is_template}
-use Rattle.pb_written.specs.declared.fault.LoadFault.TheVariants.{NotJson, WrongShape, NotInProfile, NoModule, TwoModules, BadExpression, BadPattern}
+use Rattle.pb_written.specs.declared.fault.LoadFault.TheVariants.{NotJson, WrongShape, NotInProfile, NoModule, TwoModules, BadExpression, BadSerial, BadStrategy, BadPattern}
 use Rattle.pb_play.specs.declared.commands.CommandWords.TheVariants.{Line, Argv}
 use Rattle.pb_play.specs.declared.modules.Module.TheVariants.{Assert, Command, Debug, DebugVar, Fail, SetFact, Setup, Shell}
 use Rattle.pb_play.specs.declared.task.Task as declared
+use Rattle.pb_strategies.specs.declared.strategy.Strategy.TheVariants.{Linear, Free}
 
 -- what computes a row from its text
 unfoldable on_literals : ⊤
@@ -45,13 +48,13 @@ abbrev all_hosts : List Element
 all_hosts = record { text = codes "all"; mark = Unmarked; what = Term (codes "all") None } ∷ []
 
 hello : playbook_of (codes "[{\"hosts\":\"all\",\"gather_facts\":false,\"tasks\":[{\"name\":\"hi\",\"debug\":{\"msg\":\"hello\"}}]}]")
-    ≡ Ok (record { plays = record { name = codes "all"; hosts = all_hosts; vars = []; ignore_errors = false; pre_tasks = Nothing; tasks = only (plain_task (codes "hi") [] (Debug (text (codes "hello"))) ∷ []); post_tasks = Nothing; roles = []; handlers = []; force_handlers = false } ∷ [] })
+    ≡ Ok (record { plays = record { name = codes "all"; hosts = all_hosts; vars = []; ignore_errors = false; pre_tasks = Nothing; tasks = only (plain_task (codes "hi") [] (Debug (text (codes "hello"))) ∷ []); post_tasks = Nothing; roles = []; handlers = []; force_handlers = false; strategy = Linear; serial = sizes [] } ∷ [] })
 unfolding on_literals
 hello = refl
 
 -- a task without a name has its module's, without the prefix; `debug` shows `Hello world!` where nothing is said
 nothing_said : playbook_of (codes "[{\"hosts\":\"all\",\"name\":\"p\",\"gather_facts\":\"No\",\"tasks\":[{\"ansible.builtin.debug\":{}}]}]")
-    ≡ Ok (record { plays = record { name = codes "p"; hosts = all_hosts; vars = []; ignore_errors = false; pre_tasks = Nothing; tasks = only (plain_task (codes "debug") [] (Debug (text (codes "Hello world!"))) ∷ []); post_tasks = Nothing; roles = []; handlers = []; force_handlers = false } ∷ [] })
+    ≡ Ok (record { plays = record { name = codes "p"; hosts = all_hosts; vars = []; ignore_errors = false; pre_tasks = Nothing; tasks = only (plain_task (codes "debug") [] (Debug (text (codes "Hello world!"))) ∷ []); post_tasks = Nothing; roles = []; handlers = []; force_handlers = false; strategy = Linear; serial = sizes [] } ∷ [] })
 unfolding on_literals
 nothing_said = refl
 
@@ -75,7 +78,7 @@ no_arguments = refl
 
 -- a template is kept as it is written
 template : playbook_of (codes "[{\"hosts\":\"all\",\"gather_facts\":false,\"tasks\":[{\"debug\":{\"msg\":\"{{ x }}\"}}]}]")
-    ≡ Ok (record { plays = record { name = codes "all"; hosts = all_hosts; vars = []; ignore_errors = false; pre_tasks = Nothing; tasks = only (plain_task (codes "debug") [] (Debug (text (codes "{{ x }}"))) ∷ []); post_tasks = Nothing; roles = []; handlers = []; force_handlers = false } ∷ [] })
+    ≡ Ok (record { plays = record { name = codes "all"; hosts = all_hosts; vars = []; ignore_errors = false; pre_tasks = Nothing; tasks = only (plain_task (codes "debug") [] (Debug (text (codes "{{ x }}"))) ∷ []); post_tasks = Nothing; roles = []; handlers = []; force_handlers = false; strategy = Linear; serial = sizes [] } ∷ [] })
 unfolding on_literals
 template = refl
 
@@ -99,7 +102,7 @@ no_hosts = refl
 
 -- facts are gathered where that isn't switched off: a play's first task does it, in front of its pre_tasks
 gathering : playbook_of (codes "[{\"hosts\":\"all\"}]")
-    ≡ Ok (record { plays = record { name = codes "all"; hosts = all_hosts; vars = []; ignore_errors = false; pre_tasks = only (plain_task (codes "Gathering Facts") [] Setup ∷ []); tasks = Nothing; post_tasks = Nothing; roles = []; handlers = []; force_handlers = false } ∷ [] })
+    ≡ Ok (record { plays = record { name = codes "all"; hosts = all_hosts; vars = []; ignore_errors = false; pre_tasks = only (plain_task (codes "Gathering Facts") [] Setup ∷ []); tasks = Nothing; post_tasks = Nothing; roles = []; handlers = []; force_handlers = false; strategy = Linear; serial = sizes [] } ∷ [] })
 unfolding on_literals
 gathering = refl
 
@@ -117,6 +120,8 @@ gathering_first : playbook_of (codes "[{\"hosts\":\"all\",\"gather_facts\":\"Yes
         roles = [];
         handlers = [];
         force_handlers = false;
+        strategy = Linear;
+        serial = sizes [];
       } ∷ [];
     })
 unfolding on_literals
@@ -140,6 +145,8 @@ text_of_hosts : playbook_of (codes "[{\"hosts\":\" web : &db\",\"gather_facts\":
         roles = [];
         handlers = [];
         force_handlers = false;
+        strategy = Linear;
+        serial = sizes [];
       } ∷ [];
     })
 unfolding on_literals
@@ -159,6 +166,8 @@ list_of_hosts : playbook_of (codes "[{\"hosts\":[\"web[0]\",\" \",\"!a\"],\"gath
         roles = [];
         handlers = [];
         force_handlers = false;
+        strategy = Linear;
+        serial = sizes [];
       } ∷ [];
     })
 unfolding on_literals
@@ -166,7 +175,7 @@ list_of_hosts = refl
 
 -- `~` alone is the empty regular expression
 empty_regex : playbook_of (codes "[{\"hosts\":\"~\",\"gather_facts\":false}]")
-    ≡ Ok (record { plays = record { name = codes "~"; hosts = record { text = codes "~"; mark = Unmarked; what = Regex [] } ∷ []; vars = []; ignore_errors = false; pre_tasks = Nothing; tasks = Nothing; post_tasks = Nothing; roles = []; handlers = []; force_handlers = false } ∷ [] })
+    ≡ Ok (record { plays = record { name = codes "~"; hosts = record { text = codes "~"; mark = Unmarked; what = Regex [] } ∷ []; vars = []; ignore_errors = false; pre_tasks = Nothing; tasks = Nothing; post_tasks = Nothing; roles = []; handlers = []; force_handlers = false; strategy = Linear; serial = sizes [] } ∷ [] })
 unfolding on_literals
 empty_regex = refl
 
@@ -223,6 +232,8 @@ three_lists : playbook_of (codes "[{\"hosts\":\"all\",\"gather_facts\":false,\"p
         roles = [];
         handlers = [];
         force_handlers = false;
+        strategy = Linear;
+        serial = sizes [];
       } ∷ [];
     })
 unfolding on_literals
@@ -234,12 +245,12 @@ no_pre_task = refl
 
 -- keys without effect aren't read as values
 without_effect_on_plays : playbook_of (codes "[{\"hosts\":\"all\",\"gather_facts\":false,\"connection\":\"local\",\"gather_subset\":1.5,\"no_log\":\"Off\",\"remote_user\":1.5,\"tags\":\"nevermore,always\"}]")
-    ≡ Ok (record { plays = record { name = codes "all"; hosts = all_hosts; vars = []; ignore_errors = false; pre_tasks = Nothing; tasks = Nothing; post_tasks = Nothing; roles = []; handlers = []; force_handlers = false } ∷ [] })
+    ≡ Ok (record { plays = record { name = codes "all"; hosts = all_hosts; vars = []; ignore_errors = false; pre_tasks = Nothing; tasks = Nothing; post_tasks = Nothing; roles = []; handlers = []; force_handlers = false; strategy = Linear; serial = sizes [] } ∷ [] })
 unfolding on_literals
 without_effect_on_plays = refl
 
 without_effect_on_tasks : playbook_of (codes "[{\"hosts\":\"all\",\"gather_facts\":false,\"tasks\":[{\"debug\":{},\"connection\":\"local\",\"gather_subset\":1.5,\"no_log\":false,\"remote_user\":1.5,\"tags\":[1.5,\"a\"]}]}]")
-    ≡ Ok (record { plays = record { name = codes "all"; hosts = all_hosts; vars = []; ignore_errors = false; pre_tasks = Nothing; tasks = only (plain_task (codes "debug") [] (Debug (text (codes "Hello world!"))) ∷ []); post_tasks = Nothing; roles = []; handlers = []; force_handlers = false } ∷ [] })
+    ≡ Ok (record { plays = record { name = codes "all"; hosts = all_hosts; vars = []; ignore_errors = false; pre_tasks = Nothing; tasks = only (plain_task (codes "debug") [] (Debug (text (codes "Hello world!"))) ∷ []); post_tasks = Nothing; roles = []; handlers = []; force_handlers = false; strategy = Linear; serial = sizes [] } ∷ [] })
 unfolding on_literals
 without_effect_on_tasks = refl
 
@@ -276,6 +287,8 @@ commands : playbook_of (codes "[{\"hosts\":\"all\",\"gather_facts\":false,\"task
         roles = [];
         handlers = [];
         force_handlers = false;
+        strategy = Linear;
+        serial = sizes [];
       } ∷ [];
     })
 unfolding on_literals
@@ -294,6 +307,8 @@ shells : playbook_of (codes "[{\"hosts\":\"all\",\"gather_facts\":false,\"tasks\
         roles = [];
         handlers = [];
         force_handlers = false;
+        strategy = Linear;
+        serial = sizes [];
       } ∷ [];
     })
 unfolding on_literals
@@ -312,6 +327,8 @@ fails : playbook_of (codes "[{\"hosts\":\"all\",\"gather_facts\":false,\"tasks\"
         roles = [];
         handlers = [];
         force_handlers = false;
+        strategy = Linear;
+        serial = sizes [];
       } ∷ [];
     })
 unfolding on_literals
@@ -331,6 +348,8 @@ setups : playbook_of (codes "[{\"hosts\":\"all\",\"gather_facts\":false,\"tasks\
         roles = [];
         handlers = [];
         force_handlers = false;
+        strategy = Linear;
+        serial = sizes [];
       } ∷ [];
     })
 unfolding on_literals
@@ -388,6 +407,8 @@ no_template_in_key : playbook_of (codes "[{\"hosts\":\"all\",\"gather_facts\":fa
         roles = [];
         handlers = [];
         force_handlers = false;
+        strategy = Linear;
+        serial = sizes [];
       } ∷ [];
     })
 unfolding on_literals
@@ -407,6 +428,8 @@ variables : playbook_of (codes "[{\"hosts\":\"all\",\"gather_facts\":false,\"var
         roles = [];
         handlers = [];
         force_handlers = false;
+        strategy = Linear;
+        serial = sizes [];
       } ∷ [];
     })
 unfolding on_literals
@@ -426,7 +449,7 @@ no_template_in_variable = refl
 
 -- `debug` shows the value of an expression, which stands without braces
 shown : playbook_of (codes "[{\"hosts\":\"all\",\"gather_facts\":false,\"tasks\":[{\"debug\":{\"var\":\"x\"}}]}]")
-    ≡ Ok (record { plays = record { name = codes "all"; hosts = all_hosts; vars = []; ignore_errors = false; pre_tasks = Nothing; tasks = only (plain_task (codes "debug") [] (DebugVar (codes "x") (Name (codes "x"))) ∷ []); post_tasks = Nothing; roles = []; handlers = []; force_handlers = false } ∷ [] })
+    ≡ Ok (record { plays = record { name = codes "all"; hosts = all_hosts; vars = []; ignore_errors = false; pre_tasks = Nothing; tasks = only (plain_task (codes "debug") [] (DebugVar (codes "x") (Name (codes "x"))) ∷ []); post_tasks = Nothing; roles = []; handlers = []; force_handlers = false; strategy = Linear; serial = sizes [] } ∷ [] })
 unfolding on_literals
 shown = refl
 
@@ -455,7 +478,7 @@ unfolding on_literals
 other_prefix = refl
 
 -- all keys of a play at once, in the order of their bytes
-all_keys_of_play : playbook_of (codes "[{\"connection\":\"local\",\"force_handlers\":true,\"gather_facts\":false,\"gather_subset\":[],\"handlers\":[{\"shell\":\"h\"}],\"hosts\":\"all\",\"ignore_errors\":true,\"name\":\"p\",\"no_log\":false,\"post_tasks\":[{\"shell\":\"c\"}],\"pre_tasks\":[{\"shell\":\"a\"}],\"remote_user\":\"r\",\"roles\":[\"app\"],\"tags\":\"t\",\"tasks\":[{\"shell\":\"b\"}],\"vars\":{\"x\":1}}]")
+all_keys_of_play : playbook_of (codes "[{\"connection\":\"local\",\"force_handlers\":true,\"gather_facts\":false,\"gather_subset\":[],\"handlers\":[{\"shell\":\"h\"}],\"hosts\":\"all\",\"ignore_errors\":true,\"name\":\"p\",\"no_log\":false,\"post_tasks\":[{\"shell\":\"c\"}],\"pre_tasks\":[{\"shell\":\"a\"}],\"remote_user\":\"r\",\"roles\":[\"app\"],\"serial\":[1,\"50%\"],\"strategy\":\"free\",\"tags\":\"t\",\"tasks\":[{\"shell\":\"b\"}],\"vars\":{\"x\":1}}]")
     ≡ Ok (record {
       plays = record {
         name = codes "p";
@@ -468,13 +491,15 @@ all_keys_of_play : playbook_of (codes "[{\"connection\":\"local\",\"force_handle
         roles = named_alone (codes "app") ∷ [];
         handlers = record { task = plain_task (codes "shell") [] (Shell (codes "h")); listens = [] } ∷ [];
         force_handlers = true;
+        strategy = Free;
+        serial = sizes (Number (pos 1) ∷ Percent 50 ∷ []);
       } ∷ [];
     })
 unfolding on_literals
 all_keys_of_play = refl
 
 -- all keys of a task at once, with one module
-all_keys_of_task : playbook_of (codes "[{\"hosts\":\"all\",\"gather_facts\":false,\"tasks\":[{\"connection\":\"local\",\"gather_subset\":[],\"name\":\"n\",\"no_log\":false,\"remote_user\":\"r\",\"shell\":\"a\",\"tags\":\"t\",\"vars\":{\"x\":1}}]}]")
+all_keys_of_task : playbook_of (codes "[{\"hosts\":\"all\",\"gather_facts\":false,\"tasks\":[{\"connection\":\"local\",\"gather_subset\":[],\"name\":\"n\",\"no_log\":false,\"remote_user\":\"r\",\"shell\":\"a\",\"tags\":\"t\",\"throttle\":2,\"vars\":{\"x\":1}}]}]")
     ≡ Ok (record {
       plays = record {
         name = codes "all";
@@ -482,11 +507,13 @@ all_keys_of_task : playbook_of (codes "[{\"hosts\":\"all\",\"gather_facts\":fals
         vars = [];
         ignore_errors = false;
         pre_tasks = Nothing;
-        tasks = only (plain_task (codes "n") ((codes "x", int (pos 1)) ∷ []) (Shell (codes "a")) ∷ []);
+        tasks = only (record (plain_task (codes "n") ((codes "x", int (pos 1)) ∷ []) (Shell (codes "a"))) { throttle = Some 2 } ∷ []);
         post_tasks = Nothing;
         roles = [];
         handlers = [];
         force_handlers = false;
+        strategy = Linear;
+        serial = sizes [];
       } ∷ [];
     })
 unfolding on_literals
@@ -514,6 +541,8 @@ all_arguments_of_fail_and_shell : playbook_of (codes "[{\"hosts\":\"all\",\"gath
         roles = [];
         handlers = [];
         force_handlers = false;
+        strategy = Linear;
+        serial = sizes [];
       } ∷ [];
     })
 unfolding on_literals
@@ -538,6 +567,8 @@ keys_of_a_task : playbook_of (codes "[{\"hosts\":\"all\",\"gather_facts\":false,
         roles = [];
         handlers = [];
         force_handlers = false;
+        strategy = Linear;
+        serial = sizes [];
       } ∷ [];
     })
 unfolding on_literals
@@ -559,6 +590,8 @@ keys_of_a_play : playbook_of (codes "[{\"hosts\":\"all\",\"gather_facts\":false,
         roles = [];
         handlers = [];
         force_handlers = false;
+        strategy = Linear;
+        serial = sizes [];
       } ∷ [];
     })
 unfolding on_literals
@@ -585,6 +618,8 @@ keys_of_a_result : playbook_of (codes "[{\"hosts\":\"all\",\"gather_facts\":fals
         roles = [];
         handlers = [];
         force_handlers = false;
+        strategy = Linear;
+        serial = sizes [];
       } ∷ [];
     })
 unfolding on_literals
@@ -613,6 +648,8 @@ notified : playbook_of (codes "[{\"hosts\":\"all\",\"gather_facts\":false,\"task
         roles = [];
         handlers = [];
         force_handlers = false;
+        strategy = Linear;
+        serial = sizes [];
       } ∷ [];
     })
 unfolding on_literals
@@ -650,13 +687,15 @@ keys_of_roles_and_handlers : playbook_of (codes "[{\"force_handlers\":\"on\",\"g
             record { task = record (plain_task (codes "h") [] Setup) { notify = codes "g" ∷ []; register = Some (codes "r") }; listens = codes "web" ∷ [] } ∷
             record { task = plain_task (codes "shell") [] (Shell (codes "a")); listens = [] } ∷ [];
         force_handlers = true;
+        strategy = Linear;
+        serial = sizes [];
       } ∷ [];
     })
 unfolding on_literals
 keys_of_roles_and_handlers = refl
 
 -- all keys of a handler at once, with one module
-all_keys_of_handler : playbook_of (codes "[{\"gather_facts\":false,\"handlers\":[{\"changed_when\":\"a\",\"failed_when\":\"b\",\"ignore_errors\":true,\"listen\":[\"web\",\"db\"],\"loop\":[1],\"loop_control\":{\"loop_var\":\"v\"},\"name\":\"n\",\"notify\":[\"g\"],\"register\":\"r\",\"setup\":{},\"vars\":{\"x\":1},\"when\":\"c\"}],\"hosts\":\"all\"}]")
+all_keys_of_handler : playbook_of (codes "[{\"gather_facts\":false,\"handlers\":[{\"changed_when\":\"a\",\"failed_when\":\"b\",\"ignore_errors\":true,\"listen\":[\"web\",\"db\"],\"loop\":[1],\"loop_control\":{\"loop_var\":\"v\"},\"name\":\"n\",\"notify\":[\"g\"],\"register\":\"r\",\"setup\":{},\"throttle\":0,\"vars\":{\"x\":1},\"when\":\"c\"}],\"hosts\":\"all\"}]")
     ≡ Ok (record {
       plays = record {
         name = codes "all";
@@ -679,11 +718,14 @@ all_keys_of_handler : playbook_of (codes "[{\"gather_facts\":false,\"handlers\":
                 changed_when = Some (Name (codes "a") ∷ []);
                 failed_when = Some (Name (codes "b") ∷ []);
                 ignore_errors = Some true;
+                throttle = Some 0;
                 notify = codes "g" ∷ [];
               };
               listens = codes "web" ∷ codes "db" ∷ [];
             } ∷ [];
         force_handlers = false;
+        strategy = Linear;
+        serial = sizes [];
       } ∷ [];
     })
 unfolding on_literals
@@ -747,3 +789,29 @@ refused_at_entry = refl
 fault_in_front : playbook_of (codes "[{\"hosts\":\"all\",\"gather_facts\":false,\"tasks\":[{\"name\":1,\"when\":\"x\"}]}]") ≡ Err (WrongShape (codes "0/tasks/0/name"))
 unfolding on_literals
 fault_in_front = refl
+
+-- the sizes of batches and the strategy are read between `roles` and `tasks`
+serial_behind_roles : playbook_of (codes "[{\"hosts\":\"all\",\"roles\":\"app\",\"serial\":\"x\"}]") ≡ Err (WrongShape (codes "0/roles"))
+unfolding on_literals
+serial_behind_roles = refl
+
+serial_first : playbook_of (codes "[{\"hosts\":\"all\",\"serial\":\"x\",\"strategy\":\"y\",\"tasks\":1}]") ≡ Err (BadSerial)
+unfolding on_literals
+serial_first = refl
+
+strategy_before_tasks : playbook_of (codes "[{\"hosts\":\"all\",\"serial\":0,\"strategy\":\"debug\",\"tasks\":1}]") ≡ Err (BadStrategy)
+unfolding on_literals
+strategy_before_tasks = refl
+
+-- a throttle stands on tasks, handlers and blocks
+play_with_throttle : playbook_of (codes "[{\"hosts\":\"all\",\"throttle\":1,\"vars\":1}]") ≡ Err (NotInProfile (codes "throttle"))
+unfolding on_literals
+play_with_throttle = refl
+
+no_throttle_of_task : playbook_of (codes "[{\"hosts\":\"all\",\"tasks\":[{\"setup\":{},\"throttle\":\"1\",\"vars\":1}]}]") ≡ Err (WrongShape (codes "0/tasks/0/throttle"))
+unfolding on_literals
+no_throttle_of_task = refl
+
+no_throttle_of_handler : playbook_of (codes "[{\"handlers\":[{\"register\":\"r\",\"setup\":{},\"throttle\":-1}],\"hosts\":\"all\"}]") ≡ Err (WrongShape (codes "0/handlers/0/throttle"))
+unfolding on_literals
+no_throttle_of_handler = refl

@@ -1,5 +1,5 @@
 -- Worked values of single keys and modules: what stands at the path `p`, as JSON spells it, and what it is read as.
-use Rattle.std.specs.Prelude.{◌≡◌, ⊤, ℕ, true, false, List, [], ◌∷◌, Option, Some, None, Ok, Err, codes, option_map, pos, refl}
+use Rattle.std.specs.Prelude.{◌≡◌, ⊤, ℕ, true, false, List, [], ◌∷◌, Option, Some, None, Ok, Err, codes, option_map, pos, negsuc, refl}
 use Rattle.std.specs.Fmt.{digits}
 use Rattle.std.specs.Str.{chars, is_utf8}
 use Rattle.std.specs.Str.Lossy.{utf8_valid_len}
@@ -8,6 +8,7 @@ use Rattle.serde_json.specs.Data as json
 use Rattle.pb_value.specs.Bytes.{json_in}
 use Rattle.pb_value.specs.Datum.{null, int, text, list, no_items, item}
 use Rattle.pb_value.specs.FromJson.{value_of}
+use Rattle.pb_batches.specs.declared.serial.Entry.TheVariants.{Number, Percent}
 use Rattle.pb_expr_syntax.specs.Computed.{tree_of, tree_of_tokens}
 use Rattle.pb_expr_syntax.specs.Tree.{Name, Truth, IsDefined}
 use Rattle.pb_template.specs.Computed.{template_of}
@@ -16,14 +17,18 @@ use Rattle.pb_reading.specs.Reading.{Reading, WrongShape, Own}
 use Rattle.pb_written.specs.Simple.{switched}
 use Rattle.pb_written.specs.Templates.{is_template}
 use Rattle.pb_play.specs.Assert.{assert}
+use Rattle.pb_play.specs.Batches.{serial, sizes}
 use Rattle.pb_written.specs.Conditions.{conditions}
 use Rattle.pb_play.specs.Facts.{set_fact, setup}
 use Rattle.pb_play.specs.Gathering.{begun}
 use Rattle.pb_play.specs.Loops.{over, control, looped}
 use Rattle.pb_play.specs.Nodes.{Nothing, Task}
+use Rattle.pb_play.specs.Strategies.{strategy}
 use Rattle.pb_play.specs.Tasks.{plain_task}
+use Rattle.pb_play.specs.Throttles.{throttle}
+use Rattle.pb_strategies.specs.declared.strategy.Strategy.TheVariants.{Linear, Free, HostPinned}
 use Rattle.pb_written.specs.declared.fault.LoadFault.{LoadFault}
-use Rattle.pb_written.specs.declared.fault.LoadFault.TheVariants.{NotInProfile, BadExpression}
+use Rattle.pb_written.specs.declared.fault.LoadFault.TheVariants.{NotInProfile, BadExpression, BadSerial, BadStrategy}
 use Rattle.pb_play.specs.declared.modules.Module.TheVariants.{Assert, Debug, SetFact, Setup}
 
 -- what computes a row from its text
@@ -199,3 +204,123 @@ gathers_first = refl
 
 gathers_not : begun false Nothing ≡ Nothing
 gathers_not = refl
+
+-- the size of a play's batches is an integer, or digits, perhaps with `%` behind them; or a list of these
+one_size : read serial (codes "2") ≡ Some (Ok (sizes (Number (pos 2) ∷ [])))
+unfolding on_literals
+one_size = refl
+
+size_as_text : read serial (codes "\"20\"") ≡ Some (Ok (sizes (Number (pos 20) ∷ [])))
+unfolding on_literals
+size_as_text = refl
+
+size_in_hundredths : read serial (codes "\"030%\"") ≡ Some (Ok (sizes (Percent 30 ∷ [])))
+unfolding on_literals
+size_in_hundredths = refl
+
+several_sizes : read serial (codes "[1,\"30%\",\"005\"]") ≡ Some (Ok (sizes (Number (pos 1) ∷ Percent 30 ∷ Number (pos 5) ∷ [])))
+unfolding on_literals
+several_sizes = refl
+
+no_sizes : read serial (codes "[]") ≡ Some (Ok (sizes []))
+unfolding on_literals
+no_sizes = refl
+
+size_below_none : read serial (codes "-1") ≡ Some (Ok (sizes (Number (negsuc 0) ∷ [])))
+unfolding on_literals
+size_below_none = refl
+
+largest_size : read serial (codes "[\"999999999\",\"999999999%\"]") ≡ Some (Ok (sizes (Number (pos 999999999) ∷ Percent 999999999 ∷ [])))
+unfolding on_literals
+largest_size = refl
+
+-- whatever else stands there is no size
+ten_digits : read serial (codes "\"1000000000\"") ≡ Some (Err (Own BadSerial))
+unfolding on_literals
+ten_digits = refl
+
+fraction_of_hosts : read serial (codes "1.5") ≡ Some (Err (Own BadSerial))
+unfolding on_literals
+fraction_of_hosts = refl
+
+size_of_nothing : read serial (codes "null") ≡ Some (Err (Own BadSerial))
+unfolding on_literals
+size_of_nothing = refl
+
+size_of_object : read serial (codes "{}") ≡ Some (Err (Own BadSerial))
+unfolding on_literals
+size_of_object = refl
+
+word_as_size : read serial (codes "\"x\"") ≡ Some (Err (Own BadSerial))
+unfolding on_literals
+word_as_size = refl
+
+no_digits : read serial (codes "\"\"") ≡ Some (Err (Own BadSerial))
+unfolding on_literals
+no_digits = refl
+
+hundredths_of_nothing : read serial (codes "\"%\"") ≡ Some (Err (Own BadSerial))
+unfolding on_literals
+hundredths_of_nothing = refl
+
+signed_digits : read serial (codes "\"-1\"") ≡ Some (Err (Own BadSerial))
+unfolding on_literals
+signed_digits = refl
+
+behind_hundredths : read serial (codes "\"5%%\"") ≡ Some (Err (Own BadSerial))
+unfolding on_literals
+behind_hundredths = refl
+
+list_of_sizes_in_list : read serial (codes "[1,[2]]") ≡ Some (Err (Own BadSerial))
+unfolding on_literals
+list_of_sizes_in_list = refl
+
+-- a strategy has one of three names
+linear_strategy : read strategy (codes "\"linear\"") ≡ Some (Ok Linear)
+unfolding on_literals
+linear_strategy = refl
+
+free_strategy : read strategy (codes "\"free\"") ≡ Some (Ok Free)
+unfolding on_literals
+free_strategy = refl
+
+pinned_strategy : read strategy (codes "\"host_pinned\"") ≡ Some (Ok HostPinned)
+unfolding on_literals
+pinned_strategy = refl
+
+strategy_in_capitals : read strategy (codes "\"Linear\"") ≡ Some (Err (Own BadStrategy))
+unfolding on_literals
+strategy_in_capitals = refl
+
+strategy_with_prefix : read strategy (codes "\"ansible.builtin.free\"") ≡ Some (Err (Own BadStrategy))
+unfolding on_literals
+strategy_with_prefix = refl
+
+number_as_strategy : read strategy (codes "1.5") ≡ Some (Err (Own BadStrategy))
+unfolding on_literals
+number_as_strategy = refl
+
+-- a throttle is an integer that isn't negative
+some_at_once : read throttle (codes "5") ≡ Some (Ok 5)
+unfolding on_literals
+some_at_once = refl
+
+all_at_once : read throttle (codes "0") ≡ Some (Ok 0)
+unfolding on_literals
+all_at_once = refl
+
+more_than_there_are : read throttle (codes "4294967296") ≡ Some (Ok 4294967295)
+unfolding on_literals
+more_than_there_are = refl
+
+fewer_than_none : read throttle (codes "-1") ≡ Some (Err (WrongShape (codes "p")))
+unfolding on_literals
+fewer_than_none = refl
+
+beyond_integers : read throttle (codes "9223372036854775808") ≡ Some (Err (WrongShape (codes "p")))
+unfolding on_literals
+beyond_integers = refl
+
+digits_as_throttle : read throttle (codes "\"1\"") ≡ Some (Err (WrongShape (codes "p")))
+unfolding on_literals
+digits_as_throttle = refl

@@ -43,12 +43,12 @@ abbrev shell : List ℕ → declared.Task
 shell s = plain_task (codes "shell") [] (Shell s)
 
 abbrev no_keys : BlockKeys
-no_keys = record { conditions = []; vars = []; ignore_errors = None }
+no_keys = record { conditions = []; vars = []; ignore_errors = None; throttle = None }
 
 -- all keys of a block at once, in the order of their bytes; a task stands behind it
-all_of_block : read (codes "[{\"always\":[{\"shell\":\"c\"}],\"block\":[{\"shell\":\"a\"}],\"ignore_errors\":true,\"name\":\"n\",\"rescue\":[{\"shell\":\"b\"}],\"vars\":{\"x\":1},\"when\":\"y\"},{\"shell\":\"d\"}]")
+all_of_block : read (codes "[{\"always\":[{\"shell\":\"c\"}],\"block\":[{\"shell\":\"a\"}],\"ignore_errors\":true,\"name\":\"n\",\"rescue\":[{\"shell\":\"b\"}],\"throttle\":3,\"vars\":{\"x\":1},\"when\":\"y\"},{\"shell\":\"d\"}]")
     ≡ Some (Ok (
-    Block (record { conditions = Name (codes "y") ∷ []; vars = (codes "x", int (pos 1)) ∷ []; ignore_errors = Some true }) (Task (shell (codes "a")) Nothing) (Task (shell (codes "b")) Nothing)
+    Block (record { conditions = Name (codes "y") ∷ []; vars = (codes "x", int (pos 1)) ∷ []; ignore_errors = Some true; throttle = Some 3 }) (Task (shell (codes "a")) Nothing) (Task (shell (codes "b")) Nothing)
     (Task (shell (codes "c")) Nothing) (Task (shell (codes "d")) Nothing)
     ))
 unfolding on_literals
@@ -58,7 +58,7 @@ nothing_in_block : read (codes "[{\"block\":[]}]") ≡ Some (Ok (Block no_keys N
 unfolding on_literals
 nothing_in_block = refl
 
-ignores_not : read (codes "[{\"block\":[],\"ignore_errors\":\"no\"}]") ≡ Some (Ok (Block (record { conditions = []; vars = []; ignore_errors = Some false }) Nothing Nothing Nothing Nothing))
+ignores_not : read (codes "[{\"block\":[],\"ignore_errors\":\"no\"}]") ≡ Some (Ok (Block (record { conditions = []; vars = []; ignore_errors = Some false; throttle = None }) Nothing Nothing Nothing Nothing))
 unfolding on_literals
 ignores_not = refl
 
@@ -99,6 +99,14 @@ no_name_of_block = refl
 no_switch_of_block : read (codes "[{\"block\":[],\"ignore_errors\":1}]") ≡ Some (Err (WrongShape (codes "p/0/ignore_errors")))
 unfolding on_literals
 no_switch_of_block = refl
+
+no_throttle_of_block : read (codes "[{\"block\":[],\"throttle\":1.5}]") ≡ Some (Err (WrongShape (codes "p/0/throttle")))
+unfolding on_literals
+no_throttle_of_block = refl
+
+throttle_of_meta : read (codes "[{\"meta\":\"noop\",\"throttle\":1}]") ≡ Some (Err (Own (NotInProfile (codes "throttle"))))
+unfolding on_literals
+throttle_of_meta = refl
 
 no_variables_of_block : read (codes "[{\"block\":[],\"vars\":[]}]") ≡ Some (Err (WrongShape (codes "p/0/vars")))
 unfolding on_literals

@@ -9,6 +9,7 @@ ghost use Rattle.pb_play.specs.View.{IsRead, node_of};
 
 use crate::node::{BlockKeys, Node, NodeList};
 use crate::other_keys::WithoutEffect;
+use crate::throttle::Throttle;
 use pb_reading::keys::Keys;
 use pb_reading::list::EachNamed;
 use pb_reading::simple::PlainText;
@@ -51,6 +52,7 @@ pub(crate) fn read_rest(
 ) -> Result<Node, Stop<LoadFault>>
     ensures { IsRead result (value_of (rest_of_block early ignore_errors rescue (ahead keys.entry))) }
 {
+    let throttle = keys.field::<Throttle>(alloc, "throttle")?;
     let vars = keys.field_or::<EachNamed<TemplateValue>>(alloc, "vars", Dict::new(alloc))?;
     let conditions = keys.field_or::<Conditions>(alloc, "when", Items::new(alloc))?;
     keys.others(alloc)?;
@@ -58,6 +60,7 @@ pub(crate) fn read_rest(
         conditions,
         vars,
         ignore_errors,
+        throttle,
     };
     Ok(block_of(keys, early, rescue))
 }

@@ -23,6 +23,7 @@ fn gathering_task(alloc: Global) -> Result<Task, AllocError>
         changed_when: None,
         failed_when: None,
         ignore_errors: None,
+        throttle: None,
         notify: Items::new(alloc),
     })
 }

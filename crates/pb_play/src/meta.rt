@@ -103,6 +103,7 @@ fn meta_task(
         changed_when: None,
         failed_when: None,
         ignore_errors: None,
+        throttle: None,
         notify: Items::new(alloc),
     })
 }

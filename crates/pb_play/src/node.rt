@@ -14,6 +14,8 @@ pub struct BlockKeys {
     pub vars: Dict,
     /// Whether failures in it are ignored, where it says so.
     pub ignore_errors: Option<bool>,
+    /// How many hosts may run a task in it at once, where it says so; 0 is any number.
+    pub throttle: Option<u32>,
 }
 
 impl Drop for BlockKeys {
@@ -22,6 +24,7 @@ impl Drop for BlockKeys {
             conditions,
             vars,
             ignore_errors: _,
+            throttle: _,
         } = self;
         drop(conditions);
         drop(vars);

@@ -7,20 +7,24 @@ ghost use Rattle.pb_reading.specs.Fields.{optional, value_of};
 ghost use Rattle.pb_reading.specs.Reading.{Gives};
 ghost use Rattle.pb_play.specs.Refusals.{GivesOf};
 ghost use Rattle.pb_play.specs.Hosts.{hosts};
-ghost use Rattle.pb_play.specs.Plays.{before_hosts, play_of, lists, rest_of_play, play, expressions_at, expressions_of_play};
+ghost use Rattle.pb_play.specs.Plays.{before_hosts, manner, play_of, lists, rest_of_play, play, expressions_at, expressions_of_play};
 
+use crate::batches::Sizes;
 use crate::gathering::begun;
 use crate::handlers::Handler;
 use crate::hosts::{PlayHosts, read_hosts};
 use crate::node::NodeList;
 use crate::nodes::no_nodes;
 use crate::other_keys::WithoutEffect;
+use crate::strategies::StrategyName;
+use pb_batches::Serial;
 use pb_patterns::pattern::Pattern;
 use pb_reading::keys::Keys;
 use pb_reading::list::{Each, EachNamed};
 use pb_reading::simple::PlainText;
 use pb_reading::stop::{Stop, required, wrong};
 use pb_role_entries::entry::RoleEntry;
+use pb_strategies::Strategy;
 use pb_value::items::Items;
 use pb_value::path::child;
 use pb_value::text::Text;
@@ -58,6 +62,10 @@ pub struct Play {
     pub handlers: Items<Handler>,
     /// Whether a host on which it failed still runs, at its end, the handlers that are pending there.
     pub force_handlers: bool,
+    /// How the hosts of a batch go through its tasks.
+    pub strategy: Strategy,
+    /// The sizes of the batches of its hosts.
+    pub serial: Serial,
 }
 
 /// The hosts, where they are written.
@@ -105,11 +113,28 @@ fn read_before_hosts(
     })
 }
 
-/// The lists of nodes of a play, and the one of its roles.
+/// How the hosts go through a play: in which batches, and by which strategy.
+#[derive(Drop)]
+struct Manner {
+    serial: Serial,
+    strategy: Strategy,
+}
+
+fn read_manner(alloc: Global, keys: &mut Keys<'_, WithoutEffect>) -> Result<Manner, Stop<LoadFault>>
+    ensures value { Takes (λ v. v) result (ahead keys.new) (manner (ahead keys.old)) }
+    ensures path { (ahead keys.new).path ≡ (ahead keys.old).path }
+{
+    let serial = keys.field_or::<Sizes>(alloc, "serial", Serial::whole(alloc))?;
+    let strategy = keys.field_or::<StrategyName>(alloc, "strategy", Strategy::Linear)?;
+    Ok(Manner { serial, strategy })
+}
+
+/// The lists of nodes of a play, the one of its roles, and what stands between their keys.
 struct Lists {
     post_tasks: NodeList,
     pre_tasks: NodeList,
     roles: Items<RoleEntry>,
+    manner: Manner,
     tasks: NodeList,
 }
 
@@ -119,11 +144,13 @@ impl Drop for Lists {
             post_tasks,
             pre_tasks,
             roles,
+            manner,
             tasks,
         } = self;
         drop(post_tasks);
         drop(pre_tasks);
         drop(roles);
+        drop(manner);
         drop(tasks);
     }
 }
@@ -145,8 +172,10 @@ impl Lists {
             post_tasks,
             pre_tasks,
             roles,
+            manner,
             tasks,
         } = self;
+        let Manner { serial, strategy } = manner;
         let BeforeHosts {
             force_handlers,
             gathers,
@@ -164,6 +193,8 @@ impl Lists {
             roles,
             handlers,
             force_handlers,
+            strategy,
+            serial,
         })
     }
 }
@@ -175,11 +206,13 @@ fn read_lists(alloc: Global, keys: &mut Keys<'_, WithoutEffect>) -> Result<Lists
     let post_tasks = keys.field_or::<NodeList>(alloc, "post_tasks", no_nodes(alloc))?;
     let pre_tasks = keys.field_or::<NodeList>(alloc, "pre_tasks", no_nodes(alloc))?;
     let roles = keys.field_or::<Each<RoleEntry>>(alloc, "roles", Items::new(alloc))?;
+    let manner = read_manner(alloc, keys)?;
     let tasks = keys.field_or::<NodeList>(alloc, "tasks", no_nodes(alloc))?;
     Ok(Lists {
         post_tasks,
         pre_tasks,
         roles,
+        manner,
         tasks,
     })
 }
