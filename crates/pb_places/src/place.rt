@@ -161,7 +161,7 @@ impl Place {
     {
         match &self.surroundings {
             Some(given) => given.throttle,
-            None => 0,
+            None => task_of(&self.task).throttle.unwrap_or(0),
         }
     }
 

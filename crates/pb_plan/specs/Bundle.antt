@@ -36,7 +36,16 @@ in_part of (Err e) = Err (of e)
 -- a play with its roles, whose own hosts are these
 abbrev pub play_with : InventoryOf → List Bool → Expanded → PlayOf
 play_with inventory hosts play =
-    record { name = play.name; tree = play.tree; places = play.places; hosts = hosts; vars = play.vars; magic = play_magic inventory hosts }
+    record {
+      name = play.name;
+      tree = play.tree;
+      places = play.places;
+      hosts = hosts;
+      strategy = play.strategy;
+      serial = play.serial.entries;
+      vars = play.vars;
+      magic = play_magic inventory hosts;
+    }
 
 abbrev pub bytes_in : Option (List ℕ) → ℕ
 bytes_in given = option_map_or length given 0

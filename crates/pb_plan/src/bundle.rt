@@ -6,7 +6,7 @@ ghost use Rattle.pb_plan.specs.Bundle.{play_with, bundle_bytes, bytes_in, role_b
 ghost use Rattle.pb_roles.specs.Plays.{IsBuilt};
 ghost use Rattle.pb_value.specs.Limits.{max_bytes};
 
-use crate::plan::PlanPlay;
+use crate::plan::{PlanPlay, throttles_of};
 use pb_cursors::LaidTree;
 use pb_flat::FlatFault;
 use pb_inventory::fault::InvFault;
@@ -122,7 +122,18 @@ pub(crate) fn play_with(
 {
     let laid = laid_out(alloc, play.tree)?;
     let magic = play_magic(alloc, inventory, &hosts)?;
-    Ok(PlanPlay::of(play.name, laid, play.places, hosts, play.vars, magic))
+    let throttles = throttles_of(alloc, play.places.as_slice())?;
+    Ok(PlanPlay::of(
+        play.name,
+        laid,
+        play.places,
+        throttles,
+        hosts,
+        play.strategy,
+        play.serial,
+        play.vars,
+        magic,
+    ))
 }
 
 /// How many bytes a text has that may be given.

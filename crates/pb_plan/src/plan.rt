@@ -3,12 +3,15 @@
 ghost use Rattle.std.specs.Prelude.{◌≡◌, ◌<◌, ◌≤◌, length, slice_get, option_map, IfOk, Some};
 ghost use Rattle.std.specs.Option.{option_copied};
 ghost use Rattle.pb_tree.specs.Tree.{size_of};
+ghost use Rattle.pb_plan.specs.Plan.{throttles_of};
 
+use pb_batches::Serial;
 use pb_cursors::LaidTree;
 use pb_ids::{HostNo, PlayNo};
 use pb_inventory::inventory::Inventory;
 use pb_places::Place;
 use pb_planes::HostSet;
+use pb_strategies::Strategy;
 use pb_tree::PlayTree;
 use pb_value::items::Items;
 use pb_value::text::Text;
@@ -17,13 +20,17 @@ use std::alloc::{AllocError, Global};
 use std::marker::Model;
 use std::rc::Rc;
 
-/// A play: its name, its tree, what stands at each place of the tree, in the order of places, the hosts that are its own, its variables, and
-/// those that the play gives by itself.
+/// A play: its name, its tree, what stands at each place of the tree, in the order of places, the hosts that are its own, how the hosts of a batch
+/// go through its tasks, what it says of the sizes of its batches, its variables, and those that the play gives by itself.
 pub struct PlanPlay {
     name: Text,
     laid: Rc<LaidTree>,
     places: Items<Place>,
+    /// How many hosts may run the task at each place at once, in the order of places.
+    throttles: Vec<u32>,
     hosts: HostSet,
+    strategy: Strategy,
+    serial: Serial,
     vars: Dict,
     magic: Dict,
 }
@@ -34,14 +41,19 @@ impl Drop for PlanPlay {
             name,
             laid,
             places,
+            throttles,
             hosts,
+            strategy: _,
+            serial,
             vars,
             magic,
         } = self;
         drop(name);
         drop(laid);
         drop(places);
+        drop(throttles);
         drop(hosts);
+        drop(serial);
         drop(vars);
         drop(magic);
     }
@@ -59,12 +71,22 @@ impl Model for PlanPlay {
 
     ghost coded = { Prim.hlevel (codes, val.the_row.coded, expr.the_row.coded, play_tree.the_row.coded, place.the_row.coded) };
 
-    ghost view = { λ p. record { name = p.name; tree = p.laid.value.tree; places = p.places; hosts = p.hosts; vars = p.vars; magic = p.magic } };
+    ghost view = { λ p. record {
+      name = p.name;
+      tree = p.laid.value.tree;
+      places = p.places;
+      hosts = p.hosts;
+      strategy = p.strategy;
+      serial = p.serial.entries;
+      vars = p.vars;
+      magic = p.magic;
+    } };
 
     ghost use Rattle.std.specs.Prelude.{◌≡◌, ◌≤◌, length};
     ghost use Rattle.pb_tree.specs.Tree.{size_of};
+    ghost use Rattle.pb_plan.specs.Plan.{throttles_of};
 
-    ghost invariant = { λ p. (size_of p.laid.value.tree ≤ 16384) × (length p.places ≡ size_of p.laid.value.tree) };
+    ghost invariant = { λ p. (size_of p.laid.value.tree ≤ 16384) × (length p.places ≡ size_of p.laid.value.tree) × (p.throttles.items ≡ throttles_of p.places) };
 }
 
 impl PlanPlay {
@@ -73,19 +95,35 @@ impl PlanPlay {
         name: Text,
         laid: Rc<LaidTree>,
         places: Items<Place>,
+        throttles: Vec<u32>,
         hosts: HostSet,
+        strategy: Strategy,
+        serial: Serial,
         vars: Dict,
         magic: Dict,
     ) -> PlanPlay
         requires bound { size_of laid.value.tree ≤ 16384 }
         requires places { length places ≡ size_of laid.value.tree }
-        ensures { result ≡ record { name = name; tree = laid.value.tree; places = places; hosts = hosts; vars = vars; magic = magic } }
+        requires throttles { throttles.items ≡ throttles_of places }
+        ensures { result ≡ record {
+          name = name;
+          tree = laid.value.tree;
+          places = places;
+          hosts = hosts;
+          strategy = strategy;
+          serial = serial.entries;
+          vars = vars;
+          magic = magic;
+        } }
     {
         PlanPlay {
             name,
             laid,
             places,
+            throttles,
             hosts,
+            strategy,
+            serial,
             vars,
             magic,
         }
@@ -121,6 +159,27 @@ impl PlanPlay {
         self.places.get(place)
     }
 
+    /// How many hosts may run the task at each place at once, in the order of places; 0 is any number.
+    pub fn throttles(&self) -> &[u32]
+        ensures { result.now ≡ throttles_of self.now.places }
+    {
+        self.throttles.as_slice()
+    }
+
+    /// How the hosts of a batch go through the play's tasks.
+    pub fn strategy(&self) -> Strategy
+        ensures { result ≡ self.now.strategy }
+    {
+        self.strategy
+    }
+
+    /// What the play says of the sizes of its batches.
+    pub fn serial(&self) -> &Serial
+        ensures { result.now.entries ≡ self.now.serial }
+    {
+        &self.serial
+    }
+
     /// The hosts that are the play's own.
     pub fn hosts(&self) -> &HostSet
         ensures { result.now ≡ self.now.hosts }
@@ -141,6 +200,17 @@ impl PlanPlay {
     {
         &self.magic
     }
+}
+
+/// How many hosts may run the task at each of these places at once.
+pub(crate) fn throttles_of(alloc: Global, places: &[Place]) -> Result<Vec<u32>, AllocError>
+    ensures { IfOk result (λ all. all.items ≡ throttles_of places.now) }
+{
+    let mut all = Vec::with_capacity(alloc, places.len())?;
+    for place in places {
+        all.push(place.throttle())?;
+    }
+    Ok(all)
 }
 
 /// The inventory, the plays in order, how many hosts may run at once, whether there is a facts program, lines that tell what was odd in the

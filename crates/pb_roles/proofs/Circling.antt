@@ -82,9 +82,9 @@ all_cycle reads P brings each (entry ∷ entries) met a e =
 all_among : (entries : List RoleEntry) → AllByRecursion (λ (entry : RoleEntry). is_among entries entry.name ≡ true) entries
 all_among [] = tt
 all_among (entry ∷ entries) = (
-    or_left (bytes_eq entry.name entry.name) (is_among entries entry.name) (is_itself entry.name),
-    all_map (λ (it : RoleEntry). is_among entries it.name ≡ true) (λ (it : RoleEntry). is_among (entry ∷ entries) it.name ≡ true)
-    (λ it e. or_right (bytes_eq it.name entry.name) (is_among entries it.name) e) entries (all_among entries)
+  or_left (bytes_eq entry.name entry.name) (is_among entries entry.name) (is_itself entry.name),
+  all_map (λ (it : RoleEntry). is_among entries it.name ≡ true) (λ (it : RoleEntry). is_among (entry ∷ entries) it.name ≡ true)
+      (λ it e. or_right (bytes_eq it.name entry.name) (is_among entries it.name) e) entries (all_among entries),
 )
 
 -- ---- one entry

@@ -170,18 +170,18 @@ takes_both reads names before entry entries met mid after a b =
       closed = all_append (λ (it : Taken). is_open it.entry.name names ≡ false) a.inside b.inside a.closed b.closed;
       all = (
         subst (λ (ts : List Taken). has_role ts entry.name ≡ true) whole (any_left (λ (it : Taken). bytes_eq entry.name it.entry.name) (before ++ a.inside) b.inside (a.all.0)),
-        subst (λ (ts : List Taken). AllByRecursion (λ (e : RoleEntry). has_role ts e.name ≡ true) entries) whole b.all
+        subst (λ (ts : List Taken). AllByRecursion (λ (e : RoleEntry). has_role ts e.name ≡ true) entries) whole b.all,
       );
       asked =
-        all_append (IsAsked (entry ∷ entries) (a.inside ++ b.inside)) a.inside b.inside
-        (all_map (IsAsked (entry ∷ []) a.inside) (IsAsked (entry ∷ entries) (a.inside ++ b.inside)) (asked_first entry entries a.inside b.inside) a.inside a.asked)
-        (all_map (IsAsked entries b.inside) (IsAsked (entry ∷ entries) (a.inside ++ b.inside)) (asked_later entry entries a.inside b.inside) b.inside b.asked);
+          all_append (IsAsked (entry ∷ entries) (a.inside ++ b.inside)) a.inside b.inside
+          (all_map (IsAsked (entry ∷ []) a.inside) (IsAsked (entry ∷ entries) (a.inside ++ b.inside)) (asked_first entry entries a.inside b.inside) a.inside a.asked)
+          (all_map (IsAsked entries b.inside) (IsAsked (entry ∷ entries) (a.inside ++ b.inside)) (asked_later entry entries a.inside b.inside) b.inside b.asked);
       sections =
-        behind met.sections mid.sections after.sections (map section_of a.inside) (map section_of b.inside) a.sections b.sections
-        ∙ ap (λ (ss : List Section). met.sections ++ ss) (sym (map_append a.inside b.inside));
+          behind met.sections mid.sections after.sections (map section_of a.inside) (map section_of b.inside) a.sections b.sections
+          ∙ ap (λ (ss : List Section). met.sections ++ ss) (sym (map_append a.inside b.inside));
       handlers =
-        behind met.handlers mid.handlers after.handlers (handlers_of a.inside) (handlers_of b.inside) a.handlers b.handlers
-        ∙ ap (λ (hs : List HandlerIn). met.handlers ++ hs) (sym (handlers_append a.inside b.inside));
+          behind met.handlers mid.handlers after.handlers (handlers_of a.inside) (handlers_of b.inside) a.handlers b.handlers
+          ∙ ap (λ (hs : List HandlerIn). met.handlers ++ hs) (sym (handlers_append a.inside b.inside));
       more = a.more ++ b.more;
       came = behind met.came mid.came after.came a.more b.more a.came b.came;
       stands = subst (λ (ts : List Taken). Stands names ts after.came) whole b.stands;
@@ -231,11 +231,11 @@ left_out reads names before entry met stands shut come =
       more = came_of entry ∷ [];
       came = refl;
       stands =
-        subst (λ (ts : List Taken). Stands names ts (met.came ++ came_of entry ∷ [])) (sym (append-nil before))
-        (record {
-          known = all_append (IsKnown names before) met.came (came_of entry ∷ []) stands.known (or_right (is_open entry.name names) (has_role before entry.name) there, tt);
-          covered = λ e none. stands.covered e (none_left (is_again e) met.came (came_of entry ∷ []) none);
-        });
+          subst (λ (ts : List Taken). Stands names ts (met.came ++ came_of entry ∷ [])) (sym (append-nil before))
+          (record {
+            known = all_append (IsKnown names before) met.came (came_of entry ∷ []) stands.known (or_right (is_open entry.name names) (has_role before entry.name) there, tt);
+            covered = λ e none. stands.covered e (none_left (is_again e) met.came (came_of entry ∷ []) none);
+          });
     }
   where
     taken_or : (a b : Bool) → (a || b) ≡ true → a ≡ false → b ≡ true
@@ -251,9 +251,9 @@ opening : (names : List (List ℕ)) (before : List Taken) (entry : RoleEntry) (c
 opening names before entry came stands =
     record {
       known =
-        all_append (IsKnown (entry.name ∷ names) before) came (came_of entry ∷ [])
-        (all_map (IsKnown names before) (IsKnown (entry.name ∷ names) before) (λ c known. wider (bytes_eq c.name entry.name) (is_open c.name names) (has_role before c.name) known) came stands.known)
-        (or_left (is_open entry.name (entry.name ∷ names)) (has_role before entry.name) (or_left (bytes_eq entry.name entry.name) (is_open entry.name names) (is_itself entry.name)), tt);
+          all_append (IsKnown (entry.name ∷ names) before) came (came_of entry ∷ [])
+          (all_map (IsKnown names before) (IsKnown (entry.name ∷ names) before) (λ c known. wider (bytes_eq c.name entry.name) (is_open c.name names) (has_role before c.name) known) came stands.known)
+          (or_left (is_open entry.name (entry.name ∷ names)) (has_role before entry.name) (or_left (bytes_eq entry.name entry.name) (is_open entry.name names) (is_itself entry.name)), tt);
       covered = λ e none. stands.covered e (none_left (is_again e) came (came_of entry ∷ []) none);
     }
   where
@@ -293,15 +293,15 @@ closing names before inside entry meta role came more whole stands e =
     subst (λ (ts : List Taken). Stands names ts whole) (append_assoc before inside (it ∷ []))
     (record {
       known =
-        all_map (IsKnown (entry.name ∷ names) (before ++ inside)) (IsKnown names ((before ++ inside) ++ it ∷ []))
-        (λ c known.
-        ap (λ b. is_open c.name names || b) (any_append (λ (t : Taken). bytes_eq c.name t.entry.name) (before ++ inside) (it ∷ []))
-        ∙ turned (bytes_eq c.name entry.name) (is_open c.name names) (has_role (before ++ inside) c.name) known)
-        whole stands.known;
+          all_map (IsKnown (entry.name ∷ names) (before ++ inside)) (IsKnown names ((before ++ inside) ++ it ∷ []))
+          (λ c known.
+          ap (λ b. is_open c.name names || b) (any_append (λ (t : Taken). bytes_eq c.name t.entry.name) (before ++ inside) (it ∷ []))
+          ∙ turned (bytes_eq c.name entry.name) (is_open c.name names) (has_role (before ++ inside) c.name) known)
+          whole stands.known;
       covered = λ c none.
-        none_append (λ (t : Taken). is_again c (came_of t.entry)) (before ++ inside) (it ∷ []) (stands.covered c none)
-        (none_right (is_again c) came (came_of entry ∷ [])
-        (none_left (is_again c) (came ++ came_of entry ∷ []) more (subst (λ (cs : List Came). has_come c cs ≡ false) e none)));
+          none_append (λ (t : Taken). is_again c (came_of t.entry)) (before ++ inside) (it ∷ []) (stands.covered c none)
+          (none_right (is_again c) came (came_of entry ∷ [])
+          (none_left (is_again c) (came ++ came_of entry ∷ []) more (subst (λ (cs : List Came). has_come c cs ≡ false) e none)));
     })
   where
     it : Taken
@@ -322,29 +322,29 @@ taken reads names before entry meta role met mid stands shut read fresh d =
       inside = d.inside ++ it ∷ [];
       read = all_append (IsRead reads) d.inside (it ∷ []) d.read (read, tt);
       order =
-        order_append before d.inside (it ∷ []) d.order
-        ((d.all, may_come names before d.inside entry meta.allow_duplicates met.came stands fresh (none_alike names entry d.inside d.closed)), tt);
+          order_append before d.inside (it ∷ []) d.order
+          ((d.all, may_come names before d.inside entry meta.allow_duplicates met.came stands fresh (none_alike names entry d.inside d.closed)), tt);
       closed =
-        all_append (λ (t : Taken). is_open t.entry.name names ≡ false) d.inside (it ∷ [])
-        (all_map (λ (t : Taken). is_open t.entry.name (entry.name ∷ names) ≡ false) (λ (t : Taken). is_open t.entry.name names ≡ false)
-        (λ t none. none_second (bytes_eq t.entry.name entry.name) (is_open t.entry.name names) none) d.inside d.closed)
-        (shut, tt);
+          all_append (λ (t : Taken). is_open t.entry.name names ≡ false) d.inside (it ∷ [])
+          (all_map (λ (t : Taken). is_open t.entry.name (entry.name ∷ names) ≡ false) (λ (t : Taken). is_open t.entry.name names ≡ false)
+          (λ t none. none_second (bytes_eq t.entry.name entry.name) (is_open t.entry.name names) none) d.inside d.closed)
+          (shut, tt);
       all = (
         any_right (λ (t : Taken). bytes_eq entry.name t.entry.name) before (d.inside ++ it ∷ [])
-        (any_right (λ (t : Taken). bytes_eq entry.name t.entry.name) d.inside (it ∷ []) (or_left (bytes_eq entry.name entry.name) false (is_itself entry.name))),
-        tt
+            (any_right (λ (t : Taken). bytes_eq entry.name t.entry.name) d.inside (it ∷ []) (or_left (bytes_eq entry.name entry.name) false (is_itself entry.name))),
+        tt,
       );
       asked =
-        all_append (IsAsked (entry ∷ []) (d.inside ++ it ∷ [])) d.inside (it ∷ [])
-        (all_map (IsAsked meta.dependencies d.inside) (IsAsked (entry ∷ []) (d.inside ++ it ∷ [])) (asked_inside entry it d.inside) d.inside d.asked)
-        (inl refl, tt);
+          all_append (IsAsked (entry ∷ []) (d.inside ++ it ∷ [])) d.inside (it ∷ [])
+          (all_map (IsAsked meta.dependencies d.inside) (IsAsked (entry ∷ []) (d.inside ++ it ∷ [])) (asked_inside entry it d.inside) d.inside d.asked)
+          (inl refl, tt);
       sections =
-        behind met.sections mid.sections (mid.sections ++ section_of it ∷ []) (map section_of d.inside) (section_of it ∷ []) d.sections refl
-        ∙ ap (λ (ss : List Section). met.sections ++ ss) (sym (map_append d.inside (it ∷ [])));
+          behind met.sections mid.sections (mid.sections ++ section_of it ∷ []) (map section_of d.inside) (section_of it ∷ []) d.sections refl
+          ∙ ap (λ (ss : List Section). met.sections ++ ss) (sym (map_append d.inside (it ∷ [])));
       handlers =
-        behind met.handlers mid.handlers (mid.handlers ++ brought) (handlers_of d.inside) (handlers_of (it ∷ [])) d.handlers
-        (ap (λ (hs : List HandlerIn). mid.handlers ++ hs) (sym (append-nil brought)))
-        ∙ ap (λ (hs : List HandlerIn). met.handlers ++ hs) (sym (handlers_append d.inside (it ∷ [])));
+          behind met.handlers mid.handlers (mid.handlers ++ brought) (handlers_of d.inside) (handlers_of (it ∷ [])) d.handlers
+          (ap (λ (hs : List HandlerIn). mid.handlers ++ hs) (sym (append-nil brought)))
+          ∙ ap (λ (hs : List HandlerIn). met.handlers ++ hs) (sym (handlers_append d.inside (it ∷ [])));
       more = came_of entry ∷ d.more;
       came = d.came ∙ append_assoc met.came (came_of entry ∷ []) d.more;
       stands = closing names before d.inside entry meta role met.came d.more mid.came d.stands d.came;
@@ -464,5 +464,5 @@ entry_takes (suc n) reads names outer entry met after before stands e = enters n
 pub roles_are_in_order : RolesAreInOrder
 roles_are_in_order files entries met e =
     let all = all_take (read_of files) [] (meets (most_open files) (read_of files) [] []) (entry_takes (most_open files) (read_of files) [] []) entries nothing_met met []
-        (record { known = tt; covered = λ entry none. refl }) e in
+    (record { known = tt; covered = λ entry none. refl }) e in
     record { taken = all.inside; read = all.read; order = all.order; all = all.all; asked = all.asked; sections = all.sections; handlers = all.handlers }

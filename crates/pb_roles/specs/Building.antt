@@ -23,16 +23,22 @@ use Rattle.pb_roles.specs.declared.sections.Sections.{Sections}
 pub record KeysOf : Type 0 where
   pub conditions : List Tree
   pub ignore_errors : Option Bool
+  pub throttle : Option ℕ
 
 abbrev pub keys_of_task : OneTask → KeysOf
-keys_of_task task = record { conditions = task.conditions; ignore_errors = task.ignore_errors }
+keys_of_task task = record { conditions = task.conditions; ignore_errors = task.ignore_errors; throttle = task.throttle }
 
 abbrev pub keys_of_block : BlockKeys → KeysOf
-keys_of_block block = record { conditions = block.conditions; ignore_errors = block.ignore_errors }
+keys_of_block block = record { conditions = block.conditions; ignore_errors = block.ignore_errors; throttle = block.throttle }
 
 -- conditions stand from the outer to the inner ones; of the other keys the inner one counts, where it is written
 abbrev pub inner : KeysOf → KeysOf → KeysOf
-inner outer own = record { conditions = outer.conditions ++ own.conditions; ignore_errors = or_else own.ignore_errors outer.ignore_errors }
+inner outer own =
+    record {
+      conditions = outer.conditions ++ own.conditions;
+      ignore_errors = or_else own.ignore_errors outer.ignore_errors;
+      throttle = or_else own.throttle outer.throttle;
+    }
 
 -- what stands round a node: the keys that its role, its blocks and its play hand down, the variables of the blocks, the inner over the outer, and those of the role
 pub record RoundOf : Type 0 where
@@ -40,10 +46,11 @@ pub record RoundOf : Type 0 where
   pub block_vars : Map
   pub role : Role
 
--- what stands round all that comes from there: a role has conditions, and the play says whether failures are ignored
+-- what stands round all that comes from there: a role has conditions, and the play says whether failures are ignored, but nothing of how many hosts may run
+-- a task at once
 abbrev pub round_of : Bool → OriginOf → RoundOf
 round_of ignore_errors origin =
-    record { keys = record { conditions = origin.conditions; ignore_errors = Some ignore_errors }; block_vars = []; role = origin.role }
+    record { keys = record { conditions = origin.conditions; ignore_errors = Some ignore_errors; throttle = None }; block_vars = []; role = origin.role }
 
 -- what stands round the nodes of a block
 abbrev pub inside : RoundOf → BlockKeys → RoundOf
@@ -59,7 +66,7 @@ placed_with names keys round is_caught handler task =
       role = round.role;
       ignore_errors = unwrap_or keys.ignore_errors false;
       any_errors_fatal = false;
-      throttle = 0;
+      throttle = unwrap_or keys.throttle 0;
       run_once = false;
       delegate_to = None;
       delegate_facts = false;

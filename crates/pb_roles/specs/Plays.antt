@@ -31,10 +31,11 @@ is_too_deep play = nat_lt max_depth (always_depth (nodes_of play))
 
 -- what stays of a play as it is
 abbrev pub head_of : Play → Head
-head_of play = record { name = play.name; hosts = play.hosts; vars = play.vars }
+head_of play = record { name = play.name; hosts = play.hosts; vars = play.vars; strategy = play.strategy; serial = play.serial }
 
 abbrev pub built : Head → Sections → Expanded
-built head play = record { name = head.name; hosts = head.hosts; vars = head.vars; tree = tree_of play; places = all_places play }
+built head play =
+    record { name = head.name; hosts = head.hosts; vars = head.vars; strategy = head.strategy; serial = head.serial; tree = tree_of play; places = all_places play }
 
 abbrev pub within_limits : Head → Sections → Result Expanded RoleFault
 within_limits head play = if has_too_many_places play || is_too_deep play then Err TooLarge else Ok (built head play)

@@ -253,7 +253,7 @@ first_unknown_name : unknown_of (playing (Task (notifier (codes "t") (codes "h2"
 first_unknown_name = refl
 
 abbrev no_keys : BlockKeys
-no_keys = record { conditions = []; vars = []; ignore_errors = None }
+no_keys = record { conditions = []; vars = []; ignore_errors = None; throttle = None }
 
 unknown_in_place : unknown_of
     (playing
@@ -294,7 +294,7 @@ a_topic_notifies = refl
 -- what stands round a Flush isn't round its handlers, but a failure there is caught where the Flush is
 abbrev in_a_block : Sections
 in_a_block =
-    playing (Block (record no_keys { conditions = when (codes "a"); vars = number 1; ignore_errors = Some true }) (Flush Nothing) (one (codes "r")) Nothing Nothing)
+    playing (Block (record no_keys { conditions = when (codes "a"); vars = number 1; ignore_errors = Some true; throttle = Some 2 }) (Flush Nothing) (one (codes "r")) Nothing Nothing)
     (handler (codes "h") [] ∷ [])
 
 abbrev only_caught : PlaceOf
@@ -306,3 +306,21 @@ flush_round _ = None
 
 only_the_catch : flush_round (all_places in_a_block) ≡ Some only_caught
 only_the_catch = refl
+
+-- how many hosts may run a task at once its own key says, or else that of the nearest block round it; 0, which is any number, counts as it is written. A
+-- handler has its own key alone
+abbrev throttled : Option ℕ → Written → Written
+throttled own rest = Task (record (said (codes "t")) { throttle = own }) rest
+
+abbrev throttling : Sections
+throttling =
+    playing
+    (Block (record no_keys { throttle = Some 2 })
+    (throttled None (throttled (Some 0) (throttled (Some 5) (Block no_keys (throttled None Nothing) Nothing Nothing (Flush Nothing)))))
+    Nothing
+    (Block (record no_keys { throttle = Some 0 }) (throttled None Nothing) Nothing Nothing Nothing)
+    (throttled None Nothing))
+    (record { task = record (said (codes "h")) { throttle = Some 3 }; listens = [] } ∷ [])
+
+throttles_handed_down : map (λ (p : PlaceOf). p.throttle) (all_places throttling) ≡ 3 ∷ 2 ∷ 0 ∷ 5 ∷ 2 ∷ 3 ∷ 0 ∷ 0 ∷ 3 ∷ 3 ∷ []
+throttles_handed_down = refl

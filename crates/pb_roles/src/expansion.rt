@@ -124,6 +124,8 @@ fn sections_of(alloc: Global, play: Play, met: Met) -> Result<(Head, Sections), 
         name: play.name,
         hosts: play.hosts,
         vars: play.vars,
+        strategy: play.strategy,
+        serial: play.serial,
     };
     Ok((
         head,

@@ -31,6 +31,7 @@ pub(crate) struct Round {
     /// None where there is no condition.
     conditions: Option<Arc<Items<Expr>>>,
     ignore_errors: Option<bool>,
+    throttle: Option<u32>,
     /// None where there is no variable.
     block_vars: Option<Arc<Dict>>,
     /// None outside of roles.
@@ -42,6 +43,7 @@ impl Drop for Round {
         let Round {
             conditions,
             ignore_errors: _,
+            throttle: _,
             block_vars,
             role,
         } = self;
@@ -65,7 +67,7 @@ impl Model for Round {
 
     ghost coded = { Prim.hlevel (codes, val.the_row.coded, expr.the_row.coded) };
 
-    ghost view = { λ r. record { keys = record { conditions = listed r.conditions; ignore_errors = r.ignore_errors }; block_vars = listed r.block_vars; role = unwrap_or (option_map arc_value r.role) no_role } };
+    ghost view = { λ r. record { keys = record { conditions = listed r.conditions; ignore_errors = r.ignore_errors; throttle = r.throttle }; block_vars = listed r.block_vars; role = unwrap_or (option_map arc_value r.role) no_role } };
 }
 
 impl Round {
@@ -78,6 +80,7 @@ impl Round {
         Ok(Round {
             conditions,
             ignore_errors: Some(ignore_errors),
+            throttle: None,
             block_vars: None,
             role,
         })
@@ -93,6 +96,7 @@ impl Round {
         Ok(Round {
             conditions,
             ignore_errors: inner(keys.ignore_errors, self.ignore_errors),
+            throttle: inner(keys.throttle, self.throttle),
             block_vars,
             role,
         })
@@ -140,6 +144,7 @@ impl Round {
             && self.role.is_none()
             && !is_caught
             && !self.ignore_errors.unwrap_or(false)
+            && self.throttle.unwrap_or(0) == 0
     }
 
     /// What a task's place has beside the task.
@@ -163,7 +168,7 @@ impl Round {
             role,
             ignore_errors: inner(task.ignore_errors, self.ignore_errors).unwrap_or(false),
             any_errors_fatal: false,
-            throttle: 0,
+            throttle: inner(task.throttle, self.throttle).unwrap_or(0),
             run_once: false,
             delegate_to: None,
             delegate_facts: false,
@@ -187,7 +192,7 @@ fn notified(alloc: Global, names: &Handlers, task: &Task) -> Result<Items<u32>, 
 }
 
 /// Of a key, the inner value counts, where it is written.
-fn inner(own: Option<bool>, outer: Option<bool>) -> Option<bool>
+fn inner<T: Copy + Drop>(own: Option<T>, outer: Option<T>) -> Option<T>
     ensures { result ≡ or_else own outer }
 {
     match own {

@@ -2,8 +2,10 @@
 ghost use Rattle.std.specs.Prelude.{◌≡◌};
 
 use crate::met::{HandlerIn, Section};
+use pb_batches::Serial;
 use pb_patterns::pattern::Pattern;
 use pb_places::Place;
+use pb_strategies::Strategy;
 use pb_tree::PlayTree;
 use pb_value::items::Items;
 use pb_value::text::Text;
@@ -35,6 +37,10 @@ pub struct Expanded {
     pub hosts: Pattern,
     /// Its variables, as they are written.
     pub vars: Dict,
+    /// How the hosts of a batch go through its tasks.
+    pub strategy: Strategy,
+    /// The sizes of the batches of its hosts.
+    pub serial: Serial,
     pub tree: PlayTree,
     pub places: Items<Place>,
 }
@@ -45,18 +51,28 @@ pub(crate) struct Head {
     pub(crate) name: Text,
     pub(crate) hosts: Pattern,
     pub(crate) vars: Dict,
+    pub(crate) strategy: Strategy,
+    pub(crate) serial: Serial,
 }
 
 impl Head {
     /// With a tree, and what stands at its places.
     pub(crate) fn with(self, tree: PlayTree, places: Items<Place>) -> Expanded
-        ensures { result ≡ record { name = self.name; hosts = self.hosts; vars = self.vars; tree = tree; places = places } }
+        ensures { result ≡ record { name = self.name; hosts = self.hosts; vars = self.vars; strategy = self.strategy; serial = self.serial; tree = tree; places = places } }
     {
-        let Head { name, hosts, vars } = self;
+        let Head {
+            name,
+            hosts,
+            vars,
+            strategy,
+            serial,
+        } = self;
         Expanded {
             name,
             hosts,
             vars,
+            strategy,
+            serial,
             tree,
             places,
         }
