@@ -5,8 +5,10 @@ use Rattle.std.specs.List.{list_any}
 use Rattle.std.proofs.lemmas.List.{length-map}
 use Rattle.std.proofs.lemmas.List.Sums.{sum_by-cons, count_by-le-length}
 use Rattle.pb_tree.specs.Tree.{TreeOf}
-use Rattle.pb_state.specs.Row.{HostRow, first_rows, joined, left}
+use Rattle.pb_state.specs.Batches.{room_behind, joined_first}
+use Rattle.pb_state.specs.Row.{HostRow, first_rows, called, left}
 use Rattle.pb_state.specs.Machine.{is_running, running_count, one_if}
+use Rattle.pb_state.proofs.Batching.{length-joined}
 use Rattle.pb_state.proofs.Opening.{length-first}
 
 one_is : (b : Bool) → one_if b ≡ cond b 1 0
@@ -60,9 +62,9 @@ pub none_first : (h n : ℕ) → running_count (first_rows h n) ≡ 0
 none_first h zero = refl
 none_first h (suc n) = none_first (h + 1) n
 
-pub none_joined : (tree : TreeOf) (hosts : List Bool) (rows : List HostRow) → running_count (map (joined tree hosts) rows) ≡ 0
-none_joined tree hosts [] = refl
-none_joined tree hosts (row ∷ rows) = none_joined tree hosts rows
+pub none_joined : (tree : TreeOf) (room : ℕ) (rows : List HostRow) → running_count (joined_first tree room rows) ≡ 0
+none_joined tree room [] = refl
+none_joined tree room (row ∷ rows) = none_joined tree (room_behind room row.waits) rows
 
 pub none_left : (rows : List HostRow) → running_count (map left rows) ≡ 0
 none_left [] = refl
@@ -75,9 +77,13 @@ counted_below rows n most k l = let le = count_by-le-length is_running rows in o
 pub first_holds : (rows : List HostRow) (n : ℕ) → rows ≡ first_rows 0 n → n < 4294967296 → (0 ≡ running_count rows) × (length rows < 4294967296)
 first_holds rows n e below = rw e (sym (none_first 0 n), rw (length-first 0 n) below)
 
-pub joined_holds : (tree : TreeOf) (hosts : List Bool) (rows joined_rows : List HostRow) → joined_rows ≡ map (joined tree hosts) rows → length rows < 4294967296
+pub joined_holds : (tree : TreeOf) (room : ℕ) (rows joined_rows : List HostRow) → joined_rows ≡ joined_first tree room rows → length rows < 4294967296
     → (0 ≡ running_count joined_rows) × (length joined_rows < 4294967296)
-joined_holds tree hosts rows joined_rows e below = rw e (sym (none_joined tree hosts rows), rw (length-map rows) below)
+joined_holds tree room rows joined_rows e below = rw e (sym (none_joined tree room rows), rw (length-joined tree room rows) below)
+
+pub begun_holds : (tree : TreeOf) (room : ℕ) (hosts : List Bool) (rows begun_rows : List HostRow) → begun_rows ≡ joined_first tree room (map (called hosts) rows) → length rows < 4294967296
+    → (0 ≡ running_count begun_rows) × (length begun_rows < 4294967296)
+begun_holds tree room hosts rows begun_rows e below = joined_holds tree room (map (called hosts) rows) begun_rows e (rw (length-map rows (called hosts)) below)
 
 pub left_holds : (rows left_rows : List HostRow) → left_rows ≡ map left rows → length rows < 4294967296 → (0 ≡ running_count left_rows) × (length left_rows < 4294967296)
 left_holds rows left_rows e below = rw e (sym (none_left rows), rw (length-map rows) below)

@@ -1,6 +1,11 @@
 pub mod InOrder
 pub mod FewItems
 pub mod ReadHosts
+pub mod Stands
+pub mod Idle
+pub mod Readies
+pub mod SizesLeft
+pub mod Batching
 pub mod Joined
 pub mod Layered
 pub mod Least

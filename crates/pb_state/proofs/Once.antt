@@ -1,5 +1,5 @@
 -- No run does anything twice: what a host has yet to start or send in a play lies behind what it started and sent.
-use Rattle.std.proofs.Common.{◌≡◌, ◌≢◌, ℕ, zero, suc, ◌+◌, ◌*◌, ◌<◌, ◌≤◌, Bool, true, false, ◌&&◌, not, List, [], ◌∷◌, ◌++◌, length, map, refl, sym, ◌∙◌, ap, arith, subst, ◌⊎◌, inl, inr}
+use Rattle.std.proofs.Common.{◌≡◌, ◌≢◌, ℕ, zero, suc, ◌+◌, ◌*◌, ◌<◌, ◌≤◌, Bool, true, false, ◌&&◌, ◌||◌, not, List, [], ◌∷◌, ◌++◌, length, map, refl, sym, ◌∙◌, ap, arith, subst, ◌⊎◌, inl, inr}
 use Rattle.std.specs.Prelude.{Option, Some, None, option_map, slice_get, is_none, is_some, nat_eq, if◌then◌else◌}
 use Rattle.std.specs.List.{list_any}
 use Rattle.std.specs.Option.{option_map_or}
@@ -23,18 +23,20 @@ use Rattle.pb_state.specs.declared.event.Event.{Event}
 use Rattle.pb_state.specs.declared.event.Event.TheVariants.{Open, Start, Send, Report as Reported, Turn, Close, Stop, Forks}
 use Rattle.pb_state.specs.declared.row.Running.{Running}
 use Rattle.pb_plan.specs.Plan.{PlayOf, PlanOf}
-use Rattle.pb_state.specs.Row.{HostRow, place_of, next_place, joined, finished, ended, task_at, taught, came_back, items_after, progressed, sent, sent_running, reported, reported_running}
+use Rattle.pb_state.specs.Batches.{has_later, joins, room_behind, joined_first}
+use Rattle.pb_state.specs.Row.{HostRow, place_of, next_place, joined, left, finished, ended, task_at, taught, came_back, items_after, progressed, sent, sent_running, reported, reported_running}
 use Rattle.pb_state.specs.Ends.{kind_of, answer_of}
 use Rattle.pb_state.specs.Handlers.{notified_by}
 use Rattle.pb_state.specs.State.{State}
 use Rattle.pb_state.specs.Kept.{first_waiting}
 use Rattle.pb_state.specs.Results.{items_at}
-use Rattle.pb_state.specs.Machine.{possible, after, change, at_row, open_play, next_play, same_place, stands_at, is_running, has_room, is_ticket, sends_running, may_send_item, awaits_running, awaits, may_start_in, may_send_in, may_report_in, opened_in, opened_at as opened_from, started_in, facts_at, plan_seen, start_at, sent_in, reported_in, turned_in, first_state}
+use Rattle.pb_state.specs.Machine.{possible, after, change, at_row, open_play, same_place, is_running, is_ticket, sends_running, may_send_item, awaits_running, awaits, may_start_in, may_send_in, may_report_in, may_close_in, opened_by, after_open, play_behind, closed, started_in, next_at, facts_at, plan_seen, start_at, sent_in, reported_in, turned_in, first_state}
 use Rattle.pb_state.specs.Run.{legal_from, IsRun}
 use Rattle.pb_state.proofs.FewItems.{few_items}
 use Rattle.pb_state.proofs.InOrder.{first_most, is_next_so, length_back, back_later}
-use Rattle.pb_state.proofs.Opening.{next_is}
-use Rattle.pb_state.proofs.Walked.{not_halted}
+use Rattle.pb_state.proofs.Opening.{GoesOn, Begins, IsOpening, open_case}
+use Rattle.pb_state.proofs.Stands.{stands_at, start_stands}
+use Rattle.pb_state.proofs.Walked.{not_halted, stands_in}
 use Rattle.pb_state.specs.Once.{StartOf, SendOf, running_place, place_run_by, starts_from, sends_from, IsNotIn, NoTwice, IsOnce, NothingTwice}
 
 pub and_left : (a b : Bool) → (a && b) ≡ true → a ≡ true
@@ -63,7 +65,8 @@ behind (Some ticket) = 2
 
 abbrev pub RunsFrom : ℕ → HostRow → Option Running → Type 0
 RunsFrom n row None = IsFrom n (reach row.tree row.answers)
-RunsFrom n row (Some r) = (reach row.tree row.answers ≡ At r.place) × (n ≤ 10002 * r.place + first_waiting r.items + behind r.out) × (length r.items ≤ 10000)
+RunsFrom n row (Some r) =
+    (reach row.tree row.answers ≡ At r.place) × (n ≤ 10002 * r.place + first_waiting r.items + behind r.out) × (length r.items ≤ 10000) × (row.in_batch ≡ true)
 
 abbrev pub RowFrom : ℕ → HostRow → Type 0
 RowFrom n row = RunsFrom n row row.running
@@ -71,6 +74,15 @@ RowFrom n row = RunsFrom n row row.running
 abbrev pub FoundFrom : ℕ → Option HostRow → Type 0
 FoundFrom n None = Unit {0}
 FoundFrom n (Some row) = RowFrom n row
+
+-- a host whose batch has opened, if it is one of the play's hosts, and one that waits for none
+abbrev pub FoundBegun : Option HostRow → Type 0
+FoundBegun None = Unit {0}
+FoundBegun (Some row) = (row.in_batch || not row.waits) ≡ true
+
+abbrev pub FoundOut : Option HostRow → Type 0
+FoundOut None = Unit {0}
+FoundOut (Some row) = row.waits ≡ false
 
 above_from : (n p : ℕ) (r : Reach) → IsAbove p r → n ≤ 10002 * p + 10002 → IsFrom n r
 above_from n p (At place) a l = omega (arith, a, l)
@@ -89,12 +101,12 @@ finished_from n p task notified facts row e l =
     above_from n p (reach row.tree (row.answers ++ answer_of task notified ∷ [])) (places_rise row.tree row.answers (answer_of task notified) p e (answer_counts row.answers task notified)) l
 
 progressed_from : (n p : ℕ) (play : PlayOf) (items : List Item) (row : HostRow) → reach row.tree row.answers ≡ At p → n ≤ 10002 * p + first_waiting items + 1 → length items ≤ 10000
-    → RowFrom n (progressed play p items row)
-progressed_from n p play items row e l few = by_over (is_over items)
+    → row.in_batch ≡ true → RowFrom n (progressed play p items row)
+progressed_from n p play items row e l few inside = by_over (is_over items)
   where
     by_over : (over : Bool) → RowFrom n (if over then ended play p items row else record row { running = Some (record { place = p; items = items; out = None }) })
     by_over true = let most = first_most items in finished_from n p (task_at play p items) (notified_by play p (task_at play p items)) (taught play p items row.facts) row e (omega (arith, l, few, most))
-    by_over false = (e, l, few)
+    by_over false = (e, l, few, inside)
 
 same_is : (a b : Option ℕ) → same_place a b ≡ true → (p : ℕ) × (a ≡ Some p) × (b ≡ Some p)
 same_is (Some p) (Some q) e = (p, refl, ap Some (sym (eqb-true p q e)))
@@ -147,7 +159,7 @@ sent_from m n item ticket row e most w = by_running row.running e most w
     by_running (Some r) s k v =
         let first = is_next_so item r.items (and_right (is_none r.out) _ s) in
         let most : n ≤ 10002 * r.place + item + 2 = k r.place refl in
-        (v.0, omega (arith, most, first.0), v.2)
+        (v.0, omega (arith, most, first.0), v.2, v.3)
 
 behind_most : (out : Option Ticket) → behind out ≤ 2
 behind_most None = omega arith
@@ -165,7 +177,7 @@ reported_from n plan play outcome ticket item row e w = by_running row.running e
         back_later (came_back plan play row.host row.facts r.place outcome) r.items (omega (arith, first.0, first.1)) in
         let same : length (items_after plan play row.host row.facts outcome r) ≡ length r.items = length_back (came_back plan play row.host row.facts r.place outcome) r.items in
         let most = behind_most r.out in
-        progressed_from n r.place play (items_after plan play row.host row.facts outcome r) row v.0 (omega (arith, v.1, later, most)) (omega (arith, same, v.2))
+        progressed_from n r.place play (items_after plan play row.host row.facts outcome r) row v.0 (omega (arith, v.1, later, most)) (omega (arith, same, v.2)) v.3
 
 -- ---- the rows
 change_on : (row : HostRow) (rows : List HostRow) (h : ℕ) (f : HostRow → HostRow) (found : Option HostRow) → slice_get rows h ≡ found → change (row ∷ rows) (suc h) f ≡ row ∷ change rows h f
@@ -194,45 +206,161 @@ zero_from : (r : Reach) → IsFrom 0 r
 zero_from (At place) = omega arith
 zero_from (Done ending) = tt
 
-joined_from : (tree : TreeOf) (hosts : List Bool) (rows : List HostRow) (h : ℕ) → FoundFrom 0 (slice_get (map (joined tree hosts) rows) h)
-joined_from tree hosts [] h = tt
-joined_from tree hosts (row ∷ rows) zero = zero_from (reach (joined tree hosts row).tree [])
-joined_from tree hosts (row ∷ rows) (suc h) = joined_from tree hosts rows h
+joined_from : (tree : TreeOf) (room : ℕ) (rows : List HostRow) (h : ℕ) → FoundFrom 0 (slice_get (joined_first tree room rows) h)
+joined_from tree room [] h = tt
+joined_from tree room (row ∷ rows) zero = zero_from (reach (joined tree (joins room row.waits) row).tree [])
+joined_from tree room (row ∷ rows) (suc h) = joined_from tree (room_behind room row.waits) rows h
+
+-- a host that waits for no batch joins none: it does nothing
+joins_none : (tree : TreeOf) (room : ℕ) (row : HostRow) (n : ℕ) (waits : Bool) → waits ≡ false → RowFrom n (joined tree (joins room waits) row) × ((joins room waits || not waits) ≡ true)
+joins_none tree room row n true e = cc
+joins_none tree room row n false e = (tt, refl)
+
+out_stays : (tree : TreeOf) (room : ℕ) (rows : List HostRow) (h n : ℕ) → FoundOut (slice_get rows h) → FoundFrom n (slice_get (joined_first tree room rows) h) × FoundBegun (slice_get (joined_first tree room rows) h)
+out_stays tree room [] h n out = (tt, tt)
+out_stays tree room (row ∷ rows) zero n out = joins_none tree room row n row.waits out
+out_stays tree room (row ∷ rows) (suc h) n out = out_stays tree (room_behind room row.waits) rows h n out
+
+-- a host whose batch had opened waits for none once that has closed
+out_of : (waits inside : Bool) → (inside || not waits) ≡ true → (waits && not inside) ≡ false
+out_of true true e = refl
+out_of true false e = cc
+out_of false inside e = refl
+
+left_out : (rows : List HostRow) (h : ℕ) → FoundBegun (slice_get rows h) → FoundOut (slice_get (map left rows) h)
+left_out [] h w = tt
+left_out (row ∷ rows) zero w = out_of row.waits row.in_batch w
+left_out (row ∷ rows) (suc h) w = left_out rows h w
+
+begun_same : (a b c d : Bool) → a ≡ b → c ≡ d → (b || not d) ≡ true → (a || not c) ≡ true
+begun_same a b c d e f w = rw (e, f) w
+
+inside_begun : (a b : Bool) → a ≡ true → (a || b) ≡ true
+inside_begun true b e = refl
+inside_begun false b e = cc
+
+-- a change of a row that leaves it in its batch, or out of it
+begun_keeps : (f : HostRow → HostRow) → ((row : HostRow) → (f row).in_batch ≡ row.in_batch) → ((row : HostRow) → (f row).waits ≡ row.waits) → (rows : List HostRow) (k h : ℕ)
+    → FoundBegun (slice_get rows h) → FoundBegun (slice_get (change rows k f) h)
+begun_keeps f inside waits [] k h w = tt
+begun_keeps f inside waits (row ∷ rows) zero zero w = begun_same (f row).in_batch row.in_batch (f row).waits row.waits (inside row) (waits row) w
+begun_keeps f inside waits (row ∷ rows) zero (suc h) w = w
+begun_keeps f inside waits (row ∷ rows) (suc k) zero w = rw (change_on row rows k f (slice_get rows k) refl) w
+begun_keeps f inside waits (row ∷ rows) (suc k) (suc h) w = rw (change_on row rows k f (slice_get rows k) refl) (begun_keeps f inside waits rows k h w)
+
+out_keeps : (f : HostRow → HostRow) → ((row : HostRow) → (f row).waits ≡ row.waits) → (rows : List HostRow) (k h : ℕ) → FoundOut (slice_get rows h) → FoundOut (slice_get (change rows k f) h)
+out_keeps f waits [] k h w = tt
+out_keeps f waits (row ∷ rows) zero zero w = waits row ∙ w
+out_keeps f waits (row ∷ rows) zero (suc h) w = w
+out_keeps f waits (row ∷ rows) (suc k) zero w = rw (change_on row rows k f (slice_get rows k) refl) w
+out_keeps f waits (row ∷ rows) (suc k) (suc h) w = rw (change_on row rows k f (slice_get rows k) refl) (out_keeps f waits rows k h w)
+
+-- a host that is in the batch after its row has changed
+begun_at : (m : ℕ) (f : HostRow → HostRow) (rows : List HostRow) (h : ℕ) → ((row : HostRow) → slice_get rows h ≡ Some row → RowFrom m row → (f row).in_batch ≡ true) → FoundFrom m (slice_get rows h)
+    → FoundBegun (slice_get (change rows h f) h)
+begun_at m f [] h each w = tt
+begun_at m f (row ∷ rows) zero each w = inside_begun (f row).in_batch (not (f row).waits) (each row refl w)
+begun_at m f (row ∷ rows) (suc h) each w = rw (change_on row rows h f (slice_get rows h) refl) (begun_at m f rows h each w)
+
+progressed_inside : (play : PlayOf) (p : ℕ) (items : List Item) (row : HostRow) → (progressed play p items row).in_batch ≡ row.in_batch
+progressed_inside play p items row = by_over (is_over items)
+  where
+    by_over : (over : Bool) → (if over then ended play p items row else record row { running = Some (record { place = p; items = items; out = None }) }).in_batch ≡ row.in_batch
+    by_over true = refl
+    by_over false = refl
+
+progressed_waits : (play : PlayOf) (p : ℕ) (items : List Item) (row : HostRow) → (progressed play p items row).waits ≡ row.waits
+progressed_waits play p items row = by_over (is_over items)
+  where
+    by_over : (over : Bool) → (if over then ended play p items row else record row { running = Some (record { place = p; items = items; out = None }) }).waits ≡ row.waits
+    by_over true = refl
+    by_over false = refl
+
+reported_inside : (plan : PlanOf) (play : PlayOf) (outcome : Form) (row : HostRow) → (reported plan play outcome row).in_batch ≡ row.in_batch
+reported_inside plan play outcome row = by_running row.running
+  where
+    by_running : (running : Option Running) → (option_map_or (reported_running plan play outcome row) running row).in_batch ≡ row.in_batch
+    by_running None = refl
+    by_running (Some r) = progressed_inside play r.place (items_after plan play row.host row.facts outcome r) row
+
+reported_waits : (plan : PlanOf) (play : PlayOf) (outcome : Form) (row : HostRow) → (reported plan play outcome row).waits ≡ row.waits
+reported_waits plan play outcome row = by_running row.running
+  where
+    by_running : (running : Option Running) → (option_map_or (reported_running plan play outcome row) running row).waits ≡ row.waits
+    by_running None = refl
+    by_running (Some r) = progressed_waits play r.place (items_after plan play row.host row.facts outcome r) row
 
 -- ---- the states
 -- a host that runs is at its next place
 abbrev pub IsSound : State → Type 0
 IsSound s = s.is_open ≡ true → (h : ℕ) → FoundFrom 0 (slice_get s.rows h)
 
--- each further step of a host is in a later play, or has at least the number n in this one
+-- Each further step of a host is in a later play, or has at least the number n in this one: in the open batch, or none comes in the batches that are
+-- left.
 abbrev pub IsPast : State → ℕ → ℕ → ℕ → Type 0
-IsPast s h play n = (play < s.play) ⊎ ((play ≡ s.play) × (s.is_open ≡ true) × FoundFrom n (slice_get s.rows h))
+IsPast s h play n =
+    (play < s.play)
+    ⊎ (((play ≡ s.play) × (s.is_open ≡ true) × FoundFrom n (slice_get s.rows h) × FoundBegun (slice_get s.rows h))
+    ⊎ ((play ≡ s.play) × (s.is_open ≡ false) × (has_later s.later ≡ true) × FoundOut (slice_get s.rows h)))
 
 -- what an event does to the batch: it stays, opens or closes
 abbrev pub Stays : State → State → Type 0
-Stays s new = (new.play ≡ s.play) × (new.is_open ≡ s.is_open) × ((h n : ℕ) → FoundFrom n (slice_get s.rows h) → FoundFrom n (slice_get new.rows h))
+Stays s new =
+    (new.play ≡ s.play) × (new.is_open ≡ s.is_open) × (new.later ≡ s.later) × ((h n : ℕ) → FoundFrom n (slice_get s.rows h) → FoundFrom n (slice_get new.rows h))
+    × ((h : ℕ) → FoundBegun (slice_get s.rows h) → FoundBegun (slice_get new.rows h)) × ((h : ℕ) → FoundOut (slice_get s.rows h) → FoundOut (slice_get new.rows h))
+
+-- where the play goes on, and where another one begins
+abbrev pub OpensNext : State → State → Type 0
+OpensNext s new =
+    (new.play ≡ s.play) × ((h n : ℕ) → FoundOut (slice_get s.rows h) → FoundFrom n (slice_get new.rows h) × FoundBegun (slice_get new.rows h))
+
+abbrev pub OpensFirst : State → State → Type 0
+OpensFirst s new = (has_later s.later ≡ false) × (s.play ≤ new.play)
 
 abbrev pub Opens : State → State → Type 0
-Opens s new = (s.is_open ≡ false) × (s.play ≤ new.play) × ((h : ℕ) → FoundFrom 0 (slice_get new.rows h))
+Opens s new = (s.is_open ≡ false) × (new.is_open ≡ true) × ((h : ℕ) → FoundFrom 0 (slice_get new.rows h)) × (OpensNext s new ⊎ OpensFirst s new)
+
+-- where batches are left, and where none is
+abbrev pub ClosesOne : State → State → Type 0
+ClosesOne s new = (new.play ≡ s.play) × (has_later new.later ≡ true) × ((h : ℕ) → FoundBegun (slice_get s.rows h) → FoundOut (slice_get new.rows h))
 
 abbrev pub Closes : State → State → Type 0
-Closes s new = (new.play ≡ s.play + 1) × (new.is_open ≡ false)
+Closes s new = (s.is_open ≡ true) × (new.is_open ≡ false) × (ClosesOne s new ⊎ (new.play ≡ s.play + 1))
 
 abbrev pub Moves : State → State → Type 0
 Moves s new = Stays s new ⊎ (Opens s new ⊎ Closes s new)
 
+opens_later : (s new : State) (play : ℕ) → OpensNext s new ⊎ OpensFirst s new → play < s.play → play < new.play
+opens_later s new play (inl next) l = omega (arith, l, next.0)
+opens_later s new play (inr first) l = omega (arith, l, first.1)
+
+opens_past : (s new : State) (h play n : ℕ) → new.is_open ≡ true → OpensNext s new ⊎ OpensFirst s new → play ≡ s.play → has_later s.later ≡ true → FoundOut (slice_get s.rows h) → IsPast new h play n
+opens_past s new h play n o (inl next) e later out = let found = next.1 h n out in inr (inl (e ∙ sym next.0, o, found.0, found.1))
+opens_past s new h play n o (inr first) e later out = absurd (let none = first.0 in cc)
+
+closes_later : (s new : State) (play : ℕ) → ClosesOne s new ⊎ (new.play ≡ s.play + 1) → play < s.play → play < new.play
+closes_later s new play (inl one) l = omega (arith, l, one.0)
+closes_later s new play (inr last) l = omega (arith, l, last)
+
+closes_past : (s new : State) (h play n : ℕ) → new.is_open ≡ false → ClosesOne s new ⊎ (new.play ≡ s.play + 1) → play ≡ s.play → FoundBegun (slice_get s.rows h) → IsPast new h play n
+closes_past s new h play n c (inl one) e begun = inr (inr (e ∙ sym one.0, c, one.1, one.2 h begun))
+closes_past s new h play n c (inr last) e begun = inl (omega (arith, e, last))
+
 pub past_kept : (s new : State) (h play n : ℕ) → Moves s new → IsPast s h play n → IsPast new h play n
 past_kept s new h play n (inl stays) (inl l) = inl (omega (arith, l, stays.0))
-past_kept s new h play n (inl stays) (inr w) = inr (w.0 ∙ sym stays.0, stays.1 ∙ w.1, stays.2 h n w.2)
-past_kept s new h play n (inr (inl opens)) (inl l) = inl (omega (arith, l, opens.1))
-past_kept s new h play n (inr (inl opens)) (inr w) = absurd (let closed = opens.0 in let opened = w.1 in cc)
-past_kept s new h play n (inr (inr closes)) (inl l) = inl (omega (arith, l, closes.0))
-past_kept s new h play n (inr (inr closes)) (inr w) = inl (omega (arith, w.0, closes.0))
+past_kept s new h play n (inl stays) (inr (inl w)) = inr (inl (w.0 ∙ sym stays.0, stays.1 ∙ w.1, stays.3 h n w.2, stays.4 h w.3))
+past_kept s new h play n (inl stays) (inr (inr w)) = inr (inr (w.0 ∙ sym stays.0, stays.1 ∙ w.1, ap has_later stays.2 ∙ w.2, stays.5 h w.3))
+past_kept s new h play n (inr (inl opens)) (inl l) = inl (opens_later s new play opens.3 l)
+past_kept s new h play n (inr (inl opens)) (inr (inl w)) = absurd (let shut = opens.0 in let opened = w.1 in cc)
+past_kept s new h play n (inr (inl opens)) (inr (inr w)) = opens_past s new h play n opens.1 opens.3 w.0 w.2 w.3
+past_kept s new h play n (inr (inr closes)) (inl l) = inl (closes_later s new play closes.2 l)
+past_kept s new h play n (inr (inr closes)) (inr (inl w)) = closes_past s new h play n closes.1 closes.2 w.0 w.3
+past_kept s new h play n (inr (inr closes)) (inr (inr w)) = absurd (let opened = closes.0 in let shut = w.1 in cc)
 
 pub sound_kept : (s new : State) → Moves s new → IsSound s → IsSound new
-sound_kept s new (inl stays) w = λ o h. stays.2 h 0 (w (sym stays.1 ∙ o) h)
+sound_kept s new (inl stays) w = λ o h. stays.3 h 0 (w (sym stays.1 ∙ o) h)
 sound_kept s new (inr (inl opens)) w = λ o h. opens.2 h
-sound_kept s new (inr (inr closes)) w = λ o. absurd (let closed = closes.1 in cc)
+sound_kept s new (inr (inr closes)) w = λ o. absurd (let shut = closes.1 in cc)
 
 -- ---- the events
 -- an open play is open
@@ -240,30 +368,39 @@ is_opened : (plan : PlanOf) (s : State) (b : Bool) (play : PlayOf) → s.is_open
 is_opened plan s true play e o = refl
 is_opened plan s false play e o = cc
 
-stays_in : (s new : State) → new.play ≡ s.play → new.is_open ≡ s.is_open → ((h n : ℕ) → FoundFrom n (slice_get s.rows h) → FoundFrom n (slice_get new.rows h)) → Moves s new
-stays_in s new p b f = inl (p, b, f)
+-- an event needs an open batch
+pub open_of : (plan : PlanOf) (s : State) (test : PlayOf → Bool) (found : Option PlayOf) → open_play plan s ≡ found → option_map_or test found false ≡ true → s.is_open ≡ true
+open_of plan s test None o e = cc
+open_of plan s test (Some play) o e = is_opened plan s s.is_open play refl o
 
-same_rows : (s new : State) → new.play ≡ s.play → new.is_open ≡ s.is_open → new.rows ≡ s.rows → Moves s new
-same_rows s new p b r = inl (p, b, λ h n w. rw r w)
+stays_in : (s new : State) (k : ℕ) (f : HostRow → HostRow) → new.play ≡ s.play → new.is_open ≡ s.is_open → new.later ≡ s.later → new.rows ≡ change s.rows k f
+    → ((row : HostRow) → (f row).in_batch ≡ row.in_batch) → ((row : HostRow) → (f row).waits ≡ row.waits)
+    → ((h n : ℕ) → FoundFrom n (slice_get s.rows h) → FoundFrom n (slice_get (change s.rows k f) h)) → Moves s new
+stays_in s new k f p b l r inside waits from =
+    inl (p, b, l, λ h n w. rw r (from h n w), λ h w. rw r (begun_keeps f inside waits s.rows k h w), λ h w. rw r (out_keeps f waits s.rows k h w))
+
+same_rows : (s new : State) → new.play ≡ s.play → new.is_open ≡ s.is_open → new.later ≡ s.later → new.rows ≡ s.rows → Moves s new
+same_rows s new p b l r = inl (p, b, l, λ h n w. rw r w, λ h w. rw r w, λ h w. rw r w)
 
 start_at_moves : (plan : PlanOf) (s : State) (k : ℕ) (play : PlayOf) (place : Option ℕ) → open_play plan s ≡ Some play → at_row (stands_at place) s.rows k ≡ true → Moves s (option_map_or (start_at plan s k play) place s)
-start_at_moves plan s k play None o e = same_rows s s refl refl refl
+start_at_moves plan s k play None o e = same_rows s s refl refl refl refl
 start_at_moves plan s k play (Some p) o e =
-    stays_in s (start_at plan s k play p) refl refl
+    stays_in s (start_at plan s k play p) k (progressed play p (items_at (plan_seen plan s) play k (facts_at s k) p)) refl refl refl refl
+    (progressed_inside play p (items_at (plan_seen plan s) play k (facts_at s k) p)) (progressed_waits play p (items_at (plan_seen plan s) play k (facts_at s k) p))
     (λ h n w. change_keeps n (progressed play p (items_at (plan_seen plan s) play k (facts_at s k) p)) s.rows k h
     (λ row is v. let at = found_test (stands_at (Some p)) row (slice_get s.rows k) is e in
     let least = start_number n p row at v in
-    progressed_from n p play (items_at (plan_seen plan s) play k (facts_at s k) p) row (stands p row at) (omega (arith, least)) (few_items (plan_seen plan s) play k (facts_at s k) p))
+    progressed_from n p play (items_at (plan_seen plan s) play k (facts_at s k) p) row (stands p row at) (omega (arith, least)) (few_items (plan_seen plan s) play k (facts_at s k) p) (stands_in (Some p) row at))
     w)
 
 start_moves : (plan : PlanOf) (s : State) (k : ℕ) (found : Option PlayOf) → open_play plan s ≡ found → option_map_or (may_start_in s k) found false ≡ true → Moves s (option_map_or (started_in plan s k) found s)
 start_moves plan s k None o e = cc
-start_moves plan s k (Some play) o e = start_at_moves plan s k play s.place o (and_right (has_room s) _ e)
+start_moves plan s k (Some play) o e = start_at_moves plan s k play (next_at s k) o (start_stands s k play e)
 
 send_moves : (plan : PlanOf) (s : State) (k item : ℕ) (ticket : Ticket) (found : Option PlayOf) → open_play plan s ≡ found → option_map_or (may_send_in s k item ticket) found false ≡ true → Moves s (option_map_or (sent_in s k ticket) found s)
 send_moves plan s k item ticket None o e = cc
 send_moves plan s k item ticket (Some play) o e =
-    stays_in s (sent_in s k ticket play) refl refl
+    stays_in s (sent_in s k ticket play) k (sent ticket) refl refl refl refl (λ row. refl) (λ row. refl)
     (λ h n w. change_keeps n (sent ticket) s.rows k h
     (λ row is v. let at = found_test (may_send_item item) row (slice_get s.rows k) is (and_right (not s.stopped && nat_eq ticket.0 s.sends) _ e) in
     sent_from n n item ticket row at (λ p here. let least = send_number n p item row at here v in omega (arith, least)) v)
@@ -272,23 +409,33 @@ send_moves plan s k item ticket (Some play) o e =
 report_moves : (plan : PlanOf) (s : State) (r : Report) (found : Option PlayOf) → open_play plan s ≡ found → option_map_or (may_report_in s r) found false ≡ true → Moves s (option_map_or (reported_in plan s r) found s)
 report_moves plan s r None o e = cc
 report_moves plan s r (Some play) o e =
-    stays_in s (reported_in plan s r play) refl refl
+    stays_in s (reported_in plan s r play) r.host.0 (reported (plan_seen plan s) play r.outcome) refl refl refl refl
+    (reported_inside (plan_seen plan s) play r.outcome) (reported_waits (plan_seen plan s) play r.outcome)
     (λ h n w. change_keeps n (reported (plan_seen plan s) play r.outcome) s.rows r.host.0 h
     (λ row is v. let at = found_test (awaits r.ticket r.item) row (slice_get s.rows r.host.0) is e in
     reported_from n (plan_seen plan s) play r.outcome r.ticket r.item row at v)
     w)
 
 turn_moves : (plan : PlanOf) (s : State) (found : Option PlayOf) → Moves s (option_map_or (turned_in s) found s)
-turn_moves plan s None = same_rows s s refl refl refl
-turn_moves plan s (Some play) = same_rows s (turned_in s play) refl refl refl
+turn_moves plan s None = same_rows s s refl refl refl refl
+turn_moves plan s (Some play) = same_rows s (turned_in s play) refl refl refl refl
 
-opened_moves : (plan : PlanOf) (s : State) (n : ℕ) (found : Option PlayOf) → s.is_open ≡ false → s.play ≤ n → Moves s (option_map_or (opened_in s n) found s)
-opened_moves plan s n None c l = same_rows s s refl refl refl
-opened_moves plan s n (Some play) c l = inr (inl (c, l, λ h. joined_from play.tree play.hosts s.rows h))
+opened_how : (s : State) (n batch : ℕ) (sizes : List ℕ) (rows : List HostRow) (play : PlayOf) (size : ℕ) → GoesOn s n batch sizes rows ⊎ Begins s n batch sizes rows play
+    → OpensNext s (opened_by s n batch sizes rows play size) ⊎ OpensFirst s (opened_by s n batch sizes rows play size)
+opened_how s n batch sizes rows play size (inl on) = inl (on.1, λ h m out. out_stays play.tree size rows h m (rw on.4 out))
+opened_how s n batch sizes rows play size (inr begun) = inr (begun.0, begun.1)
 
-open_moves : (plan : PlanOf) (s : State) (next : Option ℕ) → next_play plan s ≡ next → s.is_open ≡ false → Moves s (option_map_or (opened_from plan s) next s)
-open_moves plan s None f c = same_rows s s refl refl refl
-open_moves plan s (Some n) f c = opened_moves plan s n (slice_get plan.plays n) c (next_is plan s n f).least
+open_moves : (plan : PlanOf) (s : State) → s.is_open ≡ false → Moves s (after_open plan s)
+open_moves plan s c =
+    open_case (Moves s) plan s (λ none. same_rows s s refl refl refl refl)
+    (λ n batch sizes rows play size is. inr (inl (c, refl, λ h. joined_from play.tree size rows h, opened_how s n batch sizes rows play size is.how)))
+
+closed_how : (s : State) (later : Bool) → has_later s.later ≡ later → ClosesOne s (closed s) ⊎ ((closed s).play ≡ s.play + 1)
+closed_how s true l = inl (ap (λ (b : Bool). play_behind b s.play) l, l, λ h w. left_out s.rows h w)
+closed_how s false l = inr (ap (λ (b : Bool). play_behind b s.play) l)
+
+close_moves : (plan : PlanOf) (s : State) → possible plan s Close ≡ true → Moves s (closed s)
+close_moves plan s p = inr (inr (open_of plan s (may_close_in s) (open_play plan s) refl p, refl, closed_how s (has_later s.later) refl))
 
 may_open_closed : (stopped opened ended more : Bool) → (not stopped && not opened && not ended && more) ≡ true → opened ≡ false
 may_open_closed stopped true ended more e =
@@ -298,14 +445,14 @@ may_open_closed stopped true ended more e =
 may_open_closed stopped false ended more e = refl
 
 pub moves : (plan : PlanOf) (s : State) (e : Event) → possible plan s e ≡ true → Moves s (after plan s e)
-moves plan s Open p = open_moves plan s (next_play plan s) refl (may_open_closed s.stopped s.is_open s.ended _ p)
+moves plan s Open p = open_moves plan s (may_open_closed s.stopped s.is_open s.ended _ p)
 moves plan s (Start host) p = start_moves plan s host.0 (open_play plan s) refl p
 moves plan s (Send host item ticket) p = send_moves plan s host.0 item ticket (open_play plan s) refl p
 moves plan s (Reported r) p = report_moves plan s r (open_play plan s) refl p
 moves plan s Turn p = turn_moves plan s (open_play plan s)
-moves plan s Close p = inr (inr (refl, refl))
-moves plan s Stop p = same_rows s (after plan s Stop) refl refl refl
-moves plan s (Forks n) p = same_rows s (after plan s (Forks n)) refl refl refl
+moves plan s Close p = close_moves plan s p
+moves plan s Stop p = same_rows s (after plan s Stop) refl refl refl refl
+moves plan s (Forks n) p = same_rows s (after plan s (Forks n)) refl refl refl refl
 
 -- ---- starts
 none_same : (a : Option ℕ) → same_place a None ≡ false
@@ -321,9 +468,9 @@ start_place_in : (s : State) (k : ℕ) (play : PlayOf) (place : Option ℕ) → 
 start_place_in s k play (Some p) e = (p, refl)
 start_place_in s k play None e = absurd (none_stands (slice_get s.rows k) e)
 
-pub start_place : (plan : PlanOf) (s : State) (k : ℕ) (found : Option PlayOf) → option_map_or (may_start_in s k) found false ≡ true → (p : ℕ) × (s.place ≡ Some p)
+pub start_place : (plan : PlanOf) (s : State) (k : ℕ) (found : Option PlayOf) → option_map_or (may_start_in s k) found false ≡ true → (p : ℕ) × (next_at s k ≡ Some p)
 start_place plan s k None e = cc
-start_place plan s k (Some play) e = start_place_in s k play s.place (and_right (has_room s) _ e)
+start_place plan s k (Some play) e = start_place_in s k play (next_at s k) (start_stands s k play e)
 
 -- after a start the host is past it
 start_at_raises : (plan : PlanOf) (s : State) (k : ℕ) (play : PlayOf) (place : Option ℕ) (p : ℕ) → IsSound s → open_play plan s ≡ Some play → place ≡ Some p → at_row (stands_at place) s.rows k ≡ true → IsPast (option_map_or (start_at plan s k play) place s) k s.play (10002 * p + 1)
@@ -331,36 +478,41 @@ start_at_raises plan s k play None p w o f e = cc
 start_at_raises plan s k play (Some q) p w o f e =
     let same : q ≡ p = cc in
     let opened = is_opened plan s s.is_open play refl o in
-    inr (
+    inr (inl (
       refl,
       opened,
       change_raises 0 (10002 * p + 1) (progressed play q (items_at (plan_seen plan s) play k (facts_at s k) q)) s.rows k
           (λ row here u. let at = found_test (stands_at (Some q)) row (slice_get s.rows k) here e in
-          progressed_from (10002 * p + 1) q play (items_at (plan_seen plan s) play k (facts_at s k) q) row (stands q row at) (omega (arith, same)) (few_items (plan_seen plan s) play k (facts_at s k) q))
+          progressed_from (10002 * p + 1) q play (items_at (plan_seen plan s) play k (facts_at s k) q) row (stands q row at) (omega (arith, same)) (few_items (plan_seen plan s) play k (facts_at s k) q) (stands_in (Some q) row at))
           (w opened k),
-    )
+      begun_at 0 (progressed play q (items_at (plan_seen plan s) play k (facts_at s k) q)) s.rows k
+          (λ row here u. let at = found_test (stands_at (Some q)) row (slice_get s.rows k) here e in
+          progressed_inside play q (items_at (plan_seen plan s) play k (facts_at s k) q) row ∙ stands_in (Some q) row at)
+          (w opened k),
+    ))
 
-pub start_raises : (plan : PlanOf) (s : State) (k p : ℕ) (found : Option PlayOf) → IsSound s → open_play plan s ≡ found → s.place ≡ Some p → option_map_or (may_start_in s k) found false ≡ true → IsPast (option_map_or (started_in plan s k) found s) k s.play (10002 * p + 1)
+pub start_raises : (plan : PlanOf) (s : State) (k p : ℕ) (found : Option PlayOf) → IsSound s → open_play plan s ≡ found → next_at s k ≡ Some p → option_map_or (may_start_in s k) found false ≡ true → IsPast (option_map_or (started_in plan s k) found s) k s.play (10002 * p + 1)
 start_raises plan s k p None w o f e = cc
-start_raises plan s k p (Some play) w o f e = start_at_raises plan s k play s.place p w o f (and_right (has_room s) _ e)
+start_raises plan s k p (Some play) w o f e = start_at_raises plan s k play (next_at s k) p w o f (start_stands s k play e)
 
 -- a host that is past a start doesn't start there
 found_start : (n p : ℕ) (found : Option HostRow) → option_map_or (stands_at (Some p)) found false ≡ true → FoundFrom n found → n ≤ 10002 * p
 found_start n p None e w = cc
 found_start n p (Some row) e w = start_number n p row e w
 
-pub start_least : (s : State) (k n p : ℕ) (found : Option PlayOf) → s.place ≡ Some p → option_map_or (may_start_in s k) found false ≡ true → FoundFrom n (slice_get s.rows k) → n ≤ 10002 * p
+pub start_least : (s : State) (k n p : ℕ) (found : Option PlayOf) → next_at s k ≡ Some p → option_map_or (may_start_in s k) found false ≡ true → FoundFrom n (slice_get s.rows k) → n ≤ 10002 * p
 start_least s k n p None f e w = cc
 start_least s k n p (Some play) f e w =
-    found_start n p (slice_get s.rows k) (subst (λ (place : Option ℕ). at_row (stands_at place) s.rows k ≡ true) f (and_right (has_room s) _ e)) w
+    found_start n p (slice_get s.rows k) (subst (λ (place : Option ℕ). at_row (stands_at place) s.rows k ≡ true) f (start_stands s k play e)) w
 
-start_again : (plan : PlanOf) (s : State) (h play p : ℕ) (k : HostNo) → h ≡ k.0 → play ≡ s.play → s.place ≡ Some p → possible plan s (Start k) ≡ true → IsPast s h play (10002 * p + 1) → ⊥
+start_again : (plan : PlanOf) (s : State) (h play p : ℕ) (k : HostNo) → h ≡ k.0 → play ≡ s.play → next_at s k.0 ≡ Some p → possible plan s (Start k) ≡ true → IsPast s h play (10002 * p + 1) → ⊥
 start_again plan s h play p k same now here e (inl l) = omega (arith, l, now)
-start_again plan s h play p k same now here e (inr w) =
+start_again plan s h play p k same now here e (inr (inr w)) = absurd (let opened = open_of plan s (may_start_in s k.0) (open_play plan s) refl e in let shut = w.1 in cc)
+start_again plan s h play p k same now here e (inr (inl w)) =
     let least = start_least s k.0 (10002 * p + 1) p (open_play plan s) here e (subst (λ (j : ℕ). FoundFrom (10002 * p + 1) (slice_get s.rows j)) same w.2) in
     omega (arith, least)
 
-other_start : (plan : PlanOf) (s : State) (x : StartOf) (p : ℕ) (k : HostNo) → x.place ≡ Some p → possible plan s (Start k) ≡ true → IsPast s x.host.0 x.play (10002 * p + 1) → x ≢ record { host = k; play = s.play; place = s.place }
+other_start : (plan : PlanOf) (s : State) (x : StartOf) (p : ℕ) (k : HostNo) → x.place ≡ Some p → possible plan s (Start k) ≡ true → IsPast s x.host.0 x.play (10002 * p + 1) → x ≢ record { host = k; play = s.play; place = next_at s k.0 }
 other_start plan s x p k at e w = λ same.
     start_again plan s x.host.0 x.play p k (ap (λ (y : StartOf). y.host.0) same) (ap (λ (y : StartOf). y.play) same) (sym (ap (λ (y : StartOf). y.place) same) ∙ at) e w
 
@@ -380,7 +532,7 @@ starts_once plan s (Start k ∷ es) w l =
     let now = and_left (possible plan s (Start k)) _ l in
     let rest = and_right (possible plan s (Start k)) _ l in
     let at = start_place plan s k.0 (open_play plan s) now in (
-      later_starts plan (after plan s (Start k)) (record { host = k; play = s.play; place = s.place }) at.0 es at.1 rest (start_raises plan s k.0 at.0 (open_play plan s) w refl at.1 now),
+      later_starts plan (after plan s (Start k)) (record { host = k; play = s.play; place = next_at s k.0 }) at.0 es at.1 rest (start_raises plan s k.0 at.0 (open_play plan s) w refl at.1 now),
       starts_once plan (after plan s (Start k)) es (sound_kept s (after plan s (Start k)) (moves plan s (Start k) now) w) rest,
     )
 starts_once plan s (e ∷ es) w l =
@@ -407,12 +559,20 @@ found_place : (row : HostRow) (p : ℕ) (found : Option HostRow) → found ≡ S
 found_place row p None is e = cc
 found_place row p (Some r) is e = let same : r ≡ row = cc in rw (← same) e
 
+-- a host that sends is in the batch
+sends_inside : (n item : ℕ) (row : HostRow) → may_send_item item row ≡ true → RowFrom n row → row.in_batch ≡ true
+sends_inside n item row e w = by_running row.running e w
+  where
+    by_running : (running : Option Running) → option_map_or (sends_running item) running false ≡ true → RunsFrom n row running → row.in_batch ≡ true
+    by_running None s v = cc
+    by_running (Some r) s v = v.3
+
 -- after a send the host is past it
 send_raises : (plan : PlanOf) (s : State) (k : HostNo) (item p : ℕ) (ticket : Ticket) (found : Option PlayOf) → IsSound s → open_play plan s ≡ found → place_run_by s k ≡ Some p → option_map_or (may_send_in s k.0 item ticket) found false ≡ true → IsPast (option_map_or (sent_in s k.0 ticket) found s) k.0 s.play (10002 * p + item + 2)
 send_raises plan s k item p ticket None w o f e = cc
 send_raises plan s k item p ticket (Some play) w o f e =
     let opened = is_opened plan s s.is_open play refl o in
-    inr (
+    inr (inl (
       refl,
       opened,
       change_raises 0 (10002 * p + item + 2) (sent ticket) s.rows k.0
@@ -420,7 +580,8 @@ send_raises plan s k item p ticket (Some play) w o f e =
           let runs : running_place row ≡ Some p = found_place row p (slice_get s.rows k.0) here f in
           sent_from 0 (10002 * p + item + 2) item ticket row at (λ q there. let same : q ≡ p = cc in omega (arith, same)) u)
           (w opened k.0),
-    )
+      begun_at 0 (sent ticket) s.rows k.0 (λ row here u. sends_inside 0 item row (found_test (may_send_item item) row (slice_get s.rows k.0) here (send_test s k.0 item ticket play e)) u) (w opened k.0),
+    ))
 
 -- a host that is past a send doesn't send there
 send_least_in : (n p item : ℕ) (found : Option HostRow) → option_map_or (may_send_item item) found false ≡ true → option_map_or running_place found None ≡ Some p → FoundFrom n found → n ≤ 10002 * p + item + 1
@@ -433,7 +594,8 @@ send_least s k item n p ticket (Some play) f e w = send_least_in n p item (slice
 
 send_again : (plan : PlanOf) (s : State) (h play p i item : ℕ) (k : HostNo) (ticket : Ticket) → h ≡ k.0 → play ≡ s.play → place_run_by s k ≡ Some p → i ≡ item → possible plan s (Send k item ticket) ≡ true → IsPast s h play (10002 * p + i + 2) → ⊥
 send_again plan s h play p i item k ticket same now here is e (inl l) = omega (arith, l, now)
-send_again plan s h play p i item k ticket same now here is e (inr w) =
+send_again plan s h play p i item k ticket same now here is e (inr (inr w)) = absurd (let opened = open_of plan s (may_send_in s k.0 item ticket) (open_play plan s) refl e in let shut = w.1 in cc)
+send_again plan s h play p i item k ticket same now here is e (inr (inl w)) =
     let least = send_least s k item (10002 * p + i + 2) p ticket (open_play plan s) here e (subst (λ (j : ℕ). FoundFrom (10002 * p + i + 2) (slice_get s.rows j)) same w.2) in
     omega (arith, least, is)
 

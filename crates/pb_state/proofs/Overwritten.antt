@@ -3,12 +3,12 @@ use Rattle.std.proofs.Common.{◌≡◌, ℕ, ◌+◌, ◌<◌, Bool, false, Lis
 use Rattle.std.proofs.lemmas.List.{drop_more, map_more, set_at, length-map, length-replicate, replicate_more}
 use Rattle.std.specs.Prelude.{replicate}
 
-pub told_more : {X : Type 0} (f : X → Bool) (xs : List X) (ys s : List Bool) (i : ℕ) (x : X) → i < length xs → length ys ≡ length xs → s ≡ map f (take i xs) ++ drop i ys → x ≡ get_or xs i x → set s i (f x) ≡ map f (take (i + 1) xs) ++ drop (i + 1) ys
+pub told_more : {X Y : Type 0} (f : X → Y) (xs : List X) (ys s : List Y) (i : ℕ) (x : X) → i < length xs → length ys ≡ length xs → s ≡ map f (take i xs) ++ drop i ys → x ≡ get_or xs i x → set s i (f x) ≡ map f (take (i + 1) xs) ++ drop (i + 1) ys
 told_more f xs ys s i x inside width told e =
     let there : i < length ys = omega arith in
     let front : length (map f (take i xs)) ≡ i = simp (length-map, length-take) (omega arith) in
-    ap (λ t. set t i (f x)) (told ∙ ap (λ t. map f (take i xs) ++ t) (drop_more ys i false there))
-    ∙ set_at (map f (take i xs)) (get_or ys i false) (drop (i + 1) ys) (f x) i front
+    ap (λ t. set t i (f x)) (told ∙ ap (λ t. map f (take i xs) ++ t) (drop_more ys i (f x) there))
+    ∙ set_at (map f (take i xs)) (get_or ys i (f x)) (drop (i + 1) ys) (f x) i front
     ∙ sym (append_assoc (map f (take i xs)) (f x ∷ []) (drop (i + 1) ys))
     ∙ ap (λ t. t ++ drop (i + 1) ys) (ap (λ v. map f (take i xs) ++ f v ∷ []) e ∙ sym (map_more f xs i x inside))
 

@@ -1,5 +1,5 @@
 -- What every step keeps.
-use Rattle.std.proofs.Common.{◌≡◌, ℕ, ◌+◌, ◌≤◌, ◌<◌, Bool, true, false, ◌&&◌, List, length, set, refl, arith}
+use Rattle.std.proofs.Common.{◌≡◌, ℕ, ◌+◌, ◌≤◌, ◌∷◌, ◌<◌, Bool, true, false, ◌&&◌, List, [], length, set, refl, sym, ◌∙◌, ap, arith}
 use Rattle.std.specs.Prelude.{Option, Some, None, slice_get, nat_le}
 use Rattle.std.specs.Option.{option_map_or}
 use Rattle.std.proofs.lemmas.List.{length-map, length-set}
@@ -9,9 +9,12 @@ use Rattle.pb_outcome.specs.declared.job.Report.{Report}
 use Rattle.pb_state.specs.declared.event.Event.{Event}
 use Rattle.pb_state.specs.declared.event.Event.TheVariants.{Open, Start, Send, Report as Reported, Turn, Close, Stop, Forks}
 use Rattle.pb_plan.specs.Plan.{PlayOf, PlanOf}
-use Rattle.pb_state.specs.Row.{HostRow, joined, left}
+use Rattle.pb_state.specs.Row.{HostRow, called, left}
 use Rattle.pb_state.specs.State.{State}
-use Rattle.pb_state.specs.Machine.{possible, after, change, open_play, next_play, opened_in, opened_at, started_in, start_at, sent_in, reported_in, turned_in, closed, stopped}
+use Rattle.pb_state.specs.Machine.{possible, after, change, open_play, opened_by, after_open, started_in, next_at, start_at, sent_in, reported_in, turned_in, closed, stopped, first_state}
+use Rattle.pb_state.specs.Run.{state_from, IsRun}
+use Rattle.pb_state.proofs.Batching.{length-joined}
+use Rattle.pb_state.proofs.Opening.{open_case, rows_case}
 
 length-changed : (rows : List HostRow) (h : ℕ) (f : HostRow → HostRow) (found : Option HostRow) → length (option_map_or (λ row. set rows h (f row)) found rows) ≡ length rows
 length-changed rows h f None = refl
@@ -30,13 +33,12 @@ pub record Keeps (old new : State) : Type 0 where
 same_sends : (old new : State) → length new.rows ≡ length old.rows → new.forks ≡ old.forks → new.sends ≡ old.sends → Keeps old new
 same_sends old new h f s = record { hosts = h; forks = f; least = omega (arith, s); most = omega (arith, s) }
 
-opened_keeps : (s : State) (n : ℕ) (found : Option PlayOf) → Keeps s (option_map_or (opened_in s n) found s)
-opened_keeps s n None = same_sends s s refl refl refl
-opened_keeps s n (Some play) = same_sends s (opened_in s n play) (length-map s.rows (joined play.tree play.hosts)) refl refl
-
-open_keeps : (plan : PlanOf) (s : State) (next : Option ℕ) → Keeps s (option_map_or (opened_at plan s) next s)
-open_keeps plan s None = same_sends s s refl refl refl
-open_keeps plan s (Some n) = opened_keeps s n (slice_get plan.plays n)
+open_keeps : (plan : PlanOf) (s : State) → Keeps s (after_open plan s)
+open_keeps plan s =
+    open_case (Keeps s) plan s (λ none. same_sends s s refl refl refl)
+    (λ n batch sizes rows play size is.
+    let stay : length rows ≡ length s.rows = rows_case (λ (all : List HostRow). length all ≡ length s.rows) plan s n batch sizes rows play size is refl (λ hosts. length-map s.rows (called hosts)) in
+    same_sends s (opened_by s n batch sizes rows play size) (length-joined play.tree size rows ∙ stay) refl refl)
 
 start_keeps : (plan : PlanOf) (s : State) (h : ℕ) (play : PlayOf) (place : Option ℕ) → Keeps s (option_map_or (start_at plan s h play) place s)
 start_keeps plan s h play None = same_sends s s refl refl refl
@@ -44,7 +46,7 @@ start_keeps plan s h play (Some p) = same_sends s (start_at plan s h play p) (le
 
 started_keeps : (plan : PlanOf) (s : State) (h : ℕ) (found : Option PlayOf) → Keeps s (option_map_or (started_in plan s h) found s)
 started_keeps plan s h None = same_sends s s refl refl refl
-started_keeps plan s h (Some play) = start_keeps plan s h play s.place
+started_keeps plan s h (Some play) = start_keeps plan s h play (next_at s h)
 
 sent_keeps : (s : State) (h : ℕ) (ticket : Ticket) (found : Option PlayOf) → Keeps s (option_map_or (sent_in s h ticket) found s)
 sent_keeps s h ticket None = same_sends s s refl refl refl
@@ -65,7 +67,7 @@ stopped_keeps : (s : State) → Keeps s (stopped s)
 stopped_keeps s = same_sends s (stopped s) refl refl refl
 
 pub hosts_stay : (plan : PlanOf) (s : State) (e : Event) → length (after plan s e).rows ≡ length s.rows
-hosts_stay plan s Open = (open_keeps plan s (next_play plan s)).hosts
+hosts_stay plan s Open = (open_keeps plan s).hosts
 hosts_stay plan s (Start h) = (started_keeps plan s h.0 (open_play plan s)).hosts
 hosts_stay plan s (Send h item ticket) = (sent_keeps s h.0 ticket (open_play plan s)).hosts
 hosts_stay plan s (Reported r) = (reported_keeps plan s r (open_play plan s)).hosts
@@ -86,7 +88,7 @@ forks_given s n e = omega (arith, leb-true 1 n (and_left (nat_le 1 n) _ e))
 
 -- some host may run, whatever comes
 pub forks_stay : (plan : PlanOf) (s : State) (e : Event) → possible plan s e ≡ true → 0 < s.forks → 0 < (after plan s e).forks
-forks_stay plan s Open p f = same_forks s.forks _ (open_keeps plan s (next_play plan s)).forks f
+forks_stay plan s Open p f = same_forks s.forks _ (open_keeps plan s).forks f
 forks_stay plan s (Start h) p f = same_forks s.forks _ (started_keeps plan s h.0 (open_play plan s)).forks f
 forks_stay plan s (Send h item ticket) p f = same_forks s.forks _ (sent_keeps s h.0 ticket (open_play plan s)).forks f
 forks_stay plan s (Reported r) p f = same_forks s.forks _ (reported_keeps plan s r (open_play plan s)).forks f
@@ -95,9 +97,47 @@ forks_stay plan s Close p f = f
 forks_stay plan s Stop p f = f
 forks_stay plan s (Forks n) p f = forks_given s n p
 
+-- the pool stays
+start_pool : (plan : PlanOf) (s : State) (h : ℕ) (play : PlayOf) (place : Option ℕ) → (option_map_or (start_at plan s h play) place s).pool ≡ s.pool
+start_pool plan s h play None = refl
+start_pool plan s h play (Some p) = refl
+
+started_pool : (plan : PlanOf) (s : State) (h : ℕ) (found : Option PlayOf) → (option_map_or (started_in plan s h) found s).pool ≡ s.pool
+started_pool plan s h None = refl
+started_pool plan s h (Some play) = start_pool plan s h play (next_at s h)
+
+sent_pool : (s : State) (h : ℕ) (ticket : Ticket) (found : Option PlayOf) → (option_map_or (sent_in s h ticket) found s).pool ≡ s.pool
+sent_pool s h ticket None = refl
+sent_pool s h ticket (Some play) = refl
+
+reported_pool : (plan : PlanOf) (s : State) (r : Report) (found : Option PlayOf) → (option_map_or (reported_in plan s r) found s).pool ≡ s.pool
+reported_pool plan s r None = refl
+reported_pool plan s r (Some play) = refl
+
+turned_pool : (s : State) (found : Option PlayOf) → (option_map_or (turned_in s) found s).pool ≡ s.pool
+turned_pool s None = refl
+turned_pool s (Some play) = refl
+
+pub pool_stays : (plan : PlanOf) (s : State) (e : Event) → (after plan s e).pool ≡ s.pool
+pool_stays plan s Open = open_case (λ (new : State). new.pool ≡ s.pool) plan s (λ none. refl) (λ n batch sizes rows play size is. refl)
+pool_stays plan s (Start h) = started_pool plan s h.0 (open_play plan s)
+pool_stays plan s (Send h item ticket) = sent_pool s h.0 ticket (open_play plan s)
+pool_stays plan s (Reported r) = reported_pool plan s r (open_play plan s)
+pool_stays plan s Turn = turned_pool s (open_play plan s)
+pool_stays plan s Close = refl
+pool_stays plan s Stop = refl
+pool_stays plan s (Forks n) = refl
+
+pool_from : (plan : PlanOf) (s : State) (es : List Event) → (state_from plan s es).pool ≡ s.pool
+pool_from plan s [] = refl
+pool_from plan s (e ∷ es) = pool_from plan (after plan s e) es ∙ pool_stays plan s e
+
+pub pool_run : (plan : PlanOf) (pool : ℕ) (trail : List Event) (s : State) → IsRun plan pool trail s → s.pool ≡ pool
+pool_run plan pool trail s run = ap (λ (t : State). t.pool) (sym run.ends) ∙ pool_from plan (first_state plan plan.forks pool) trail
+
 -- an event sends one job at most
 pub sends_rise : (plan : PlanOf) (s : State) (e : Event) → (after plan s e).sends ≤ s.sends + 1
-sends_rise plan s Open = (open_keeps plan s (next_play plan s)).most
+sends_rise plan s Open = (open_keeps plan s).most
 sends_rise plan s (Start h) = (started_keeps plan s h.0 (open_play plan s)).most
 sends_rise plan s (Send h item ticket) = (sent_keeps s h.0 ticket (open_play plan s)).most
 sends_rise plan s (Reported r) = (reported_keeps plan s r (open_play plan s)).most
@@ -108,7 +148,7 @@ sends_rise plan s (Forks n) = omega arith
 
 -- no ticket is given a second time
 pub sends_stay : (plan : PlanOf) (s : State) (e : Event) → s.sends ≤ (after plan s e).sends
-sends_stay plan s Open = (open_keeps plan s (next_play plan s)).least
+sends_stay plan s Open = (open_keeps plan s).least
 sends_stay plan s (Start h) = (started_keeps plan s h.0 (open_play plan s)).least
 sends_stay plan s (Send h item ticket) = (sent_keeps s h.0 ticket (open_play plan s)).least
 sends_stay plan s (Reported r) = (reported_keeps plan s r (open_play plan s)).least

@@ -12,7 +12,8 @@ use Rattle.pb_tree.proofs.Rise.{places_bounded}
 use Rattle.pb_state.specs.declared.decided.TaskEnd.{TaskEnd}
 use Rattle.pb_state.specs.Ends.{fails, has_run, ends_play, kind_if, kind_of, answer_of}
 use Rattle.pb_state.specs.Row.{HostRow, place_of, next_place}
-use Rattle.pb_state.specs.Machine.{same_place, stands_at, is_running}
+use Rattle.pb_state.specs.Machine.{same_place, is_running}
+use Rattle.pb_state.proofs.Stands.{stands_at}
 
 -- the walk takes an answer at most for each place
 pub at_below : (tree : TreeOf) (answers : List AnswerOf) (p : ℕ) → reach tree answers ≡ At p → length (one_halted answers) < size_of tree

@@ -13,12 +13,14 @@ use Rattle.pb_outcome.specs.declared.item.Item.{Item}
 use Rattle.pb_outcome.specs.Items.{is_over}
 use Rattle.pb_state.specs.declared.row.Running.{Running}
 use Rattle.pb_plan.specs.Plan.{PlayOf, PlanOf}
-use Rattle.pb_state.specs.Row.{HostRow, no_tree, place_of, ended, items_after, progressed, sent, reported, reported_running, is_called, joined, left, first_rows}
+use Rattle.pb_state.specs.Row.{HostRow, no_tree, place_of, ended, items_after, progressed, sent, reported, reported_running, called, joined, left, first_rows}
 use Rattle.pb_state.specs.State.{State}
 use Rattle.pb_state.specs.Results.{items_at}
-use Rattle.pb_state.specs.Machine.{after, change, open_play, next_play, opened_in, opened_at, started_in, facts_at, plan_seen, start_at, sent_in, reported_in, turned_in, first_state}
+use Rattle.pb_state.specs.Batches.{joins, room_behind, joined_first}
+use Rattle.pb_state.specs.Machine.{after, change, open_play, opened_by, after_open, started_in, next_at, facts_at, plan_seen, start_at, sent_in, reported_in, turned_in, first_state}
 use Rattle.pb_state.specs.Run.{state_from, IsRun}
 use Rattle.pb_state.specs.Walks.{walks_in, IsWalked, AreWalked, IsTracked, AreNumbered, RowsStay, WalksLead}
+use Rattle.pb_state.proofs.Opening.{open_case, rows_case}
 
 -- a host of the batch walks this tree
 abbrev pub IsIn : TreeOf → HostRow → Type 0
@@ -55,9 +57,9 @@ reported_in_tree tree plan play outcome row is = by_running row.running
     by_running None = is
     by_running (Some r) = progressed_in_tree tree play r.place (items_after plan play row.host row.facts outcome r) row is
 
-joined_in_tree : (tree : TreeOf) (hosts : List Bool) (rows : List HostRow) → AllIn tree (map (joined tree hosts) rows)
-joined_in_tree tree hosts [] = tt
-joined_in_tree tree hosts (row ∷ rows) = (λ e. chosen (is_called hosts row) e, joined_in_tree tree hosts rows)
+joined_in_tree : (tree : TreeOf) (room : ℕ) (rows : List HostRow) → AllIn tree (joined_first tree room rows)
+joined_in_tree tree room [] = tt
+joined_in_tree tree room (row ∷ rows) = (λ e. chosen (joins room row.waits) e, joined_in_tree tree (room_behind room row.waits) rows)
   where
     chosen : (b : Bool) → b ≡ true → (if b then tree else no_tree) ≡ tree
     chosen true e = refl
@@ -81,7 +83,7 @@ start_goes plan s h play (Some p) =
 
 started_goes : (plan : PlanOf) (s : State) (h : ℕ) (found : Option PlayOf) → Goes plan s (option_map_or (started_in plan s h) found s)
 started_goes plan s h None = stays plan s
-started_goes plan s h (Some play) = start_goes plan s h play s.place
+started_goes plan s h (Some play) = start_goes plan s h play (next_at s h)
 
 sent_goes : (plan : PlanOf) (s : State) (h : ℕ) (ticket : Ticket) (found : Option PlayOf) → Goes plan s (option_map_or (sent_in s h ticket) found s)
 sent_goes plan s h ticket None = stays plan s
@@ -97,21 +99,18 @@ turned_goes plan s None = stays plan s
 turned_goes plan s (Some play) = record { same = refl; keeps = λ tree all. all }
 
 -- an open
-opened_of : (plan : PlanOf) (s : State) (n : ℕ) (found : Option PlayOf) → slice_get plan.plays n ≡ found → IsOfPlan plan s → IsOfPlan plan (option_map_or (opened_in s n) found s)
-opened_of plan s n None e is = is
-opened_of plan s n (Some play) e is = λ other o.
-    let same : play ≡ other = some_same play other (sym e ∙ o) in
-    subst (λ (p : PlayOf). AllIn p.tree (map (joined play.tree play.hosts) s.rows)) same (joined_in_tree play.tree play.hosts s.rows)
-  where
-    some_same : (a b : PlayOf) → Some a ≡ Some b → a ≡ b
-    some_same a b e = cc
+some_same : (a b : PlayOf) → Some a ≡ Some b → a ≡ b
+some_same a b e = cc
 
-next_of : (plan : PlanOf) (s : State) (next : Option ℕ) → IsOfPlan plan s → IsOfPlan plan (option_map_or (opened_at plan s) next s)
-next_of plan s None is = is
-next_of plan s (Some n) is = opened_of plan s n (slice_get plan.plays n) refl is
+opened_of : (plan : PlanOf) (s : State) → IsOfPlan plan s → IsOfPlan plan (after_open plan s)
+opened_of plan s is =
+    open_case (IsOfPlan plan) plan s (λ none. is)
+    (λ n batch sizes rows play size opens. λ other o.
+    let same : play ≡ other = some_same play other (sym opens.there ∙ o) in
+    subst (λ (p : PlayOf). AllIn p.tree (joined_first play.tree size rows)) same (joined_in_tree play.tree size rows))
 
 pub step_of : (plan : PlanOf) (s : State) (e : Event) → IsOfPlan plan s → IsOfPlan plan (after plan s e)
-step_of plan s Open is = next_of plan s (next_play plan s) is
+step_of plan s Open is = opened_of plan s is
 step_of plan s (Start h) is = goes_on plan s _ (started_goes plan s h.0 (open_play plan s)) is
 step_of plan s (Send h item ticket) is = goes_on plan s _ (sent_goes plan s h.0 ticket (open_play plan s)) is
 step_of plan s (Reported r) is = goes_on plan s _ (reported_goes plan s r (open_play plan s)) is
@@ -187,7 +186,7 @@ start_numbers plan s h play (Some p) = λ all. number_change 0 h (progressed pla
 
 started_numbers : (plan : PlanOf) (s : State) (h : ℕ) (found : Option PlayOf) → KeepsNumbers s (option_map_or (started_in plan s h) found s)
 started_numbers plan s h None = λ all. all
-started_numbers plan s h (Some play) = start_numbers plan s h play s.place
+started_numbers plan s h (Some play) = start_numbers plan s h play (next_at s h)
 
 sent_numbers : (s : State) (h : ℕ) (ticket : Ticket) (found : Option PlayOf) → KeepsNumbers s (option_map_or (sent_in s h ticket) found s)
 sent_numbers s h ticket None = λ all. all
@@ -201,16 +200,19 @@ turned_numbers : (s : State) (found : Option PlayOf) → KeepsNumbers s (option_
 turned_numbers s None = λ all. all
 turned_numbers s (Some play) = λ all. all
 
-opened_numbers : (s : State) (n : ℕ) (found : Option PlayOf) → KeepsNumbers s (option_map_or (opened_in s n) found s)
-opened_numbers s n None = λ all. all
-opened_numbers s n (Some play) = λ all. number_map 0 (joined play.tree play.hosts) (λ row. refl) s.rows all
+number_joined : (h : ℕ) (tree : TreeOf) (room : ℕ) (rows : List HostRow) → AreNumbered h rows → AreNumbered h (joined_first tree room rows)
+number_joined h tree room [] all = tt
+number_joined h tree room (row ∷ rows) all = (all.0, number_joined (h + 1) tree (room_behind room row.waits) rows all.1)
 
-next_numbers : (plan : PlanOf) (s : State) (next : Option ℕ) → KeepsNumbers s (option_map_or (opened_at plan s) next s)
-next_numbers plan s None = λ all. all
-next_numbers plan s (Some n) = opened_numbers s n (slice_get plan.plays n)
+opened_numbers : (plan : PlanOf) (s : State) → AreNumbered 0 s.rows → AreNumbered 0 (after_open plan s).rows
+opened_numbers plan s all =
+    open_case (λ (new : State). AreNumbered 0 new.rows) plan s (λ none. all)
+    (λ n batch sizes rows play size is.
+    number_joined 0 play.tree size rows
+    (rows_case (λ (calls : List HostRow). AreNumbered 0 calls) plan s n batch sizes rows play size is all (λ hosts. number_map 0 (called hosts) (λ row. refl) s.rows all)))
 
 step_numbers : (plan : PlanOf) (s : State) (e : Event) → KeepsNumbers s (after plan s e)
-step_numbers plan s Open = next_numbers plan s (next_play plan s)
+step_numbers plan s Open = opened_numbers plan s
 step_numbers plan s (Start h) = started_numbers plan s h.0 (open_play plan s)
 step_numbers plan s (Send h item ticket) = sent_numbers s h.0 ticket (open_play plan s)
 step_numbers plan s (Reported r) = reported_numbers plan s r (open_play plan s)

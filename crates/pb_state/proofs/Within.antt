@@ -1,5 +1,6 @@
 -- Each step keeps the state's numbers within their bounds.
-use Rattle.std.proofs.Common.{◌≡◌, ℕ, zero, suc, ◌+◌, ◌-◌, ◌*◌, ◌^◌, ◌<◌, ◌≤◌, Bool, true, false, ◌&&◌, List, [], ◌∷◌, length, map, refl, ap, subst, arith, suc-mul}
+use Rattle.std.proofs.Common.{◌≡◌, ℕ, zero, suc, ◌+◌, ◌-◌, ◌*◌, ◌^◌, ◌<◌, ◌≤◌, Bool, true, false, ◌&&◌, ◌||◌, List, [], ◌∷◌, length, map, drop, refl, sym, ◌∙◌, ap, subst, arith, suc-mul}
+use Rattle.std.specs.Bool.{OnTrue}
 use Rattle.std.specs.Prelude.{Option, Some, None, IfSome, slice_get, sum_by, option_map, is_none, not, if◌then◌else◌}
 use Rattle.std.specs.Option.{option_map_or}
 use Rattle.std.proofs.lemmas.List.{length-map}
@@ -18,13 +19,16 @@ use Rattle.pb_state.specs.declared.decided.TaskEnd.{TaskEnd}
 use Rattle.pb_state.specs.declared.row.Counts.{Counts}
 use Rattle.pb_state.specs.declared.row.Running.{Running}
 use Rattle.pb_state.specs.Handlers.{notified_by}
-use Rattle.pb_state.specs.Row.{HostRow, no_tree, none_counted, first_rows, is_called, joined, left, finished, ended, task_at, taught, came_back, items_after, progressed, sent, sent_running, reported, reported_running}
+use Rattle.pb_state.specs.Batches.{has_later, joins, room_behind, joined_first}
+use Rattle.pb_state.specs.Row.{HostRow, no_tree, none_counted, first_rows, called, joined, left, finished, ended, task_at, taught, came_back, items_after, progressed, sent, sent_running, reported, reported_running}
 use Rattle.pb_state.specs.Ends.{counted, counted_result, is_counted, more}
-use Rattle.pb_state.specs.Machine.{change, at_row, stands_at, is_ticket, sends_running, awaits_running, awaits, may_send_item, is_running}
-use Rattle.pb_state.specs.Bounds.{IsAtMost, run_places, out_jobs, running_jobs, running_items, IsWithin, AllWithin, most_jobs, IsBounded}
+use Rattle.pb_state.specs.Machine.{play_behind, change, at_row, is_ticket, sends_running, awaits_running, awaits, may_send_item, is_running}
+use Rattle.pb_state.specs.Bounds.{IsAtMost, run_places, out_jobs, running_jobs, running_items, plays_behind, IsPlacedIn, IsWithin, AllWithin, most_jobs, IsBounded}
 use Rattle.pb_state.specs.Kept.{first_waiting}
 use Rattle.pb_state.proofs.InOrder.{first_most, is_next_so, length_back, back_later}
+use Rattle.pb_state.proofs.Batching.{joins_waits, length-joined}
 use Rattle.pb_state.proofs.Opening.{length-first}
+use Rattle.pb_state.proofs.Stands.{stands_at}
 use Rattle.pb_state.proofs.Walked.{stands_below, stands_in, one_halted_answer}
 
 -- counts
@@ -71,18 +75,18 @@ change_on row rows h f None e = rw e refl
 change_on row rows h f (Some r) e = rw e refl
 
 -- one row changed by at least so much
-change_most : (play : ℕ) (w : HostRow → ℕ) (f : HostRow → HostRow) (test : HostRow → Bool) (by : ℕ) → ((row : HostRow) → test row ≡ true → IsWithin true play row → w row + by ≤ w (f row)) → (rows : List HostRow) (h : ℕ) → at_row test rows h ≡ true → AllWithin true play rows → sum_by w rows + by ≤ sum_by w (change rows h f)
-change_most play w f test by most [] h e all = cc
-change_most play w f test by most (row ∷ rows) zero e all = let one = most row e all.0 in omega (arith, one, sum_by-cons w (f row) rows, sum_by-cons w row rows)
-change_most play w f test by most (row ∷ rows) (suc h) e all =
-    let rest = change_most play w f test by most rows h e all.1 in
+change_most : (goes_on : Bool) (play : ℕ) (w : HostRow → ℕ) (f : HostRow → HostRow) (test : HostRow → Bool) (by : ℕ) → ((row : HostRow) → test row ≡ true → IsWithin true goes_on play row → w row + by ≤ w (f row)) → (rows : List HostRow) (h : ℕ) → at_row test rows h ≡ true → AllWithin true goes_on play rows → sum_by w rows + by ≤ sum_by w (change rows h f)
+change_most goes_on play w f test by most [] h e all = cc
+change_most goes_on play w f test by most (row ∷ rows) zero e all = let one = most row e all.0 in omega (arith, one, sum_by-cons w (f row) rows, sum_by-cons w row rows)
+change_most goes_on play w f test by most (row ∷ rows) (suc h) e all =
+    let rest = change_most goes_on play w f test by most rows h e all.1 in
     rw (change_on row rows h f (slice_get rows h) refl) (omega (arith, rest, sum_by-cons w row (change rows h f), sum_by-cons w row rows))
 
-change_within : (play : ℕ) (f : HostRow → HostRow) (test : HostRow → Bool) → ((row : HostRow) → test row ≡ true → IsWithin true play row → IsWithin true play (f row)) → (rows : List HostRow) (h : ℕ) → at_row test rows h ≡ true → AllWithin true play rows → AllWithin true play (change rows h f)
-change_within play f test keeps [] h e w = cc
-change_within play f test keeps (row ∷ rows) zero e w = (keeps row e w.0, w.1)
-change_within play f test keeps (row ∷ rows) (suc h) e w =
-    rw (change_on row rows h f (slice_get rows h) refl) (w.0, change_within play f test keeps rows h e w.1)
+change_within : (goes_on : Bool) (play : ℕ) (f : HostRow → HostRow) (test : HostRow → Bool) → ((row : HostRow) → test row ≡ true → IsWithin true goes_on play row → IsWithin true goes_on play (f row)) → (rows : List HostRow) (h : ℕ) → at_row test rows h ≡ true → AllWithin true goes_on play rows → AllWithin true goes_on play (change rows h f)
+change_within goes_on play f test keeps [] h e w = cc
+change_within goes_on play f test keeps (row ∷ rows) zero e w = (keeps row e w.0, w.1)
+change_within goes_on play f test keeps (row ∷ rows) (suc h) e w =
+    rw (change_on row rows h f (slice_get rows h) refl) (w.0, change_within goes_on play f test keeps rows h e w.1)
 
 length_changed : (rows : List HostRow) (h : ℕ) (f : HostRow → HostRow) (test : HostRow → Bool) → at_row test rows h ≡ true → length (change rows h f) ≡ length rows
 length_changed [] h f test e = cc
@@ -90,18 +94,20 @@ length_changed (row ∷ rows) zero f test e = refl
 length_changed (row ∷ rows) (suc h) f test e = rw (change_on row rows h f (slice_get rows h) refl) (ap suc (length_changed rows h f test e))
 
 -- a row that is changed keeps the bounds, and can have sent so much more
-record Keeps (play : ℕ) (f : HostRow → HostRow) (test : HostRow → Bool) (by : ℕ) : Type 0 where
-  within : (row : HostRow) → test row ≡ true → IsWithin true play row → IsWithin true play (f row)
-  jobs : (row : HostRow) → test row ≡ true → IsWithin true play row → most_jobs true play row + by ≤ most_jobs true play (f row)
+record Keeps (goes_on : Bool) (play : ℕ) (f : HostRow → HostRow) (test : HostRow → Bool) (by : ℕ) : Type 0 where
+  within : (row : HostRow) → test row ≡ true → IsWithin true goes_on play row → IsWithin true goes_on play (f row)
+  jobs : (row : HostRow) → test row ≡ true → IsWithin true goes_on play row → most_jobs true goes_on play row + by ≤ most_jobs true goes_on play (f row)
 
-changed_bounded : (play sends by h : ℕ) (f : HostRow → HostRow) (test : HostRow → Bool) (rows : List HostRow) → Keeps play f test by → at_row test rows h ≡ true → IsBounded true play sends rows → IsBounded true play (sends + by) (change rows h f)
-changed_bounded play sends by h f test rows k e b =
+changed_bounded : (batch : ℕ) (later : List ℕ) (play sends by h : ℕ) (f : HostRow → HostRow) (test : HostRow → Bool) (rows : List HostRow) → Keeps (has_later later) play f test by → at_row test rows h ≡ true
+    → IsBounded true batch later play sends rows → IsBounded true batch later play (sends + by) (change rows h f)
+changed_bounded batch later play sends by h f test rows k e b =
     record {
-      counts = change_within play f test k.within rows h e b.counts;
+      counts = change_within (has_later later) play f test k.within rows h e b.counts;
       plays = b.plays;
-      opened = b.opened;
+      under_way = b.under_way;
       hosts = rw (length_changed rows h f test e) b.hosts;
-      jobs = let more = change_most play (most_jobs true play) f test by k.jobs rows h e b.counts in omega (arith, more, b.jobs);
+      batches = b.batches;
+      jobs = let more = change_most (has_later later) play (most_jobs true (has_later later) play) f test by k.jobs rows h e b.counts in omega (arith, more, b.jobs);
     }
 
 -- the events
@@ -117,10 +123,25 @@ none_running : (row : HostRow) (found : Option Running) → row.running ≡ foun
 none_running row None e n = e
 none_running row (Some r) e n = let yes : is_running row ≡ true = rw e refl in cc
 
-finished_within : (play p : ℕ) (task : TaskEnd) (notified : List ℕ) (facts : FactsOf) (row : HostRow) → length (one_halted row.answers) < 16384 → IsWithin true play row → IsWithin true play (finished p task notified facts row)
-finished_within play p task notified facts row b w =
-    let more = one_halted_answer row.answers task notified in
-    (at_most_to (counted task row.counts) _ _ (omega (arith, more)) (counted_at_most task row.counts _ w.0), omega (arith, more, b), w.2, omega arith)
+-- a host of the batch is one of the play's
+in_waits : (inside : Bool) (row : HostRow) → inside ≡ true → IsPlacedIn inside row → row.waits ≡ true
+in_waits true row i w = w
+in_waits false row i w = cc
+
+as_in : (inside : Bool) (row : HostRow) → inside ≡ true → row.waits ≡ true → IsPlacedIn inside row
+as_in true row i w = w
+as_in false row i w = cc
+
+finished_within : (goes_on : Bool) (play p : ℕ) (task : TaskEnd) (notified : List ℕ) (facts : FactsOf) (row : HostRow) → length (one_halted row.answers) < 16384 → row.in_batch ≡ true
+    → IsWithin true goes_on play row → IsWithin true goes_on play (finished p task notified facts row)
+finished_within goes_on play p task notified facts row b i w =
+    let more = one_halted_answer row.answers task notified in (
+      at_most_to (counted task row.counts) _ _ (omega (arith, more)) (counted_at_most task row.counts _ w.0),
+      omega (arith, more, b),
+      w.2,
+      omega arith,
+      as_in row.in_batch (finished p task notified facts row) i (in_waits row.in_batch row i w.4),
+    )
 
 -- a host that starts has a place left
 start_left : (place : Option ℕ) (row : HostRow) → size_of row.tree ≤ 16384 → stands_at place row ≡ true → length (one_halted row.answers) < 16384
@@ -133,27 +154,35 @@ not_true false e = refl
 stands_idle : (place : Option ℕ) (row : HostRow) → stands_at place row ≡ true → row.running ≡ None
 stands_idle place row e = none_running row row.running refl (not_true (is_running row) (and_left (not (is_running row)) _ e))
 
-progressed_within : (k p : ℕ) (play : PlayOf) (items : List Item) (row : HostRow) → length items ≤ max_items → length (one_halted row.answers) < 16384 → IsWithin true k row → IsWithin true k (progressed play p items row)
-progressed_within k p play items row most b w = by_over (is_over items)
+progressed_within : (goes_on : Bool) (k p : ℕ) (play : PlayOf) (items : List Item) (row : HostRow) → length items ≤ max_items → length (one_halted row.answers) < 16384 → row.in_batch ≡ true
+    → IsWithin true goes_on k row → IsWithin true goes_on k (progressed play p items row)
+progressed_within goes_on k p play items row most b i w = by_over (is_over items)
   where
-    by_over : (over : Bool) → IsWithin true k (if over then ended play p items row else record row { running = Some (record { place = p; items = items; out = None }) })
-    by_over true = finished_within k p (task_at play p items) (notified_by play p (task_at play p items)) (taught play p items row.facts) row b w
-    by_over false = (w.0, omega (arith, b), w.2, most)
+    by_over : (over : Bool) → IsWithin true goes_on k (if over then ended play p items row else record row { running = Some (record { place = p; items = items; out = None }) })
+    by_over true = finished_within goes_on k p (task_at play p items) (notified_by play p (task_at play p items)) (taught play p items row.facts) row b i w
+    by_over false = (
+      w.0,
+      omega (arith, b),
+      w.2,
+      most,
+      as_in row.in_batch (record row { running = Some (record { place = p; items = items; out = None }) }) i (in_waits row.in_batch row i w.4),
+    )
 
 -- a task that ends leaves room for all that its items can have sent
-finished_jobs : (k p n : ℕ) (task : TaskEnd) (notified : List ℕ) (facts : FactsOf) (row : HostRow) → n ≤ max_items → (max_items * (16384 * k + length (one_halted row.answers)) + n) + 0 ≤ most_jobs true k (finished p task notified facts row)
-finished_jobs k p n task notified facts row m = let more = one_halted_answer row.answers task notified in omega (arith, more, m)
+finished_jobs : (goes_on : Bool) (k p n : ℕ) (task : TaskEnd) (notified : List ℕ) (facts : FactsOf) (row : HostRow) → n ≤ max_items
+    → (max_items * (16384 * plays_behind true k row + length (one_halted row.answers)) + n) + 0 ≤ most_jobs true goes_on k (finished p task notified facts row)
+finished_jobs goes_on k p n task notified facts row m = let more = one_halted_answer row.answers task notified in omega (arith, more, m)
 
-start_keeps : (k : ℕ) (place : Option ℕ) (play : PlayOf) (p : ℕ) (items : List Item) → length items ≤ max_items → Keeps k (progressed play p items) (stands_at place) 0
-start_keeps k place play p items most =
+start_keeps : (goes_on : Bool) (k : ℕ) (place : Option ℕ) (play : PlayOf) (p : ℕ) (items : List Item) → length items ≤ max_items → Keeps goes_on k (progressed play p items) (stands_at place) 0
+start_keeps goes_on k place play p items most =
     record {
-      within = λ row e w. progressed_within k p play items row most (start_left place row w.2 e) w;
+      within = λ row e w. progressed_within goes_on k p play items row most (start_left place row w.2 e) (stands_in place row e) w;
       jobs = λ row e w. let idle = stands_idle place row e in rw idle (by_over row (is_over items));
     }
   where
     by_over : (row : HostRow) (over : Bool)
-        → (max_items * (16384 * k + length (one_halted row.answers)) + 0) + 0 ≤ most_jobs true k (if over then ended play p items row else record row { running = Some (record { place = p; items = items; out = None }) })
-    by_over row true = finished_jobs k p 0 (task_at play p items) (notified_by play p (task_at play p items)) (taught play p items row.facts) row (omega arith)
+        → (max_items * (16384 * plays_behind true k row + length (one_halted row.answers)) + 0) + 0 ≤ most_jobs true goes_on k (if over then ended play p items row else record row { running = Some (record { place = p; items = items; out = None }) })
+    by_over row true = finished_jobs goes_on k p 0 (task_at play p items) (notified_by play p (task_at play p items)) (taught play p items row.facts) row (omega arith)
     by_over row false = omega arith
 
 -- a host that has a job to send runs, and no job of it is out
@@ -175,10 +204,14 @@ one_more_out item ticket (Some r) e =
     none_out None e = refl
     none_out (Some t) e = cc
 
-send_keeps : (play item : ℕ) (ticket : Ticket) → Keeps play (sent ticket) (may_send_item item) 1
-send_keeps play item ticket =
+sent_placed : (ticket : Ticket) (inside : Bool) (row : HostRow) → IsPlacedIn inside row → IsPlacedIn inside (sent ticket row)
+sent_placed ticket true row w = w
+sent_placed ticket false row w = rw (sent_runs ticket row.running) w
+
+send_keeps : (goes_on : Bool) (play item : ℕ) (ticket : Ticket) → Keeps goes_on play (sent ticket) (may_send_item item) 1
+send_keeps goes_on play item ticket =
     record {
-      within = λ row e w. (w.0, rw (sent_runs ticket row.running) w.1, w.2, rw (sent_items ticket row.running) w.3);
+      within = λ row e w. (w.0, rw (sent_runs ticket row.running) w.1, w.2, rw (sent_items ticket row.running) w.3, sent_placed ticket row.in_batch row w.4);
       jobs = λ row e w. let more = one_more_out item ticket row.running e in omega (arith, more);
     }
 
@@ -187,29 +220,34 @@ at_most_one : (o : Option Ticket) → out_jobs o ≤ 1
 at_most_one None = omega arith
 at_most_one (Some t) = omega arith
 
-report_keeps : (k item : ℕ) (plan : PlanOf) (play : PlayOf) (outcome : Form) (ticket : Ticket) → Keeps k (reported plan play outcome) (awaits ticket item) 0
-report_keeps k item plan play outcome ticket =
+-- a host that runs is in the batch
+run_in : (inside : Bool) (row : HostRow) (r : Running) → row.running ≡ Some r → IsPlacedIn inside row → inside ≡ true
+run_in true row r f w = refl
+run_in false row r f w = absurd (let none = subst (λ (v : Option Running). length (one_halted row.answers) + run_places v ≡ 0) f w in omega (arith, none))
+
+report_keeps : (goes_on : Bool) (k item : ℕ) (plan : PlanOf) (play : PlayOf) (outcome : Form) (ticket : Ticket) → Keeps goes_on k (reported plan play outcome) (awaits ticket item) 0
+report_keeps goes_on k item plan play outcome ticket =
     record {
       within = λ row e w. reported_within row row.running refl w;
       jobs = λ row e w. reported_jobs row row.running refl e w;
     }
   where
-    reported_within : (row : HostRow) (found : Option Running) → row.running ≡ found → IsWithin true k row → IsWithin true k (option_map_or (reported_running plan play outcome row) found row)
+    reported_within : (row : HostRow) (found : Option Running) → row.running ≡ found → IsWithin true goes_on k row → IsWithin true goes_on k (option_map_or (reported_running plan play outcome row) found row)
     reported_within row None f w = w
     reported_within row (Some r) f w =
         let bound = subst (λ (v : Option Running). length (one_halted row.answers) + run_places v ≤ 16384) f w.1 in
         let most = subst (λ (v : Option Running). running_items v ≤ max_items) f w.3 in
         let same : length (items_after plan play row.host row.facts outcome r) ≡ length r.items = length_back (came_back plan play row.host row.facts r.place outcome) r.items in
-        progressed_within k r.place play (items_after plan play row.host row.facts outcome r) row (omega (arith, same, most)) (omega (arith, bound)) w
+        progressed_within goes_on k r.place play (items_after plan play row.host row.facts outcome r) row (omega (arith, same, most)) (omega (arith, bound)) (run_in row.in_batch row r f w.4) w
 
     by_over : (row : HostRow) (r : Running) (items : List Item) (over : Bool) → length items ≡ length r.items → first_waiting r.items + 1 ≤ first_waiting items → first_waiting items ≤ length items → length r.items ≤ max_items
-        → (max_items * (16384 * k + length (one_halted row.answers)) + running_jobs (Some r)) + 0
-        ≤ most_jobs true k (if over then ended play r.place items row else record row { running = Some (record { place = r.place; items = items; out = None }) })
-    by_over row r items true same later within most = finished_jobs k r.place (running_jobs (Some r)) (task_at play r.place items) (notified_by play r.place (task_at play r.place items)) (taught play r.place items row.facts) row (omega (arith, most))
+        → (max_items * (16384 * plays_behind true k row + length (one_halted row.answers)) + running_jobs (Some r)) + 0
+        ≤ most_jobs true goes_on k (if over then ended play r.place items row else record row { running = Some (record { place = r.place; items = items; out = None }) })
+    by_over row r items true same later within most = finished_jobs goes_on k r.place (running_jobs (Some r)) (task_at play r.place items) (notified_by play r.place (task_at play r.place items)) (taught play r.place items row.facts) row (omega (arith, most))
     by_over row r items false same later within most = omega (arith, same, later, within, at_most_one r.out)
 
-    reported_jobs : (row : HostRow) (found : Option Running) → row.running ≡ found → option_map_or (awaits_running ticket item) found false ≡ true → IsWithin true k row
-        → most_jobs true k row + 0 ≤ most_jobs true k (option_map_or (reported_running plan play outcome row) found row)
+    reported_jobs : (row : HostRow) (found : Option Running) → row.running ≡ found → option_map_or (awaits_running ticket item) found false ≡ true → IsWithin true goes_on k row
+        → most_jobs true goes_on k row + 0 ≤ most_jobs true goes_on k (option_map_or (reported_running plan play outcome row) found row)
     reported_jobs row None f e w = cc
     reported_jobs row (Some r) f e w =
         let first = is_next_so item r.items (and_right (is_ticket ticket r.out) _ e) in
@@ -221,119 +259,257 @@ report_keeps k item plan play outcome ticket =
         (first_most (items_after plan play row.host row.facts outcome r)) most)
 
 -- the clauses of the steps
-changed_so : (play sends by h : ℕ) (is_open : Bool) (f : HostRow → HostRow) (test : HostRow → Bool) (rows new : List HostRow) (more : ℕ) → more ≡ sends + by → is_open ≡ true → Keeps play f test by → at_row test rows h ≡ true → IsBounded is_open play sends rows → new ≡ change rows h f → IsBounded is_open play more new
-changed_so play sends by h true f test rows new more m o k e b n = rw (m, n) (changed_bounded play sends by h f test rows k e b)
-changed_so play sends by h false f test rows new more m o k e b n = cc
+changed_so : (batch : ℕ) (later : List ℕ) (play sends by h : ℕ) (is_open : Bool) (f : HostRow → HostRow) (test : HostRow → Bool) (rows new : List HostRow) (more : ℕ) → more ≡ sends + by → is_open ≡ true → Keeps (has_later later) play f test by
+    → at_row test rows h ≡ true → IsBounded is_open batch later play sends rows → new ≡ change rows h f → IsBounded is_open batch later play more new
+changed_so batch later play sends by h true f test rows new more m o k e b n = rw (m, n) (changed_bounded batch later play sends by h f test rows k e b)
+changed_so batch later play sends by h false f test rows new more m o k e b n = cc
 
-pub start_bounded : (k sends h : ℕ) (is_open room : Bool) (place : Option ℕ) (play : PlayOf) (p : ℕ) (items : List Item) (rows new : List HostRow) → length items ≤ max_items → IsBounded is_open k sends rows → is_open ≡ true → (room && at_row (stands_at place) rows h) ≡ true → new ≡ change rows h (progressed play p items) → IsBounded is_open k sends new
-start_bounded k sends h is_open room place play p items rows new most b o e n =
-    changed_so k sends 0 h is_open (progressed play p items) (stands_at place) rows new sends (omega arith) o (start_keeps k place play p items most) (and_right room _ e) b n
+pub start_bounded : (batch : ℕ) (later : List ℕ) (k sends h : ℕ) (is_open : Bool) (place : Option ℕ) (play : PlayOf) (p : ℕ) (items : List Item) (rows new : List HostRow) → length items ≤ max_items
+    → IsBounded is_open batch later k sends rows → is_open ≡ true → at_row (stands_at place) rows h ≡ true → new ≡ change rows h (progressed play p items) → IsBounded is_open batch later k sends new
+start_bounded batch later k sends h is_open place play p items rows new most b o e n =
+    changed_so batch later k sends 0 h is_open (progressed play p items) (stands_at place) rows new sends (omega arith) o (start_keeps (has_later later) k place play p items most) e b n
 
 -- a host that may start is in the batch
-pub start_in_batch : (h : ℕ) (room : Bool) (place : Option ℕ) (rows : List HostRow) → (room && at_row (stands_at place) rows h) ≡ true → IfSome (slice_get rows h) (λ row. row.in_batch ≡ true)
-start_in_batch h room place rows e = at_found rows h (and_right room _ e)
+pub start_in_batch : (h : ℕ) (place : Option ℕ) (rows : List HostRow) → at_row (stands_at place) rows h ≡ true → IfSome (slice_get rows h) (λ row. row.in_batch ≡ true)
+start_in_batch h place rows e = at_found rows h e
   where
     at_found : (rows : List HostRow) (h : ℕ) → at_row (stands_at place) rows h ≡ true → IfSome (slice_get rows h) (λ row. row.in_batch ≡ true)
     at_found [] h e = tt
     at_found (row ∷ rows) zero e = stands_in place row e
     at_found (row ∷ rows) (suc h) e = at_found rows h e
 
-pub start_there : (h : ℕ) (room : Bool) (place : Option ℕ) (rows : List HostRow) → (room && at_row (stands_at place) rows h) ≡ true → h < length rows
-start_there h room place rows e = at_found rows h (and_right room _ e)
+pub start_there : (h : ℕ) (place : Option ℕ) (rows : List HostRow) → at_row (stands_at place) rows h ≡ true → h < length rows
+start_there h place rows e = at_found rows h e
   where
     at_found : (rows : List HostRow) (h : ℕ) → at_row (stands_at place) rows h ≡ true → h < length rows
     at_found [] h e = cc
     at_found (row ∷ rows) zero e = omega arith
     at_found (row ∷ rows) (suc h) e = let rest = at_found rows h e in omega (arith, rest)
 
-pub send_bounded : (play sends h item : ℕ) (is_open may : Bool) (ticket : Ticket) (rows new : List HostRow) → IsBounded is_open play sends rows → is_open ≡ true → (may && at_row (may_send_item item) rows h) ≡ true → new ≡ change rows h (sent ticket) → IsBounded is_open play (sends + 1) new
-send_bounded play sends h item is_open may ticket rows new b o e n =
-    changed_so play sends 1 h is_open (sent ticket) (may_send_item item) rows new (sends + 1) refl o (send_keeps play item ticket) (and_right may _ e) b n
+pub send_bounded : (batch : ℕ) (later : List ℕ) (play sends h item : ℕ) (is_open may : Bool) (ticket : Ticket) (rows new : List HostRow) → IsBounded is_open batch later play sends rows → is_open ≡ true
+    → (may && at_row (may_send_item item) rows h) ≡ true → new ≡ change rows h (sent ticket) → IsBounded is_open batch later play (sends + 1) new
+send_bounded batch later play sends h item is_open may ticket rows new b o e n =
+    changed_so batch later play sends 1 h is_open (sent ticket) (may_send_item item) rows new (sends + 1) refl o (send_keeps (has_later later) play item ticket) (and_right may _ e) b n
 
-pub report_bounded : (k sends h item : ℕ) (is_open : Bool) (plan : PlanOf) (play : PlayOf) (ticket : Ticket) (outcome : Form) (rows new : List HostRow) → IsBounded is_open k sends rows → is_open ≡ true → at_row (awaits ticket item) rows h ≡ true → new ≡ change rows h (reported plan play outcome) → IsBounded is_open k sends new
-report_bounded k sends h item is_open plan play ticket outcome rows new b o e n =
-    changed_so k sends 0 h is_open (reported plan play outcome) (awaits ticket item) rows new sends (omega arith) o (report_keeps k item plan play outcome ticket) e b n
+pub report_bounded : (batch : ℕ) (later : List ℕ) (k sends h item : ℕ) (is_open : Bool) (plan : PlanOf) (play : PlayOf) (ticket : Ticket) (outcome : Form) (rows new : List HostRow) → IsBounded is_open batch later k sends rows
+    → is_open ≡ true → at_row (awaits ticket item) rows h ≡ true → new ≡ change rows h (reported plan play outcome) → IsBounded is_open batch later k sends new
+report_bounded batch later k sends h item is_open plan play ticket outcome rows new b o e n =
+    changed_so batch later k sends 0 h is_open (reported plan play outcome) (awaits ticket item) rows new sends (omega arith) o (report_keeps (has_later later) k item plan play outcome ticket) e b n
+
+-- the plays that a host has behind it
+behind_most : (under_way : Bool) (play : ℕ) (row : HostRow) → plays_behind under_way play row ≤ play + 1
+behind_most true play row = by_waits row.waits
+  where
+    by_waits : (waits : Bool) → (if true && not waits then play + 1 else play) ≤ play + 1
+    by_waits true = omega arith
+    by_waits false = omega arith
+behind_most false play row = omega arith
+
+behind_least : (under_way : Bool) (play : ℕ) (row : HostRow) → play ≤ plays_behind under_way play row
+behind_least true play row = by_waits row.waits
+  where
+    by_waits : (waits : Bool) → play ≤ (if true && not waits then play + 1 else play)
+    by_waits true = omega arith
+    by_waits false = omega arith
+behind_least false play row = omega arith
+
+behind_waits : (under_way : Bool) (play : ℕ) (row : HostRow) → row.waits ≡ true → plays_behind under_way play row ≡ play
+behind_waits true play row w = ap (λ (waits : Bool). if true && not waits then play + 1 else play) w
+behind_waits false play row w = refl
 
 -- the most that rows can have sent stays far below a number's end
 jobs_at_most : (found : Option Running) → running_items found ≤ max_items → running_jobs found ≤ max_items * run_places found
 jobs_at_most None m = omega arith
 jobs_at_most (Some r) m = omega (arith, m)
 
-most_at_most : (play : ℕ) (rows : List HostRow) → play ≤ 256 → AllWithin true play rows → sum_by (most_jobs true play) rows ≤ length rows * 42106880000
-most_at_most play [] b w = omega arith
-most_at_most play (row ∷ rows) b w =
+most_at_most : (goes_on : Bool) (play : ℕ) (rows : List HostRow) → play < 256 → AllWithin true goes_on play rows → sum_by (most_jobs true goes_on play) rows ≤ length rows * 42106880000
+most_at_most goes_on play [] b w = omega arith
+most_at_most goes_on play (row ∷ rows) b w =
     let one = jobs_at_most row.running w.0.3 in
-    omega (arith, w.0.1, b, one, most_at_most play rows b w.1, sum_by-cons (most_jobs true play) row rows, suc-mul (length rows) 42106880000)
+    omega (arith, w.0.1, b, one, behind_most true play row, most_at_most goes_on play rows b w.1, sum_by-cons (most_jobs true goes_on play) row rows, suc-mul (length rows) 42106880000)
 
-pub sends_below : (play sends : ℕ) (is_open : Bool) (rows : List HostRow) → IsBounded is_open play sends rows → is_open ≡ true → sends < 2 ^ 62
-sends_below play sends true rows b o =
-    let most = most_at_most play rows b.plays b.counts in
+pub sends_below : (batch : ℕ) (later : List ℕ) (play sends : ℕ) (is_open : Bool) (rows : List HostRow) → IsBounded is_open batch later play sends rows → is_open ≡ true → sends < 2 ^ 62
+sends_below batch later play sends true rows b o =
+    let most = most_at_most (has_later later) play rows b.under_way b.counts in
     let total : length rows * 42106880000 ≤ 65536 * 42106880000 = omega (arith, b.hosts) in
     omega (arith, b.jobs, most, total)
-sends_below play sends false rows b o = cc
+sends_below batch later play sends false rows b o = cc
 
 -- room for one count more
-room_in : (play h : ℕ) (rows : List HostRow) → play ≤ 256 → AllWithin true play rows → IfSome (slice_get rows h) (λ row. IsAtMost row.counts (2 ^ 64 - 2))
-room_in play h [] b w = tt
-room_in play zero (row ∷ rows) b w = at_most_to row.counts _ _ (omega (arith, b, w.0.1)) w.0.0
-room_in play (suc h) (row ∷ rows) b w = room_in play h rows b w.1
+room_in : (goes_on : Bool) (play h : ℕ) (rows : List HostRow) → play ≤ 256 → AllWithin true goes_on play rows → IfSome (slice_get rows h) (λ row. IsAtMost row.counts (2 ^ 64 - 2))
+room_in goes_on play h [] b w = tt
+room_in goes_on play zero (row ∷ rows) b w = at_most_to row.counts _ _ (omega (arith, b, w.0.1, behind_most true play row)) w.0.0
+room_in goes_on play (suc h) (row ∷ rows) b w = room_in goes_on play h rows b w.1
 
-pub room_at : (play sends h : ℕ) (is_open : Bool) (rows : List HostRow) → is_open ≡ true → IsBounded is_open play sends rows → IfSome (slice_get rows h) (λ row. IsAtMost row.counts (2 ^ 64 - 2))
-room_at play sends h true rows o b = room_in play h rows b.plays b.counts
-room_at play sends h false rows o b = cc
+pub room_at : (batch : ℕ) (later : List ℕ) (play sends h : ℕ) (is_open : Bool) (rows : List HostRow) → is_open ≡ true → IsBounded is_open batch later play sends rows → IfSome (slice_get rows h) (λ row. IsAtMost row.counts (2 ^ 64 - 2))
+room_at batch later play sends h true rows o b = room_in (has_later later) play h rows b.plays b.counts
+room_at batch later play sends h false rows o b = cc
 
--- an open, a close and the beginning
+-- an open: a host that joins was one that waited
 joined_size : (tree : TreeOf) (b : Bool) → size_of tree ≤ 16384 → size_of (if b then tree else no_tree) ≤ 16384
 joined_size tree true s = s
 joined_size tree false s = omega arith
 
-joined_all : (play n : ℕ) (tree : TreeOf) (hosts : List Bool) (rows : List HostRow) → size_of tree ≤ 16384 → play ≤ n → AllWithin false play rows → AllWithin true n (map (joined tree hosts) rows)
-joined_all play n tree hosts [] s l w = tt
-joined_all play n tree hosts (row ∷ rows) s l w =
-    ((at_most_to row.counts _ _ (omega (arith, l)) w.0, omega arith, joined_size tree (is_called hosts row) s, omega arith), joined_all play n tree hosts rows s l w.1)
+joined_placed : (tree : TreeOf) (inside : Bool) (row : HostRow) → (inside ≡ true → row.waits ≡ true) → IsPlacedIn inside (joined tree inside row)
+joined_placed tree true row w = w refl
+joined_placed tree false row w = refl
 
-joined_jobs : (play n : ℕ) (tree : TreeOf) (hosts : List Bool) (rows : List HostRow) → play ≤ n → sum_by (most_jobs false play) rows ≤ sum_by (most_jobs true n) (map (joined tree hosts) rows)
-joined_jobs play n tree hosts [] l = omega arith
-joined_jobs play n tree hosts (row ∷ rows) l =
-    let rest = joined_jobs play n tree hosts rows l in
-    omega (arith, l, rest, sum_by-cons (most_jobs false play) row rows, sum_by-cons (most_jobs true n) (joined tree hosts row) (map (joined tree hosts) rows))
+joined_all : (goes_on later : Bool) (play n : ℕ) (tree : TreeOf) (room : ℕ) (rows : List HostRow) → size_of tree ≤ 16384 → ((row : HostRow) → plays_behind goes_on play row ≤ plays_behind true n row)
+    → AllWithin false goes_on play rows → AllWithin true later n (joined_first tree room rows)
+joined_all goes_on later play n tree room [] s l w = tt
+joined_all goes_on later play n tree room (row ∷ rows) s l w = (
+  (
+    at_most_to row.counts _ _ (omega (arith, l row)) w.0,
+    omega arith,
+    joined_size tree (joins room row.waits) s,
+    omega arith,
+    joined_placed tree (joins room row.waits) row (λ e. joins_waits room row.waits e),
+  ),
+  joined_all goes_on later play n tree (room_behind room row.waits) rows s l w.1,
+)
 
-pub open_bounded : (play n sends : ℕ) (is_open : Bool) (tree : TreeOf) (hosts : List Bool) (rows new : List HostRow) → IsBounded is_open play sends rows → size_of tree ≤ 16384 → is_open ≡ false → play ≤ n → n < 256 → new ≡ map (joined tree hosts) rows → IsBounded true n sends new
-open_bounded play n sends true tree hosts rows new b s f l p e = cc
-open_bounded play n sends false tree hosts rows new b s f l p e =
+joined_jobs : (goes_on later : Bool) (play n : ℕ) (tree : TreeOf) (room : ℕ) (rows : List HostRow) → ((row : HostRow) → plays_behind goes_on play row ≤ plays_behind true n row)
+    → sum_by (most_jobs false goes_on play) rows ≤ sum_by (most_jobs true later n) (joined_first tree room rows)
+joined_jobs goes_on later play n tree room [] l = omega arith
+joined_jobs goes_on later play n tree room (row ∷ rows) l =
+    let rest = joined_jobs goes_on later play n tree (room_behind room row.waits) rows l in
+    let one = l row in
+    omega (arith, one, rest, sum_by-cons (most_jobs false goes_on play) row rows, sum_by-cons (most_jobs true later n) (joined tree (joins room row.waits) row) (joined_first tree (room_behind room row.waits) rows))
+
+-- the play goes on: a batch of it is left
+later_fewer : (later : List ℕ) → has_later later ≡ true → length later ≡ suc (length (drop 1 later))
+later_fewer [] e = cc
+later_fewer (size ∷ later) e = refl
+
+pub go_on_bounded : (batch : ℕ) (later : List ℕ) (play sends size : ℕ) (is_open : Bool) (tree : TreeOf) (rows new : List HostRow) → IsBounded is_open batch later play sends rows → size_of tree ≤ 16384 → is_open ≡ false
+    → has_later later ≡ true → new ≡ joined_first tree size rows → IsBounded true (batch + 1) (drop 1 later) play sends new
+go_on_bounded batch later play sends size true tree rows new b s f l e = cc
+go_on_bounded batch later play sends size false tree rows new b s f l e =
+    let same : (row : HostRow) → plays_behind (has_later later) play row ≤ plays_behind true play row = λ row. (let is = ap (λ (on : Bool). plays_behind on play row) l in omega (arith, is)) in
     rw e (record {
-      counts = joined_all play n tree hosts rows s l b.counts;
+      counts = joined_all (has_later later) (has_later (drop 1 later)) play play tree size rows s same b.counts;
+      plays = b.plays;
+      under_way = on_true (has_later later) (play < 256) l b.under_way;
+      hosts = rw (length-joined tree size rows) b.hosts;
+      batches = omega (arith, later_fewer later l, b.batches);
+      jobs = let more = joined_jobs (has_later later) (has_later (drop 1 later)) play play tree size rows same in omega (arith, more, b.jobs);
+    })
+  where
+    on_true : (goes_on : Bool) (P : Type 0) → goes_on ≡ true → OnTrue goes_on P → P
+    on_true true P e p = p
+    on_true false P e p = cc
+
+pub batch_below : (batch : ℕ) (later : List ℕ) (play sends : ℕ) (is_open : Bool) (rows : List HostRow) → IsBounded is_open batch later play sends rows → batch < 4294967295
+batch_below batch later play sends is_open rows b = let most = b.batches in omega (arith, most)
+
+-- a play begins: nobody waits for a batch of the one before
+called_all : (play : ℕ) (hosts : List Bool) (rows : List HostRow) → AllWithin false false play rows → AllWithin false false play (map (called hosts) rows)
+called_all play hosts [] w = tt
+called_all play hosts (row ∷ rows) w = (w.0, called_all play hosts rows w.1)
+
+called_jobs : (play : ℕ) (hosts : List Bool) (rows : List HostRow) → sum_by (most_jobs false false play) rows ≡ sum_by (most_jobs false false play) (map (called hosts) rows)
+called_jobs play hosts [] = refl
+called_jobs play hosts (row ∷ rows) =
+    let rest = called_jobs play hosts rows in
+    omega (arith, rest, sum_by-cons (most_jobs false false play) row rows, sum_by-cons (most_jobs false false play) (called hosts row) (map (called hosts) rows))
+
+begun_bounded : (batch : ℕ) (later : List ℕ) (play n sends size : ℕ) (sizes : List ℕ) (tree : TreeOf) (hosts : List Bool) (rows : List HostRow) → length rows ≤ 65536 → AllWithin false false play rows
+    → sends ≤ sum_by (most_jobs false false play) rows → size_of tree ≤ 16384 → play ≤ n → n < 256 → length sizes ≤ 65536
+    → IsBounded true 0 (drop 1 sizes) n sends (joined_first tree size (map (called hosts) rows))
+begun_bounded batch later play n sends size sizes tree hosts rows h w j s l p few =
+    let most : (row : HostRow) → plays_behind false play row ≤ plays_behind true n row = λ row. (let least = behind_least true n row in omega (arith, least, l)) in
+    record {
+      counts = joined_all false (has_later (drop 1 sizes)) play n tree size (map (called hosts) rows) s most (called_all play hosts rows w);
       plays = omega (arith, p);
-      opened = p;
-      hosts = rw (length-map rows (joined tree hosts)) b.hosts;
-      jobs = let more = joined_jobs play n tree hosts rows l in omega (arith, more, b.jobs);
-    })
+      under_way = p;
+      hosts = rw (length-joined tree size (map (called hosts) rows), length-map rows (called hosts)) h;
+      batches = let fewer = length-tail sizes in omega (arith, fewer, few);
+      jobs =
+          let more = joined_jobs false (has_later (drop 1 sizes)) play n tree size (map (called hosts) rows) most in
+          let same = called_jobs play hosts rows in
+          omega (arith, more, same, j);
+    }
+  where
+    length-tail : (sizes : List ℕ) → length (drop 1 sizes) ≤ length sizes
+    length-tail [] = omega arith
+    length-tail (first ∷ rest) = omega arith
 
-left_all : (play : ℕ) (rows : List HostRow) → AllWithin true play rows → AllWithin false (play + 1) (map left rows)
-left_all play [] w = tt
-left_all play (row ∷ rows) w = (at_most_to row.counts _ _ (omega (arith, w.0.1)) w.0.0, left_all play rows w.1)
+pub begin_bounded : (batch : ℕ) (later : List ℕ) (play n sends size : ℕ) (is_open goes_on : Bool) (sizes : List ℕ) (tree : TreeOf) (hosts : List Bool) (rows new : List HostRow) → IsBounded is_open batch later play sends rows
+    → size_of tree ≤ 16384 → is_open ≡ false → has_later later ≡ goes_on → goes_on ≡ false → play ≤ n → n < 256 → length sizes ≤ 65536 → new ≡ joined_first tree size (map (called hosts) rows)
+    → IsBounded true 0 (drop 1 sizes) n sends new
+begin_bounded batch later play n sends size true goes_on sizes tree hosts rows new b s f k g l p few e = cc
+begin_bounded batch later play n sends size false true sizes tree hosts rows new b s f k g l p few e = cc
+begin_bounded batch later play n sends size false false sizes tree hosts rows new b s f k g l p few e =
+    rw e
+    (begun_bounded batch later play n sends size sizes tree hosts rows b.hosts (subst (λ (on : Bool). AllWithin false on play rows) k b.counts)
+    (subst (λ (on : Bool). sends ≤ sum_by (most_jobs false on play) rows) k b.jobs) s l p few)
 
-left_jobs : (play : ℕ) (rows : List HostRow) → AllWithin true play rows → sum_by (most_jobs true play) rows ≤ sum_by (most_jobs false (play + 1)) (map left rows)
-left_jobs play [] w = omega arith
-left_jobs play (row ∷ rows) w =
-    let one = jobs_at_most row.running w.0.3 in
-    omega (arith, w.0.1, one, left_jobs play rows w.1, sum_by-cons (most_jobs true play) row rows, sum_by-cons (most_jobs false (play + 1)) (left row) (map left rows))
+-- a close: a host that was in the batch has the play behind it
+waits_no_more : (waits inside : Bool) → inside ≡ true → (waits && not inside) ≡ false
+waits_no_more true true e = refl
+waits_no_more false true e = refl
+waits_no_more waits false e = cc
 
-pub close_bounded : (play sends : ℕ) (is_open : Bool) (rows new : List HostRow) → IsBounded is_open play sends rows → is_open ≡ true → new ≡ map left rows → IsBounded false (play + 1) sends new
-close_bounded play sends true rows new b o e =
-    rw e (record {
-      counts = left_all play rows b.counts;
-      plays = let below : play < 256 = b.opened in omega (arith, below);
-      opened = tt;
+waits_still : (waits inside : Bool) → inside ≡ false → (waits && not inside) ≡ waits
+waits_still true false e = refl
+waits_still false false e = refl
+waits_still waits true e = cc
+
+left_behind : (play : ℕ) (row : HostRow) (inside : Bool) → row.in_batch ≡ inside → IsPlacedIn inside row → length (one_halted row.answers) + run_places row.running ≤ 16384 → (goes_on : Bool)
+    → 16384 * plays_behind true play row + (length (one_halted row.answers) + run_places row.running) ≤ 16384 * plays_behind goes_on (if goes_on then play else play + 1) (left row)
+left_behind play row true i placed most true =
+    let behind = behind_waits true play row placed in
+    let out : plays_behind true play (left row) ≡ play + 1 = ap (λ (b : Bool). if true && not b then play + 1 else play) (waits_no_more row.waits row.in_batch i) in
+    omega (arith, behind, out, most)
+left_behind play row false i placed most true =
+    let same : plays_behind true play (left row) ≡ plays_behind true play row = ap (λ (b : Bool). if true && not b then play + 1 else play) (waits_still row.waits row.in_batch i) in
+    omega (arith, same, placed)
+left_behind play row true i placed most false = let behind = behind_waits true play row placed in omega (arith, behind, most)
+left_behind play row false i placed most false = let behind = behind_most true play row in omega (arith, behind, placed)
+
+left_all : (goes_on : Bool) (play : ℕ) (rows : List HostRow) → AllWithin true goes_on play rows → AllWithin false goes_on (if goes_on then play else play + 1) (map left rows)
+left_all goes_on play [] w = tt
+left_all goes_on play (row ∷ rows) w =
+    let one = left_behind play row row.in_batch refl w.0.4 w.0.1 goes_on in
+    (at_most_to row.counts _ _ (omega (arith, one)) w.0.0, left_all goes_on play rows w.1)
+
+left_jobs : (goes_on : Bool) (play : ℕ) (rows : List HostRow) → AllWithin true goes_on play rows
+    → sum_by (most_jobs true goes_on play) rows ≤ sum_by (most_jobs false goes_on (if goes_on then play else play + 1)) (map left rows)
+left_jobs goes_on play [] w = omega arith
+left_jobs goes_on play (row ∷ rows) w =
+    let jobs = jobs_at_most row.running w.0.3 in
+    let one = left_behind play row row.in_batch refl w.0.4 w.0.1 goes_on in
+    omega (arith, jobs, one, left_jobs goes_on play rows w.1, sum_by-cons (most_jobs true goes_on play) row rows, sum_by-cons (most_jobs false goes_on (if goes_on then play else play + 1)) (left row) (map left rows))
+
+closed_bounded : (batch : ℕ) (later : List ℕ) (play sends : ℕ) (rows : List HostRow) → IsBounded true batch later play sends rows → IsBounded false batch later (play_behind (has_later later) play) sends (map left rows)
+closed_bounded batch later play sends rows b =
+    record {
+      counts = left_all (has_later later) play rows b.counts;
+      plays = at_most (has_later later) b.under_way;
+      under_way = below (has_later later) b.under_way;
       hosts = rw (length-map rows left) b.hosts;
-      jobs = omega (arith, left_jobs play rows b.counts, b.jobs);
-    })
-close_bounded play sends false rows new b o e = cc
+      batches = b.batches;
+      jobs = let more = left_jobs (has_later later) play rows b.counts in omega (arith, more, b.jobs);
+    }
+  where
+    at_most : (goes_on : Bool) → play < 256 → play_behind goes_on play ≤ 256
+    at_most true l = omega (arith, l)
+    at_most false l = omega (arith, l)
 
-first_all : (h n : ℕ) → AllWithin false 0 (first_rows h n)
+    below : (goes_on : Bool) → play < 256 → OnTrue (false || goes_on) (play_behind goes_on play < 256)
+    below true l = l
+    below false l = tt
+
+pub close_bounded : (batch : ℕ) (later : List ℕ) (play number sends : ℕ) (is_open : Bool) (rows new : List HostRow) → IsBounded is_open batch later play sends rows → is_open ≡ true → number ≡ play_behind (has_later later) play
+    → new ≡ map left rows → IsBounded false batch later number sends new
+close_bounded batch later play number sends true rows new b o p e = rw (p, e) (closed_bounded batch later play sends rows b)
+close_bounded batch later play number sends false rows new b o p e = cc
+
+-- the beginning
+first_all : (h n : ℕ) → AllWithin false false 0 (first_rows h n)
 first_all h zero = tt
 first_all h (suc n) = (none_at_most 0, first_all (h + 1) n)
 
-pub first_bounded : (rows : List HostRow) (n : ℕ) → n ≤ 65536 → rows ≡ first_rows 0 n → IsBounded false 0 0 rows
-first_bounded rows n m e =
-    rw e (record { counts = first_all 0 n; plays = omega arith; opened = tt; hosts = rw (length-first 0 n) m; jobs = omega arith })
+pub first_bounded : (rows : List HostRow) (later : List ℕ) (n : ℕ) → n ≤ 65536 → rows ≡ first_rows 0 n → later ≡ [] → IsBounded false 0 later 0 0 rows
+first_bounded rows later n m e l =
+    rw (e, l) (record { counts = first_all 0 n; plays = omega arith; under_way = tt; hosts = rw (length-first 0 n) m; batches = omega arith; jobs = omega arith })

@@ -22,16 +22,22 @@ use Rattle.pb_state.specs.declared.event.Event.{Event}
 use Rattle.pb_state.specs.declared.event.Event.TheVariants.{Open, Start, Send, Report as Reported, Turn, Close, Stop, Forks}
 use Rattle.pb_plan.specs.Plan.{PlayOf, PlanOf}
 use Rattle.pb_state.specs.Handlers.{notified_by}
-use Rattle.pb_state.specs.Row.{HostRow, no_tree, next_place, is_called, joined, left, finished, ended, task_at, taught, came_back, items_after, progressed, sent, sent_running, reported, reported_running}
+use Rattle.pb_state.specs.Batches.{has_later, called_count, joins, room_behind, joined_first}
+use Rattle.pb_state.specs.Row.{HostRow, no_tree, next_place, called, joined, left, finished, ended, task_at, taught, came_back, items_after, progressed, sent, sent_running, reported, reported_running}
 use Rattle.pb_state.specs.State.{State}
-use Rattle.pb_state.specs.Machine.{possible, after, change, at_row, open_play, least_place, lesser, same_place, stands_at, has_room, may_open, next_play, may_start_in, may_turn_in, may_close_in, some_may_start, opened_in, opened_at, started_in, facts_at, plan_seen, start_at, turned_in, closed, is_running, running_count, is_ticket, sends_running, may_send_item, awaits_running, awaits, may_send_in, may_report_in, sent_in, reported_in}
+use Rattle.pb_state.specs.Machine.{possible, after, change, at_row, open_play, least_place, lesser, same_place, may_open, is_left, may_start_in, may_turn_in, may_close_in, opened_by, after_open, started_in, next_at, facts_at, plan_seen, start_at, turned_in, play_behind, closed, is_running, running_count, is_ticket, sends_running, may_send_item, awaits_running, awaits, may_send_in, may_report_in, sent_in, reported_in}
+use Rattle.pb_batches.specs.Sizes.{batch_sizes}
 use Rattle.pb_state.specs.Results.{items_at}
 use Rattle.pb_state.specs.Kept.{first_waiting}
 use Rattle.pb_state.specs.Run.{is_command}
-use Rattle.pb_state.specs.Work.{most_events, places_left, place_work, out_work, running_work, row_work, later_work, turn_work, is_place, work_in, work}
+use Rattle.pb_state.specs.Work.{most_events, places_left, place_work, out_work, running_work, row_work, batch_work, batches_work, later_work, rest_work, between_work, turn_work, is_place, work_in, work}
 use Rattle.pb_state.proofs.FewItems.{few_items}
 use Rattle.pb_state.proofs.InOrder.{is_next_so, length_back, back_later}
-use Rattle.pb_state.proofs.Opening.{next_is}
+use Rattle.pb_state.proofs.Batching.{few_batches, few_called, length-joined}
+use Rattle.pb_state.proofs.SizesLeft.{later_one}
+use Rattle.pb_state.proofs.Opening.{GoesOn, Begins, IsOpening, open_case, rows_case}
+use Rattle.pb_state.proofs.Idle.{turn_leaves, turn_place}
+use Rattle.pb_state.proofs.Stands.{stands_at, start_stands}
 use Rattle.pb_state.proofs.Steps.{length-change}
 use Rattle.pb_state.proofs.Walked.{stands_below, one_halted_answer, same_is}
 
@@ -154,7 +160,7 @@ row_event : (plan : PlanOf) (s : State) (play : PlayOf) (h sends : ℕ) (begun :
 row_event plan s play h sends begun decided f test o less e =
     let rows = change_less (row_work) f test less s.rows h e in
     let turn = turn_work_at_most s.place (least_place (change s.rows h f)) in
-    let same : later_work (length (change s.rows h f)) (drop (s.play + 1) plan.plays) ≡ later_work (length s.rows) (drop (s.play + 1) plan.plays) = rw (length-change s.rows h f) refl in
+    let same : rest_work plan (length (change s.rows h f)) s.later s.play play ≡ rest_work plan (length s.rows) s.later s.play play = rw (length-change s.rows h f) refl in
     let old : work plan s ≡ work_in plan s (Some play) = ap (work_in plan s) o in
     let changed : State = record s { rows = change s.rows h f; begun = begun; sends = sends; decided = decided } in
     let new : work plan changed ≡ work_in plan changed (Some play) = ap (work_in plan changed) o in
@@ -182,7 +188,7 @@ start_at_less plan s h play (Some p) o e =
 
 start_in_less : (plan : PlanOf) (s : State) (h : ℕ) (found : Option PlayOf) → open_play plan s ≡ found → option_map_or (may_start_in s h) found false ≡ true → work plan (option_map_or (started_in plan s h) found s) < work plan s
 start_in_less plan s h None o e = cc
-start_in_less plan s h (Some play) o e = start_at_less plan s h play s.place o (and_right (has_room s) _ e)
+start_in_less plan s h (Some play) o e = start_at_less plan s h play (next_at s h) o (start_stands s h play e)
 
 send_in_less : (plan : PlanOf) (s : State) (h item : ℕ) (ticket : Ticket) (found : Option PlayOf) → open_play plan s ≡ found → option_map_or (may_send_in s h item ticket) found false ≡ true → work plan (option_map_or (sent_in s h ticket) found s) < work plan s
 send_in_less plan s h item ticket None o e = cc
@@ -195,48 +201,6 @@ report_in_less plan s r (Some play) o e =
     row_event plan s play r.host.0 s.sends s.begun (reported_in plan s r play).decided (reported (plan_seen plan s) play r.outcome) (awaits r.ticket r.item) o (λ row may. report_less (plan_seen plan s) play r.outcome r.ticket r.item row may) e
 
 -- a turn
-min_is : (a b : ℕ) (t : Bool) → nat_le a b ≡ t → (min a b ≡ a) ⊎ (min a b ≡ b)
-min_is a b true t = inl (omega (arith, leb-true a b t))
-min_is a b false t = inr (omega (arith, leb-false a b t))
-
-lesser_is : (a b : Option ℕ) (p : ℕ) → lesser a b ≡ Some p → (a ≡ Some p) ⊎ (b ≡ Some p)
-lesser_is None q p e = inr e
-lesser_is (Some a) None p e = inl e
-lesser_is (Some a) (Some b) p e = elim (min_is a b (nat_le a b) refl) [ inl m ↦ inl (cc) | inr m ↦ inr (cc) ]
-
-same_some : (a : Option ℕ) (p : ℕ) → a ≡ Some p → same_place a (Some p) ≡ true
-same_some a p e = rw e (eq-eqb p p refl)
-
-or_left : (a b : Bool) → (a || b) ≡ false → a ≡ false
-or_left true b e = e
-or_left false b e = refl
-
-or_right : (a b : Bool) → (a || b) ≡ false → b ≡ false
-or_right true b e = cc
-or_right false b e = e
-
--- where none runs and none stands at a place, it isn't the least
-least_stands : (p : ℕ) (rows : List HostRow) → list_any is_running rows ≡ false → list_any (stands_at (Some p)) rows ≡ false → least_place rows ≡ Some p → ⊥
-least_stands p [] c n e = cc
-least_stands p (row ∷ rows) c n e =
-    elim (lesser_is (next_place row) (least_place rows) p e) [
-      | inl here ↦ (let no : stands_at (Some p) row ≡ false = or_left (stands_at (Some p) row) _ n in
-          let idle : is_running row ≡ false = or_left (is_running row) _ c in
-          let yes : stands_at (Some p) row ≡ true = rw (idle, same_some (next_place row) p here) refl in cc)
-      | inr there ↦ least_stands p rows (or_right (is_running row) _ c) (or_right (stands_at (Some p) row) _ n) there
-    ]
-
-none_counted : (rows : List HostRow) → list_any is_running rows ≡ false → running_count rows ≡ 0
-none_counted [] c = refl
-none_counted (row ∷ rows) c =
-    let idle : is_running row ≡ false = or_left (is_running row) _ c in
-    let rest = none_counted rows (or_right (is_running row) _ c) in
-    let one : one_if (is_running row) ≡ 0 = rw idle refl in
-    omega (arith, sum_by-cons (λ x. one_if (is_running x)) row rows, rest, one)
-
-room_now : (s : State) → not s.stopped ≡ true → list_any is_running s.rows ≡ false → 0 < s.forks → has_room s ≡ true
-room_now s n c f = let none = none_counted s.rows c in rw (n, lt-ltb (running_count s.rows) s.forks (omega arith)) refl
-
 is_place_some : (p q : Option ℕ) (r : ℕ) → p ≡ Some r → is_place p q ≡ true → q ≡ Some r
 is_place_some (Some p) q r e s = let same = same_is (Some p) q s in same.2 ∙ (sym same.1 ∙ e)
 is_place_some None q r e s = cc
@@ -245,21 +209,11 @@ is_some_some : (p : Option ℕ) → is_some p ≡ true → (r : ℕ) × (p ≡ S
 is_some_some (Some r) e = (r, refl)
 is_some_some None e = cc
 
-none_stands : (room : Bool) (b : Bool) → room ≡ true → (room && b) ≡ false → b ≡ false
-none_stands true b r e = e
-none_stands false b r e = cc
-
 turn_due : (s : State) (play : PlayOf) (b : Bool) → 0 < s.forks → may_turn_in s play ≡ true → is_place s.place (least_place s.rows) ≡ b → turn_work s.place (least_place s.rows) ≡ 1
 turn_due s play false f e t = rw t refl
 turn_due s play true f e t =
-    let three = and_left (not s.stopped && is_some s.place && not (list_any is_running s.rows)) _ e in
-    let two = and_left (not s.stopped && is_some s.place) _ three in
-    let at = is_some_some s.place (and_right (not s.stopped) _ two) in
-    let idle = not_false (list_any is_running s.rows) (and_right (not s.stopped && is_some s.place) _ three) in
-    let no_start = not_false (some_may_start s) (and_right (not s.stopped && is_some s.place && not (list_any is_running s.rows)) _ e) in
-    let none = none_stands (has_room s) (list_any (stands_at s.place) s.rows) (room_now s (and_left (not s.stopped) _ two) idle f) no_start in
-    let stands : list_any (stands_at (Some at.0)) s.rows ≡ false = rw (← at.1) none in
-    absurd (least_stands at.0 s.rows idle stands (is_place_some s.place _ at.0 at.1 t))
+    let at = is_some_some s.place (turn_place s play e) in
+    absurd (turn_leaves s play at.0 f e at.1 (is_place_some s.place (least_place s.rows) at.0 at.1 t))
 
 turn_in_less : (plan : PlanOf) (s : State) (found : Option PlayOf) → 0 < s.forks → open_play plan s ≡ found → option_map_or (may_turn_in s) found false ≡ true → work plan (option_map_or (turned_in s) found s) < work plan s
 turn_in_less plan s None f o e = cc
@@ -274,37 +228,56 @@ open_is : (plan : PlanOf) (s : State) (play : PlayOf) (b : Bool) → s.is_open �
 open_is plan s play true t e = refl
 open_is plan s play false t e = let no : open_play plan s ≡ None = rw t refl in cc
 
+play_there : (plan : PlanOf) (s : State) (play : PlayOf) (b : Bool) → (if b then slice_get plan.plays s.play else None) ≡ Some play → slice_get plan.plays s.play ≡ Some play
+play_there plan s play true o = o
+play_there plan s play false o = cc
+
+-- where batches are left the play is the same, and else the next one
+abbrev closed_by : PlanOf → State → Bool → ℕ
+closed_by plan s later =
+    if later then option_map_or (rest_work plan (length (map left s.rows)) s.later (play_behind later s.play)) (slice_get plan.plays (play_behind later s.play)) 0
+    else later_work (length (map left s.rows)) (drop (play_behind later s.play) plan.plays)
+
+closed_at_most : (plan : PlanOf) (s : State) (play : PlayOf) (later : Bool) → slice_get plan.plays s.play ≡ Some play → closed_by plan s later ≤ rest_work plan (length (map left s.rows)) s.later s.play play
+closed_at_most plan s play true e =
+    let same : closed_by plan s true ≡ rest_work plan (length (map left s.rows)) s.later s.play play =
+    ap (λ (found : Option PlayOf). option_map_or (rest_work plan (length (map left s.rows)) s.later s.play) found 0) e in
+    omega (arith, same)
+closed_at_most plan s play false e =
+    with_more (later_work (length (map left s.rows)) (drop (s.play + 1) plan.plays)) (later_work (length (map left s.rows)) (drop (s.play + 1) plan.plays)) (batches_work (length (map left s.rows)) s.later play) (omega arith)
+
 close_in_less : (plan : PlanOf) (s : State) (found : Option PlayOf) → open_play plan s ≡ found → option_map_or (may_close_in s) found false ≡ true → work plan (closed s) < work plan s
 close_in_less plan s None o e = cc
 close_in_less plan s (Some play) o e =
-    let same : later_work (length (map left s.rows)) (drop (s.play + 1) plan.plays) ≡ later_work (length s.rows) (drop (s.play + 1) plan.plays) = rw (length-map s.rows left) refl in
+    let same : rest_work plan (length (map left s.rows)) s.later s.play play ≡ rest_work plan (length s.rows) s.later s.play play = rw (length-map s.rows left) refl in
     let old : work plan s ≡ work_in plan s (Some play) = ap (work_in plan s) o in
-    omega (arith, same, old)
+    let new : work plan (closed s) ≤ rest_work plan (length (map left s.rows)) s.later s.play play = closed_at_most plan s play (has_later s.later) (play_there plan s play s.is_open o) in
+    omega (arith, same, old, new)
 
 -- an open
 smaller : (tree : TreeOf) (b : Bool) → size_of (if b then tree else no_tree) ≤ size_of tree
 smaller tree true = omega arith
 smaller tree false = omega arith
 
-fresh : (tree : TreeOf) (hosts : List Bool) (row : HostRow) → row_work (joined tree hosts row) ≤ most_events * size_of tree
-fresh tree hosts row = most (next_place (joined tree hosts row))
+fresh : (tree : TreeOf) (inside : Bool) (row : HostRow) → row_work (joined tree inside row) ≤ most_events * size_of tree
+fresh tree inside row = most (next_place (joined tree inside row))
   where
-    most : (next : Option ℕ) → place_work (joined tree hosts row) next ≤ most_events * size_of tree
+    most : (next : Option ℕ) → place_work (joined tree inside row) next ≤ most_events * size_of tree
     most None = omega arith
-    most (Some p) = omega (arith, smaller tree (is_called hosts row))
+    most (Some p) = omega (arith, smaller tree inside)
 
-fresh_all : (tree : TreeOf) (hosts : List Bool) (rows : List HostRow) → sum_by row_work (map (joined tree hosts) rows) ≤ length rows * (most_events * size_of tree)
-fresh_all tree hosts [] = omega arith
-fresh_all tree hosts (row ∷ rows) =
-    let one = fresh tree hosts row in
-    let rest = fresh_all tree hosts rows in
-    omega (arith, sum_by-cons row_work (joined tree hosts row) (map (joined tree hosts) rows), one, rest, suc-mul (length rows) (most_events * size_of tree))
+fresh_all : (tree : TreeOf) (room : ℕ) (rows : List HostRow) → sum_by row_work (joined_first tree room rows) ≤ length rows * (most_events * size_of tree)
+fresh_all tree room [] = omega arith
+fresh_all tree room (row ∷ rows) =
+    let one = fresh tree (joins room row.waits) row in
+    let rest = fresh_all tree (room_behind room row.waits) rows in
+    omega (arith, sum_by-cons row_work (joined tree (joins room row.waits) row) (joined_first tree (room_behind room row.waits) rows), one, rest, suc-mul (length rows) (most_events * size_of tree))
 
-later_at : (n : ℕ) (plays : List PlayOf) (i : ℕ) (play : PlayOf) → slice_get plays i ≡ Some play → later_work n (drop i plays) ≡ 3 + 2 * (n * (most_events * size_of play.tree)) + later_work n (drop (i + 1) plays)
+later_at : (n : ℕ) (plays : List PlayOf) (i : ℕ) (play : PlayOf) → slice_get plays i ≡ Some play → later_work n (drop i plays) ≡ n * batch_work n play + later_work n (drop (i + 1) plays)
 later_at n plays i play e =
     let here : get_or plays i play ≡ play = get_or_from_slice_get plays i play play e in
     let cut : drop i plays ≡ get_or plays i play ∷ drop (i + 1) plays = drop_more plays i play (slice_get_within plays i play e) in
-    ap (later_work n) cut ∙ ap (λ (p : PlayOf). 3 + 2 * (n * (most_events * size_of p.tree)) + later_work n (drop (i + 1) plays)) here
+    ap (later_work n) cut ∙ ap (λ (p : PlayOf). n * batch_work n p + later_work n (drop (i + 1) plays)) here
 
 -- plays that are passed over leave less to do
 one_fewer : (n : ℕ) (plays : List PlayOf) (i : ℕ) → later_work n (drop (suc i) plays) ≤ later_work n (drop i plays)
@@ -320,24 +293,83 @@ some_fewer n plays i (suc k) = let same : suc k + i ≡ suc (k + i) = omega arit
 fewer : (n : ℕ) (plays : List PlayOf) (i j : ℕ) → i ≤ j → later_work n (drop j plays) ≤ later_work n (drop i plays)
 fewer n plays i j l = let at : (j - i) + i ≡ j = omega (arith, l) in rw at at (some_fewer n plays i (j - i))
 
-open_in_less : (plan : PlanOf) (s : State) (n : ℕ) (play : PlayOf) → s.is_open ≡ false → s.play ≤ n → slice_get plan.plays n ≡ Some play → work plan (opened_in s n play) < work plan s
-open_in_less plan s n play o l e =
-    let old : work plan s ≡ work_in plan s None = ap (λ (v : Bool). work_in plan s (if v then slice_get plan.plays s.play else None)) o in
-    let new : work plan (opened_in s n play) ≡ work_in plan (opened_in s n play) (Some play) = ap (work_in plan (opened_in s n play)) e in
-    let same : later_work (length (map (joined play.tree play.hosts) s.rows)) (drop (n + 1) plan.plays) ≡ later_work (length s.rows) (drop (n + 1) plan.plays) = rw (length-map s.rows (joined play.tree play.hosts)) refl in
-    omega (arith, old, new, same, fresh_all play.tree play.hosts s.rows, later_at (length s.rows) plan.plays n play e, fewer (length s.rows) plan.plays s.play n l, no_turn (least_place (map (joined play.tree play.hosts) s.rows)))
+-- one batch fewer is left
+fewer_times : (w k a : ℕ) → a * w ≤ (k + a) * w
+fewer_times w zero a = let same : 0 + a ≡ a = omega arith in rw same (omega arith)
+fewer_times w (suc k) a =
+    let rest = fewer_times w k a in
+    let one : suc k + a ≡ suc (k + a) = omega arith in
+    rw one (omega (arith, rest, suc-mul (k + a) w))
 
-open_next_less : (plan : PlanOf) (s : State) (next : Option ℕ) → next_play plan s ≡ next → s.is_open ≡ false → is_some next ≡ true → work plan (option_map_or (opened_at plan s) next s) < work plan s
-open_next_less plan s None f o e = cc
-open_next_less plan s (Some n) f o e =
-    let is = next_is plan s n f in
-    subst (λ (found : Option PlayOf). work plan (option_map_or (opened_in s n) found s) < work plan s) (sym is.there) (open_in_less plan s n is.play o is.least is.there)
+times : (w a b : ℕ) → a ≤ b → a * w ≤ b * w
+times w a b l = let at : (b - a) + a ≡ b = omega (arith, l) in rw at at (fewer_times w (b - a) a)
+
+-- what is left once a batch of a play has opened
+opened_work : (plan : PlanOf) (s : State) (n batch : ℕ) (sizes : List ℕ) (rows : List HostRow) (play : PlayOf) (size : ℕ) → slice_get plan.plays n ≡ Some play → length rows ≡ length s.rows
+    → work plan (opened_by s n batch sizes rows play size) < batch_work (length s.rows) play + rest_work plan (length s.rows) (drop 1 sizes) n play
+opened_work plan s n batch sizes rows play size e l =
+    let state = opened_by s n batch sizes rows play size in
+    let new : work plan state ≡ work_in plan state (Some play) = ap (work_in plan state) e in
+    let as_many : length (joined_first play.tree size rows) ≡ length s.rows = length-joined play.tree size rows ∙ l in
+    let same : rest_work plan (length (joined_first play.tree size rows)) (drop 1 sizes) n play ≡ rest_work plan (length s.rows) (drop 1 sizes) n play = rw as_many refl in
+    let most : length rows * (most_events * size_of play.tree) ≡ length s.rows * (most_events * size_of play.tree) = ap (λ k. k * (most_events * size_of play.tree)) l in
+    let turn = turn_work_at_most state.place (least_place state.rows) in
+    omega (arith, new, same, most, turn, fresh_all play.tree size rows)
+
+-- the batches of a play, of which the first is one
+first_batch : (plan : PlanOf) (n k : ℕ) (sizes : List ℕ) (play : PlayOf) (size : ℕ) → slice_get sizes 0 ≡ Some size
+    → batch_work k play + rest_work plan k (drop 1 sizes) n play ≡ batches_work k sizes play + later_work k (drop (n + 1) plan.plays)
+first_batch plan n k sizes play size e =
+    let one : batches_work k sizes play ≡ suc (length (drop 1 sizes)) * batch_work k play = ap (λ m. m * batch_work k play) (later_one sizes size e) in
+    omega (arith, one, suc-mul (length (drop 1 sizes)) (batch_work k play))
+
+goes_less : (plan : PlanOf) (s : State) (n batch : ℕ) (sizes : List ℕ) (rows : List HostRow) (play : PlayOf) (size : ℕ) → s.is_open ≡ false → IsOpening plan s n batch sizes rows play size → GoesOn s n batch sizes rows
+    → batches_work (length s.rows) sizes play + later_work (length s.rows) (drop (n + 1) plan.plays) ≤ work plan s
+goes_less plan s n batch sizes rows play size c is on =
+    let closed_work : work plan s ≡ between_work plan s = ap (λ (b : Bool). work_in plan s (if b then slice_get plan.plays s.play else None)) c in
+    let between : between_work plan s ≡ option_map_or (rest_work plan (length s.rows) s.later s.play) (slice_get plan.plays s.play) 0 =
+    ap (λ (b : Bool). if b then option_map_or (rest_work plan (length s.rows) s.later s.play) (slice_get plan.plays s.play) 0 else later_work (length s.rows) (drop s.play plan.plays)) on.0 in
+    let there : slice_get plan.plays s.play ≡ Some play = ap (slice_get plan.plays) (sym on.1) ∙ is.there in
+    let found : option_map_or (rest_work plan (length s.rows) s.later s.play) (slice_get plan.plays s.play) 0 ≡ rest_work plan (length s.rows) s.later s.play play =
+    ap (λ (f : Option PlayOf). option_map_or (rest_work plan (length s.rows) s.later s.play) f 0) there in
+    let same : batches_work (length s.rows) sizes play + later_work (length s.rows) (drop (n + 1) plan.plays) ≡ rest_work plan (length s.rows) s.later s.play play =
+    ap (λ (k : List ℕ). batches_work (length s.rows) k play + later_work (length s.rows) (drop (n + 1) plan.plays)) on.3
+    ∙ ap (λ (m : ℕ). batches_work (length s.rows) s.later play + later_work (length s.rows) (drop (m + 1) plan.plays)) on.1 in
+    omega (arith, closed_work, between, found, same)
+
+begins_less : (plan : PlanOf) (s : State) (n batch : ℕ) (sizes : List ℕ) (rows : List HostRow) (play : PlayOf) (size : ℕ) → s.is_open ≡ false → IsOpening plan s n batch sizes rows play size → Begins s n batch sizes rows play
+    → batches_work (length s.rows) sizes play + later_work (length s.rows) (drop (n + 1) plan.plays) ≤ work plan s
+begins_less plan s n batch sizes rows play size c is begun =
+    let closed_work : work plan s ≡ between_work plan s = ap (λ (b : Bool). work_in plan s (if b then slice_get plan.plays s.play else None)) c in
+    let between : between_work plan s ≡ later_work (length s.rows) (drop s.play plan.plays) =
+    ap (λ (b : Bool). if b then option_map_or (rest_work plan (length s.rows) s.later s.play) (slice_get plan.plays s.play) 0 else later_work (length s.rows) (drop s.play plan.plays)) begun.0 in
+    let count : length sizes ≡ length (batch_sizes play.serial (called_count play.hosts s.rows)) = ap length begun.3 in
+    let few : length sizes ≤ length s.rows = omega (arith, count, few_batches play.serial (called_count play.hosts s.rows), few_called play.hosts s.rows) in
+    let most = times (batch_work (length s.rows) play) (length sizes) (length s.rows) few in
+    let at = later_at (length s.rows) plan.plays n play is.there in
+    let passed = fewer (length s.rows) plan.plays s.play n begun.1 in
+    omega (arith, closed_work, between, most, at, passed)
+
+how_less : (plan : PlanOf) (s : State) (n batch : ℕ) (sizes : List ℕ) (rows : List HostRow) (play : PlayOf) (size : ℕ) → s.is_open ≡ false → IsOpening plan s n batch sizes rows play size
+    → GoesOn s n batch sizes rows ⊎ Begins s n batch sizes rows play → batches_work (length s.rows) sizes play + later_work (length s.rows) (drop (n + 1) plan.plays) ≤ work plan s
+how_less plan s n batch sizes rows play size c is (inl on) = goes_less plan s n batch sizes rows play size c is on
+how_less plan s n batch sizes rows play size c is (inr begun) = begins_less plan s n batch sizes rows play size c is begun
+
+open_next_less : (plan : PlanOf) (s : State) → s.is_open ≡ false → is_left plan s ≡ true → work plan (after_open plan s) < work plan s
+open_next_less plan s c left_some =
+    open_case (λ (new : State). work plan new < work plan s) plan s (λ none. absurd (none left_some))
+    (λ n batch sizes rows play size is.
+    let stay : length rows ≡ length s.rows = rows_case (λ (all : List HostRow). length all ≡ length s.rows) plan s n batch sizes rows play size is refl (λ hosts. length-map s.rows (called hosts)) in
+    let opened = opened_work plan s n batch sizes rows play size is.there stay in
+    let first = first_batch plan n (length s.rows) sizes play size is.first in
+    let old = how_less plan s n batch sizes rows play size c is is.how in
+    omega (arith, opened, first, old))
 
 open_less : (plan : PlanOf) (s : State) → may_open plan s ≡ true → work plan (after plan s Open) < work plan s
 open_less plan s e =
     let three = and_left (not s.stopped && not s.is_open && not s.ended) _ e in
     let two = and_left (not s.stopped && not s.is_open) _ three in
-    open_next_less plan s (next_play plan s) refl (not_false s.is_open (and_right (not s.stopped) _ two)) (and_right (not s.stopped && not s.is_open && not s.ended) _ e)
+    open_next_less plan s (not_false s.is_open (and_right (not s.stopped) _ two)) (and_right (not s.stopped && not s.is_open && not s.ended) _ e)
 
 falls : (plan : PlanOf) (s : State) (e : Event) → 0 < s.forks → is_command e ≡ false → possible plan s e ≡ true → work plan (after plan s e) < work plan s
 falls plan s Open f m p = open_less plan s p

@@ -1,5 +1,5 @@
 -- How far a state's numbers can have come: a host counts each place of a play once, and sends a job at most for each item of its task there.
-use Rattle.std.specs.Prelude.{ℕ, ◌+◌, ◌*◌, ◌≤◌, ◌<◌, Bool, true, false, List, [], ◌∷◌, length, min, sum_by, Option, Some, None}
+use Rattle.std.specs.Prelude.{◌≡◌, ℕ, ◌+◌, ◌*◌, ◌≤◌, ◌<◌, Bool, true, false, ◌&&◌, ◌||◌, not, List, [], ◌∷◌, length, min, sum_by, Option, Some, None, if◌then◌else◌}
 use Rattle.std.specs.Bool.{OnTrue}
 use Rattle.pb_tree.specs.Tree.{size_of}
 use Rattle.pb_tree.specs.Walk.{one_halted}
@@ -8,6 +8,7 @@ use Rattle.pb_items.specs.Loops.{max_items}
 use Rattle.pb_state.specs.declared.row.Counts.{Counts}
 use Rattle.pb_state.specs.declared.row.Running.{Running}
 use Rattle.pb_state.specs.Kept.{first_waiting}
+use Rattle.pb_state.specs.Batches.{has_later}
 use Rattle.pb_state.specs.Row.{HostRow}
 
 -- each count of a host is at most n
@@ -38,25 +39,36 @@ abbrev pub running_items : Option Running → ℕ
 running_items None = 0
 running_items (Some r) = length r.items
 
--- in an open batch, and where none is open
-abbrev pub IsWithin : Bool → ℕ → HostRow → Type 0
-IsWithin true play row =
-    IsAtMost row.counts (16384 * play + length (one_halted row.answers)) × (length (one_halted row.answers) + run_places row.running ≤ 16384)
-    × (size_of row.tree ≤ 16384) × (running_items row.running ≤ max_items)
-IsWithin false play row = IsAtMost row.counts (16384 * play)
+-- The plays that a host has behind it: also the one that is under way, where its batch has closed, or where it isn't one of the play's hosts.
+abbrev pub plays_behind : Bool → ℕ → HostRow → ℕ
+plays_behind under_way play row = if under_way && not row.waits then play + 1 else play
 
-abbrev pub AllWithin : Bool → ℕ → List HostRow → Type 0
-AllWithin is_open play [] = Unit {0}
-AllWithin is_open play (row ∷ rows) = IsWithin is_open play row × AllWithin is_open play rows
+-- a host in the open batch is one of the play's hosts, and one outside of it has neither answered nor started anything
+abbrev pub IsPlacedIn : Bool → HostRow → Type 0
+IsPlacedIn true row = row.waits ≡ true
+IsPlacedIn false row = length (one_halted row.answers) + run_places row.running ≡ 0
+
+-- while a batch is open, and while none is, of a play that goes on or not
+abbrev pub IsWithin : (is_open goes_on : Bool) → ℕ → HostRow → Type 0
+IsWithin true goes_on play row =
+    IsAtMost row.counts (16384 * plays_behind true play row + length (one_halted row.answers)) × (length (one_halted row.answers) + run_places row.running ≤ 16384)
+    × (size_of row.tree ≤ 16384) × (running_items row.running ≤ max_items) × IsPlacedIn row.in_batch row
+IsWithin false goes_on play row = IsAtMost row.counts (16384 * plays_behind goes_on play row)
+
+abbrev pub AllWithin : (is_open goes_on : Bool) → ℕ → List HostRow → Type 0
+AllWithin is_open goes_on play [] = Unit {0}
+AllWithin is_open goes_on play (row ∷ rows) = IsWithin is_open goes_on play row × AllWithin is_open goes_on play rows
 
 -- the most jobs that a host can have sent
-abbrev pub most_jobs : Bool → ℕ → HostRow → ℕ
-most_jobs true play row = max_items * (16384 * play + length (one_halted row.answers)) + running_jobs row.running
-most_jobs false play row = max_items * (16384 * play)
+abbrev pub most_jobs : (is_open goes_on : Bool) → ℕ → HostRow → ℕ
+most_jobs true goes_on play row = max_items * (16384 * plays_behind true play row + length (one_halted row.answers)) + running_jobs row.running
+most_jobs false goes_on play row = max_items * (16384 * plays_behind goes_on play row)
 
-pub record IsBounded (is_open : Bool) (play sends : ℕ) (rows : List HostRow) : Type 0 where
-  pub counts : AllWithin is_open play rows
+pub record IsBounded (is_open : Bool) (batch : ℕ) (later : List ℕ) (play sends : ℕ) (rows : List HostRow) : Type 0 where
+  pub counts : AllWithin is_open (has_later later) play rows
   pub plays : play ≤ 256
-  pub opened : OnTrue is_open (play < 256)
+  pub under_way : OnTrue (is_open || has_later later) (play < 256)
   pub hosts : length rows ≤ 65536
-  pub jobs : sends ≤ sum_by (most_jobs is_open play) rows
+  -- a play has as many batches as hosts at most
+  pub batches : batch + length later ≤ 65536
+  pub jobs : sends ≤ sum_by (most_jobs is_open (has_later later) play) rows

@@ -1,17 +1,15 @@
--- What is kept beside the rows, so that no step looks at all of them: which hosts have a job to send, and which stand at a place.
-use Rattle.std.specs.Prelude.{◌≡◌, ℕ, ◌&&◌, ◌||◌, Bool, List, map, Option, slice_get, slice_set}
+-- What is kept beside the rows, so that no step looks at all of them: which hosts have a job to send, and where each stands.
+use Rattle.std.specs.Prelude.{◌≡◌, ℕ, Bool, List, map, slice_get, slice_set}
 use Rattle.std.specs.Option.{option_map_or}
 use Rattle.pb_state.specs.Row.{HostRow}
-use Rattle.pb_state.specs.Machine.{has_send, stands_at}
+use Rattle.pb_strategies.specs.declared.standings.Standing.{Standing}
+use Rattle.pb_state.specs.Machine.{has_send}
+use Rattle.pb_state.specs.Strategies.{standing}
 
--- a set of the hosts whose rows pass a test, once one host's row is asked anew
-abbrev pub asked_at : (HostRow → Bool) → List HostRow → ℕ → List Bool → List Bool
-asked_at test rows h set = option_map_or (λ (row : HostRow). slice_set set h (test row)) (slice_get rows h) set
+-- what a list says of each host's row, once one host's row is asked anew
+abbrev pub asked_at : {A : Type 0} → (HostRow → A) → List HostRow → ℕ → List A → List A
+asked_at of rows h told = option_map_or (λ (row : HostRow). slice_set told h (of row)) (slice_get rows h) told
 
--- whether a host is ready that has a job to send or not, and that stands at the current place or not
-abbrev pub is_due : Bool → Bool → Bool → Bool
-is_due room sends stands = sends || (room && stands)
-
-pub record IsDue (sends stands : List Bool) (place : Option ℕ) (rows : List HostRow) : Type 0 where
+pub record IsDue (sends : List Bool) (standings : List Standing) (rows : List HostRow) : Type 0 where
   pub sending : sends ≡ map has_send rows
-  pub standing : stands ≡ map (stands_at place) rows
+  pub stands : standings ≡ map standing rows

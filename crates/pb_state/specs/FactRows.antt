@@ -37,7 +37,7 @@ on play = bare_plan (codes "h" ∷ []) (play ∷ [])
 
 -- the first task starts, and where its job is out, it comes to this
 abbrev begun : PlayOf → HostRow
-begun play = progressed play 0 (items_at (on play) play 0 no_facts 0) (joined play.tree play.hosts (first_row 0))
+begun play = progressed play 0 (items_at (on play) play 0 no_facts 0) (joined play.tree true (first_row 0))
 
 abbrev back : PlayOf → Form → HostRow → HostRow
 back play outcome row = reported (on play) play outcome (sent (record { 0 = 7 }) row)

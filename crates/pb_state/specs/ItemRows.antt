@@ -33,7 +33,7 @@ two_items = item_with (codes "a") ∷ item_with (codes "b") ∷ []
 
 -- the task starts with these items, and each of them is sent and comes back well
 abbrev started : HostRow
-started = progressed play 0 two_items (joined play.tree play.hosts (first_row 0))
+started = progressed play 0 two_items (joined play.tree true (first_row 0))
 
 abbrev out : HostRow → HostRow
 out row = sent (record { 0 = 7 }) row

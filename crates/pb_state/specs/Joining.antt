@@ -3,12 +3,18 @@ use Rattle.std.specs.Prelude.{ℕ, ◌+◌, Bool, List, [], ◌∷◌, Option, S
 use Rattle.pb_cursors.specs.Walks.{PlayWalkOf, walk_from}
 use Rattle.pb_tree.specs.Tree.{TreeOf}
 use Rattle.pb_state.specs.Machine.{change}
-use Rattle.pb_state.specs.Row.{HostRow, is_called}
+use Rattle.pb_state.specs.Batches.{joins, room_behind}
+use Rattle.pb_state.specs.Row.{HostRow}
 use Rattle.pb_state.specs.Walking.{tree_in, answers_in}
 
 -- the walk of a host through this tree, where it takes part
-abbrev pub walk_for : TreeOf → List Bool → HostRow → Option PlayWalkOf
-walk_for tree hosts row = if is_called hosts row then Some (walk_from tree) else None
+abbrev pub walk_if : TreeOf → Bool → Option PlayWalkOf
+walk_if tree inside = if inside then Some (walk_from tree) else None
+
+-- the walks of hosts of which these wait, in a batch that has room for so many
+abbrev pub walks_from : TreeOf → ℕ → List Bool → List (Option PlayWalkOf)
+walks_from tree room [] = []
+walks_from tree room (waits ∷ rest) = walk_if tree (joins room waits) ∷ walks_from tree (room_behind room waits) rest
 
 -- a host that takes this walk
 abbrev pub with_walk : Option PlayWalkOf → HostRow → HostRow

@@ -9,7 +9,9 @@ pub mod Handlers
 pub mod Row
 pub mod Walking
 pub mod Kept
+pub mod Batches
 pub mod State
+pub mod Strategies
 pub mod Machine
 pub mod Joining
 pub mod Back
@@ -27,3 +29,4 @@ pub mod ItemRows
 pub mod FactRows
 pub mod BlockRows
 pub mod HandlerRows
+pub mod BatchRows

@@ -1,6 +1,8 @@
--- The steps of a run: what may happen in a state, and what it leads to (Ansible's documentation, "Controlling playbook execution: strategies").
-use Rattle.std.specs.Prelude.{ℕ, ◌+◌, ◌==◌, nat_lt, nat_le, Bool, true, false, ◌&&◌, ◌||◌, not, List, [], ◌∷◌, map, drop, length, Option, Some, None, is_some, is_none, option_map, slice_get, slice_set, min, replicate, count_by, if◌then◌else◌}
+-- The steps of a run: what may happen in a state, and what it leads to
+-- (Ansible's documentation, "Controlling playbook execution: strategies and more").
+use Rattle.std.specs.Prelude.{ℕ, ◌+◌, ◌==◌, nat_le, Bool, true, false, ◌&&◌, ◌||◌, not, List, [], ◌∷◌, map, drop, length, Option, Some, None, is_some, is_none, option_map, slice_get, slice_set, min, replicate, count_by, if◌then◌else◌}
 use Rattle.std.specs.List.{list_any}
+use Rattle.std.specs.Simd.Lanes.{zip2}
 use Rattle.std.specs.Option.{option_map_or}
 use Rattle.pb_ids.specs.declared.numbers.Ticket.{Ticket}
 use Rattle.pb_planes.specs.Set.{is_in as is_member}
@@ -17,10 +19,15 @@ use Rattle.pb_state.specs.declared.row.Running.{Running}
 use Rattle.pb_state.specs.declared.decided.Decided.{Decided}
 use Rattle.pb_state.specs.declared.decided.Done.{Done as DoneTask}
 use Rattle.pb_state.specs.declared.decided.TaskEnd.{TaskEnd}
+use Rattle.pb_batches.specs.Sizes.{batch_sizes}
 use Rattle.pb_plan.specs.Plan.{PlayOf, PlanOf}
-use Rattle.pb_state.specs.Row.{HostRow, first_rows, is_active, is_called, next_place, sent, reported, joined, left, pending, task_at, items_after, progressed}
+use Rattle.pb_state.specs.Batches.{has_later, called_count, joined_first}
+use Rattle.pb_state.specs.Row.{HostRow, first_rows, is_active, is_called, next_place, sent, reported, called, left, pending, task_at, items_after, progressed}
 use Rattle.pb_state.specs.Handlers.{handler_at, notified_by, newly}
 use Rattle.pb_state.specs.State.{State}
+use Rattle.pb_state.specs.Strategies.{view_of}
+use Rattle.pb_strategies.specs.declared.strategy.Strategy.{Strategy}
+use Rattle.pb_strategies.specs.MayStart.{may_start, turn_ready, is_linear, ready as starting}
 use Rattle.pb_state.specs.Results.{items_at, variable_at}
 use Rattle.pb_state.specs.Seen.{seen_with}
 
@@ -47,10 +54,6 @@ same_place (Some p) (Some q) = p == q
 same_place (Some p) None = false
 same_place None q = false
 
--- under the linear strategy a host may start where it doesn't run and its next place is the current one
-abbrev pub stands_at : Option ℕ → HostRow → Bool
-stands_at place row = not (is_running row) && same_place (next_place row) place
-
 abbrev pub at_row : (HostRow → Bool) → List HostRow → ℕ → Bool
 at_row test rows h = option_map_or test (slice_get rows h) false
 
@@ -63,10 +66,6 @@ lesser (Some p) (Some q) = Some (min p q)
 abbrev pub least_place : List HostRow → Option ℕ
 least_place [] = None
 least_place (row ∷ rows) = lesser (next_place row) (least_place rows)
-
--- hosts that run are counted, and not jobs: there is room where they are fewer than the forks
-abbrev pub has_room : State → Bool
-has_room s = not s.stopped && nat_lt (running_count s.rows) s.forks
 
 abbrev pub is_ticket : Ticket → Option Ticket → Bool
 is_ticket ticket out = option_map_or (λ (t : Ticket). t.0 == ticket.0) out false
@@ -117,16 +116,20 @@ abbrev pub first_play : List HostRow → ℕ → List PlayOf → Option ℕ
 first_play rows n [] = None
 first_play rows n (play ∷ plays) = if has_hosts rows play then Some n else first_play rows (n + 1) plays
 
--- the play that opens next: those without hosts are passed over
+-- the play that begins next: those without hosts are passed over
 -- (Ansible's documentation, "Patterns: targeting hosts and groups")
 abbrev pub next_play : PlanOf → State → Option ℕ
 next_play plan s = first_play s.rows s.play (drop s.play plan.plays)
 
+-- a batch is left: of the play that goes on, or of one that is still to begin
+abbrev pub is_left : PlanOf → State → Bool
+is_left plan s = if has_later s.later then is_some (slice_get plan.plays s.play) else is_some (next_play plan s)
+
 abbrev pub may_open : PlanOf → State → Bool
-may_open plan s = not s.stopped && not s.is_open && not s.ended && is_some (next_play plan s)
+may_open plan s = not s.stopped && not s.is_open && not s.ended && is_left plan s
 
 abbrev pub may_start_in : State → ℕ → PlayOf → Bool
-may_start_in s h play = has_room s && at_row (stands_at s.place) s.rows h
+may_start_in s h play = may_start (view_of s play) h
 
 abbrev pub may_send_in : State → ℕ → ℕ → Ticket → PlayOf → Bool
 may_send_in s h item ticket play = not s.stopped && (ticket.0 == s.sends) && at_row (may_send_item item) s.rows h
@@ -134,11 +137,8 @@ may_send_in s h item ticket play = not s.stopped && (ticket.0 == s.sends) && at_
 abbrev pub may_report_in : State → Report → PlayOf → Bool
 may_report_in s r play = at_row (awaits r.ticket r.item) s.rows r.host.0
 
-abbrev pub some_may_start : State → Bool
-some_may_start s = has_room s && list_any (stands_at s.place) s.rows
-
 abbrev pub may_turn_in : State → PlayOf → Bool
-may_turn_in s play = not s.stopped && is_some s.place && not (list_any is_running s.rows) && not (some_may_start s)
+may_turn_in s play = turn_ready (view_of s play)
 
 abbrev pub may_close_in : State → PlayOf → Bool
 may_close_in s play = not s.stopped && is_none s.place && not (list_any is_running s.rows) && is_none (least_place s.rows)
@@ -154,12 +154,12 @@ possible plan s Close = option_map_or (may_close_in s) (open_play plan s) false
 possible plan s Stop = true
 possible plan s (Forks n) = nat_le 1 n && nat_le n s.pool
 
--- the hosts that have a send or a start
-abbrev pub is_ready : Bool → Bool → Option ℕ → HostRow → Bool
-is_ready sends room place row = (sends && has_send row) || (room && stands_at place row)
+-- the hosts that have a send or a start; in a run that was told to stop none has a send
+abbrev pub with_sends : Bool → List HostRow → List Bool → List Bool
+with_sends stopped rows starts = if stopped then starts else zip2 (λ (a b : Bool). a || b) starts (map has_send rows)
 
 abbrev pub ready_in : State → PlayOf → List Bool
-ready_in s play = map (is_ready (not s.stopped) (has_room s) s.place) s.rows
+ready_in s play = with_sends s.stopped s.rows (starting (view_of s play))
 
 abbrev pub ready : PlanOf → State → List Bool
 ready plan s = option_map_or (ready_in s) (open_play plan s) (replicate (length s.rows) false)
@@ -191,15 +191,49 @@ abbrev pub pending_at : State → ℕ → List Bool
 pending_at s h = pending_in s.rows h
 
 -- what each event leads to
-abbrev pub opened_with : State → ℕ → List HostRow → PlayOf → State
-opened_with s n rows play =
-    record s { rows = rows; play = n; is_open = true; place = least_place rows; begun = replicate (size_of play.tree) false; decided = None }
+-- under the linear strategy the hosts of a batch go from place to place together, and else there is no current place
+abbrev pub first_by : Strategy → List HostRow → Option ℕ
+first_by strategy rows = if is_linear strategy then least_place rows else None
 
-abbrev pub opened_in : State → ℕ → PlayOf → State
-opened_in s n play = opened_with s n (map (joined play.tree play.hosts) s.rows) play
+abbrev pub with_place : Option ℕ → State → State
+with_place place s = record s { place = place }
 
-abbrev pub opened_at : PlanOf → State → ℕ → State
-opened_at plan s n = option_map_or (opened_in s n) (slice_get plan.plays n) s
+-- a batch of a play is open, with these sizes of those behind it
+abbrev pub opened_with : State → ℕ → ℕ → List ℕ → List HostRow → PlayOf → State
+opened_with s n batch later rows play =
+    record s {
+      rows = rows;
+      play = n;
+      batch = batch;
+      later = later;
+      is_open = true;
+      place = first_by play.strategy rows;
+      begun = replicate (size_of play.tree) false;
+      decided = None;
+    }
+
+-- the first of the batches of these sizes opens
+abbrev pub opened_by : State → ℕ → ℕ → List ℕ → List HostRow → PlayOf → ℕ → State
+opened_by s n batch sizes rows play size = opened_with s n batch (drop 1 sizes) (joined_first play.tree size rows) play
+
+abbrev pub opened : State → ℕ → ℕ → List ℕ → List HostRow → PlayOf → State
+opened s n batch sizes rows play = option_map_or (opened_by s n batch sizes rows play) (slice_get sizes 0) s
+
+-- the play goes on with its next batch
+abbrev pub goes_on : State → PlayOf → State
+goes_on s play = opened s s.play (s.batch + 1) s.later s.rows play
+
+-- a play begins: its hosts are those of its own that are active now
+abbrev pub begins : State → ℕ → PlayOf → State
+begins s n play = opened s n 0 (batch_sizes play.serial (called_count play.hosts s.rows)) (map (called play.hosts) s.rows) play
+
+abbrev pub begins_at : PlanOf → State → ℕ → State
+begins_at plan s n = option_map_or (begins s n) (slice_get plan.plays n) s
+
+abbrev pub after_open : PlanOf → State → State
+after_open plan s =
+    if has_later s.later then option_map_or (goes_on s) (slice_get plan.plays s.play) s
+    else option_map_or (begins_at plan s) (next_play plan s) s
 
 abbrev pub start_with : State → ℕ → PlayOf → ℕ → List Item → State
 start_with s h play p items =
@@ -223,8 +257,12 @@ plan_seen plan s = seen_with plan (learnt_by s.rows)
 abbrev pub start_at : PlanOf → State → ℕ → PlayOf → ℕ → State
 start_at plan s h play p = start_with s h play p (items_at (plan_seen plan s) play h (facts_at s h) p)
 
+-- the next place of a host
+abbrev pub next_at : State → ℕ → Option ℕ
+next_at s h = option_map_or next_place (slice_get s.rows h) None
+
 abbrev pub started_in : PlanOf → State → ℕ → PlayOf → State
-started_in plan s h play = option_map_or (start_at plan s h play) s.place s
+started_in plan s h play = option_map_or (start_at plan s h play) (next_at s h) s
 
 abbrev pub sent_in : State → ℕ → Ticket → PlayOf → State
 sent_in s h ticket play = record s { rows = change s.rows h (sent ticket); sends = s.sends + 1; decided = None }
@@ -260,8 +298,20 @@ reported_in plan s r play = reported_seen (plan_seen plan s) s r play
 abbrev pub turned_in : State → PlayOf → State
 turned_in s play = record s { place = least_place s.rows; decided = None }
 
+-- the number of the play to which a batch of this one leads: the play goes on where batches of it are left
+abbrev pub play_behind : Bool → ℕ → ℕ
+play_behind goes_on play = if goes_on then play else play + 1
+
 abbrev pub closed : State → State
-closed s = record s { rows = map left s.rows; play = s.play + 1; is_open = false; begun = []; ended = not (list_any is_in s.rows); decided = None }
+closed s =
+    record s {
+      rows = map left s.rows;
+      play = play_behind (has_later s.later) s.play;
+      is_open = false;
+      begun = [];
+      ended = not (list_any is_in s.rows);
+      decided = None;
+    }
 
 abbrev pub stopped : State → State
 stopped s = record s { stopped = true; decided = None }
@@ -270,7 +320,7 @@ abbrev pub with_forks : State → ℕ → State
 with_forks s n = record s { forks = n; decided = None }
 
 abbrev pub after : PlanOf → State → Event → State
-after plan s Open = option_map_or (opened_at plan s) (next_play plan s) s
+after plan s Open = after_open plan s
 after plan s (Start h) = option_map_or (started_in plan s h.0) (open_play plan s) s
 after plan s (Send h item ticket) = option_map_or (sent_in s h.0 ticket) (open_play plan s) s
 after plan s (Reported r) = option_map_or (reported_in plan s r) (open_play plan s) s
@@ -284,6 +334,8 @@ first_state plan forks pool =
     record {
       rows = first_rows 0 (length plan.inventory.hosts);
       play = 0;
+      batch = 0;
+      later = [];
       is_open = false;
       place = None;
       begun = [];

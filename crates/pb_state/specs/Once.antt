@@ -9,7 +9,7 @@ use Rattle.pb_state.specs.declared.row.Running.{Running}
 use Rattle.pb_plan.specs.Plan.{PlanOf}
 use Rattle.pb_state.specs.Row.{HostRow}
 use Rattle.pb_state.specs.State.{State}
-use Rattle.pb_state.specs.Machine.{after, first_state}
+use Rattle.pb_state.specs.Machine.{after, next_at, first_state}
 use Rattle.pb_state.specs.Run.{legal_from}
 
 -- a host starts the task at a place of a play
@@ -32,9 +32,9 @@ running_place row = option_map (λ (r : Running). r.place) row.running
 abbrev pub place_run_by : State → HostNo → Option ℕ
 place_run_by s host = option_map_or running_place (slice_get s.rows host.0) None
 
--- what an event starts: at the current place of the open play
+-- what an event starts: at the next place of the host in the open play
 abbrev pub starts_of : State → Event → List StartOf
-starts_of s (Start host) = record { host = host; play = s.play; place = s.place } ∷ []
+starts_of s (Start host) = record { host = host; play = s.play; place = next_at s host.0 } ∷ []
 starts_of s other = []
 
 -- what an event sends: at the place of the task that the host runs

@@ -1,5 +1,5 @@
 -- What the state keeps of one host, and what a step does to it alone.
-use Rattle.std.specs.Prelude.{ℕ, zero, suc, ◌+◌, Bool, true, false, ◌&&◌, List, [], ◌∷◌, ◌++◌, Option, Some, None, option_map, slice_get, if◌then◌else◌}
+use Rattle.std.specs.Prelude.{ℕ, zero, suc, ◌+◌, Bool, true, false, ◌&&◌, not, List, [], ◌∷◌, ◌++◌, Option, Some, None, option_map, slice_get, if◌then◌else◌}
 use Rattle.std.specs.Option.{option_map_or}
 use Rattle.pb_ids.specs.declared.numbers.Ticket.{Ticket}
 use Rattle.pb_planes.specs.Set.{is_in as is_member}
@@ -40,6 +40,8 @@ pub record HostRow : Type 0 where
   pub answers : List AnswerOf
   pub status : Status
   pub in_batch : Bool
+  -- whether the host is one of those of the play that goes on whose batch hasn't closed
+  pub waits : Bool
   -- the task that the host runs: some item of it is still to come back
   pub running : Option Running
   -- the task that the host finished last in the open batch
@@ -57,7 +59,7 @@ no_tree = record { nodes = Nothing; handlers = 0; force_handlers = false }
 
 abbrev pub first_row : ℕ → HostRow
 first_row host =
-    record { host = host; tree = no_tree; answers = []; status = Active; in_batch = false; running = None; last = None; facts = no_facts; counts = none_counted }
+    record { host = host; tree = no_tree; answers = []; status = Active; in_batch = false; waits = false; running = None; last = None; facts = no_facts; counts = none_counted }
 
 -- this many hosts, whose first has the number h
 abbrev pub first_rows : ℕ → ℕ → List HostRow
@@ -155,11 +157,17 @@ reported plan play outcome row = option_map_or (reported_running plan play outco
 abbrev pub is_called : List Bool → HostRow → Bool
 is_called hosts row = is_member hosts row.host && is_active row.status
 
--- a host as the batch of a play opens that has this tree and these hosts: it takes part where it is called
-abbrev pub joined : TreeOf → List Bool → HostRow → HostRow
-joined tree hosts row =
-    record row { tree = if is_called hosts row then tree else no_tree; answers = []; in_batch = is_called hosts row; running = None; last = None }
+-- a host as a play begins: it waits for its batch where it is called
+abbrev pub called : List Bool → HostRow → HostRow
+called hosts row = record row { waits = is_called hosts row }
 
--- a host as its batch closes
+abbrev pub is_waiting : HostRow → Bool
+is_waiting row = row.waits
+
+-- a host as a batch of a play opens that has this tree, in which it takes part or not
+abbrev pub joined : TreeOf → Bool → HostRow → HostRow
+joined tree inside row = record row { tree = if inside then tree else no_tree; answers = []; in_batch = inside; running = None; last = None }
+
+-- a host as the batch closes: it waits no more where it was in it
 abbrev pub left : HostRow → HostRow
-left row = record row { tree = no_tree; answers = []; in_batch = false; running = None; last = None }
+left row = record row { tree = no_tree; answers = []; in_batch = false; waits = row.waits && not row.in_batch; running = None; last = None }

@@ -5,10 +5,13 @@ use Rattle.pb_state.specs.Row.{HostRow}
 
 pub record State : Type 0 where
   pub rows : List HostRow
-  -- the play whose batch is open, or the one behind the last that was
+  -- the play whose batch is open, or the one that goes on, or the one behind the last
   pub play : ℕ
+  -- the number of the batch in its play, and the sizes of those behind it
+  pub batch : ℕ
+  pub later : List ℕ
   pub is_open : Bool
-  -- the place at which the hosts of the batch are, by its position in the play's tree
+  -- under the linear strategy the place at which the hosts of the batch are, by its position in the play's tree
   pub place : Option ℕ
   -- of each place of the tree whether a host of the batch has started there
   pub begun : List Bool

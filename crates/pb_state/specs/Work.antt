@@ -1,11 +1,13 @@
 -- How much is left to be done: a number that falls at each event but a command.
-use Rattle.std.specs.Prelude.{ℕ, ◌+◌, ◌-◌, ◌*◌, Bool, true, false, List, [], ◌∷◌, length, drop, Option, Some, None, sum_by, if◌then◌else◌}
+use Rattle.std.specs.Prelude.{ℕ, ◌+◌, ◌-◌, ◌*◌, Bool, true, false, List, [], ◌∷◌, length, drop, Option, Some, None, sum_by, slice_get, if◌then◌else◌}
+use Rattle.std.specs.Option.{option_map_or}
 use Rattle.pb_ids.specs.declared.numbers.Ticket.{Ticket}
 use Rattle.pb_tree.specs.Tree.{size_of}
 use Rattle.pb_tree.specs.Walk.{one_halted}
 use Rattle.pb_items.specs.Loops.{max_items}
 use Rattle.pb_state.specs.declared.row.Running.{Running}
 use Rattle.pb_plan.specs.Plan.{PlayOf, PlanOf}
+use Rattle.pb_state.specs.Batches.{has_later}
 use Rattle.pb_state.specs.Row.{HostRow, next_place}
 use Rattle.pb_state.specs.Kept.{first_waiting}
 use Rattle.pb_state.specs.State.{State}
@@ -38,10 +40,18 @@ running_work row (Some r) = items_work r + most_events * (places_left row - 1)
 abbrev pub row_work : HostRow → ℕ
 row_work row = running_work row row.running
 
--- of plays that haven't opened, for n hosts
+-- of a batch that hasn't opened, for n hosts at most
+abbrev pub batch_work : ℕ → PlayOf → ℕ
+batch_work n play = 3 + 2 * (n * (most_events * size_of play.tree))
+
+-- of batches of these sizes
+abbrev pub batches_work : ℕ → List ℕ → PlayOf → ℕ
+batches_work n sizes play = length sizes * batch_work n play
+
+-- of plays that haven't begun: each has as many batches as hosts at most
 abbrev pub later_work : ℕ → List PlayOf → ℕ
 later_work n [] = 0
-later_work n (play ∷ plays) = 3 + 2 * (n * (most_events * size_of play.tree)) + later_work n plays
+later_work n (play ∷ plays) = n * batch_work n play + later_work n plays
 
 -- a turn is due where the current place isn't the least
 abbrev pub is_place : Option ℕ → Option ℕ → Bool
@@ -52,10 +62,19 @@ is_place (Some p) q = same_place (Some p) q
 abbrev pub turn_work : Option ℕ → Option ℕ → ℕ
 turn_work place least = if is_place place least then 0 else 1
 
+-- of the play that is under way the batches that are left, and the plays behind it; of the plays from this number on
+abbrev pub rest_work : PlanOf → ℕ → List ℕ → ℕ → PlayOf → ℕ
+rest_work plan n sizes number play = batches_work n sizes play + later_work n (drop (number + 1) plan.plays)
+
+abbrev pub between_work : PlanOf → State → ℕ
+between_work plan s =
+    if has_later s.later then option_map_or (rest_work plan (length s.rows) s.later s.play) (slice_get plan.plays s.play) 0
+    else later_work (length s.rows) (drop s.play plan.plays)
+
 abbrev pub work_in : PlanOf → State → Option PlayOf → ℕ
-work_in plan s None = later_work (length s.rows) (drop s.play plan.plays)
+work_in plan s None = between_work plan s
 work_in plan s (Some play) =
-    2 * sum_by row_work s.rows + 1 + turn_work s.place (least_place s.rows) + later_work (length s.rows) (drop (s.play + 1) plan.plays)
+    2 * sum_by row_work s.rows + 1 + turn_work s.place (least_place s.rows) + rest_work plan (length s.rows) s.later s.play play
 
 abbrev pub work : PlanOf → State → ℕ
 work plan s = work_in plan s (open_play plan s)

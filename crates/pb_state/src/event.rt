@@ -6,7 +6,7 @@ use pb_outcome::job::Report as JobReport;
 /// A step of a run.
 #[derive(Drop)]
 pub enum Event {
-    /// The next play's batch opens.
+    /// The next batch opens: of the play that goes on, or the first of the next play.
     Open,
     /// A host starts the task at its next place.
     Start(HostNo),

@@ -17,6 +17,7 @@ mod handlers;
 mod hosts;
 mod items;
 mod job;
+mod later;
 mod learning;
 mod own;
 mod planned;

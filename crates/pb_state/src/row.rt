@@ -6,6 +6,7 @@ ghost use Rattle.pb_tree.specs.Answer.{AnswerOf};
 ghost use Rattle.pb_tree.specs.Walk.{status_now};
 ghost use Rattle.pb_planes.specs.Set.{is_in as is_member};
 ghost use Rattle.pb_cursors.specs.Walks.{walk_after};
+ghost use Rattle.pb_state.specs.Joining.{walk_if};
 
 use crate::decided::{Decided, Done, TaskEnd};
 use crate::ends::{counted, kind_of};
@@ -20,6 +21,7 @@ use pb_ids::{HostNo, Ticket};
 use pb_outcome::outcome::Outcome;
 use pb_plan::PlanPlay;
 use pb_planes::HostSet;
+use pb_strategies::Standing;
 use pb_tree::{Answer, Kind, Reach, Status};
 use std::alloc::{AllocError, Global};
 use std::marker::Model;
@@ -72,11 +74,12 @@ impl Drop for Running {
     }
 }
 
-/// One host: its number, its walk through the open batch's play, where it takes part in that, its status, what it runs and what it finished last,
-/// what it has learnt, and its counts.
+/// One host: its number, its walk through the open batch's play, where it takes part in that, whether it waits for its batch of the play that goes on
+/// or is in that, its status, what it runs and what it finished last, what it has learnt, and its counts.
 pub struct Row {
     host: HostNo,
     walk: Option<PlayWalk>,
+    waits: bool,
     status: Status,
     running: Option<Running>,
     last: Option<Finish>,
@@ -89,6 +92,7 @@ impl Drop for Row {
         let Row {
             host: _,
             walk,
+            waits: _,
             status: _,
             running,
             last: _,
@@ -120,6 +124,7 @@ impl Model for Row {
       answers = answers_in r.walk;
       status = r.status;
       in_batch = is_some r.walk;
+      waits = r.waits;
       running = r.running;
       last = r.last;
       facts = r.facts;
@@ -127,6 +132,22 @@ impl Model for Row {
     } };
 
     ghost invariant = { λ r. RunsInBatch r.running r.walk };
+}
+
+/// The walk of a host through this tree, where it takes part in the batch that opens.
+pub fn walk_if(
+    alloc: Global,
+    joins: bool,
+    laid: &Rc<LaidTree>,
+) -> Result<Option<PlayWalk>, AllocError>
+    ensures { IfOk result (λ walk. walk ≡ walk_if laid.now.value.tree joins) }
+{
+    if joins {
+        let walk = PlayWalk::first(alloc, laid)?;
+        Ok(Some(walk))
+    } else {
+        Ok(None)
+    }
 }
 
 /// Whether a host still takes part.
@@ -212,8 +233,8 @@ fn come_back(
 }
 
 impl Row {
-    ghost use Rattle.pb_state.specs.Row.{first_row, finished, progressed, sent, reported, left, pending};
-    ghost use Rattle.pb_state.specs.Joining.{walk_for, with_walk};
+    ghost use Rattle.pb_state.specs.Row.{first_row, finished, progressed, sent, reported, called, left, pending};
+    ghost use Rattle.pb_state.specs.Joining.{with_walk};
     ghost use Rattle.pb_state.specs.Machine.{done_if, report_decides};
     ghost use Rattle.pb_state.specs.Back.{back_row, waiting, went_on, ended_now, decided_now, undone};
 
@@ -224,6 +245,7 @@ impl Row {
         Row {
             host,
             walk: None,
+            waits: false,
             status: Status::Active,
             running: None,
             last: None,
@@ -426,21 +448,11 @@ impl Row {
         }
     }
 
-    /// The walk of the host as the batch of a play opens that has this tree and these hosts of its own, where it takes part.
-    pub fn walk_for(
-        &self,
-        alloc: Global,
-        hosts: &HostSet,
-        laid: &Rc<LaidTree>,
-    ) -> Result<Option<PlayWalk>, AllocError>
-        ensures { IfOk result (λ walk. walk ≡ walk_for laid.now.value.tree hosts.now self.now) }
+    /// A play begins that has these hosts of its own: the host waits for its batch where it is called.
+    pub fn call(&mut self, hosts: &HostSet)
+        ensures { self.new ≡ called hosts.now self.old }
     {
-        if self.is_called(hosts) {
-            let walk = PlayWalk::first(alloc, laid)?;
-            Ok(Some(walk))
-        } else {
-            Ok(None)
-        }
+        self.waits = self.is_called(hosts);
     }
 
     /// The batch opens, in which the host takes this walk, if it takes part. What it has learnt stays where it is.
@@ -456,6 +468,7 @@ impl Row {
     pub fn leave(&mut self)
         ensures { self.new ≡ left self.old }
     {
+        self.waits = self.waits && !self.in_batch();
         put_walk(&mut self.walk, None);
         run(&mut self.running, None);
         self.last = None;
@@ -464,7 +477,9 @@ impl Row {
 
 impl Row {
     ghost use Rattle.pb_state.specs.Row.{is_called, next_place, pending};
-    ghost use Rattle.pb_state.specs.Machine.{is_ready, stands_at, is_in, is_running, has_send, is_out, has_ticket, is_ticket, is_next, may_send_item, awaits, item_of};
+    ghost use Rattle.pb_state.specs.declared.row.Running.{Running as RunningOf};
+    ghost use Rattle.pb_state.specs.Strategies.{has_begun, standing};
+    ghost use Rattle.pb_state.specs.Machine.{is_in, is_running, has_send, is_out, has_ticket, is_ticket, is_next, may_send_item, awaits, item_of};
 
     /// Whether the host still takes part in the playbook.
     pub fn is_host_active(&self) -> bool
@@ -582,24 +597,32 @@ impl Row {
         marks_in(&self.walk)
     }
 
-    /// Whether the host doesn't run and its next place is the current one.
-    pub fn stands_at(&self, place: Option<usize>) -> bool
-        ensures { result ≡ stands_at place self.now }
+    /// The place of the task that the host runs.
+    fn runs(&self) -> Option<usize>
+        ensures { result ≡ option_map (λ (r : RunningOf). r.place) self.now.running }
     {
-        if self.is_running() {
-            return false;
-        }
-        match (self.next_place(), place) {
-            (Some(next), Some(current)) => next == current,
-            _ => false,
+        match &self.running {
+            Some(running) => Some(running.place),
+            None => None,
         }
     }
 
-    /// Whether the host has a job to send, where jobs are sent, or may start at the current place, where there is room.
-    pub fn is_ready(&self, sends: bool, room: bool, place: Option<usize>) -> bool
-        ensures { result ≡ is_ready sends room place self.now }
+    /// Whether the host has begun its batch.
+    fn has_begun(&self) -> bool
+        ensures { result ≡ has_begun self.now }
     {
-        sends && self.has_send() || room && self.stands_at(place)
+        self.running.is_some() || self.last.is_some()
+    }
+
+    /// Where the host stands, as strategies see it. It walks no tree.
+    pub fn standing(&self) -> Standing
+        ensures { result ≡ standing self.now }
+    {
+        Standing {
+            next: self.next_place(),
+            runs: self.runs(),
+            has_begun: self.has_begun(),
+        }
     }
 
     /// Whether the host takes part in the open batch.
@@ -607,6 +630,13 @@ impl Row {
         ensures { result ≡ self.now.in_batch }
     {
         self.walk.is_some()
+    }
+
+    /// Whether the host is one of those of the play that goes on whose batch hasn't closed.
+    pub fn waits(&self) -> bool
+        ensures { result ≡ self.now.waits }
+    {
+        self.waits
     }
 
     /// The host's number.

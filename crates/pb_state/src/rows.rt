@@ -3,21 +3,24 @@
 ghost use Rattle.std.specs.Prelude.{◌≡◌, ◌&&◌, ◌<◌, ◌≤◌, ◌+◌, ◌-◌, ◌^◌, length, map, drop, replicate, slice_get, count_by, true, false, IfOk, IfSome, IfNone, OnOk, OnErr, Some, None};
 ghost use Rattle.std.specs.List.{list_any};
 ghost use Rattle.std.specs.Option.{option_map_or};
-ghost use Rattle.pb_state.specs.Row.{HostRow, first_rows, next_place, is_called, joined, left, progressed, sent, reported};
+ghost use Rattle.pb_state.specs.Row.{HostRow, first_rows, next_place, is_called, is_waiting, called, left, progressed, sent, reported};
 ghost use Rattle.pb_state.specs.Bounds.{IsAtMost};
-ghost use Rattle.pb_state.specs.Joining.{walk_for, with_walk, joined_from};
+ghost use Rattle.pb_state.specs.Batches.{called_count, joins, room_behind, joined_first};
+ghost use Rattle.pb_state.specs.Joining.{with_walk, walks_from, joined_from};
 ghost use Rattle.pb_state.specs.Oldest.{oldest_out, out_at, older};
-ghost use Rattle.pb_state.specs.Machine.{is_ready, stands_at, is_in, is_running, has_send, is_out, has_ticket, least_place, lesser, change, one_if, running_count, pending_in, done_if, report_decides, has_hosts, first_play};
+ghost use Rattle.pb_state.specs.Strategies.{standing};
+ghost use Rattle.pb_state.specs.Machine.{is_in, is_running, has_send, is_out, has_ticket, least_place, lesser, change, one_if, running_count, pending_in, done_if, report_decides, has_hosts, first_play};
 
 use crate::decided::{Decided, Done};
 use crate::items::TaskItems;
-use crate::row::{Counts, Row};
+use crate::row::{Counts, Row, walk_if};
 use crate::seen::Seen;
 use pb_cursors::{LaidTree, PlayWalk};
 use pb_ids::{HostNo, Ticket};
 use pb_outcome::outcome::Outcome;
 use pb_plan::PlanPlay;
 use pb_planes::HostSet;
+use pb_strategies::Standings;
 use std::alloc::{AllocError, Global};
 use std::marker::Model;
 use std::rc::Rc;
@@ -81,6 +84,14 @@ impl HostRows {
     {
         self.running != 0
     }
+
+    /// How many hosts there are.
+    pub fn hosts(&self) -> u32
+        ensures value { result ≡ length self.now }
+        ensures bound { length self.now < 2 ^ 32 }
+    {
+        self.rows.len() as u32
+    }
 }
 
 /// How many run where one of them did or didn't, and does or doesn't now.
@@ -115,6 +126,14 @@ fn some_called(rows: &[Row], hosts: &HostSet) -> bool
     rows.iter().any(|row| row.is_called(hosts))
 }
 
+/// How many hosts of a set are active.
+pub fn called_count(rows: &[Row], hosts: &HostSet) -> u32
+    requires { length rows.now ≤ 65536 }
+    ensures { result ≡ called_count hosts.now rows.now }
+{
+    rows.iter().filter(|row| row.is_called(hosts)).count() as u32
+}
+
 /// The number of the first play from this one on that has hosts: some host of its own is active.
 pub fn first_play(rows: &[Row], plays: &[PlanPlay], from: usize) -> Option<usize>
     ensures value { result ≡ first_play rows.now from (drop from plays.now) }
@@ -147,13 +166,6 @@ pub fn some_ticket(rows: &[Row], ticket: Ticket) -> bool
     ensures { result ≡ list_any (has_ticket ticket) rows.now }
 {
     rows.iter().any(|row| row.has_ticket(ticket))
-}
-
-/// Whether a host of the batch is at this place.
-pub fn some_stands(rows: &[Row], place: Option<usize>) -> bool
-    ensures { result ≡ list_any (stands_at place) rows.now }
-{
-    rows.iter().any(|row| row.stands_at(place))
 }
 
 /// A host starts the task at a place with these items. An `Err` changes nothing.
@@ -255,20 +267,58 @@ fn older(a: Option<(HostNo, Ticket)>, b: Option<(HostNo, Ticket)>) -> Option<(Ho
     }
 }
 
-/// The walk of each host as the batch of a play opens that has this tree and whose own hosts are in this set. All of them are made before the first
-/// row changes, so that a row is never made anew: what its host has learnt stays in it.
-fn walks_for(
-    alloc: Global,
-    rows: &[Row],
-    hosts: &HostSet,
-    laid: &Rc<LaidTree>,
-) -> Result<Vec<Option<PlayWalk>>, AllocError>
-    ensures { IfOk result (λ all. all.items ≡ map (walk_for laid.now.value.tree hosts.now) rows.now) }
+/// Of each host whether it waits for its batch.
+fn waiting_in(alloc: Global, rows: &[Row]) -> Result<Vec<bool>, AllocError>
+    ensures { IfOk result (λ all. all.items ≡ map is_waiting rows.now) }
 {
     let mut all = Vec::with_capacity(alloc, rows.len())?;
     for row in rows {
-        let walk = row.walk_for(alloc, hosts, laid)?;
+        all.push(row.waits())?;
+    }
+    Ok(all)
+}
+
+/// Of each host whether it is called to a play with these hosts of its own.
+fn called_in(alloc: Global, rows: &[Row], hosts: &HostSet) -> Result<Vec<bool>, AllocError>
+    ensures { IfOk result (λ all. all.items ≡ map (is_called hosts.now) rows.now) }
+{
+    let mut all = Vec::with_capacity(alloc, rows.len())?;
+    for row in rows {
+        all.push(row.is_called(hosts))?;
+    }
+    Ok(all)
+}
+
+/// Whether a host joins a batch that has room for so many more.
+fn joins(room: u32, waits: bool) -> bool
+    ensures { result ≡ joins room waits }
+{
+    waits && 0 < room
+}
+
+/// For how many a batch has room behind a host.
+fn room_behind(room: u32, waits: bool) -> u32
+    ensures { result ≡ room_behind room waits }
+{
+    if joins(room, waits) { room - 1 } else { room }
+}
+
+/// The walks of the hosts, of which these wait, as a batch of this size opens of a play that has this tree. All of them are made before the first row
+/// changes, so that a row is never made anew: what its host has learnt stays in it.
+fn walks_for(
+    alloc: Global,
+    waiting: &[bool],
+    size: u32,
+    laid: &Rc<LaidTree>,
+) -> Result<Vec<Option<PlayWalk>>, AllocError>
+    ensures { IfOk result (λ all. all.items ≡ walks_from laid.now.value.tree size waiting.now) }
+{
+    let mut all = Vec::with_capacity(alloc, waiting.len())?;
+    let mut room = size;
+    for waits in waiting {
+        let walk = walk_if(alloc, joins(room, *waits), laid)?;
         all.push(walk)?;
+        room = room_behind(room, *waits);
     }
     Ok(all)
 }
@@ -294,20 +344,59 @@ fn join_each(rows: &mut Vec<Row>, walks: Vec<Option<PlayWalk>>)
     }
 }
 
-/// The batch of a play opens that has this tree and whose own hosts are in this set. An `Err` changes nothing.
-pub fn join_all(
+/// A batch of this size opens of the play that goes on, which has this tree. An `Err` changes nothing.
+pub fn join_first(
     alloc: Global,
     rows: &mut HostRows,
-    hosts: &HostSet,
+    size: u32,
     laid: &Rc<LaidTree>,
 ) -> Result<(), AllocError>
-    ensures ok { OnOk result (rows.new ≡ map (joined laid.now.value.tree hosts.now) rows.old) }
+    ensures ok { OnOk result (rows.new ≡ joined_first laid.now.value.tree size rows.old) }
     ensures err { OnErr result (rows.new ≡ rows.old) }
 {
-    let walks = walks_for(alloc, rows.rows.as_slice(), hosts, laid)?;
+    let all = rows.rows.as_slice();
+    let waiting = waiting_in(alloc, all)?;
+    let told = waiting.as_slice();
+    let walks = walks_for(alloc, told, size, laid)?;
     join_each(&mut rows.rows, walks);
     rows.running = 0;
     Ok(())
+}
+
+/// A play begins that has this tree and these hosts of its own, with a batch of this size. An `Err` changes nothing.
+pub fn begin_first(
+    alloc: Global,
+    rows: &mut HostRows,
+    hosts: &HostSet,
+    size: u32,
+    laid: &Rc<LaidTree>,
+) -> Result<(), AllocError>
+    ensures ok { OnOk result (rows.new ≡ joined_first laid.now.value.tree size (map (called hosts.now) rows.old)) }
+    ensures err { OnErr result (rows.new ≡ rows.old) }
+{
+    let all = rows.rows.as_slice();
+    let waiting = called_in(alloc, all, hosts)?;
+    let told = waiting.as_slice();
+    let walks = walks_for(alloc, told, size, laid)?;
+    call_rows(&mut rows.rows, hosts);
+    join_each(&mut rows.rows, walks);
+    rows.running = 0;
+    Ok(())
+}
+
+fn call_rows(rows: &mut Vec<Row>, hosts: &HostSet)
+    ensures { rows.new.items ≡ map (called hosts.now) rows.old.items }
+{
+    call_each(rows.as_mut_slice(), hosts);
+}
+
+/// Each host that is called waits for its batch.
+fn call_each(rows: &mut [Row], hosts: &HostSet)
+    ensures { rows.new ≡ map (called hosts.now) rows.old }
+{
+    for row in rows.iter_mut() {
+        row.call(hosts);
+    }
 }
 
 /// Each host leaves the batch.
@@ -354,15 +443,26 @@ fn lesser(a: Option<usize>, b: Option<usize>) -> Option<usize>
     }
 }
 
-/// Puts the hosts that have a job to send or may start into a set.
-pub fn ready_into(rows: &[Row], place: Option<usize>, sends: bool, room: bool, set: &mut HostSet)
+/// Puts the hosts that have a job to send into a set.
+pub fn sends_into(rows: &[Row], set: &mut HostSet)
     requires { length set.old ≡ length rows.now }
-    ensures { set.new ≡ map (is_ready sends room place) rows.now }
+    ensures { set.new ≡ map has_send rows.now }
 {
     let width = set.width();
     for i in 0..width {
-        let is_in = rows[i as usize].is_ready(sends, room, place);
+        let is_in = rows[i as usize].has_send();
         set.put(HostNo(i), is_in);
+    }
+}
+
+/// Puts down where each host stands.
+pub fn stand_all(rows: &[Row], standings: &mut Standings)
+    requires width { length standings.old ≡ length rows.now }
+    requires few { length rows.now < 2 ^ 32 }
+    ensures { standings.new ≡ map standing rows.now }
+{
+    for i in 0..rows.len() {
+        standings.put(HostNo(i as u32), rows[i].standing());
     }
 }
 

@@ -6,8 +6,10 @@ ghost use Rattle.std.specs.List.{list_any};
 ghost use Rattle.std.specs.Option.{option_copied, option_map_or};
 ghost use Rattle.pb_planes.specs.Set.{is_in as is_member};
 ghost use Rattle.pb_plan.specs.Plan.{PlanOf};
-ghost use Rattle.pb_state.specs.Row.{HostRow, left};
-ghost use Rattle.pb_state.specs.Machine.{facts_at, pending_at, plan_seen};
+ghost use Rattle.pb_state.specs.Row.{HostRow, called, left};
+ghost use Rattle.pb_state.specs.Batches.{has_later};
+ghost use Rattle.pb_state.specs.Machine.{facts_at, pending_at, plan_seen, play_behind, first_by};
+ghost use Rattle.pb_state.specs.Strategies.{view_of};
 ghost use Rattle.pb_state.specs.Results.{items_at};
 ghost use Rattle.pb_state.specs.Seen.{with_hosts};
 ghost use Rattle.pb_state.specs.Back.{SameTold};
@@ -15,25 +17,28 @@ ghost use Rattle.pb_state.specs.State.{State};
 
 use crate::decided::{Decided, decide};
 use crate::due::{
-    DueRows, join_all, leave_all, ready_into, report_row, send_row, stand_at, start_row,
+    DueRows, begin_first, join_first, leave_all, report_row, send_row, stand_at, start_row,
 };
 use crate::event::Event;
 use crate::hosts::hosts_for;
 use crate::items::TaskItems;
 use crate::job::job_in;
+use crate::later::{Later, first_of};
 use crate::planned::items_at;
-use crate::row::Counts;
+use crate::row::{Counts, Row};
 use crate::rows::{
-    counts_of, first_play, least_place, none_into, oldest_out, some_in, some_out, some_stands,
+    called_count, counts_of, first_play, least_place, none_into, oldest_out, some_in, some_out,
     some_ticket,
 };
 use crate::seen::Seen;
 use crate::told::numbered;
+use pb_batches::batches;
 use pb_facts::facts::Facts;
 use pb_ids::{HostNo, PlayNo, Ticket};
 use pb_outcome::job::{Job, Report};
 use pb_plan::{Plan, PlanPlay};
 use pb_planes::HostSet;
+use pb_strategies::{Strategy, View, may_start, ready, turn_ready};
 use pb_value::val::{Dict, Val};
 use pb_variables::hostvars::hosts_magic;
 use std::alloc::{AllocError, Global};
@@ -64,6 +69,8 @@ pub struct EngineState {
     alloc: Global,
     rows: DueRows,
     play: usize,
+    batch: u32,
+    later: Later,
     is_open: bool,
     place: Option<usize>,
     begun: Vec<bool>,
@@ -81,6 +88,8 @@ impl Drop for EngineState {
             alloc: _,
             rows,
             play: _,
+            batch: _,
+            later,
             is_open: _,
             place: _,
             begun,
@@ -92,6 +101,7 @@ impl Drop for EngineState {
             decided,
         } = self;
         drop(rows);
+        drop(later);
         drop(begun);
         drop(decided);
     }
@@ -107,15 +117,29 @@ impl Model for EngineState {
 
     ghost coded = { Prim.hlevel (codes, val.the_row.coded, play_tree.the_row.coded) };
 
-    ghost view = { λ s. record { rows = s.rows; play = s.play; is_open = s.is_open; place = s.place; begun = s.begun.items; forks = s.forks; pool = s.pool; sends = s.sends; stopped = s.stopped; ended = s.ended; decided = s.decided } };
+    ghost view = { λ s. record {
+      rows = s.rows;
+      play = s.play;
+      batch = s.batch;
+      later = s.later;
+      is_open = s.is_open;
+      place = s.place;
+      begun = s.begun.items;
+      forks = s.forks;
+      pool = s.pool;
+      sends = s.sends;
+      stopped = s.stopped;
+      ended = s.ended;
+      decided = s.decided;
+    } };
 
     ghost use Rattle.pb_state.specs.Bounds.{IsBounded};
 
-    ghost invariant = { λ s. IsBounded s.is_open s.play s.sends s.rows };
+    ghost invariant = { λ s. IsBounded s.is_open s.batch s.later s.play s.sends s.rows };
 }
 
 impl EngineState {
-    ghost use Rattle.pb_state.specs.Machine.{open_play, next_play, may_open, may_start_in, may_send_in, may_report_in, some_may_start, may_turn_in, may_close_in, stands_at, at_row, has_room, possible, may_send_item, awaits};
+    ghost use Rattle.pb_state.specs.Machine.{open_play, next_play, is_left, may_open, may_start_in, may_send_in, may_report_in, may_turn_in, may_close_in, at_row, possible, may_send_item, awaits};
 
     /// The play whose batch is open.
     fn open_play<'a>(&self, plan: &'a Plan) -> Option<&'a PlanPlay>
@@ -129,14 +153,23 @@ impl EngineState {
         }
     }
 
-    /// Whether fewer hosts run than may at once.
-    fn has_room(&self) -> bool
-        ensures { result ≡ has_room self.now }
+    /// What the strategy of a play sees of the state.
+    fn view<'a>(&'a self, play: &'a PlanPlay) -> View<'a>
+        ensures { result ≡ view_of self.now play.now }
     {
-        !self.stopped && self.rows.running() < self.forks as usize
+        View {
+            strategy: play.strategy(),
+            forks: self.forks,
+            is_stopped: self.stopped,
+            place: self.place,
+            is_settled: false,
+            throttles: play.throttles(),
+            run_once: &[],
+            hosts: self.rows.standings(),
+        }
     }
 
-    /// The number of the play that opens next.
+    /// The number of the play that begins next.
     fn next_play(&self, plan: &Plan) -> Option<usize>
         ensures value { result ≡ next_play plan.now self.now }
         ensures least { IfSome result (λ number. self.now.play ≤ number) }
@@ -144,23 +177,30 @@ impl EngineState {
         first_play(self.rows.as_slice(), plan.plays(), self.play)
     }
 
+    /// Whether a batch is left: of the play that goes on, or of one that is still to begin.
+    fn is_left(&self, plan: &Plan) -> bool
+        ensures { result ≡ is_left plan.now self.now }
+    {
+        if self.later.has_some() {
+            plan.plays().get(self.play).is_some()
+        } else {
+            self.next_play(plan).is_some()
+        }
+    }
+
     /// Whether a batch can open.
     pub fn may_open(&self, plan: &Plan) -> bool
         ensures { result ≡ may_open plan.now self.now }
     {
-        !self.stopped && !self.is_open && !self.ended && self.next_play(plan).is_some()
+        !self.stopped && !self.is_open && !self.ended && self.is_left(plan)
     }
 
     /// Whether a host may start in a play.
     fn may_start_in(&self, host: HostNo, play: &PlanPlay) -> bool
         ensures { result ≡ may_start_in self.now host.0 play.now }
     {
-        // (what only the clauses speak of)
-        let _play = play;
-        match self.rows.as_slice().get(host.0 as usize) {
-            Some(row) => self.has_room() && row.stands_at(self.place),
-            None => false,
-        }
+        let view = self.view(play);
+        may_start(&view, host)
     }
 
     /// Whether a host may start.
@@ -226,12 +266,8 @@ impl EngineState {
     fn may_turn_in(&self, play: &PlanPlay) -> bool
         ensures { result ≡ may_turn_in self.now play.now }
     {
-        // (what only the clauses speak of)
-        let _play = play;
-        !self.stopped
-            && self.place.is_some()
-            && !self.rows.some_running()
-            && !(self.has_room() && some_stands(self.rows.as_slice(), self.place))
+        let view = self.view(play);
+        turn_ready(&view)
     }
 
     /// Whether the batch can close.
@@ -267,7 +303,7 @@ impl EngineState {
 }
 
 impl EngineState {
-    ghost use Rattle.pb_state.specs.Machine.{after, opened_in, started_in, start_at, start_with, sent_in, reported_in, reported_seen, turned_in, closed, stopped, with_forks, first_state, ready, change, possible, may_open, may_start_in, may_send_in, may_report_in, open_play};
+    ghost use Rattle.pb_state.specs.Machine.{after, opened_by, goes_on, next_play, begins, begins_at, with_place, next_at, started_in, start_at, start_with, sent_in, reported_in, reported_seen, turned_in, closed, stopped, with_forks, first_state, ready, change, possible, may_open, may_start_in, may_send_in, may_report_in, open_play};
     ghost use Rattle.pb_state.specs.Run.{is_command};
     ghost use Rattle.pb_state.specs.Work.{work};
 
@@ -334,41 +370,134 @@ impl EngineState {
         ensures ok { OnOk result (self.new ≡ after plan.now self.old Event.Open) }
         ensures err { OnErr result (self.new ≡ self.old) }
     {
-        let plays = plan.plays();
-        match self.next_play(plan) {
-            Some(number) => self.open_at(number, plays),
+        if self.later.has_some() {
+            self.go_on(plan)
+        } else {
+            self.begin_next(plan)
+        }
+    }
+
+    /// The next batch opens of the play that goes on.
+    fn go_on(&mut self, plan: &Plan) -> Result<(), AllocError>
+        requires closed { self.old.is_open ≡ false }
+        requires left { has_later self.old.later ≡ true }
+        ensures ok { OnOk result (self.new ≡ option_map_or (goes_on self.old) (slice_get plan.now.plays self.old.play) self.old) }
+        ensures err { OnErr result (self.new ≡ self.old) }
+    {
+        match plan.plays().get(self.play) {
+            Some(play) => self.go_on_in(play),
             None => Ok(()),
         }
     }
 
-    fn open_at(&mut self, number: usize, plays: &[PlanPlay]) -> Result<(), AllocError>
+    fn go_on_in(&mut self, play: &PlanPlay) -> Result<(), AllocError>
         requires closed { self.old.is_open ≡ false }
+        requires left { has_later self.old.later ≡ true }
+        ensures ok { OnOk result (self.new ≡ goes_on self.old play.now) }
+        ensures err { OnErr result (self.new ≡ self.old) }
+    {
+        let Some(size) = self.later.first() else {
+            return Ok(());
+        };
+        let places = play.tree().places();
+        let begun = none_begun(self.alloc, places)?;
+        join_first(self.alloc, &mut self.rows, size, play.laid(), places)?;
+        self.later.pass();
+        self.batch += 1;
+        self.begun = begun;
+        self.is_open = true;
+        self.stand_first(play.strategy());
+        decide(&mut self.decided, None);
+        Ok(())
+    }
+
+    /// The next play begins that has hosts, with its first batch.
+    fn begin_next(&mut self, plan: &Plan) -> Result<(), AllocError>
+        requires closed { self.old.is_open ≡ false }
+        requires none { has_later self.old.later ≡ false }
+        ensures ok { OnOk result (self.new ≡ option_map_or (begins_at plan.now self.old) (next_play plan.now self.old) self.old) }
+        ensures err { OnErr result (self.new ≡ self.old) }
+    {
+        let plays = plan.plays();
+        match self.next_play(plan) {
+            Some(number) => self.begin_at(number, plays),
+            None => Ok(()),
+        }
+    }
+
+    fn begin_at(&mut self, number: usize, plays: &[PlanPlay]) -> Result<(), AllocError>
+        requires closed { self.old.is_open ≡ false }
+        requires none { has_later self.old.later ≡ false }
         requires least { self.old.play ≤ number }
         requires most { length plays.now ≤ 256 }
-        ensures ok { OnOk result (self.new ≡ option_map_or (opened_in self.old number) (slice_get plays.now number) self.old) }
+        ensures ok { OnOk result (self.new ≡ option_map_or (begins self.old number) (slice_get plays.now number) self.old) }
         ensures err { OnErr result (self.new ≡ self.old) }
     {
         match plays.get(number) {
-            Some(play) => self.open_in(number, play),
+            Some(play) => self.begin_in(number, play),
             None => Ok(()),
         }
     }
 
-    fn open_in(&mut self, number: usize, play: &PlanPlay) -> Result<(), AllocError>
+    fn begin_in(&mut self, number: usize, play: &PlanPlay) -> Result<(), AllocError>
         requires closed { self.old.is_open ≡ false }
+        requires none { has_later self.old.later ≡ false }
         requires least { self.old.play ≤ number }
         requires below { number < 256 }
-        ensures ok { OnOk result (self.new ≡ opened_in self.old number play.now) }
+        ensures ok { OnOk result (self.new ≡ begins self.old number play.now) }
         ensures err { OnErr result (self.new ≡ self.old) }
     {
-        let begun = none_begun(self.alloc, play.tree().places())?;
-        join_all(self.alloc, &mut self.rows, play.hosts(), play.laid())?;
-        self.begun = begun;
+        let hosts = called_count(self.rows.as_slice(), play.hosts());
+        let sizes = batches(self.alloc, play.serial(), hosts)?;
+        match first_of(sizes.as_slice()) {
+            Some(size) => self.begin_with(number, play, size, sizes),
+            None => Ok(()),
+        }
+    }
+
+    /// A play begins whose batches have these sizes, of which the first is this one.
+    fn begin_with(
+        &mut self,
+        number: usize,
+        play: &PlanPlay,
+        size: u32,
+        sizes: Vec<u32>,
+    ) -> Result<(), AllocError>
+        requires closed { self.old.is_open ≡ false }
+        requires none { has_later self.old.later ≡ false }
+        requires least { self.old.play ≤ number }
+        requires below { number < 256 }
+        requires few { length sizes.items ≤ 65536 }
+        ensures ok { OnOk result (self.new ≡ opened_by self.old number 0 sizes.items (map (called play.now.hosts) self.old.rows) play.now size) }
+        ensures err { OnErr result (self.new ≡ self.old) }
+    {
+        let places = play.tree().places();
+        let begun = none_begun(self.alloc, places)?;
+        begin_first(
+            self.alloc,
+            &mut self.rows,
+            play.hosts(),
+            size,
+            play.laid(),
+            places,
+        )?;
+        self.later = Later::behind(sizes);
+        self.batch = 0;
         self.play = number;
+        self.begun = begun;
         self.is_open = true;
-        self.place = least_place(self.rows.as_slice());
+        self.stand_first(play.strategy());
         decide(&mut self.decided, None);
         Ok(())
+    }
+
+    /// The first place of the batch becomes the current one, under the linear strategy.
+    fn stand_first(&mut self, strategy: Strategy)
+        ensures { self.new ≡ with_place (first_by strategy self.old.rows) self.old }
+    {
+        let place = first_by(strategy, self.rows.as_slice());
+        stand_at(&mut self.rows, place);
+        self.place = place;
     }
 
     fn turn(&mut self, plan: &Plan)
@@ -388,7 +517,7 @@ impl EngineState {
     {
         self.ended = !some_in(self.rows.as_slice());
         leave_all(&mut self.rows);
-        self.play += 1;
+        self.play = play_behind(self.later.has_some(), self.play);
         self.is_open = false;
         self.begun.clear();
         decide(&mut self.decided, None);
@@ -399,9 +528,19 @@ impl EngineState {
         ensures ok { OnOk result (self.new ≡ after plan.now self.old (Event.Start host)) }
         ensures err { OnErr result (self.new ≡ self.old) }
     {
-        match (self.open_play(plan), self.place) {
+        match (self.open_play(plan), self.next_at(host)) {
             (Some(play), Some(place)) => self.start_at(plan, host, play, place),
             _ => Ok(()),
+        }
+    }
+
+    /// The next place of a host.
+    fn next_at(&self, host: HostNo) -> Option<usize>
+        ensures { result ≡ next_at self.now host.0 }
+    {
+        match self.rows.as_slice().get(host.0 as usize) {
+            Some(row) => row.next_place(),
+            None => None,
         }
     }
 
@@ -414,7 +553,7 @@ impl EngineState {
     ) -> Result<(), AllocError>
         requires open { self.old.is_open ≡ true }
         requires may { may_start_in self.old host.0 play.now ≡ true }
-        requires here { self.old.place ≡ Some place }
+        requires here { next_at self.old host.0 ≡ Some place }
         ensures ok { OnOk result (self.new ≡ start_at plan.now self.old host.0 play.now place) }
         ensures err { OnErr result (self.new ≡ self.old) }
     {
@@ -595,6 +734,8 @@ impl EngineState {
             alloc,
             rows,
             play: 0,
+            batch: 0,
+            later: Later::none(alloc),
             is_open: false,
             place: None,
             begun: Vec::new(alloc),
@@ -609,7 +750,7 @@ impl EngineState {
 }
 
 impl EngineState {
-    ghost use Rattle.pb_state.specs.Machine.{ready, open_play, has_room, is_out, has_ticket, at_row, item_at};
+    ghost use Rattle.pb_state.specs.Machine.{ready, ready_in, open_play, is_out, has_ticket, at_row, item_at};
     ghost use Rattle.pb_state.specs.Jobs.{job_of};
     ghost use Rattle.pb_ids.specs.declared.numbers.Ticket.{Ticket};
     ghost use Rattle.pb_state.specs.Oldest.{oldest_out};
@@ -627,8 +768,20 @@ impl EngineState {
         ensures { set.new ≡ ready plan.now self.now }
     {
         match self.open_play(plan) {
-            Some(_) => ready_into(&self.rows, self.place, !self.stopped, self.has_room(), set),
+            Some(play) => self.ready_in(play, set),
             None => none_into(set),
+        }
+    }
+
+    /// The same where the batch of a play is open.
+    fn ready_in(&self, play: &PlanPlay, set: &mut HostSet)
+        requires { length set.old ≡ length self.now.rows }
+        ensures { set.new ≡ ready_in self.now play.now }
+    {
+        let view = self.view(play);
+        ready(&view, set);
+        if !self.stopped {
+            set.or_with(self.rows.sends());
         }
     }
 
@@ -733,11 +886,18 @@ impl EngineState {
         self.decided.as_ref()
     }
 
-    /// The number of the play whose batch is open, or of the one behind the last that was.
+    /// The number of the play whose batch is open, or that goes on, or of the one behind the last.
     pub fn play(&self) -> usize
         ensures { result ≡ self.now.play }
     {
         self.play
+    }
+
+    /// The number of the batch in its play.
+    pub fn batch(&self) -> u32
+        ensures { result ≡ self.now.batch }
+    {
+        self.batch
     }
 
     /// Whether a host takes part in the open batch; none where there is no such host.
@@ -756,6 +916,24 @@ impl EngineState {
     {
         counts_of(alloc, self.rows.as_slice())
     }
+}
+
+/// The first place of a batch of these hosts: there is no current place but under the linear strategy.
+fn first_by(strategy: Strategy, rows: &[Row]) -> Option<usize>
+    ensures { result ≡ first_by strategy rows.now }
+{
+    match strategy {
+        Strategy::Linear => least_place(rows),
+        Strategy::Free | Strategy::HostPinned => None,
+    }
+}
+
+/// The number of the play to which a batch of this one leads.
+fn play_behind(goes_on: bool, play: usize) -> usize
+    requires { play < 2 ^ 64 - 1 }
+    ensures { result ≡ play_behind goes_on play }
+{
+    if goes_on { play } else { play + 1 }
 }
 
 /// No place of this many has begun.

@@ -1,5 +1,6 @@
 use Rattle.pb_state.specs.Row.{left}
-use Rattle.pb_state.specs.Machine.{has_send, stands_at}
+use Rattle.pb_state.specs.Machine.{has_send}
+use Rattle.pb_state.specs.Strategies.{standing}
 use Rattle.pb_state.proofs.Asked.{mapped_width}
 use Rattle.pb_state.proofs.due.leave_all.Goals as goal
 
@@ -7,7 +8,7 @@ pub ask_all-requires-clause-sends : goal.ask_all-requires-clause-sends
 ask_all-requires-clause-sends c = mapped_width has_send left c.rows.inside.rows c.leave_all.new.rows c.rows.inside.sends c.rows.invariant.sending c.leave_all.ensures
 
 pub ask_all-requires-clause-stands : goal.ask_all-requires-clause-stands
-ask_all-requires-clause-stands c = mapped_width (stands_at c.rows.inside.place) left c.rows.inside.rows c.leave_all.new.rows c.rows.inside.stands c.rows.invariant.standing c.leave_all.ensures
+ask_all-requires-clause-stands c = mapped_width standing left c.rows.inside.rows c.leave_all.new.rows c.rows.inside.standings c.rows.invariant.stands c.leave_all.ensures
 
 pub invariant_of-rows : goal.invariant_of-rows
-invariant_of-rows c = record { sending = c.ask_all.ensures.sends; standing = c.ask_all.ensures.stands }
+invariant_of-rows c = record { sending = c.ask_all.ensures.sends; stands = c.ask_all.ensures.stands }

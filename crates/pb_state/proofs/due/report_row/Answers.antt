@@ -11,7 +11,7 @@ report_row-requires c =
 
 pub invariant_of-rows-2 : goal.invariant_of-rows-2
 invariant_of-rows-2 c =
-    one_due (reported c.args.plan.now c.args.play.now c.args.outcome.now) c.args.host.0 c.rows.inside.place c.rows.inside.sends c.rows.inside.stands c.ask_one.new.sends c.ask_one.new.stands c.rows.inside.rows c.report_row.new.rows
+    one_due (reported c.args.plan.now c.args.play.now c.args.outcome.now) c.args.host.0 c.rows.inside.sends c.ask_one.new.sends c.rows.inside.standings c.ask_one.new.standings c.rows.inside.rows c.report_row.new.rows
     c.rows.invariant
     c.in_ok-decided.ensures.rows
     c.ask_one.ensures.sends

@@ -4,7 +4,7 @@ use Rattle.pb_state.proofs.due.send_row.Goals as goal
 
 pub invariant_of-rows : goal.invariant_of-rows
 invariant_of-rows c =
-    one_due (sent c.args.ticket) c.args.host.0 c.rows.inside.place c.rows.inside.sends c.rows.inside.stands c.ask_one.new.sends c.ask_one.new.stands c.rows.inside.rows c.send_row.new.rows
+    one_due (sent c.args.ticket) c.args.host.0 c.rows.inside.sends c.ask_one.new.sends c.rows.inside.standings c.ask_one.new.standings c.rows.inside.rows c.send_row.new.rows
     c.rows.invariant
     c.send_row.ensures
     c.ask_one.ensures.sends

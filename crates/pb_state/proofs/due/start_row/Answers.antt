@@ -18,7 +18,7 @@ start_row-requires-clause-room c =
 
 pub invariant_of-rows-2 : goal.invariant_of-rows-2
 invariant_of-rows-2 c =
-    one_due (progressed c.args.play.now c.args.place c.args.items) c.args.host.0 c.rows.inside.place c.rows.inside.sends c.rows.inside.stands c.ask_one.new.sends c.ask_one.new.stands c.rows.inside.rows c.start_row.new.rows
+    one_due (progressed c.args.play.now c.args.place c.args.items) c.args.host.0 c.rows.inside.sends c.ask_one.new.sends c.rows.inside.standings c.ask_one.new.standings c.rows.inside.rows c.start_row.new.rows
     c.rows.invariant
     c.in_ok-done.ensures.rows
     c.ask_one.ensures.sends

@@ -2,4 +2,4 @@ use Rattle.pb_state.proofs.Asked.{first_due}
 use Rattle.pb_state.proofs.due.DueRows.first.Goals as goal
 
 pub invariant_of-result : goal.invariant_of-result
-invariant_of-result c = first_due c.args.hosts c.in_ok-sends.sends c.in_ok-stands.stands c.in_ok-rows.rows c.in_ok-sends.ensures c.in_ok-stands.ensures c.in_ok-rows.ensures
+invariant_of-result c = first_due c.args.hosts c.in_ok-sends.sends c.in_ok-standings.standings c.in_ok-rows.rows c.in_ok-sends.ensures c.in_ok-standings.ensures c.in_ok-rows.ensures

@@ -6,12 +6,12 @@ use Rattle.pb_state.proofs.state.EngineState.send_in.Goals as goal
 
 pub overflow_add-self : goal.overflow_add-self
 overflow_add-self c =
-    let below = sends_below c.self.inside.play c.self.inside.sends c.self.inside.is_open c.self.inside.rows c.self.invariant (subst (λ (v : State). v.is_open ≡ true) (sym c.self.view_is) c.requires.open) in
+    let below = sends_below c.self.inside.batch c.self.inside.later c.self.inside.play c.self.inside.sends c.self.inside.is_open c.self.inside.rows c.self.invariant (subst (λ (v : State). v.is_open ≡ true) (sym c.self.view_is) c.requires.open) in
     omega (arith, below)
 
 pub invariant_of-self : goal.invariant_of-self
 invariant_of-self c =
-    send_bounded c.self.inside.play c.self.inside.sends c.args.host.0 c.args.item c.self.inside.is_open _ c.args.ticket c.self.inside.rows c.send_row.new.rows c.self.invariant
+    send_bounded c.self.inside.batch c.self.inside.later c.self.inside.play c.self.inside.sends c.args.host.0 c.args.item c.self.inside.is_open _ c.args.ticket c.self.inside.rows c.send_row.new.rows c.self.invariant
     (subst (λ (v : State). v.is_open ≡ true) (sym c.self.view_is) c.requires.open)
     (subst (λ (v : State). may_send_in v c.args.host.0 c.args.item c.args.ticket c.args.play.now ≡ true) (sym c.self.view_is) c.requires.may)
     c.send_row.ensures
