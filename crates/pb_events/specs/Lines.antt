@@ -21,11 +21,11 @@ use Rattle.pb_events.specs.Notify.{notify_text}
 abbrev pub start_line : ℕ → List ℕ
 start_line plays = line ((codes "event", text (codes "playbook_on_start")) ∷ (codes "plays", int (pos plays)) ∷ [])
 
--- a batch of a play opens; it is the play's only one
-abbrev pub play_start : ℕ → List ℕ → List Datum → List ℕ
-play_start play name hosts =
+-- a batch of a play opens, with its number in the play
+abbrev pub play_start : ℕ → ℕ → List ℕ → List Datum → List ℕ
+play_start play batch name hosts =
     line
-    ((codes "batch", int (pos 0)) ∷ (codes "event", text (codes "playbook_on_play_start")) ∷ (codes "hosts", list (items_of hosts))
+    ((codes "batch", int (pos batch)) ∷ (codes "event", text (codes "playbook_on_play_start")) ∷ (codes "hosts", list (items_of hosts))
     ∷ (codes "name", text name) ∷ (codes "play", int (pos play)) ∷ [])
 
 -- a task, or a handler, starts on the first host of the batch
@@ -108,7 +108,7 @@ abbrev pub told_of : Bool → PlanOf → State → ℕ → List ℕ
 told_of starts plan s h = option_map_or (told_in starts plan s h) (slice_get plan.plays s.play) []
 
 abbrev pub opened_in : PlanOf → State → PlayOf → List ℕ
-opened_in plan s play = play_start s.play play.name (map text (batch_names plan.inventory.hosts s.rows))
+opened_in plan s play = play_start s.play s.batch play.name (map text (batch_names plan.inventory.hosts s.rows))
 
 -- other events have no lines
 abbrev pub lines_of : PlanOf → State → Event → List ℕ

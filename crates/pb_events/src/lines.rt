@@ -75,18 +75,25 @@ fn opened(alloc: Global, plan: &Plan, state: &EngineState) -> Result<Vec<u8>, Al
     match play_at(plan, state.play()) {
         Some(play) => {
             let hosts = batch_names(alloc, plan, state)?;
-            play_start(alloc, state.play() as u32, play.name().as_str(), hosts)
+            let name = play.name().as_str();
+            play_start(alloc, state.play() as u32, state.batch(), name, hosts)
         }
         None => Ok(Vec::new(alloc)),
     }
 }
 
-/// The line of a play that starts.
-fn play_start(alloc: Global, play: u32, name: &str, hosts: ValList) -> Result<Vec<u8>, AllocError>
-    ensures { IfOk result (λ bytes. bytes.items ≡ play_start play name.now hosts) }
+/// The line of a batch of a play.
+fn play_start(
+    alloc: Global,
+    play: u32,
+    batch: u32,
+    name: &str,
+    hosts: ValList,
+) -> Result<Vec<u8>, AllocError>
+    ensures { IfOk result (λ bytes. bytes.items ≡ play_start play batch name.now hosts) }
 {
     let mut members = Dict::new(alloc);
-    members.put(alloc, "batch", Val::int(0))?;
+    members.put(alloc, "batch", Val::int(i64::from(batch)))?;
     put_text(alloc, &mut members, "event", "playbook_on_play_start")?;
     members.put(alloc, "hosts", Val::list(hosts))?;
     put_text(alloc, &mut members, "name", name)?;

@@ -15,12 +15,15 @@ use Rattle.pb_state.specs.declared.event.Event.TheVariants.{Open, Start, Send, R
 use Rattle.pb_state.specs.declared.row.Counts.{Counts}
 use Rattle.pb_state.specs.declared.row.Running.{Running}
 use Rattle.pb_plan.specs.Plan.{PlayOf, PlanOf}
-use Rattle.pb_state.specs.Row.{HostRow, first_rows, next_place, joined, left, ended, pending, ignores_at, caught_at, meta_at, task_at, items_after, progressed, sent, reported, reported_running}
+use Rattle.pb_state.specs.Batches.{room_behind, joined_first}
+use Rattle.pb_state.specs.Row.{HostRow, first_rows, next_place, called, left, ended, pending, ignores_at, caught_at, meta_at, task_at, items_after, progressed, sent, reported, reported_running}
 use Rattle.pb_state.specs.State.{State}
 use Rattle.pb_state.specs.Results.{items_at}
-use Rattle.pb_state.specs.Machine.{change, open_play, possible, after, first_state, next_play, opened_in, opened_at, started_in, facts_at, plan_seen, start_at, start_with, sent_in, reported_in, done_at, done_if, report_decides, decided_by, pending_at, turned_in, may_start_in, may_report_in, at_row, stands_at, same_place, has_room}
+use Rattle.pb_state.specs.Machine.{change, open_play, possible, after, first_state, opened_by, after_open, started_in, facts_at, plan_seen, start_at, start_with, sent_in, reported_in, done_at, done_if, report_decides, decided_by, pending_at, turned_in, may_start_in, next_at, may_report_in, at_row, same_place}
 use Rattle.pb_state.specs.Run.{legal_from, state_from, IsRun}
-use Rattle.pb_state.proofs.Opening.{length-first}
+use Rattle.pb_state.proofs.Batching.{length-joined}
+use Rattle.pb_state.proofs.Stands.{stands_at, start_stands}
+use Rattle.pb_state.proofs.Opening.{length-first, open_case, rows_case}
 use Rattle.pb_recap.specs.declared.kind.CountKind.{CountKind}
 use Rattle.pb_recap.specs.declared.kind.CountKind.TheVariants.{Okay, Changed, Unreachable, Failed, Skipped, Rescued, Ignored}
 use Rattle.pb_recap.specs.Kinds.{count_of}
@@ -33,10 +36,15 @@ row_count kind [] h = 0
 row_count kind (row ∷ rows) zero = count_of kind row.counts
 row_count kind (row ∷ rows) (suc h) = row_count kind rows h
 
-joined_keeps : (kind : CountKind) (tree : TreeOf) (hosts : List Bool) (rows : List HostRow) (k : ℕ) → row_count kind (map (joined tree hosts) rows) k ≡ row_count kind rows k
-joined_keeps kind tree hosts [] k = refl
-joined_keeps kind tree hosts (row ∷ rows) zero = refl
-joined_keeps kind tree hosts (row ∷ rows) (suc k) = joined_keeps kind tree hosts rows k
+joined_keeps : (kind : CountKind) (tree : TreeOf) (room : ℕ) (rows : List HostRow) (k : ℕ) → row_count kind (joined_first tree room rows) k ≡ row_count kind rows k
+joined_keeps kind tree room [] k = refl
+joined_keeps kind tree room (row ∷ rows) zero = refl
+joined_keeps kind tree room (row ∷ rows) (suc k) = joined_keeps kind tree (room_behind room row.waits) rows k
+
+called_keeps : (kind : CountKind) (hosts : List Bool) (rows : List HostRow) (k : ℕ) → row_count kind (map (called hosts) rows) k ≡ row_count kind rows k
+called_keeps kind hosts [] k = refl
+called_keeps kind hosts (row ∷ rows) zero = refl
+called_keeps kind hosts (row ∷ rows) (suc k) = called_keeps kind hosts rows k
 
 left_keeps : (kind : CountKind) (rows : List HostRow) (k : ℕ) → row_count kind (map left rows) k ≡ row_count kind rows k
 left_keeps kind [] k = refl
@@ -107,20 +115,19 @@ no_same false q e = cc
 no_same true None e = cc
 no_same true (Some p) e = cc
 
-no_start : (a : Bool) (found : Option HostRow) → (a && option_map_or (stands_at None) found false) ≡ true → ⊥
-no_start false found e = cc
-no_start true None e = cc
-no_start true (Some row) e = no_same _ (next_place row) e
+no_start : (found : Option HostRow) → option_map_or (stands_at None) found false ≡ true → ⊥
+no_start None e = cc
+no_start (Some row) e = no_same _ (next_place row) e
 
-start_counts : (kind : CountKind) (plan : PlanOf) (s : State) (h k : ℕ) (play : PlayOf) (place : Option ℕ) → k < length s.rows → (has_room s && at_row (stands_at place) s.rows h) ≡ true
+start_counts : (kind : CountKind) (plan : PlanOf) (s : State) (h k : ℕ) (play : PlayOf) (place : Option ℕ) → k < length s.rows → at_row (stands_at place) s.rows h ≡ true
     → row_count kind (option_map_or (start_at plan s h play) place s).rows k ≡ counted k kind (ended_in (option_map_or (start_at plan s h play) place s) h) + row_count kind s.rows k
-start_counts kind plan s h k play None b may = absurd (no_start (has_room s) (slice_get s.rows h) may)
+start_counts kind plan s h k play None b may = absurd (no_start (slice_get s.rows h) may)
 start_counts kind plan s h k play (Some p) b may = start_with_counts kind s h k play p (items_at (plan_seen plan s) play h (facts_at s h) p) b
 
 started_counts : (kind : CountKind) (plan : PlanOf) (s : State) (h k : ℕ) (found : Option PlayOf) → k < length s.rows → option_map_or (may_start_in s h) found false ≡ true
     → row_count kind (option_map_or (started_in plan s h) found s).rows k ≡ counted k kind (ended_in (option_map_or (started_in plan s h) found s) h) + row_count kind s.rows k
 started_counts kind plan s h k None b may = cc
-started_counts kind plan s h k (Some play) b may = start_counts kind plan s h k play s.place b may
+started_counts kind plan s h k (Some play) b may = start_counts kind plan s h k play (next_at s h) b (start_stands s h play may)
 
 -- a job that goes out ends no task
 sent_row : (kind : CountKind) (ticket : Ticket) (row : HostRow) → count_of kind (sent ticket row).counts ≡ 0 + count_of kind row.counts
@@ -159,13 +166,12 @@ reported_counts : (kind : CountKind) (plan : PlanOf) (s : State) (r : Report) (k
 reported_counts kind plan s r k None b may = cc
 reported_counts kind plan s r k (Some play) b may = report_counts kind (plan_seen plan s) play r.outcome s.rows r.host.0 k (slice_get s.rows r.host.0) refl b
 
-opened_counts : (kind : CountKind) (s : State) (n k : ℕ) (found : Option PlayOf) → row_count kind (option_map_or (opened_in s n) found s).rows k ≡ row_count kind s.rows k
-opened_counts kind s n k None = refl
-opened_counts kind s n k (Some play) = joined_keeps kind play.tree play.hosts s.rows k
-
-next_counts : (kind : CountKind) (plan : PlanOf) (s : State) (k : ℕ) (next : Option ℕ) → row_count kind (option_map_or (opened_at plan s) next s).rows k ≡ row_count kind s.rows k
-next_counts kind plan s k None = refl
-next_counts kind plan s k (Some n) = opened_counts kind s n k (slice_get plan.plays n)
+opened_counts : (kind : CountKind) (plan : PlanOf) (s : State) (k : ℕ) → row_count kind (after_open plan s).rows k ≡ row_count kind s.rows k
+opened_counts kind plan s k =
+    open_case (λ (new : State). row_count kind new.rows k ≡ row_count kind s.rows k) plan s (λ none. refl)
+    (λ n batch sizes rows play size is.
+    joined_keeps kind play.tree size rows k
+    ∙ rows_case (λ (calls : List HostRow). row_count kind calls k ≡ row_count kind s.rows k) plan s n batch sizes rows play size is refl (λ hosts. called_keeps kind hosts s.rows k))
 
 turned_counts : (kind : CountKind) (s : State) (k : ℕ) (found : Option PlayOf) → row_count kind (option_map_or (turned_in s) found s).rows k ≡ row_count kind s.rows k
 turned_counts kind s k None = refl
@@ -174,7 +180,7 @@ turned_counts kind s k (Some play) = refl
 -- an event that is possible adds to a host's count what its finished task counts
 step_counts : (plan : PlanOf) (s : State) (e : Event) (k : ℕ) (kind : CountKind) → k < length s.rows → possible plan s e ≡ true
     → row_count kind (after plan s e).rows k ≡ counted k kind (finishes plan s e) + row_count kind s.rows k
-step_counts plan s Open k kind b may = next_counts kind plan s k (next_play plan s) ∙ none_more (row_count kind s.rows k)
+step_counts plan s Open k kind b may = opened_counts kind plan s k ∙ none_more (row_count kind s.rows k)
 step_counts plan s (Start h) k kind b may = started_counts kind plan s h.0 k (open_play plan s) b may
 step_counts plan s (Send h item ticket) k kind b may = sent_counts kind s h.0 k ticket (open_play plan s) b
 step_counts plan s (Reported r) k kind b may = reported_counts kind plan s r k (open_play plan s) b may
@@ -197,7 +203,7 @@ start_hosts plan s h play (Some p) = change_hosts s.rows h (progressed play p (i
 
 started_hosts : (plan : PlanOf) (s : State) (h : ℕ) (found : Option PlayOf) → length (option_map_or (started_in plan s h) found s).rows ≡ length s.rows
 started_hosts plan s h None = refl
-started_hosts plan s h (Some play) = start_hosts plan s h play s.place
+started_hosts plan s h (Some play) = start_hosts plan s h play (next_at s h)
 
 sent_hosts : (s : State) (h : ℕ) (ticket : Ticket) (found : Option PlayOf) → length (option_map_or (sent_in s h ticket) found s).rows ≡ length s.rows
 sent_hosts s h ticket None = refl
@@ -207,20 +213,19 @@ reported_hosts : (plan : PlanOf) (s : State) (r : Report) (found : Option PlayOf
 reported_hosts plan s r None = refl
 reported_hosts plan s r (Some play) = change_hosts s.rows r.host.0 (reported (plan_seen plan s) play r.outcome)
 
-opened_hosts : (s : State) (n : ℕ) (found : Option PlayOf) → length (option_map_or (opened_in s n) found s).rows ≡ length s.rows
-opened_hosts s n None = refl
-opened_hosts s n (Some play) = length-map s.rows (joined play.tree play.hosts)
-
-next_hosts : (plan : PlanOf) (s : State) (next : Option ℕ) → length (option_map_or (opened_at plan s) next s).rows ≡ length s.rows
-next_hosts plan s None = refl
-next_hosts plan s (Some n) = opened_hosts s n (slice_get plan.plays n)
+opened_hosts : (plan : PlanOf) (s : State) → length (after_open plan s).rows ≡ length s.rows
+opened_hosts plan s =
+    open_case (λ (new : State). length new.rows ≡ length s.rows) plan s (λ none. refl)
+    (λ n batch sizes rows play size is.
+    length-joined play.tree size rows
+    ∙ rows_case (λ (calls : List HostRow). length calls ≡ length s.rows) plan s n batch sizes rows play size is refl (λ hosts. length-map s.rows (called hosts)))
 
 turned_hosts : (s : State) (found : Option PlayOf) → length (option_map_or (turned_in s) found s).rows ≡ length s.rows
 turned_hosts s None = refl
 turned_hosts s (Some play) = refl
 
 step_hosts : (plan : PlanOf) (s : State) (e : Event) → length (after plan s e).rows ≡ length s.rows
-step_hosts plan s Open = next_hosts plan s (next_play plan s)
+step_hosts plan s Open = opened_hosts plan s
 step_hosts plan s (Start h) = started_hosts plan s h.0 (open_play plan s)
 step_hosts plan s (Send h item ticket) = sent_hosts s h.0 ticket (open_play plan s)
 step_hosts plan s (Reported r) = reported_hosts plan s r (open_play plan s)
