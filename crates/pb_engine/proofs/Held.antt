@@ -18,12 +18,15 @@ use Rattle.pb_state.specs.declared.event.Event.{Event}
 use Rattle.pb_state.specs.declared.event.Event.TheVariants.{Open, Start, Send, Report as Reported, Turn, Close, Stop, Forks}
 use Rattle.pb_state.specs.declared.row.Running.{Running}
 use Rattle.pb_plan.specs.Plan.{PlayOf, PlanOf}
-use Rattle.pb_state.specs.Row.{HostRow, first_rows, joined, place_of, next_place, ended, items_after, progressed, sent, sent_running, reported, reported_running, left}
+use Rattle.pb_state.specs.Batches.{room_behind, joined_first}
+use Rattle.pb_state.specs.Row.{HostRow, first_rows, called, place_of, next_place, ended, items_after, progressed, sent, sent_running, reported, reported_running, left}
 use Rattle.pb_state.specs.State.{State}
-use Rattle.pb_state.specs.Machine.{possible, after, change, at_row, open_play, same_place, stands_at, has_room, may_start_in, may_send_in, next_play, opened_in, opened_at, started_in, facts_at, plan_seen, start_at, sent_in, reported_in, turned_in, first_state}
+use Rattle.pb_state.specs.Machine.{possible, after, change, at_row, open_play, same_place, may_start_in, may_send_in, opened_by, after_open, started_in, next_at, facts_at, plan_seen, start_at, sent_in, reported_in, turned_in, first_state}
 use Rattle.pb_state.specs.Results.{items_at}
 use Rattle.pb_state.specs.Run.{legal_from, state_from, IsRun}
-use Rattle.pb_state.proofs.Opening.{length-first}
+use Rattle.pb_state.proofs.Batching.{length-joined}
+use Rattle.pb_state.proofs.Opening.{length-first, open_case, rows_case}
+use Rattle.pb_state.proofs.Stands.{stands_at, start_stands}
 use Rattle.pb_state.proofs.Walks.{IsIn, AllIn, IsOfPlan, step_of, first_of}
 use Rattle.pb_engine.specs.Over.{IsUnfinished, AreUnfinished, IsGoing}
 
@@ -145,8 +148,8 @@ start_hosts plan s h play (Some p) = length-change s.rows h _
 started_in_held : (plan : PlanOf) (s : State) (h : ℕ) (found : Option PlayOf) → open_play plan s ≡ found → IsOfPlan plan s → IsHeld plan s → option_map_or (may_start_in s h) found false ≡ true → IsHeld plan (option_map_or (started_in plan s h) found s)
 started_in_held plan s h None o trees held e = held
 started_in_held plan s h (Some play) o trees held e = record {
-  hosts = start_hosts plan s h play s.place ∙ held.hosts;
-  tasks = rw (start_open plan s h play s.place, o) (start_tasks plan s h play s.place (rw o at held.tasks) (trees play o) (and_right (has_room s) _ e));
+  hosts = start_hosts plan s h play (next_at s h) ∙ held.hosts;
+  tasks = rw (start_open plan s h play (next_at s h), o) (start_tasks plan s h play (next_at s h) (rw o at held.tasks) (trees play o) (start_stands s h play e));
 }
 
 -- a send
@@ -182,23 +185,27 @@ reported_in_held plan s r (Some play) o held = record {
 }
 
 -- the others
-opened_held : (plan : PlanOf) (s : State) (n : ℕ) (found : Option PlayOf) → IsHeld plan s → IsHeld plan (option_map_or (opened_in s n) found s)
-opened_held plan s n None held = held
-opened_held plan s n (Some play) held = record {
-  hosts = length-map s.rows (joined play.tree play.hosts) ∙ held.hosts;
-  tasks = none_run (joined play.tree play.hosts) (λ row. refl) _ s.sends s.rows;
-}
+none_joined : (size sends : ℕ) (tree : TreeOf) (room : ℕ) (rows : List HostRow) → AreHeld size sends (joined_first tree room rows)
+none_joined size sends tree room [] = tt
+none_joined size sends tree room (row ∷ rows) = (tt, none_joined size sends tree (room_behind room row.waits) rows)
 
-next_held : (plan : PlanOf) (s : State) (next : Option ℕ) → IsHeld plan s → IsHeld plan (option_map_or (opened_at plan s) next s)
-next_held plan s None held = held
-next_held plan s (Some n) held = opened_held plan s n (slice_get plan.plays n) held
+opened_held : (plan : PlanOf) (s : State) → IsHeld plan s → IsHeld plan (after_open plan s)
+opened_held plan s held =
+    open_case (IsHeld plan) plan s (λ none. held)
+    (λ n batch sizes rows play size is.
+    record {
+      hosts =
+          length-joined play.tree size rows
+          ∙ rows_case (λ (calls : List HostRow). length calls ≡ length s.rows) plan s n batch sizes rows play size is refl (λ hosts. length-map s.rows (called hosts)) ∙ held.hosts;
+      tasks = none_joined _ s.sends play.tree size rows;
+    })
 
 turned_held : (plan : PlanOf) (s : State) (found : Option PlayOf) → IsHeld plan s → IsHeld plan (option_map_or (turned_in s) found s)
 turned_held plan s None held = held
 turned_held plan s (Some play) held = record { hosts = held.hosts; tasks = held.tasks }
 
 pub step_held : (plan : PlanOf) (s : State) (e : Event) → possible plan s e ≡ true → IsOfPlan plan s → IsHeld plan s → IsHeld plan (after plan s e)
-step_held plan s Open may trees held = next_held plan s (next_play plan s) held
+step_held plan s Open may trees held = opened_held plan s held
 step_held plan s (Start h) may trees held = started_in_held plan s h.0 (open_play plan s) refl trees held may
 step_held plan s (Send h item ticket) may trees held = sent_in_held plan s h.0 item ticket (open_play plan s) refl held may
 step_held plan s (Reported r) may trees held = reported_in_held plan s r (open_play plan s) refl held

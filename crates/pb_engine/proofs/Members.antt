@@ -1,6 +1,7 @@
 -- The least host of a set.
-use Rattle.std.proofs.Common.{◌≡◌, ℕ, arith, Bool, true, false, ◌||◌, List, [], ◌∷◌, zero, suc, refl}
+use Rattle.std.proofs.Common.{◌≡◌, ◌<◌, ℕ, length, arith, Bool, true, false, ◌||◌, List, [], ◌∷◌, zero, suc, refl}
 use Rattle.std.specs.Prelude.{Some, slice_get}
+use Rattle.std.proofs.lemmas.Option.{slice_get_within}
 use Rattle.pb_planes.specs.Set.{has_some, is_in, IsNextFrom, HasNoneFrom}
 
 -- a number in a set is a member
@@ -11,6 +12,10 @@ in_set (b ∷ set) (suc i) e = in_set set i e
 
 pub member : (set : List Bool) (from at : ℕ) → IsNextFrom set from at → slice_get set at ≡ Some true
 member set from at next = in_set set at next.1
+
+-- a member is below the width
+pub member_below : (set : List Bool) (at : ℕ) → slice_get set at ≡ Some true → at < length set
+member_below set at e = slice_get_within set at true e
 
 -- a set with a member has one from 0 on
 none_some : (set : List Bool) → ((i : ℕ) → is_in set i ≡ false) → has_some set ≡ false

@@ -1,5 +1,5 @@
 -- A state in which no host is ready, and no turn, close or open is possible, is quiet; and finished, if no job is out.
-use Rattle.std.proofs.Common.{◌≡◌, ℕ, Bool, true, false, ◌&&◌, ◌||◌, not, List, [], ◌∷◌, length, map, replicate, refl, sym, ◌∙◌, zero, suc}
+use Rattle.std.proofs.Common.{◌≡◌, ℕ, Bool, true, false, ◌&&◌, ◌||◌, not, List, [], ◌∷◌, length, map, replicate, refl, sym, ◌∙◌, ap, zero, suc, inl, inr}
 use Rattle.std.specs.Prelude.{◌==◌, Option, Some, None, slice_get, is_some, is_none}
 use Rattle.std.specs.List.{list_any}
 use Rattle.std.specs.Option.{option_map_or}
@@ -16,9 +16,11 @@ use Rattle.pb_outcome.specs.Items.{next_item}
 use Rattle.pb_plan.specs.Plan.{PlayOf, PlanOf}
 use Rattle.pb_state.specs.Row.{HostRow}
 use Rattle.pb_state.specs.State.{State}
-use Rattle.pb_state.specs.Machine.{possible, ready, ready_in, is_ready, at_row, may_open, may_start_in, may_send_in, may_send_item, may_report_in, may_turn_in, may_close_in, has_room, has_send, sends_running, is_ticket, is_next, is_out, awaits, awaits_running, item_of, item_at, stands_at, open_play}
+use Rattle.pb_state.specs.Machine.{possible, ready, ready_in, at_row, may_open, may_start_in, may_send_in, may_send_item, may_report_in, may_turn_in, may_close_in, has_send, sends_running, is_ticket, is_next, is_out, awaits, awaits_running, item_of, item_at, open_play}
 use Rattle.pb_state.specs.Run.{is_command, IsQuiet, IsFinished}
 use Rattle.pb_state.proofs.InOrder.{goes_on_at}
+use Rattle.pb_state.proofs.Readies.{none_start, none_sends_at, ready_either, length_ready_in}
+use Rattle.pb_state.proofs.Stands.{both, none_starts}
 use Rattle.pb_engine.specs.declared.choice.Choice.TheVariants.{Take}
 use Rattle.pb_engine.specs.Choice.{IsChoice, host_of}
 use Rattle.pb_engine.specs.Over.{IsUnfinished, AreUnfinished, IsGoing}
@@ -51,21 +53,15 @@ and_none : (a b : Bool) → a ≡ false → (a && b) ≡ false
 and_none true b e = cc
 and_none false b e = refl
 
--- a test that implies one that no row passes fails at each
-none_at : (p q : HostRow → Bool) → ((row : HostRow) → q row ≡ false → p row ≡ false) → (rows : List HostRow) (h : ℕ) → has_some (map q rows) ≡ false → at_row p rows h ≡ false
+-- a test that implies one that a row fails
+none_at : (p q : HostRow → Bool) → ((row : HostRow) → q row ≡ false → p row ≡ false) → (rows : List HostRow) (h : ℕ) → at_row q rows h ≡ false → at_row p rows h ≡ false
 none_at p q imp [] h e = refl
-none_at p q imp (row ∷ rows) zero e = imp row (or_left (q row) (has_some (map q rows)) e)
-none_at p q imp (row ∷ rows) (suc h) e = none_at p q imp rows h (or_right (q row) (has_some (map q rows)) e)
-
-none_starts : (s : State) (play : PlayOf) (h : ℕ) (room : Bool) → has_room s ≡ room → has_some (ready_in s play) ≡ false → (room && at_row (stands_at s.place) s.rows h) ≡ false
-none_starts s play h false r e = refl
-none_starts s play h true r e =
-    none_at (stands_at s.place) (is_ready (not s.stopped) (has_room s) s.place)
-    (λ row q. let free : (true && stands_at s.place row) ≡ false = rw r at (or_right (not s.stopped && has_send row) (has_room s && stands_at s.place row) q) in free) s.rows h e
+none_at p q imp (row ∷ rows) zero e = imp row e
+none_at p q imp (row ∷ rows) (suc h) e = none_at p q imp rows h e
 
 none_starts_in : (s : State) (h : ℕ) (found : Option PlayOf) → has_some (option_map_or (ready_in s) found (replicate (length s.rows) false)) ≡ false → option_map_or (may_start_in s h) found false ≡ false
 none_starts_in s h None e = refl
-none_starts_in s h (Some play) e = none_starts s play h (has_room s) refl e
+none_starts_in s h (Some play) e = none_starts s play h (none_start s play e)
 
 unsent : (item : ℕ) (running : Option Running) → option_map_or (λ (r : Running). is_none r.out) running false ≡ false → option_map_or (sends_running item) running false ≡ false
 unsent item None e = refl
@@ -73,9 +69,7 @@ unsent item (Some r) e = and_none (is_none r.out) (is_next item r) e
 
 none_sends : (s : State) (play : PlayOf) (h item : ℕ) (stopped : Bool) → s.stopped ≡ stopped → has_some (ready_in s play) ≡ false → (not stopped && at_row (may_send_item item) s.rows h) ≡ false
 none_sends s play h item true st e = refl
-none_sends s play h item false st e =
-    none_at (may_send_item item) (is_ready (not s.stopped) (has_room s) s.place)
-    (λ row q. let free : (true && has_send row) ≡ false = rw st at (or_left (not s.stopped && has_send row) (has_room s && stands_at s.place row) q) in unsent item row.running free) s.rows h e
+none_sends s play h item false st e = none_at (may_send_item item) has_send (λ row q. unsent item row.running q) s.rows h (none_sends_at s play h st e)
 
 no_send : (a b c : Bool) → (a && c) ≡ false → (a && b && c) ≡ false
 no_send false b c e = refl
@@ -128,29 +122,10 @@ pub finished_now : (plan : PlanOf) (s : State) → has_some (ready plan s) ≡ f
 finished_now plan s r t c o out = record { over = over_at plan s (quiet plan s r t c o) out; none_out = out }
 
 -- a host that is ready has a send, or a start
-some_at : (q : HostRow → Bool) (rows : List HostRow) (h : ℕ) → slice_get (map q rows) h ≡ Some true → at_row q rows h ≡ true
-some_at q [] h e = cc
-some_at q (row ∷ rows) zero e = held (q row) e
-  where
-    held : (b : Bool) → Some b ≡ Some true → b ≡ true
-    held true e = refl
-    held false e = cc
-some_at q (row ∷ rows) (suc h) e = some_at q rows h e
-
 none_of : (n h : ℕ) → slice_get (replicate n false) h ≡ Some true → false ≡ true
 none_of zero h e = cc
 none_of (suc n) zero e = cc
 none_of (suc n) (suc h) e = none_of n h e
-
-either : (a b c : Bool) → ((a && b) || c) ≡ true → (a && b) ≡ false → c ≡ true
-either true true c e f = cc
-either true false c e f = e
-either false b c e f = e
-
-starts_at : (sends room : Bool) (send start : HostRow → Bool) (rows : List HostRow) (h : ℕ) → at_row (λ row. (sends && send row) || (room && start row)) rows h ≡ true → (sends && at_row send rows h) ≡ false → (room && at_row start rows h) ≡ true
-starts_at sends room send start [] h e f = cc
-starts_at sends room send start (row ∷ rows) zero e f = either sends (send row) (room && start row) e f
-starts_at sends room send start (row ∷ rows) (suc h) e f = starts_at sends room send start rows h e f
 
 -- the next item is the one that is sent, or that is out
 pub next_alone : (test : Bool) (next : Option ℕ) (item : ℕ) → next ≡ Some item → (test && option_map_or (λ n. n == item) next false) ≡ test
@@ -175,18 +150,23 @@ no_item_at [] h going e = refl
 no_item_at (row ∷ rows) zero going e = no_item row.running going.0 e
 no_item_at (row ∷ rows) (suc h) going e = no_item_at rows h going.1 e
 
-no_start : (a b c : Bool) → b ≡ true → (a && b && c) ≡ false → (a && c) ≡ false
-no_start true true c b e = e
-no_start true false c b e = cc
-no_start false b c d e = refl
-
-start_unsent : (s : State) (play : PlayOf) (h : ℕ) → slice_get (ready_in s play) h ≡ Some true → (not s.stopped && at_row has_send s.rows h) ≡ false → may_start_in s h play ≡ true
-start_unsent s play h e f = starts_at (not s.stopped) (has_room s) has_send (stands_at s.place) s.rows h (some_at (is_ready (not s.stopped) (has_room s) s.place) s.rows h e) f
+sends_now : (s : State) (play : PlayOf) (h item : ℕ) (ticket : Ticket) → ticket.0 ≡ s.sends → item_at s h ≡ Some item → s.stopped ≡ false → at_row has_send s.rows h ≡ true → may_send_in s h item ticket play ≡ true
+sends_now s play h item ticket t is st e =
+    both (not s.stopped && (ticket.0 == s.sends)) (at_row (may_send_item item) s.rows h) (both (not s.stopped) (ticket.0 == s.sends) (ap not st) (eq-eqb ticket.0 s.sends t)) (sends_at item (slice_get s.rows h) is ∙ e)
 
 start_in : (s : State) (play : PlayOf) (h item : ℕ) (ticket : Ticket) → ticket.0 ≡ s.sends → item_at s h ≡ Some item → slice_get (ready_in s play) h ≡ Some true → may_send_in s h item ticket play ≡ false → may_start_in s h play ≡ true
 start_in s play h item ticket t is e f =
-    let free : (not s.stopped && at_row has_send s.rows h) ≡ false = rw (← sends_at item (slice_get s.rows h) is) (no_start (not s.stopped) (ticket.0 == s.sends) (at_row (may_send_item item) s.rows h) (eq-eqb ticket.0 s.sends t) f) in
-    start_unsent s play h e free
+    elim (ready_either s play h e) [
+      | inl may ↦ may
+      | inr send ↦ absurd (let both_ways : true ≡ false = sym (sends_now s play h item ticket t is send.0 send.1) ∙ f in cc)
+    ]
+
+start_idle : (s : State) (play : PlayOf) (h : ℕ) → slice_get (ready_in s play) h ≡ Some true → at_row has_send s.rows h ≡ false → may_start_in s h play ≡ true
+start_idle s play h e f =
+    elim (ready_either s play h e) [
+      | inl may ↦ may
+      | inr send ↦ absurd (let both_ways : true ≡ false = sym send.1 ∙ f in cc)
+    ]
 
 ready_there : (s : State) (h item : ℕ) (ticket : Ticket) (found : Option PlayOf) → ticket.0 ≡ s.sends → item_at s h ≡ Some item → slice_get (option_map_or (ready_in s) found (replicate (length s.rows) false)) h ≡ Some true → option_map_or (may_send_in s h item ticket) found false ≡ false → option_map_or (may_start_in s h) found false ≡ true
 ready_there s h item ticket None t is e f = none_of (length s.rows) h e
@@ -194,7 +174,7 @@ ready_there s h item ticket (Some play) t is e f = start_in s play h item ticket
 
 idle_there : (s : State) (h : ℕ) (found : Option PlayOf) → IsGoing s → item_at s h ≡ None → slice_get (option_map_or (ready_in s) found (replicate (length s.rows) false)) h ≡ Some true → option_map_or (may_start_in s h) found false ≡ true
 idle_there s h None going is e = none_of (length s.rows) h e
-idle_there s h (Some play) going is e = start_unsent s play h e (rw (no_item_at s.rows h going.tasks is) (and_false (not s.stopped)))
+idle_there s h (Some play) going is e = start_idle s play h e (no_item_at s.rows h going.tasks is)
 
 -- a host that is ready and has no send may start
 pub ready_starts : (plan : PlanOf) (s : State) (h item : ℕ) (ticket : Ticket) → ticket.0 ≡ s.sends → item_at s h ≡ Some item → slice_get (ready plan s) h ≡ Some true → option_map_or (may_send_in s h item ticket) (open_play plan s) false ≡ false → option_map_or (may_start_in s h) (open_play plan s) false ≡ true
@@ -205,7 +185,7 @@ idle_starts plan s h going is e = idle_there s h (open_play plan s) going is e
 
 length_of : (s : State) (found : Option PlayOf) → length (option_map_or (ready_in s) found (replicate (length s.rows) false)) ≡ length s.rows
 length_of s None = length-replicate (length s.rows) false
-length_of s (Some play) = length-map s.rows _
+length_of s (Some play) = length_ready_in s play
 
 pub length_ready : (plan : PlanOf) (s : State) → length (ready plan s) ≡ length s.rows
 length_ready plan s = length_of s (open_play plan s)

@@ -1,5 +1,5 @@
 -- A run is never stuck.
-use Rattle.std.proofs.Common.{◌≡◌, ◌⊎◌, inl, inr, ℕ, Bool, true, false, ◌&&◌, ◌||◌, not, List, [], ◌∷◌, ◌+◌, drop, length, map, replicate, refl, sym, ◌∙◌, subst, zero, suc}
+use Rattle.std.proofs.Common.{◌≡◌, ◌<◌, ◌⊎◌, inl, inr, ℕ, Bool, true, false, ◌&&◌, ◌||◌, not, List, [], ◌∷◌, ◌+◌, drop, length, map, replicate, refl, sym, ◌∙◌, ap, subst, zero, suc}
 use Rattle.std.specs.Prelude.{◌==◌, Option, Some, None, slice_get, is_some, is_none, if◌then◌else◌}
 use Rattle.std.specs.List.{list_any}
 use Rattle.std.specs.Option.{option_map_or}
@@ -11,11 +11,18 @@ use Rattle.pb_state.specs.declared.event.Event.{Event}
 use Rattle.pb_state.specs.declared.event.Event.TheVariants.{Open, Start, Send, Report as Reported, Turn, Close, Stop, Forks}
 use Rattle.pb_state.specs.declared.row.Running.{Running}
 use Rattle.pb_plan.specs.Plan.{PlayOf, PlanOf}
-use Rattle.pb_state.specs.Row.{HostRow, joined}
+use Rattle.pb_state.specs.Batches.{has_later, room_behind, joined_first}
+use Rattle.pb_state.specs.Row.{HostRow}
 use Rattle.pb_state.specs.State.{State}
-use Rattle.pb_state.specs.Machine.{possible, after, at_row, ready, ready_in, is_running, is_out, has_send, sends_running, may_send_item, awaits_running, awaits, may_open, may_send_in, may_report_in, may_turn_in, may_close_in, has_room, has_hosts, first_play, next_play, stands_at, least_place, open_play, opened_in, opened_at, started_in, start_at, sent_in, reported_in, turned_in, first_state}
+use Rattle.pb_state.specs.Machine.{possible, after, at_row, ready, ready_in, is_running, is_out, has_send, sends_running, may_send_item, awaits_running, awaits, may_open, may_start_in, may_send_in, may_report_in, may_turn_in, may_close_in, has_hosts, first_play, next_play, is_left, least_place, open_play, opened_by, after_open, started_in, next_at, start_at, sent_in, reported_in, turned_in, stopped, with_forks, first_state}
 use Rattle.pb_state.specs.Run.{legal_from, state_from, IsRun}
-use Rattle.pb_engine.specs.Over.{IsOver, IsPlaced, IsPlacedIn}
+use Rattle.pb_strategies.specs.MayStart.{is_linear, ready as starting}
+use Rattle.pb_state.specs.Strategies.{view_of}
+use Rattle.pb_state.proofs.Idle.{turn_linear, turn_idle, turns, others_done}
+use Rattle.pb_state.proofs.Opening.{open_case}
+use Rattle.pb_state.proofs.Readies.{none_start, none_sends}
+use Rattle.pb_state.proofs.Stands.{both, linear_place}
+use Rattle.pb_engine.specs.Over.{has_more, IsOver, IsPlaced, IsPlacedBy, IsPlacedIn}
 
 and_left : (a b : Bool) → (a && b) ≡ true → a ≡ true
 and_left true b e = refl
@@ -59,59 +66,94 @@ idle_awaits item ticket None e = refl
 idle_awaits item ticket (Some r) e = cc
 
 -- each event keeps it that an open batch has its play, and its least place where no host runs
-opened_placed : (plan : PlanOf) (s : State) (n : ℕ) (found : Option PlayOf) → slice_get plan.plays n ≡ found → IsPlaced plan s → IsPlaced plan (option_map_or (opened_in s n) found s)
-opened_placed plan s n None e placed = placed
-opened_placed plan s n (Some play) e placed = rw e (λ none. (none, idle play.tree play.hosts s.rows))
-  where
-    idle : (tree : TreeOf) (hosts : List Bool) (rows : List HostRow) → list_any is_running (map (joined tree hosts) rows) ≡ false
-    idle tree hosts [] = refl
-    idle tree hosts (row ∷ rows) = idle tree hosts rows
+idle_joined : (tree : TreeOf) (room : ℕ) (rows : List HostRow) → list_any is_running (joined_first tree room rows) ≡ false
+idle_joined tree room [] = refl
+idle_joined tree room (row ∷ rows) = idle_joined tree (room_behind room row.waits) rows
 
-next_placed : (plan : PlanOf) (s : State) (next : Option ℕ) → IsPlaced plan s → IsPlaced plan (option_map_or (opened_at plan s) next s)
-next_placed plan s None placed = placed
-next_placed plan s (Some n) placed = opened_placed plan s n (slice_get plan.plays n) refl placed
+placed_new : (linear : Bool) (s : State) → s.place ≡ (if linear then least_place s.rows else None) → list_any is_running s.rows ≡ false → IsPlacedBy linear s
+placed_new true s e idle = λ none. (sym e ∙ none, idle)
+placed_new false s e idle = e
 
-start_placed : (plan : PlanOf) (s : State) (h : ℕ) (play : PlayOf) (place : Option ℕ) → s.place ≡ place → open_play plan s ≡ Some play → IsPlaced plan s → IsPlaced plan (option_map_or (start_at plan s h play) place s)
-start_placed plan s h play None e here placed = placed
-start_placed plan s h play (Some p) e here placed = rw here (λ none. let absent : Some p ≡ None = sym e ∙ none in cc)
+opened_placed : (plan : PlanOf) (s : State) → IsPlaced plan s → IsPlaced plan (after_open plan s)
+opened_placed plan s placed =
+    open_case (IsPlaced plan) plan s (λ none. placed)
+    (λ n batch sizes rows play size is.
+    subst (λ (found : Option PlayOf). IsPlacedIn (opened_by s n batch sizes rows play size) found) (sym is.there)
+    (placed_new (is_linear play.strategy) (opened_by s n batch sizes rows play size) refl (idle_joined play.tree size rows)))
 
-started_placed : (plan : PlanOf) (s : State) (h : ℕ) (found : Option PlayOf) → open_play plan s ≡ found → IsPlaced plan s → IsPlaced plan (option_map_or (started_in plan s h) found s)
-started_placed plan s h None here placed = placed
-started_placed plan s h (Some play) here placed = start_placed plan s h play s.place refl here placed
+-- a step that leaves the place, and comes where a linear batch has one
+stays_placed : (linear : Bool) (s new : State) → new.place ≡ s.place → (linear ≡ true → s.place ≡ None → ⊥) → IsPlacedBy linear s → IsPlacedBy linear new
+stays_placed true s new same some placed = λ none. absurd (some refl (sym same ∙ none))
+stays_placed false s new same some placed = same ∙ placed
+
+in_play : (plan : PlanOf) (s : State) (play : PlayOf) → open_play plan s ≡ Some play → IsPlaced plan s → IsPlacedBy (is_linear play.strategy) s
+in_play plan s play here placed = subst (λ (found : Option PlayOf). IsPlacedIn s found) here placed
+
+start_placed : (plan : PlanOf) (s : State) (h : ℕ) (play : PlayOf) (place : Option ℕ) → open_play plan s ≡ Some play → may_start_in s h play ≡ true → IsPlaced plan s → IsPlaced plan (option_map_or (start_at plan s h play) place s)
+start_placed plan s h play None here may placed = placed
+start_placed plan s h play (Some p) here may placed =
+    subst (λ (found : Option PlayOf). IsPlacedIn (start_at plan s h play p) found) (sym here)
+    (stays_placed (is_linear play.strategy) s (start_at plan s h play p) refl (λ linear none. linear_place s h play linear may none) (in_play plan s play here placed))
+
+started_placed : (plan : PlanOf) (s : State) (h : ℕ) (found : Option PlayOf) → open_play plan s ≡ found → IsPlaced plan s → option_map_or (may_start_in s h) found false ≡ true → IsPlaced plan (option_map_or (started_in plan s h) found s)
+started_placed plan s h None here placed may = placed
+started_placed plan s h (Some play) here placed may = start_placed plan s h play (next_at s h) here may placed
+
+-- where a host sends, or waits for a report, one runs
+idle_linear : (linear : Bool) (s : State) → linear ≡ true → s.place ≡ None → IsPlacedBy linear s → list_any is_running s.rows ≡ false
+idle_linear true s l none placed = (placed none).1
+idle_linear false s l none placed = cc
 
 sent_placed : (plan : PlanOf) (s : State) (h item : ℕ) (ticket : Ticket) (found : Option PlayOf) → open_play plan s ≡ found → IsPlaced plan s → option_map_or (may_send_in s h item ticket) found false ≡ true → IsPlaced plan (option_map_or (sent_in s h ticket) found s)
 sent_placed plan s h item ticket None here placed may = placed
 sent_placed plan s h item ticket (Some play) here placed may =
-    rw here
-    (λ none.
-    let before : IsPlacedIn s (Some play) = rw here at placed in
-    let wrong = no_more (not s.stopped) (ticket.0 == s.sends) (at_row (may_send_item item) s.rows h) may (none_runs (may_send_item item) (λ row e. idle_sends item row.running e) s.rows h (before none).1) in
+    subst (λ (found : Option PlayOf). IsPlacedIn (sent_in s h ticket play) found) (sym here)
+    (stays_placed (is_linear play.strategy) s (sent_in s h ticket play) refl
+    (λ linear none.
+    let idle = idle_linear (is_linear play.strategy) s linear none (in_play plan s play here placed) in
+    let wrong = no_more (not s.stopped) (ticket.0 == s.sends) (at_row (may_send_item item) s.rows h) may (none_runs (may_send_item item) (λ row e. idle_sends item row.running e) s.rows h idle) in
     cc)
+    (in_play plan s play here placed))
 
 reported_placed : (plan : PlanOf) (s : State) (r : Report) (found : Option PlayOf) → open_play plan s ≡ found → IsPlaced plan s → option_map_or (may_report_in s r) found false ≡ true → IsPlaced plan (option_map_or (reported_in plan s r) found s)
 reported_placed plan s r None here placed may = placed
 reported_placed plan s r (Some play) here placed may =
-    rw here
-    (λ none.
-    let before : IsPlacedIn s (Some play) = rw here at placed in
-    let idle = none_runs (awaits r.ticket r.item) (λ row e. idle_awaits r.item r.ticket row.running e) s.rows r.host.0 (before none).1 in
+    subst (λ (found : Option PlayOf). IsPlacedIn (reported_in plan s r play) found) (sym here)
+    (stays_placed (is_linear play.strategy) s (reported_in plan s r play) refl
+    (λ linear none.
+    let idle = idle_linear (is_linear play.strategy) s linear none (in_play plan s play here placed) in
+    let wrong = none_runs (awaits r.ticket r.item) (λ row e. idle_awaits r.item r.ticket row.running e) s.rows r.host.0 idle in
+    let both_ways : true ≡ false = sym may ∙ wrong in
     cc)
+    (in_play plan s play here placed))
+
+turn_placed : (s : State) (play : PlayOf) (linear : Bool) → is_linear play.strategy ≡ linear → may_turn_in s play ≡ true → IsPlacedBy linear (turned_in s play)
+turn_placed s play true l may = λ none. (none, turn_idle s play may)
+turn_placed s play false l may = absurd (let both_ways : true ≡ false = sym (turn_linear s play may) ∙ l in cc)
 
 turned_placed : (plan : PlanOf) (s : State) (found : Option PlayOf) → open_play plan s ≡ found → IsPlaced plan s → option_map_or (may_turn_in s) found false ≡ true → IsPlaced plan (option_map_or (turned_in s) found s)
 turned_placed plan s None here placed may = placed
 turned_placed plan s (Some play) here placed may =
-    let idle = not_false (list_any is_running s.rows) (and_right (not s.stopped && is_some s.place) _ (and_left _ _ may)) in
-    rw here (λ none. (none, idle))
+    subst (λ (found : Option PlayOf). IsPlacedIn (turned_in s play) found) (sym here) (turn_placed s play (is_linear play.strategy) refl may)
+
+-- a command changes neither place nor rows
+kept_by : (linear : Bool) (s new : State) → new.place ≡ s.place → new.rows ≡ s.rows → IsPlacedBy linear s → IsPlacedBy linear new
+kept_by true s new p r placed = λ none. (let was = placed (sym p ∙ none) in (ap least_place r ∙ was.0, ap (list_any is_running) r ∙ was.1))
+kept_by false s new p r placed = p ∙ placed
+
+kept_placed : (s new : State) (found : Option PlayOf) → new.is_open ≡ s.is_open → new.place ≡ s.place → new.rows ≡ s.rows → IsPlacedIn s found → IsPlacedIn new found
+kept_placed s new None o p r placed = o ∙ placed
+kept_placed s new (Some play) o p r placed = kept_by (is_linear play.strategy) s new p r placed
 
 step_placed : (plan : PlanOf) (s : State) (e : Event) → possible plan s e ≡ true → IsPlaced plan s → IsPlaced plan (after plan s e)
-step_placed plan s Open may placed = next_placed plan s (next_play plan s) placed
-step_placed plan s (Start h) may placed = started_placed plan s h.0 (open_play plan s) refl placed
+step_placed plan s Open may placed = opened_placed plan s placed
+step_placed plan s (Start h) may placed = started_placed plan s h.0 (open_play plan s) refl placed may
 step_placed plan s (Send h item ticket) may placed = sent_placed plan s h.0 item ticket (open_play plan s) refl placed may
 step_placed plan s (Reported r) may placed = reported_placed plan s r (open_play plan s) refl placed may
 step_placed plan s Turn may placed = turned_placed plan s (open_play plan s) refl placed may
 step_placed plan s Close may placed = refl
-step_placed plan s Stop may placed = placed
-step_placed plan s (Forks n) may placed = placed
+step_placed plan s Stop may placed = kept_placed s (stopped s) (open_play plan s) refl refl refl placed
+step_placed plan s (Forks n) may placed = kept_placed s (with_forks s n) (open_play plan s) refl refl refl placed
 
 placed_from : (plan : PlanOf) (s : State) (es : List Event) → legal_from plan s es ≡ true → IsPlaced plan s → IsPlaced plan (state_from plan s es)
 placed_from plan s [] legal placed = placed
@@ -134,40 +176,33 @@ both_false : (a b : Bool) → a ≡ false → b ≡ false → (a || b) ≡ false
 both_false true b e f = e
 both_false false b e f = f
 
-free : (a b : Bool) → a ≡ true → (a && b) ≡ false → b ≡ false
-free true b e f = f
-free false b e f = cc
-
-none_running : (sends room : Bool) (start : HostRow → Bool) (rows : List HostRow) → sends ≡ true → has_some (map (λ row. (sends && has_send row) || (room && start row)) rows) ≡ false → list_any is_out rows ≡ false → list_any is_running rows ≡ false
-none_running sends room start [] t e f = refl
-none_running sends room start (row ∷ rows) t e f =
-    let here = or_left ((sends && has_send row) || (room && start row)) (has_some (map (λ row. (sends && has_send row) || (room && start row)) rows)) e in
-    let rest = or_right ((sends && has_send row) || (room && start row)) (has_some (map (λ row. (sends && has_send row) || (room && start row)) rows)) e in
+none_running : (rows : List HostRow) → has_some (map has_send rows) ≡ false → list_any is_out rows ≡ false → list_any is_running rows ≡ false
+none_running [] e f = refl
+none_running (row ∷ rows) e f =
     both_false (is_running row) (list_any is_running rows)
-    (idle_row row.running (free sends (has_send row) t (or_left (sends && has_send row) (room && start row) here)) (or_left (is_out row) (list_any is_out rows) f))
-    (none_running sends room start rows t rest (or_right (is_out row) (list_any is_out rows) f))
-
--- and none stands at the current place
-none_stands : (sends room : Bool) (start : HostRow → Bool) (rows : List HostRow) → has_some (map (λ row. (sends && has_send row) || (room && start row)) rows) ≡ false → (room && list_any start rows) ≡ false
-none_stands sends room start [] e = and_false room
-none_stands sends false start (row ∷ rows) e = refl
-none_stands sends true start (row ∷ rows) e =
-    let here = or_left ((sends && has_send row) || start row) (has_some (map (λ row. (sends && has_send row) || (true && start row)) rows)) e in
-    let rest = or_right ((sends && has_send row) || start row) (has_some (map (λ row. (sends && has_send row) || (true && start row)) rows)) e in
-    both_false (start row) (list_any start rows) (or_right (sends && has_send row) (start row) here) (none_stands sends true start rows rest)
+    (idle_row row.running (or_left (has_send row) (has_some (map has_send rows)) e) (or_left (is_out row) (list_any is_out rows) f))
+    (none_running rows (or_right (has_send row) (has_some (map has_send rows)) e) (or_right (is_out row) (list_any is_out rows) f))
 
 -- so an open batch can turn or close
-never_both : (place least : Option ℕ) (stopped running may : Bool) → stopped ≡ false → running ≡ false → may ≡ false → (place ≡ None → least ≡ None) → (not stopped && is_some place && not running && not may) ≡ false → (not stopped && is_none place && not running && is_none least) ≡ false → true ≡ false
-never_both None None stopped running may st r m placed t c = rw (st, r) at c
-never_both None (Some q) stopped running may st r m placed t c = let e : Some q ≡ None = placed refl in cc
-never_both (Some p) least stopped running may st r m placed t c = rw (st, r, m) at t
+closes : (s : State) (play : PlayOf) → s.stopped ≡ false → s.place ≡ None → list_any is_running s.rows ≡ false → least_place s.rows ≡ None → may_close_in s play ≡ true
+closes s play st none idle least =
+    both (not s.stopped && is_none s.place && not (list_any is_running s.rows)) (is_none (least_place s.rows))
+    (both (not s.stopped && is_none s.place) (not (list_any is_running s.rows)) (both (not s.stopped) (is_none s.place) (ap not st) (ap is_none none)) (ap not idle)) (ap is_none least)
 
-closed_in : (s : State) (found : Option PlayOf) → s.stopped ≡ false → IsPlacedIn s found → list_any is_out s.rows ≡ false → has_some (option_map_or (ready_in s) found (replicate (length s.rows) false)) ≡ false → option_map_or (may_turn_in s) found false ≡ false → option_map_or (may_close_in s) found false ≡ false → s.is_open ≡ false
-closed_in s None st placed out r t c = placed
-closed_in s (Some play) st placed out r t c =
-    let idle = none_running (not s.stopped) (has_room s) (stands_at s.place) s.rows (rw st refl) r out in
-    let wrong = never_both s.place (least_place s.rows) s.stopped (list_any is_running s.rows) (has_room s && list_any (stands_at s.place) s.rows) st idle (none_stands (not s.stopped) (has_room s) (stands_at s.place) s.rows r) (λ none. (placed none).0) t c in
-    cc
+goes : (s : State) (play : PlayOf) (linear : Bool) (place : Option ℕ) → is_linear play.strategy ≡ linear → s.place ≡ place → 0 < s.forks → s.stopped ≡ false → IsPlacedBy linear s → list_any is_running s.rows ≡ false
+    → has_some (starting (view_of s play)) ≡ false → (may_turn_in s play ≡ true) ⊎ (may_close_in s play ≡ true)
+goes s play true None l e f st placed idle none = inr (closes s play st e idle (placed e).0)
+goes s play true (Some p) l e f st placed idle none = inl (turns s play l st idle (ap is_some e) none)
+goes s play false place l e f st placed idle none = inr (closes s play st placed idle (others_done s play l st idle f none))
+
+closed_in : (s : State) (found : Option PlayOf) → 0 < s.forks → s.stopped ≡ false → IsPlacedIn s found → list_any is_out s.rows ≡ false → has_some (option_map_or (ready_in s) found (replicate (length s.rows) false)) ≡ false → option_map_or (may_turn_in s) found false ≡ false → option_map_or (may_close_in s) found false ≡ false → s.is_open ≡ false
+closed_in s None f st placed out r t c = placed
+closed_in s (Some play) f st placed out r t c =
+    let idle = none_running s.rows (none_sends s play st r) out in
+    elim (goes s play (is_linear play.strategy) s.place refl refl f st placed idle (none_start s play r)) [
+      | inl may ↦ absurd (let both_ways : true ≡ false = sym may ∙ t in cc)
+      | inr may ↦ absurd (let both_ways : true ≡ false = sym may ∙ c in cc)
+    ]
 
 -- a play opens next where one is left that has hosts
 some_left : (rows : List HostRow) (n : ℕ) (plays : List PlayOf) → is_some (first_play rows n plays) ≡ list_any (has_hosts rows) plays
@@ -178,12 +213,17 @@ some_left rows n (play ∷ plays) = by_hosts (has_hosts rows play) (some_left ro
     by_hosts true e = refl
     by_hosts false e = e
 
+left_same : (plan : PlanOf) (s : State) (later : Bool)
+    → (if later then is_some (slice_get plan.plays s.play) else is_some (next_play plan s)) ≡ (if later then is_some (slice_get plan.plays s.play) else list_any (has_hosts s.rows) (drop s.play plan.plays))
+left_same plan s true = refl
+left_same plan s false = some_left s.rows s.play (drop s.play plan.plays)
+
 over_in : (stopped is_open ended next left : Bool) → next ≡ left → (stopped ≡ false → is_open ≡ false) → (not stopped && not is_open && not ended && next) ≡ false → (stopped ≡ true) ⊎ (ended ≡ true) ⊎ ((is_open ≡ false) × (left ≡ false))
 over_in true is_open ended next left l e m = inl refl
 over_in false true ended next left l e m = let wrong = e refl in cc
 over_in false false true next left l e m = inr (inl refl)
 over_in false false false next left l e m = inr (inr (refl, sym l ∙ m))
 
-pub over_now : (plan : PlanOf) (s : State) → IsPlaced plan s → has_some (ready plan s) ≡ false → option_map_or (may_turn_in s) (open_play plan s) false ≡ false → option_map_or (may_close_in s) (open_play plan s) false ≡ false → may_open plan s ≡ false → list_any is_out s.rows ≡ false → IsOver plan s
-over_now plan s placed r t c o out =
-    over_in s.stopped s.is_open s.ended (is_some (next_play plan s)) (list_any (has_hosts s.rows) (drop s.play plan.plays)) (some_left s.rows s.play (drop s.play plan.plays)) (λ st. closed_in s (open_play plan s) st placed out r t c) o
+pub over_now : (plan : PlanOf) (s : State) → 0 < s.forks → IsPlaced plan s → has_some (ready plan s) ≡ false → option_map_or (may_turn_in s) (open_play plan s) false ≡ false → option_map_or (may_close_in s) (open_play plan s) false ≡ false → may_open plan s ≡ false → list_any is_out s.rows ≡ false → IsOver plan s
+over_now plan s f placed r t c o out =
+    over_in s.stopped s.is_open s.ended (is_left plan s) (has_more plan s) (left_same plan s (has_later s.later)) (λ st. closed_in s (open_play plan s) f st placed out r t c) o

@@ -1,24 +1,30 @@
--- A run is never stuck: where nothing is possible, it was stopped or ended early, or no batch is open and none is left to open.
-use Rattle.std.specs.Prelude.{◌≡◌, ◌⊎◌, Bool, true, false, List, [], ◌∷◌, drop, Option, Some, None}
+-- A run is never stuck: where nothing is possible, it was stopped or ended early, or no batch is open and none is left.
+use Rattle.std.specs.Prelude.{◌≡◌, ◌⊎◌, Bool, true, false, List, [], ◌∷◌, drop, Option, Some, None, is_some, slice_get, if◌then◌else◌}
 use Rattle.std.specs.List.{list_any}
 use Rattle.pb_outcome.specs.Items.{is_over}
 use Rattle.pb_plan.specs.Plan.{PlayOf, PlanOf}
+use Rattle.pb_strategies.specs.MayStart.{is_linear}
 use Rattle.pb_state.specs.declared.row.Running.{Running}
+use Rattle.pb_state.specs.Batches.{has_later}
 use Rattle.pb_state.specs.Row.{HostRow}
 use Rattle.pb_state.specs.State.{State}
 use Rattle.pb_state.specs.Machine.{has_hosts, is_running, least_place, open_play}
 
--- of the plays that are left one has an active host of its own
+-- a batch is left: of the play that goes on, or of the plays that are left one has an active host of its own
 abbrev pub has_more : PlanOf → State → Bool
-has_more plan s = list_any (has_hosts s.rows) (drop s.play plan.plays)
+has_more plan s = if has_later s.later then is_some (slice_get plan.plays s.play) else list_any (has_hosts s.rows) (drop s.play plan.plays)
 
 abbrev pub IsOver : PlanOf → State → Type 0
 IsOver plan s = (s.stopped ≡ true) ⊎ (s.ended ≡ true) ⊎ ((s.is_open ≡ false) × (has_more plan s ≡ false))
 
--- an open batch has its play, and in a batch without a place no host runs or is at one
+-- an open batch has its play; in a linear batch without a place no host runs or is at one, and no other batch has a place
+abbrev pub IsPlacedBy : (linear : Bool) → State → Type 0
+IsPlacedBy true s = s.place ≡ None → (least_place s.rows ≡ None) × (list_any is_running s.rows ≡ false)
+IsPlacedBy false s = s.place ≡ None
+
 abbrev pub IsPlacedIn : State → Option PlayOf → Type 0
 IsPlacedIn s None = s.is_open ≡ false
-IsPlacedIn s (Some play) = s.place ≡ None → (least_place s.rows ≡ None) × (list_any is_running s.rows ≡ false)
+IsPlacedIn s (Some play) = IsPlacedBy (is_linear play.strategy) s
 
 abbrev pub IsPlaced : PlanOf → State → Type 0
 IsPlaced plan s = IsPlacedIn s (open_play plan s)

@@ -1,6 +1,6 @@
 //! What the machine does next by itself.
 
-ghost use Rattle.std.specs.Prelude.{◌≡◌, length, slice_get, Some, true};
+ghost use Rattle.std.specs.Prelude.{◌≡◌, ◌<◌, length, slice_get, Some, true};
 ghost use Rattle.pb_state.specs.Machine.{possible, ready};
 ghost use Rattle.pb_engine.specs.Choice.{IsChoice, host_of};
 ghost use Rattle.pb_engine.specs.Over.{IsPlaced, IsGoing};
@@ -33,6 +33,7 @@ pub fn choose<P: Picker>(
     requires width { length ready.old ≡ length state.now.rows }
     requires placed { IsPlaced plan.now state.now }
     requires going { IsGoing state.now }
+    requires forks { 0 < state.now.forks }
     ensures choice { IsChoice plan.now state.now P.picks picker.old picker.new result }
     ensures width { length ready.new ≡ length state.now.rows }
 {

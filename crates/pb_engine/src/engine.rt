@@ -12,8 +12,11 @@ ghost use Rattle.pb_engine.specs.EngineOf.{EngineOf, Takes, LessWork, IsSound, e
 ghost use Rattle.pb_engine.specs.Notes.{noted_at};
 ghost use Rattle.pb_engine.specs.Choice.{NextIs};
 ghost use Rattle.pb_engine.specs.Refusals.{refusal_of, is_waited_for, fits};
+ghost use Rattle.pb_engine.specs.Commands.{event_for, is_finished, fault_of};
+ghost use Rattle.pb_state.specs.Run.{IsFinished};
 
 use crate::choice::{Choice, choose};
+use crate::command::{Command, CommandFault, event_for, is_finished, is_in_range};
 use crate::fault::EngineFault;
 use crate::picker::Picker;
 use crate::refusal::{Refusal, refusal_for};
@@ -147,6 +150,39 @@ impl Engine {
         }
     }
 
+    /// Takes a command. One that is refused changes nothing.
+    ///
+    /// # Errors
+    /// `BadForks` exactly where the forks that it asks for aren't 1 to the size of the pool, else `Finished` exactly where the run is at its end; else
+    /// `Memory` where memory was refused.
+    #[tactic(auto, using(crate::proofs::Commands::may_command, crate::proofs::Commands::finished_run))]
+    pub fn command(&mut self, command: Command) -> Result<(), CommandFault>
+        ensures ok { OnOk result (Takes self.old self.new (event_for command)) }
+        ensures accepted { OnOk result (fault_of self.old.plan self.old.pool self.old.state command ≡ None) }
+        ensures fault { IfErr result (λ e. e ≢ CommandFault.Memory → fault_of self.old.plan self.old.pool self.old.state command ≡ Some e) }
+        ensures memory { IfErr result (λ e. e ≡ CommandFault.Memory → fault_of self.old.plan self.old.pool self.old.state command ≡ None) }
+        ensures err { OnErr result (self.new ≡ self.old) }
+        ensures run { IsSound self.new }
+
+        // A run is at its end exactly where nothing but commands is possible, and no job is out.
+        ensures finished { (is_finished self.old.plan self.old.state ≡ true → IsFinished self.old.plan self.old.state)
+            × (IsFinished self.old.plan self.old.state → is_finished self.old.plan self.old.state ≡ true) }
+    {
+        if !is_in_range(self.pool, command) {
+            return Err(CommandFault::BadForks);
+        }
+        if self.is_finished() {
+            return Err(CommandFault::Finished);
+        }
+        match self.take(event_for(command)) {
+            Ok(()) => Ok(()),
+            Err(event) => {
+                drop(event);
+                Err(CommandFault::Memory)
+            }
+        }
+    }
+
     /// The plan.
     pub fn plan(&self) -> &Plan
         ensures { result.now ≡ self.now.plan }
@@ -233,6 +269,15 @@ impl Engine {
         ensures run { IsSound self.new }
     {
         choose(&self.plan, &self.state, &mut self.ready, picker)
+    }
+
+    /// Whether the run is at its end.
+    fn is_finished(&mut self) -> bool
+        ensures value { result ≡ is_finished self.old.plan self.old.state }
+        ensures same { self.new ≡ self.old }
+        ensures run { IsSound self.new }
+    {
+        is_finished(&self.plan, &self.state, &mut self.ready)
     }
 
     /// What is answered for an event that the machine takes by itself: for a send its job.

@@ -4,18 +4,20 @@
 //! one event that is possible and writes it down, or finds that nothing is possible but the report of a job, or nothing
 //! at all, and changes nothing. A `Picker` chooses among the hosts that have a job to send or may start; a job that goes
 //! out is handed to the caller. `absorb` takes the report of a job that is out as one event, and hands every other report
-//! back. So the trail is a legal run of the plan that ends in the state, always. Each event leaves less to do, so the
-//! calls come to an end, and a run that is at its end is never stuck: it was stopped, it ended early, or no batch is open
-//! and none is left to open.
+//! back. `command` takes a command as one event, where the run isn't at its end. So the trail is a legal run of the plan
+//! that ends in the state, always. Each event but commands leaves less to do, so the calls come to an end, and a run that
+//! is at its end is never stuck: it was stopped, it ended early, or no batch is open and none is left to open.
 #![tactic(auto)]
 
 mod choice;
+mod command;
 mod engine;
 mod fault;
 mod picker;
 mod refusal;
 
+pub use command::{Command, CommandFault};
 pub use engine::{Engine, Next};
 pub use fault::EngineFault;
-pub use picker::{Lowest, Picker};
+pub use picker::{Lowest, Picker, RoundRobin};
 pub use refusal::Refusal;
