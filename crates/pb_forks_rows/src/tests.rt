@@ -30,6 +30,12 @@ impl<'a> Allows for Gate<'a> {
 impl<'a> Runner for Gate<'a> {
     ghost gives = { λ _ _ _. Unit {0} };
 
+    ghost ran = { λ _ _ _. Unit {0} };
+
+    ghost ran_none = { λ _. tt };
+
+    ghost ran_more = { λ _ _ _ _ _ _ _. tt };
+
     fn run(&mut self, _alloc: Global, _job: &Job) -> Outcome {
         self.begun.fetch_add(1, Ordering::SeqCst);
         for _ in 0..10_000_000u64 {
@@ -89,6 +95,12 @@ impl Allows for Silent {
 
 impl Runner for Silent {
     ghost gives = { λ _ _ _. Unit {0} };
+
+    ghost ran = { λ _ _ _. Unit {0} };
+
+    ghost ran_none = { λ _. tt };
+
+    ghost ran_more = { λ _ _ _ _ _ _ _. tt };
 
     fn run(&mut self, _alloc: Global, _job: &Job) -> Outcome {
         Outcome::not_started(Cause::CannotStart)

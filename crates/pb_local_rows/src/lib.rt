@@ -2,6 +2,8 @@
 #![tactic(auto)]
 
 #[cfg(test)]
+mod recorder;
+#[cfg(test)]
 mod starts;
 #[cfg(test)]
 mod tests;

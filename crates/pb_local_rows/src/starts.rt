@@ -4,11 +4,12 @@ use pb_outcome::job::{Call, Job};
 use pb_outcome::outcome::{Form, Outcome};
 use pb_runner::local::LocalRunner;
 use pb_runner::runner::Runner;
+use pb_runner::system::SystemLauncher;
 use pb_value::items::Items;
 use pb_value::text::Text;
 use std::alloc::{AllocError, Global};
 
-fn texts(alloc: Global, words: &[&str]) -> Result<Items<Text>, AllocError> {
+pub(crate) fn texts(alloc: Global, words: &[&str]) -> Result<Items<Text>, AllocError> {
     let mut texts = Vec::new(alloc);
     for word in words {
         texts.push(Text::from_str(alloc, word)?)?;
@@ -16,14 +17,9 @@ fn texts(alloc: Global, words: &[&str]) -> Result<Items<Text>, AllocError> {
     Ok(Items::from_vec(texts))
 }
 
-fn outcome_of(
-    rt: &HostRuntime,
-    facts: Option<Text>,
-    connector: &[&str],
-    call: Call,
-) -> Result<Outcome, AllocError> {
-    let alloc = rt.alloc();
-    let job = Job {
+// A call on a host named `a`, whose target behind this connector is named `far`.
+pub(crate) fn job(alloc: Global, connector: &[&str], call: Call) -> Result<Job, AllocError> {
+    Ok(Job {
         ticket: Ticket(0),
         host: HostNo(0),
         name: Text::from_str(alloc, "a")?,
@@ -33,8 +29,19 @@ fn outcome_of(
         target: Text::from_str(alloc, "far")?,
         connector: texts(alloc, connector)?,
         call,
-    };
-    let mut runner = LocalRunner::new(rt, facts);
+    })
+}
+
+fn outcome_of(
+    rt: &HostRuntime,
+    facts: Option<Text>,
+    connector: &[&str],
+    call: Call,
+) -> Result<Outcome, AllocError> {
+    let alloc = rt.alloc();
+    let job = job(alloc, connector, call)?;
+    let launcher = SystemLauncher::new(rt);
+    let mut runner = LocalRunner { launcher, facts };
     Ok(runner.run(alloc, &job))
 }
 

@@ -1,6 +1,11 @@
-use crate::starts::{behind, command, is_cause, is_ran, is_unreachable, setup, shell};
+use crate::recorder::Recorder;
+use crate::starts::{behind, command, is_cause, is_ran, is_unreachable, job, setup, shell, texts};
+use pb_outcome::job::Call;
 use pb_outcome::outcome::Form;
+use pb_runner::local::LocalRunner;
+use pb_runner::runner::Runner;
 use pb_value::text::Text;
+use std::alloc::{AllocError, Global};
 use std::fs;
 use std::test::Fail;
 
@@ -149,5 +154,55 @@ fn nothing_is_left_behind(rt: HostRuntime) -> Result<(), Fail> {
     assert_eq!(rt; open_files(&rt)?, before);
     let children = fs::read_to_string(&rt, "/proc/thread-self/children")?;
     assert_eq!(rt; children.as_str(), "");
+    Ok(())
+}
+
+// The words of each program that was to be started, each behind a slash.
+fn words_text(alloc: Global, recorder: Recorder) -> Result<String, AllocError> {
+    let Recorder { past } = recorder;
+    let mut text = String::new(alloc);
+    for words in past {
+        if let Some(command) = words.into_command() {
+            text.push_str(command.get_program())?;
+            for word in command.get_args() {
+                text.push(' ')?;
+                text.push_str(word)?;
+            }
+        }
+        text.push('/')?;
+    }
+    Ok(text)
+}
+
+#[test]
+fn one_launch_for_each_job(rt: HostRuntime) -> Result<(), Fail> {
+    let alloc = rt.alloc();
+    let launcher = Recorder {
+        past: Vec::new(alloc),
+    };
+    let mut runner = LocalRunner {
+        launcher,
+        facts: None,
+    };
+    let words = texts(alloc, ["x", "y"].as_slice())?;
+    let through = job(alloc, ["to"].as_slice(), Call::Command { words })?;
+    assert!(rt; is_ran(&runner.run(alloc, &through), 0, "", ""));
+    let gather = job(alloc, ["to"].as_slice(), Call::Setup)?;
+    assert!(rt; is_cause(&runner.run(alloc, &gather), 1));
+    runner.facts = Some(Text::from_str(alloc, "facts")?);
+    assert!(rt; is_cause(&runner.run(alloc, &gather), 5));
+    let here = job(
+        alloc,
+        [].as_slice(),
+        Call::Shell {
+            text: Text::from_str(alloc, "z")?,
+        },
+    )?;
+    assert!(rt; is_ran(&runner.run(alloc, &here), 0, "", ""));
+    let LocalRunner { launcher, facts: _ } = runner;
+    assert_eq!(rt;
+        words_text(alloc, launcher)?.as_str(),
+        "to far x y/to far facts//bin/sh -c z/"
+    );
     Ok(())
 }

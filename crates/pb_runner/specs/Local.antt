@@ -1,6 +1,5 @@
--- What a program on this machine is started with, and which outcome its end gives. What a program does is said nowhere.
-use Rattle.std.specs.Prelude.{◌≡◌, ◌≢◌, ◌⊎◌, ⊤, ℕ, ℤ, pos, negsuc, ◌+◌, ◌<◌, ◌++◌, ◌==◌, ◌||◌, Bool, true, false, List, [], ◌∷◌, length, Result, Ok, Err, Option, Some, None, codes, if◌then◌else◌}
-use Rattle.std.specs.Str.{IsUtf8}
+-- What a job's program is started with, and which outcome its end gives. What a program does is said nowhere.
+use Rattle.std.specs.Prelude.{◌≡◌, ◌≢◌, ◌⊎◌, ⊤, ℕ, ℤ, pos, negsuc, ◌++◌, ◌==◌, ◌||◌, Bool, true, false, List, [], ◌∷◌, Result, Ok, Err, Option, Some, None, codes, if◌then◌else◌}
 use Rattle.std.specs.Process.{command_program, command_args}
 use Rattle.std.specs.declared.process.command.Command.{Command}
 use Rattle.serde_json.specs.Data as json
@@ -17,6 +16,10 @@ use Rattle.pb_outcome.specs.declared.job.Call.TheVariants as calls
 use Rattle.pb_outcome.specs.declared.job.Job.{Job}
 use Rattle.pb_outcome.specs.declared.outcome.Form.{Form}
 use Rattle.pb_outcome.specs.declared.outcome.Form.TheVariants.{Ran, Module, Unreachable, NotStarted}
+use Rattle.pb_runner.specs.Kept.{Kept, IsWhole, IsNoText}
+use Rattle.pb_runner.specs.Launch.{Launch, launch_of}
+use Rattle.pb_runner.specs.declared.launcher.Ending.{Ending}
+use Rattle.pb_runner.specs.declared.launcher.Ending.TheVariants.{Refused, Lost, Ended}
 
 -- what may come of a job: a target is unreachable only behind a connector, and only setup gives facts
 abbrev pub LocalAllows : Job → Form → Type 0
@@ -51,26 +54,6 @@ abbrev pub command_words : {A : Type 0} → Option (Command A) → List (List �
 command_words (Some c) = command_program c ∷ command_args c
 command_words None = []
 
--- what is kept of one stream: its bytes, or that they were too many, or that memory was wanting
-pub record Kept : Type 0 where
-  pub bytes : List ℕ
-  pub room : ℕ
-  pub over : Bool
-  pub lost : Bool
-
-abbrev pub KeepsBehind : Kept → List ℕ → Kept → Type 0
-KeepsBehind old more new = (new.lost ≡ true) ⊎ ((new.lost ≡ false) × (old.lost ≡ false) × (new.bytes ≡ old.bytes ++ more))
-
--- more bytes came: too many for the room that is left, or they take some of it and are kept behind the others, where no memory was wanting
-abbrev pub Adds : Kept → List ℕ → Kept → Type 0
-Adds old more new =
-    ((new.over ≡ true) × ((old.over ≡ true) ⊎ (old.room < length more)))
-    ⊎ ((new.over ≡ false) × (old.over ≡ false) × (old.room ≡ new.room + length more) × KeepsBehind old more new)
-
--- all of the stream is there
-abbrev pub IsWhole : Kept → Type 0
-IsWhole kept = (kept.over ≡ false) × (kept.lost ≡ false)
-
 -- the facts that a program wrote: a JSON object, each value of which is one of ours
 abbrev pub told : Result Datum ValFault → Form
 told (Ok value) = Module value
@@ -103,10 +86,6 @@ answer_behind (word ∷ words) call rc out err = if is_lost rc then Unreachable 
 abbrev pub answer : Job → ℤ → List ℕ → List ℕ → Form
 answer job rc out err = answer_behind job.connector job.call rc out err
 
--- one of the two streams isn't text
-abbrev pub IsNoText : Kept → Kept → Type 0
-IsNoText out err = (¬ (IsUtf8 out.bytes)) ⊎ (¬ (IsUtf8 err.bytes))
-
 -- what the end of a program gives, by its status (none where a signal ended it) and its two streams: the first cause that fits, or its answer
 abbrev pub Ends : Job → Option ℤ → Kept → Kept → Form → Type 0
 Ends job None out err form = form ≡ NotStarted KilledBySignal
@@ -115,3 +94,20 @@ Ends job (Some rc) out err form =
     ⊎ (((out.over || err.over) ≡ false) × IsNoText out err × (form ≡ NotStarted NotUtf8))
     ⊎ (((out.over || err.over) ≡ false) × (form ≡ NotStarted OutOfMemory))
     ⊎ (IsWhole out × IsWhole err × (form ≡ answer job rc out.bytes err.bytes))
+
+-- what came of a program gives the outcome of its job
+abbrev pub IsGivenBy : Job → Ending → Form → Type 0
+IsGivenBy job Refused form = form ≡ NotStarted CannotStart
+IsGivenBy job Lost form = form ≡ NotStarted CannotStart
+IsGivenBy job (Ended status out err) form = Ends job status out err form
+
+-- one program was started, with exactly the job's words, and what came of it gives the outcome; or none, where memory was refused before
+abbrev pub IsStarted : Option (List ℕ) → Job → Form → List Launch → Type 0
+IsStarted facts job outcome launches =
+    ((launches ≡ []) × (outcome ≡ NotStarted OutOfMemory))
+    ⊎ ((ending : Ending) × (launches ≡ launch_of (words_of facts job) ending ∷ []) × IsGivenBy job ending outcome)
+
+-- what was started for a job: nothing where its call has no words
+pub record IsLaunched (facts : Option (List ℕ)) (job : Job) (outcome : Form) (launches : List Launch) : Type 0 where
+  pub wordless : own_words facts job.call ≡ [] → (launches ≡ []) × (outcome ≡ NotStarted CannotStart)
+  pub worded : own_words facts job.call ≢ [] → IsStarted facts job outcome launches

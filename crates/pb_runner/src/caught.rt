@@ -3,7 +3,7 @@ ghost use Rattle.std.specs.Prelude.{◌≡◌, ◌≤◌, ◌⊎◌, [], false, 
 ghost use Rattle.std.specs.Str.{IsUtf8};
 ghost use Rattle.pb_value.specs.Limits.{max_text};
 ghost use Rattle.pb_outcome.specs.declared.cause.Cause.TheVariants.{NotUtf8, OutOfMemory};
-ghost use Rattle.pb_runner.specs.Local.{Kept, Adds, IsWhole};
+ghost use Rattle.pb_runner.specs.Kept.{Adds, IsWhole};
 
 use pb_outcome::cause::Cause;
 use pb_value::limits::MAX_TEXT;
@@ -13,7 +13,7 @@ use std::marker::Model;
 
 /// The bytes of a stream, while they are at most 1,048,576 and memory suffices.
 #[derive(Drop)]
-pub(crate) struct Caught {
+pub struct Caught {
     bytes: Vec<u8>,
     /// How many bytes may still come.
     room: usize,
@@ -24,7 +24,7 @@ pub(crate) struct Caught {
 impl Model for Caught {
     ghost use Rattle.std.specs.Prelude.{◌≡◌, ◌≤◌, ◌+◌, false, length};
     ghost use Rattle.pb_value.specs.Limits.{max_text};
-    ghost use Rattle.pb_runner.specs.Local.{Kept};
+    ghost use Rattle.pb_runner.specs.Kept.{Kept};
 
     ghost Value = { Kept };
 
@@ -35,7 +35,7 @@ impl Model for Caught {
 
 impl Caught {
     /// Nothing yet.
-    pub(crate) fn new(alloc: Global) -> Caught
+    pub fn new(alloc: Global) -> Caught
         ensures { result ≡ record { bytes = []; room = max_text; over = false; lost = false } }
     {
         Caught {
@@ -47,7 +47,7 @@ impl Caught {
     }
 
     /// Adds what was read. From the first byte over the limit on it keeps no more, nor after want of memory.
-    pub(crate) fn add(&mut self, more: &[u8])
+    pub fn add(&mut self, more: &[u8])
         ensures { Adds self.old more.now self.new }
     {
         if self.over || more.len() > self.room {

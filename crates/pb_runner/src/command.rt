@@ -9,7 +9,7 @@ use std::process::Command;
 
 /// A command that gets its words one after another; the first is its program. Contracts see it as its words.
 #[derive(Drop)]
-pub(crate) struct Words {
+pub struct Words {
     command: Option<Command>,
 }
 
@@ -24,14 +24,14 @@ impl Model for Words {
 
 impl Words {
     /// No words.
-    pub(crate) fn new() -> Words
+    pub fn new() -> Words
         ensures { result ≡ [] }
     {
         Words { command: None }
     }
 
     /// Puts a word at the end.
-    pub(crate) fn push(&mut self, alloc: Global, word: &str) -> Result<(), AllocError>
+    pub fn push(&mut self, alloc: Global, word: &str) -> Result<(), AllocError>
         ensures { OnOk result (self.new ≡ self.old ++ word.now ∷ []) }
     {
         match &mut self.command {
@@ -44,7 +44,7 @@ impl Words {
     }
 
     /// Puts words at the end.
-    pub(crate) fn push_all(&mut self, alloc: Global, words: &[Text]) -> Result<(), AllocError>
+    pub fn push_all(&mut self, alloc: Global, words: &[Text]) -> Result<(), AllocError>
         ensures { OnOk result (self.new ≡ self.old ++ words.now) }
     {
         for word in words {
@@ -54,7 +54,7 @@ impl Words {
     }
 
     /// The command of these words, if there is a word.
-    pub(crate) fn into_command(self) -> Option<Command>
+    pub fn into_command(self) -> Option<Command>
         ensures some { IfSome result (λ c. command_program c ∷ command_args c ≡ self) }
         ensures none { IfNone result (self ≡ []) }
     {

@@ -1,6 +1,5 @@
 //! What the end of a program gives.
 ghost use Rattle.std.specs.Prelude.{◌≡◌, ◌≢◌, ◌≤◌, ◌⊎◌, ◌↔◌, ◌||◌, true, IfOk, IfErr, length};
-ghost use Rattle.std.specs.Process.{exit_code};
 ghost use Rattle.pb_outcome.specs.Output.{stripped};
 ghost use Rattle.pb_outcome.specs.Results.{is_nonzero};
 ghost use Rattle.pb_outcome.specs.declared.cause.Cause.TheVariants.{NotUtf8, TooLarge, OutOfMemory};
@@ -8,9 +7,11 @@ ghost use Rattle.pb_outcome.specs.declared.outcome.Form.TheVariants.{Ran, Module
 ghost use Rattle.pb_value.specs.Depth.{depth};
 ghost use Rattle.pb_value.specs.Limits.{max_text, max_depth};
 ghost use Rattle.pb_value.specs.Bytes.{json_in};
-ghost use Rattle.pb_runner.specs.Local.{LocalAllows, IsWhole, IsNoText, Ends, answer, facts_in, is_lost};
+ghost use Rattle.pb_runner.specs.Kept.{IsWhole, IsNoText};
+ghost use Rattle.pb_runner.specs.Local.{LocalAllows, Ends, IsGivenBy, answer, facts_in, is_lost};
 
 use crate::caught::Caught;
+use crate::launcher::Ending;
 use pb_outcome::cause::Cause;
 use pb_outcome::job::{Call, Job};
 use pb_outcome::outcome::Outcome;
@@ -21,7 +22,6 @@ use pb_value::text::Text;
 use pb_value::val::Val;
 use serde_json::Value;
 use std::alloc::Global;
-use std::process::ExitStatus;
 
 /// What a program wrote to its two streams.
 #[derive(Drop)]
@@ -30,18 +30,23 @@ struct Texts {
     err: Text,
 }
 
-/// The outcome of a program's end: the first cause that fits, else its answer.
-pub(crate) fn ended(
-    alloc: Global,
-    job: &Job,
-    status: ExitStatus,
-    out: Caught,
-    err: Caught,
-) -> Outcome
-    ensures first { Ends job.now (exit_code status) out err result }
+/// The outcome that what came of a job's program gives.
+pub(crate) fn given(alloc: Global, job: &Job, ending: Ending) -> Outcome
+    ensures given { IsGivenBy job.now ending result }
     ensures allowed { LocalAllows job.now result }
 {
-    let Some(code) = status.code() else {
+    match ending {
+        Ending::Refused | Ending::Lost => Outcome::not_started(Cause::CannotStart),
+        Ending::Ended { status, out, err } => ended(alloc, job, status, out, err),
+    }
+}
+
+/// The outcome of a program's end: the first cause that fits, else its answer.
+fn ended(alloc: Global, job: &Job, status: Option<i32>, out: Caught, err: Caught) -> Outcome
+    ensures first { Ends job.now status out err result }
+    ensures allowed { LocalAllows job.now result }
+{
+    let Some(code) = status else {
         return Outcome::not_started(Cause::KilledBySignal);
     };
     match both_texts(out, err) {

@@ -1,0 +1,22 @@
+-- What a launcher tells that starts nothing.
+use Rattle.std.specs.Prelude.{◌≡◌, ℕ, pos, false, List, [], ◌∷◌, ◌++◌, Some, refl}
+use Rattle.std.proofs.Common.{ap}
+use Rattle.pb_value.specs.Limits.{max_text}
+use Rattle.pb_runner.specs.declared.launcher.Ending.{Ending}
+use Rattle.pb_runner.specs.declared.launcher.Ending.TheVariants.{Ended}
+use Rattle.pb_runner.specs.Kept.{Kept}
+use Rattle.pb_runner.specs.Launch.{Launch, launch_of}
+
+abbrev pub nothing : Kept
+nothing = record { bytes = []; room = max_text; over = false; lost = false }
+
+abbrev pub ended_well : Ending
+ended_well = Ended (Some (pos 0)) nothing nothing
+
+abbrev pub recorded : List (List (List ℕ)) → List Launch
+recorded [] = []
+recorded (words ∷ past) = launch_of words ended_well ∷ recorded past
+
+pub one_more : (past : List (List (List ℕ))) (words : List (List ℕ)) → recorded (past ++ words ∷ []) ≡ recorded past ++ launch_of words ended_well ∷ []
+one_more [] words = refl
+one_more (w ∷ past) words = ap (λ l. launch_of w ended_well ∷ l) (one_more past words)
