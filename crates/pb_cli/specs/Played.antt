@@ -1,17 +1,22 @@
 -- What playing a bundle means.
-use Rattle.std.specs.Prelude.{◌≡◌, ⊤, ℕ, List, Option, Some, None, Ok, Err, codes}
+use Rattle.std.specs.Prelude.{◌≡◌, ◌⊎◌, ⊤, ℕ, List, Option, Some, None, Ok, Err, codes}
 use Rattle.pb_outcome.specs.declared.job.Job.{Job}
 use Rattle.pb_outcome.specs.declared.outcome.Form.{Form}
 use Rattle.pb_runner.specs.declared.fault.TableFault.{TableFault}
 use Rattle.pb_runner.specs.declared.table.Table.{Table}
+use Rattle.pb_runner.specs.Launch.{Launch}
 use Rattle.pb_runner.specs.Local.{LocalAllows, LocalGives}
+use Rattle.pb_runner.specs.LocalRan.{HasStarted}
 use Rattle.pb_runner.specs.Reading.{table_of}
-use Rattle.pb_runner.specs.Table.{TableGives}
+use Rattle.pb_runner.specs.Table.{TableGives, AllGiven}
 use Rattle.pb_state.specs.declared.event.Event.{Event}
 use Rattle.pb_plan.specs.Plan.{PlanOf}
 use Rattle.pb_recap.specs.Recap.{recap}
 use Rattle.pb_recap.specs.Kinds.{status_of}
-use Rattle.pb_driver.specs.Driven.{IsWholeRun}
+use Rattle.pb_driver.specs.declared.driver.RunFault.{RunFault}
+use Rattle.pb_driver.specs.Cut.{IsPart, IsCut}
+use Rattle.pb_driver.specs.Driven.{IsBegun, IsWholeRun}
+use Rattle.pb_driver.specs.Ran.{IsRanTo}
 use Rattle.pb_driver.specs.Taken.{with_more}
 use Rattle.pb_command_line.specs.declared.words.Purpose.{Purpose}
 use Rattle.pb_command_line.specs.declared.words.Purpose.TheVariants.{Run, CheckSyntax, ListHosts}
@@ -22,31 +27,65 @@ abbrev pub allows_all : Job → Form → Type 0
 allows_all job outcome = ⊤
 
 -- what was written is the output of one whole run of the plan, legal and eager, in which each job that was out is answered with an outcome
--- that may come of it, and the status is that of its recap
-pub record IsRunBy (allows gives : Job → Form → Type 0) (plan : PlanOf) (before after : Option (List ℕ)) (status : ℕ) : Type 0 where
+-- that may come of it, exactly these jobs were run, and the status is that of its recap
+pub record IsRunBy (allows gives : Job → Form → Type 0) (has_run : List (Job × Form) → Type 0) (plan : PlanOf) (before after : Option (List ℕ)) (status : ℕ) : Type 0 where
   pub trail : List Event
-  pub run : IsWholeRun allows gives plan 256 trail before after
+  pub run : IsWholeRun allows gives has_run plan 256 trail before after
   pub told : status ≡ status_of (recap plan 256 trail)
+
+-- what was written is a beginning of such an output, whose run couldn't go on, and what was run is what its events say
+pub record IsCutBy (allows gives : Job → Form → Type 0) (has_run : List (Job × Form) → Type 0) (plan : PlanOf) (fault : RunFault) (before after : Option (List ℕ)) : Type 0 where
+  pub trail : List Event
+  pub begun : IsBegun allows gives plan 256 trail
+  pub ran : IsRanTo has_run plan 256 trail fault
+  pub cut : IsCut plan 256 trail before after
+
+-- what was started for a run's jobs, of which each may have one program
+abbrev pub started_for : Option (List ℕ) → Option (List Launch) → Option (List Launch) → List (Job × Form) → Type 0
+started_for facts_program started started_after jobs = HasStarted facts_program started jobs started_after
+
+-- the programs of a plan's jobs were started, by a runner with this facts program or none
+abbrev pub IsLocalRun : PlanOf → (facts_program : Option (List ℕ)) → (started started_after : Option (List Launch)) → Option (List ℕ) → Option (List ℕ) → ℕ → Type 0
+IsLocalRun plan facts_program started started_after before after status = IsRunBy LocalAllows (LocalGives facts_program) (started_for facts_program started started_after) plan before after status
+
+abbrev pub IsLocalCut : PlanOf → (facts_program : Option (List ℕ)) → (started started_after : Option (List Launch)) → RunFault → Option (List ℕ) → Option (List ℕ) → Type 0
+IsLocalCut plan facts_program started started_after fault before after = IsCutBy LocalAllows (LocalGives facts_program) (started_for facts_program started started_after) plan fault before after
 
 -- the bytes of a file of outcomes have a table, and the run's reports have the table's outcomes
 pub record IsTabled (bytes : List ℕ) (plan : PlanOf) (before after : Option (List ℕ)) (status : ℕ) : Type 0 where
   pub table : Table
   pub tabled : table_of bytes ≡ Ok table
-  pub run : IsRunBy allows_all (TableGives table) plan before after status
+  pub run : IsRunBy allows_all (TableGives table) (AllGiven table) plan before after status
 
--- a run of a plan: without a file of outcomes the programs of its jobs run on this machine, by a runner with this facts program or none, and with one nothing is run
+pub record IsTabledCut (bytes : List ℕ) (plan : PlanOf) (fault : RunFault) (before after : Option (List ℕ)) : Type 0 where
+  pub table : Table
+  pub tabled : table_of bytes ≡ Ok table
+  pub cut : IsCutBy allows_all (TableGives table) (AllGiven table) plan fault before after
+
+-- a run of a plan: without a file of outcomes the programs of its jobs are started, by a runner with this facts program or none, and with one nothing is started
 -- but what the file says comes of each job
-abbrev pub IsPlayed : PlanOf → (facts_program outcomes : Option (List ℕ)) → Option (List ℕ) → Option (List ℕ) → ℕ → Type 0
-IsPlayed plan facts_program None before after status = IsRunBy LocalAllows (LocalGives facts_program) plan before after status
-IsPlayed plan facts_program (Some bytes) before after status = IsTabled bytes plan before after status
+abbrev pub IsPlayed : PlanOf → (facts_program outcomes : Option (List ℕ)) → (started started_after : Option (List Launch)) → Option (List ℕ) → Option (List ℕ) → ℕ → Type 0
+IsPlayed plan facts_program None started started_after before after status = IsLocalRun plan facts_program started started_after before after status
+IsPlayed plan facts_program (Some bytes) started started_after before after status = (started_after ≡ started) × IsTabled bytes plan before after status
+
+-- such a run that couldn't go on
+abbrev pub IsPlayedTo : PlanOf → (facts_program outcomes : Option (List ℕ)) → (started started_after : Option (List Launch)) → RunFault → Option (List ℕ) → Option (List ℕ) → Type 0
+IsPlayedTo plan facts_program None started started_after fault before after = IsLocalCut plan facts_program started started_after fault before after
+IsPlayedTo plan facts_program (Some bytes) started started_after fault before after = (started_after ≡ started) × IsTabledCut bytes plan fault before after
 
 -- a file of outcomes has this first fault
 unfoldable pub IsBadTable : Option (List ℕ) → TableFault → Type 0
 IsBadTable None e = ⊥
 IsBadTable (Some bytes) e = table_of bytes ≡ Err e
 
--- what a plan is made for: its run, to tell that it can be made, or the list of its hosts
-abbrev pub IsGiven : Purpose → PlanOf → (facts_program outcomes : Option (List ℕ)) → Option (List ℕ) → Option (List ℕ) → ℕ → Type 0
-IsGiven Run plan facts_program outcomes before after status = IsPlayed plan facts_program outcomes before after status
-IsGiven CheckSyntax plan facts_program outcomes before after status = (after ≡ with_more before (codes "ok\n")) × (status ≡ 0)
-IsGiven ListHosts plan facts_program outcomes before after status = (after ≡ with_more before (listing plan)) × (status ≡ 0)
+-- what a plan is made for: its run, to tell that it can be made, or the list of its hosts; only a run starts programs
+abbrev pub IsGiven : Purpose → PlanOf → (facts_program outcomes : Option (List ℕ)) → (started started_after : Option (List Launch)) → Option (List ℕ) → Option (List ℕ) → ℕ → Type 0
+IsGiven Run plan facts_program outcomes started started_after before after status = IsPlayed plan facts_program outcomes started started_after before after status
+IsGiven CheckSyntax plan facts_program outcomes started started_after before after status = (started_after ≡ started) × (after ≡ with_more before (codes "ok\n")) × (status ≡ 0)
+IsGiven ListHosts plan facts_program outcomes started started_after before after status = (started_after ≡ started) × (after ≡ with_more before (listing plan)) × (status ≡ 0)
+
+-- the same where it couldn't go on: a beginning of it
+abbrev pub IsGivenTo : Purpose → PlanOf → (facts_program outcomes : Option (List ℕ)) → (started started_after : Option (List Launch)) → RunFault → Option (List ℕ) → Option (List ℕ) → Type 0
+IsGivenTo Run plan facts_program outcomes started started_after fault before after = IsPlayedTo plan facts_program outcomes started started_after fault before after
+IsGivenTo CheckSyntax plan facts_program outcomes started started_after fault before after = (started_after ≡ started) × IsPart before after (codes "ok\n")
+IsGivenTo ListHosts plan facts_program outcomes started started_after fault before after = (started_after ≡ started) × IsPart before after (listing plan)

@@ -1,15 +1,15 @@
 //! The program, but for its words' and its streams' making.
 
-ghost use Rattle.std.specs.Prelude.{◌≡◌, ◌≢◌, ◌⊎◌, ◌≤◌, ◌+◌, ◌++◌, IfOk, IfErr, IfSome, Ok, Err, is_some, length, map, string_bytes};
+ghost use Rattle.std.specs.Prelude.{◌≡◌, ◌≢◌, ◌⊎◌, ◌≤◌, ◌+◌, ◌++◌, IfOk, IfErr, IfSome, OnErr, Ok, Err, is_some, length, map, string_bytes};
 ghost use Rattle.pb_value.specs.Limits.{max_bytes};
 ghost use Rattle.pb_plan.specs.Plan.{PlanOf};
 ghost use Rattle.pb_plan.specs.Bundle.{IsPlanOf, IsBundleFault};
-ghost use Rattle.pb_driver.specs.Taken.{with_more};
-ghost use Rattle.pb_cli.specs.Done.{IsBundleOf, is_too_long, IsUntold, IsShown, IsDone, IsHelped, IsAnswered};
+ghost use Rattle.pb_driver.specs.Cut.{IsPart};
+ghost use Rattle.pb_driver.specs.Taken.{with_more, one_more};
+ghost use Rattle.pb_cli.specs.Done.{IsBundleOf, is_too_long, IsUntold, IsShown, IsStopped, IsDone, IsUntouched, IsCutShort, IsBroken, IsHelped, IsAnswered, IsUnended};
 ghost use Rattle.pb_cli.specs.Listing.{listing};
 ghost use Rattle.pb_cli.specs.RoleFiles.{AreRolesIn};
-ghost use Rattle.pb_runner.specs.Local.{LocalAllows, LocalGives};
-ghost use Rattle.pb_cli.specs.Played.{IsBadTable, IsRunBy, IsTabled, IsPlayed, IsGiven};
+ghost use Rattle.pb_cli.specs.Played.{IsBadTable, IsRunBy, IsCutBy, IsLocalRun, IsLocalCut, IsTabled, IsTabledCut, IsPlayed, IsPlayedTo, IsGiven};
 ghost use Rattle.pb_runner.specs.Reading.{table_of};
 ghost use Rattle.pb_cli.specs.Warned.{ended, warning_text, IsWarned};
 
@@ -22,6 +22,7 @@ use pb_driver::{LineOut, RunFault, put_all, run_plain};
 use pb_engine::Lowest;
 use pb_roles::RoleFiles;
 use pb_runner::fault::TableFault;
+use pb_runner::launcher::Launcher;
 use pb_runner::local::LocalRunner;
 use pb_runner::runner::Runner;
 use pb_runner::table::TableRunner;
@@ -32,7 +33,6 @@ use std::alloc::{AllocError, Global};
 use std::fmt::Display;
 use std::fs::Files;
 use std::io;
-use std::process::{Processes, SystemProcess};
 
 /// Why a bundle wasn't played to its end.
 #[derive(Drop)]
@@ -52,7 +52,9 @@ fn run_by<N: Runner, O: LineOut>(
     runner: &mut N,
     out: &mut O,
 ) -> Result<u8, RunFault>
-    ensures { IfOk result (IsRunBy N.allows (N.gives runner.old) plan (O.taken out.old) (O.taken out.new)) }
+    ensures run { IfOk result (IsRunBy N.allows (N.gives runner.old) (λ jobs. N.ran runner.old jobs runner.new) plan (O.taken out.old) (O.taken out.new)) }
+    ensures cut { IfErr result (λ fault. IsCutBy N.allows (N.gives runner.old) (λ jobs. N.ran runner.old jobs runner.new) plan fault (O.taken out.old) (O.taken out.new)) }
+    ensures write { IfErr result (λ fault. fault ≡ RunFault.Write → O.failures out.new ≡ one_more (O.failures out.old)) }
 {
     match run_plain(alloc, plan, runner, &mut Lowest, out) {
         Ok(ended) => Ok(ended.status),
@@ -68,6 +70,8 @@ fn run_tabled<O: LineOut>(
     out: &mut O,
 ) -> Result<u8, PlayFault>
     ensures run { IfOk result (IsTabled bytes.now plan (O.taken out.old) (O.taken out.new)) }
+    ensures cut { (fault : RunFault) → result ≡ Err (PlayFault.Run fault) → IsTabledCut bytes.now plan fault (O.taken out.old) (O.taken out.new) }
+    ensures write { result ≡ Err (PlayFault.Run RunFault.Write) → O.failures out.new ≡ one_more (O.failures out.old) }
     ensures planned { (e : BundleFault) → result ≢ Err (PlayFault.Bundle e) }
     ensures untold { (e : TableFault) → result ≡ Err (PlayFault.Outcomes e) → (O.taken out.new ≡ O.taken out.old) × (e ≢ TableFault.Memory → table_of bytes.now ≡ Err e) }
 {
@@ -81,48 +85,40 @@ fn run_tabled<O: LineOut>(
     }
 }
 
-/// The path of a facts program, if there is one, as a text of its own.
-fn path_in(facts_program: &Option<Text>) -> Result<Option<Text>, AllocError>
-    ensures { IfOk result (λ path. path ≡ facts_program.now) }
-{
-    match facts_program {
-        Some(path) => Ok(Some(path.try_clone()?)),
-        None => Ok(None),
-    }
-}
-
-/// Runs a plan, with its lines on a writer: the jobs' programs on this machine, this one where facts are gathered.
-fn run_local<R: AllocGlobal + Processes<Started = SystemProcess>, O: LineOut>(
-    rt: &R,
+/// Runs a plan, with its lines on a writer: the jobs' programs are started, the runner's facts program where facts are gathered.
+fn run_local<L: Launcher, O: LineOut>(
+    alloc: Global,
     plan: Plan,
-    facts_program: &Option<Text>,
+    runner: &mut LocalRunner<L>,
     out: &mut O,
 ) -> Result<u8, RunFault>
-    ensures { IfOk result (IsRunBy LocalAllows (LocalGives facts_program.now) plan (O.taken out.old) (O.taken out.new)) }
+    ensures run { IfOk result (IsLocalRun plan runner.old.facts (L.launched runner.old.launcher) (L.launched runner.new.launcher) (O.taken out.old) (O.taken out.new)) }
+    ensures cut { IfErr result (λ fault. IsLocalCut plan runner.old.facts (L.launched runner.old.launcher) (L.launched runner.new.launcher) fault (O.taken out.old) (O.taken out.new)) }
+    ensures write { IfErr result (λ fault. fault ≡ RunFault.Write → O.failures out.new ≡ one_more (O.failures out.old)) }
 {
-    let path = path_in(facts_program)?;
-    let mut runner = LocalRunner::new(rt, path);
-    run_by(rt.alloc(), plan, &mut runner, out)
+    run_by(alloc, plan, runner, out)
 }
 
-/// Runs a plan, with its lines on a writer: the jobs' programs on this machine, or nothing where there are bytes of a file of
-/// outcomes, which say what comes of each job.
+/// Runs a plan, with its lines on a writer: the jobs' programs are started, or none where there are bytes of a file of outcomes,
+/// which say what comes of each job.
 #[tactic(auto, unfolding(crate::specs::Played::IsBadTable))]
-fn run_plan<R: AllocGlobal + Processes<Started = SystemProcess>, O: LineOut>(
-    rt: &R,
+fn run_plan<L: Launcher, O: LineOut>(
+    alloc: Global,
     plan: Plan,
-    facts_program: &Option<Text>,
     outcomes: &Option<Items<u8>>,
+    runner: &mut LocalRunner<L>,
     out: &mut O,
 ) -> Result<u8, PlayFault>
-    ensures played { IfOk result (IsPlayed plan facts_program.now outcomes.now (O.taken out.old) (O.taken out.new)) }
+    ensures played { IfOk result (IsPlayed plan runner.old.facts outcomes.now (L.launched runner.old.launcher) (L.launched runner.new.launcher) (O.taken out.old) (O.taken out.new)) }
+    ensures stopped { (fault : RunFault) → result ≡ Err (PlayFault.Run fault) → IsPlayedTo plan runner.old.facts outcomes.now (L.launched runner.old.launcher) (L.launched runner.new.launcher) fault (O.taken out.old) (O.taken out.new) }
+    ensures write { result ≡ Err (PlayFault.Run RunFault.Write) → O.failures out.new ≡ one_more (O.failures out.old) }
     ensures planned { (e : BundleFault) → result ≢ Err (PlayFault.Bundle e) }
-    ensures untold { (e : TableFault) → result ≡ Err (PlayFault.Outcomes e) → (O.taken out.new ≡ O.taken out.old) × (e ≢ TableFault.Memory → IsBadTable outcomes.now e) }
+    ensures untold { (e : TableFault) → result ≡ Err (PlayFault.Outcomes e) → IsUntouched (L.launched runner.old.launcher) (L.launched runner.new.launcher) (O.taken out.old) (O.taken out.new) × (e ≢ TableFault.Memory → IsBadTable outcomes.now e) }
 {
     if let Some(bytes) = outcomes {
-        return run_tabled(rt.alloc(), plan, bytes.as_slice(), out);
+        return run_tabled(alloc, plan, bytes.as_slice(), out);
     }
-    match run_local(rt, plan, facts_program, out) {
+    match run_local(alloc, plan, runner, out) {
         Ok(status) => Ok(status),
         Err(fault) => Err(PlayFault::Run(fault)),
     }
@@ -132,6 +128,8 @@ fn run_plan<R: AllocGlobal + Processes<Started = SystemProcess>, O: LineOut>(
 fn show<O: LineOut>(out: &mut O, text: &str) -> Result<u8, PlayFault>
     ensures shown { IfOk result (λ status. (O.taken out.new ≡ with_more (O.taken out.old) text.now) × (status ≡ 0)) }
     ensures fault { IfErr result (λ e. e ≡ PlayFault.Run RunFault.Write) }
+    ensures part { OnErr result (IsPart (O.taken out.old) (O.taken out.new) text.now) }
+    ensures write { OnErr result (O.failures out.new ≡ one_more (O.failures out.old)) }
 {
     match put_all(out, text.as_bytes()) {
         Ok(()) => Ok(0),
@@ -143,6 +141,8 @@ fn show<O: LineOut>(out: &mut O, text: &str) -> Result<u8, PlayFault>
 fn show_hosts<O: LineOut>(alloc: Global, plan: &Plan, out: &mut O) -> Result<u8, PlayFault>
     ensures shown { IfOk result (λ status. (O.taken out.new ≡ with_more (O.taken out.old) (listing plan.now)) × (status ≡ 0)) }
     ensures fault { IfErr result (λ e. (fault : RunFault) × (e ≡ PlayFault.Run fault)) }
+    ensures part { OnErr result (IsPart (O.taken out.old) (O.taken out.new) (listing plan.now)) }
+    ensures write { result ≡ Err (PlayFault.Run RunFault.Write) → O.failures out.new ≡ one_more (O.failures out.old) }
 {
     match listing(alloc, plan) {
         Ok(text) => show(out, text.as_str()),
@@ -180,28 +180,31 @@ fn push_line(text: &mut String, line: &Text) -> Result<(), AllocError>
 
 /// Makes the plan of a bundle and does with it what it is made for, on a writer, and answers the exit status: it is run, its
 /// hosts are listed, or nothing but `ok` is written. Warnings of the plan are written before that, on a writer of their own.
-/// Without outcomes each job's program is run on this machine, the oldest job first and one at a time, and the facts program where
-/// facts are gathered; with them nothing is run, and they say what comes of each job. That facts are gathered by a program at all is
-/// the bundle's to say; where it says so and none is named here, gathering can't start.
+/// Without outcomes the runner has each job's program started, the oldest job first and one at a time, and its facts program where
+/// facts are gathered; with them nothing is started, and they say what comes of each job. That facts are gathered by a program at
+/// all is the bundle's to say, which says so exactly where the runner has such a program.
 ///
 /// # Errors
-/// `Bundle` with the bundle's first fault, where it has no plan: nothing is written on `out` then. `Outcomes` with the first fault
-/// of the outcomes, which are looked into only where there is a plan, its warnings are written, and it is to be run: nothing
-/// is written on `out` then. `Run` where memory was refused or the writer failed.
-pub fn play_bundle<R: AllocGlobal + Processes<Started = SystemProcess>, O: LineOut, E: LineOut>(
-    rt: &R,
+/// `Bundle` with the bundle's first fault, where it has no plan: nothing is started, and nothing written on `out` then. `Outcomes`
+/// with the first fault of the outcomes, which are looked into only where there is a plan, its warnings are written, and it is to
+/// be run: nothing is started, and nothing written on `out` then. `Run` where memory was refused or the writer failed: what was
+/// started and written then is the beginning of such a run.
+pub fn play_bundle<L: Launcher, O: LineOut, E: LineOut>(
+    alloc: Global,
     bundle: &Bundle,
     purpose: Purpose,
-    facts_program: &Option<Text>,
     outcomes: &Option<Items<u8>>,
+    runner: &mut LocalRunner<L>,
     out: &mut O,
     err: &mut E,
 ) -> Result<u8, PlayFault>
-    ensures answered { IfOk result (IsShown bundle.now purpose facts_program.now outcomes.now (O.taken out.old) (O.taken out.new) (E.taken err.old) (E.taken err.new) (E.failures err.old) (E.failures err.new)) }
-    ensures refused { (e : BundleFault) → result ≡ Err (PlayFault.Bundle e) → (O.taken out.new ≡ O.taken out.old) × (e ≢ BundleFault.Memory → IsBundleFault bundle.now e) }
-    ensures untold { (e : TableFault) → result ≡ Err (PlayFault.Outcomes e) → IsUntold bundle.now purpose outcomes.now e (O.taken out.old) (O.taken out.new) (E.taken err.old) (E.taken err.new) (E.failures err.old) (E.failures err.new) }
+    requires { bundle.now.has_facts_program ≡ is_some runner.old.facts }
+    ensures answered { IfOk result (IsShown bundle.now purpose runner.old.facts outcomes.now (L.launched runner.old.launcher) (L.launched runner.new.launcher) (O.taken out.old) (O.taken out.new) (E.taken err.old) (E.taken err.new) (E.failures err.old) (E.failures err.new)) }
+    ensures refused { (e : BundleFault) → result ≡ Err (PlayFault.Bundle e) → IsUntouched (L.launched runner.old.launcher) (L.launched runner.new.launcher) (O.taken out.old) (O.taken out.new) × (e ≢ BundleFault.Memory → IsBundleFault bundle.now e) }
+    ensures untold { (e : TableFault) → result ≡ Err (PlayFault.Outcomes e) → IsUntold bundle.now purpose outcomes.now e (L.launched runner.old.launcher) (L.launched runner.new.launcher) (O.taken out.old) (O.taken out.new) (E.taken err.old) (E.taken err.new) (E.failures err.old) (E.failures err.new) }
+    ensures stopped { (fault : RunFault) → result ≡ Err (PlayFault.Run fault) → IsStopped bundle.now purpose runner.old.facts outcomes.now fault (L.launched runner.old.launcher) (L.launched runner.new.launcher) (O.taken out.old) (O.taken out.new) }
+    ensures write { result ≡ Err (PlayFault.Run RunFault.Write) → O.failures out.new ≡ one_more (O.failures out.old) }
 {
-    let alloc = rt.alloc();
     let plan = match Plan::of(alloc, bundle) {
         Ok(plan) => plan,
         Err(fault) => return Err(PlayFault::Bundle(fault)),
@@ -212,24 +215,28 @@ pub fn play_bundle<R: AllocGlobal + Processes<Started = SystemProcess>, O: LineO
     match purpose {
         Purpose::CheckSyntax => show(out, "ok\n"),
         Purpose::ListHosts => show_hosts(alloc, &plan, out),
-        Purpose::Run => run_plan(rt, plan, facts_program, outcomes, out),
+        Purpose::Run => run_plan(alloc, plan, outcomes, runner, out),
     }
 }
 
-/// The program `pb-play`: what its words ask for, with its output on `out` and its faults on `err`. It answers the exit status:
-/// that of the run's recap, 0 where help was asked for or nothing is run, and 1 at a fault, which is told on `err`.
-pub fn play<R: Files + AllocGlobal + Processes<Started = SystemProcess>, O: LineOut, E: LineOut>(
+/// The program `pb-play`: what its words ask for, with its output on `out` and its faults on `err`. The runner has programs
+/// started; its facts program becomes the one that the words name. It answers the exit status: that of the run's recap, 0 where
+/// help was asked for or nothing is run, and 1 at a fault, which is told on `err`.
+pub fn play<R: Files + AllocGlobal, L: Launcher, O: LineOut, E: LineOut>(
     rt: &R,
     words: &[String],
+    runner: &mut LocalRunner<L>,
     out: &mut O,
     err: &mut E,
 ) -> u8
-    ensures done { result ≢ 1 → IsHelped (map string_bytes words.now) (O.taken out.old) (O.taken out.new) result
-        ⊎ IsAnswered (map string_bytes words.now) (O.taken out.old) (O.taken out.new) (E.taken err.old) (E.taken err.new) (E.failures err.old) (E.failures err.new) result }
+    ensures done { result ≢ 1 → (IsHelped (map string_bytes words.now) (O.taken out.old) (O.taken out.new) result × (L.launched runner.new.launcher ≡ L.launched runner.old.launcher))
+        ⊎ IsAnswered (map string_bytes words.now) (L.launched runner.old.launcher) (L.launched runner.new.launcher) (O.taken out.old) (O.taken out.new) (E.taken err.old) (E.taken err.new) (E.failures err.old) (E.failures err.new) result }
+    ensures fault { result ≡ 1 → IsUntouched (L.launched runner.old.launcher) (L.launched runner.new.launcher) (O.taken out.old) (O.taken out.new)
+        ⊎ IsUnended (map string_bytes words.now) (L.launched runner.old.launcher) (L.launched runner.new.launcher) (O.taken out.old) (O.taken out.new) (O.failures out.old) (O.failures out.new) }
 {
     let alloc = rt.alloc();
     match read_words(alloc, words) {
-        Ok(request) => play_request(rt, request, out, err),
+        Ok(request) => play_request(rt, request, runner, out, err),
         Err(WordsFault::Help { text }) => match put_all(out, text.as_str().as_bytes()) {
             Ok(()) => 0,
             Err(_) => told(alloc, err, Part::Run, &RunFault::Write),
@@ -269,12 +276,16 @@ impl Drop for Asked {
 }
 
 /// Reads the files that were asked for, and plays them.
-fn play_request<
-    R: Files + AllocGlobal + Processes<Started = SystemProcess>,
-    O: LineOut,
-    E: LineOut,
->(rt: &R, request: Request, out: &mut O, err: &mut E) -> u8
-    ensures done { result ≢ 1 → IsDone request (O.taken out.old) (O.taken out.new) (E.taken err.old) (E.taken err.new) (E.failures err.old) (E.failures err.new) result }
+fn play_request<R: Files + AllocGlobal, L: Launcher, O: LineOut, E: LineOut>(
+    rt: &R,
+    request: Request,
+    runner: &mut LocalRunner<L>,
+    out: &mut O,
+    err: &mut E,
+) -> u8
+    ensures done { result ≢ 1 → IsDone request (L.launched runner.old.launcher) (L.launched runner.new.launcher) (O.taken out.old) (O.taken out.new) (E.taken err.old) (E.taken err.new) (E.failures err.old) (E.failures err.new) result }
+    ensures fault { result ≡ 1 → IsUntouched (L.launched runner.old.launcher) (L.launched runner.new.launcher) (O.taken out.old) (O.taken out.new)
+        ⊎ IsBroken request (L.launched runner.old.launcher) (L.launched runner.new.launcher) (O.taken out.old) (O.taken out.new) (O.failures out.old) (O.failures out.new) }
 {
     let alloc = rt.alloc();
     let asked = match read_files(rt, request) {
@@ -289,30 +300,64 @@ fn play_request<
             &"the outcomes have more than 64 MiB",
         );
     }
-    play_asked(rt, &asked, out, err)
+    play_asked(alloc, &asked, runner, out, err)
 }
 
-/// Plays what was asked for, and tells a fault.
-fn play_asked<R: AllocGlobal + Processes<Started = SystemProcess>, O: LineOut, E: LineOut>(
-    rt: &R,
+/// Plays what was asked for with its facts program, and tells a fault.
+fn play_asked<L: Launcher, O: LineOut, E: LineOut>(
+    alloc: Global,
     asked: &Asked,
+    runner: &mut LocalRunner<L>,
     out: &mut O,
     err: &mut E,
 ) -> u8
-    ensures done { result ≢ 1 → IsShown asked.now.bundle asked.now.purpose asked.now.facts_program asked.now.outcomes (O.taken out.old) (O.taken out.new) (E.taken err.old) (E.taken err.new) (E.failures err.old) (E.failures err.new) result }
+    requires { asked.now.bundle.has_facts_program ≡ is_some asked.now.facts_program }
+    ensures done { result ≢ 1 → IsShown asked.now.bundle asked.now.purpose asked.now.facts_program asked.now.outcomes (L.launched runner.old.launcher) (L.launched runner.new.launcher) (O.taken out.old) (O.taken out.new) (E.taken err.old) (E.taken err.new) (E.failures err.old) (E.failures err.new) result }
+    ensures fault { result ≡ 1 → IsUntouched (L.launched runner.old.launcher) (L.launched runner.new.launcher) (O.taken out.old) (O.taken out.new)
+        ⊎ IsCutShort asked.now.bundle asked.now.purpose asked.now.facts_program asked.now.outcomes (L.launched runner.old.launcher) (L.launched runner.new.launcher) (O.taken out.old) (O.taken out.new) (O.failures out.old) (O.failures out.new) }
+{
+    let Ok(path) = path_in(&asked.facts_program) else {
+        return told(alloc, err, Part::Run, &RunFault::Memory);
+    };
+    runner.facts = path;
+    play_by(alloc, asked, runner, out, err)
+}
+
+/// Plays what was asked for, and tells a fault.
+#[tactic(auto, using(crate::proofs::Running::not_shown))]
+fn play_by<L: Launcher, O: LineOut, E: LineOut>(
+    alloc: Global,
+    asked: &Asked,
+    runner: &mut LocalRunner<L>,
+    out: &mut O,
+    err: &mut E,
+) -> u8
+    requires { asked.now.bundle.has_facts_program ≡ is_some runner.old.facts }
+    ensures done { result ≢ 1 → IsShown asked.now.bundle asked.now.purpose runner.old.facts asked.now.outcomes (L.launched runner.old.launcher) (L.launched runner.new.launcher) (O.taken out.old) (O.taken out.new) (E.taken err.old) (E.taken err.new) (E.failures err.old) (E.failures err.new) result }
+    ensures fault { result ≡ 1 → IsUntouched (L.launched runner.old.launcher) (L.launched runner.new.launcher) (O.taken out.old) (O.taken out.new)
+        ⊎ IsCutShort asked.now.bundle asked.now.purpose runner.old.facts asked.now.outcomes (L.launched runner.old.launcher) (L.launched runner.new.launcher) (O.taken out.old) (O.taken out.new) (O.failures out.old) (O.failures out.new) }
 {
     let Asked {
         bundle,
-        facts_program,
+        facts_program: _,
         outcomes,
         purpose,
     } = asked;
-    let alloc = rt.alloc();
-    match play_bundle(rt, bundle, *purpose, facts_program, outcomes, out, err) {
+    match play_bundle(alloc, bundle, *purpose, outcomes, runner, out, err) {
         Ok(status) => status,
         Err(PlayFault::Run(fault)) => told(alloc, err, Part::Run, &fault),
         Err(PlayFault::Outcomes(fault)) => told(alloc, err, Part::Outcomes, &fault),
         Err(PlayFault::Bundle(fault)) => told_bundle(alloc, err, &fault),
+    }
+}
+
+/// The path of a facts program, if there is one, as a text of its own.
+fn path_in(facts_program: &Option<Text>) -> Result<Option<Text>, AllocError>
+    ensures { IfOk result (λ path. path ≡ facts_program.now) }
+{
+    match facts_program {
+        Some(path) => Ok(Some(path.try_clone()?)),
+        None => Ok(None),
     }
 }
 

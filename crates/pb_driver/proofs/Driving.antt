@@ -41,11 +41,12 @@ use Rattle.pb_events.specs.Lines.{lines_of, start_line}
 use Rattle.pb_recap.specs.Recap.{recap}
 use Rattle.pb_driver.specs.Taken.{with_more}
 use Rattle.pb_driver.specs.Output.{lines_from, end_lines}
+use Rattle.pb_driver.specs.Ran.{answers_of}
 use Rattle.pb_driver.specs.Driven.{IsAnswer, IsAnswerAt, IsAnswered, IsUncommanded, TakesOne, HasBegun, IsSame, IsFresh, IsBegun, HasEnded, IsWholeRun, Keeps, last_lines, lines_of_trail}
 use Rattle.pb_driver.proofs.Pieces.{more_more}
 
 -- an event that the machine takes by itself is no report and no command
-own_report : (plan : PlanOf) (s : State) (e : Event) (next : Next) → answer_of plan s e ≡ Some next → is_report e ≡ false
+pub own_report : (plan : PlanOf) (s : State) (e : Event) (next : Next) → answer_of plan s e ≡ Some next → is_report e ≡ false
 own_report plan s Open next a = refl
 own_report plan s (Start h) next a = refl
 own_report plan s (Send h item ticket) next a = refl
@@ -266,8 +267,8 @@ pub fresh_begun : (allows gives : Job → Form → Type 0) (old : EngineOf) → 
 fresh_begun allows gives old fresh = rw fresh.1 (empty_begun allows gives old.plan old.pool)
 
 -- a run that is finished, with its end, is whole
-pub whole : (allows gives : Job → Form → Type 0) (old new : EngineOf) (t0 t1 t2 t3 : Option (List ℕ)) (counts : List Counts) → IsFresh old → t1 ≡ with_more t0 (start_line (length old.plan.plays)) → Keeps old new t1 t2 → HasBegun allows gives new → IsSame old new → HasEnded new.plan new.state → t3 ≡ with_more t2 (end_lines new.plan counts) → counts ≡ recap new.plan new.pool new.trail → IsWholeRun allows gives old.plan old.pool new.trail t0 t3
-whole allows gives old new t0 t1 t2 t3 counts fresh started keeps begun same last ended counted =
+pub whole : (allows gives : Job → Form → Type 0) (has_run : List (Job × Form) → Type 0) (old new : EngineOf) (t0 t1 t2 t3 : Option (List ℕ)) (counts : List Counts) → IsFresh old → t1 ≡ with_more t0 (start_line (length old.plan.plays)) → Keeps old new t1 t2 → HasBegun allows gives new → IsSame old new → HasEnded new.plan new.state → t3 ≡ with_more t2 (end_lines new.plan counts) → counts ≡ recap new.plan new.pool new.trail → has_run (answers_of old.plan old.pool new.trail) → IsWholeRun allows gives has_run old.plan old.pool new.trail t0 t3
+whole allows gives has_run old new t0 t1 t2 t3 counts fresh started keeps begun same last ended counted ran =
     let lines = keeps t1 (fresh_lines old t1 fresh) in
     rw (← same.plan, ← same.pool)
     (record {
@@ -278,6 +279,7 @@ whole allows gives old new t0 t1 t2 t3 counts fresh started keeps begun same las
       uncommanded = begun.uncommanded;
       finished = rw same.run.ends last.finished;
       over = rw same.run.ends last.over;
+      ran = rw (same.plan, same.pool) ran;
       written =
           ended ∙ ap (λ (c : List Counts). with_more t2 (end_lines new.plan c)) counted
           ∙ ap (λ (u : Option (List ℕ)). with_more u (end_lines new.plan (recap new.plan new.pool new.trail))) lines

@@ -21,6 +21,7 @@ use Rattle.pb_recap.specs.Recap.{recap}
 use Rattle.pb_recap.specs.Kinds.{status_of}
 use Rattle.pb_driver.specs.Taken.{with_more}
 use Rattle.pb_driver.specs.Output.{lines_from, output}
+use Rattle.pb_driver.specs.Ran.{answers_of}
 
 -- a report answers the oldest of the jobs that are out, with an outcome that the runner's kind allows for this job, and that the runner itself gives
 pub record IsAnswer (allows gives : Job → Form → Type 0) (plan : PlanOf) (s : State) (r : Report) : Type 0 where
@@ -64,8 +65,8 @@ pub record HasEnded (plan : PlanOf) (s : State) : Type 0 where
   pub over : IsOver plan s
 
 -- a whole run: a legal, eager trail that does nothing twice, whose reports answer the jobs that were out and that ends in a finished state and isn't stuck
--- there, and its output and nothing else
-pub record IsWholeRun (allows gives : Job → Form → Type 0) (plan : PlanOf) (pool : ℕ) (trail : List Event) (before after : Option (List ℕ)) : Type 0 where
+-- there; exactly the jobs of its reports were run, in their order; and its output and nothing else was written
+pub record IsWholeRun (allows gives : Job → Form → Type 0) (has_run : List (Job × Form) → Type 0) (plan : PlanOf) (pool : ℕ) (trail : List Event) (before after : Option (List ℕ)) : Type 0 where
   pub legal : legal_from plan (first_state plan plan.forks pool) trail ≡ true
   pub eager : IsEager plan (first_state plan plan.forks pool) trail
   pub once : IsOnce plan (first_state plan plan.forks pool) trail
@@ -73,6 +74,7 @@ pub record IsWholeRun (allows gives : Job → Form → Type 0) (plan : PlanOf) (
   pub uncommanded : IsUncommanded trail
   pub finished : IsFinished plan (state_from plan (first_state plan plan.forks pool) trail)
   pub over : IsOver plan (state_from plan (first_state plan plan.forks pool) trail)
+  pub ran : has_run (answers_of plan pool trail)
   pub written : after ≡ with_more before (output plan pool trail)
 
 -- the recap and the exit status of a trail

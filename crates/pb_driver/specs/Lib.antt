@@ -1,4 +1,5 @@
 pub mod Taken
 pub mod Output
+pub mod Ran
 pub mod Driven
 pub mod Cut

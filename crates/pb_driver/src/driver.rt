@@ -11,6 +11,7 @@ ghost use Rattle.pb_recap.specs.Recap.{recap};
 ghost use Rattle.pb_driver.specs.Taken.{with_more, one_more};
 ghost use Rattle.pb_driver.specs.Output.{output, end_lines};
 ghost use Rattle.pb_driver.specs.Cut.{IsPart, IsCut, Breaks};
+ghost use Rattle.pb_driver.specs.Ran.{IsRanTo, RunsAlong, RunsOver};
 ghost use Rattle.pb_driver.specs.Driven.{IsSame, Keeps, TakesOne, HasBegun, HasEnded, last_lines, IsWholeRun, IsBegun, IsTold, IsFresh};
 
 use crate::line_out::{Failed, LineOut, put_all};
@@ -95,13 +96,15 @@ fn emit<W: LineOut>(alloc: Global, engine: &Engine, writer: &mut W) -> Result<()
 }
 
 /// Runs the oldest of the jobs that are out, and takes its report.
-#[tactic(auto, using(crate::proofs::Driving::answers, crate::proofs::Driving::item_of_job, crate::proofs::Driving::oldest_found, crate::proofs::Driving::job_found, crate::proofs::Driving::never_refused, crate::proofs::Driving::gives_same))]
+#[tactic(auto, using(crate::proofs::Driving::answers, crate::proofs::Driving::item_of_job, crate::proofs::Driving::oldest_found, crate::proofs::Driving::job_found, crate::proofs::Driving::never_refused, crate::proofs::Driving::gives_same, crate::proofs::Runs::over_same))]
 fn answer<R: Runner>(alloc: Global, engine: &mut Engine, runner: &mut R) -> Result<(), RunFault>
     requires sound { IsSound engine.old }
     requires quiet { IsQuiet engine.old.plan engine.old.state }
     requires out { list_any is_out engine.old.state.rows ≡ true }
     ensures took { OnOk result (TakesOne R.allows (R.gives runner.old) engine.old engine.new) }
     ensures work { OnOk result (LessWork engine.old engine.new) }
+    ensures ran { OnOk result (RunsAlong R.ran engine.old engine.new runner.old runner.new) }
+    ensures lost { IfErr result (λ e. RunsOver R.ran engine.old engine.new runner.old runner.new e) }
     ensures err { OnErr result (engine.new ≡ engine.old) }
     ensures fault { IfErr result (λ e. e ≡ RunFault.Memory) }
     ensures run { IsSound engine.new }
@@ -133,16 +136,19 @@ fn answer<R: Runner>(alloc: Global, engine: &mut Engine, runner: &mut R) -> Resu
 
 /// One event: one of the machine's own, or the report of the oldest job where the machine waits for one. It answers
 /// whether there was one to take.
-#[tactic(auto, using(crate::proofs::Driving::moves_one, crate::proofs::Driving::moves_sent, crate::proofs::Driving::less_sent, crate::proofs::Driving::less_next, crate::proofs::Driving::over_next, crate::proofs::Driving::waits_quiet, crate::proofs::Driving::waits_out, crate::proofs::Driving::waits_same, crate::proofs::Driving::waits_took, crate::proofs::Driving::waits_less, crate::proofs::Driving::gives_same))]
+#[tactic(auto, using(crate::proofs::Driving::moves_one, crate::proofs::Driving::moves_sent, crate::proofs::Driving::less_sent, crate::proofs::Driving::less_next, crate::proofs::Driving::over_next, crate::proofs::Driving::waits_quiet, crate::proofs::Driving::waits_out, crate::proofs::Driving::waits_same, crate::proofs::Driving::waits_took, crate::proofs::Driving::waits_less, crate::proofs::Driving::gives_same, crate::proofs::Runs::along_sent, crate::proofs::Runs::along_moved, crate::proofs::Runs::along_same, crate::proofs::Runs::over_same, crate::proofs::Runs::waits_along, crate::proofs::Runs::waits_over))]
 fn advance<R: Runner, P: Picker>(
     alloc: Global,
     engine: &mut Engine,
     runner: &mut R,
     picker: &mut P,
 ) -> Result<bool, RunFault>
+    requires { IsSound engine.old }
     ensures took { result ≡ Ok true → TakesOne R.allows (R.gives runner.old) engine.old engine.new }
     ensures work { result ≡ Ok true → LessWork engine.old engine.new }
     ensures over { result ≡ Ok false → (engine.new ≡ engine.old) × HasEnded engine.old.plan engine.old.state }
+    ensures ran { OnOk result (RunsAlong R.ran engine.old engine.new runner.old runner.new) }
+    ensures lost { IfErr result (λ e. RunsOver R.ran engine.old engine.new runner.old runner.new e) }
     ensures err { OnErr result (engine.new ≡ engine.old) }
     ensures fault { IfErr result (λ e. e ≡ RunFault.Memory) }
     ensures run { IsSound engine.new }
@@ -159,7 +165,7 @@ fn advance<R: Runner, P: Picker>(
 }
 
 /// One event, with its lines. It answers whether there was one to take.
-#[tactic(auto, using(crate::proofs::Driving::keeps_one, crate::proofs::Driving::keeps_same, crate::proofs::Driving::same_one, crate::proofs::Driving::same_same, crate::proofs::Driving::begun_one, crate::proofs::Driving::begun_same, crate::proofs::Cutting::breaks_same))]
+#[tactic(auto, using(crate::proofs::Driving::keeps_one, crate::proofs::Driving::keeps_same, crate::proofs::Driving::same_one, crate::proofs::Driving::same_same, crate::proofs::Driving::begun_one, crate::proofs::Driving::begun_same, crate::proofs::Cutting::breaks_same, crate::proofs::Runs::over_along))]
 fn turn<R: Runner, P: Picker, W: LineOut>(
     alloc: Global,
     engine: &mut Engine,
@@ -173,6 +179,8 @@ fn turn<R: Runner, P: Picker, W: LineOut>(
     ensures begun { HasBegun R.allows (R.gives runner.old) engine.new }
     ensures keeps { OnOk result (Keeps engine.old engine.new (W.taken writer.old) (W.taken writer.new)) }
     ensures breaks { OnErr result (Breaks engine.old engine.new (W.taken writer.old) (W.taken writer.new)) }
+    ensures ran { OnOk result (RunsAlong R.ran engine.old engine.new runner.old runner.new) }
+    ensures lost { IfErr result (λ e. RunsOver R.ran engine.old engine.new runner.old runner.new e) }
     ensures more { result ≡ Ok true → LessWork engine.old engine.new }
     ensures over { result ≡ Ok false → HasEnded engine.new.plan engine.new.state }
     ensures quiet { OnOk result (W.failures writer.new ≡ W.failures writer.old) }
@@ -207,7 +215,7 @@ fn emit_end<W: LineOut>(
 }
 
 /// Takes events, with their lines, until nothing is possible.
-#[tactic(auto, using(crate::proofs::Driving::begun_as, crate::proofs::Driving::begun_back, crate::proofs::Driving::gives_same, crate::proofs::Driving::gives_more))]
+#[tactic(auto, using(crate::proofs::Driving::begun_as, crate::proofs::Driving::begun_back, crate::proofs::Driving::gives_same, crate::proofs::Driving::gives_more, crate::proofs::Runs::along_both, crate::proofs::Runs::over_both, crate::proofs::Runs::along_same))]
 fn turn_all<R: Runner, P: Picker, W: LineOut>(
     alloc: Global,
     engine: &mut Engine,
@@ -221,6 +229,8 @@ fn turn_all<R: Runner, P: Picker, W: LineOut>(
     ensures begun { HasBegun R.allows (R.gives runner.old) engine.new }
     ensures keeps { OnOk result (Keeps engine.old engine.new (W.taken writer.old) (W.taken writer.new)) }
     ensures breaks { OnErr result (Breaks engine.old engine.new (W.taken writer.old) (W.taken writer.new)) }
+    ensures ran { OnOk result (RunsAlong R.ran engine.old engine.new runner.old runner.new) }
+    ensures lost { IfErr result (λ e. RunsOver R.ran engine.old engine.new runner.old runner.new e) }
     ensures over { OnOk result (HasEnded engine.new.plan engine.new.state) }
     ensures quiet { OnOk result (W.failures writer.new ≡ W.failures writer.old) }
     ensures failed { IfErr result (λ e. e ≡ RunFault.Write → W.failures writer.new ≡ one_more (W.failures writer.old)) }
@@ -245,11 +255,12 @@ fn run_engine<R: Runner, P: Picker, W: LineOut>(
 ) -> Result<Recap, RunFault>
     requires sound { IsSound engine.old }
     requires fresh { IsFresh engine.old }
-    ensures whole { OnOk result (IsWholeRun R.allows (R.gives runner.old) engine.old.plan engine.old.pool engine.new.trail (W.taken writer.old) (W.taken writer.new)) }
+    ensures whole { OnOk result (IsWholeRun R.allows (R.gives runner.old) (λ jobs. R.ran runner.old jobs runner.new) engine.old.plan engine.old.pool engine.new.trail (W.taken writer.old) (W.taken writer.new)) }
     ensures recap { IfOk result (λ r. r ≡ recap engine.old.plan engine.old.pool engine.new.trail) }
     ensures same { IsSame engine.old engine.new }
     ensures begun { HasBegun R.allows (R.gives runner.old) engine.new }
     ensures cut { OnErr result (IsCut engine.old.plan engine.old.pool engine.new.trail (W.taken writer.old) (W.taken writer.new)) }
+    ensures ran { IfErr result (λ e. IsRanTo (λ jobs. R.ran runner.old jobs runner.new) engine.old.plan engine.old.pool engine.new.trail e) }
     ensures quiet { OnOk result (W.failures writer.new ≡ W.failures writer.old) }
     ensures failed { IfErr result (λ e. e ≡ RunFault.Write → W.failures writer.new ≡ one_more (W.failures writer.old)) }
 {
@@ -267,7 +278,8 @@ fn run_engine<R: Runner, P: Picker, W: LineOut>(
 /// # Errors
 /// `Memory` where memory was refused, and `Write` where a call of the writer failed, each with the events so far, which are
 /// the beginning of such a run. What was written is then a beginning of the output of these events, with the lines of all but
-/// the last whole.
+/// the last whole. What was run is then the jobs of these events' reports, or these and the oldest one that is out, where memory
+/// was refused for its report.
 #[tactic(auto, using(crate::proofs::Cutting::cut_none))]
 pub fn run_plain<R: Runner, P: Picker, W: LineOut>(
     alloc: Global,
@@ -276,10 +288,11 @@ pub fn run_plain<R: Runner, P: Picker, W: LineOut>(
     picker: &mut P,
     writer: &mut W,
 ) -> Result<Ended, (RunFault, Vec<Event>)>
-    ensures run { IfOk result (λ ended. IsWholeRun R.allows (R.gives runner.old) plan 256 ended.trail.items (W.taken writer.old) (W.taken writer.new)) }
+    ensures run { IfOk result (λ ended. IsWholeRun R.allows (R.gives runner.old) (λ jobs. R.ran runner.old jobs runner.new) plan 256 ended.trail.items (W.taken writer.old) (W.taken writer.new)) }
     ensures told { IfOk result (λ ended. IsTold plan 256 ended.trail.items ended.recap ended.status) }
     ensures begun { IfErr result (λ e. IsBegun R.allows (R.gives runner.old) plan 256 e.1.items) }
     ensures cut { IfErr result (λ e. IsCut plan 256 e.1.items (W.taken writer.old) (W.taken writer.new)) }
+    ensures ran { IfErr result (λ e. IsRanTo (λ jobs. R.ran runner.old jobs runner.new) plan 256 e.1.items e.0) }
     ensures quiet { OnOk result (W.failures writer.new ≡ W.failures writer.old) }
     ensures write { IfErr result (λ e. e.0 ≡ RunFault.Write → W.failures writer.new ≡ one_more (W.failures writer.old)) }
 {

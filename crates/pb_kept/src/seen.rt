@@ -2,6 +2,8 @@
 
 use crate::kept::Kept;
 use pb_cli::program::play;
+use pb_runner::local::LocalRunner;
+use pb_runner::system::SystemLauncher;
 use std::alloc::{AllocError, Global};
 use std::fs::Files;
 use std::process::{Processes, SystemProcess};
@@ -32,7 +34,11 @@ pub fn play_words<R: Files + AllocGlobal + Processes<Started = SystemProcess>>(
     mut out: Kept,
 ) -> Seen {
     let mut err = Kept::new(rt.alloc());
-    let status = play(rt, words, &mut out, &mut err);
+    let mut runner = LocalRunner {
+        launcher: SystemLauncher::new(rt),
+        facts: None,
+    };
+    let status = play(rt, words, &mut runner, &mut out, &mut err);
     Seen {
         out: out.into_bytes(),
         err: err.into_bytes(),

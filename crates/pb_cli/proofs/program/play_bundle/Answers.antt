@@ -9,6 +9,7 @@ returns-in-Run-clause-untold g c e h =
       planned = search rules;
       runs = search rules;
       warned = search rules;
-      unwritten = bad.0;
+      unstarted = bad.0.0;
+      unwritten = bad.0.1;
       fault = bad.1;
     }

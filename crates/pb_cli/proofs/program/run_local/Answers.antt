@@ -1,5 +1,8 @@
-use Rattle.pb_cli.proofs.Running.{same_program}
+use Rattle.pb_cli.proofs.Running.{local_run, local_cut}
 use Rattle.pb_cli.proofs.program.run_local.Goals as goal
 
-pub returns : goal.returns
-returns g c = same_program _ _ _ _ _ _ _ c.in_ok-path.ensures c.new-runner.ensures c.run_by.ensures
+pub returns-clause-run : goal.returns-clause-run
+returns-clause-run g c = local_run _ _ _ _ _ _ _ _ c.run_by.ensures.run
+
+pub returns-clause-cut : goal.returns-clause-cut
+returns-clause-cut g c = local_cut _ _ _ _ _ _ _ _ c.run_by.ensures.cut

@@ -4,6 +4,7 @@ use Rattle.pb_outcome.specs.declared.job.Job.{Job}
 use Rattle.pb_outcome.specs.declared.outcome.Form.{Form}
 use Rattle.pb_state.specs.Work.{work}
 use Rattle.pb_driver.specs.Driven.{IsSame, Keeps, HasBegun}
+use Rattle.pb_driver.specs.Ran.{RunsAlong}
 use Rattle.pb_driver.proofs.driver.turn_all.Given as goal
 
 abbrev pub invariant-turns : goal.invariant-turns
@@ -12,6 +13,7 @@ invariant-turns g l = record {
   begun : HasBegun g.R.Allows.allows (g.R.Runner.gives l.fn.runner) l.engine;
   lasting : (job : Job) (outcome : Form) → g.R.Runner.gives l.runner job outcome ↔ g.R.Runner.gives l.fn.runner job outcome;
   keeps : Keeps l.fn.engine l.engine (g.W.LineOut.taken l.fn.writer) (g.W.LineOut.taken l.writer);
+  ran : RunsAlong g.R.Runner.ran l.fn.engine l.engine l.fn.runner l.runner;
   quiet : g.W.LineOut.failures l.writer ≡ g.W.LineOut.failures l.fn.writer;
 }
 
