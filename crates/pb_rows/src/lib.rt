@@ -1,6 +1,6 @@
 //! Tests alone, of what no case shows: writers that fail or take little, files of outcomes that are cut at each byte, the largest
-//! bundles and files of outcomes that are taken with those that are one larger, long chains of roles, the events of runs in their order,
-//! reports that are refused and handed back, and folders of roles as the system has them.
+//! bundles and files of outcomes that are taken with those that are one larger, long chains of roles, the events of runs in their order, by
+//! each strategy and in batches, reports that are refused and handed back, commands, and folders of roles as the system has them.
 #![tactic(auto)]
 
 #[cfg(test)]
@@ -8,7 +8,11 @@ mod bundles;
 #[cfg(test)]
 mod chain;
 #[cfg(test)]
+mod commands;
+#[cfg(test)]
 mod cut;
+#[cfg(test)]
+mod engines;
 #[cfg(test)]
 mod loops;
 #[cfg(test)]
@@ -21,6 +25,10 @@ mod reports;
 mod roles;
 #[cfg(test)]
 mod silent;
+#[cfg(test)]
+mod strategies;
+#[cfg(test)]
+mod told;
 #[cfg(test)]
 mod trails;
 #[cfg(test)]

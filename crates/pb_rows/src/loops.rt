@@ -1,12 +1,12 @@
 //! The jobs of a loop: which items are sent, and under which tickets.
 
 use crate::silent::Silent;
+use crate::told::told;
 use crate::trails::plan_of;
 use pb_driver::run_plain;
 use pb_engine::Lowest;
 use pb_runner::table::TableRunner;
-use pb_state::Event;
-use std::alloc::{AllocError, Global};
+use std::alloc::Global;
 use std::test::Fail;
 
 /// A loop on host a alone, whose second item is skipped.
@@ -16,31 +16,6 @@ const LOOP: &str =
 /// The third item fails.
 const OUTCOMES: &[u8] =
     b"{\"rows\":[{\"item\":2,\"outcome\":{\"err\":\"\",\"out\":\"\",\"rc\":1}}]}";
-
-/// Writes an event's name, with the item and the ticket of its job.
-fn put(text: &mut String, event: &Event) -> Result<(), AllocError> {
-    match event {
-        Event::Open => text.push_str("open "),
-        Event::Start(_) => text.push_str("start "),
-        Event::Send {
-            host: _,
-            item,
-            ticket,
-        } => {
-            let ticket = ticket.0;
-            write!(text, "send {item} as {ticket} ")
-        }
-        Event::Report(report) => {
-            let item = report.item;
-            let ticket = report.ticket.0;
-            write!(text, "report {item} of {ticket} ")
-        }
-        Event::Turn => text.push_str("turn "),
-        Event::Close => text.push_str("close "),
-        Event::Stop => text.push_str("stop "),
-        Event::Forks(_) => text.push_str("forks "),
-    }
-}
 
 fn runner(alloc: Global) -> Result<TableRunner, Fail> {
     match TableRunner::read(alloc, OUTCOMES) {
@@ -57,10 +32,7 @@ fn trail_of(alloc: Global, forks: u32) -> Result<String, Fail> {
         Ok(ended) => ended,
         Err(_) => return Err(Fail::new("an end")),
     };
-    let mut text = String::new(alloc);
-    for event in ended.trail.as_slice() {
-        put(&mut text, event)?;
-    }
+    let text = told(alloc, ended.trail.as_slice())?;
     if ended.status != 0 {
         return Err(Fail::new("a good end"));
     }
@@ -73,7 +45,7 @@ fn skipped_items_are_not_sent(rt: HostRuntime) -> Result<(), Fail> {
         let trail = trail_of(rt.alloc(), forks)?;
         assert_eq!(rt;
             trail.as_str(),
-            "open start send 0 as 0 report 0 of 0 send 2 as 1 report 2 of 1 turn close "
+            "open, start 0, send 0 0 as 0, report 0 0 of 0, send 0 2 as 1, report 0 2 of 1, turn, close, "
         );
     }
     Ok(())

@@ -24,9 +24,14 @@ fn bytes_of(alloc: Global, text: &str) -> Result<Items<u8>, AllocError> {
     Ok(Items::from_vec(text.as_bytes().to_vec(alloc)?))
 }
 
-/// The bundle of a playbook for two hosts.
-fn bundle_of(alloc: Global, playbook: &str, forks: u32) -> Result<Bundle, AllocError> {
-    let inventory = bytes_of(alloc, "{\"all\":{\"hosts\":[\"a\",\"b\"]}}")?;
+/// The bundle of a playbook for the hosts of an inventory.
+fn bundle_of(
+    alloc: Global,
+    inventory: &str,
+    playbook: &str,
+    forks: u32,
+) -> Result<Bundle, AllocError> {
+    let inventory = bytes_of(alloc, inventory)?;
     let playbook = bytes_of(alloc, playbook)?;
     Ok(Bundle {
         inventory,
@@ -43,7 +48,17 @@ fn bundle_of(alloc: Global, playbook: &str, forks: u32) -> Result<Bundle, AllocE
 
 /// The plan of a playbook for two hosts.
 pub fn plan_of(alloc: Global, playbook: &str, forks: u32) -> Result<Plan, Fail> {
-    let bundle = bundle_of(alloc, playbook, forks)?;
+    plan_on(
+        alloc,
+        "{\"all\":{\"hosts\":[\"a\",\"b\"]}}",
+        playbook,
+        forks,
+    )
+}
+
+/// The plan of a playbook for the hosts of an inventory.
+pub fn plan_on(alloc: Global, inventory: &str, playbook: &str, forks: u32) -> Result<Plan, Fail> {
+    let bundle = bundle_of(alloc, inventory, playbook, forks)?;
     match Plan::of(alloc, &bundle) {
         Ok(plan) => Ok(plan),
         Err(_) => Err(Fail::new("a plan")),
