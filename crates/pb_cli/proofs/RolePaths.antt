@@ -1,6 +1,6 @@
 -- Paths of roles' files, and the room for them.
 use Rattle.std.proofs.Common.{◌≡◌, ◌∙◌, ◌≤◌, ◌<◌, ◌+◌, ◌-◌, ℕ, zero, suc, false, List, [], ◌∷◌, ◌++◌, length, map, refl, sym, ap, subst, string_bytes, arith, take, add-one}
-use Rattle.std.specs.Prelude.{All, IsSorted, string_cmp, String, slice_index_or, IsPermutation}
+use Rattle.std.specs.Prelude.{IsSorted, string_cmp, String, slice_index_or, IsPermutation}
 use Rattle.std.specs.Ordering.{is_lt}
 use Rattle.std.proofs.lemmas.List.Elements.{All-append}
 use Rattle.std.proofs.lemmas.List.Sorted.{All-permutation, IsPermutation-map}

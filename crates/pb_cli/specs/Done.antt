@@ -47,15 +47,15 @@ pub record IsUntold (bundle : Bundle) (purpose : Purpose) (outcomes : Option (Li
   pub fault : e ≢ Memory → IsBadTable outcomes e
 
 -- a bundle has a plan, its warnings were written, and it was run, checked or listed
-abbrev pub IsShown : Bundle → Purpose → (facts_program outcomes : Option (List ℕ)) → (started started_after : Option (List Launch)) → Option (List ℕ) → Option (List ℕ) → Option (List ℕ) → Option (List ℕ) → ℕ → ℕ → ℕ → Type 0
-IsShown bundle purpose facts_program outcomes started started_after out_before out_after err_before err_after failures failures_after status =
-    (plan : PlanOf) × IsPlanOf bundle plan × IsGiven purpose plan facts_program outcomes started started_after out_before out_after status × IsWarned plan.warnings err_before err_after failures failures_after
+abbrev pub IsShown : Bundle → Purpose → (stop_after : Option ℕ) → (facts_program outcomes : Option (List ℕ)) → (started started_after : Option (List Launch)) → Option (List ℕ) → Option (List ℕ) → Option (List ℕ) → Option (List ℕ) → ℕ → ℕ → ℕ → Type 0
+IsShown bundle purpose stop_after facts_program outcomes started started_after out_before out_after err_before err_after failures failures_after status =
+    (plan : PlanOf) × IsPlanOf bundle plan × IsGiven purpose plan stop_after facts_program outcomes started started_after out_before out_after status × IsWarned plan.warnings err_before err_after failures failures_after
 
 -- a bundle has a plan, and what it is made for couldn't go on: memory was refused before anything was started or written, or a beginning of it was done
-abbrev pub IsStopped : Bundle → Purpose → (facts_program outcomes : Option (List ℕ)) → RunFault → (started started_after : Option (List Launch)) → Option (List ℕ) → Option (List ℕ) → Type 0
-IsStopped bundle purpose facts_program outcomes fault started started_after out_before out_after =
+abbrev pub IsStopped : Bundle → Purpose → (stop_after : Option ℕ) → (facts_program outcomes : Option (List ℕ)) → RunFault → (started started_after : Option (List Launch)) → Option (List ℕ) → Option (List ℕ) → Type 0
+IsStopped bundle purpose stop_after facts_program outcomes fault started started_after out_before out_after =
     (plan : PlanOf) × IsPlanOf bundle plan
-    × (((fault ≡ NoMemory) × (started_after ≡ started) × (out_after ≡ out_before)) ⊎ IsGivenTo purpose plan facts_program outcomes started started_after fault out_before out_after)
+    × (((fault ≡ NoMemory) × (started_after ≡ started) × (out_after ≡ out_before)) ⊎ IsGivenTo purpose plan stop_after facts_program outcomes started started_after fault out_before out_after)
 
 -- what a request asks for was done, with a bundle of it, with its facts program, and with outcomes where it names a file of them
 pub record IsDone (request : Request) (started started_after : Option (List Launch)) (out_before out_after err_before err_after : Option (List ℕ)) (failures failures_after : ℕ) (status : ℕ) : Type 0 where
@@ -64,16 +64,16 @@ pub record IsDone (request : Request) (started started_after : Option (List Laun
   pub asked : IsBundleOf request bundle
   pub named : is_some outcomes ≡ is_some request.outcomes
   pub short : is_too_long outcomes ≡ false
-  pub shown : IsShown bundle request.purpose request.facts_program outcomes started started_after out_before out_after err_before err_after failures failures_after status
+  pub shown : IsShown bundle request.purpose request.stop_after request.facts_program outcomes started started_after out_before out_after err_before err_after failures failures_after status
 
 -- nothing was started, and nothing written on standard output
 abbrev pub IsUntouched : (started started_after : Option (List Launch)) → (out_before out_after : Option (List ℕ)) → Type 0
 IsUntouched started started_after out_before out_after = (started_after ≡ started) × (out_after ≡ out_before)
 
 -- what a bundle is for couldn't go on, where memory was refused, or standard output took no more
-abbrev pub IsCutShort : Bundle → Purpose → (facts_program outcomes : Option (List ℕ)) → (started started_after : Option (List Launch)) → (out_before out_after : Option (List ℕ)) → (out_failures out_failures_after : ℕ) → Type 0
-IsCutShort bundle purpose facts_program outcomes started started_after out_before out_after out_failures out_failures_after =
-    (fault : RunFault) × IsStopped bundle purpose facts_program outcomes fault started started_after out_before out_after × (fault ≡ Write → out_failures_after ≡ one_more out_failures)
+abbrev pub IsCutShort : Bundle → Purpose → (stop_after : Option ℕ) → (facts_program outcomes : Option (List ℕ)) → (started started_after : Option (List Launch)) → (out_before out_after : Option (List ℕ)) → (out_failures out_failures_after : ℕ) → Type 0
+IsCutShort bundle purpose stop_after facts_program outcomes started started_after out_before out_after out_failures out_failures_after =
+    (fault : RunFault) × IsStopped bundle purpose stop_after facts_program outcomes fault started started_after out_before out_after × (fault ≡ Write → out_failures_after ≡ one_more out_failures)
 
 -- the same of what a request asks for
 pub record IsBroken (request : Request) (started started_after : Option (List Launch)) (out_before out_after : Option (List ℕ)) (out_failures out_failures_after : ℕ) : Type 0 where
@@ -82,7 +82,7 @@ pub record IsBroken (request : Request) (started started_after : Option (List La
   pub asked : IsBundleOf request bundle
   pub named : is_some outcomes ≡ is_some request.outcomes
   pub short : is_too_long outcomes ≡ false
-  pub cut : IsCutShort bundle request.purpose request.facts_program outcomes started started_after out_before out_after out_failures out_failures_after
+  pub cut : IsCutShort bundle request.purpose request.stop_after request.facts_program outcomes started started_after out_before out_after out_failures out_failures_after
 
 -- a call for help is among what the words are refused for, and a text was put out; the clause doesn't say which text
 abbrev pub IsHelped : List (List ℕ) → Option (List ℕ) → Option (List ℕ) → ℕ → Type 0

@@ -1,5 +1,5 @@
 -- What playing a bundle means.
-use Rattle.std.specs.Prelude.{◌≡◌, ◌⊎◌, ⊤, ℕ, List, Option, Some, None, Ok, Err, codes}
+use Rattle.std.specs.Prelude.{◌≡◌, ⊤, ℕ, List, [], ◌∷◌, Option, Some, None, Ok, Err, codes}
 use Rattle.pb_outcome.specs.declared.job.Job.{Job}
 use Rattle.pb_outcome.specs.declared.outcome.Form.{Form}
 use Rattle.pb_runner.specs.declared.fault.TableFault.{TableFault}
@@ -13,7 +13,9 @@ use Rattle.pb_state.specs.declared.event.Event.{Event}
 use Rattle.pb_plan.specs.Plan.{PlanOf}
 use Rattle.pb_recap.specs.Recap.{recap}
 use Rattle.pb_recap.specs.Kinds.{status_of}
+use Rattle.pb_engine.specs.declared.command.Command.TheVariants.{Stop}
 use Rattle.pb_driver.specs.declared.driver.RunFault.{RunFault}
+use Rattle.pb_driver.specs.declared.given.Given.{Given}
 use Rattle.pb_driver.specs.Cut.{IsPart, IsCut}
 use Rattle.pb_driver.specs.Driven.{IsBegun, IsWholeRun}
 use Rattle.pb_driver.specs.Ran.{IsRanTo}
@@ -26,17 +28,22 @@ use Rattle.pb_cli.specs.Listing.{listing}
 abbrev pub allows_all : Job → Form → Type 0
 allows_all job outcome = ⊤
 
--- what was written is the output of one whole run of the plan, legal and eager, in which each job that was out is answered with an outcome
--- that may come of it, exactly these jobs were run, and the status is that of its recap
-pub record IsRunBy (allows gives : Job → Form → Type 0) (has_run : List (Job × Form) → Type 0) (plan : PlanOf) (before after : Option (List ℕ)) (status : ℕ) : Type 0 where
+-- what a run is told: to stop behind so many reports, or nothing
+abbrev pub commands_for : (stop_after : Option ℕ) → List Given
+commands_for None = []
+commands_for (Some reports) = record { after = reports; command = Stop } ∷ []
+
+-- what was written is the output of one whole run of the plan, legal and eager, that was given these commands, in which each job that was out is answered with an
+-- outcome that may come of it, exactly these jobs were run, and the status is that of its recap
+pub record IsRunBy (allows gives : Job → Form → Type 0) (has_run : List (Job × Form) → Type 0) (plan : PlanOf) (commands : List Given) (before after : Option (List ℕ)) (status : ℕ) : Type 0 where
   pub trail : List Event
-  pub run : IsWholeRun allows gives has_run plan 256 trail before after
+  pub run : IsWholeRun allows gives has_run plan 256 commands trail before after
   pub told : status ≡ status_of (recap plan 256 trail)
 
 -- what was written is a beginning of such an output, whose run couldn't go on, and what was run is what its events say
-pub record IsCutBy (allows gives : Job → Form → Type 0) (has_run : List (Job × Form) → Type 0) (plan : PlanOf) (fault : RunFault) (before after : Option (List ℕ)) : Type 0 where
+pub record IsCutBy (allows gives : Job → Form → Type 0) (has_run : List (Job × Form) → Type 0) (plan : PlanOf) (commands : List Given) (fault : RunFault) (before after : Option (List ℕ)) : Type 0 where
   pub trail : List Event
-  pub begun : IsBegun allows gives plan 256 trail
+  pub begun : IsBegun allows gives plan 256 commands trail
   pub ran : IsRanTo has_run plan 256 trail fault
   pub cut : IsCut plan 256 trail before after
 
@@ -45,33 +52,35 @@ abbrev pub started_for : Option (List ℕ) → Option (List Launch) → Option (
 started_for facts_program started started_after jobs = HasStarted facts_program started jobs started_after
 
 -- the programs of a plan's jobs were started, by a runner with this facts program or none
-abbrev pub IsLocalRun : PlanOf → (facts_program : Option (List ℕ)) → (started started_after : Option (List Launch)) → Option (List ℕ) → Option (List ℕ) → ℕ → Type 0
-IsLocalRun plan facts_program started started_after before after status = IsRunBy LocalAllows (LocalGives facts_program) (started_for facts_program started started_after) plan before after status
+abbrev pub IsLocalRun : PlanOf → (stop_after : Option ℕ) → (facts_program : Option (List ℕ)) → (started started_after : Option (List Launch)) → Option (List ℕ) → Option (List ℕ) → ℕ → Type 0
+IsLocalRun plan stop_after facts_program started started_after before after status =
+    IsRunBy LocalAllows (LocalGives facts_program) (started_for facts_program started started_after) plan (commands_for stop_after) before after status
 
-abbrev pub IsLocalCut : PlanOf → (facts_program : Option (List ℕ)) → (started started_after : Option (List Launch)) → RunFault → Option (List ℕ) → Option (List ℕ) → Type 0
-IsLocalCut plan facts_program started started_after fault before after = IsCutBy LocalAllows (LocalGives facts_program) (started_for facts_program started started_after) plan fault before after
+abbrev pub IsLocalCut : PlanOf → (stop_after : Option ℕ) → (facts_program : Option (List ℕ)) → (started started_after : Option (List Launch)) → RunFault → Option (List ℕ) → Option (List ℕ) → Type 0
+IsLocalCut plan stop_after facts_program started started_after fault before after =
+    IsCutBy LocalAllows (LocalGives facts_program) (started_for facts_program started started_after) plan (commands_for stop_after) fault before after
 
 -- the bytes of a file of outcomes have a table, and the run's reports have the table's outcomes
-pub record IsTabled (bytes : List ℕ) (plan : PlanOf) (before after : Option (List ℕ)) (status : ℕ) : Type 0 where
+pub record IsTabled (bytes : List ℕ) (plan : PlanOf) (stop_after : Option ℕ) (before after : Option (List ℕ)) (status : ℕ) : Type 0 where
   pub table : Table
   pub tabled : table_of bytes ≡ Ok table
-  pub run : IsRunBy allows_all (TableGives table) (AllGiven table) plan before after status
+  pub run : IsRunBy allows_all (TableGives table) (AllGiven table) plan (commands_for stop_after) before after status
 
-pub record IsTabledCut (bytes : List ℕ) (plan : PlanOf) (fault : RunFault) (before after : Option (List ℕ)) : Type 0 where
+pub record IsTabledCut (bytes : List ℕ) (plan : PlanOf) (stop_after : Option ℕ) (fault : RunFault) (before after : Option (List ℕ)) : Type 0 where
   pub table : Table
   pub tabled : table_of bytes ≡ Ok table
-  pub cut : IsCutBy allows_all (TableGives table) (AllGiven table) plan fault before after
+  pub cut : IsCutBy allows_all (TableGives table) (AllGiven table) plan (commands_for stop_after) fault before after
 
--- a run of a plan: without a file of outcomes the programs of its jobs are started, by a runner with this facts program or none, and with one nothing is started
+-- a run of a plan, stopped behind so many reports where that is asked for: without a file of outcomes the programs of its jobs are started, by a runner with this facts program or none, and with one nothing is started
 -- but what the file says comes of each job
-abbrev pub IsPlayed : PlanOf → (facts_program outcomes : Option (List ℕ)) → (started started_after : Option (List Launch)) → Option (List ℕ) → Option (List ℕ) → ℕ → Type 0
-IsPlayed plan facts_program None started started_after before after status = IsLocalRun plan facts_program started started_after before after status
-IsPlayed plan facts_program (Some bytes) started started_after before after status = (started_after ≡ started) × IsTabled bytes plan before after status
+abbrev pub IsPlayed : PlanOf → (stop_after : Option ℕ) → (facts_program outcomes : Option (List ℕ)) → (started started_after : Option (List Launch)) → Option (List ℕ) → Option (List ℕ) → ℕ → Type 0
+IsPlayed plan stop_after facts_program None started started_after before after status = IsLocalRun plan stop_after facts_program started started_after before after status
+IsPlayed plan stop_after facts_program (Some bytes) started started_after before after status = (started_after ≡ started) × IsTabled bytes plan stop_after before after status
 
 -- such a run that couldn't go on
-abbrev pub IsPlayedTo : PlanOf → (facts_program outcomes : Option (List ℕ)) → (started started_after : Option (List Launch)) → RunFault → Option (List ℕ) → Option (List ℕ) → Type 0
-IsPlayedTo plan facts_program None started started_after fault before after = IsLocalCut plan facts_program started started_after fault before after
-IsPlayedTo plan facts_program (Some bytes) started started_after fault before after = (started_after ≡ started) × IsTabledCut bytes plan fault before after
+abbrev pub IsPlayedTo : PlanOf → (stop_after : Option ℕ) → (facts_program outcomes : Option (List ℕ)) → (started started_after : Option (List Launch)) → RunFault → Option (List ℕ) → Option (List ℕ) → Type 0
+IsPlayedTo plan stop_after facts_program None started started_after fault before after = IsLocalCut plan stop_after facts_program started started_after fault before after
+IsPlayedTo plan stop_after facts_program (Some bytes) started started_after fault before after = (started_after ≡ started) × IsTabledCut bytes plan stop_after fault before after
 
 -- a file of outcomes has this first fault
 unfoldable pub IsBadTable : Option (List ℕ) → TableFault → Type 0
@@ -79,13 +88,13 @@ IsBadTable None e = ⊥
 IsBadTable (Some bytes) e = table_of bytes ≡ Err e
 
 -- what a plan is made for: its run, to tell that it can be made, or the list of its hosts; only a run starts programs
-abbrev pub IsGiven : Purpose → PlanOf → (facts_program outcomes : Option (List ℕ)) → (started started_after : Option (List Launch)) → Option (List ℕ) → Option (List ℕ) → ℕ → Type 0
-IsGiven Run plan facts_program outcomes started started_after before after status = IsPlayed plan facts_program outcomes started started_after before after status
-IsGiven CheckSyntax plan facts_program outcomes started started_after before after status = (started_after ≡ started) × (after ≡ with_more before (codes "ok\n")) × (status ≡ 0)
-IsGiven ListHosts plan facts_program outcomes started started_after before after status = (started_after ≡ started) × (after ≡ with_more before (listing plan)) × (status ≡ 0)
+abbrev pub IsGiven : Purpose → PlanOf → (stop_after : Option ℕ) → (facts_program outcomes : Option (List ℕ)) → (started started_after : Option (List Launch)) → Option (List ℕ) → Option (List ℕ) → ℕ → Type 0
+IsGiven Run plan stop_after facts_program outcomes started started_after before after status = IsPlayed plan stop_after facts_program outcomes started started_after before after status
+IsGiven CheckSyntax plan stop_after facts_program outcomes started started_after before after status = (started_after ≡ started) × (after ≡ with_more before (codes "ok\n")) × (status ≡ 0)
+IsGiven ListHosts plan stop_after facts_program outcomes started started_after before after status = (started_after ≡ started) × (after ≡ with_more before (listing plan)) × (status ≡ 0)
 
 -- the same where it couldn't go on: a beginning of it
-abbrev pub IsGivenTo : Purpose → PlanOf → (facts_program outcomes : Option (List ℕ)) → (started started_after : Option (List Launch)) → RunFault → Option (List ℕ) → Option (List ℕ) → Type 0
-IsGivenTo Run plan facts_program outcomes started started_after fault before after = IsPlayedTo plan facts_program outcomes started started_after fault before after
-IsGivenTo CheckSyntax plan facts_program outcomes started started_after fault before after = (started_after ≡ started) × IsPart before after (codes "ok\n")
-IsGivenTo ListHosts plan facts_program outcomes started started_after fault before after = (started_after ≡ started) × IsPart before after (listing plan)
+abbrev pub IsGivenTo : Purpose → PlanOf → (stop_after : Option ℕ) → (facts_program outcomes : Option (List ℕ)) → (started started_after : Option (List Launch)) → RunFault → Option (List ℕ) → Option (List ℕ) → Type 0
+IsGivenTo Run plan stop_after facts_program outcomes started started_after fault before after = IsPlayedTo plan stop_after facts_program outcomes started started_after fault before after
+IsGivenTo CheckSyntax plan stop_after facts_program outcomes started started_after fault before after = (started_after ≡ started) × IsPart before after (codes "ok\n")
+IsGivenTo ListHosts plan stop_after facts_program outcomes started started_after fault before after = (started_after ≡ started) × IsPart before after (listing plan)

@@ -9,7 +9,7 @@ ghost use Rattle.pb_driver.specs.Taken.{with_more, one_more};
 ghost use Rattle.pb_cli.specs.Done.{IsBundleOf, is_too_long, IsUntold, IsShown, IsStopped, IsDone, IsUntouched, IsCutShort, IsBroken, IsHelped, IsAnswered, IsUnended};
 ghost use Rattle.pb_cli.specs.Listing.{listing};
 ghost use Rattle.pb_cli.specs.RoleFiles.{AreRolesIn};
-ghost use Rattle.pb_cli.specs.Played.{IsBadTable, IsRunBy, IsCutBy, IsLocalRun, IsLocalCut, IsTabled, IsTabledCut, IsPlayed, IsPlayedTo, IsGiven};
+ghost use Rattle.pb_cli.specs.Played.{commands_for, IsBadTable, IsRunBy, IsCutBy, IsLocalRun, IsLocalCut, IsTabled, IsTabledCut, IsPlayed, IsPlayedTo, IsGiven};
 ghost use Rattle.pb_runner.specs.Reading.{table_of};
 ghost use Rattle.pb_cli.specs.Warned.{ended, warning_text, IsWarned};
 
@@ -18,8 +18,8 @@ use crate::listing::listing;
 use crate::messages::{Part, message};
 use crate::role_files::read_role_files;
 use pb_command_line::words::{Purpose, Request, WordsFault, read_words};
-use pb_driver::{LineOut, RunFault, put_all, run_plain};
-use pb_engine::Lowest;
+use pb_driver::{Given, LineOut, RunFault, put_all, run_plain};
+use pb_engine::{Command, Lowest};
 use pb_roles::RoleFiles;
 use pb_runner::fault::TableFault;
 use pb_runner::launcher::Launcher;
@@ -45,20 +45,42 @@ pub enum PlayFault {
     Run(RunFault),
 }
 
-/// Runs a plan by this runner, with its lines on a writer.
-fn run_by<N: Runner, O: LineOut>(
+/// Runs a plan by this runner, with these commands, and with its lines on a writer.
+fn run_given<N: Runner, O: LineOut>(
     alloc: Global,
     plan: Plan,
+    commands: &[Given],
     runner: &mut N,
     out: &mut O,
 ) -> Result<u8, RunFault>
-    ensures run { IfOk result (IsRunBy N.allows (N.gives runner.old) (λ jobs. N.ran runner.old jobs runner.new) plan (O.taken out.old) (O.taken out.new)) }
-    ensures cut { IfErr result (λ fault. IsCutBy N.allows (N.gives runner.old) (λ jobs. N.ran runner.old jobs runner.new) plan fault (O.taken out.old) (O.taken out.new)) }
+    ensures run { IfOk result (IsRunBy N.allows (N.gives runner.old) (λ jobs. N.ran runner.old jobs runner.new) plan commands.now (O.taken out.old) (O.taken out.new)) }
+    ensures cut { IfErr result (λ fault. IsCutBy N.allows (N.gives runner.old) (λ jobs. N.ran runner.old jobs runner.new) plan commands.now fault (O.taken out.old) (O.taken out.new)) }
     ensures write { IfErr result (λ fault. fault ≡ RunFault.Write → O.failures out.new ≡ one_more (O.failures out.old)) }
 {
-    match run_plain(alloc, plan, runner, &mut Lowest, out) {
+    match run_plain(alloc, plan, runner, &mut Lowest, commands, out) {
         Ok(ended) => Ok(ended.status),
         Err((fault, _)) => Err(fault),
+    }
+}
+
+/// Runs a plan by this runner, with its lines on a writer, and stops it behind so many reports, if that is asked for.
+fn run_by<N: Runner, O: LineOut>(
+    alloc: Global,
+    plan: Plan,
+    stop_after: Option<u32>,
+    runner: &mut N,
+    out: &mut O,
+) -> Result<u8, RunFault>
+    ensures run { IfOk result (IsRunBy N.allows (N.gives runner.old) (λ jobs. N.ran runner.old jobs runner.new) plan (commands_for stop_after) (O.taken out.old) (O.taken out.new)) }
+    ensures cut { IfErr result (λ fault. IsCutBy N.allows (N.gives runner.old) (λ jobs. N.ran runner.old jobs runner.new) plan (commands_for stop_after) fault (O.taken out.old) (O.taken out.new)) }
+    ensures write { IfErr result (λ fault. fault ≡ RunFault.Write → O.failures out.new ≡ one_more (O.failures out.old)) }
+{
+    match stop_after {
+        Some(after) => {
+            let command = Command::Stop;
+            run_given(alloc, plan, &[Given { after, command }], runner, out)
+        }
+        None => run_given(alloc, plan, &[], runner, out),
     }
 }
 
@@ -66,11 +88,12 @@ fn run_by<N: Runner, O: LineOut>(
 fn run_tabled<O: LineOut>(
     alloc: Global,
     plan: Plan,
+    stop_after: Option<u32>,
     bytes: &[u8],
     out: &mut O,
 ) -> Result<u8, PlayFault>
-    ensures run { IfOk result (IsTabled bytes.now plan (O.taken out.old) (O.taken out.new)) }
-    ensures cut { (fault : RunFault) → result ≡ Err (PlayFault.Run fault) → IsTabledCut bytes.now plan fault (O.taken out.old) (O.taken out.new) }
+    ensures run { IfOk result (IsTabled bytes.now plan stop_after (O.taken out.old) (O.taken out.new)) }
+    ensures cut { (fault : RunFault) → result ≡ Err (PlayFault.Run fault) → IsTabledCut bytes.now plan stop_after fault (O.taken out.old) (O.taken out.new) }
     ensures write { result ≡ Err (PlayFault.Run RunFault.Write) → O.failures out.new ≡ one_more (O.failures out.old) }
     ensures planned { (e : BundleFault) → result ≢ Err (PlayFault.Bundle e) }
     ensures untold { (e : TableFault) → result ≡ Err (PlayFault.Outcomes e) → (O.taken out.new ≡ O.taken out.old) × (e ≢ TableFault.Memory → table_of bytes.now ≡ Err e) }
@@ -79,7 +102,7 @@ fn run_tabled<O: LineOut>(
         Ok(runner) => runner,
         Err(fault) => return Err(PlayFault::Outcomes(fault)),
     };
-    match run_by(alloc, plan, &mut runner, out) {
+    match run_by(alloc, plan, stop_after, &mut runner, out) {
         Ok(status) => Ok(status),
         Err(fault) => Err(PlayFault::Run(fault)),
     }
@@ -89,14 +112,15 @@ fn run_tabled<O: LineOut>(
 fn run_local<L: Launcher, O: LineOut>(
     alloc: Global,
     plan: Plan,
+    stop_after: Option<u32>,
     runner: &mut LocalRunner<L>,
     out: &mut O,
 ) -> Result<u8, RunFault>
-    ensures run { IfOk result (IsLocalRun plan runner.old.facts (L.launched runner.old.launcher) (L.launched runner.new.launcher) (O.taken out.old) (O.taken out.new)) }
-    ensures cut { IfErr result (λ fault. IsLocalCut plan runner.old.facts (L.launched runner.old.launcher) (L.launched runner.new.launcher) fault (O.taken out.old) (O.taken out.new)) }
+    ensures run { IfOk result (IsLocalRun plan stop_after runner.old.facts (L.launched runner.old.launcher) (L.launched runner.new.launcher) (O.taken out.old) (O.taken out.new)) }
+    ensures cut { IfErr result (λ fault. IsLocalCut plan stop_after runner.old.facts (L.launched runner.old.launcher) (L.launched runner.new.launcher) fault (O.taken out.old) (O.taken out.new)) }
     ensures write { IfErr result (λ fault. fault ≡ RunFault.Write → O.failures out.new ≡ one_more (O.failures out.old)) }
 {
-    run_by(alloc, plan, runner, out)
+    run_by(alloc, plan, stop_after, runner, out)
 }
 
 /// Runs a plan, with its lines on a writer: the jobs' programs are started, or none where there are bytes of a file of outcomes,
@@ -105,20 +129,21 @@ fn run_local<L: Launcher, O: LineOut>(
 fn run_plan<L: Launcher, O: LineOut>(
     alloc: Global,
     plan: Plan,
+    stop_after: Option<u32>,
     outcomes: &Option<Items<u8>>,
     runner: &mut LocalRunner<L>,
     out: &mut O,
 ) -> Result<u8, PlayFault>
-    ensures played { IfOk result (IsPlayed plan runner.old.facts outcomes.now (L.launched runner.old.launcher) (L.launched runner.new.launcher) (O.taken out.old) (O.taken out.new)) }
-    ensures stopped { (fault : RunFault) → result ≡ Err (PlayFault.Run fault) → IsPlayedTo plan runner.old.facts outcomes.now (L.launched runner.old.launcher) (L.launched runner.new.launcher) fault (O.taken out.old) (O.taken out.new) }
+    ensures played { IfOk result (IsPlayed plan stop_after runner.old.facts outcomes.now (L.launched runner.old.launcher) (L.launched runner.new.launcher) (O.taken out.old) (O.taken out.new)) }
+    ensures stopped { (fault : RunFault) → result ≡ Err (PlayFault.Run fault) → IsPlayedTo plan stop_after runner.old.facts outcomes.now (L.launched runner.old.launcher) (L.launched runner.new.launcher) fault (O.taken out.old) (O.taken out.new) }
     ensures write { result ≡ Err (PlayFault.Run RunFault.Write) → O.failures out.new ≡ one_more (O.failures out.old) }
     ensures planned { (e : BundleFault) → result ≢ Err (PlayFault.Bundle e) }
     ensures untold { (e : TableFault) → result ≡ Err (PlayFault.Outcomes e) → IsUntouched (L.launched runner.old.launcher) (L.launched runner.new.launcher) (O.taken out.old) (O.taken out.new) × (e ≢ TableFault.Memory → IsBadTable outcomes.now e) }
 {
     if let Some(bytes) = outcomes {
-        return run_tabled(alloc, plan, bytes.as_slice(), out);
+        return run_tabled(alloc, plan, stop_after, bytes.as_slice(), out);
     }
-    match run_local(alloc, plan, runner, out) {
+    match run_local(alloc, plan, stop_after, runner, out) {
         Ok(status) => Ok(status),
         Err(fault) => Err(PlayFault::Run(fault)),
     }
@@ -178,8 +203,8 @@ fn push_line(text: &mut String, line: &Text) -> Result<(), AllocError>
     Ok(())
 }
 
-/// Makes the plan of a bundle and does with it what it is made for, on a writer, and answers the exit status: it is run, its
-/// hosts are listed, or nothing but `ok` is written. Warnings of the plan are written before that, on a writer of their own.
+/// Makes the plan of a bundle and does with it what it is made for, on a writer, and answers the exit status: it is run, and
+/// stopped behind so many reports, if that is asked for, its hosts are listed, or nothing but `ok` is written. Warnings of the plan are written before that, on a writer of their own.
 /// Without outcomes the runner has each job's program started, the oldest job first and one at a time, and its facts program where
 /// facts are gathered; with them nothing is started, and they say what comes of each job. That facts are gathered by a program at
 /// all is the bundle's to say, which says so exactly where the runner has such a program.
@@ -193,16 +218,17 @@ pub fn play_bundle<L: Launcher, O: LineOut, E: LineOut>(
     alloc: Global,
     bundle: &Bundle,
     purpose: Purpose,
+    stop_after: Option<u32>,
     outcomes: &Option<Items<u8>>,
     runner: &mut LocalRunner<L>,
     out: &mut O,
     err: &mut E,
 ) -> Result<u8, PlayFault>
     requires { bundle.now.has_facts_program ≡ is_some runner.old.facts }
-    ensures answered { IfOk result (IsShown bundle.now purpose runner.old.facts outcomes.now (L.launched runner.old.launcher) (L.launched runner.new.launcher) (O.taken out.old) (O.taken out.new) (E.taken err.old) (E.taken err.new) (E.failures err.old) (E.failures err.new)) }
+    ensures answered { IfOk result (IsShown bundle.now purpose stop_after runner.old.facts outcomes.now (L.launched runner.old.launcher) (L.launched runner.new.launcher) (O.taken out.old) (O.taken out.new) (E.taken err.old) (E.taken err.new) (E.failures err.old) (E.failures err.new)) }
     ensures refused { (e : BundleFault) → result ≡ Err (PlayFault.Bundle e) → IsUntouched (L.launched runner.old.launcher) (L.launched runner.new.launcher) (O.taken out.old) (O.taken out.new) × (e ≢ BundleFault.Memory → IsBundleFault bundle.now e) }
     ensures untold { (e : TableFault) → result ≡ Err (PlayFault.Outcomes e) → IsUntold bundle.now purpose outcomes.now e (L.launched runner.old.launcher) (L.launched runner.new.launcher) (O.taken out.old) (O.taken out.new) (E.taken err.old) (E.taken err.new) (E.failures err.old) (E.failures err.new) }
-    ensures stopped { (fault : RunFault) → result ≡ Err (PlayFault.Run fault) → IsStopped bundle.now purpose runner.old.facts outcomes.now fault (L.launched runner.old.launcher) (L.launched runner.new.launcher) (O.taken out.old) (O.taken out.new) }
+    ensures stopped { (fault : RunFault) → result ≡ Err (PlayFault.Run fault) → IsStopped bundle.now purpose stop_after runner.old.facts outcomes.now fault (L.launched runner.old.launcher) (L.launched runner.new.launcher) (O.taken out.old) (O.taken out.new) }
     ensures write { result ≡ Err (PlayFault.Run RunFault.Write) → O.failures out.new ≡ one_more (O.failures out.old) }
 {
     let plan = match Plan::of(alloc, bundle) {
@@ -215,7 +241,7 @@ pub fn play_bundle<L: Launcher, O: LineOut, E: LineOut>(
     match purpose {
         Purpose::CheckSyntax => show(out, "ok\n"),
         Purpose::ListHosts => show_hosts(alloc, &plan, out),
-        Purpose::Run => run_plan(alloc, plan, outcomes, runner, out),
+        Purpose::Run => run_plan(alloc, plan, stop_after, outcomes, runner, out),
     }
 }
 
@@ -257,6 +283,7 @@ struct Asked {
     bundle: Bundle,
     facts_program: Option<Text>,
     outcomes: Option<Items<u8>>,
+    stop_after: Option<u32>,
     purpose: Purpose,
 }
 
@@ -267,6 +294,7 @@ impl Drop for Asked {
             bundle,
             facts_program,
             outcomes,
+            stop_after: _,
             purpose: _,
         } = self;
         drop(bundle);
@@ -312,9 +340,9 @@ fn play_asked<L: Launcher, O: LineOut, E: LineOut>(
     err: &mut E,
 ) -> u8
     requires { asked.now.bundle.has_facts_program ≡ is_some asked.now.facts_program }
-    ensures done { result ≢ 1 → IsShown asked.now.bundle asked.now.purpose asked.now.facts_program asked.now.outcomes (L.launched runner.old.launcher) (L.launched runner.new.launcher) (O.taken out.old) (O.taken out.new) (E.taken err.old) (E.taken err.new) (E.failures err.old) (E.failures err.new) result }
+    ensures done { result ≢ 1 → IsShown asked.now.bundle asked.now.purpose asked.now.stop_after asked.now.facts_program asked.now.outcomes (L.launched runner.old.launcher) (L.launched runner.new.launcher) (O.taken out.old) (O.taken out.new) (E.taken err.old) (E.taken err.new) (E.failures err.old) (E.failures err.new) result }
     ensures fault { result ≡ 1 → IsUntouched (L.launched runner.old.launcher) (L.launched runner.new.launcher) (O.taken out.old) (O.taken out.new)
-        ⊎ IsCutShort asked.now.bundle asked.now.purpose asked.now.facts_program asked.now.outcomes (L.launched runner.old.launcher) (L.launched runner.new.launcher) (O.taken out.old) (O.taken out.new) (O.failures out.old) (O.failures out.new) }
+        ⊎ IsCutShort asked.now.bundle asked.now.purpose asked.now.stop_after asked.now.facts_program asked.now.outcomes (L.launched runner.old.launcher) (L.launched runner.new.launcher) (O.taken out.old) (O.taken out.new) (O.failures out.old) (O.failures out.new) }
 {
     let Ok(path) = path_in(&asked.facts_program) else {
         return told(alloc, err, Part::Run, &RunFault::Memory);
@@ -333,17 +361,27 @@ fn play_by<L: Launcher, O: LineOut, E: LineOut>(
     err: &mut E,
 ) -> u8
     requires { asked.now.bundle.has_facts_program ≡ is_some runner.old.facts }
-    ensures done { result ≢ 1 → IsShown asked.now.bundle asked.now.purpose runner.old.facts asked.now.outcomes (L.launched runner.old.launcher) (L.launched runner.new.launcher) (O.taken out.old) (O.taken out.new) (E.taken err.old) (E.taken err.new) (E.failures err.old) (E.failures err.new) result }
+    ensures done { result ≢ 1 → IsShown asked.now.bundle asked.now.purpose asked.now.stop_after runner.old.facts asked.now.outcomes (L.launched runner.old.launcher) (L.launched runner.new.launcher) (O.taken out.old) (O.taken out.new) (E.taken err.old) (E.taken err.new) (E.failures err.old) (E.failures err.new) result }
     ensures fault { result ≡ 1 → IsUntouched (L.launched runner.old.launcher) (L.launched runner.new.launcher) (O.taken out.old) (O.taken out.new)
-        ⊎ IsCutShort asked.now.bundle asked.now.purpose runner.old.facts asked.now.outcomes (L.launched runner.old.launcher) (L.launched runner.new.launcher) (O.taken out.old) (O.taken out.new) (O.failures out.old) (O.failures out.new) }
+        ⊎ IsCutShort asked.now.bundle asked.now.purpose asked.now.stop_after runner.old.facts asked.now.outcomes (L.launched runner.old.launcher) (L.launched runner.new.launcher) (O.taken out.old) (O.taken out.new) (O.failures out.old) (O.failures out.new) }
 {
     let Asked {
         bundle,
         facts_program: _,
         outcomes,
+        stop_after,
         purpose,
     } = asked;
-    match play_bundle(alloc, bundle, *purpose, outcomes, runner, out, err) {
+    match play_bundle(
+        alloc,
+        bundle,
+        *purpose,
+        *stop_after,
+        outcomes,
+        runner,
+        out,
+        err,
+    ) {
         Ok(status) => status,
         Err(PlayFault::Run(fault)) => told(alloc, err, Part::Run, &fault),
         Err(PlayFault::Outcomes(fault)) => told(alloc, err, Part::Outcomes, &fault),
@@ -366,6 +404,7 @@ fn read_files<R: Files + AllocGlobal>(rt: &R, request: Request) -> io::Result<As
     ensures bundle { IfOk result (λ asked. IsBundleOf request asked.bundle) }
     ensures facts { IfOk result (λ asked. asked.facts_program ≡ request.facts_program) }
     ensures outcomes { IfOk result (λ asked. is_some asked.outcomes ≡ is_some request.outcomes) }
+    ensures stop { IfOk result (λ asked. asked.stop_after ≡ request.stop_after) }
     ensures purpose { IfOk result (λ asked. asked.purpose ≡ request.purpose) }
 {
     let Request {
@@ -377,6 +416,7 @@ fn read_files<R: Files + AllocGlobal>(rt: &R, request: Request) -> io::Result<As
         extra,
         roles,
         facts_program,
+        stop_after,
         purpose,
     } = request;
     let inventory = read_file(rt, inventory.as_str(), MAX_BYTES)?;
@@ -398,6 +438,7 @@ fn read_files<R: Files + AllocGlobal>(rt: &R, request: Request) -> io::Result<As
         bundle,
         facts_program,
         outcomes,
+        stop_after,
         purpose,
     })
 }

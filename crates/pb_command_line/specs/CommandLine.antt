@@ -1,4 +1,4 @@
--- What the words of the command line mean: `pb-play -i FILE [-f N] [-l PATTERN] [-e JSON] [--roles DIR] [--facts-program PATH] [--outcomes FILE] [--syntax-check] [--list-hosts]
+-- What the words of the command line mean: `pb-play -i FILE [-f N] [-l PATTERN] [-e JSON] [--roles DIR] [--facts-program PATH] [--outcomes FILE] [--stop-after N] [--syntax-check] [--list-hosts]
 -- PLAYBOOK`, and `--help`.
 -- clap's own definitions say how words are read; the program's arguments are stated here. std's say how a number is read.
 use Rattle.std.specs.Prelude.{◌≡◌, ◌≢◌, ◌⊎◌, ◌≤◌, ℕ, Bool, true, false, List, [], Some, None, Option, codes}
@@ -46,6 +46,10 @@ roles = record (new_rule (codes "roles")) { long = Some (codes "roles"); value_n
 abbrev pub facts_program : Rule
 facts_program = record (new_rule (codes "facts_program")) { long = Some (codes "facts-program"); value_names = 1 }
 
+-- `--stop-after N`
+abbrev pub stop_after : Rule
+stop_after = record (new_rule (codes "stop_after")) { long = Some (codes "stop-after"); value_names = 1 }
+
 -- `--syntax-check`
 abbrev pub syntax_check : Rule
 syntax_check = record (new_rule (codes "syntax_check")) { long = Some (codes "syntax-check"); action = Some SetTrue }
@@ -66,8 +70,11 @@ limited_program = with_rule (with_rule run_program limit) extra
 abbrev pub gathering_program : App
 gathering_program = with_rule (with_rule limited_program roles) facts_program
 
+abbrev pub stopping_program : App
+stopping_program = with_rule gathering_program stop_after
+
 abbrev pub program : App
-program = with_rule (with_rule gathering_program syntax_check) list_hosts
+program = with_rule (with_rule stopping_program syntax_check) list_hosts
 
 -- what the words, the first of which is the program's name, give an argument
 unfoldable pub value_in : Text → List Text → Option Text
@@ -97,6 +104,16 @@ abbrev pub AreForks : Option Text → ℕ → Type 0
 AreForks None n = n ≡ 5
 AreForks (Some text) n = IsCount text n
 
+-- a number from 0 to 4,294,967,295, written so
+abbrev pub IsReportCount : Text → ℕ → Type 0
+IsReportCount text n = IsNumeral 10 (without_leading_plus text) × (n ≡ digits_value 10 (without_leading_plus text)) × (n ≤ 4294967295)
+
+-- after how many reports the run is stopped, if that is written
+abbrev pub IsStop : Option Text → Option ℕ → Type 0
+IsStop None stop = stop ≡ None
+IsStop (Some text) None = ⊥
+IsStop (Some text) (Some n) = IsReportCount text n
+
 -- what is written is no such number
 abbrev pub IsNoCount : Text → Type 0
 IsNoCount text = (n : ℕ) → IsCount text n → ⊥
@@ -105,26 +122,33 @@ abbrev pub NoForks : Option Text → Type 0
 NoForks None = ⊥
 NoForks (Some text) = IsNoCount text
 
--- what a count of forks that is none is told as
-abbrev pub IsBadForks : WordsFault → Type 0
-IsBadForks (Help text) = ⊥
-IsBadForks (Wrong text) = Unit
-IsBadForks Missing = ⊥
-IsBadForks Memory = Unit
+abbrev pub IsNoReportCount : Text → Type 0
+IsNoReportCount text = (n : ℕ) → IsReportCount text n → ⊥
 
--- what the values of the arguments, each by its name, ask for: these files, so many forks, this limit, these extra variables, this folder of roles, this facts program
--- and this purpose
+abbrev pub NoStop : Option Text → Type 0
+NoStop None = ⊥
+NoStop (Some text) = IsNoReportCount text
+
+-- what a number that is none is told as
+abbrev pub IsBadNumber : WordsFault → Type 0
+IsBadNumber (Help text) = ⊥
+IsBadNumber (Wrong text) = Unit
+IsBadNumber Missing = ⊥
+IsBadNumber Memory = Unit
+
+-- what the values of the arguments, each by its name, ask for: these files, so many forks, this limit, these extra variables, this folder of roles, this facts program,
+-- this many reports until the run is stopped, and this purpose
 abbrev pub AskFor : (Text → Option Text) → Request → Type 0
 AskFor value request = (value (codes "inventory") ≡ Some request.inventory) × (value (codes "playbook") ≡ Some request.playbook)
     × AreForks (value (codes "forks")) request.forks × (value (codes "outcomes") ≡ request.outcomes)
     × (value (codes "limit") ≡ request.limit) × (value (codes "extra") ≡ request.extra) × (value (codes "roles") ≡ request.roles)
-    × (value (codes "facts_program") ≡ request.facts_program)
+    × (value (codes "facts_program") ≡ request.facts_program) × IsStop (value (codes "stop_after")) request.stop_after
     × (purpose_of (is_true (value (codes "syntax_check"))) (is_true (value (codes "list_hosts"))) ≡ request.purpose)
 
 -- why values ask for nothing to be played
 abbrev pub AreRefused : (Text → Option Text) → WordsFault → Type 0
 AreRefused value (Help text) = ⊥
-AreRefused value (Wrong text) = NoForks (value (codes "forks"))
+AreRefused value (Wrong text) = NoForks (value (codes "forks")) ⊎ NoStop (value (codes "stop_after"))
 AreRefused value Missing = (value (codes "inventory") ≡ None) ⊎ (value (codes "playbook") ≡ None)
 AreRefused value Memory = Unit
 

@@ -1,7 +1,7 @@
 ghost use Rattle.pb_command_line.specs.declared.words.WordsFault.TheVariants.{Memory};
 ghost use Rattle.std.specs.Prelude.{◌≡◌, ◌⊎◌, IfOk, IfErr, map, codes, string_bytes};
 ghost use Rattle.clap.specs.Words.{app_of, kind_of, found_of, first_value};
-ghost use Rattle.pb_command_line.specs.CommandLine.{file_program, run_program, limited_program, gathering_program, program, is_true, purpose_of, AskFor, AreRefused, Asks, IsCount, IsNoCount, AreForks, NoForks, IsBadForks, IsRefused, TellsKind};
+ghost use Rattle.pb_command_line.specs.CommandLine.{file_program, run_program, limited_program, gathering_program, stopping_program, program, is_true, purpose_of, AskFor, AreRefused, Asks, IsCount, IsNoCount, AreForks, NoForks, IsStop, NoStop, IsReportCount, IsNoReportCount, IsBadNumber, IsRefused, TellsKind};
 
 use clap::error::ErrorKind;
 use clap::{Arg, ArgAction, ArgMatches, Command, Error};
@@ -27,6 +27,8 @@ pub struct Request {
     pub roles: Option<Text>,
     /// The program that gathers the facts of hosts, if one is given.
     pub facts_program: Option<Text>,
+    /// After how many reports the run is stopped, if it is to be.
+    pub stop_after: Option<u32>,
     /// What is to be done with the plan.
     pub purpose: Purpose,
 }
@@ -127,6 +129,17 @@ fn gathering_words<'a>(alloc: Global) -> Result<Command<'a>, AllocError>
     limited_words(alloc)?.arg(roles)?.arg(facts_program)
 }
 
+/// The program with all its arguments that have a value.
+fn stopping_words<'a>(alloc: Global) -> Result<Command<'a>, AllocError>
+    ensures { IfOk result (λ c. app_of c ≡ stopping_program) }
+{
+    let stop_after = Arg::new(alloc, "stop_after")
+        .long("stop-after")
+        .value_name("N")
+        .help("After how many reports of jobs the run is stopped");
+    gathering_words(alloc)?.arg(stop_after)
+}
+
 fn command<'a>(alloc: Global) -> Result<Command<'a>, AllocError>
     ensures { IfOk result (λ c. app_of c ≡ program) }
 {
@@ -138,7 +151,7 @@ fn command<'a>(alloc: Global) -> Result<Command<'a>, AllocError>
         .long("list-hosts")
         .action(ArgAction::SetTrue)
         .help("Runs nothing: lists the hosts of each play");
-    gathering_words(alloc)?.arg(syntax_check)?.arg(list_hosts)
+    stopping_words(alloc)?.arg(syntax_check)?.arg(list_hosts)
 }
 
 fn fault(alloc: Global, error: &Error) -> WordsFault
@@ -159,11 +172,11 @@ fn fault(alloc: Global, error: &Error) -> WordsFault
     }
 }
 
-/// A count of forks that isn't one, told.
-fn bad_forks(alloc: Global, written: &str) -> WordsFault
-    ensures { IsBadForks result }
+/// A number that isn't one as it is wanted, told.
+fn bad_number(alloc: Global, written: &str, wanted: &str) -> WordsFault
+    ensures { IsBadNumber result }
 {
-    match format!(in alloc; "'{written}' isn't a number from 1 to 256, as -f wants") {
+    match format!(in alloc; "'{written}' isn't a number {wanted}") {
         Ok(text) => WordsFault::Wrong {
             text: Text::from_string(text),
         },
@@ -171,10 +184,16 @@ fn bad_forks(alloc: Global, written: &str) -> WordsFault
     }
 }
 
+fn bad_forks(alloc: Global, written: &str) -> WordsFault
+    ensures { IsBadNumber result }
+{
+    bad_number(alloc, written, "from 1 to 256, as -f wants")
+}
+
 /// A number from 1 to 256.
 fn read_count(alloc: Global, text: &str) -> Result<u32, WordsFault>
     ensures value { IfOk result (IsCount text.now) }
-    ensures fault { IfErr result (λ e. IsBadForks e × IsNoCount text.now) }
+    ensures fault { IfErr result (λ e. IsBadNumber e × IsNoCount text.now) }
 {
     match text.parse::<u32>() {
         Ok(count) => {
@@ -191,11 +210,36 @@ fn read_count(alloc: Global, text: &str) -> Result<u32, WordsFault>
 /// How many hosts may run at once: a number from 1 to 256, or 5 where none is written.
 fn forks_in(alloc: Global, matches: &ArgMatches<'_>) -> Result<u32, WordsFault>
     ensures value { IfOk result (AreForks (first_value (found_of matches.now) (codes "forks"))) }
-    ensures fault { IfErr result (λ e. IsBadForks e × NoForks (first_value (found_of matches.now) (codes "forks"))) }
+    ensures fault { IfErr result (λ e. IsBadNumber e × NoForks (first_value (found_of matches.now) (codes "forks"))) }
 {
     match matches.get_str("forks") {
         None => Ok(FORKS),
         Some(text) => read_count(alloc, text),
+    }
+}
+
+/// A number from 0 to 4,294,967,295.
+fn read_report_count(alloc: Global, text: &str) -> Result<u32, WordsFault>
+    ensures value { IfOk result (IsReportCount text.now) }
+    ensures fault { IfErr result (λ e. IsBadNumber e × IsNoReportCount text.now) }
+{
+    match text.parse::<u32>() {
+        Ok(count) => Ok(count),
+        Err(_) => Err(bad_number(alloc, text, "from 0 to 4294967295, as --stop-after wants")),
+    }
+}
+
+/// After how many reports the run is stopped, if that is written.
+fn stop_in(alloc: Global, matches: &ArgMatches<'_>) -> Result<Option<u32>, WordsFault>
+    ensures value { IfOk result (IsStop (first_value (found_of matches.now) (codes "stop_after"))) }
+    ensures fault { IfErr result (λ e. IsBadNumber e × NoStop (first_value (found_of matches.now) (codes "stop_after"))) }
+{
+    let Some(text) = matches.get_str("stop_after") else {
+        return Ok(None);
+    };
+    match read_report_count(alloc, text) {
+        Ok(count) => Ok(Some(count)),
+        Err(fault) => Err(fault),
     }
 }
 
@@ -247,6 +291,10 @@ fn request_in(alloc: Global, matches: &ArgMatches<'_>) -> Result<Request, WordsF
         Ok(forks) => forks,
         Err(fault) => return Err(fault),
     };
+    let stop_after = match stop_in(alloc, matches) {
+        Ok(stop_after) => stop_after,
+        Err(fault) => return Err(fault),
+    };
     let outcomes = text_in(alloc, matches, "outcomes")?;
     let limit = text_in(alloc, matches, "limit")?;
     let extra = text_in(alloc, matches, "extra")?;
@@ -261,6 +309,7 @@ fn request_in(alloc: Global, matches: &ArgMatches<'_>) -> Result<Request, WordsF
         extra,
         roles,
         facts_program,
+        stop_after,
         purpose: purpose_in(matches),
     })
 }

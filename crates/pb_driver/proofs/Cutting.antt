@@ -1,20 +1,20 @@
 -- What is written where a run breaks off.
-use Rattle.std.proofs.Common.{◌≡◌, ℕ, ◌+◌, ◌-◌, ◌≤◌, ◌<◌, List, [], ◌∷◌, ◌++◌, length, take, refl, sym, ◌∙◌, ap, subst, arith, length-append, append_assoc}
+use Rattle.std.proofs.Common.{◌≡◌, ℕ, ◌+◌, ◌-◌, ◌≤◌, List, [], ◌∷◌, ◌++◌, length, take, refl, sym, ◌∙◌, ap, subst, arith, length-append}
 use Rattle.std.proofs.lemmas.List.{append-nil, take_all, take_min, take-append-le}
-use Rattle.std.specs.Prelude.{min, suc, zero, Option, Some, None, Ok}
+use Rattle.std.specs.Prelude.{min, suc, zero, Option, Ok}
 use Rattle.pb_state.specs.declared.event.Event.{Event}
 use Rattle.pb_state.specs.declared.row.Counts.{Counts}
 use Rattle.pb_plan.specs.Plan.{PlanOf}
 use Rattle.pb_state.specs.State.{State}
 use Rattle.pb_state.specs.Machine.{after, first_state}
-use Rattle.pb_state.specs.Run.{state_from, IsFinished}
+use Rattle.pb_state.specs.Run.{IsFinished}
 use Rattle.pb_outcome.specs.declared.job.Job.{Job}
 use Rattle.pb_outcome.specs.declared.outcome.Form.{Form}
 use Rattle.pb_engine.specs.EngineOf.{EngineOf, taken, IsSound, engine_of}
-use Rattle.pb_events.specs.Lines.{lines_of, start_line}
+use Rattle.pb_events.specs.Lines.{start_line}
 use Rattle.pb_recap.specs.Recap.{recap}
 use Rattle.pb_driver.specs.Taken.{with_more}
-use Rattle.pb_driver.specs.Output.{lines_from, end_lines, output}
+use Rattle.pb_driver.specs.Output.{lines_from, end_lines}
 use Rattle.pb_driver.specs.Driven.{IsSame, IsFresh, Keeps, TakesOne, last_lines, lines_of_trail}
 use Rattle.pb_driver.specs.Cut.{all_but_last, IsPart, lines_to, least_written, IsCut, IsShort, Breaks}
 use Rattle.pb_driver.proofs.Pieces.{more_more}
@@ -44,7 +44,7 @@ fewer_lines plan s (suc k) [] = omega arith
 fewer_lines plan s (suc k) (e ∷ es) = let fewer = fewer_lines plan (after plan s e) k es in simp length-append (omega arith)
 
 -- the lines of an engine's trail are written whole
-all_short : (engine : EngineOf) (base t : Option (List ℕ)) → t ≡ with_more base (lines_of_trail engine) → IsShort engine base t
+pub all_short : (engine : EngineOf) (base t : Option (List ℕ)) → t ≡ with_more base (lines_of_trail engine) → IsShort engine base t
 all_short engine base t before = record {
   count = length (lines_of_trail engine);
   written = before ∙ ap (λ l. with_more base l) (sym (take_all (length (lines_of_trail engine)) (lines_of_trail engine) (omega arith)));

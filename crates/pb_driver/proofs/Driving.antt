@@ -1,5 +1,5 @@
 -- A driver's turn.
-use Rattle.std.proofs.Common.{◌≡◌, ℕ, ◌-◌, Bool, true, false, ◌&&◌, List, [], ◌∷◌, ◌++◌, length, refl, sym, ◌∙◌, ap, subst, arith, append_assoc, length-append}
+use Rattle.std.proofs.Common.{◌≡◌, ℕ, ◌-◌, Bool, true, false, List, [], ◌∷◌, ◌++◌, length, refl, sym, ◌∙◌, ap, arith, append_assoc, length-append}
 use Rattle.std.proofs.lemmas.List.{append-nil}
 use Rattle.std.specs.Prelude.{Option, Some, None, option_map, slice_get, nat_lt, if◌then◌else◌, Result, Ok, Err, ◌↔◌}
 use Rattle.std.specs.List.{list_any}
@@ -23,8 +23,7 @@ use Rattle.pb_variables.specs.Connector.{connector_of}
 use Rattle.pb_state.specs.Jobs.{job_of, job_in, row_job, running_job, item_job, placed_job, call_in, job_with}
 use Rattle.pb_state.specs.Oldest.{oldest_out}
 use Rattle.pb_tree.specs.Tree.{path_at}
-use Rattle.pb_state.specs.Run.{IsRun, IsEager, IsQuiet, legal_from, state_from, is_report, is_command}
-use Rattle.pb_state.specs.Once.{IsOnce}
+use Rattle.pb_state.specs.Run.{IsEager, IsQuiet, state_from, is_report, is_command}
 use Rattle.pb_state.proofs.Once.{nothing_twice}
 use Rattle.pb_engine.specs.EngineOf.{EngineOf, Takes, taken, IsSound, LessWork, engine_of}
 use Rattle.pb_engine.specs.declared.fault.EngineFault.{EngineFault}
@@ -32,7 +31,7 @@ use Rattle.pb_engine.specs.declared.fault.EngineFault.TheVariants.{PoolTooSmall}
 use Rattle.pb_engine.specs.Choice.{NextIs, MovesBy, answer_of}
 use Rattle.pb_engine.specs.declared.engine.Next.{Next}
 use Rattle.pb_engine.specs.declared.engine.Next.TheVariants.{Sent, Moved, Waiting, Finished}
-use Rattle.pb_engine.proofs.Runs.{run_more, legal_more, state_more}
+use Rattle.pb_engine.proofs.Runs.{legal_more}
 use Rattle.pb_state.proofs.OldestOut.{some_oldest}
 use Rattle.pb_engine.proofs.Waits.{job_in_run, oldest_in_run}
 use Rattle.pb_engine.specs.Refusals.{refusal_of}
@@ -42,7 +41,9 @@ use Rattle.pb_recap.specs.Recap.{recap}
 use Rattle.pb_driver.specs.Taken.{with_more}
 use Rattle.pb_driver.specs.Output.{lines_from, end_lines}
 use Rattle.pb_driver.specs.Ran.{answers_of}
-use Rattle.pb_driver.specs.Driven.{IsAnswer, IsAnswerAt, IsAnswered, IsUncommanded, TakesOne, HasBegun, IsSame, IsFresh, IsBegun, HasEnded, IsWholeRun, Keeps, last_lines, lines_of_trail}
+use Rattle.pb_driver.specs.declared.given.Given.{Given}
+use Rattle.pb_driver.specs.Commanded.{IsObeyed, IsObeyedTo, run_with}
+use Rattle.pb_driver.specs.Driven.{IsAnswerAt, IsAnswered, TakesOne, TakesOwn, HasBegun, IsSame, IsFresh, IsBegun, HasEnded, IsWholeRun, Keeps, last_lines, lines_of_trail}
 use Rattle.pb_driver.proofs.Pieces.{more_more}
 
 -- an event that the machine takes by itself is no report and no command
@@ -66,7 +67,7 @@ own_command plan s Close next a = refl
 own_command plan s Stop next a = cc
 own_command plan s (Forks n) next a = cc
 
-no_report : (allows gives : Job → Form → Type 0) (plan : PlanOf) (s : State) (e : Event) → is_report e ≡ false → IsAnswerAt allows gives plan s e
+pub no_report : (allows gives : Job → Form → Type 0) (plan : PlanOf) (s : State) (e : Event) → is_report e ≡ false → IsAnswerAt allows gives plan s e
 no_report allows gives plan s Open m = tt
 no_report allows gives plan s (Start h) m = tt
 no_report allows gives plan s (Send h item ticket) m = tt
@@ -166,15 +167,11 @@ answered_more : (allows gives : Job → Form → Type 0) (plan : PlanOf) (s : St
 answered_more allows gives plan s [] e a b = (b, tt)
 answered_more allows gives plan s (d ∷ es) e a b = (a.0, answered_more allows gives plan (after plan s d) es e a.1 b)
 
-uncommanded_more : (es : List Event) (e : Event) → IsUncommanded es → is_command e ≡ false → IsUncommanded (es ++ e ∷ [])
-uncommanded_more [] e a b = (b, tt)
-uncommanded_more (d ∷ es) e a b = (a.0, uncommanded_more es e a.1 b)
-
 pub lines_more : (plan : PlanOf) (s : State) (es : List Event) (e : Event) → lines_from plan s (es ++ e ∷ []) ≡ lines_from plan s es ++ lines_of plan (after plan (state_from plan s es) e) e
 lines_more plan s [] e = append-nil (lines_of plan (after plan s e) e)
 lines_more plan s (d ∷ es) e = ap (λ t. lines_of plan (after plan s d) d ++ t) (lines_more plan (after plan s d) es e) ∙ sym (append_assoc (lines_of plan (after plan s d) d) _ _)
 
-last_is : (xs : List Event) (e : Event) (n : ℕ) → n ≡ length xs → slice_get (xs ++ e ∷ []) n ≡ Some e
+pub last_is : (xs : List Event) (e : Event) (n : ℕ) → n ≡ length xs → slice_get (xs ++ e ∷ []) n ≡ Some e
 last_is [] e n h = rw h refl
 last_is (x ∷ xs) e n h = rw h (last_is xs e (length xs) refl)
 
@@ -183,17 +180,16 @@ last_at old e =
     let there : length (old.trail ++ e ∷ []) - 1 ≡ length old.trail = simp length-append (omega arith) in
     rw (there, last_is old.trail e (length old.trail) refl) refl
 
-begun_at : (allows gives : Job → Form → Type 0) (old : EngineOf) (e : Event) → IsSound old → HasBegun allows gives old → possible old.plan old.state e ≡ true → (is_report e ≡ true → IsQuiet old.plan old.state) → IsAnswerAt allows gives old.plan old.state e → is_command e ≡ false → HasBegun allows gives (taken old e)
-begun_at allows gives old e sound begun may eager answer uncommanded = record {
+begun_at : (allows gives : Job → Form → Type 0) (old : EngineOf) (e : Event) → IsSound old → HasBegun allows gives old → possible old.plan old.state e ≡ true → (is_report e ≡ true → IsQuiet old.plan old.state) → IsAnswerAt allows gives old.plan old.state e → HasBegun allows gives (taken old e)
+begun_at allows gives old e sound begun may eager answer = record {
   legal = legal_more old.plan (first_state old.plan old.plan.forks old.pool) old.trail e begun.legal (rw sound.ends may);
   once = nothing_twice old.plan old.plan.forks old.pool (old.trail ++ e ∷ []) (legal_more old.plan (first_state old.plan old.plan.forks old.pool) old.trail e begun.legal (rw sound.ends may));
   eager = eager_more old.plan (first_state old.plan old.plan.forks old.pool) old.trail e begun.eager (rw sound.ends eager);
   answered = answered_more allows gives old.plan (first_state old.plan old.plan.forks old.pool) old.trail e begun.answered (rw sound.ends answer);
-  uncommanded = uncommanded_more old.trail e begun.uncommanded uncommanded;
 }
 
 pub begun_one : (allows gives : Job → Form → Type 0) (old new : EngineOf) → IsSound old → HasBegun allows gives old → TakesOne allows gives old new → HasBegun allows gives new
-begun_one allows gives old new sound begun one = rw one.takes.1 (begun_at allows gives old one.event sound begun one.takes.0 one.eager one.answer one.uncommanded)
+begun_one allows gives old new sound begun one = rw one.takes.1 (begun_at allows gives old one.event sound begun one.takes.0 one.eager one.answer)
 
 pub begun_same : (allows gives : Job → Form → Type 0) (old new : EngineOf) → new ≡ old → HasBegun allows gives old → HasBegun allows gives new
 begun_same allows gives old new same begun = rw same begun
@@ -219,7 +215,6 @@ begun_as allows gives others engine lasting begun = record {
   eager = begun.eager;
   once = begun.once;
   answered = all_as allows gives others (λ job outcome. (lasting job outcome).0) engine.plan (first_state engine.plan engine.plan.forks engine.pool) engine.trail begun.answered;
-  uncommanded = begun.uncommanded;
 }
 
 pub begun_back : (allows gives others : Job → Form → Type 0) (engine : EngineOf) → ((job : Job) (outcome : Form) → gives job outcome ↔ others job outcome) → HasBegun allows others engine → HasBegun allows gives engine
@@ -228,7 +223,6 @@ begun_back allows gives others engine lasting begun = record {
   eager = begun.eager;
   once = begun.once;
   answered = all_as allows others gives (λ job outcome. (lasting job outcome).1) engine.plan (first_state engine.plan engine.plan.forks engine.pool) engine.trail begun.answered;
-  uncommanded = begun.uncommanded;
 }
 
 -- the lines of one event more
@@ -260,15 +254,15 @@ none_more (Some t) = ap Some (sym (append-nil t))
 pub fresh_lines : (old : EngineOf) (t : Option (List ℕ)) → IsFresh old → t ≡ with_more t (lines_of_trail old)
 fresh_lines old t fresh = rw fresh.1 (none_more t)
 
-pub empty_begun : (allows gives : Job → Form → Type 0) (plan : PlanOf) (pool : ℕ) → IsBegun allows gives plan pool []
-empty_begun allows gives plan pool = record { legal = refl; eager = tt; once = record { starts = tt; sends = tt }; answered = tt; uncommanded = tt }
+pub empty_begun : (allows gives : Job → Form → Type 0) (plan : PlanOf) (pool : ℕ) (commands : List Given) → IsBegun allows gives plan pool commands []
+empty_begun allows gives plan pool commands = record { legal = refl; eager = tt; once = record { starts = tt; sends = tt }; answered = tt; obeyed = (run_with plan pool commands [], refl) }
 
 pub fresh_begun : (allows gives : Job → Form → Type 0) (old : EngineOf) → IsFresh old → HasBegun allows gives old
-fresh_begun allows gives old fresh = rw fresh.1 (empty_begun allows gives old.plan old.pool)
+fresh_begun allows gives old fresh = record { legal = rw fresh.1 refl; eager = rw fresh.1 tt; once = rw fresh.1 (record { starts = tt; sends = tt }); answered = rw fresh.1 tt }
 
 -- a run that is finished, with its end, is whole
-pub whole : (allows gives : Job → Form → Type 0) (has_run : List (Job × Form) → Type 0) (old new : EngineOf) (t0 t1 t2 t3 : Option (List ℕ)) (counts : List Counts) → IsFresh old → t1 ≡ with_more t0 (start_line (length old.plan.plays)) → Keeps old new t1 t2 → HasBegun allows gives new → IsSame old new → HasEnded new.plan new.state → t3 ≡ with_more t2 (end_lines new.plan counts) → counts ≡ recap new.plan new.pool new.trail → has_run (answers_of old.plan old.pool new.trail) → IsWholeRun allows gives has_run old.plan old.pool new.trail t0 t3
-whole allows gives has_run old new t0 t1 t2 t3 counts fresh started keeps begun same last ended counted ran =
+pub whole : (allows gives : Job → Form → Type 0) (has_run : List (Job × Form) → Type 0) (commands : List Given) (old new : EngineOf) (t0 t1 t2 t3 : Option (List ℕ)) (counts : List Counts) → IsFresh old → t1 ≡ with_more t0 (start_line (length old.plan.plays)) → Keeps old new t1 t2 → HasBegun allows gives new → IsObeyed new.plan new.pool commands new.trail → IsSame old new → HasEnded new.plan new.state → t3 ≡ with_more t2 (end_lines new.plan counts) → counts ≡ recap new.plan new.pool new.trail → has_run (answers_of old.plan old.pool new.trail) → IsWholeRun allows gives has_run old.plan old.pool commands new.trail t0 t3
+whole allows gives has_run commands old new t0 t1 t2 t3 counts fresh started keeps begun obeyed same last ended counted ran =
     let lines = keeps t1 (fresh_lines old t1 fresh) in
     rw (← same.plan, ← same.pool)
     (record {
@@ -276,7 +270,7 @@ whole allows gives has_run old new t0 t1 t2 t3 counts fresh started keeps begun 
       eager = begun.eager;
       once = begun.once;
       answered = begun.answered;
-      uncommanded = begun.uncommanded;
+      obeyed = obeyed;
       finished = rw same.run.ends last.finished;
       over = rw same.run.ends last.over;
       ran = rw (same.plan, same.pool) ran;
@@ -305,10 +299,11 @@ made_of plan pool engine e =
     (sym (ap (λ (v : EngineOf). v.plan) same), sym (ap (λ (v : EngineOf). v.pool) same))
 
 -- the events of an engine that couldn't go on
-pub begun_of : (allows gives : Job → Form → Type 0) (plan : PlanOf) (pool : ℕ) (engine new : EngineOf) (trail : List Event) → engine_of plan pool ≡ Ok engine → IsSame engine new → HasBegun allows gives new → trail ≡ new.trail → IsBegun allows gives plan pool trail
-begun_of allows gives plan pool engine new trail made same begun is =
+pub begun_of : (allows gives : Job → Form → Type 0) (commands : List Given) (plan : PlanOf) (pool : ℕ) (engine new : EngineOf) (trail : List Event) → engine_of plan pool ≡ Ok engine → IsSame engine new → HasBegun allows gives new → IsObeyedTo engine.plan engine.pool commands new.trail → trail ≡ new.trail → IsBegun allows gives plan pool commands trail
+begun_of allows gives commands plan pool engine new trail made same begun obeyed is =
     let from = made_of plan pool engine made in
-    rw (is, ← from.0, ← from.1, ← same.plan, ← same.pool) begun
+    rw (is, ← from.0, ← from.1, ← same.plan, ← same.pool)
+    (record { legal = begun.legal; eager = begun.eager; once = begun.once; answered = begun.answered; obeyed = rw (same.plan, same.pool) obeyed })
 
 -- where a job is out in a run, the oldest one is there, its job is, and its report is taken
 pub oldest_found : (s : State) → oldest_out s.rows ≡ None → list_any is_out s.rows ≡ true → ⊥
@@ -323,6 +318,10 @@ never_refused engine r refusal sound oldest next refused = let none = oldest_in_
 -- the report that comes where `next` waits
 pub waits_took : {P : Type 0} (picks : P → List Bool → ℕ → P → Type 0) (old_picker new_picker : P) (allows gives : Job → Form → Type 0) (old mid new : EngineOf) → NextIs picks old_picker new_picker old mid Waiting → TakesOne allows gives mid new → TakesOne allows gives old new
 waits_took picks old_picker new_picker allows gives old mid new m one = rw (← m.0) one
+
+-- an event that was taken is no command
+pub takes_own : (allows gives : Job → Form → Type 0) (old new : EngineOf) → TakesOne allows gives old new → TakesOwn old new
+takes_own allows gives old new one = (one.event, one.takes, one.uncommanded)
 
 pub waits_less : {P : Type 0} (picks : P → List Bool → ℕ → P → Type 0) (old_picker new_picker : P) (old mid new : EngineOf) → NextIs picks old_picker new_picker old mid Waiting → LessWork mid new → LessWork old new
 waits_less picks old_picker new_picker old mid new m less = rw (← m.0) less

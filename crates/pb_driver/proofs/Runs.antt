@@ -1,7 +1,7 @@
 -- What a runner ran beside an engine's trail.
-use Rattle.std.proofs.Common.{◌≡◌, ℕ, Bool, true, false, List, [], ◌∷◌, ◌++◌, refl, sym, ◌∙◌, ap, subst, append_assoc, inl, inr}
+use Rattle.std.proofs.Common.{◌≡◌, ℕ, Bool, false, List, [], ◌∷◌, ◌++◌, refl, sym, ◌∙◌, ap, subst, append_assoc, inl, inr}
 use Rattle.std.proofs.lemmas.List.{append-nil}
-use Rattle.std.specs.Prelude.{Option, Some, None, Result, Ok}
+use Rattle.std.specs.Prelude.{Option, Some, Ok}
 use Rattle.std.specs.Option.{option_map_or}
 use Rattle.pb_ids.specs.declared.numbers.HostNo.{HostNo}
 use Rattle.pb_ids.specs.declared.numbers.Ticket.{Ticket}
@@ -17,7 +17,6 @@ use Rattle.pb_state.specs.Jobs.{job_of}
 use Rattle.pb_state.specs.Oldest.{oldest_out}
 use Rattle.pb_state.specs.Run.{state_from, is_report}
 use Rattle.pb_engine.specs.EngineOf.{EngineOf, Takes, taken, IsSound, engine_of}
-use Rattle.pb_engine.specs.declared.fault.EngineFault.{EngineFault}
 use Rattle.pb_engine.specs.Choice.{NextIs, MovesBy}
 use Rattle.pb_engine.specs.declared.engine.Next.{Next}
 use Rattle.pb_engine.specs.declared.engine.Next.TheVariants.{Sent, Moved, Waiting}
@@ -40,7 +39,7 @@ in_taken : (old : EngineOf) (e : Event) → IsSound old → answers_in (taken ol
 in_taken old e sound = rw (answers_more old.plan (first_state old.plan old.plan.forks old.pool) old.trail e, sound.ends) refl
 
 -- an event that is no report answers nothing
-no_answer : (plan : PlanOf) (s : State) (e : Event) → is_report e ≡ false → answer_in plan s e ≡ []
+pub no_answer : (plan : PlanOf) (s : State) (e : Event) → is_report e ≡ false → answer_in plan s e ≡ []
 no_answer plan s Open m = refl
 no_answer plan s (Start h) m = refl
 no_answer plan s (Send h item ticket) m = refl

@@ -1,5 +1,5 @@
 -- What a driver keeps from turn to turn, and what it answers.
-use Rattle.std.specs.Prelude.{◌≡◌, ℕ, List, ◌-◌, length, slice_get, [], ◌∷◌, true, false, Option, Some}
+use Rattle.std.specs.Prelude.{◌≡◌, ◌⊎◌, ℕ, List, ◌-◌, length, slice_get, [], ◌∷◌, ◌++◌, true, false, Option, Some}
 use Rattle.std.specs.Option.{option_map_or}
 use Rattle.pb_outcome.specs.declared.job.Job.{Job}
 use Rattle.pb_outcome.specs.declared.job.Report.{Report}
@@ -22,6 +22,8 @@ use Rattle.pb_recap.specs.Kinds.{status_of}
 use Rattle.pb_driver.specs.Taken.{with_more}
 use Rattle.pb_driver.specs.Output.{lines_from, output}
 use Rattle.pb_driver.specs.Ran.{answers_of}
+use Rattle.pb_driver.specs.declared.given.Given.{Given}
+use Rattle.pb_driver.specs.Commanded.{IsObeyed, IsObeyedTo}
 
 -- a report answers the oldest of the jobs that are out, with an outcome that the runner's kind allows for this job, and that the runner itself gives
 pub record IsAnswer (allows gives : Job → Form → Type 0) (plan : PlanOf) (s : State) (r : Report) : Type 0 where
@@ -46,18 +48,13 @@ abbrev pub IsAnswered : (Job → Form → Type 0) → (Job → Form → Type 0) 
 IsAnswered allows gives plan s [] = Unit {0}
 IsAnswered allows gives plan s (e ∷ es) = IsAnswerAt allows gives plan s e × IsAnswered allows gives plan (after plan s e) es
 
--- no event is a command
-abbrev pub IsUncommanded : List Event → Type 0
-IsUncommanded [] = Unit {0}
-IsUncommanded (e ∷ es) = (is_command e ≡ false) × IsUncommanded es
-
--- the beginning of a run, which is one itself: a run that couldn't go on leaves this much of its trail
-pub record IsBegun (allows gives : Job → Form → Type 0) (plan : PlanOf) (pool : ℕ) (trail : List Event) : Type 0 where
+-- the beginning of a run, which is one itself: a run that couldn't go on leaves this much of its trail, with the commands that were given
+pub record IsBegun (allows gives : Job → Form → Type 0) (plan : PlanOf) (pool : ℕ) (commands : List Given) (trail : List Event) : Type 0 where
   pub legal : legal_from plan (first_state plan plan.forks pool) trail ≡ true
   pub eager : IsEager plan (first_state plan plan.forks pool) trail
   pub once : IsOnce plan (first_state plan plan.forks pool) trail
   pub answered : IsAnswered allows gives plan (first_state plan plan.forks pool) trail
-  pub uncommanded : IsUncommanded trail
+  pub obeyed : IsObeyedTo plan pool commands trail
 
 -- nothing is possible any more, since the run was stopped or ended early, or no batch is open and none is left to open
 pub record HasEnded (plan : PlanOf) (s : State) : Type 0 where
@@ -65,13 +62,14 @@ pub record HasEnded (plan : PlanOf) (s : State) : Type 0 where
   pub over : IsOver plan s
 
 -- a whole run: a legal, eager trail that does nothing twice, whose reports answer the jobs that were out and that ends in a finished state and isn't stuck
--- there; exactly the jobs of its reports were run, in their order; and its output and nothing else was written
-pub record IsWholeRun (allows gives : Job → Form → Type 0) (has_run : List (Job × Form) → Type 0) (plan : PlanOf) (pool : ℕ) (trail : List Event) (before after : Option (List ℕ)) : Type 0 where
+-- there; the commands that were due and aren't refused stand in it, and no others; exactly the jobs of its reports were run, in their order; and its output and
+-- nothing else was written
+pub record IsWholeRun (allows gives : Job → Form → Type 0) (has_run : List (Job × Form) → Type 0) (plan : PlanOf) (pool : ℕ) (commands : List Given) (trail : List Event) (before after : Option (List ℕ)) : Type 0 where
   pub legal : legal_from plan (first_state plan plan.forks pool) trail ≡ true
   pub eager : IsEager plan (first_state plan plan.forks pool) trail
   pub once : IsOnce plan (first_state plan plan.forks pool) trail
   pub answered : IsAnswered allows gives plan (first_state plan plan.forks pool) trail
-  pub uncommanded : IsUncommanded trail
+  pub obeyed : IsObeyed plan pool commands trail
   pub finished : IsFinished plan (state_from plan (first_state plan plan.forks pool) trail)
   pub over : IsOver plan (state_from plan (first_state plan plan.forks pool) trail)
   pub ran : has_run (answers_of plan pool trail)
@@ -81,9 +79,12 @@ pub record IsWholeRun (allows gives : Job → Form → Type 0) (has_run : List (
 abbrev pub IsTold : PlanOf → ℕ → List Event → List Counts → ℕ → Type 0
 IsTold plan pool trail counts status = (counts ≡ recap plan pool trail) × (status ≡ status_of (recap plan pool trail))
 
--- the beginning of a run, as an engine has it
-abbrev pub HasBegun : (Job → Form → Type 0) → (Job → Form → Type 0) → EngineOf → Type 0
-HasBegun allows gives engine = IsBegun allows gives engine.plan engine.pool engine.trail
+-- the beginning of a run, as an engine has it, whatever commands were due
+pub record HasBegun (allows gives : Job → Form → Type 0) (engine : EngineOf) : Type 0 where
+  pub legal : legal_from engine.plan (first_state engine.plan engine.plan.forks engine.pool) engine.trail ≡ true
+  pub eager : IsEager engine.plan (first_state engine.plan engine.plan.forks engine.pool) engine.trail
+  pub once : IsOnce engine.plan (first_state engine.plan engine.plan.forks engine.pool) engine.trail
+  pub answered : IsAnswered allows gives engine.plan (first_state engine.plan engine.plan.forks engine.pool) engine.trail
 
 -- the engine took one event that isn't a command; where it is a report, nothing that the machine takes by itself was possible, and the job that was out is answered
 pub record TakesOne (allows gives : Job → Form → Type 0) (old new : EngineOf) : Type 0 where
@@ -92,6 +93,13 @@ pub record TakesOne (allows gives : Job → Form → Type 0) (old new : EngineOf
   pub eager : is_report event ≡ true → IsQuiet old.plan old.state
   pub answer : IsAnswerAt allows gives old.plan old.state event
   pub uncommanded : is_command event ≡ false
+
+-- at most one event was taken, and no command
+abbrev pub TakesOwn : EngineOf → EngineOf → Type 0
+TakesOwn old new = (e : Event) × Takes old new e × (is_command e ≡ false)
+
+abbrev pub TakesAtMost : EngineOf → EngineOf → Type 0
+TakesAtMost old new = (new ≡ old) ⊎ TakesOwn old new
 
 -- the lines of the last event
 abbrev pub last_lines : EngineOf → List ℕ
@@ -106,6 +114,18 @@ pub record IsSame (old new : EngineOf) : Type 0 where
   pub plan : new.plan ≡ old.plan
   pub pool : new.pool ≡ old.pool
   pub run : IsRun new.plan new.pool new.trail new.state
+
+-- all events are commands
+abbrev pub AreCommands : List Event → Type 0
+AreCommands [] = Unit {0}
+AreCommands (e ∷ es) = (is_command e ≡ true) × AreCommands es
+
+-- the engine took commands, and nothing else
+pub record TakesCommands (old new : EngineOf) : Type 0 where
+  pub same : IsSame old new
+  pub events : List Event
+  pub commands : AreCommands events
+  pub trail : new.trail ≡ old.trail ++ events
 
 -- a turn keeps that the bytes are the lines of the engine's trail, whatever was written before
 abbrev pub Keeps : EngineOf → EngineOf → Option (List ℕ) → Option (List ℕ) → Type 0

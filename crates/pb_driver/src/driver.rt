@@ -1,21 +1,25 @@
 //! The driver.
 
-ghost use Rattle.std.specs.Prelude.{◌≡◌, ◌<◌, ◌≤◌, ◌++◌, ◌↔◌, [], ℕ, List, IfOk, IfErr, OnOk, OnErr, Ok, true, false};
+ghost use Rattle.std.specs.Prelude.{◌≡◌, ◌<◌, ◌≤◌, ◌-◌, ◌⊎◌, ◌++◌, ◌↔◌, [], ℕ, List, drop, length, slice_get, IfOk, IfErr, OnOk, OnErr, Ok, true, false};
 ghost use Rattle.std.specs.List.{list_any};
 ghost use Rattle.pb_outcome.specs.declared.job.Job.{Job};
 ghost use Rattle.pb_outcome.specs.declared.outcome.Form.{Form};
 ghost use Rattle.pb_state.specs.Run.{IsQuiet};
+ghost use Rattle.std.specs.Option.{option_map_or};
 ghost use Rattle.pb_state.specs.Machine.{first_state, is_out};
-ghost use Rattle.pb_engine.specs.EngineOf.{LessWork, IsSound};
+ghost use Rattle.pb_engine.specs.Commands.{event_for};
+ghost use Rattle.pb_engine.specs.EngineOf.{LessWork, IsSound, Takes};
 ghost use Rattle.pb_recap.specs.Recap.{recap};
 ghost use Rattle.pb_driver.specs.Taken.{with_more, one_more};
 ghost use Rattle.pb_driver.specs.Output.{output, end_lines};
 ghost use Rattle.pb_driver.specs.Cut.{IsPart, IsCut, Breaks};
 ghost use Rattle.pb_driver.specs.Ran.{IsRanTo, RunsAlong, RunsOver};
-ghost use Rattle.pb_driver.specs.Driven.{IsSame, Keeps, TakesOne, HasBegun, HasEnded, last_lines, IsWholeRun, IsBegun, IsTold, IsFresh};
+ghost use Rattle.pb_driver.specs.Commanded.{IsAlong, IsObeyed, IsObeyedTo, count_report, is_taken, none_due};
+ghost use Rattle.pb_driver.specs.Driven.{IsSame, Keeps, TakesOne, TakesAtMost, TakesCommands, TakesOwn, HasBegun, HasEnded, last_lines, IsWholeRun, IsBegun, IsTold, IsFresh};
 
+use crate::given::{Given, Told, count_last, next_due};
 use crate::line_out::{Failed, LineOut, put_all};
-use pb_engine::{Engine, EngineFault, Next, Picker, Refusal};
+use pb_engine::{CommandFault, Engine, EngineFault, Next, Picker, Refusal};
 use pb_events::{lines_of, start_line};
 use pb_outcome::job::Report;
 use pb_recap::Recap;
@@ -165,8 +169,8 @@ fn advance<R: Runner, P: Picker>(
 }
 
 /// One event, with its lines. It answers whether there was one to take.
-#[tactic(auto, using(crate::proofs::Driving::keeps_one, crate::proofs::Driving::keeps_same, crate::proofs::Driving::same_one, crate::proofs::Driving::same_same, crate::proofs::Driving::begun_one, crate::proofs::Driving::begun_same, crate::proofs::Cutting::breaks_same, crate::proofs::Runs::over_along))]
-fn turn<R: Runner, P: Picker, W: LineOut>(
+#[tactic(auto, using(crate::proofs::Driving::keeps_one, crate::proofs::Driving::keeps_same, crate::proofs::Driving::same_one, crate::proofs::Driving::same_same, crate::proofs::Driving::begun_one, crate::proofs::Driving::begun_same, crate::proofs::Cutting::breaks_same, crate::proofs::Runs::over_along, crate::proofs::Driving::takes_own))]
+fn take_one<R: Runner, P: Picker, W: LineOut>(
     alloc: Global,
     engine: &mut Engine,
     runner: &mut R,
@@ -175,6 +179,9 @@ fn turn<R: Runner, P: Picker, W: LineOut>(
 ) -> Result<bool, RunFault>
     requires sound { IsSound engine.old }
     requires begun { HasBegun R.allows (R.gives runner.old) engine.old }
+    ensures own { result ≡ Ok true → TakesOwn engine.old engine.new }
+    ensures still { result ≡ Ok false → engine.new ≡ engine.old }
+    ensures most { TakesAtMost engine.old engine.new }
     ensures same { IsSame engine.old engine.new }
     ensures begun { HasBegun R.allows (R.gives runner.old) engine.new }
     ensures keeps { OnOk result (Keeps engine.old engine.new (W.taken writer.old) (W.taken writer.new)) }
@@ -192,6 +199,89 @@ fn turn<R: Runner, P: Picker, W: LineOut>(
     }
     emit(alloc, engine, writer)?;
     Ok(true)
+}
+
+/// Gives a command. One that is refused changes nothing.
+#[tactic(auto, using(crate::proofs::Obeying::takes, crate::proofs::Obeying::refuses))]
+fn give(engine: &mut Engine, given: Given) -> Result<(), RunFault>
+    ensures taken { OnOk result (is_taken engine.old.plan engine.old.pool engine.old.state given ≡ true → Takes engine.old engine.new (event_for given.command)) }
+    ensures refused { OnOk result (is_taken engine.old.plan engine.old.pool engine.old.state given ≡ false → engine.new ≡ engine.old) }
+    ensures err { OnErr result (engine.new ≡ engine.old) }
+    ensures fault { IfErr result (λ e. e ≡ RunFault.Memory) }
+    ensures run { IsSound engine.new }
+{
+    match engine.command(given.command) {
+        Ok(()) => Ok(()),
+        Err(CommandFault::BadForks) => Ok(()),
+        Err(CommandFault::Finished) => Ok(()),
+        Err(CommandFault::Memory) => Err(RunFault::Memory),
+    }
+}
+
+/// Gives the commands that are due, in their order.
+#[tactic(auto, using(crate::proofs::Commanding::commands_none, crate::proofs::Commanding::commands_more, crate::proofs::Obeying::along_given))]
+fn give_due(engine: &mut Engine, commands: &[Given], told: &mut Told) -> Result<(), RunFault>
+    requires sound { IsSound engine.old }
+    requires along { IsAlong commands.now told.old engine.old }
+    ensures commanded { TakesCommands engine.old engine.new }
+    ensures along { IsAlong commands.now told.new engine.new }
+    ensures none { OnOk result (none_due told.new.reports (drop told.new.given commands.now) ≡ true) }
+    ensures fault { IfErr result (λ e. e ≡ RunFault.Memory) }
+{
+    'commands: loop {
+        let Some(given) = next_due(commands, *told) else {
+            return Ok(());
+        };
+        give(engine, given)?;
+        told.given += 1;
+    }
+}
+
+/// Counts the last event, where it is a report.
+fn count(engine: &Engine, told: &mut Told)
+    requires { told.old.reports < length engine.now.trail }
+    ensures { told.new ≡ record told.old { reports = option_map_or (count_report told.old.reports) (slice_get engine.now.trail (length engine.now.trail - 1)) told.old.reports } }
+{
+    // (no trail has more events than a number counts)
+    let _events = engine.trail().len();
+    told.reports = count_last(told.reports, engine.last());
+}
+
+/// Gives the commands that are due, and takes one event, with its lines. It answers whether there was one to take.
+#[tactic(auto, using(crate::proofs::Commanding::begun_behind, crate::proofs::Commanding::same_behind, crate::proofs::Commanding::keeps_behind, crate::proofs::Commanding::breaks_behind, crate::proofs::Commanding::breaks_told, crate::proofs::Commanding::along_behind, crate::proofs::Commanding::over_behind, crate::proofs::Commanding::over_told, crate::proofs::Commanding::less_behind, crate::proofs::Obeying::along_own, crate::proofs::Obeying::along_as, crate::proofs::Obeying::own_counts, crate::proofs::Obeying::obeyed_to, crate::proofs::Obeying::obeyed_most, crate::proofs::Driving::gives_same))]
+fn turn<R: Runner, P: Picker, W: LineOut>(
+    alloc: Global,
+    engine: &mut Engine,
+    runner: &mut R,
+    picker: &mut P,
+    commands: &[Given],
+    told: &mut Told,
+    writer: &mut W,
+) -> Result<bool, RunFault>
+    requires sound { IsSound engine.old }
+    requires begun { HasBegun R.allows (R.gives runner.old) engine.old }
+    requires along { IsAlong commands.now told.old engine.old }
+    ensures along { OnOk result (IsAlong commands.now told.new engine.new) }
+    ensures obeyed { OnErr result (IsObeyedTo engine.new.plan engine.new.pool commands.now engine.new.trail) }
+    ensures none { result ≡ Ok false → none_due told.new.reports (drop told.new.given commands.now) ≡ true }
+    ensures same { IsSame engine.old engine.new }
+    ensures begun { HasBegun R.allows (R.gives runner.old) engine.new }
+    ensures keeps { OnOk result (Keeps engine.old engine.new (W.taken writer.old) (W.taken writer.new)) }
+    ensures breaks { OnErr result (Breaks engine.old engine.new (W.taken writer.old) (W.taken writer.new)) }
+    ensures ran { OnOk result (RunsAlong R.ran engine.old engine.new runner.old runner.new) }
+    ensures lost { IfErr result (λ e. RunsOver R.ran engine.old engine.new runner.old runner.new e) }
+    ensures more { result ≡ Ok true → LessWork engine.old engine.new }
+    ensures over { result ≡ Ok false → HasEnded engine.new.plan engine.new.state }
+    ensures quiet { OnOk result (W.failures writer.new ≡ W.failures writer.old) }
+    ensures failed { IfErr result (λ e. e ≡ RunFault.Write → W.failures writer.new ≡ one_more (W.failures writer.old)) }
+    ensures lasting { (job : Job) (outcome : Form) → R.gives runner.new job outcome ↔ R.gives runner.old job outcome }
+{
+    give_due(engine, commands, told)?;
+    let more = take_one(alloc, engine, runner, picker, writer)?;
+    if more {
+        count(engine, told);
+    }
+    Ok(more)
 }
 
 /// Writes the statistics and the recap of a finished run.
@@ -214,17 +304,22 @@ fn emit_end<W: LineOut>(
     Ok(())
 }
 
-/// Takes events, with their lines, until nothing is possible.
-#[tactic(auto, using(crate::proofs::Driving::begun_as, crate::proofs::Driving::begun_back, crate::proofs::Driving::gives_same, crate::proofs::Driving::gives_more, crate::proofs::Runs::along_both, crate::proofs::Runs::over_both, crate::proofs::Runs::along_same))]
+/// Takes events, with their lines, and gives the commands where they are due, until nothing is possible.
+#[tactic(auto, using(crate::proofs::Driving::begun_as, crate::proofs::Driving::begun_back, crate::proofs::Driving::gives_same, crate::proofs::Driving::gives_more, crate::proofs::Runs::along_both, crate::proofs::Runs::over_both, crate::proofs::Runs::along_same, crate::proofs::Obeying::obeyed_end))]
 fn turn_all<R: Runner, P: Picker, W: LineOut>(
     alloc: Global,
     engine: &mut Engine,
     runner: &mut R,
     picker: &mut P,
+    commands: &[Given],
+    told: &mut Told,
     writer: &mut W,
 ) -> Result<(), RunFault>
     requires sound { IsSound engine.old }
     requires begun { HasBegun R.allows (R.gives runner.old) engine.old }
+    requires along { IsAlong commands.now told.old engine.old }
+    ensures obeyed { OnOk result (IsObeyed engine.new.plan engine.new.pool commands.now engine.new.trail) }
+    ensures front { OnErr result (IsObeyedTo engine.new.plan engine.new.pool commands.now engine.new.trail) }
     ensures same { IsSame engine.old engine.new }
     ensures begun { HasBegun R.allows (R.gives runner.old) engine.new }
     ensures keeps { OnOk result (Keeps engine.old engine.new (W.taken writer.old) (W.taken writer.new)) }
@@ -236,7 +331,7 @@ fn turn_all<R: Runner, P: Picker, W: LineOut>(
     ensures failed { IfErr result (λ e. e ≡ RunFault.Write → W.failures writer.new ≡ one_more (W.failures writer.old)) }
 {
     'turns: loop {
-        let more = turn(alloc, engine, runner, picker, writer)?;
+        let more = turn(alloc, engine, runner, picker, commands, told, writer)?;
         if !more {
             break;
         }
@@ -245,20 +340,22 @@ fn turn_all<R: Runner, P: Picker, W: LineOut>(
 }
 
 /// Takes a fresh engine through its whole run, with its output.
-#[tactic(auto, using(crate::proofs::Driving::whole, crate::proofs::Driving::fresh_begun, crate::proofs::Driving::empty_begun))]
+#[tactic(auto, using(crate::proofs::Driving::whole, crate::proofs::Driving::fresh_begun, crate::proofs::Driving::empty_begun, crate::proofs::Obeying::along_first, crate::proofs::Obeying::obeyed_fresh, crate::proofs::Obeying::obeyed_as, crate::proofs::Obeying::obeyed_front))]
 fn run_engine<R: Runner, P: Picker, W: LineOut>(
     alloc: Global,
     engine: &mut Engine,
     runner: &mut R,
     picker: &mut P,
+    commands: &[Given],
     writer: &mut W,
 ) -> Result<Recap, RunFault>
     requires sound { IsSound engine.old }
     requires fresh { IsFresh engine.old }
-    ensures whole { OnOk result (IsWholeRun R.allows (R.gives runner.old) (λ jobs. R.ran runner.old jobs runner.new) engine.old.plan engine.old.pool engine.new.trail (W.taken writer.old) (W.taken writer.new)) }
+    ensures whole { OnOk result (IsWholeRun R.allows (R.gives runner.old) (λ jobs. R.ran runner.old jobs runner.new) engine.old.plan engine.old.pool commands.now engine.new.trail (W.taken writer.old) (W.taken writer.new)) }
     ensures recap { IfOk result (λ r. r ≡ recap engine.old.plan engine.old.pool engine.new.trail) }
     ensures same { IsSame engine.old engine.new }
     ensures begun { HasBegun R.allows (R.gives runner.old) engine.new }
+    ensures obeyed { OnErr result (IsObeyedTo engine.old.plan engine.old.pool commands.now engine.new.trail) }
     ensures cut { OnErr result (IsCut engine.old.plan engine.old.pool engine.new.trail (W.taken writer.old) (W.taken writer.new)) }
     ensures ran { IfErr result (λ e. IsRanTo (λ jobs. R.ran runner.old jobs runner.new) engine.old.plan engine.old.pool engine.new.trail e) }
     ensures quiet { OnOk result (W.failures writer.new ≡ W.failures writer.old) }
@@ -266,14 +363,20 @@ fn run_engine<R: Runner, P: Picker, W: LineOut>(
 {
     let start = start_line(alloc, engine.plan().plays().len() as u32)?;
     put_all(writer, &start)?;
-    turn_all(alloc, engine, runner, picker, writer)?;
+    let mut told = Told {
+        given: 0,
+        reports: 0,
+    };
+    turn_all(alloc, engine, runner, picker, commands, &mut told, writer)?;
     let recap = Recap::of(alloc, engine.state())?;
     emit_end(alloc, engine, &recap, writer)?;
     Ok(recap)
 }
 
 /// Runs a plan to its end in this thread, with its output on the writer. The picker chooses among the hosts that have a
-/// job to send or may start. The runner runs the oldest of the jobs that are out where the machine has nothing else to do.
+/// job to send or may start. The runner runs the oldest of the jobs that are out where the machine has nothing else to do. Each of
+/// the commands is given directly after the report that reaches its number, once those before it in the list were given; one that is
+/// refused changes nothing.
 ///
 /// # Errors
 /// `Memory` where memory was refused, and `Write` where a call of the writer failed, each with the events so far, which are
@@ -286,11 +389,12 @@ pub fn run_plain<R: Runner, P: Picker, W: LineOut>(
     plan: Plan,
     runner: &mut R,
     picker: &mut P,
+    commands: &[Given],
     writer: &mut W,
 ) -> Result<Ended, (RunFault, Vec<Event>)>
-    ensures run { IfOk result (λ ended. IsWholeRun R.allows (R.gives runner.old) (λ jobs. R.ran runner.old jobs runner.new) plan 256 ended.trail.items (W.taken writer.old) (W.taken writer.new)) }
+    ensures run { IfOk result (λ ended. IsWholeRun R.allows (R.gives runner.old) (λ jobs. R.ran runner.old jobs runner.new) plan 256 commands.now ended.trail.items (W.taken writer.old) (W.taken writer.new)) }
     ensures told { IfOk result (λ ended. IsTold plan 256 ended.trail.items ended.recap ended.status) }
-    ensures begun { IfErr result (λ e. IsBegun R.allows (R.gives runner.old) plan 256 e.1.items) }
+    ensures begun { IfErr result (λ e. IsBegun R.allows (R.gives runner.old) plan 256 commands.now e.1.items) }
     ensures cut { IfErr result (λ e. IsCut plan 256 e.1.items (W.taken writer.old) (W.taken writer.new)) }
     ensures ran { IfErr result (λ e. IsRanTo (λ jobs. R.ran runner.old jobs runner.new) plan 256 e.1.items e.0) }
     ensures quiet { OnOk result (W.failures writer.new ≡ W.failures writer.old) }
@@ -301,7 +405,7 @@ pub fn run_plain<R: Runner, P: Picker, W: LineOut>(
         Err(EngineFault::Memory) => return Err((RunFault::Memory, Vec::new(alloc))),
         Err(EngineFault::PoolTooSmall) => unreachable!(),
     };
-    match run_engine(alloc, &mut engine, runner, picker, writer) {
+    match run_engine(alloc, &mut engine, runner, picker, commands, writer) {
         Ok(recap) => {
             let status = recap.status();
             Ok(Ended {

@@ -3,12 +3,24 @@
 //! For the layer above: `run_plain` answers Ok only with a legal, eager trail that does nothing twice, ends in a finished
 //! state and isn't stuck there: the run was stopped or ended early, or no batch is open and none is left to open. What the
 //! writer took is that trail's output and nothing else, what the runner ran is exactly the jobs of that trail's reports, in their
-//! order, and the recap and the exit status are those of that trail.
+//! order, and the recap and the exit status are those of that trail. A run is told to stop, or to run another number of hosts at
+//! once, by commands that are given with the number of reports behind which each is due: they stand there in the trail, and nowhere else.
 //! `LineOut` is where lines go.
 #![tactic(auto)]
 
+ghost use Rattle.pb_driver.specs.Obedient.{CommandsStandBehindReports};
+
 mod driver;
+mod given;
 mod line_out;
 
 pub use driver::{Ended, RunFault, run_plain};
+pub use given::Given;
 pub use line_out::{Failed, LineOut, Printed, put_all};
+
+/// What holds of every whole run: the commands that stand in its trail are some of those that it was given, in their order, and each
+/// stands directly behind a report, behind another command, or at the beginning.
+#[tactic(auto, using(crate::proofs::Obedience::commands_stand_behind_reports))]
+pub fn commands_stand_behind_reports()
+    ensures { CommandsStandBehindReports }
+{}

@@ -1,8 +1,13 @@
-//! Commands that are taken and refused.
+//! Commands that are taken and refused, and runs that are given a list of them.
 
 use crate::engines::{engine_of, is_over, report};
+use crate::silent::Silent;
 use crate::told::told;
+use crate::trails::plan_on;
+use pb_driver::{Given, run_plain};
 use pb_engine::{Command, CommandFault, Engine, Lowest};
+use pb_runner::table::TableRunner;
+use std::alloc::Global;
 use std::test::Fail;
 
 const TWO_HOSTS: &str = "{\"all\":[\"a\",\"b\"]}";
@@ -53,6 +58,69 @@ fn forks_and_a_stop(rt: HostRuntime) -> Result<(), Fail> {
     assert_eq!(rt;
         text.as_str(),
         "open, start 0, send 0 0 as 0, forks 2, start 1, send 1 0 as 1, stop, report 0 0 of 0, report 1 0 of 1, "
+    );
+    Ok(())
+}
+
+const FOUR_HOSTS: &str = "{\"all\":{\"hosts\":[\"a\",\"b\",\"c\",\"d\"]}}";
+
+/// The events of a run on four hosts that begins with one fork and is given these commands.
+fn trail_with(alloc: Global, commands: &[Given]) -> Result<String, Fail> {
+    let Ok(mut runner) = TableRunner::read(alloc, b"{\"rows\":[]}") else {
+        return Err(Fail::new("a table"));
+    };
+    let plan = plan_on(alloc, FOUR_HOSTS, COMMAND, 1)?;
+    let Ok(ended) = run_plain(alloc, plan, &mut runner, &mut Lowest, commands, &mut Silent) else {
+        return Err(Fail::new("an end"));
+    };
+    let text = told(alloc, ended.trail.as_slice())?;
+    drop(ended);
+    Ok(text)
+}
+
+fn forks_after(after: u32, forks: u32) -> Given {
+    Given {
+        after,
+        command: Command::Forks(forks),
+    }
+}
+
+fn stop_after(after: u32) -> Given {
+    Given {
+        after,
+        command: Command::Stop,
+    }
+}
+
+/// Three may run behind the first report, and then one again: what runs goes on, and nothing starts until the last of them has ended.
+#[test]
+fn forks_up_and_down(rt: HostRuntime) -> Result<(), Fail> {
+    let commands = [forks_after(1, 3), forks_after(2, 1)];
+    let trail = trail_with(rt.alloc(), commands.as_slice())?;
+    assert_eq!(rt;
+        trail.as_str(),
+        "open, start 0, send 0 0 as 0, report 0 0 of 0, forks 3, start 1, send 1 0 as 1, start 2, send 2 0 as 2, start 3, send 3 0 as 3, report 1 0 of 1, forks 1, report 2 0 of 2, report 3 0 of 3, turn, close, "
+    );
+    Ok(())
+}
+
+/// A command waits for those in front of it, and then comes at once; one that is refused leaves nothing behind.
+#[test]
+fn commands_in_their_order(rt: HostRuntime) -> Result<(), Fail> {
+    let commands = [forks_after(0, 257), forks_after(1, 2), stop_after(0)];
+    let trail = trail_with(rt.alloc(), commands.as_slice())?;
+    assert_eq!(rt;
+        trail.as_str(),
+        "open, start 0, send 0 0 as 0, report 0 0 of 0, forks 2, stop, "
+    );
+    let commands = [stop_after(0), forks_after(0, 2), stop_after(0)];
+    let trail = trail_with(rt.alloc(), commands.as_slice())?;
+    assert_eq!(rt; trail.as_str(), "stop, ");
+    let commands = [stop_after(5)];
+    let trail = trail_with(rt.alloc(), commands.as_slice())?;
+    assert_eq!(rt;
+        trail.as_str(),
+        "open, start 0, send 0 0 as 0, report 0 0 of 0, start 1, send 1 0 as 1, report 1 0 of 1, start 2, send 2 0 as 2, report 2 0 of 2, start 3, send 3 0 as 3, report 3 0 of 3, turn, close, "
     );
     Ok(())
 }

@@ -28,7 +28,7 @@ fn runner(alloc: Global) -> Result<TableRunner, Fail> {
 fn trail_of(alloc: Global, forks: u32) -> Result<String, Fail> {
     let mut runner = runner(alloc)?;
     let plan = plan_of(alloc, LOOP, forks)?;
-    let ended = match run_plain(alloc, plan, &mut runner, &mut Lowest, &mut Silent) {
+    let ended = match run_plain(alloc, plan, &mut runner, &mut Lowest, &[], &mut Silent) {
         Ok(ended) => ended,
         Err(_) => return Err(Fail::new("an end")),
     };

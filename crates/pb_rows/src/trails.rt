@@ -114,7 +114,7 @@ fn trail_text(alloc: Global, trail: &[Event]) -> Result<String, AllocError> {
 fn run(alloc: Global, playbook: &str, forks: u32) -> Result<Ended, Fail> {
     let mut runner = runner(alloc)?;
     let plan = plan_of(alloc, playbook, forks)?;
-    match run_plain(alloc, plan, &mut runner, &mut Lowest, &mut Silent) {
+    match run_plain(alloc, plan, &mut runner, &mut Lowest, &[], &mut Silent) {
         Ok(ended) => Ok(ended),
         Err(_) => Err(Fail::new("an end")),
     }

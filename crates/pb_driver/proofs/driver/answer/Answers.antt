@@ -1,5 +1,4 @@
 use Rattle.std.proofs.Common.{rules, ◌≡◌, ◌∙◌, refl, sym}
-use Rattle.pb_engine.specs.declared.refusal.Refusal.{Refusal}
 use Rattle.pb_engine.specs.declared.refusal.Refusal.TheVariants.{UnknownTicket, AlreadyReported, WrongItem, Memory}
 use Rattle.pb_driver.proofs.Driving.{never_refused, item_of_job}
 use Rattle.pb_driver.proofs.Runs.{along_answer, over_lost}

@@ -1,10 +1,14 @@
-use Rattle.pb_driver.proofs.Driving.{begun_of}
+use Rattle.pb_driver.proofs.Driving.{begun_of, empty_begun}
 use Rattle.pb_driver.proofs.Cutting.{cut_of}
 use Rattle.pb_driver.proofs.driver.run_plain.Goals as goal
 
 pub returns-in-Err-clause-begun : goal.returns-in-Err-clause-begun
 returns-in-Err-clause-begun g c =
-    begun_of g.R.Allows.allows (g.R.Runner.gives c.args.runner.now) c.args.plan 256 c.in-Ok.engine c.run_engine.new.engine c.into_trail-in-Err.result.items c.in-Ok.ensures.value c.run_engine.ensures.same c.run_engine.ensures.begun c.into_trail-in-Err.ensures.value
+    begun_of g.R.Allows.allows (g.R.Runner.gives c.args.runner.now) c.args.commands.now c.args.plan 256 c.in-Ok.engine c.run_engine.new.engine c.into_trail-in-Err.result.items c.in-Ok.ensures.value c.run_engine.ensures.same c.run_engine.ensures.begun c.in-Err.ensures.obeyed c.into_trail-in-Err.ensures.value
+
+pub returns-in-Err-Memory-clause-begun : goal.returns-in-Err-Memory-clause-begun
+returns-in-Err-Memory-clause-begun g c =
+    rw c.new-in-Err-Memory.ensures.items (empty_begun g.R.Allows.allows (g.R.Runner.gives c.args.runner.now) c.args.plan 256 c.args.commands.now)
 
 pub returns-in-Err-clause-cut : goal.returns-in-Err-clause-cut
 returns-in-Err-clause-cut g c =

@@ -3,12 +3,14 @@ use Rattle.std.specs.Prelude.{◌↔◌}
 use Rattle.pb_outcome.specs.declared.job.Job.{Job}
 use Rattle.pb_outcome.specs.declared.outcome.Form.{Form}
 use Rattle.pb_state.specs.Work.{work}
+use Rattle.pb_driver.specs.Commanded.{IsAlong}
 use Rattle.pb_driver.specs.Driven.{IsSame, Keeps, HasBegun}
 use Rattle.pb_driver.specs.Ran.{RunsAlong}
 use Rattle.pb_driver.proofs.driver.turn_all.Given as goal
 
 abbrev pub invariant-turns : goal.invariant-turns
 invariant-turns g l = record {
+  along : IsAlong l.commands l.told l.engine;
   same : IsSame l.fn.engine l.engine;
   begun : HasBegun g.R.Allows.allows (g.R.Runner.gives l.fn.runner) l.engine;
   lasting : (job : Job) (outcome : Form) → g.R.Runner.gives l.runner job outcome ↔ g.R.Runner.gives l.fn.runner job outcome;
