@@ -1,6 +1,6 @@
 ghost use Rattle.std.specs.Prelude.{◌≡◌, [], IfOk, OnOk, OnErr, Some, unwrap_or};
 ghost use Rattle.std.specs.Option.{option_copied};
-ghost use Rattle.pb_facts.specs.Facts.{no_facts, gathered_layer, merged, with_set, with_registered, given_in, learnt, known_of};
+ghost use Rattle.pb_facts.specs.Facts.{no_facts, gathered_layer, merged, with_set, with_given, with_registered, given_in, learnt, known_of};
 ghost use Rattle.pb_facts.specs.Each.{put_each, gives_some, gathered_after};
 
 use crate::put::put_all;
@@ -145,6 +145,18 @@ impl Facts {
         put_all(alloc, &mut set, given)?;
         self.set = set;
         Ok(())
+    }
+
+    /// Takes in what a module gave beside its result, as it gives it. An `Err` changes nothing.
+    pub fn take(&mut self, alloc: Global, gives: Gives, given: &Dict) -> Result<(), AllocError>
+        ensures ok { OnOk result (self.new ≡ with_given gives given.now self.old) }
+        ensures err { OnErr result (self.new ≡ self.old) }
+    {
+        match gives {
+            Gives::Nothing => Ok(()),
+            Gives::Sets => self.set(alloc, given),
+            Gives::Gathers => self.merge(alloc, given),
+        }
     }
 
     /// Takes in a task's result under the name that it is registered under, if it is. An `Err` changes nothing.

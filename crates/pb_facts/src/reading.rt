@@ -24,8 +24,8 @@ pub(crate) fn gathered_in(layer: &Dict) -> Option<&Dict>
     }
 }
 
-/// The facts that stand in an item's result.
-pub(crate) fn facts_in(shown: &Val) -> Option<&Dict>
+/// The facts that stand in an item's result, if some do: the members of `ansible_facts` there.
+pub fn facts_in(shown: &Val) -> Option<&Dict>
     ensures { option_copied result ≡ facts_in shown.now }
 {
     match dict_of(shown) {
