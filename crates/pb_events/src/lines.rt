@@ -4,7 +4,6 @@ ghost use Rattle.std.specs.Prelude.{◌≡◌, ◌<◌, ◌^◌, ◌∷◌, ◌+
 ghost use Rattle.std.specs.Option.{option_copied, option_map_or};
 ghost use Rattle.pb_value.specs.Datum.{text, int};
 ghost use Rattle.pb_ids.specs.Dotted.{dotted};
-ghost use Rattle.pb_play.specs.Modules.{is_meta};
 ghost use Rattle.pb_events.specs.Lines.{start_line, play_start, start_event, task_start, host_start, start_text, task_text, lines_at, of_place, for_host, in_play, told_in, told_of, opened_in, lines_of};
 
 use crate::batch::batch_names;
@@ -213,27 +212,6 @@ fn of_place(
     }
 }
 
-/// Whether a module is `meta`.
-fn is_meta(called: &Module) -> bool
-    ensures { result ≡ is_meta called.now }
-{
-    match called {
-        Module::Meta(_) => true,
-        Module::Assert {
-            that: _,
-            fail_msg: _,
-            success_msg: _,
-        } => false,
-        Module::Command(_) => false,
-        Module::Debug { msg: _ } => false,
-        Module::DebugVar { text: _, expr: _ } => false,
-        Module::Fail { msg: _ } => false,
-        Module::SetFact { facts: _ } => false,
-        Module::Setup => false,
-        Module::Shell { cmd: _ } => false,
-    }
-}
-
 /// The lines of a task at a place: of one of `meta` its failure alone.
 fn lines_at(
     alloc: Global,
@@ -247,7 +225,7 @@ fn lines_at(
 ) -> Result<Vec<u8>, AllocError>
     ensures { IfOk result (λ bytes. bytes.items ≡ lines_at starts play.now number decided.now host.now at.now place.now) }
 {
-    if is_meta(&at.task().module) {
+    if at.task().module.is_meta() {
         meta_text(alloc, host, place, number, &decided.done)
     } else {
         task_lines(alloc, starts, play, number, decided, host, at, place)

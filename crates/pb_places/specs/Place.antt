@@ -1,8 +1,9 @@
 -- What stands at a place of a play's tree: a task, with all that it has from its own keys, the blocks round it, its role and its play
 -- (Ansible's documentation, "Playbook keywords", "Blocks" and "Roles").
-use Rattle.std.specs.Prelude.{ℕ, Bool, false, List, [], Option, None, unwrap_or}
+use Rattle.std.specs.Prelude.{ℕ, Bool, false, List, [], Option, None, unwrap_or, if◌then◌else◌}
 use Rattle.pb_expr_syntax.specs.Tree.{Tree}
 use Rattle.pb_layers.specs.Scope.{Map}
+use Rattle.pb_play.specs.Modules.{is_meta}
 use Rattle.pb_play.specs.Tasks.{plain_task}
 use Rattle.pb_play.specs.declared.modules.Module.{Module}
 use Rattle.pb_play.specs.declared.task.Task.{Task}
@@ -34,6 +35,10 @@ pub record PlaceOf : Type 0 where
 abbrev pub no_role : Role
 no_role = record { defaults = []; vars = []; params = [] }
 
+-- a task of `meta` steers the run, and runs on no host in place of another
+abbrev pub delegate_for : Module → Option (List ℕ) → Option (List ℕ)
+delegate_for called to = if is_meta called then None else to
+
 -- a task on its own has what its own keys say
 abbrev pub place_of : Task → PlaceOf
 place_of task =
@@ -43,11 +48,11 @@ place_of task =
       block_vars = [];
       role = no_role;
       ignore_errors = unwrap_or task.ignore_errors false;
-      any_errors_fatal = false;
+      any_errors_fatal = unwrap_or task.couplings.any_errors_fatal false;
       throttle = unwrap_or task.throttle 0;
-      run_once = false;
-      delegate_to = None;
-      delegate_facts = false;
+      run_once = unwrap_or task.couplings.run_once false;
+      delegate_to = delegate_for task.«module» task.couplings.delegate_to;
+      delegate_facts = unwrap_or task.couplings.delegate_facts false;
       is_caught = false;
       notifies = [];
       handler = None;

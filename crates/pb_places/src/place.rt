@@ -1,7 +1,7 @@
 //! What stands at a place of a play's tree.
 
 ghost use Rattle.std.specs.Prelude.{◌≡◌, [], IfOk, option_copied};
-ghost use Rattle.pb_places.specs.Place.{place_of, no_role};
+ghost use Rattle.pb_places.specs.Place.{place_of, no_role, delegate_for};
 ghost use Rattle.std.specs.Arc.{arc_value};
 ghost use Rattle.pb_places.specs.Held.{task_held};
 ghost use Rattle.pb_places.specs.Within.{placed};
@@ -151,7 +151,10 @@ impl Place {
     {
         match &self.surroundings {
             Some(given) => given.any_errors_fatal,
-            None => false,
+            None => task_of(&self.task)
+                .couplings
+                .any_errors_fatal
+                .unwrap_or(false),
         }
     }
 
@@ -171,7 +174,7 @@ impl Place {
     {
         match &self.surroundings {
             Some(given) => given.run_once,
-            None => false,
+            None => task_of(&self.task).couplings.run_once.unwrap_or(false),
         }
     }
 
@@ -181,7 +184,7 @@ impl Place {
     {
         match &self.surroundings {
             Some(given) => given.delegate_to.as_ref(),
-            None => None,
+            None => delegate_of(task_of(&self.task)),
         }
     }
 
@@ -191,7 +194,10 @@ impl Place {
     {
         match &self.surroundings {
             Some(given) => given.delegate_facts,
-            None => false,
+            None => task_of(&self.task)
+                .couplings
+                .delegate_facts
+                .unwrap_or(false),
         }
     }
 
@@ -223,6 +229,17 @@ impl Place {
             Some(given) => given.handler,
             None => None,
         }
+    }
+}
+
+/// The host that a task says runs it in place of the host itself.
+fn delegate_of(task: &Task) -> Option<&Text>
+    ensures { option_copied result ≡ delegate_for task.now.«module» task.now.couplings.delegate_to }
+{
+    if task.module.is_meta() {
+        None
+    } else {
+        task.couplings.delegate_to.as_ref()
     }
 }
 

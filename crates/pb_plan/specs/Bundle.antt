@@ -43,6 +43,7 @@ play_with inventory hosts play =
       hosts = hosts;
       strategy = play.strategy;
       serial = play.serial.entries;
+      max_fail_percentage = 100;
       vars = play.vars;
       magic = play_magic inventory hosts;
     }

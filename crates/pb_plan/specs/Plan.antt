@@ -10,7 +10,8 @@ use Rattle.pb_places.specs.Caught.{are_caught, caught_places}
 use Rattle.pb_places.specs.Place.{PlaceOf}
 
 -- a play: its name, its tree, what stands at each place of the tree, of each host by its number whether it is one of the play's own, how the hosts of a
--- batch go through its tasks, what it says of the sizes of its batches, its variables, and those that the play gives by itself
+-- batch go through its tasks, what it says of the sizes of its batches, of how many of a batch's hosts in a hundred may fail, its variables, and those that
+-- the play gives by itself
 pub record PlayOf : Type 0 where
   pub name : List ℕ
   pub tree : TreeOf
@@ -18,6 +19,7 @@ pub record PlayOf : Type 0 where
   pub hosts : List Bool
   pub strategy : Strategy
   pub serial : List Entry
+  pub max_fail_percentage : ℕ
   pub vars : Map
   pub magic : Map
 
@@ -29,6 +31,10 @@ pub record Fits (play : PlayOf) : Type 0 where
 -- of each place how many hosts may run its task at once; 0 is any number
 abbrev pub throttles_of : List PlaceOf → List ℕ
 throttles_of places = map (λ (place : PlaceOf). place.throttle) places
+
+-- and whether the first host of a batch runs its task for all
+abbrev pub run_once_of : List PlaceOf → List Bool
+run_once_of places = map (λ (place : PlaceOf). place.run_once) places
 
 -- the plays in order, how many hosts may run at once, whether there is a program that gathers facts, lines that tell what was odd in the bundle, the
 -- inventory with the names of its hosts by their numbers and its variables, the extra variables, and those that the plan gives by itself, but for
@@ -57,7 +63,7 @@ bare_inventory hosts = record { hosts = hosts; groups = []; own = []; links = []
 
 abbrev pub bare_play : List ℕ → TreeOf → List PlaceOf → List Bool → PlayOf
 bare_play name tree places hosts =
-    record { name = name; tree = tree; places = places; hosts = hosts; strategy = Linear; serial = []; vars = []; magic = [] }
+    record { name = name; tree = tree; places = places; hosts = hosts; strategy = Linear; serial = []; max_fail_percentage = 100; vars = []; magic = [] }
 
 abbrev pub bare_plan : List (List ℕ) → List PlayOf → PlanOf
 bare_plan hosts plays = record { plays = plays; forks = 5; has_facts_program = false; warnings = []; inventory = bare_inventory hosts; extra = []; magic = [] }

@@ -6,7 +6,7 @@ ghost use Rattle.pb_plan.specs.Bundle.{play_with, bundle_bytes, bytes_in, role_b
 ghost use Rattle.pb_roles.specs.Plays.{IsBuilt};
 ghost use Rattle.pb_value.specs.Limits.{max_bytes};
 
-use crate::plan::{PlanPlay, throttles_of};
+use crate::plan::{PlanPlay, run_once_of, throttles_of};
 use pb_cursors::LaidTree;
 use pb_flat::FlatFault;
 use pb_inventory::fault::InvFault;
@@ -123,14 +123,17 @@ pub(crate) fn play_with(
     let laid = laid_out(alloc, play.tree)?;
     let magic = play_magic(alloc, inventory, &hosts)?;
     let throttles = throttles_of(alloc, play.places.as_slice())?;
+    let run_once = run_once_of(alloc, play.places.as_slice())?;
     Ok(PlanPlay::of(
         play.name,
         laid,
         play.places,
         throttles,
+        run_once,
         hosts,
         play.strategy,
         play.serial,
+        100,
         play.vars,
         magic,
     ))

@@ -3,7 +3,7 @@
 ghost use Rattle.std.specs.Prelude.{◌≡◌, ◌<◌, ◌≤◌, length, slice_get, option_map, IfOk, Some};
 ghost use Rattle.std.specs.Option.{option_copied};
 ghost use Rattle.pb_tree.specs.Tree.{size_of};
-ghost use Rattle.pb_plan.specs.Plan.{throttles_of};
+ghost use Rattle.pb_plan.specs.Plan.{throttles_of, run_once_of};
 
 use pb_batches::Serial;
 use pb_cursors::LaidTree;
@@ -21,16 +21,20 @@ use std::marker::Model;
 use std::rc::Rc;
 
 /// A play: its name, its tree, what stands at each place of the tree, in the order of places, the hosts that are its own, how the hosts of a batch
-/// go through its tasks, what it says of the sizes of its batches, its variables, and those that the play gives by itself.
+/// go through its tasks, what it says of the sizes of its batches and of how many of a batch's hosts in a hundred may fail, its variables, and those that
+/// the play gives by itself.
 pub struct PlanPlay {
     name: Text,
     laid: Rc<LaidTree>,
     places: Items<Place>,
     /// How many hosts may run the task at each place at once, in the order of places.
     throttles: Vec<u32>,
+    /// Whether the first host of a batch runs the task at each place for all.
+    run_once: Vec<bool>,
     hosts: HostSet,
     strategy: Strategy,
     serial: Serial,
+    max_fail_percentage: u32,
     vars: Dict,
     magic: Dict,
 }
@@ -42,9 +46,11 @@ impl Drop for PlanPlay {
             laid,
             places,
             throttles,
+            run_once,
             hosts,
             strategy: _,
             serial,
+            max_fail_percentage: _,
             vars,
             magic,
         } = self;
@@ -52,6 +58,7 @@ impl Drop for PlanPlay {
         drop(laid);
         drop(places);
         drop(throttles);
+        drop(run_once);
         drop(hosts);
         drop(serial);
         drop(vars);
@@ -78,15 +85,16 @@ impl Model for PlanPlay {
       hosts = p.hosts;
       strategy = p.strategy;
       serial = p.serial.entries;
+      max_fail_percentage = p.max_fail_percentage;
       vars = p.vars;
       magic = p.magic;
     } };
 
     ghost use Rattle.std.specs.Prelude.{◌≡◌, ◌≤◌, length};
     ghost use Rattle.pb_tree.specs.Tree.{size_of};
-    ghost use Rattle.pb_plan.specs.Plan.{throttles_of};
+    ghost use Rattle.pb_plan.specs.Plan.{throttles_of, run_once_of};
 
-    ghost invariant = { λ p. (size_of p.laid.value.tree ≤ 16384) × (length p.places ≡ size_of p.laid.value.tree) × (p.throttles.items ≡ throttles_of p.places) };
+    ghost invariant = { λ p. (size_of p.laid.value.tree ≤ 16384) × (length p.places ≡ size_of p.laid.value.tree) × (p.throttles.items ≡ throttles_of p.places) × (p.run_once.items ≡ run_once_of p.places) };
 }
 
 impl PlanPlay {
@@ -96,15 +104,18 @@ impl PlanPlay {
         laid: Rc<LaidTree>,
         places: Items<Place>,
         throttles: Vec<u32>,
+        run_once: Vec<bool>,
         hosts: HostSet,
         strategy: Strategy,
         serial: Serial,
+        max_fail_percentage: u32,
         vars: Dict,
         magic: Dict,
     ) -> PlanPlay
         requires bound { size_of laid.value.tree ≤ 16384 }
         requires places { length places ≡ size_of laid.value.tree }
         requires throttles { throttles.items ≡ throttles_of places }
+        requires once { run_once.items ≡ run_once_of places }
         ensures { result ≡ record {
           name = name;
           tree = laid.value.tree;
@@ -112,6 +123,7 @@ impl PlanPlay {
           hosts = hosts;
           strategy = strategy;
           serial = serial.entries;
+          max_fail_percentage = max_fail_percentage;
           vars = vars;
           magic = magic;
         } }
@@ -121,9 +133,11 @@ impl PlanPlay {
             laid,
             places,
             throttles,
+            run_once,
             hosts,
             strategy,
             serial,
+            max_fail_percentage,
             vars,
             magic,
         }
@@ -166,6 +180,13 @@ impl PlanPlay {
         self.throttles.as_slice()
     }
 
+    /// Whether the first host of a batch runs the task at each place for all, in the order of places.
+    pub fn run_once(&self) -> &[bool]
+        ensures { result.now ≡ run_once_of self.now.places }
+    {
+        self.run_once.as_slice()
+    }
+
     /// How the hosts of a batch go through the play's tasks.
     pub fn strategy(&self) -> Strategy
         ensures { result ≡ self.now.strategy }
@@ -178,6 +199,13 @@ impl PlanPlay {
         ensures { result.now.entries ≡ self.now.serial }
     {
         &self.serial
+    }
+
+    /// How many of a batch's hosts in a hundred may fail before the others are halted.
+    pub fn max_fail_percentage(&self) -> u32
+        ensures { result ≡ self.now.max_fail_percentage }
+    {
+        self.max_fail_percentage
     }
 
     /// The hosts that are the play's own.
@@ -209,6 +237,17 @@ pub(crate) fn throttles_of(alloc: Global, places: &[Place]) -> Result<Vec<u32>, 
     let mut all = Vec::with_capacity(alloc, places.len())?;
     for place in places {
         all.push(place.throttle())?;
+    }
+    Ok(all)
+}
+
+/// Whether the first host of a batch runs the task at each of these places for all.
+pub(crate) fn run_once_of(alloc: Global, places: &[Place]) -> Result<Vec<bool>, AllocError>
+    ensures { IfOk result (λ all. all.items ≡ run_once_of places.now) }
+{
+    let mut all = Vec::with_capacity(alloc, places.len())?;
+    for place in places {
+        all.push(place.run_once())?;
     }
     Ok(all)
 }

@@ -6,6 +6,7 @@ use Rattle.pb_reading.specs.Reading.{Reading}
 use Rattle.pb_reading.specs.Simple.{text}
 use Rattle.pb_written.specs.Simple.{switched}
 use Rattle.pb_written.specs.Conditions.{conditions}
+use Rattle.pb_play.specs.Couplings.{uncoupled}
 use Rattle.pb_play.specs.NoEffect.{has_no_effect, key, key_or}
 use Rattle.pb_play.specs.Nodes.{Written, Nothing, Block}
 use Rattle.pb_play.specs.Throttles.{throttle}
@@ -39,7 +40,7 @@ rest_of_block early ignore_errors rescue = do
   vars ← key_or (codes "vars") variables []
   conditions ← key_or (codes "when") conditions []
   _ ← others has_no_effect
-  rule (Ok (Block (record { conditions = conditions; vars = vars; ignore_errors = ignore_errors; throttle = throttle }) early.body rescue early.always Nothing))
+  rule (Ok (Block (record { conditions = conditions; vars = vars; ignore_errors = ignore_errors; throttle = throttle; couplings = uncoupled }) early.body rescue early.always Nothing))
 
 abbrev pub late : Lists → Early → Option Bool → Part WithoutEffect LoadFault Written
 late nodes early ignore_errors = do

@@ -19,6 +19,7 @@ use Rattle.pb_patterns.specs.declared.element.What.TheVariants.{Term, Regex}
 use Rattle.pb_written.specs.Conditions.{conditions}
 use Rattle.pb_role_entries.specs.RoleEntries.{named_alone, role_entry}
 use Rattle.pb_play.specs.Batches.{sizes}
+use Rattle.pb_play.specs.Couplings.{uncoupled}
 use Rattle.pb_play.specs.Handlers.{handler}
 use Rattle.pb_play.specs.Playbooks.{playbook_of, expressions_of_book}
 use Rattle.pb_reading.specs.Fields.{field, field_or, others}
@@ -719,6 +720,7 @@ all_keys_of_handler : playbook_of (codes "[{\"gather_facts\":false,\"handlers\":
                 failed_when = Some (Name (codes "b") ∷ []);
                 ignore_errors = Some true;
                 throttle = Some 0;
+                couplings = uncoupled;
                 notify = codes "g" ∷ [];
               };
               listens = codes "web" ∷ codes "db" ∷ [];

@@ -15,6 +15,7 @@ use Rattle.pb_reading.specs.Fields.{field, field_or, others}
 use Rattle.pb_reading.specs.Reading.{Reading, WrongShape, Own}
 use Rattle.pb_written.specs.Templates.{is_template}
 use Rattle.pb_written.specs.Conditions.{conditions}
+use Rattle.pb_play.specs.Couplings.{uncoupled}
 use Rattle.pb_play.specs.NodeLists.{nodes, node_list}
 use Rattle.pb_play.specs.Nodes.{Written, Nothing, Task, Block, Flush}
 use Rattle.pb_play.specs.Tasks.{task, tells_of_task, plain_task}
@@ -43,12 +44,12 @@ abbrev shell : List ℕ → declared.Task
 shell s = plain_task (codes "shell") [] (Shell s)
 
 abbrev no_keys : BlockKeys
-no_keys = record { conditions = []; vars = []; ignore_errors = None; throttle = None }
+no_keys = record { conditions = []; vars = []; ignore_errors = None; throttle = None; couplings = uncoupled }
 
 -- all keys of a block at once, in the order of their bytes; a task stands behind it
 all_of_block : read (codes "[{\"always\":[{\"shell\":\"c\"}],\"block\":[{\"shell\":\"a\"}],\"ignore_errors\":true,\"name\":\"n\",\"rescue\":[{\"shell\":\"b\"}],\"throttle\":3,\"vars\":{\"x\":1},\"when\":\"y\"},{\"shell\":\"d\"}]")
     ≡ Some (Ok (
-    Block (record { conditions = Name (codes "y") ∷ []; vars = (codes "x", int (pos 1)) ∷ []; ignore_errors = Some true; throttle = Some 3 }) (Task (shell (codes "a")) Nothing) (Task (shell (codes "b")) Nothing)
+    Block (record { conditions = Name (codes "y") ∷ []; vars = (codes "x", int (pos 1)) ∷ []; ignore_errors = Some true; throttle = Some 3; couplings = uncoupled }) (Task (shell (codes "a")) Nothing) (Task (shell (codes "b")) Nothing)
     (Task (shell (codes "c")) Nothing) (Task (shell (codes "d")) Nothing)
     ))
 unfolding on_literals
@@ -58,7 +59,7 @@ nothing_in_block : read (codes "[{\"block\":[]}]") ≡ Some (Ok (Block no_keys N
 unfolding on_literals
 nothing_in_block = refl
 
-ignores_not : read (codes "[{\"block\":[],\"ignore_errors\":\"no\"}]") ≡ Some (Ok (Block (record { conditions = []; vars = []; ignore_errors = Some false; throttle = None }) Nothing Nothing Nothing Nothing))
+ignores_not : read (codes "[{\"block\":[],\"ignore_errors\":\"no\"}]") ≡ Some (Ok (Block (record { conditions = []; vars = []; ignore_errors = Some false; throttle = None; couplings = uncoupled }) Nothing Nothing Nothing Nothing))
 unfolding on_literals
 ignores_not = refl
 

@@ -7,6 +7,7 @@ ghost use Rattle.pb_play.specs.Blocks.{told_of_block, rest_of_block};
 ghost use Rattle.pb_play.specs.Nodes.{Nothing, Block};
 ghost use Rattle.pb_play.specs.View.{IsRead, node_of};
 
+use crate::couplings::Couplings;
 use crate::node::{BlockKeys, Node, NodeList};
 use crate::other_keys::WithoutEffect;
 use crate::throttle::Throttle;
@@ -61,6 +62,7 @@ pub(crate) fn read_rest(
         vars,
         ignore_errors,
         throttle,
+        couplings: Couplings::none(),
     };
     Ok(block_of(keys, early, rescue))
 }

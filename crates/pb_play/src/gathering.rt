@@ -1,6 +1,7 @@
 ghost use Rattle.std.specs.Prelude.{◌≡◌, IfOk};
 ghost use Rattle.pb_play.specs.Gathering.{gathering_task, begun};
 
+use crate::couplings::Couplings;
 use crate::modules::Module;
 use crate::node::{Node, NodeList};
 use crate::task::Task;
@@ -24,6 +25,7 @@ fn gathering_task(alloc: Global) -> Result<Task, AllocError>
         failed_when: None,
         ignore_errors: None,
         throttle: None,
+        couplings: Couplings::none(),
         notify: Items::new(alloc),
     })
 }

@@ -21,6 +21,7 @@ mod assert;
 mod batches;
 mod blocks;
 pub mod commands;
+pub mod couplings;
 mod debug;
 mod facts;
 mod gathering;

@@ -7,6 +7,7 @@ ghost use Rattle.pb_reading.specs.Reading.{Gives};
 ghost use Rattle.pb_play.specs.MetaTasks.{said_by, said, one_of, what_is_said, meta_task, made_of, rest_of_meta, meta};
 ghost use Rattle.pb_play.specs.View.{IsRead};
 
+use crate::couplings::Couplings;
 use crate::modules::{Meta, Module};
 use crate::node::Node;
 use crate::other_keys::WithoutEffect;
@@ -104,6 +105,7 @@ fn meta_task(
         failed_when: None,
         ignore_errors: None,
         throttle: None,
+        couplings: Couplings::none(),
         notify: Items::new(alloc),
     })
 }

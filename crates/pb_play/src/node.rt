@@ -1,5 +1,6 @@
 ghost use Rattle.pb_play.specs.View.{written_of};
 
+use crate::couplings::Couplings;
 use crate::task::Task;
 use pb_expr_syntax::tree::Expr;
 use pb_value::items::Items;
@@ -16,6 +17,8 @@ pub struct BlockKeys {
     pub ignore_errors: Option<bool>,
     /// How many hosts may run a task in it at once, where it says so; 0 is any number.
     pub throttle: Option<u32>,
+    /// What it says of how the hosts of a task in it are coupled.
+    pub couplings: Couplings,
 }
 
 impl Drop for BlockKeys {
@@ -25,9 +28,11 @@ impl Drop for BlockKeys {
             vars,
             ignore_errors: _,
             throttle: _,
+            couplings,
         } = self;
         drop(conditions);
         drop(vars);
+        drop(couplings);
     }
 }
 

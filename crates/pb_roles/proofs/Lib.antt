@@ -4,6 +4,7 @@ mod FewOpen
 mod Fitting
 mod Notified
 mod Placed
+mod Plain
 mod PlayNodes
 mod Stack
 mod Taking

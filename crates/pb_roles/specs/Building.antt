@@ -4,12 +4,14 @@ use Rattle.std.specs.Prelude.{ℕ, ◌+◌, Bool, true, false, ◌||◌, not, Li
 use Rattle.pb_expr_syntax.specs.Tree.{Tree}
 use Rattle.pb_layers.specs.Scope.{Map, or_else}
 use Rattle.pb_facts.specs.Facts.{put_all}
+use Rattle.pb_play.specs.Couplings.{uncoupled}
 use Rattle.pb_play.specs.Nodes.{Written, Nothing, Task, Block, Flush}
+use Rattle.pb_play.specs.declared.couplings.Couplings.{Couplings}
 use Rattle.pb_play.specs.declared.node.BlockKeys.{BlockKeys}
 use Rattle.pb_play.specs.declared.task.Task.{Task as OneTask}
 use Rattle.pb_tree.specs.Tree as tree
 use Rattle.pb_tree.specs.Tree.{Nodes, TreeOf}
-use Rattle.pb_places.specs.Place.{PlaceOf}
+use Rattle.pb_places.specs.Place.{PlaceOf, delegate_for}
 use Rattle.pb_places.specs.declared.surroundings.Role.{Role}
 use Rattle.pb_handlers.specs.Naming.{notified_from}
 use Rattle.pb_handlers.specs.declared.naming.HandlerNames.{HandlerNames}
@@ -24,12 +26,23 @@ pub record KeysOf : Type 0 where
   pub conditions : List Tree
   pub ignore_errors : Option Bool
   pub throttle : Option ℕ
+  pub couplings : Couplings
 
 abbrev pub keys_of_task : OneTask → KeysOf
-keys_of_task task = record { conditions = task.conditions; ignore_errors = task.ignore_errors; throttle = task.throttle }
+keys_of_task task = record { conditions = task.conditions; ignore_errors = task.ignore_errors; throttle = task.throttle; couplings = task.couplings }
 
 abbrev pub keys_of_block : BlockKeys → KeysOf
-keys_of_block block = record { conditions = block.conditions; ignore_errors = block.ignore_errors; throttle = block.throttle }
+keys_of_block block = record { conditions = block.conditions; ignore_errors = block.ignore_errors; throttle = block.throttle; couplings = block.couplings }
+
+-- of each the inner one counts, where it is written
+abbrev pub inner_couplings : Couplings → Couplings → Couplings
+inner_couplings outer own =
+    record {
+      any_errors_fatal = or_else own.any_errors_fatal outer.any_errors_fatal;
+      delegate_facts = or_else own.delegate_facts outer.delegate_facts;
+      delegate_to = or_else own.delegate_to outer.delegate_to;
+      run_once = or_else own.run_once outer.run_once;
+    }
 
 -- conditions stand from the outer to the inner ones; of the other keys the inner one counts, where it is written
 abbrev pub inner : KeysOf → KeysOf → KeysOf
@@ -38,6 +51,7 @@ inner outer own =
       conditions = outer.conditions ++ own.conditions;
       ignore_errors = or_else own.ignore_errors outer.ignore_errors;
       throttle = or_else own.throttle outer.throttle;
+      couplings = inner_couplings outer.couplings own.couplings;
     }
 
 -- what stands round a node: the keys that its role, its blocks and its play hand down, the variables of the blocks, the inner over the outer, and those of the role
@@ -47,10 +61,10 @@ pub record RoundOf : Type 0 where
   pub role : Role
 
 -- what stands round all that comes from there: a role has conditions, and the play says whether failures are ignored, but nothing of how many hosts may run
--- a task at once
+-- a task at once, nor of how they are coupled
 abbrev pub round_of : Bool → OriginOf → RoundOf
 round_of ignore_errors origin =
-    record { keys = record { conditions = origin.conditions; ignore_errors = Some ignore_errors; throttle = None }; block_vars = []; role = origin.role }
+    record { keys = record { conditions = origin.conditions; ignore_errors = Some ignore_errors; throttle = None; couplings = uncoupled }; block_vars = []; role = origin.role }
 
 -- what stands round the nodes of a block
 abbrev pub inside : RoundOf → BlockKeys → RoundOf
@@ -65,11 +79,11 @@ placed_with names keys round is_caught handler task =
       block_vars = round.block_vars;
       role = round.role;
       ignore_errors = unwrap_or keys.ignore_errors false;
-      any_errors_fatal = false;
+      any_errors_fatal = unwrap_or keys.couplings.any_errors_fatal false;
       throttle = unwrap_or keys.throttle 0;
-      run_once = false;
-      delegate_to = None;
-      delegate_facts = false;
+      run_once = unwrap_or keys.couplings.run_once false;
+      delegate_to = delegate_for task.«module» keys.couplings.delegate_to;
+      delegate_facts = unwrap_or keys.couplings.delegate_facts false;
       is_caught = is_caught;
       notifies = notified_from task.notify 0 names;
       handler = handler;

@@ -5,6 +5,7 @@ use Rattle.pb_value.specs.Datum.{dict, int, no_members, text}
 use Rattle.pb_value.specs.Reading.{map_ok}
 use Rattle.pb_expr_syntax.specs.Tree.{Tree, Name}
 use Rattle.pb_layers.specs.Scope.{Map}
+use Rattle.pb_play.specs.Couplings.{uncoupled}
 use Rattle.pb_play.specs.Nodes.{Written, Nothing, Task, Block, Flush}
 use Rattle.pb_written.specs.declared.fault.LoadFault.TheVariants.{NotJson}
 use Rattle.pb_play.specs.declared.modules.Module.TheVariants.{Debug}
@@ -253,7 +254,7 @@ first_unknown_name : unknown_of (playing (Task (notifier (codes "t") (codes "h2"
 first_unknown_name = refl
 
 abbrev no_keys : BlockKeys
-no_keys = record { conditions = []; vars = []; ignore_errors = None; throttle = None }
+no_keys = record { conditions = []; vars = []; ignore_errors = None; throttle = None; couplings = uncoupled }
 
 unknown_in_place : unknown_of
     (playing

@@ -1,15 +1,14 @@
 //! What is handed down to the tasks of a play, by the play, by roles and by blocks.
 
 ghost use Rattle.std.specs.Arc.{arc_value};
-ghost use Rattle.std.specs.Prelude.{◌≡◌, ◌++◌, [], List, true, false, Some, None, option_map, unwrap_or, IfOk};
+ghost use Rattle.std.specs.Prelude.{◌≡◌, ◌++◌, [], true, false, Some, None, option_map, unwrap_or, IfOk};
 ghost use Rattle.pb_layers.specs.Scope.{or_else};
 ghost use Rattle.pb_facts.specs.Facts.{put_all};
-ghost use Rattle.pb_play.specs.declared.task.Task.{Task as OneTask};
-ghost use Rattle.pb_places.specs.Place.{place_of};
 ghost use Rattle.pb_places.specs.Within.{placed as stands_in};
-ghost use Rattle.pb_roles.specs.Building.{inside, placed, round_of};
+ghost use Rattle.pb_play.specs.Couplings.{uncoupled};
+ghost use Rattle.pb_places.specs.Place.{delegate_for, no_role};
+ghost use Rattle.pb_roles.specs.Building.{inside, inner_couplings, placed, round_of};
 ghost use Rattle.pb_handlers.specs.Naming.{notified_from};
-ghost use Rattle.pb_handlers.specs.declared.naming.HandlerNames.{HandlerNames};
 ghost use Rattle.pb_roles.specs.Origins.{listed};
 
 use crate::origin::Origin;
@@ -18,9 +17,12 @@ use pb_facts::put::put_all;
 use pb_handlers::Handlers;
 use pb_places::conditions::joined;
 use pb_places::{Place, Role, Surroundings};
+use pb_play::couplings::Couplings;
+use pb_play::modules::Module;
 use pb_play::node::BlockKeys;
 use pb_play::task::Task;
 use pb_value::items::Items;
+use pb_value::text::Text;
 use pb_value::val::Dict;
 use std::alloc::{AllocError, Global};
 use std::marker::Model;
@@ -32,6 +34,7 @@ pub(crate) struct Round {
     conditions: Option<Arc<Items<Expr>>>,
     ignore_errors: Option<bool>,
     throttle: Option<u32>,
+    couplings: Couplings,
     /// None where there is no variable.
     block_vars: Option<Arc<Dict>>,
     /// None outside of roles.
@@ -44,10 +47,12 @@ impl Drop for Round {
             conditions,
             ignore_errors: _,
             throttle: _,
+            couplings,
             block_vars,
             role,
         } = self;
         drop(conditions);
+        drop(couplings);
         drop(block_vars);
         drop(role);
     }
@@ -67,7 +72,7 @@ impl Model for Round {
 
     ghost coded = { Prim.hlevel (codes, val.the_row.coded, expr.the_row.coded) };
 
-    ghost view = { λ r. record { keys = record { conditions = listed r.conditions; ignore_errors = r.ignore_errors; throttle = r.throttle }; block_vars = listed r.block_vars; role = unwrap_or (option_map arc_value r.role) no_role } };
+    ghost view = { λ r. record { keys = record { conditions = listed r.conditions; ignore_errors = r.ignore_errors; throttle = r.throttle; couplings = r.couplings }; block_vars = listed r.block_vars; role = unwrap_or (option_map arc_value r.role) no_role } };
 }
 
 impl Round {
@@ -81,6 +86,7 @@ impl Round {
             conditions,
             ignore_errors: Some(ignore_errors),
             throttle: None,
+            couplings: Couplings::none(),
             block_vars: None,
             role,
         })
@@ -93,17 +99,19 @@ impl Round {
         let conditions = conditions_inside(alloc, &self.conditions, &keys.conditions)?;
         let block_vars = vars_inside(alloc, &self.block_vars, &keys.vars)?;
         let role = sharing(&self.role)?;
+        let couplings = inner_couplings(&self.couplings, &keys.couplings)?;
         Ok(Round {
             conditions,
             ignore_errors: inner(keys.ignore_errors, self.ignore_errors),
             throttle: inner(keys.throttle, self.throttle),
+            couplings,
             block_vars,
             role,
         })
     }
 
     /// What stands at a task's place, in a play with these handlers.
-    #[tactic(auto, using(crate::proofs::Notified::none_notified))]
+    #[tactic(auto, using(crate::proofs::Notified::none_notified, crate::proofs::Plain::plain_place))]
     pub(crate) fn place(
         &self,
         alloc: Global,
@@ -137,7 +145,13 @@ impl Round {
 
     /// Whether nothing is handed down to a task: then it stands alone, if it notifies nothing.
     fn is_plain(&self, is_caught: bool) -> bool
-        ensures { result ≡ true → (names : List HandlerNames) (task : OneTask) → notified_from task.notify 0 names ≡ [] → placed names self.now is_caught None task ≡ place_of task }
+        ensures conditions { result ≡ true → self.now.keys.conditions ≡ [] }
+        ensures vars { result ≡ true → self.now.block_vars ≡ [] }
+        ensures role { result ≡ true → self.now.role ≡ no_role }
+        ensures caught { result ≡ true → is_caught ≡ false }
+        ensures ignores { result ≡ true → unwrap_or self.now.keys.ignore_errors false ≡ false }
+        ensures throttle { result ≡ true → unwrap_or self.now.keys.throttle 0 ≡ 0 }
+        ensures couplings { result ≡ true → self.now.keys.couplings ≡ uncoupled }
     {
         self.conditions.is_none()
             && self.block_vars.is_none()
@@ -145,6 +159,7 @@ impl Round {
             && !is_caught
             && !self.ignore_errors.unwrap_or(false)
             && self.throttle.unwrap_or(0) == 0
+            && is_uncoupled(&self.couplings)
     }
 
     /// What a task's place has beside the task.
@@ -162,16 +177,19 @@ impl Round {
         let block_vars = sharing(&self.block_vars)?;
         let role = sharing(&self.role)?;
         let notifies = notified(alloc, names, task)?;
+        let own = &task.couplings;
+        let outer = &self.couplings;
+        let delegate_to = inner_delegate(&own.delegate_to, &outer.delegate_to)?;
         Ok(Surroundings {
             conditions,
             block_vars,
             role,
             ignore_errors: inner(task.ignore_errors, self.ignore_errors).unwrap_or(false),
-            any_errors_fatal: false,
+            any_errors_fatal: inner(own.any_errors_fatal, outer.any_errors_fatal).unwrap_or(false),
             throttle: inner(task.throttle, self.throttle).unwrap_or(0),
-            run_once: false,
-            delegate_to: None,
-            delegate_facts: false,
+            run_once: inner(own.run_once, outer.run_once).unwrap_or(false),
+            delegate_to: delegate_for(&task.module, delegate_to),
+            delegate_facts: inner(own.delegate_facts, outer.delegate_facts).unwrap_or(false),
             is_caught,
             notifies,
             handler,
@@ -198,6 +216,52 @@ fn inner<T: Copy + Drop>(own: Option<T>, outer: Option<T>) -> Option<T>
     match own {
         Some(own) => Some(own),
         None => outer,
+    }
+}
+
+/// Whether nothing is said of how hosts are coupled.
+fn is_uncoupled(couplings: &Couplings) -> bool
+    ensures { result ≡ true → couplings.now ≡ uncoupled }
+{
+    couplings.any_errors_fatal.is_none()
+        && couplings.delegate_facts.is_none()
+        && couplings.delegate_to.is_none()
+        && couplings.run_once.is_none()
+}
+
+/// The template of the inner delegate, where one is written, or else of the outer one.
+fn inner_delegate(own: &Option<Text>, outer: &Option<Text>) -> Result<Option<Text>, AllocError>
+    ensures { IfOk result (λ to. to ≡ or_else own.now outer.now) }
+{
+    match (own, outer) {
+        (Some(own), _) => Ok(Some(own.try_clone()?)),
+        (None, Some(outer)) => Ok(Some(outer.try_clone()?)),
+        (None, None) => Ok(None),
+    }
+}
+
+/// How hosts are coupled in what says this, within what says that.
+fn inner_couplings(outer: &Couplings, own: &Couplings) -> Result<Couplings, AllocError>
+    ensures { IfOk result (λ couplings. couplings ≡ inner_couplings outer.now own.now) }
+{
+    let delegate_to = inner_delegate(&own.delegate_to, &outer.delegate_to)?;
+    Ok(Couplings {
+        any_errors_fatal: inner(own.any_errors_fatal, outer.any_errors_fatal),
+        delegate_facts: inner(own.delegate_facts, outer.delegate_facts),
+        delegate_to,
+        run_once: inner(own.run_once, outer.run_once),
+    })
+}
+
+/// The template of the delegate of a task with this module: a task of `meta` runs on no host in place of another.
+fn delegate_for(called: &Module, to: Option<Text>) -> Option<Text>
+    ensures { result ≡ delegate_for called.now to }
+{
+    if called.is_meta() {
+        drop(to);
+        None
+    } else {
+        to
     }
 }
 
