@@ -1,7 +1,7 @@
 -- A driver's turn.
 use Rattle.std.proofs.Common.{◌≡◌, ℕ, ◌-◌, Bool, true, false, List, [], ◌∷◌, ◌++◌, length, refl, sym, ◌∙◌, ap, arith, append_assoc, length-append}
 use Rattle.std.proofs.lemmas.List.{append-nil}
-use Rattle.std.specs.Prelude.{Option, Some, None, option_map, slice_get, nat_lt, if◌then◌else◌, Result, Ok, Err, ◌↔◌}
+use Rattle.std.specs.Prelude.{Option, Some, None, option_map, unwrap_or, slice_get, nat_lt, if◌then◌else◌, Result, Ok, Err, ◌↔◌}
 use Rattle.std.specs.List.{list_any}
 use Rattle.std.specs.Option.{option_map_or}
 use Rattle.pb_ids.specs.declared.numbers.HostNo.{HostNo}
@@ -19,8 +19,7 @@ use Rattle.pb_plan.specs.Plan.{PlayOf, PlanOf}
 use Rattle.pb_state.specs.Row.{HostRow}
 use Rattle.pb_state.specs.State.{State}
 use Rattle.pb_state.specs.Machine.{possible, after, first_state, is_out, item_of, item_at, open_play}
-use Rattle.pb_variables.specs.Connector.{connector_of}
-use Rattle.pb_state.specs.Jobs.{job_of, job_in, row_job, running_job, item_job, placed_job, call_in, job_with}
+use Rattle.pb_state.specs.Jobs.{job_of, job_in, row_job, running_job, item_job, placed_job, call_in, delegate_in, connector_for, job_with}
 use Rattle.pb_state.specs.Oldest.{oldest_out}
 use Rattle.pb_tree.specs.Tree.{path_at}
 use Rattle.pb_state.specs.Run.{IsEager, IsQuiet, state_from, is_report, is_command}
@@ -118,20 +117,20 @@ waits_same picks old_picker new_picker old new m = m.0
 some_is : {X : Type 0} (x y : X) → Some x ≡ Some y → x ≡ y
 some_is x y e = cc
 
-item_named : (plan : PlanOf) (number : ℕ) (host : HostNo) (ticket : Ticket) (item : ℕ) (call : Call) (job : Job) (path : Option (List ℕ)) (name : Option (List ℕ))
-    → option_map_or (λ (p : List ℕ). option_map (λ (n : List ℕ). job_with number host ticket item call n (connector_of plan.inventory host.0) p) name) path None ≡ Some job → job.item ≡ item
-item_named plan number host ticket item call job None name e = cc
-item_named plan number host ticket item call job (Some path) None e = cc
-item_named plan number host ticket item call job (Some path) (Some name) e =
-    ap (λ (j : Job). j.item) (sym (some_is (job_with number host ticket item call name (connector_of plan.inventory host.0) path) job e))
+item_named : (plan : PlanOf) (number : ℕ) (host : HostNo) (ticket : Ticket) (item : ℕ) (delegate : Option (List ℕ)) (call : Call) (job : Job) (path : Option (List ℕ)) (name : Option (List ℕ))
+    → option_map_or (λ (p : List ℕ). option_map (λ (n : List ℕ). job_with number host ticket item call n (unwrap_or delegate n) (connector_for plan.inventory host.0 delegate) p) name) path None ≡ Some job → job.item ≡ item
+item_named plan number host ticket item delegate call job None name e = cc
+item_named plan number host ticket item delegate call job (Some path) None e = cc
+item_named plan number host ticket item delegate call job (Some path) (Some name) e =
+    ap (λ (j : Job). j.item) (sym (some_is (job_with number host ticket item call name (unwrap_or delegate name) (connector_for plan.inventory host.0 delegate) path) job e))
 
-item_called : (plan : PlanOf) (number : ℕ) (host : HostNo) (ticket : Ticket) (play : PlayOf) (p item : ℕ) (job : Job) (found : Option Call) → option_map_or (placed_job plan number host ticket play p item) found None ≡ Some job → job.item ≡ item
-item_called plan number host ticket play p item job None e = cc
-item_called plan number host ticket play p item job (Some call) e = item_named plan number host ticket item call job (path_at play.tree p) (slice_get plan.inventory.hosts host.0) e
+item_called : (plan : PlanOf) (number : ℕ) (host : HostNo) (ticket : Ticket) (play : PlayOf) (p item : ℕ) (delegate : Option (List ℕ)) (job : Job) (found : Option Call) → option_map_or (placed_job plan number host ticket play p item delegate) found None ≡ Some job → job.item ≡ item
+item_called plan number host ticket play p item delegate job None e = cc
+item_called plan number host ticket play p item delegate job (Some call) e = item_named plan number host ticket item delegate call job (path_at play.tree p) (slice_get plan.inventory.hosts host.0) e
 
 item_next : (plan : PlanOf) (number : ℕ) (host : HostNo) (ticket : Ticket) (play : PlayOf) (r : Running) (job : Job) (next : Option ℕ) → option_map_or (item_job plan number host ticket play r) next None ≡ Some job → next ≡ Some job.item
 item_next plan number host ticket play r job None e = cc
-item_next plan number host ticket play r job (Some n) e = ap Some (sym (item_called plan number host ticket play r.place n job (call_in r.items n) e))
+item_next plan number host ticket play r job (Some n) e = ap Some (sym (item_called plan number host ticket play r.place n (delegate_in r.items n) job (call_in r.items n) e))
 
 item_task : (plan : PlanOf) (number : ℕ) (host : HostNo) (ticket : Ticket) (play : PlayOf) (job : Job) (running : Option Running) → option_map_or (running_job plan number host ticket play) running None ≡ Some job → option_map_or (λ (r : Running). next_item r.items) running None ≡ Some job.item
 item_task plan number host ticket play job None e = cc

@@ -14,6 +14,7 @@ use Rattle.pb_outcome.specs.declared.item.Item.{Item}
 use Rattle.pb_outcome.specs.declared.job.Report.{Report}
 use Rattle.pb_outcome.specs.declared.outcome.Form.{Form}
 use Rattle.pb_outcome.specs.Items.{is_over}
+use Rattle.pb_sight.specs.Results.{items_at}
 use Rattle.pb_state.specs.declared.event.Event.{Event}
 use Rattle.pb_state.specs.declared.event.Event.TheVariants.{Open, Start, Send, Report as Reported, Turn, Close, Stop, Forks}
 use Rattle.pb_state.specs.declared.row.Running.{Running}
@@ -21,8 +22,10 @@ use Rattle.pb_plan.specs.Plan.{PlayOf, PlanOf}
 use Rattle.pb_state.specs.Batches.{room_behind, joined_first}
 use Rattle.pb_state.specs.Row.{HostRow, first_rows, called, place_of, next_place, ended, items_after, progressed, sent, sent_running, reported, reported_running, left}
 use Rattle.pb_state.specs.State.{State}
-use Rattle.pb_state.specs.Machine.{possible, after, change, at_row, open_play, same_place, may_start_in, may_send_in, opened_by, after_open, started_in, next_at, facts_at, plan_seen, start_at, sent_in, reported_in, turned_in, first_state}
-use Rattle.pb_state.specs.Results.{items_at}
+use Rattle.pb_inventory.specs.InventoryOf.{InventoryOf}
+use Rattle.pb_sight.specs.declared.gifts.Gift.{Gift}
+use Rattle.pb_state.proofs.Giving.{given_keeps, length-given}
+use Rattle.pb_state.specs.Machine.{possible, after, change, takes, given_to, gifts_at, report_gives, at_row, open_play, same_place, may_start_in, may_send_in, opened_by, after_open, started_in, next_at, facts_at, plan_seen, start_at, sent_in, reported_in, turned_in, first_state}
 use Rattle.pb_state.specs.Run.{legal_from, state_from, IsRun}
 use Rattle.pb_state.proofs.Batching.{length-joined}
 use Rattle.pb_state.proofs.Opening.{length-first, open_case, rows_case}
@@ -88,6 +91,10 @@ held_change size sends f keeps (row ∷ rows) zero held = (keeps row held.0, hel
 held_change size sends f keeps (row ∷ rows) (suc h) held =
     rw (change_on row rows h f (slice_get rows h) refl) (held.0, held_change size sends f keeps rows h held.1)
 
+-- what hosts are given leaves their tasks as they are
+given_held : (size sends : ℕ) (gifts : List Gift) (rows : List HostRow) → AreHeld size sends rows → AreHeld size sends (given_to gifts rows)
+given_held size sends gifts rows held = given_keeps (AreHeld size sends) (λ gift all held. held_change size sends (takes gift) (λ row task. task) all gift.host.0 held) gifts rows held
+
 -- more was sent
 below_more : (sends : ℕ) (out : Option Ticket) → IsOutBelow sends out → IsOutBelow (sends + 1) out
 below_more sends None b = tt
@@ -102,10 +109,10 @@ held_more size sends [] held = tt
 held_more size sends (row ∷ rows) held = (task_more size sends row.running held.0, held_more size sends rows held.1)
 
 -- a task that has come to some items
-progressed_held : (p size sends : ℕ) (play : PlayOf) (items : List Item) (row : HostRow) → p < size → IsHeldTask size sends (progressed play p items row).running
-progressed_held p size sends play items row below = by_over (is_over items) refl
+progressed_held : (p size sends : ℕ) (inventory : InventoryOf) (play : PlayOf) (items : List Item) (row : HostRow) → p < size → IsHeldTask size sends (progressed inventory play p items row).running
+progressed_held p size sends inventory play items row below = by_over (is_over items) refl
   where
-    by_over : (over : Bool) → is_over items ≡ over → IsHeldTask size sends (if over then ended play p items row else record row { running = Some (record { place = p; items = items; out = None }) }).running
+    by_over : (over : Bool) → is_over items ≡ over → IsHeldTask size sends (if over then ended inventory play p items row else record row { running = Some (record { place = p; items = items; out = None }) }).running
     by_over true e = tt
     by_over false e = (below, tt, e)
 
@@ -138,12 +145,15 @@ start_open plan s h play (Some p) = refl
 start_tasks : (plan : PlanOf) (s : State) (h : ℕ) (play : PlayOf) (place : Option ℕ) → AreHeld (size_of play.tree) s.sends s.rows → AllIn play.tree s.rows → at_row (stands_at place) s.rows h ≡ true → AreHeld (size_of play.tree) (option_map_or (start_at plan s h play) place s).sends (option_map_or (start_at plan s h play) place s).rows
 start_tasks plan s h play None held all e = held
 start_tasks plan s h play (Some p) held all e =
-    held_change (size_of play.tree) s.sends (progressed play p (items_at (plan_seen plan s) play h (facts_at s h) p))
-    (λ row held. progressed_held p (size_of play.tree) s.sends play (items_at (plan_seen plan s) play h (facts_at s h) p) row (place_at play.tree p s.rows h all e)) s.rows h held
+    given_held (size_of play.tree) s.sends (gifts_at plan.inventory play p h (items_at (plan_seen plan s) play h (facts_at s h) p)) (change s.rows h (progressed plan.inventory play p (items_at (plan_seen plan s) play h (facts_at s h) p)))
+    (held_change (size_of play.tree) s.sends (progressed plan.inventory play p (items_at (plan_seen plan s) play h (facts_at s h) p))
+    (λ row held. progressed_held p (size_of play.tree) s.sends plan.inventory play (items_at (plan_seen plan s) play h (facts_at s h) p) row (place_at play.tree p s.rows h all e)) s.rows h held)
 
 start_hosts : (plan : PlanOf) (s : State) (h : ℕ) (play : PlayOf) (place : Option ℕ) → length (option_map_or (start_at plan s h play) place s).rows ≡ length s.rows
 start_hosts plan s h play None = refl
-start_hosts plan s h play (Some p) = length-change s.rows h _
+start_hosts plan s h play (Some p) =
+    length-given (gifts_at plan.inventory play p h (items_at (plan_seen plan s) play h (facts_at s h) p)) (change s.rows h (progressed plan.inventory play p (items_at (plan_seen plan s) play h (facts_at s h) p)))
+    ∙ length-change s.rows h (progressed plan.inventory play p (items_at (plan_seen plan s) play h (facts_at s h) p))
 
 started_in_held : (plan : PlanOf) (s : State) (h : ℕ) (found : Option PlayOf) → open_play plan s ≡ found → IsOfPlan plan s → IsHeld plan s → option_map_or (may_start_in s h) found false ≡ true → IsHeld plan (option_map_or (started_in plan s h) found s)
 started_in_held plan s h None o trees held e = held
@@ -175,13 +185,17 @@ reported_held plan play outcome size sends row held = by_running row.running hel
   where
     by_running : (running : Option Running) → IsHeldTask size sends running → IsHeldTask size sends (option_map_or (reported_running plan play outcome row) running row).running
     by_running None task = held
-    by_running (Some r) task = progressed_held r.place size sends play (items_after plan play row.host row.facts outcome r) row task.0
+    by_running (Some r) task = progressed_held r.place size sends plan.inventory play (items_after plan play row.host row.facts outcome r) row task.0
 
 reported_in_held : (plan : PlanOf) (s : State) (r : Report) (found : Option PlayOf) → open_play plan s ≡ found → IsHeld plan s → IsHeld plan (option_map_or (reported_in plan s r) found s)
 reported_in_held plan s r None o held = held
 reported_in_held plan s r (Some play) o held = record {
-  hosts = length-change s.rows r.host.0 (reported (plan_seen plan s) play r.outcome) ∙ held.hosts;
-  tasks = held_change (places_in (open_play plan s)) s.sends (reported (plan_seen plan s) play r.outcome) (λ row task. reported_held (plan_seen plan s) play r.outcome (places_in (open_play plan s)) s.sends row task) s.rows r.host.0 held.tasks;
+  hosts =
+      length-given (report_gives (plan_seen plan s) play r.outcome r.host.0 s.rows) (change s.rows r.host.0 (reported (plan_seen plan s) play r.outcome))
+      ∙ length-change s.rows r.host.0 (reported (plan_seen plan s) play r.outcome) ∙ held.hosts;
+  tasks =
+      given_held (places_in (open_play plan s)) s.sends (report_gives (plan_seen plan s) play r.outcome r.host.0 s.rows) (change s.rows r.host.0 (reported (plan_seen plan s) play r.outcome))
+      (held_change (places_in (open_play plan s)) s.sends (reported (plan_seen plan s) play r.outcome) (λ row task. reported_held (plan_seen plan s) play r.outcome (places_in (open_play plan s)) s.sends row task) s.rows r.host.0 held.tasks);
 }
 
 -- the others

@@ -1,6 +1,6 @@
 -- Jobs that are out in a run.
 use Rattle.std.proofs.Common.{◌≡◌, ℕ, zero, suc, ◌<◌, ◌≤◌, Bool, true, false, ◌&&◌, ◌||◌, not, List, [], ◌∷◌, length, refl, ◌∙◌, ap, subst, arith}
-use Rattle.std.specs.Prelude.{◌==◌, Option, Some, None, slice_get, is_some, option_map, if◌then◌else◌}
+use Rattle.std.specs.Prelude.{◌==◌, Option, Some, None, slice_get, is_some, option_map, unwrap_or, if◌then◌else◌}
 use Rattle.std.specs.List.{list_any}
 use Rattle.std.specs.Option.{option_map_or}
 use Rattle.std.proofs.lemmas.Bool.{lt-ltb, eqb-true}
@@ -21,8 +21,7 @@ use Rattle.pb_plan.specs.Plan.{PlayOf, PlanOf}
 use Rattle.pb_state.specs.Row.{HostRow}
 use Rattle.pb_state.specs.State.{State}
 use Rattle.pb_state.specs.Machine.{possible, at_row, awaits, awaits_running, has_ticket, is_ticket, is_running, item_of, item_at, open_play, may_report_in, may_send_in, may_send_item, sends_running}
-use Rattle.pb_variables.specs.Connector.{connector_of}
-use Rattle.pb_state.specs.Jobs.{job_of, job_in, row_job, running_job, item_job, placed_job, call_in, job_with}
+use Rattle.pb_state.specs.Jobs.{job_of, job_in, row_job, running_job, item_job, placed_job, call_in, delegate_in, connector_for, job_with}
 use Rattle.pb_state.specs.Oldest.{oldest_out}
 use Rattle.pb_state.specs.Run.{is_move, IsRun}
 use Rattle.pb_state.proofs.InOrder.{goes_on_at, has_call}
@@ -126,19 +125,20 @@ row_within test [] h e = cc
 row_within test (row ∷ rows) zero e = omega arith
 row_within test (row ∷ rows) (suc h) e = let rest = row_within test rows h e in omega (arith, rest)
 
-named_some : (plan : PlanOf) (number : ℕ) (host : HostNo) (ticket : Ticket) (item : ℕ) (call : Call) (path : Option (List ℕ)) (name : Option (List ℕ)) → is_some path ≡ true → is_some name ≡ true → is_some (option_map_or (λ (p : List ℕ). option_map (λ (n : List ℕ). job_with number host ticket item call n (connector_of plan.inventory host.0) p) name) path None) ≡ true
-named_some plan number host ticket item call None name e f = cc
-named_some plan number host ticket item call (Some path) None e f = cc
-named_some plan number host ticket item call (Some path) (Some name) e f = refl
+named_some : (plan : PlanOf) (number : ℕ) (host : HostNo) (ticket : Ticket) (item : ℕ) (delegate : Option (List ℕ)) (call : Call) (path : Option (List ℕ)) (name : Option (List ℕ)) → is_some path ≡ true → is_some name ≡ true
+    → is_some (option_map_or (λ (p : List ℕ). option_map (λ (n : List ℕ). job_with number host ticket item call n (unwrap_or delegate n) (connector_for plan.inventory host.0 delegate) p) name) path None) ≡ true
+named_some plan number host ticket item delegate call None name e f = cc
+named_some plan number host ticket item delegate call (Some path) None e f = cc
+named_some plan number host ticket item delegate call (Some path) (Some name) e f = refl
 
 path_some : (tree : TreeOf) (p : ℕ) → p < size_of tree → is_some (path_at tree p) ≡ true
 path_some tree p b = get_some (paths tree) p (rw (length_paths tree.handlers tree.nodes) b)
 
 -- the job of an item that has a call
-call_job : (plan : PlanOf) (number : ℕ) (host : HostNo) (ticket : Ticket) (play : PlayOf) (r : Running) (n : ℕ) (call : Call) (found : Option Call) → host.0 < length plan.inventory.hosts → r.place < size_of play.tree → found ≡ Some call → is_some (option_map_or (placed_job plan number host ticket play r.place n) found None) ≡ true
+call_job : (plan : PlanOf) (number : ℕ) (host : HostNo) (ticket : Ticket) (play : PlayOf) (r : Running) (n : ℕ) (call : Call) (found : Option Call) → host.0 < length plan.inventory.hosts → r.place < size_of play.tree → found ≡ Some call → is_some (option_map_or (placed_job plan number host ticket play r.place n (delegate_in r.items n)) found None) ≡ true
 call_job plan number host ticket play r n call None b below e = cc
 call_job plan number host ticket play r n call (Some c) b below e =
-    named_some plan number host ticket n c (path_at play.tree r.place) (slice_get plan.inventory.hosts host.0) (path_some play.tree r.place below) (get_some plan.inventory.hosts host.0 b)
+    named_some plan number host ticket n (delegate_in r.items n) c (path_at play.tree r.place) (slice_get plan.inventory.hosts host.0) (path_some play.tree r.place below) (get_some plan.inventory.hosts host.0 b)
 
 next_job : (plan : PlanOf) (number : ℕ) (host : HostNo) (ticket : Ticket) (play : PlayOf) (r : Running) (n : ℕ) (call : Call) (next : Option ℕ) → host.0 < length plan.inventory.hosts → r.place < size_of play.tree → next ≡ Some n → call_in r.items n ≡ Some call → is_some (option_map_or (item_job plan number host ticket play r) next None) ≡ true
 next_job plan number host ticket play r n call None b below e f = cc

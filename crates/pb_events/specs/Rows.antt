@@ -8,12 +8,12 @@ use Rattle.pb_outcome.specs.declared.outcome.Form.{Form}
 use Rattle.pb_outcome.specs.declared.outcome.Form.TheVariants.{Ran, Unreachable}
 use Rattle.pb_play.specs.declared.modules.Module.{Module}
 use Rattle.pb_play.specs.declared.modules.Module.TheVariants.{Debug, Fail, Shell}
+use Rattle.pb_sight.specs.Results.{on_tasks}
 use Rattle.pb_state.specs.declared.event.Event.{Event}
 use Rattle.pb_state.specs.declared.event.Event.TheVariants.{Open, Start, Send, Report as Reported, Turn, Close, Stop, Forks}
 use Rattle.pb_places.specs.Place.{bare_place}
 use Rattle.pb_state.specs.Machine.{first_state}
 use Rattle.pb_plan.specs.Plan.{PlayOf, PlanOf, bare_play, bare_plan, bare_tree}
-use Rattle.pb_state.specs.Results.{on_tasks}
 use Rattle.pb_state.specs.Run.{state_from}
 use Rattle.pb_state.specs.State.{State}
 use Rattle.pb_events.specs.Line.{line}

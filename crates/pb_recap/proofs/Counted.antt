@@ -10,6 +10,9 @@ use Rattle.pb_outcome.specs.declared.job.Report.{Report}
 use Rattle.pb_outcome.specs.declared.outcome.Form.{Form}
 use Rattle.pb_outcome.specs.Items.{is_over}
 use Rattle.pb_tree.specs.Tree.{TreeOf}
+use Rattle.pb_inventory.specs.InventoryOf.{InventoryOf}
+use Rattle.pb_sight.specs.Results.{items_at}
+use Rattle.pb_sight.specs.declared.gifts.Gift.{Gift}
 use Rattle.pb_state.specs.declared.event.Event.{Event}
 use Rattle.pb_state.specs.declared.event.Event.TheVariants.{Open, Start, Send, Report as Reported, Turn, Close, Stop, Forks}
 use Rattle.pb_state.specs.declared.row.Counts.{Counts}
@@ -18,10 +21,10 @@ use Rattle.pb_plan.specs.Plan.{PlayOf, PlanOf}
 use Rattle.pb_state.specs.Batches.{room_behind, joined_first}
 use Rattle.pb_state.specs.Row.{HostRow, first_rows, next_place, called, left, ended, pending, ignores_at, caught_at, meta_at, task_at, items_after, progressed, sent, reported, reported_running}
 use Rattle.pb_state.specs.State.{State}
-use Rattle.pb_state.specs.Results.{items_at}
-use Rattle.pb_state.specs.Machine.{change, open_play, possible, after, first_state, opened_by, after_open, started_in, facts_at, plan_seen, start_at, start_with, sent_in, reported_in, done_at, done_if, report_decides, decided_by, pending_at, turned_in, may_start_in, next_at, may_report_in, at_row, same_place}
+use Rattle.pb_state.specs.Machine.{change, takes, given_to, gifts_at, report_gives, open_play, possible, after, first_state, opened_by, after_open, started_in, facts_at, plan_seen, start_at, start_with, sent_in, reported_in, done_at, done_if, report_decides, decided_by, pending_at, turned_in, may_start_in, next_at, may_report_in, at_row, same_place}
 use Rattle.pb_state.specs.Run.{legal_from, state_from, IsRun}
 use Rattle.pb_state.proofs.Batching.{length-joined}
+use Rattle.pb_state.proofs.Giving.{length-given}
 use Rattle.pb_state.proofs.Stands.{stands_at, start_stands}
 use Rattle.pb_state.proofs.Opening.{length-first, open_case, rows_case}
 use Rattle.pb_recap.specs.declared.kind.CountKind.{CountKind}
@@ -87,10 +90,10 @@ none_if false = refl
 abbrev items_add : CountKind → PlayOf → ℕ → List Item → ℕ
 items_add kind play p items = if is_over items then one (counts_under kind (task_at play p items)) else 0
 
-progressed_row : (kind : CountKind) (play : PlayOf) (p : ℕ) (items : List Item) (row : HostRow) → count_of kind (progressed play p items row).counts ≡ items_add kind play p items + count_of kind row.counts
-progressed_row kind play p items row = by_over (is_over items)
+progressed_row : (kind : CountKind) (inventory : InventoryOf) (play : PlayOf) (p : ℕ) (items : List Item) (row : HostRow) → count_of kind (progressed inventory play p items row).counts ≡ items_add kind play p items + count_of kind row.counts
+progressed_row kind inventory play p items row = by_over (is_over items)
   where
-    by_over : (over : Bool) → count_of kind (if over then ended play p items row else record row { running = Some (record { place = p; items = items; out = None }) }).counts
+    by_over : (over : Bool) → count_of kind (if over then ended inventory play p items row else record row { running = Some (record { place = p; items = items; out = None }) }).counts
         ≡ (if over then one (counts_under kind (task_at play p items)) else 0) + count_of kind row.counts
     by_over true = task_counts (ignores_at play p) items (caught_at play p) (meta_at play p) row.counts kind
     by_over false = none_more (count_of kind row.counts)
@@ -102,11 +105,24 @@ progressed_told kind play p marks items h k = by_over (is_over items)
     by_over true = if_both (h == k) (counts_under kind (task_at play p items))
     by_over false = none_if (h == k)
 
+-- what hosts are given doesn't count
+takes_keep : (kind : CountKind) (gift : Gift) (rows : List HostRow) (h k : ℕ) → row_count kind (change rows h (takes gift)) k ≡ row_count kind rows k
+takes_keep kind gift [] h k = refl
+takes_keep kind gift (row ∷ rows) zero zero = refl
+takes_keep kind gift (row ∷ rows) zero (suc k) = refl
+takes_keep kind gift (row ∷ rows) (suc h) zero = rw (change_on row rows h (takes gift) (slice_get rows h) refl) refl
+takes_keep kind gift (row ∷ rows) (suc h) (suc k) = rw (change_on row rows h (takes gift) (slice_get rows h) refl) (takes_keep kind gift rows h k)
+
+given_keep : (kind : CountKind) (gifts : List Gift) (rows : List HostRow) (k : ℕ) → row_count kind (given_to gifts rows) k ≡ row_count kind rows k
+given_keep kind [] rows k = refl
+given_keep kind (gift ∷ gifts) rows k = given_keep kind gifts (change rows gift.host.0 (takes gift)) k ∙ takes_keep kind gift rows gift.host.0 k
+
 -- a task that starts
-start_with_counts : (kind : CountKind) (s : State) (h k : ℕ) (play : PlayOf) (p : ℕ) (items : List Item) → k < length s.rows
-    → row_count kind (start_with s h play p items).rows k ≡ counted k kind (ended_in (start_with s h play p items) h) + row_count kind s.rows k
-start_with_counts kind s h k play p items b =
-    changed_count kind (progressed play p items) (items_add kind play p items) s.rows h k b (λ row e. progressed_row kind play p items row)
+start_with_counts : (kind : CountKind) (inventory : InventoryOf) (s : State) (h k : ℕ) (play : PlayOf) (p : ℕ) (items : List Item) → k < length s.rows
+    → row_count kind (start_with inventory s h play p items).rows k ≡ counted k kind (ended_in (start_with inventory s h play p items) h) + row_count kind s.rows k
+start_with_counts kind inventory s h k play p items b =
+    given_keep kind (gifts_at inventory play p h items) (change s.rows h (progressed inventory play p items)) k
+    ∙ changed_count kind (progressed inventory play p items) (items_add kind play p items) s.rows h k b (λ row e. progressed_row kind inventory play p items row)
     ∙ ap (λ n. n + row_count kind s.rows k) (sym (progressed_told kind play p (pending_at s h) items h k))
 
 -- no host starts where there is no place
@@ -122,7 +138,7 @@ no_start (Some row) e = no_same _ (next_place row) e
 start_counts : (kind : CountKind) (plan : PlanOf) (s : State) (h k : ℕ) (play : PlayOf) (place : Option ℕ) → k < length s.rows → at_row (stands_at place) s.rows h ≡ true
     → row_count kind (option_map_or (start_at plan s h play) place s).rows k ≡ counted k kind (ended_in (option_map_or (start_at plan s h play) place s) h) + row_count kind s.rows k
 start_counts kind plan s h k play None b may = absurd (no_start (slice_get s.rows h) may)
-start_counts kind plan s h k play (Some p) b may = start_with_counts kind s h k play p (items_at (plan_seen plan s) play h (facts_at s h) p) b
+start_counts kind plan s h k play (Some p) b may = start_with_counts kind plan.inventory s h k play p (items_at (plan_seen plan s) play h (facts_at s h) p) b
 
 started_counts : (kind : CountKind) (plan : PlanOf) (s : State) (h k : ℕ) (found : Option PlayOf) → k < length s.rows → option_map_or (may_start_in s h) found false ≡ true
     → row_count kind (option_map_or (started_in plan s h) found s).rows k ≡ counted k kind (ended_in (option_map_or (started_in plan s h) found s) h) + row_count kind s.rows k
@@ -146,7 +162,7 @@ report_adds kind plan play outcome row (Some r) = items_add kind play r.place (i
 report_row : (kind : CountKind) (plan : PlanOf) (play : PlayOf) (outcome : Form) (row : HostRow) (running : Option Running)
     → count_of kind (option_map_or (reported_running plan play outcome row) running row).counts ≡ report_adds kind plan play outcome row running + count_of kind row.counts
 report_row kind plan play outcome row None = none_more (count_of kind row.counts)
-report_row kind plan play outcome row (Some r) = progressed_row kind play r.place (items_after plan play row.host row.facts outcome r) row
+report_row kind plan play outcome row (Some r) = progressed_row kind plan.inventory play r.place (items_after plan play row.host row.facts outcome r) row
 
 report_told : (kind : CountKind) (plan : PlanOf) (play : PlayOf) (outcome : Form) (h k : ℕ) (row : HostRow) (running : Option Running)
     → counted k kind (option_map_or (ended_by h) (option_map (decided_by plan play outcome row) running) None) ≡ added (report_adds kind plan play outcome row running) h k
@@ -164,7 +180,9 @@ report_counts kind plan play outcome rows h k (Some row) e b =
 reported_counts : (kind : CountKind) (plan : PlanOf) (s : State) (r : Report) (k : ℕ) (found : Option PlayOf) → k < length s.rows → option_map_or (may_report_in s r) found false ≡ true
     → row_count kind (option_map_or (reported_in plan s r) found s).rows k ≡ counted k kind (ended_in (option_map_or (reported_in plan s r) found s) r.host.0) + row_count kind s.rows k
 reported_counts kind plan s r k None b may = cc
-reported_counts kind plan s r k (Some play) b may = report_counts kind (plan_seen plan s) play r.outcome s.rows r.host.0 k (slice_get s.rows r.host.0) refl b
+reported_counts kind plan s r k (Some play) b may =
+    given_keep kind (report_gives (plan_seen plan s) play r.outcome r.host.0 s.rows) (change s.rows r.host.0 (reported (plan_seen plan s) play r.outcome)) k
+    ∙ report_counts kind (plan_seen plan s) play r.outcome s.rows r.host.0 k (slice_get s.rows r.host.0) refl b
 
 opened_counts : (kind : CountKind) (plan : PlanOf) (s : State) (k : ℕ) → row_count kind (after_open plan s).rows k ≡ row_count kind s.rows k
 opened_counts kind plan s k =
@@ -199,7 +217,9 @@ change_hosts rows h f = changed_hosts rows h f (slice_get rows h)
 
 start_hosts : (plan : PlanOf) (s : State) (h : ℕ) (play : PlayOf) (place : Option ℕ) → length (option_map_or (start_at plan s h play) place s).rows ≡ length s.rows
 start_hosts plan s h play None = refl
-start_hosts plan s h play (Some p) = change_hosts s.rows h (progressed play p (items_at (plan_seen plan s) play h (facts_at s h) p))
+start_hosts plan s h play (Some p) =
+    length-given (gifts_at plan.inventory play p h (items_at (plan_seen plan s) play h (facts_at s h) p)) (change s.rows h (progressed plan.inventory play p (items_at (plan_seen plan s) play h (facts_at s h) p)))
+    ∙ change_hosts s.rows h (progressed plan.inventory play p (items_at (plan_seen plan s) play h (facts_at s h) p))
 
 started_hosts : (plan : PlanOf) (s : State) (h : ℕ) (found : Option PlayOf) → length (option_map_or (started_in plan s h) found s).rows ≡ length s.rows
 started_hosts plan s h None = refl
@@ -211,7 +231,9 @@ sent_hosts s h ticket (Some play) = change_hosts s.rows h (sent ticket)
 
 reported_hosts : (plan : PlanOf) (s : State) (r : Report) (found : Option PlayOf) → length (option_map_or (reported_in plan s r) found s).rows ≡ length s.rows
 reported_hosts plan s r None = refl
-reported_hosts plan s r (Some play) = change_hosts s.rows r.host.0 (reported (plan_seen plan s) play r.outcome)
+reported_hosts plan s r (Some play) =
+    length-given (report_gives (plan_seen plan s) play r.outcome r.host.0 s.rows) (change s.rows r.host.0 (reported (plan_seen plan s) play r.outcome))
+    ∙ change_hosts s.rows r.host.0 (reported (plan_seen plan s) play r.outcome)
 
 opened_hosts : (plan : PlanOf) (s : State) → length (after_open plan s).rows ≡ length s.rows
 opened_hosts plan s =

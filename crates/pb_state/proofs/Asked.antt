@@ -1,14 +1,16 @@
 -- What is kept beside the rows: it stays right as rows change.
 use Rattle.std.proofs.Common.{◌≡◌, ℕ, zero, suc, ◌+◌, ◌≤◌, Bool, true, false, List, [], ◌∷◌, length, map, refl, sym, ◌∙◌, ap, arith}
-use Rattle.std.specs.Prelude.{Option, Some, None, slice_get, slice_set, replicate}
+use Rattle.std.specs.Prelude.{Option, Some, None, option_map, slice_get, slice_set, replicate}
 use Rattle.std.specs.Option.{option_map_or}
 use Rattle.std.proofs.lemmas.List.{length-map}
 use Rattle.pb_strategies.specs.declared.standings.Standing.{Standing}
 use Rattle.pb_strategies.specs.Hosts.{nowhere}
 use Rattle.pb_state.specs.Row.{HostRow, first_rows}
-use Rattle.pb_state.specs.Machine.{change, has_send}
+use Rattle.pb_sight.specs.declared.gifts.Gift.{Gift}
+use Rattle.pb_state.specs.Machine.{change, takes, given_to, has_send}
 use Rattle.pb_state.specs.Strategies.{standing}
 use Rattle.pb_state.specs.Due.{asked_at, IsDue}
+use Rattle.pb_state.proofs.Giving.{given_map}
 
 -- a list that says something of each host is as long as the rows
 pub width_is : {A : Type 0} (of : HostRow → A) (rows : List HostRow) (told : List A) → told ≡ map of rows → length told ≡ length rows
@@ -63,6 +65,47 @@ one_due f h sends told_sends standings told_standings rows new due n s t =
     record {
       sending = one_asked has_send f h sends told_sends rows new due.sending n s;
       stands = one_asked standing f h standings told_standings rows new due.stands n t;
+    }
+
+-- what hosts are given changes nothing of it
+asked_of : {A : Type 0} (of : HostRow → A) (rows : List HostRow) (h : ℕ) (told : List A) → asked_at of rows h told ≡ option_map_or (slice_set told h) (option_map of (slice_get rows h)) told
+asked_of {A} of rows h told = by_found (slice_get rows h)
+  where
+    by_found : (found : Option HostRow) → option_map_or (λ (r : HostRow). slice_set told h (of r)) found told ≡ option_map_or (slice_set told h) (option_map of found) told
+    by_found None = refl
+    by_found (Some row) = refl
+
+of_changed : {A : Type 0} (of : HostRow → A) (f : HostRow → HostRow) → ((row : HostRow) → of (f row) ≡ of row) → (rows : List HostRow) (k h : ℕ) → option_map of (slice_get (change rows k f) h) ≡ option_map of (slice_get rows h)
+of_changed of f same [] k h = refl
+of_changed of f same (row ∷ rows) zero zero = ap Some (same row)
+of_changed of f same (row ∷ rows) zero (suc h) = refl
+of_changed of f same (row ∷ rows) (suc k) zero = rw (changed_on row rows k f) refl
+of_changed of f same (row ∷ rows) (suc k) (suc h) = rw (changed_on row rows k f) (of_changed of f same rows k h)
+
+asked_given : {A : Type 0} (of : HostRow → A) → ((gift : Gift) (row : HostRow) → of (takes gift row) ≡ of row) → (gifts : List Gift) (rows : List HostRow) (h : ℕ) (told : List A) → asked_at of (given_to gifts rows) h told ≡ asked_at of rows h told
+asked_given of same [] rows h told = refl
+asked_given of same (gift ∷ gifts) rows h told =
+    asked_given of same gifts (change rows gift.host.0 (takes gift)) h told
+    ∙ asked_of of (change rows gift.host.0 (takes gift)) h told
+    ∙ ap (λ found. option_map_or (slice_set told h) found told) (of_changed of (takes gift) (same gift) rows gift.host.0 h)
+    ∙ sym (asked_of of rows h told)
+
+one_given : {A : Type 0} (of : HostRow → A) → ((gift : Gift) (row : HostRow) → of (takes gift row) ≡ of row) → (gifts : List Gift) (f : HostRow → HostRow) (h : ℕ) (told new_told : List A) (rows new : List HostRow) → told ≡ map of rows
+    → new ≡ given_to gifts (change rows h f) → new_told ≡ asked_at of new h told → new_told ≡ map of new
+one_given of same gifts f h told new_told rows new e n t =
+    t ∙ ap (λ (all : List HostRow). asked_at of all h told) n
+    ∙ asked_given of same gifts (change rows h f) h told
+    ∙ ap (asked_at of (change rows h f) h) e
+    ∙ asked_changed of f rows h
+    ∙ sym (given_map of same gifts (change rows h f))
+    ∙ ap (map of) (sym n)
+
+pub given_due : (gifts : List Gift) (f : HostRow → HostRow) (h : ℕ) (sends told_sends : List Bool) (standings told_standings : List Standing) (rows new : List HostRow) → IsDue sends standings rows
+    → new ≡ given_to gifts (change rows h f) → told_sends ≡ asked_at has_send new h sends → told_standings ≡ asked_at standing new h standings → IsDue told_sends told_standings new
+given_due gifts f h sends told_sends standings told_standings rows new due n s t =
+    record {
+      sending = one_given has_send (λ gift row. refl) gifts f h sends told_sends rows new due.sending n s;
+      stands = one_given standing (λ gift row. refl) gifts f h standings told_standings rows new due.stands n t;
     }
 
 -- before the run nobody has a job to send, and nobody is in a batch

@@ -1,5 +1,6 @@
+pub mod Giving
+pub mod Preparing
 pub mod InOrder
-pub mod FewItems
 pub mod ReadHosts
 pub mod Stands
 pub mod Idle
@@ -7,7 +8,6 @@ pub mod Readies
 pub mod SizesLeft
 pub mod Batching
 pub mod Joined
-pub mod Layered
 pub mod Least
 pub mod Opening
 pub mod Oldest
@@ -24,4 +24,3 @@ pub mod Went
 pub mod Once
 pub mod Rising
 pub mod Walks
-pub mod Taught

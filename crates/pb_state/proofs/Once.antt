@@ -18,10 +18,13 @@ use Rattle.pb_outcome.specs.declared.item.Item.{Item}
 use Rattle.pb_outcome.specs.declared.job.Report.{Report}
 use Rattle.pb_outcome.specs.declared.outcome.Form.{Form}
 use Rattle.pb_outcome.specs.Items.{is_over}
+use Rattle.pb_sight.specs.Results.{items_at}
+use Rattle.pb_sight.proofs.FewItems.{few_items}
 use Rattle.pb_state.specs.declared.decided.TaskEnd.{TaskEnd}
 use Rattle.pb_state.specs.declared.event.Event.{Event}
 use Rattle.pb_state.specs.declared.event.Event.TheVariants.{Open, Start, Send, Report as Reported, Turn, Close, Stop, Forks}
 use Rattle.pb_state.specs.declared.row.Running.{Running}
+use Rattle.pb_inventory.specs.InventoryOf.{InventoryOf}
 use Rattle.pb_plan.specs.Plan.{PlayOf, PlanOf}
 use Rattle.pb_state.specs.Batches.{has_later, joins, room_behind, joined_first}
 use Rattle.pb_state.specs.Row.{HostRow, place_of, next_place, joined, left, finished, ended, task_at, taught, came_back, items_after, progressed, sent, sent_running, reported, reported_running}
@@ -29,10 +32,10 @@ use Rattle.pb_state.specs.Ends.{kind_of, answer_of}
 use Rattle.pb_state.specs.Handlers.{notified_by}
 use Rattle.pb_state.specs.State.{State}
 use Rattle.pb_state.specs.Kept.{first_waiting}
-use Rattle.pb_state.specs.Results.{items_at}
-use Rattle.pb_state.specs.Machine.{possible, after, change, at_row, open_play, same_place, is_running, is_ticket, sends_running, may_send_item, awaits_running, awaits, may_start_in, may_send_in, may_report_in, may_close_in, opened_by, after_open, play_behind, closed, started_in, next_at, facts_at, plan_seen, start_at, sent_in, reported_in, turned_in, first_state}
+use Rattle.pb_sight.specs.declared.gifts.Gift.{Gift}
+use Rattle.pb_state.specs.Machine.{possible, after, change, takes, given_to, gifts_at, report_gives, at_row, open_play, same_place, is_running, is_ticket, sends_running, may_send_item, awaits_running, awaits, may_start_in, may_send_in, may_report_in, may_close_in, opened_by, after_open, play_behind, closed, started_in, next_at, facts_at, plan_seen, start_at, sent_in, reported_in, turned_in, first_state}
 use Rattle.pb_state.specs.Run.{legal_from, IsRun}
-use Rattle.pb_state.proofs.FewItems.{few_items}
+use Rattle.pb_state.proofs.Giving.{given_keeps}
 use Rattle.pb_state.proofs.InOrder.{first_most, is_next_so, length_back, back_later}
 use Rattle.pb_state.proofs.Opening.{GoesOn, Begins, IsOpening, open_case}
 use Rattle.pb_state.proofs.Stands.{stands_at, start_stands}
@@ -100,12 +103,12 @@ finished_from : (n p : ℕ) (task : TaskEnd) (notified : List ℕ) (facts : Fact
 finished_from n p task notified facts row e l =
     above_from n p (reach row.tree (row.answers ++ answer_of task notified ∷ [])) (places_rise row.tree row.answers (answer_of task notified) p e (answer_counts row.answers task notified)) l
 
-progressed_from : (n p : ℕ) (play : PlayOf) (items : List Item) (row : HostRow) → reach row.tree row.answers ≡ At p → n ≤ 10002 * p + first_waiting items + 1 → length items ≤ 10000
-    → row.in_batch ≡ true → RowFrom n (progressed play p items row)
-progressed_from n p play items row e l few inside = by_over (is_over items)
+progressed_from : (n p : ℕ) (inventory : InventoryOf) (play : PlayOf) (items : List Item) (row : HostRow) → reach row.tree row.answers ≡ At p → n ≤ 10002 * p + first_waiting items + 1 → length items ≤ 10000
+    → row.in_batch ≡ true → RowFrom n (progressed inventory play p items row)
+progressed_from n p inventory play items row e l few inside = by_over (is_over items)
   where
-    by_over : (over : Bool) → RowFrom n (if over then ended play p items row else record row { running = Some (record { place = p; items = items; out = None }) })
-    by_over true = let most = first_most items in finished_from n p (task_at play p items) (notified_by play p (task_at play p items)) (taught play p items row.facts) row e (omega (arith, l, few, most))
+    by_over : (over : Bool) → RowFrom n (if over then ended inventory play p items row else record row { running = Some (record { place = p; items = items; out = None }) })
+    by_over true = let most = first_most items in finished_from n p (task_at play p items) (notified_by play p (task_at play p items)) (taught inventory play p row.host items row.facts) row e (omega (arith, l, few, most))
     by_over false = (e, l, few, inside)
 
 same_is : (a b : Option ℕ) → same_place a b ≡ true → (p : ℕ) × (a ≡ Some p) × (b ≡ Some p)
@@ -177,7 +180,7 @@ reported_from n plan play outcome ticket item row e w = by_running row.running e
         back_later (came_back plan play row.host row.facts r.place outcome) r.items (omega (arith, first.0, first.1)) in
         let same : length (items_after plan play row.host row.facts outcome r) ≡ length r.items = length_back (came_back plan play row.host row.facts r.place outcome) r.items in
         let most = behind_most r.out in
-        progressed_from n r.place play (items_after plan play row.host row.facts outcome r) row v.0 (omega (arith, v.1, later, most)) (omega (arith, same, v.2)) v.3
+        progressed_from n r.place plan.inventory play (items_after plan play row.host row.facts outcome r) row v.0 (omega (arith, v.1, later, most)) (omega (arith, same, v.2)) v.3
 
 -- ---- the rows
 change_on : (row : HostRow) (rows : List HostRow) (h : ℕ) (f : HostRow → HostRow) (found : Option HostRow) → slice_get rows h ≡ found → change (row ∷ rows) (suc h) f ≡ row ∷ change rows h f
@@ -262,17 +265,17 @@ begun_at m f [] h each w = tt
 begun_at m f (row ∷ rows) zero each w = inside_begun (f row).in_batch (not (f row).waits) (each row refl w)
 begun_at m f (row ∷ rows) (suc h) each w = rw (change_on row rows h f (slice_get rows h) refl) (begun_at m f rows h each w)
 
-progressed_inside : (play : PlayOf) (p : ℕ) (items : List Item) (row : HostRow) → (progressed play p items row).in_batch ≡ row.in_batch
-progressed_inside play p items row = by_over (is_over items)
+progressed_inside : (inventory : InventoryOf) (play : PlayOf) (p : ℕ) (items : List Item) (row : HostRow) → (progressed inventory play p items row).in_batch ≡ row.in_batch
+progressed_inside inventory play p items row = by_over (is_over items)
   where
-    by_over : (over : Bool) → (if over then ended play p items row else record row { running = Some (record { place = p; items = items; out = None }) }).in_batch ≡ row.in_batch
+    by_over : (over : Bool) → (if over then ended inventory play p items row else record row { running = Some (record { place = p; items = items; out = None }) }).in_batch ≡ row.in_batch
     by_over true = refl
     by_over false = refl
 
-progressed_waits : (play : PlayOf) (p : ℕ) (items : List Item) (row : HostRow) → (progressed play p items row).waits ≡ row.waits
-progressed_waits play p items row = by_over (is_over items)
+progressed_waits : (inventory : InventoryOf) (play : PlayOf) (p : ℕ) (items : List Item) (row : HostRow) → (progressed inventory play p items row).waits ≡ row.waits
+progressed_waits inventory play p items row = by_over (is_over items)
   where
-    by_over : (over : Bool) → (if over then ended play p items row else record row { running = Some (record { place = p; items = items; out = None }) }).waits ≡ row.waits
+    by_over : (over : Bool) → (if over then ended inventory play p items row else record row { running = Some (record { place = p; items = items; out = None }) }).waits ≡ row.waits
     by_over true = refl
     by_over false = refl
 
@@ -281,14 +284,33 @@ reported_inside plan play outcome row = by_running row.running
   where
     by_running : (running : Option Running) → (option_map_or (reported_running plan play outcome row) running row).in_batch ≡ row.in_batch
     by_running None = refl
-    by_running (Some r) = progressed_inside play r.place (items_after plan play row.host row.facts outcome r) row
+    by_running (Some r) = progressed_inside plan.inventory play r.place (items_after plan play row.host row.facts outcome r) row
 
 reported_waits : (plan : PlanOf) (play : PlayOf) (outcome : Form) (row : HostRow) → (reported plan play outcome row).waits ≡ row.waits
 reported_waits plan play outcome row = by_running row.running
   where
     by_running : (running : Option Running) → (option_map_or (reported_running plan play outcome row) running row).waits ≡ row.waits
     by_running None = refl
-    by_running (Some r) = progressed_waits play r.place (items_after plan play row.host row.facts outcome r) row
+    by_running (Some r) = progressed_waits plan.inventory play r.place (items_after plan play row.host row.facts outcome r) row
+
+-- ---- gifts
+takes_from : (n : ℕ) (gift : Gift) (row : HostRow) → RowFrom n row → RowFrom n (takes gift row)
+takes_from n gift row w = by_running row.running w
+  where
+    by_running : (running : Option Running) → RunsFrom n row running → RunsFrom n (takes gift row) running
+    by_running None v = v
+    by_running (Some r) v = v
+
+given_from : (n h : ℕ) (gifts : List Gift) (rows : List HostRow) → FoundFrom n (slice_get rows h) → FoundFrom n (slice_get (given_to gifts rows) h)
+given_from n h gifts rows w =
+    given_keeps (λ (all : List HostRow). FoundFrom n (slice_get all h)) (λ gift all w. change_keeps n (takes gift) all gift.host.0 h (λ row is v. takes_from n gift row v) w) gifts rows w
+
+given_begun : (h : ℕ) (gifts : List Gift) (rows : List HostRow) → FoundBegun (slice_get rows h) → FoundBegun (slice_get (given_to gifts rows) h)
+given_begun h gifts rows w =
+    given_keeps (λ (all : List HostRow). FoundBegun (slice_get all h)) (λ gift all w. begun_keeps (takes gift) (λ row. refl) (λ row. refl) all gift.host.0 h w) gifts rows w
+
+given_out : (h : ℕ) (gifts : List Gift) (rows : List HostRow) → FoundOut (slice_get rows h) → FoundOut (slice_get (given_to gifts rows) h)
+given_out h gifts rows w = given_keeps (λ (all : List HostRow). FoundOut (slice_get all h)) (λ gift all w. out_keeps (takes gift) (λ row. refl) all gift.host.0 h w) gifts rows w
 
 -- ---- the states
 -- a host that runs is at its next place
@@ -373,11 +395,18 @@ pub open_of : (plan : PlanOf) (s : State) (test : PlayOf → Bool) (found : Opti
 open_of plan s test None o e = cc
 open_of plan s test (Some play) o e = is_opened plan s s.is_open play refl o
 
-stays_in : (s new : State) (k : ℕ) (f : HostRow → HostRow) → new.play ≡ s.play → new.is_open ≡ s.is_open → new.later ≡ s.later → new.rows ≡ change s.rows k f
+stays_in : (s new : State) (gifts : List Gift) (k : ℕ) (f : HostRow → HostRow) → new.play ≡ s.play → new.is_open ≡ s.is_open → new.later ≡ s.later → new.rows ≡ given_to gifts (change s.rows k f)
     → ((row : HostRow) → (f row).in_batch ≡ row.in_batch) → ((row : HostRow) → (f row).waits ≡ row.waits)
     → ((h n : ℕ) → FoundFrom n (slice_get s.rows h) → FoundFrom n (slice_get (change s.rows k f) h)) → Moves s new
-stays_in s new k f p b l r inside waits from =
-    inl (p, b, l, λ h n w. rw r (from h n w), λ h w. rw r (begun_keeps f inside waits s.rows k h w), λ h w. rw r (out_keeps f waits s.rows k h w))
+stays_in s new gifts k f p b l r inside waits from =
+    inl (
+      p,
+      b,
+      l,
+      λ h n w. rw r (given_from n h gifts (change s.rows k f) (from h n w)),
+      λ h w. rw r (given_begun h gifts (change s.rows k f) (begun_keeps f inside waits s.rows k h w)),
+      λ h w. rw r (given_out h gifts (change s.rows k f) (out_keeps f waits s.rows k h w)),
+    )
 
 same_rows : (s new : State) → new.play ≡ s.play → new.is_open ≡ s.is_open → new.later ≡ s.later → new.rows ≡ s.rows → Moves s new
 same_rows s new p b l r = inl (p, b, l, λ h n w. rw r w, λ h w. rw r w, λ h w. rw r w)
@@ -385,12 +414,12 @@ same_rows s new p b l r = inl (p, b, l, λ h n w. rw r w, λ h w. rw r w, λ h w
 start_at_moves : (plan : PlanOf) (s : State) (k : ℕ) (play : PlayOf) (place : Option ℕ) → open_play plan s ≡ Some play → at_row (stands_at place) s.rows k ≡ true → Moves s (option_map_or (start_at plan s k play) place s)
 start_at_moves plan s k play None o e = same_rows s s refl refl refl refl
 start_at_moves plan s k play (Some p) o e =
-    stays_in s (start_at plan s k play p) k (progressed play p (items_at (plan_seen plan s) play k (facts_at s k) p)) refl refl refl refl
-    (progressed_inside play p (items_at (plan_seen plan s) play k (facts_at s k) p)) (progressed_waits play p (items_at (plan_seen plan s) play k (facts_at s k) p))
-    (λ h n w. change_keeps n (progressed play p (items_at (plan_seen plan s) play k (facts_at s k) p)) s.rows k h
+    stays_in s (start_at plan s k play p) (gifts_at plan.inventory play p k (items_at (plan_seen plan s) play k (facts_at s k) p)) k (progressed plan.inventory play p (items_at (plan_seen plan s) play k (facts_at s k) p)) refl refl refl refl
+    (progressed_inside plan.inventory play p (items_at (plan_seen plan s) play k (facts_at s k) p)) (progressed_waits plan.inventory play p (items_at (plan_seen plan s) play k (facts_at s k) p))
+    (λ h n w. change_keeps n (progressed plan.inventory play p (items_at (plan_seen plan s) play k (facts_at s k) p)) s.rows k h
     (λ row is v. let at = found_test (stands_at (Some p)) row (slice_get s.rows k) is e in
     let least = start_number n p row at v in
-    progressed_from n p play (items_at (plan_seen plan s) play k (facts_at s k) p) row (stands p row at) (omega (arith, least)) (few_items (plan_seen plan s) play k (facts_at s k) p) (stands_in (Some p) row at))
+    progressed_from n p plan.inventory play (items_at (plan_seen plan s) play k (facts_at s k) p) row (stands p row at) (omega (arith, least)) (few_items (plan_seen plan s) play k (facts_at s k) p) (stands_in (Some p) row at))
     w)
 
 start_moves : (plan : PlanOf) (s : State) (k : ℕ) (found : Option PlayOf) → open_play plan s ≡ found → option_map_or (may_start_in s k) found false ≡ true → Moves s (option_map_or (started_in plan s k) found s)
@@ -400,7 +429,7 @@ start_moves plan s k (Some play) o e = start_at_moves plan s k play (next_at s k
 send_moves : (plan : PlanOf) (s : State) (k item : ℕ) (ticket : Ticket) (found : Option PlayOf) → open_play plan s ≡ found → option_map_or (may_send_in s k item ticket) found false ≡ true → Moves s (option_map_or (sent_in s k ticket) found s)
 send_moves plan s k item ticket None o e = cc
 send_moves plan s k item ticket (Some play) o e =
-    stays_in s (sent_in s k ticket play) k (sent ticket) refl refl refl refl (λ row. refl) (λ row. refl)
+    stays_in s (sent_in s k ticket play) [] k (sent ticket) refl refl refl refl (λ row. refl) (λ row. refl)
     (λ h n w. change_keeps n (sent ticket) s.rows k h
     (λ row is v. let at = found_test (may_send_item item) row (slice_get s.rows k) is (and_right (not s.stopped && nat_eq ticket.0 s.sends) _ e) in
     sent_from n n item ticket row at (λ p here. let least = send_number n p item row at here v in omega (arith, least)) v)
@@ -409,7 +438,7 @@ send_moves plan s k item ticket (Some play) o e =
 report_moves : (plan : PlanOf) (s : State) (r : Report) (found : Option PlayOf) → open_play plan s ≡ found → option_map_or (may_report_in s r) found false ≡ true → Moves s (option_map_or (reported_in plan s r) found s)
 report_moves plan s r None o e = cc
 report_moves plan s r (Some play) o e =
-    stays_in s (reported_in plan s r play) r.host.0 (reported (plan_seen plan s) play r.outcome) refl refl refl refl
+    stays_in s (reported_in plan s r play) (report_gives (plan_seen plan s) play r.outcome r.host.0 s.rows) r.host.0 (reported (plan_seen plan s) play r.outcome) refl refl refl refl
     (reported_inside (plan_seen plan s) play r.outcome) (reported_waits (plan_seen plan s) play r.outcome)
     (λ h n w. change_keeps n (reported (plan_seen plan s) play r.outcome) s.rows r.host.0 h
     (λ row is v. let at = found_test (awaits r.ticket r.item) row (slice_get s.rows r.host.0) is e in
@@ -481,14 +510,16 @@ start_at_raises plan s k play (Some q) p w o f e =
     inr (inl (
       refl,
       opened,
-      change_raises 0 (10002 * p + 1) (progressed play q (items_at (plan_seen plan s) play k (facts_at s k) q)) s.rows k
+      given_from (10002 * p + 1) k (gifts_at plan.inventory play q k (items_at (plan_seen plan s) play k (facts_at s k) q)) (change s.rows k (progressed plan.inventory play q (items_at (plan_seen plan s) play k (facts_at s k) q)))
+          (change_raises 0 (10002 * p + 1) (progressed plan.inventory play q (items_at (plan_seen plan s) play k (facts_at s k) q)) s.rows k
           (λ row here u. let at = found_test (stands_at (Some q)) row (slice_get s.rows k) here e in
-          progressed_from (10002 * p + 1) q play (items_at (plan_seen plan s) play k (facts_at s k) q) row (stands q row at) (omega (arith, same)) (few_items (plan_seen plan s) play k (facts_at s k) q) (stands_in (Some q) row at))
-          (w opened k),
-      begun_at 0 (progressed play q (items_at (plan_seen plan s) play k (facts_at s k) q)) s.rows k
+          progressed_from (10002 * p + 1) q plan.inventory play (items_at (plan_seen plan s) play k (facts_at s k) q) row (stands q row at) (omega (arith, same)) (few_items (plan_seen plan s) play k (facts_at s k) q) (stands_in (Some q) row at))
+          (w opened k)),
+      given_begun k (gifts_at plan.inventory play q k (items_at (plan_seen plan s) play k (facts_at s k) q)) (change s.rows k (progressed plan.inventory play q (items_at (plan_seen plan s) play k (facts_at s k) q)))
+          (begun_at 0 (progressed plan.inventory play q (items_at (plan_seen plan s) play k (facts_at s k) q)) s.rows k
           (λ row here u. let at = found_test (stands_at (Some q)) row (slice_get s.rows k) here e in
-          progressed_inside play q (items_at (plan_seen plan s) play k (facts_at s k) q) row ∙ stands_in (Some q) row at)
-          (w opened k),
+          progressed_inside plan.inventory play q (items_at (plan_seen plan s) play k (facts_at s k) q) row ∙ stands_in (Some q) row at)
+          (w opened k)),
     ))
 
 pub start_raises : (plan : PlanOf) (s : State) (k p : ℕ) (found : Option PlayOf) → IsSound s → open_play plan s ≡ found → next_at s k ≡ Some p → option_map_or (may_start_in s k) found false ≡ true → IsPast (option_map_or (started_in plan s k) found s) k s.play (10002 * p + 1)

@@ -9,11 +9,13 @@ use Rattle.pb_outcome.specs.declared.job.Report.{Report}
 use Rattle.pb_state.specs.declared.event.Event.{Event}
 use Rattle.pb_state.specs.declared.event.Event.TheVariants.{Open, Start, Send, Report as Reported, Turn, Close, Stop, Forks}
 use Rattle.pb_plan.specs.Plan.{PlayOf, PlanOf}
-use Rattle.pb_state.specs.Row.{HostRow, called, left}
+use Rattle.pb_sight.specs.Results.{items_at}
+use Rattle.pb_state.specs.Row.{HostRow, progressed, reported, called, left}
 use Rattle.pb_state.specs.State.{State}
-use Rattle.pb_state.specs.Machine.{possible, after, change, open_play, opened_by, after_open, started_in, next_at, start_at, sent_in, reported_in, turned_in, closed, stopped, first_state}
+use Rattle.pb_state.specs.Machine.{possible, after, change, gifts_at, report_gives, facts_at, plan_seen, open_play, opened_by, after_open, started_in, next_at, start_at, sent_in, reported_in, turned_in, closed, stopped, first_state}
 use Rattle.pb_state.specs.Run.{state_from, IsRun}
 use Rattle.pb_state.proofs.Batching.{length-joined}
+use Rattle.pb_state.proofs.Giving.{length-given}
 use Rattle.pb_state.proofs.Opening.{open_case, rows_case}
 
 length-changed : (rows : List HostRow) (h : ℕ) (f : HostRow → HostRow) (found : Option HostRow) → length (option_map_or (λ row. set rows h (f row)) found rows) ≡ length rows
@@ -42,7 +44,10 @@ open_keeps plan s =
 
 start_keeps : (plan : PlanOf) (s : State) (h : ℕ) (play : PlayOf) (place : Option ℕ) → Keeps s (option_map_or (start_at plan s h play) place s)
 start_keeps plan s h play None = same_sends s s refl refl refl
-start_keeps plan s h play (Some p) = same_sends s (start_at plan s h play p) (length-change s.rows h _) refl refl
+start_keeps plan s h play (Some p) = same_sends s (start_at plan s h play p)
+    (length-given (gifts_at plan.inventory play p h (items_at (plan_seen plan s) play h (facts_at s h) p)) (change s.rows h (progressed plan.inventory play p (items_at (plan_seen plan s) play h (facts_at s h) p)))
+    ∙ length-change s.rows h (progressed plan.inventory play p (items_at (plan_seen plan s) play h (facts_at s h) p)))
+    refl refl
 
 started_keeps : (plan : PlanOf) (s : State) (h : ℕ) (found : Option PlayOf) → Keeps s (option_map_or (started_in plan s h) found s)
 started_keeps plan s h None = same_sends s s refl refl refl
@@ -54,7 +59,10 @@ sent_keeps s h ticket (Some play) = record { hosts = length-change s.rows h _; f
 
 reported_keeps : (plan : PlanOf) (s : State) (r : Report) (found : Option PlayOf) → Keeps s (option_map_or (reported_in plan s r) found s)
 reported_keeps plan s r None = same_sends s s refl refl refl
-reported_keeps plan s r (Some play) = same_sends s (reported_in plan s r play) (length-change s.rows _ _) refl refl
+reported_keeps plan s r (Some play) = same_sends s (reported_in plan s r play)
+    (length-given (report_gives (plan_seen plan s) play r.outcome r.host.0 s.rows) (change s.rows r.host.0 (reported (plan_seen plan s) play r.outcome))
+    ∙ length-change s.rows r.host.0 (reported (plan_seen plan s) play r.outcome))
+    refl refl
 
 turned_keeps : (s : State) (found : Option PlayOf) → Keeps s (option_map_or (turned_in s) found s)
 turned_keeps s None = same_sends s s refl refl refl

@@ -7,19 +7,22 @@ use Rattle.pb_tree.specs.Tree.{TreeOf}
 use Rattle.pb_tree.specs.Walk.{reach}
 use Rattle.pb_outcome.specs.declared.job.Report.{Report}
 use Rattle.pb_outcome.specs.declared.outcome.Form.{Form}
+use Rattle.pb_sight.specs.Results.{items_at}
 use Rattle.pb_state.specs.declared.event.Event.{Event}
 use Rattle.pb_state.specs.declared.event.Event.TheVariants.{Open, Start, Send, Report as Reported, Turn, Close, Stop, Forks}
 use Rattle.pb_outcome.specs.declared.item.Item.{Item}
 use Rattle.pb_outcome.specs.Items.{is_over}
 use Rattle.pb_state.specs.declared.row.Running.{Running}
+use Rattle.pb_inventory.specs.InventoryOf.{InventoryOf}
 use Rattle.pb_plan.specs.Plan.{PlayOf, PlanOf}
 use Rattle.pb_state.specs.Row.{HostRow, no_tree, place_of, ended, items_after, progressed, sent, reported, reported_running, called, joined, left, first_rows}
 use Rattle.pb_state.specs.State.{State}
-use Rattle.pb_state.specs.Results.{items_at}
 use Rattle.pb_state.specs.Batches.{joins, room_behind, joined_first}
-use Rattle.pb_state.specs.Machine.{after, change, open_play, opened_by, after_open, started_in, next_at, facts_at, plan_seen, start_at, sent_in, reported_in, turned_in, first_state}
+use Rattle.pb_sight.specs.declared.gifts.Gift.{Gift}
+use Rattle.pb_state.specs.Machine.{after, change, takes, given_to, gifts_at, report_gives, open_play, opened_by, after_open, started_in, next_at, facts_at, plan_seen, start_at, sent_in, reported_in, turned_in, first_state}
 use Rattle.pb_state.specs.Run.{state_from, IsRun}
 use Rattle.pb_state.specs.Walks.{walks_in, IsWalked, AreWalked, IsTracked, AreNumbered, RowsStay, WalksLead}
+use Rattle.pb_state.proofs.Giving.{given_keeps}
 use Rattle.pb_state.proofs.Opening.{open_case, rows_case}
 
 -- a host of the batch walks this tree
@@ -43,10 +46,13 @@ in_change tree f keeps [] h all = tt
 in_change tree f keeps (row ∷ rows) zero all = (keeps row all.0, all.1)
 in_change tree f keeps (row ∷ rows) (suc h) all = rw (change_on row rows h f (slice_get rows h) refl) (all.0, in_change tree f keeps rows h all.1)
 
-progressed_in_tree : (tree : TreeOf) (play : PlayOf) (p : ℕ) (items : List Item) (row : HostRow) → IsIn tree row → IsIn tree (progressed play p items row)
-progressed_in_tree tree play p items row is = by_over (is_over items)
+given_in : (tree : TreeOf) (gifts : List Gift) (rows : List HostRow) → AllIn tree rows → AllIn tree (given_to gifts rows)
+given_in tree gifts rows all = given_keeps (AllIn tree) (λ gift rows all. in_change tree (takes gift) (λ row is. is) rows gift.host.0 all) gifts rows all
+
+progressed_in_tree : (tree : TreeOf) (inventory : InventoryOf) (play : PlayOf) (p : ℕ) (items : List Item) (row : HostRow) → IsIn tree row → IsIn tree (progressed inventory play p items row)
+progressed_in_tree tree inventory play p items row is = by_over (is_over items)
   where
-    by_over : (over : Bool) → IsIn tree (if over then ended play p items row else record row { running = Some (record { place = p; items = items; out = None }) })
+    by_over : (over : Bool) → IsIn tree (if over then ended inventory play p items row else record row { running = Some (record { place = p; items = items; out = None }) })
     by_over true = is
     by_over false = is
 
@@ -55,7 +61,7 @@ reported_in_tree tree plan play outcome row is = by_running row.running
   where
     by_running : (running : Option Running) → IsIn tree (option_map_or (reported_running plan play outcome row) running row)
     by_running None = is
-    by_running (Some r) = progressed_in_tree tree play r.place (items_after plan play row.host row.facts outcome r) row is
+    by_running (Some r) = progressed_in_tree tree plan.inventory play r.place (items_after plan play row.host row.facts outcome r) row is
 
 joined_in_tree : (tree : TreeOf) (room : ℕ) (rows : List HostRow) → AllIn tree (joined_first tree room rows)
 joined_in_tree tree room [] = tt
@@ -79,7 +85,11 @@ stays plan s = record { same = refl; keeps = λ tree all. all }
 start_goes : (plan : PlanOf) (s : State) (h : ℕ) (play : PlayOf) (place : Option ℕ) → Goes plan s (option_map_or (start_at plan s h play) place s)
 start_goes plan s h play None = stays plan s
 start_goes plan s h play (Some p) =
-    record { same = refl; keeps = λ tree all. in_change tree (progressed play p (items_at (plan_seen plan s) play h (facts_at s h) p)) (λ row is. progressed_in_tree tree play p (items_at (plan_seen plan s) play h (facts_at s h) p) row is) s.rows h all }
+    record {
+      same = refl;
+      keeps = λ tree all. given_in tree (gifts_at plan.inventory play p h (items_at (plan_seen plan s) play h (facts_at s h) p)) (change s.rows h (progressed plan.inventory play p (items_at (plan_seen plan s) play h (facts_at s h) p)))
+          (in_change tree (progressed plan.inventory play p (items_at (plan_seen plan s) play h (facts_at s h) p)) (λ row is. progressed_in_tree tree plan.inventory play p (items_at (plan_seen plan s) play h (facts_at s h) p) row is) s.rows h all);
+    }
 
 started_goes : (plan : PlanOf) (s : State) (h : ℕ) (found : Option PlayOf) → Goes plan s (option_map_or (started_in plan s h) found s)
 started_goes plan s h None = stays plan s
@@ -92,7 +102,11 @@ sent_goes plan s h ticket (Some play) = record { same = refl; keeps = λ tree al
 reported_goes : (plan : PlanOf) (s : State) (r : Report) (found : Option PlayOf) → Goes plan s (option_map_or (reported_in plan s r) found s)
 reported_goes plan s r None = stays plan s
 reported_goes plan s r (Some play) =
-    record { same = refl; keeps = λ tree all. in_change tree (reported (plan_seen plan s) play r.outcome) (λ row is. reported_in_tree tree (plan_seen plan s) play r.outcome row is) s.rows r.host.0 all }
+    record {
+      same = refl;
+      keeps = λ tree all. given_in tree (report_gives (plan_seen plan s) play r.outcome r.host.0 s.rows) (change s.rows r.host.0 (reported (plan_seen plan s) play r.outcome))
+          (in_change tree (reported (plan_seen plan s) play r.outcome) (λ row is. reported_in_tree tree (plan_seen plan s) play r.outcome row is) s.rows r.host.0 all);
+    }
 
 turned_goes : (plan : PlanOf) (s : State) (found : Option PlayOf) → Goes plan s (option_map_or (turned_in s) found s)
 turned_goes plan s None = stays plan s
@@ -163,10 +177,13 @@ number_map : (h : ℕ) (f : HostRow → HostRow) → ((row : HostRow) → (f row
 number_map h f same [] all = tt
 number_map h f same (row ∷ rows) all = (same row ∙ all.0, number_map (h + 1) f same rows all.1)
 
-progressed_host : (play : PlayOf) (p : ℕ) (items : List Item) (row : HostRow) → (progressed play p items row).host ≡ row.host
-progressed_host play p items row = by_over (is_over items)
+number_given : (gifts : List Gift) (rows : List HostRow) → AreNumbered 0 rows → AreNumbered 0 (given_to gifts rows)
+number_given gifts rows all = given_keeps (AreNumbered 0) (λ gift rows all. number_change 0 gift.host.0 (takes gift) (λ row. refl) rows all) gifts rows all
+
+progressed_host : (inventory : InventoryOf) (play : PlayOf) (p : ℕ) (items : List Item) (row : HostRow) → (progressed inventory play p items row).host ≡ row.host
+progressed_host inventory play p items row = by_over (is_over items)
   where
-    by_over : (over : Bool) → (if over then ended play p items row else record row { running = Some (record { place = p; items = items; out = None }) }).host ≡ row.host
+    by_over : (over : Bool) → (if over then ended inventory play p items row else record row { running = Some (record { place = p; items = items; out = None }) }).host ≡ row.host
     by_over true = refl
     by_over false = refl
 
@@ -175,14 +192,16 @@ reported_host plan play outcome row = by_running row.running
   where
     by_running : (running : Option Running) → (option_map_or (reported_running plan play outcome row) running row).host ≡ row.host
     by_running None = refl
-    by_running (Some r) = progressed_host play r.place (items_after plan play row.host row.facts outcome r) row
+    by_running (Some r) = progressed_host plan.inventory play r.place (items_after plan play row.host row.facts outcome r) row
 
 abbrev KeepsNumbers : State → State → Type 0
 KeepsNumbers s new = AreNumbered 0 s.rows → AreNumbered 0 new.rows
 
 start_numbers : (plan : PlanOf) (s : State) (h : ℕ) (play : PlayOf) (place : Option ℕ) → KeepsNumbers s (option_map_or (start_at plan s h play) place s)
 start_numbers plan s h play None = λ all. all
-start_numbers plan s h play (Some p) = λ all. number_change 0 h (progressed play p (items_at (plan_seen plan s) play h (facts_at s h) p)) (λ row. progressed_host play p (items_at (plan_seen plan s) play h (facts_at s h) p) row) s.rows all
+start_numbers plan s h play (Some p) = λ all.
+    number_given (gifts_at plan.inventory play p h (items_at (plan_seen plan s) play h (facts_at s h) p)) (change s.rows h (progressed plan.inventory play p (items_at (plan_seen plan s) play h (facts_at s h) p)))
+    (number_change 0 h (progressed plan.inventory play p (items_at (plan_seen plan s) play h (facts_at s h) p)) (λ row. progressed_host plan.inventory play p (items_at (plan_seen plan s) play h (facts_at s h) p) row) s.rows all)
 
 started_numbers : (plan : PlanOf) (s : State) (h : ℕ) (found : Option PlayOf) → KeepsNumbers s (option_map_or (started_in plan s h) found s)
 started_numbers plan s h None = λ all. all
@@ -194,7 +213,9 @@ sent_numbers s h ticket (Some play) = λ all. number_change 0 h (sent ticket) (�
 
 reported_numbers : (plan : PlanOf) (s : State) (r : Report) (found : Option PlayOf) → KeepsNumbers s (option_map_or (reported_in plan s r) found s)
 reported_numbers plan s r None = λ all. all
-reported_numbers plan s r (Some play) = λ all. number_change 0 r.host.0 (reported (plan_seen plan s) play r.outcome) (λ row. reported_host (plan_seen plan s) play r.outcome row) s.rows all
+reported_numbers plan s r (Some play) = λ all.
+    number_given (report_gives (plan_seen plan s) play r.outcome r.host.0 s.rows) (change s.rows r.host.0 (reported (plan_seen plan s) play r.outcome))
+    (number_change 0 r.host.0 (reported (plan_seen plan s) play r.outcome) (λ row. reported_host (plan_seen plan s) play r.outcome row) s.rows all)
 
 turned_numbers : (s : State) (found : Option PlayOf) → KeepsNumbers s (option_map_or (turned_in s) found s)
 turned_numbers s None = λ all. all

@@ -11,6 +11,7 @@ use Rattle.pb_outcome.specs.declared.item.Item.{Item}
 use Rattle.pb_outcome.specs.declared.outcome.Form.{Form}
 use Rattle.pb_outcome.specs.Items.{is_over}
 use Rattle.pb_facts.specs.Facts.{FactsOf}
+use Rattle.pb_inventory.specs.InventoryOf.{InventoryOf}
 use Rattle.pb_plan.specs.Plan.{PlayOf, PlanOf}
 use Rattle.pb_tree.specs.Tree.{TreeOf, size_of}
 use Rattle.pb_tree.specs.Walk.{one_halted}
@@ -22,9 +23,11 @@ use Rattle.pb_state.specs.Handlers.{notified_by}
 use Rattle.pb_state.specs.Batches.{has_later, joins, room_behind, joined_first}
 use Rattle.pb_state.specs.Row.{HostRow, no_tree, none_counted, first_rows, called, joined, left, finished, ended, task_at, taught, came_back, items_after, progressed, sent, sent_running, reported, reported_running}
 use Rattle.pb_state.specs.Ends.{counted, counted_result, is_counted, more}
-use Rattle.pb_state.specs.Machine.{play_behind, change, at_row, is_ticket, sends_running, awaits_running, awaits, may_send_item, is_running}
+use Rattle.pb_sight.specs.declared.gifts.Gift.{Gift}
+use Rattle.pb_state.specs.Machine.{play_behind, change, takes, given_to, at_row, is_ticket, sends_running, awaits_running, awaits, may_send_item, is_running}
 use Rattle.pb_state.specs.Bounds.{IsAtMost, run_places, out_jobs, running_jobs, running_items, plays_behind, IsPlacedIn, IsWithin, AllWithin, most_jobs, IsBounded}
 use Rattle.pb_state.specs.Kept.{first_waiting}
+use Rattle.pb_state.proofs.Giving.{given_keeps, given_sum, length-given}
 use Rattle.pb_state.proofs.InOrder.{first_most, is_next_so, length_back, back_later}
 use Rattle.pb_state.proofs.Batching.{joins_waits, length-joined}
 use Rattle.pb_state.proofs.Opening.{length-first}
@@ -154,12 +157,12 @@ not_true false e = refl
 stands_idle : (place : Option ℕ) (row : HostRow) → stands_at place row ≡ true → row.running ≡ None
 stands_idle place row e = none_running row row.running refl (not_true (is_running row) (and_left (not (is_running row)) _ e))
 
-progressed_within : (goes_on : Bool) (k p : ℕ) (play : PlayOf) (items : List Item) (row : HostRow) → length items ≤ max_items → length (one_halted row.answers) < 16384 → row.in_batch ≡ true
-    → IsWithin true goes_on k row → IsWithin true goes_on k (progressed play p items row)
-progressed_within goes_on k p play items row most b i w = by_over (is_over items)
+progressed_within : (goes_on : Bool) (k p : ℕ) (inventory : InventoryOf) (play : PlayOf) (items : List Item) (row : HostRow) → length items ≤ max_items → length (one_halted row.answers) < 16384 → row.in_batch ≡ true
+    → IsWithin true goes_on k row → IsWithin true goes_on k (progressed inventory play p items row)
+progressed_within goes_on k p inventory play items row most b i w = by_over (is_over items)
   where
-    by_over : (over : Bool) → IsWithin true goes_on k (if over then ended play p items row else record row { running = Some (record { place = p; items = items; out = None }) })
-    by_over true = finished_within goes_on k p (task_at play p items) (notified_by play p (task_at play p items)) (taught play p items row.facts) row b i w
+    by_over : (over : Bool) → IsWithin true goes_on k (if over then ended inventory play p items row else record row { running = Some (record { place = p; items = items; out = None }) })
+    by_over true = finished_within goes_on k p (task_at play p items) (notified_by play p (task_at play p items)) (taught inventory play p row.host items row.facts) row b i w
     by_over false = (
       w.0,
       omega (arith, b),
@@ -173,16 +176,16 @@ finished_jobs : (goes_on : Bool) (k p n : ℕ) (task : TaskEnd) (notified : List
     → (max_items * (16384 * plays_behind true k row + length (one_halted row.answers)) + n) + 0 ≤ most_jobs true goes_on k (finished p task notified facts row)
 finished_jobs goes_on k p n task notified facts row m = let more = one_halted_answer row.answers task notified in omega (arith, more, m)
 
-start_keeps : (goes_on : Bool) (k : ℕ) (place : Option ℕ) (play : PlayOf) (p : ℕ) (items : List Item) → length items ≤ max_items → Keeps goes_on k (progressed play p items) (stands_at place) 0
-start_keeps goes_on k place play p items most =
+start_keeps : (goes_on : Bool) (k : ℕ) (place : Option ℕ) (inventory : InventoryOf) (play : PlayOf) (p : ℕ) (items : List Item) → length items ≤ max_items → Keeps goes_on k (progressed inventory play p items) (stands_at place) 0
+start_keeps goes_on k place inventory play p items most =
     record {
-      within = λ row e w. progressed_within goes_on k p play items row most (start_left place row w.2 e) (stands_in place row e) w;
+      within = λ row e w. progressed_within goes_on k p inventory play items row most (start_left place row w.2 e) (stands_in place row e) w;
       jobs = λ row e w. let idle = stands_idle place row e in rw idle (by_over row (is_over items));
     }
   where
     by_over : (row : HostRow) (over : Bool)
-        → (max_items * (16384 * plays_behind true k row + length (one_halted row.answers)) + 0) + 0 ≤ most_jobs true goes_on k (if over then ended play p items row else record row { running = Some (record { place = p; items = items; out = None }) })
-    by_over row true = finished_jobs goes_on k p 0 (task_at play p items) (notified_by play p (task_at play p items)) (taught play p items row.facts) row (omega arith)
+        → (max_items * (16384 * plays_behind true k row + length (one_halted row.answers)) + 0) + 0 ≤ most_jobs true goes_on k (if over then ended inventory play p items row else record row { running = Some (record { place = p; items = items; out = None }) })
+    by_over row true = finished_jobs goes_on k p 0 (task_at play p items) (notified_by play p (task_at play p items)) (taught inventory play p row.host items row.facts) row (omega arith)
     by_over row false = omega arith
 
 -- a host that has a job to send runs, and no job of it is out
@@ -238,12 +241,12 @@ report_keeps goes_on k item plan play outcome ticket =
         let bound = subst (λ (v : Option Running). length (one_halted row.answers) + run_places v ≤ 16384) f w.1 in
         let most = subst (λ (v : Option Running). running_items v ≤ max_items) f w.3 in
         let same : length (items_after plan play row.host row.facts outcome r) ≡ length r.items = length_back (came_back plan play row.host row.facts r.place outcome) r.items in
-        progressed_within goes_on k r.place play (items_after plan play row.host row.facts outcome r) row (omega (arith, same, most)) (omega (arith, bound)) (run_in row.in_batch row r f w.4) w
+        progressed_within goes_on k r.place plan.inventory play (items_after plan play row.host row.facts outcome r) row (omega (arith, same, most)) (omega (arith, bound)) (run_in row.in_batch row r f w.4) w
 
     by_over : (row : HostRow) (r : Running) (items : List Item) (over : Bool) → length items ≡ length r.items → first_waiting r.items + 1 ≤ first_waiting items → first_waiting items ≤ length items → length r.items ≤ max_items
         → (max_items * (16384 * plays_behind true k row + length (one_halted row.answers)) + running_jobs (Some r)) + 0
-        ≤ most_jobs true goes_on k (if over then ended play r.place items row else record row { running = Some (record { place = r.place; items = items; out = None }) })
-    by_over row r items true same later within most = finished_jobs goes_on k r.place (running_jobs (Some r)) (task_at play r.place items) (notified_by play r.place (task_at play r.place items)) (taught play r.place items row.facts) row (omega (arith, most))
+        ≤ most_jobs true goes_on k (if over then ended plan.inventory play r.place items row else record row { running = Some (record { place = r.place; items = items; out = None }) })
+    by_over row r items true same later within most = finished_jobs goes_on k r.place (running_jobs (Some r)) (task_at play r.place items) (notified_by play r.place (task_at play r.place items)) (taught plan.inventory play r.place row.host items row.facts) row (omega (arith, most))
     by_over row r items false same later within most = omega (arith, same, later, within, at_most_one r.out)
 
     reported_jobs : (row : HostRow) (found : Option Running) → row.running ≡ found → option_map_or (awaits_running ticket item) found false ≡ true → IsWithin true goes_on k row
@@ -264,10 +267,40 @@ changed_so : (batch : ℕ) (later : List ℕ) (play sends by h : ℕ) (is_open :
 changed_so batch later play sends by h true f test rows new more m o k e b n = rw (m, n) (changed_bounded batch later play sends by h f test rows k e b)
 changed_so batch later play sends by h false f test rows new more m o k e b n = cc
 
-pub start_bounded : (batch : ℕ) (later : List ℕ) (k sends h : ℕ) (is_open : Bool) (place : Option ℕ) (play : PlayOf) (p : ℕ) (items : List Item) (rows new : List HostRow) → length items ≤ max_items
-    → IsBounded is_open batch later k sends rows → is_open ≡ true → at_row (stands_at place) rows h ≡ true → new ≡ change rows h (progressed play p items) → IsBounded is_open batch later k sends new
-start_bounded batch later k sends h is_open place play p items rows new most b o e n =
-    changed_so batch later k sends 0 h is_open (progressed play p items) (stands_at place) rows new sends (omega arith) o (start_keeps (has_later later) k place play p items most) e b n
+-- what hosts are given keeps the bounds
+takes_placed : (gift : Gift) (inside : Bool) (row : HostRow) → IsPlacedIn inside row → IsPlacedIn inside (takes gift row)
+takes_placed gift true row w = w
+takes_placed gift false row w = w
+
+takes_within : (goes_on : Bool) (play : ℕ) (gift : Gift) (row : HostRow) → IsWithin true goes_on play row → IsWithin true goes_on play (takes gift row)
+takes_within goes_on play gift row w = (w.0, w.1, w.2, w.3, takes_placed gift row.in_batch row w.4)
+
+given_each : (goes_on : Bool) (play : ℕ) (gift : Gift) (rows : List HostRow) (h : ℕ) → AllWithin true goes_on play rows → AllWithin true goes_on play (change rows h (takes gift))
+given_each goes_on play gift [] h w = w
+given_each goes_on play gift (row ∷ rows) zero w = (takes_within goes_on play gift row w.0, w.1)
+given_each goes_on play gift (row ∷ rows) (suc h) w = rw (change_on row rows h (takes gift) (slice_get rows h) refl) (w.0, given_each goes_on play gift rows h w.1)
+
+given_bounded : (batch : ℕ) (later : List ℕ) (play sends : ℕ) (gifts : List Gift) (rows : List HostRow) → IsBounded true batch later play sends rows → IsBounded true batch later play sends (given_to gifts rows)
+given_bounded batch later play sends gifts rows b =
+    record {
+      counts = given_keeps (AllWithin true (has_later later) play) (λ gift all w. given_each (has_later later) play gift all gift.host.0 w) gifts rows b.counts;
+      plays = b.plays;
+      under_way = b.under_way;
+      hosts = rw (length-given gifts rows) b.hosts;
+      batches = b.batches;
+      jobs = let same = given_sum (most_jobs true (has_later later) play) (λ gift row. refl) gifts rows in omega (arith, same, b.jobs);
+    }
+
+given_so : (batch : ℕ) (later : List ℕ) (play sends : ℕ) (is_open : Bool) (gifts : List Gift) (rows new : List HostRow) → is_open ≡ true → IsBounded is_open batch later play sends rows → new ≡ given_to gifts rows
+    → IsBounded is_open batch later play sends new
+given_so batch later play sends true gifts rows new o b n = rw n (given_bounded batch later play sends gifts rows b)
+given_so batch later play sends false gifts rows new o b n = cc
+
+pub start_bounded : (batch : ℕ) (later : List ℕ) (k sends h : ℕ) (is_open : Bool) (place : Option ℕ) (inventory : InventoryOf) (play : PlayOf) (p : ℕ) (items : List Item) (gifts : List Gift) (rows new : List HostRow) → length items ≤ max_items
+    → IsBounded is_open batch later k sends rows → is_open ≡ true → at_row (stands_at place) rows h ≡ true → new ≡ given_to gifts (change rows h (progressed inventory play p items)) → IsBounded is_open batch later k sends new
+start_bounded batch later k sends h is_open place inventory play p items gifts rows new most b o e n =
+    given_so batch later k sends is_open gifts (change rows h (progressed inventory play p items)) new o
+    (changed_so batch later k sends 0 h is_open (progressed inventory play p items) (stands_at place) rows (change rows h (progressed inventory play p items)) sends (omega arith) o (start_keeps (has_later later) k place inventory play p items most) e b refl) n
 
 -- a host that may start is in the batch
 pub start_in_batch : (h : ℕ) (place : Option ℕ) (rows : List HostRow) → at_row (stands_at place) rows h ≡ true → IfSome (slice_get rows h) (λ row. row.in_batch ≡ true)
@@ -291,10 +324,11 @@ pub send_bounded : (batch : ℕ) (later : List ℕ) (play sends h item : ℕ) (i
 send_bounded batch later play sends h item is_open may ticket rows new b o e n =
     changed_so batch later play sends 1 h is_open (sent ticket) (may_send_item item) rows new (sends + 1) refl o (send_keeps (has_later later) play item ticket) (and_right may _ e) b n
 
-pub report_bounded : (batch : ℕ) (later : List ℕ) (k sends h item : ℕ) (is_open : Bool) (plan : PlanOf) (play : PlayOf) (ticket : Ticket) (outcome : Form) (rows new : List HostRow) → IsBounded is_open batch later k sends rows
-    → is_open ≡ true → at_row (awaits ticket item) rows h ≡ true → new ≡ change rows h (reported plan play outcome) → IsBounded is_open batch later k sends new
-report_bounded batch later k sends h item is_open plan play ticket outcome rows new b o e n =
-    changed_so batch later k sends 0 h is_open (reported plan play outcome) (awaits ticket item) rows new sends (omega arith) o (report_keeps (has_later later) k item plan play outcome ticket) e b n
+pub report_bounded : (batch : ℕ) (later : List ℕ) (k sends h item : ℕ) (is_open : Bool) (plan : PlanOf) (play : PlayOf) (ticket : Ticket) (outcome : Form) (gifts : List Gift) (rows new : List HostRow) → IsBounded is_open batch later k sends rows
+    → is_open ≡ true → at_row (awaits ticket item) rows h ≡ true → new ≡ given_to gifts (change rows h (reported plan play outcome)) → IsBounded is_open batch later k sends new
+report_bounded batch later k sends h item is_open plan play ticket outcome gifts rows new b o e n =
+    given_so batch later k sends is_open gifts (change rows h (reported plan play outcome)) new o
+    (changed_so batch later k sends 0 h is_open (reported plan play outcome) (awaits ticket item) rows (change rows h (reported plan play outcome)) sends (omega arith) o (report_keeps (has_later later) k item plan play outcome ticket) e b refl) n
 
 -- the plays that a host has behind it
 behind_most : (under_way : Bool) (play : ℕ) (row : HostRow) → plays_behind under_way play row ≤ play + 1

@@ -13,6 +13,8 @@ use Rattle.pb_outcome.specs.declared.job.Report.{Report}
 use Rattle.pb_outcome.specs.declared.outcome.Form.{Form}
 use Rattle.pb_facts.specs.Facts.{FactsOf}
 use Rattle.pb_items.specs.Loops.{max_items}
+use Rattle.pb_sight.specs.Results.{items_at}
+use Rattle.pb_sight.proofs.FewItems.{few_items}
 use Rattle.pb_state.specs.declared.decided.Decided.{Decided as DecidedOf}
 use Rattle.pb_state.specs.declared.decided.TaskEnd.{TaskEnd}
 use Rattle.pb_outcome.specs.declared.item.Item.{Item}
@@ -20,18 +22,19 @@ use Rattle.pb_outcome.specs.Items.{is_over}
 use Rattle.pb_state.specs.declared.row.Running.{Running}
 use Rattle.pb_state.specs.declared.event.Event.{Event}
 use Rattle.pb_state.specs.declared.event.Event.TheVariants.{Open, Start, Send, Report as Reported, Turn, Close, Stop, Forks}
+use Rattle.pb_inventory.specs.InventoryOf.{InventoryOf}
 use Rattle.pb_plan.specs.Plan.{PlayOf, PlanOf}
 use Rattle.pb_state.specs.Handlers.{notified_by}
 use Rattle.pb_state.specs.Batches.{has_later, called_count, joins, room_behind, joined_first}
 use Rattle.pb_state.specs.Row.{HostRow, no_tree, next_place, called, joined, left, finished, ended, task_at, taught, came_back, items_after, progressed, sent, sent_running, reported, reported_running}
 use Rattle.pb_state.specs.State.{State}
-use Rattle.pb_state.specs.Machine.{possible, after, change, at_row, open_play, least_place, lesser, same_place, may_open, is_left, may_start_in, may_turn_in, may_close_in, opened_by, after_open, started_in, next_at, facts_at, plan_seen, start_at, turned_in, play_behind, closed, is_running, running_count, is_ticket, sends_running, may_send_item, awaits_running, awaits, may_send_in, may_report_in, sent_in, reported_in}
+use Rattle.pb_sight.specs.declared.gifts.Gift.{Gift}
+use Rattle.pb_state.specs.Machine.{takes, given_to, gifts_at, report_gives, possible, after, change, at_row, open_play, least_place, lesser, same_place, may_open, is_left, may_start_in, may_turn_in, may_close_in, opened_by, after_open, started_in, next_at, facts_at, plan_seen, start_at, turned_in, play_behind, closed, is_running, running_count, is_ticket, sends_running, may_send_item, awaits_running, awaits, may_send_in, may_report_in, sent_in, reported_in}
 use Rattle.pb_batches.specs.Sizes.{batch_sizes}
-use Rattle.pb_state.specs.Results.{items_at}
 use Rattle.pb_state.specs.Kept.{first_waiting}
 use Rattle.pb_state.specs.Run.{is_command}
 use Rattle.pb_state.specs.Work.{most_events, places_left, place_work, out_work, running_work, row_work, batch_work, batches_work, later_work, rest_work, between_work, turn_work, is_place, work_in, work}
-use Rattle.pb_state.proofs.FewItems.{few_items}
+use Rattle.pb_state.proofs.Giving.{given_sum, length-given}
 use Rattle.pb_state.proofs.InOrder.{is_next_so, length_back, back_later}
 use Rattle.pb_state.proofs.Batching.{few_batches, few_called, length-joined}
 use Rattle.pb_state.proofs.SizesLeft.{later_one}
@@ -65,14 +68,14 @@ finished_less row p task notified facts = finished_at row p task notified facts 
 with_more : (a b c : ℕ) → a ≤ b → a ≤ c + b
 with_more a b c e = omega (arith, e)
 
-progressed_less : (play : PlayOf) (p : ℕ) (items : List Item) (row : HostRow) → row_work (progressed play p items row) ≤ 2 * (length items - first_waiting items) + most_events * (places_left row - 1)
-progressed_less play p items row = by_over (is_over items)
+progressed_less : (inventory : InventoryOf) (play : PlayOf) (p : ℕ) (items : List Item) (row : HostRow) → row_work (progressed inventory play p items row) ≤ 2 * (length items - first_waiting items) + most_events * (places_left row - 1)
+progressed_less inventory play p items row = by_over (is_over items)
   where
-    by_over : (over : Bool) → row_work (if over then ended play p items row else record row { running = Some (record { place = p; items = items; out = None }) })
+    by_over : (over : Bool) → row_work (if over then ended inventory play p items row else record row { running = Some (record { place = p; items = items; out = None }) })
         ≤ 2 * (length items - first_waiting items) + most_events * (places_left row - 1)
     by_over true =
-        with_more (row_work (ended play p items row)) (most_events * (places_left row - 1)) (2 * (length items - first_waiting items))
-        (finished_less row p (task_at play p items) (notified_by play p (task_at play p items)) (taught play p items row.facts))
+        with_more (row_work (ended inventory play p items row)) (most_events * (places_left row - 1)) (2 * (length items - first_waiting items))
+        (finished_less row p (task_at play p items) (notified_by play p (task_at play p items)) (taught inventory play p row.host items row.facts))
     by_over false = omega arith
 
 not_running : (row : HostRow) (running : Option Running) → not (is_some running) ≡ true → running_work row running ≡ place_work row (next_place row)
@@ -82,12 +85,12 @@ not_running row (Some r) e = cc
 start_falls : (new old left n : ℕ) → new ≤ 2 * n + most_events * (left - 1) → old ≡ most_events * left → n ≤ max_items → 0 < left → new < old
 start_falls new old left n a b c d = omega (arith, a, b, c, d)
 
-start_less : (place : Option ℕ) (play : PlayOf) (p : ℕ) (items : List Item) (row : HostRow) → length items ≤ max_items → stands_at place row ≡ true → row_work (progressed play p items row) < row_work row
-start_less place play p items row most e =
+start_less : (place : Option ℕ) (inventory : InventoryOf) (play : PlayOf) (p : ℕ) (items : List Item) (row : HostRow) → length items ≤ max_items → stands_at place row ≡ true → row_work (progressed inventory play p items row) < row_work row
+start_less place inventory play p items row most e =
     let stood = same_is (next_place row) place (and_right (not (is_running row)) _ e) in
     let idle : row_work row ≡ place_work row (next_place row) = not_running row row.running (and_left (not (is_running row)) _ e) in
     let now : place_work row (next_place row) ≡ most_events * places_left row = ap (place_work row) stood.1 in
-    start_falls (row_work (progressed play p items row)) (row_work row) (places_left row) (length items - first_waiting items) (progressed_less play p items row) (idle ∙ now) (omega (arith, most)) (omega (arith, stands_below place row e))
+    start_falls (row_work (progressed inventory play p items row)) (row_work row) (places_left row) (length items - first_waiting items) (progressed_less inventory play p items row) (idle ∙ now) (omega (arith, most)) (omega (arith, stands_below place row e))
 
 -- a send
 none_out : (out : Option Ticket) → is_none out ≡ true → out_work out ≡ 0
@@ -118,9 +121,9 @@ reporting plan play outcome ticket item row (Some r) e =
     let same : length (items_after plan play row.host row.facts outcome r) ≡ length r.items = length_back (came_back plan play row.host row.facts r.place outcome) r.items in
     let later : first_waiting r.items + 1 ≤ first_waiting (items_after plan play row.host row.facts outcome r) =
     back_later (came_back plan play row.host row.facts r.place outcome) r.items (omega (arith, first.0, first.1)) in
-    report_falls (row_work (progressed play r.place (items_after plan play row.host row.facts outcome r) row)) (running_work row (Some r)) (places_left row) (length r.items - first_waiting r.items)
+    report_falls (row_work (progressed plan.inventory play r.place (items_after plan play row.host row.facts outcome r) row)) (running_work row (Some r)) (places_left row) (length r.items - first_waiting r.items)
     (length (items_after plan play row.host row.facts outcome r) - first_waiting (items_after plan play row.host row.facts outcome r)) (out_work r.out)
-    (progressed_less play r.place (items_after plan play row.host row.facts outcome r) row) refl
+    (progressed_less plan.inventory play r.place (items_after plan play row.host row.facts outcome r) row) refl
     (out_one ticket r.out (and_left (is_ticket ticket r.out) _ e)) (omega (arith, same, later, first.0, first.1))
 
 report_less : (plan : PlanOf) (play : PlayOf) (outcome : Form) (ticket : Ticket) (item : ℕ) (row : HostRow) → awaits ticket item row ≡ true → row_work (reported plan play outcome row) < row_work row
@@ -155,16 +158,30 @@ place_same (Some p) = eq-eqb p p refl
 no_turn : (p : Option ℕ) → turn_work p p ≡ 0
 no_turn p = rw (place_same p) refl
 
--- an event that changes one row of the open batch
-row_event : (plan : PlanOf) (s : State) (play : PlayOf) (h sends : ℕ) (begun : List Bool) (decided : Option DecidedOf) (f : HostRow → HostRow) (test : HostRow → Bool) → open_play plan s ≡ Some play → ((row : HostRow) → test row ≡ true → row_work (f row) < row_work row) → at_row test s.rows h ≡ true → work plan (record s { rows = change s.rows h f; begun = begun; sends = sends; decided = decided }) < work plan s
-row_event plan s play h sends begun decided f test o less e =
+-- what hosts are given leaves their work as it is
+takes_place : (gift : Gift) (row : HostRow) (next : Option ℕ) → place_work (takes gift row) next ≡ place_work row next
+takes_place gift row None = refl
+takes_place gift row (Some p) = refl
+
+takes_running : (gift : Gift) (row : HostRow) (running : Option Running) → running_work (takes gift row) running ≡ running_work row running
+takes_running gift row None = takes_place gift row (next_place row)
+takes_running gift row (Some r) = refl
+
+takes_work : (gift : Gift) (row : HostRow) → row_work (takes gift row) ≡ row_work row
+takes_work gift row = takes_running gift row row.running
+
+-- an event that changes one row of the open batch, and gives something to other hosts
+row_event : (plan : PlanOf) (s : State) (play : PlayOf) (gifts : List Gift) (h sends : ℕ) (begun : List Bool) (decided : Option DecidedOf) (f : HostRow → HostRow) (test : HostRow → Bool) → open_play plan s ≡ Some play → ((row : HostRow) → test row ≡ true → row_work (f row) < row_work row) → at_row test s.rows h ≡ true → work plan (record s { rows = given_to gifts (change s.rows h f); begun = begun; sends = sends; decided = decided }) < work plan s
+row_event plan s play gifts h sends begun decided f test o less e =
     let rows = change_less (row_work) f test less s.rows h e in
-    let turn = turn_work_at_most s.place (least_place (change s.rows h f)) in
-    let same : rest_work plan (length (change s.rows h f)) s.later s.play play ≡ rest_work plan (length s.rows) s.later s.play play = rw (length-change s.rows h f) refl in
+    let given = given_sum row_work takes_work gifts (change s.rows h f) in
+    let turn = turn_work_at_most s.place (least_place (given_to gifts (change s.rows h f))) in
+    let same : rest_work plan (length (given_to gifts (change s.rows h f))) s.later s.play play ≡ rest_work plan (length s.rows) s.later s.play play =
+    ap (λ (n : ℕ). rest_work plan n s.later s.play play) (length-given gifts (change s.rows h f) ∙ length-change s.rows h f) in
     let old : work plan s ≡ work_in plan s (Some play) = ap (work_in plan s) o in
-    let changed : State = record s { rows = change s.rows h f; begun = begun; sends = sends; decided = decided } in
+    let changed : State = record s { rows = given_to gifts (change s.rows h f); begun = begun; sends = sends; decided = decided } in
     let new : work plan changed ≡ work_in plan changed (Some play) = ap (work_in plan changed) o in
-    omega (arith, rows, turn, same, old, new)
+    omega (arith, rows, given, turn, same, old, new)
 
 none_same : (a : Option ℕ) → same_place a None ≡ false
 none_same (Some p) = refl
@@ -183,8 +200,8 @@ none_at (row ∷ rows) (suc h) e = none_at rows h e
 start_at_less : (plan : PlanOf) (s : State) (h : ℕ) (play : PlayOf) (place : Option ℕ) → open_play plan s ≡ Some play → at_row (stands_at place) s.rows h ≡ true → work plan (option_map_or (start_at plan s h play) place s) < work plan s
 start_at_less plan s h play None o e = absurd (none_at s.rows h e)
 start_at_less plan s h play (Some p) o e =
-    row_event plan s play h s.sends (start_at plan s h play p).begun (start_at plan s h play p).decided (progressed play p (items_at (plan_seen plan s) play h (facts_at s h) p)) (stands_at (Some p)) o
-    (λ row may. start_less (Some p) play p (items_at (plan_seen plan s) play h (facts_at s h) p) row (few_items (plan_seen plan s) play h (facts_at s h) p) may) e
+    row_event plan s play (gifts_at plan.inventory play p h (items_at (plan_seen plan s) play h (facts_at s h) p)) h s.sends (start_at plan s h play p).begun (start_at plan s h play p).decided (progressed plan.inventory play p (items_at (plan_seen plan s) play h (facts_at s h) p)) (stands_at (Some p)) o
+    (λ row may. start_less (Some p) plan.inventory play p (items_at (plan_seen plan s) play h (facts_at s h) p) row (few_items (plan_seen plan s) play h (facts_at s h) p) may) e
 
 start_in_less : (plan : PlanOf) (s : State) (h : ℕ) (found : Option PlayOf) → open_play plan s ≡ found → option_map_or (may_start_in s h) found false ≡ true → work plan (option_map_or (started_in plan s h) found s) < work plan s
 start_in_less plan s h None o e = cc
@@ -193,12 +210,12 @@ start_in_less plan s h (Some play) o e = start_at_less plan s h play (next_at s 
 send_in_less : (plan : PlanOf) (s : State) (h item : ℕ) (ticket : Ticket) (found : Option PlayOf) → open_play plan s ≡ found → option_map_or (may_send_in s h item ticket) found false ≡ true → work plan (option_map_or (sent_in s h ticket) found s) < work plan s
 send_in_less plan s h item ticket None o e = cc
 send_in_less plan s h item ticket (Some play) o e =
-    row_event plan s play h (s.sends + 1) s.begun None (sent ticket) (may_send_item item) o (λ row may. send_less item ticket row may) (and_right (not s.stopped && (ticket.0 == s.sends)) _ e)
+    row_event plan s play [] h (s.sends + 1) s.begun None (sent ticket) (may_send_item item) o (λ row may. send_less item ticket row may) (and_right (not s.stopped && (ticket.0 == s.sends)) _ e)
 
 report_in_less : (plan : PlanOf) (s : State) (r : Report) (found : Option PlayOf) → open_play plan s ≡ found → option_map_or (may_report_in s r) found false ≡ true → work plan (option_map_or (reported_in plan s r) found s) < work plan s
 report_in_less plan s r None o e = cc
 report_in_less plan s r (Some play) o e =
-    row_event plan s play r.host.0 s.sends s.begun (reported_in plan s r play).decided (reported (plan_seen plan s) play r.outcome) (awaits r.ticket r.item) o (λ row may. report_less (plan_seen plan s) play r.outcome r.ticket r.item row may) e
+    row_event plan s play (report_gives (plan_seen plan s) play r.outcome r.host.0 s.rows) r.host.0 s.sends s.begun (reported_in plan s r play).decided (reported (plan_seen plan s) play r.outcome) (awaits r.ticket r.item) o (λ row may. report_less (plan_seen plan s) play r.outcome r.ticket r.item row may) e
 
 -- a turn
 is_place_some : (p q : Option ℕ) (r : ℕ) → p ≡ Some r → is_place p q ≡ true → q ≡ Some r

@@ -1,19 +1,21 @@
 -- A report in its parts: an item comes back, and then its task goes on; and how the item is put back where memory is refused on the way.
-use Rattle.std.specs.Prelude.{◌≡◌, ⊤, ℕ, false, List, Option, Some, None, option_map, slice_get}
+use Rattle.std.specs.Prelude.{◌≡◌, ⊤, ℕ, false, List, [], Option, Some, None, option_map, slice_get}
 use Rattle.std.specs.Option.{option_map_or}
 use Rattle.pb_value.specs.Datum.{Datum}
+use Rattle.pb_inventory.specs.InventoryOf.{InventoryOf}
 use Rattle.pb_facts.specs.Facts.{FactsOf}
 use Rattle.pb_outcome.specs.declared.gather.ItemResult.{ItemResult}
 use Rattle.pb_outcome.specs.declared.item.Item.{Item}
 use Rattle.pb_outcome.specs.declared.outcome.Form.{Form}
 use Rattle.pb_plan.specs.Plan.{PlayOf, PlanOf}
+use Rattle.pb_sight.specs.Results.{settled_at}
 use Rattle.pb_state.specs.declared.decided.Decided.{Decided}
 use Rattle.pb_state.specs.declared.decided.Done.{Done}
 use Rattle.pb_state.specs.declared.items.Before.{Before}
 use Rattle.pb_state.specs.declared.row.Running.{Running}
 use Rattle.pb_state.specs.Kept.{with_step}
-use Rattle.pb_state.specs.Machine.{decided_with, done_if, told_in}
-use Rattle.pb_state.specs.Results.{settled_at}
+use Rattle.pb_sight.specs.declared.gifts.Gift.{Gift}
+use Rattle.pb_state.specs.Machine.{decided_with, done_if, told_in, gifts_at}
 use Rattle.pb_state.specs.Row.{HostRow, pending, items_after, progressed}
 
 -- a result of the item with this number, as its task says of it
@@ -33,11 +35,21 @@ abbrev pub waiting : HostRow → HostRow
 waiting row = record row { running = option_map (λ (r : Running). record r { out = None }) row.running }
 
 -- the task that a host runs goes on, or ends where it is over
-abbrev pub went_with : PlayOf → HostRow → Running → HostRow
-went_with play row r = progressed play r.place r.items row
+abbrev pub went_with : InventoryOf → PlayOf → HostRow → Running → HostRow
+went_with inventory play row r = progressed inventory play r.place r.items row
 
-abbrev pub went_on : PlayOf → HostRow → HostRow
-went_on play row = option_map_or (went_with play row) row.running row
+abbrev pub went_on : InventoryOf → PlayOf → HostRow → HostRow
+went_on inventory play row = option_map_or (went_with inventory play row) row.running row
+
+-- and what it gives to other hosts then
+abbrev pub gives_with : InventoryOf → PlayOf → ℕ → Running → List Gift
+gives_with inventory play h r = gifts_at inventory play r.place h r.items
+
+abbrev pub gives_on : InventoryOf → PlayOf → ℕ → HostRow → List Gift
+gives_on inventory play h row = option_map_or (gives_with inventory play h) row.running []
+
+abbrev pub gives_now : InventoryOf → PlayOf → ℕ → List HostRow → List Gift
+gives_now inventory play h rows = option_map_or (gives_on inventory play h) (slice_get rows h) []
 
 abbrev pub ended_with : PlayOf → HostRow → Running → Option Done
 ended_with play row r = done_if play r.place (pending row) r.items

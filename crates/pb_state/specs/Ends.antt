@@ -7,6 +7,7 @@ use Rattle.pb_play.specs.declared.modules.Meta.TheVariants.{Noop, EndHost}
 use Rattle.pb_tree.specs.Answer.{AnswerOf}
 use Rattle.pb_tree.specs.declared.answer.Kind.{Kind}
 use Rattle.pb_tree.specs.declared.answer.Kind.TheVariants.{Good, Bad, Gone, Ended}
+use Rattle.pb_sight.specs.Ends.{has_run}
 use Rattle.pb_state.specs.declared.decided.TaskEnd.{TaskEnd}
 use Rattle.pb_state.specs.declared.row.Counts.{Counts}
 
@@ -20,9 +21,6 @@ abbrev pub ends_play : Option Meta → Bool
 ends_play None = false
 ends_play (Some Noop) = false
 ends_play (Some EndHost) = true
-
-abbrev pub has_run : TaskResult → Bool
-has_run result = not result.failed && not result.skipped
 
 abbrev pub kind_if : Bool → Bool → Kind
 kind_if true ends = Bad

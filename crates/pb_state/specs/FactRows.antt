@@ -20,7 +20,7 @@ use Rattle.pb_play.specs.declared.task.Task.{Task}
 use Rattle.pb_places.specs.Place.{place_of, bare_task}
 use Rattle.pb_plan.specs.Plan.{PlayOf, PlanOf, bare_play, bare_plan, bare_tree}
 use Rattle.pb_variables.specs.Magic.{host_magic}
-use Rattle.pb_state.specs.Results.{items_at, on_tasks}
+use Rattle.pb_sight.specs.Results.{items_at, on_tasks}
 use Rattle.pb_state.specs.Row.{HostRow, first_row, none_counted, joined, progressed, sent, reported}
 
 -- what computes these rows
@@ -37,7 +37,7 @@ on play = bare_plan (codes "h" ∷ []) (play ∷ [])
 
 -- the first task starts, and where its job is out, it comes to this
 abbrev begun : PlayOf → HostRow
-begun play = progressed play 0 (items_at (on play) play 0 no_facts 0) (joined play.tree true (first_row 0))
+begun play = progressed (on play).inventory play 0 (items_at (on play) play 0 no_facts 0) (joined play.tree true (first_row 0))
 
 abbrev back : PlayOf → Form → HostRow → HostRow
 back play outcome row = reported (on play) play outcome (sent (record { 0 = 7 }) row)

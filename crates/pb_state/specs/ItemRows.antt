@@ -14,10 +14,10 @@ use Rattle.pb_play.specs.declared.task.Task.{Task}
 use Rattle.pb_places.specs.Place.{place_of, bare_task, bare_place}
 use Rattle.pb_plan.specs.Plan.{PlayOf, PlanOf, bare_play, bare_plan, bare_tree}
 use Rattle.pb_tree.specs.declared.tree.Status.TheVariants.{Gone as Lost}
+use Rattle.pb_sight.specs.Results.{items_at, on_tasks}
 use Rattle.pb_state.specs.Row.{HostRow, first_row, none_counted, joined, progressed, sent, reported}
 use Rattle.pb_state.specs.Machine.{is_running, is_out, item_of, may_send_item, awaits, report_decides}
 use Rattle.pb_state.specs.declared.decided.Decided.{Decided}
-use Rattle.pb_state.specs.Results.{items_at, on_tasks}
 
 abbrev play : PlayOf
 play = bare_play (codes "p") (bare_tree 0 1 0) (bare_place (codes "list") (Shell (codes "ls")) ∷ []) (true ∷ [])
@@ -33,7 +33,7 @@ two_items = item_with (codes "a") ∷ item_with (codes "b") ∷ []
 
 -- the task starts with these items, and each of them is sent and comes back well
 abbrev started : HostRow
-started = progressed play 0 two_items (joined play.tree true (first_row 0))
+started = progressed plan.inventory play 0 two_items (joined play.tree true (first_row 0))
 
 abbrev out : HostRow → HostRow
 out row = sent (record { 0 = 7 }) row

@@ -1,9 +1,10 @@
 -- The job of the next item of the task that a host runs: it is read off the host's row, its play and the place.
-use Rattle.std.specs.Prelude.{ℕ, List, Option, Some, None, option_map, slice_get}
+use Rattle.std.specs.Prelude.{ℕ, List, [], Option, Some, None, option_map, unwrap_or, slice_get}
 use Rattle.std.specs.Option.{option_map_or}
 use Rattle.pb_ids.specs.declared.numbers.HostNo.{HostNo}
 use Rattle.pb_ids.specs.declared.numbers.Ticket.{Ticket}
 use Rattle.pb_tree.specs.Tree.{path_at}
+use Rattle.pb_inventory.specs.InventoryOf.{InventoryOf}
 use Rattle.pb_variables.specs.Connector.{connector_of}
 use Rattle.pb_outcome.specs.declared.item.Item.{Item}
 use Rattle.pb_outcome.specs.declared.item.Planned.{Planned}
@@ -13,21 +14,31 @@ use Rattle.pb_outcome.specs.declared.job.Job.{Job}
 use Rattle.pb_outcome.specs.Items.{next_item}
 use Rattle.pb_state.specs.declared.row.Running.{Running}
 use Rattle.pb_plan.specs.Plan.{PlayOf, PlanOf}
+use Rattle.pb_sight.specs.Delegates.{host_named}
 use Rattle.pb_state.specs.Row.{HostRow}
 use Rattle.pb_state.specs.State.{State}
 use Rattle.pb_state.specs.Machine.{open_play}
 
--- a job runs on the host itself, by its connector: no item is delegated yet
-abbrev pub job_with : ℕ → HostNo → Ticket → ℕ → Call → List ℕ → List (List ℕ) → List ℕ → Job
-job_with play host ticket item call name connector path =
-    record { ticket = ticket; host = host; name = name; play = record { 0 = play }; place = path; item = item; target = name; connector = connector; call = call }
+-- A job runs on the host itself, by its connector, or on the host that its item is delegated to, by that one's: a name that is no host's has none
+-- (Ansible's documentation, "Controlling where tasks run", "Delegating tasks").
+abbrev pub connector_named : InventoryOf → List ℕ → List (List ℕ)
+connector_named inventory name = option_map_or (connector_of inventory) (host_named inventory name) []
 
-abbrev pub named_job : PlanOf → ℕ → HostNo → Ticket → ℕ → Call → List ℕ → Option Job
-named_job plan play host ticket item call path =
-    option_map (λ name. job_with play host ticket item call name (connector_of plan.inventory host.0) path) (slice_get plan.inventory.hosts host.0)
+abbrev pub connector_for : InventoryOf → ℕ → Option (List ℕ) → List (List ℕ)
+connector_for inventory host None = connector_of inventory host
+connector_for inventory host (Some name) = connector_named inventory name
 
-abbrev pub placed_job : PlanOf → ℕ → HostNo → Ticket → PlayOf → ℕ → ℕ → Call → Option Job
-placed_job plan number host ticket play p item call = option_map_or (named_job plan number host ticket item call) (path_at play.tree p) None
+abbrev pub job_with : ℕ → HostNo → Ticket → ℕ → Call → List ℕ → List ℕ → List (List ℕ) → List ℕ → Job
+job_with play host ticket item call name target connector path =
+    record { ticket = ticket; host = host; name = name; play = record { 0 = play }; place = path; item = item; target = target; connector = connector; call = call }
+
+abbrev pub named_job : PlanOf → ℕ → HostNo → Ticket → ℕ → Option (List ℕ) → Call → List ℕ → Option Job
+named_job plan play host ticket item delegate call path =
+    option_map (λ name. job_with play host ticket item call name (unwrap_or delegate name) (connector_for plan.inventory host.0 delegate) path)
+    (slice_get plan.inventory.hosts host.0)
+
+abbrev pub placed_job : PlanOf → ℕ → HostNo → Ticket → PlayOf → ℕ → ℕ → Option (List ℕ) → Call → Option Job
+placed_job plan number host ticket play p item delegate call = option_map_or (named_job plan number host ticket item delegate call) (path_at play.tree p) None
 
 -- what is sent for the item with this number
 abbrev pub call_of : Planned → Option Call
@@ -37,8 +48,12 @@ call_of (Sends call) = Some call
 abbrev pub call_in : List Item → ℕ → Option Call
 call_in items n = option_map_or (λ (item : Item). call_of item.step) (slice_get items n) None
 
+-- and the name of the host that it is delegated to, if it is
+abbrev pub delegate_in : List Item → ℕ → Option (List ℕ)
+delegate_in items n = option_map_or (λ (item : Item). item.delegate) (slice_get items n) None
+
 abbrev pub item_job : PlanOf → ℕ → HostNo → Ticket → PlayOf → Running → ℕ → Option Job
-item_job plan number host ticket play r n = option_map_or (placed_job plan number host ticket play r.place n) (call_in r.items n) None
+item_job plan number host ticket play r n = option_map_or (placed_job plan number host ticket play r.place n (delegate_in r.items n)) (call_in r.items n) None
 
 abbrev pub running_job : PlanOf → ℕ → HostNo → Ticket → PlayOf → Running → Option Job
 running_job plan number host ticket play r = option_map_or (item_job plan number host ticket play r) (next_item r.items) None

@@ -1,9 +1,3 @@
-pub mod Learning
-pub mod Teaching
-pub mod Results
-pub mod Seen
-pub mod Unread
-pub mod Own
 pub mod Ends
 pub mod Handlers
 pub mod Row
@@ -15,6 +9,7 @@ pub mod Strategies
 pub mod Machine
 pub mod Joining
 pub mod Back
+pub mod Prepared
 pub mod Jobs
 pub mod Oldest
 pub mod Due
@@ -30,3 +25,4 @@ pub mod FactRows
 pub mod BlockRows
 pub mod HandlerRows
 pub mod BatchRows
+pub mod DelegationRows

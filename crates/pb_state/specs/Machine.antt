@@ -7,12 +7,17 @@ use Rattle.std.specs.Option.{option_map_or}
 use Rattle.pb_ids.specs.declared.numbers.Ticket.{Ticket}
 use Rattle.pb_planes.specs.Set.{is_in as is_member}
 use Rattle.pb_tree.specs.Tree.{size_of}
-use Rattle.pb_facts.specs.Facts.{FactsOf, no_facts}
+use Rattle.pb_inventory.specs.InventoryOf.{InventoryOf}
+use Rattle.pb_facts.specs.Facts.{FactsOf, no_facts, with_given}
 use Rattle.pb_outcome.specs.declared.gather.ItemResult.{ItemResult}
 use Rattle.pb_outcome.specs.declared.item.Item.{Item}
 use Rattle.pb_outcome.specs.declared.job.Report.{Report}
 use Rattle.pb_outcome.specs.declared.outcome.Form.{Form}
 use Rattle.pb_outcome.specs.Items.{next_item, is_over, numbered, numbered_at, result_of}
+use Rattle.pb_sight.specs.Gifts.{given_by}
+use Rattle.pb_sight.specs.Results.{items_at, variable_at}
+use Rattle.pb_sight.specs.Seen.{seen_with}
+use Rattle.pb_sight.specs.declared.gifts.Gift.{Gift}
 use Rattle.pb_state.specs.declared.event.Event.{Event}
 use Rattle.pb_state.specs.declared.event.Event.TheVariants.{Open, Start, Send, Report as Reported, Turn, Close, Stop, Forks}
 use Rattle.pb_state.specs.declared.row.Running.{Running}
@@ -28,8 +33,6 @@ use Rattle.pb_state.specs.State.{State}
 use Rattle.pb_state.specs.Strategies.{view_of}
 use Rattle.pb_strategies.specs.declared.strategy.Strategy.{Strategy}
 use Rattle.pb_strategies.specs.MayStart.{may_start, turn_ready, is_linear, ready as starting}
-use Rattle.pb_state.specs.Results.{items_at, variable_at}
-use Rattle.pb_state.specs.Seen.{seen_with}
 
 -- the play whose batch is open
 abbrev pub open_play : PlanOf → State → Option PlayOf
@@ -235,10 +238,23 @@ after_open plan s =
     if has_later s.later then option_map_or (goes_on s) (slice_get plan.plays s.play) s
     else option_map_or (begins_at plan s) (next_play plan s) s
 
-abbrev pub start_with : State → ℕ → PlayOf → ℕ → List Item → State
-start_with s h play p items =
+-- facts that the task of another host gives
+abbrev pub takes : Gift → HostRow → HostRow
+takes gift row = record row { facts = with_given gift.gives gift.facts row.facts }
+
+-- each gift goes to its host, one after another
+abbrev pub given_to : List Gift → List HostRow → List HostRow
+given_to [] rows = rows
+given_to (gift ∷ gifts) rows = given_to gifts (change rows gift.host.0 (takes gift))
+
+-- what the task at a place gives to other hosts than the one that started it, once these items end it
+abbrev pub gifts_at : InventoryOf → PlayOf → ℕ → ℕ → List Item → List Gift
+gifts_at inventory play p h items = if is_over items then given_by inventory play p h (task_at play p items).result items else []
+
+abbrev pub start_with : InventoryOf → State → ℕ → PlayOf → ℕ → List Item → State
+start_with inventory s h play p items =
     record s {
-      rows = change s.rows h (progressed play p items);
+      rows = given_to (gifts_at inventory play p h items) (change s.rows h (progressed inventory play p items));
       begun = slice_set s.begun p true;
       decided = Some (decided_with play p (pending_at s h) (not (is_member s.begun p)) (numbered 0 items) items);
     }
@@ -255,7 +271,7 @@ abbrev pub plan_seen : PlanOf → State → PlanOf
 plan_seen plan s = seen_with plan (learnt_by s.rows)
 
 abbrev pub start_at : PlanOf → State → ℕ → PlayOf → ℕ → State
-start_at plan s h play p = start_with s h play p (items_at (plan_seen plan s) play h (facts_at s h) p)
+start_at plan s h play p = start_with plan.inventory s h play p (items_at (plan_seen plan s) play h (facts_at s h) p)
 
 -- the next place of a host
 abbrev pub next_at : State → ℕ → Option ℕ
@@ -283,11 +299,21 @@ decided_by plan play outcome row r =
 abbrev pub report_decides : PlanOf → PlayOf → Form → HostRow → Option Decided
 report_decides plan play outcome row = option_map (decided_by plan play outcome row) row.running
 
+-- and what it gives to other hosts, of a host in this row
+abbrev pub gifts_by : PlanOf → PlayOf → Form → ℕ → HostRow → Running → List Gift
+gifts_by plan play outcome h row r = gifts_at plan.inventory play r.place h (items_after plan play row.host row.facts outcome r)
+
+abbrev pub gifts_of : PlanOf → PlayOf → Form → ℕ → HostRow → List Gift
+gifts_of plan play outcome h row = option_map_or (gifts_by plan play outcome h row) row.running []
+
+abbrev pub report_gives : PlanOf → PlayOf → Form → ℕ → List HostRow → List Gift
+report_gives plan play outcome h rows = option_map_or (gifts_of plan play outcome h) (slice_get rows h) []
+
 -- a report, where tasks see the plan so
 abbrev pub reported_seen : PlanOf → State → Report → PlayOf → State
 reported_seen plan s r play =
     record s {
-      rows = change s.rows r.host.0 (reported plan play r.outcome);
+      rows = given_to (report_gives plan play r.outcome r.host.0 s.rows) (change s.rows r.host.0 (reported plan play r.outcome));
       decided = option_map_or (report_decides plan play r.outcome) (slice_get s.rows r.host.0) None;
     }
 

@@ -3,6 +3,7 @@ use Rattle.std.specs.Prelude.{ℕ, zero, suc, ◌+◌, Bool, true, false, ◌&&�
 use Rattle.std.specs.Option.{option_map_or}
 use Rattle.pb_ids.specs.declared.numbers.Ticket.{Ticket}
 use Rattle.pb_planes.specs.Set.{is_in as is_member}
+use Rattle.pb_inventory.specs.InventoryOf.{InventoryOf}
 use Rattle.pb_tree.specs.declared.tree.Status.{Status}
 use Rattle.pb_tree.specs.declared.tree.Status.TheVariants.{Active, Failed, Halted as Stopped, Gone as Lost}
 use Rattle.pb_tree.specs.declared.tree.Reach.{Reach}
@@ -22,10 +23,10 @@ use Rattle.pb_play.specs.declared.modules.Meta.{Meta}
 use Rattle.pb_play.specs.declared.modules.Module.{Module}
 use Rattle.pb_play.specs.declared.modules.Module.TheVariants.{Meta as CalledMeta}
 use Rattle.pb_plan.specs.Plan.{PlayOf, PlanOf}
+use Rattle.pb_sight.specs.Learning.{taught_by}
+use Rattle.pb_sight.specs.Results.{settled_at, variable_at}
 use Rattle.pb_state.specs.Ends.{kind_of, answer_of, counted}
 use Rattle.pb_state.specs.Handlers.{notified_by}
-use Rattle.pb_state.specs.Learning.{taught_by}
-use Rattle.pb_state.specs.Results.{settled_at, variable_at}
 use Rattle.pb_state.specs.declared.decided.TaskEnd.{TaskEnd}
 use Rattle.pb_state.specs.declared.row.Counts.{Counts}
 use Rattle.pb_state.specs.declared.row.Finish.{Finish}
@@ -117,18 +118,19 @@ meta_at play p = option_map_or (λ (place : PlaceOf). meta_in place.task.«modul
 abbrev pub task_at : PlayOf → ℕ → List Item → TaskEnd
 task_at play p items = record { result = task_of (ignores_at play p) items; is_caught = caught_at play p; meta = meta_at play p }
 
--- what the host knows once the task at a place has ended with these items
-abbrev pub taught : PlayOf → ℕ → List Item → FactsOf → FactsOf
-taught play p items facts = taught_by play p (task_at play p items).result (result_of (variable_at play p) items) items facts
+-- what a host knows once the task at a place has ended there with these items
+abbrev pub taught : InventoryOf → PlayOf → ℕ → ℕ → List Item → FactsOf → FactsOf
+taught inventory play p host items facts = taught_by inventory play p host (task_at play p items).result (result_of (variable_at play p) items) items facts
 
 -- the task at a place ends with these items
-abbrev pub ended : PlayOf → ℕ → List Item → HostRow → HostRow
-ended play p items row = finished p (task_at play p items) (notified_by play p (task_at play p items)) (taught play p items row.facts) row
+abbrev pub ended : InventoryOf → PlayOf → ℕ → List Item → HostRow → HostRow
+ended inventory play p items row =
+    finished p (task_at play p items) (notified_by play p (task_at play p items)) (taught inventory play p row.host items row.facts) row
 
 -- the task at a place has come to these items: it goes on, or ends
-abbrev pub progressed : PlayOf → ℕ → List Item → HostRow → HostRow
-progressed play p items row =
-    if is_over items then ended play p items row
+abbrev pub progressed : InventoryOf → PlayOf → ℕ → List Item → HostRow → HostRow
+progressed inventory play p items row =
+    if is_over items then ended inventory play p items row
     else record row { running = Some (record { place = p; items = items; out = None }) }
 
 -- a job goes out under this ticket
@@ -147,7 +149,7 @@ abbrev pub items_after : PlanOf → PlayOf → ℕ → FactsOf → Form → Runn
 items_after plan play host facts outcome r = back_in (came_back plan play host facts r.place outcome) r.items
 
 abbrev pub reported_running : PlanOf → PlayOf → Form → HostRow → Running → HostRow
-reported_running plan play outcome row r = progressed play r.place (items_after plan play row.host row.facts outcome r) row
+reported_running plan play outcome row r = progressed plan.inventory play r.place (items_after plan play row.host row.facts outcome r) row
 
 -- the job that is out came to this
 abbrev pub reported : PlanOf → PlayOf → Form → HostRow → HostRow

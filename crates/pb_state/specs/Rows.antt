@@ -3,10 +3,10 @@ use Rattle.std.specs.Prelude.{◌≡◌, Bool, true, false, List, [], ◌∷◌,
 use Rattle.pb_value.specs.Datum.{text}
 use Rattle.pb_tree.specs.declared.tree.Status.TheVariants.{Failed}
 use Rattle.pb_play.specs.declared.modules.Module.TheVariants.{Debug}
+use Rattle.pb_sight.specs.Results.{on_tasks}
 use Rattle.pb_state.specs.declared.event.Event.{Event}
 use Rattle.pb_state.specs.declared.event.Event.TheVariants.{Open, Start, Turn, Close}
 use Rattle.pb_places.specs.Place.{bare_place}
-use Rattle.pb_state.specs.Results.{on_tasks}
 use Rattle.pb_plan.specs.Plan.{PlayOf, PlanOf, bare_play, bare_plan, bare_tree}
 use Rattle.pb_state.specs.Row.{HostRow, first_row}
 use Rattle.pb_state.specs.State.{State}

@@ -6,7 +6,7 @@ ghost use Rattle.std.specs.Option.{option_map_or};
 ghost use Rattle.pb_state.specs.Row.{first_rows, called, left, progressed, sent, reported};
 ghost use Rattle.pb_state.specs.Batches.{joined_first};
 ghost use Rattle.pb_state.specs.Bounds.{IsAtMost};
-ghost use Rattle.pb_state.specs.Machine.{is_running, has_send, change, pending_in, done_if, report_decides};
+ghost use Rattle.pb_state.specs.Machine.{is_running, has_send, change, pending_in, done_if, report_decides, given_to, gifts_at, report_gives};
 ghost use Rattle.pb_state.specs.Strategies.{standing};
 ghost use Rattle.pb_state.specs.Due.{asked_at};
 
@@ -14,12 +14,13 @@ use crate::decided::{Decided, Done};
 use crate::items::TaskItems;
 use crate::row::Row;
 use crate::rows::{self, HostRows, sends_into, stand_all};
-use crate::seen::Seen;
 use pb_cursors::LaidTree;
 use pb_ids::{HostNo, Ticket};
+use pb_inventory::inventory::Inventory;
 use pb_outcome::outcome::Outcome;
 use pb_plan::PlanPlay;
 use pb_planes::HostSet;
+use pb_sight::seen::Seen;
 use pb_strategies::Standings;
 use std::alloc::{AllocError, Global};
 use std::marker::Model;
@@ -149,11 +150,12 @@ pub fn stand_at(rows: &mut DueRows, place: Option<usize>)
     rows.standings.stand_at(place);
 }
 
-/// A host starts the task at a place with these items. An `Err` changes nothing.
+/// A host starts the task at a place with these items; where it ends at once, what it gives to other hosts is theirs. An `Err` changes nothing.
 pub fn start_row(
     alloc: Global,
     rows: &mut DueRows,
     host: HostNo,
+    inventory: &Inventory,
     play: &PlanPlay,
     place: usize,
     items: TaskItems,
@@ -161,11 +163,11 @@ pub fn start_row(
     requires there { host.0 < length rows.old }
     requires batch { IfSome (slice_get rows.old host.0) (λ row. row.in_batch ≡ true) }
     requires room { IfSome (slice_get rows.old host.0) (λ row. IsAtMost row.counts (2 ^ 64 - 2)) }
-    ensures rows { OnOk result (rows.new ≡ change rows.old host.0 (progressed play.now place items)) }
+    ensures rows { OnOk result (rows.new ≡ given_to (gifts_at inventory.now play.now place host.0 items) (change rows.old host.0 (progressed inventory.now play.now place items))) }
     ensures done { IfOk result (λ done. done ≡ done_if play.now place (pending_in rows.old host.0) items) }
     ensures err { OnErr result (rows.new ≡ rows.old) }
 {
-    let done = rows::start_row(alloc, &mut rows.rows, host, play, place, items)?;
+    let done = rows::start_row(alloc, &mut rows.rows, host, inventory, play, place, items)?;
     ask_one(&rows.rows, host, &mut rows.sends, &mut rows.standings);
     Ok(done)
 }
@@ -178,7 +180,7 @@ pub fn send_row(rows: &mut DueRows, host: HostNo, ticket: Ticket)
     ask_one(&rows.rows, host, &mut rows.sends, &mut rows.standings);
 }
 
-/// The job of a host that is out came to this. An `Err` changes nothing.
+/// The job of a host that is out came to this; where its task ends, what it gives to other hosts is theirs. An `Err` changes nothing.
 pub fn report_row(
     alloc: Global,
     rows: &mut DueRows,
@@ -188,7 +190,7 @@ pub fn report_row(
     outcome: &Outcome,
 ) -> Result<Option<Decided>, AllocError>
     requires { IfSome (slice_get rows.old host.0) (λ row. IsAtMost row.counts (2 ^ 64 - 2)) }
-    ensures rows { OnOk result (rows.new ≡ change rows.old host.0 (reported plan.now play.now outcome.now)) }
+    ensures rows { OnOk result (rows.new ≡ given_to (report_gives plan.now play.now outcome.now host.0 rows.old) (change rows.old host.0 (reported plan.now play.now outcome.now))) }
     ensures decides { IfOk result (λ decided. decided ≡ option_map_or (report_decides plan.now play.now outcome.now) (slice_get rows.old host.0) None) }
     ensures err { OnErr result (rows.new ≡ rows.old) }
 {

@@ -2,12 +2,13 @@
 
 ghost use Rattle.std.specs.Prelude.{◌≡◌, ◌<◌, ◌-◌, ◌^◌};
 ghost use Rattle.pb_state.specs.Bounds.{IsAtMost};
-ghost use Rattle.pb_state.specs.Ends.{fails, has_run, does_notify, ends_play, kind_if, kind_of, more, is_okay, counted_result, is_counted, counted};
+ghost use Rattle.pb_state.specs.Ends.{fails, does_notify, ends_play, kind_if, kind_of, more, is_okay, counted_result, is_counted, counted};
 
 use crate::decided::TaskEnd;
 use crate::row::Counts;
 use pb_outcome::gather::TaskResult;
 use pb_play::modules::Meta;
+use pb_sight::ends::has_run;
 use pb_tree::Kind;
 
 /// Whether a task failed and that isn't ignored.
@@ -15,13 +16,6 @@ fn fails(task: TaskResult) -> bool
     ensures { result ≡ fails task }
 {
     task.failed && !task.ignored
-}
-
-/// Whether a task neither failed nor was left out.
-pub(crate) fn has_run(task: TaskResult) -> bool
-    ensures { result ≡ has_run task }
-{
-    !task.failed && !task.skipped
 }
 
 /// Whether a task notifies its handlers.

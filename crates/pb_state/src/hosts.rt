@@ -1,30 +1,22 @@
-//! What `hostvars` stands for where a task may look it up.
+//! What `hostvars` stands for, with what the rows say that their hosts have learnt.
 
-ghost use Rattle.std.specs.Prelude.{◌≡◌, ◌<◌, Bool, false, codes, length, Option, Some, IfOk};
+ghost use Rattle.std.specs.Prelude.{◌≡◌, Option, IfOk};
 ghost use Rattle.pb_value.specs.Datum.{Datum};
-ghost use Rattle.pb_layers.specs.Scope.{Map};
-ghost use Rattle.pb_reach.specs.Apart.{SameBut};
 ghost use Rattle.pb_variables.specs.Learnt.{facts_in};
 ghost use Rattle.pb_variables.specs.Magic.{hostvars, hosts_magic};
 ghost use Rattle.pb_outcome.specs.declared.gather.ItemResult.{ItemResult};
-ghost use Rattle.pb_items.specs.Items.{items_of, settled_item};
+ghost use Rattle.pb_sight.specs.Results.{items_at, settled_at};
+ghost use Rattle.pb_sight.specs.Seen.{with_hosts, seen_with};
 ghost use Rattle.pb_state.specs.Machine.{learnt_by};
-ghost use Rattle.pb_state.specs.Results.{start_with, place_for, items_at, settled_at};
-ghost use Rattle.pb_state.specs.Seen.{with_hosts, seen_with};
-ghost use Rattle.pb_state.specs.Unread.{ItemsUnread, ToldUnread};
 
-use crate::own::Own;
-use crate::planned::{layers_for, place_for};
 use crate::row::Row;
-use crate::seen::Seen;
 use pb_facts::facts::Facts;
 use pb_ids::HostNo;
-use pb_layers::layers::Layers;
-use pb_places::Place;
 use pb_plan::{Plan, PlanPlay};
-use pb_reach::reach::may_read;
+use pb_sight::hosts::{hosts_known, reads_at};
+use pb_sight::seen::Seen;
 use pb_value::val::{Dict, Val};
-use pb_variables::hostvars::{hosts_magic, hostvars};
+use pb_variables::hostvars::hosts_magic;
 use std::alloc::{AllocError, Global};
 
 /// What each host has learnt, by its number.
@@ -39,64 +31,11 @@ fn learnt_in<'a>(alloc: Global, rows: &'a [Row]) -> Result<Vec<&'a Facts>, Alloc
 }
 
 /// The variable `hostvars`, with what the hosts have learnt.
-fn hosts_known(alloc: Global, plan: &Plan, rows: &[Row]) -> Result<Dict, AllocError>
+fn hosts_of(alloc: Global, plan: &Plan, rows: &[Row]) -> Result<Dict, AllocError>
     ensures { IfOk result (λ hosts. hosts ≡ hosts_magic (hostvars plan.now.inventory plan.now.extra (learnt_by rows.now))) }
 {
     let learnt = learnt_in(alloc, rows)?;
-    let hosts = hostvars(alloc, plan.inventory(), plan.extra(), learnt.as_slice())?;
-    hosts_magic(alloc, hosts)
-}
-
-/// Whether the task at a place that sees these layers may look `hostvars` up.
-fn reads_hosts(place: &Place, layers: &Layers) -> bool
-    ensures items { result ≡ false → (program : Bool) (one other : Map) → SameBut (codes "hostvars") one other →
-        items_of (start_with program place.now layers.now one) ≡ items_of (start_with program place.now layers.now other) }
-    ensures told { result ≡ false → (program : Bool) (one other : Map) (value : Option Datum) (item : ItemResult) → SameBut (codes "hostvars") one other →
-        settled_item (start_with program place.now layers.now one) value item ≡ settled_item (start_with program place.now layers.now other) value item }
-{
-    may_read(
-        "hostvars",
-        place.task(),
-        place.conditions(),
-        place.delegate_to(),
-        layers,
-    )
-}
-
-/// Whether the task at a place may look `hostvars` up on a host that has learnt this.
-fn task_reads(
-    alloc: Global,
-    plan: &Seen,
-    play: &PlanPlay,
-    host: HostNo,
-    facts: &Facts,
-    place: &Place,
-) -> Result<bool, AllocError>
-    requires { host.0 < length plan.now.inventory.hosts }
-    ensures items { IfOk result (λ reads. reads ≡ false → ItemsUnread plan.now play.now host.0 facts.now (Some place.now)) }
-    ensures told { IfOk result (λ reads. reads ≡ false → ToldUnread plan.now play.now host.0 facts.now (Some place.now)) }
-{
-    let own = Own::of(alloc, plan, host)?;
-    let layers = layers_for(plan, play, host, facts, place, &own);
-    Ok(reads_hosts(place, &layers))
-}
-
-/// The same of the task at the place with this number.
-fn reads_at(
-    alloc: Global,
-    plan: &Seen,
-    play: &PlanPlay,
-    host: HostNo,
-    facts: &Facts,
-    place: usize,
-) -> Result<bool, AllocError>
-    ensures items { IfOk result (λ reads. reads ≡ false → ItemsUnread plan.now play.now host.0 facts.now (place_for plan.now play.now host.0 place)) }
-    ensures told { IfOk result (λ reads. reads ≡ false → ToldUnread plan.now play.now host.0 facts.now (place_for plan.now play.now host.0 place)) }
-{
-    match place_for(plan, play, host, place) {
-        Some(place) => task_reads(alloc, plan, play, host, facts, place),
-        None => Ok(false),
-    }
+    hosts_known(alloc, plan, learnt.as_slice())
 }
 
 /// The variable `hostvars` as the task at a place may see it on a host that has learnt this: with what all hosts have learnt where the task may look
@@ -119,7 +58,7 @@ pub(crate) fn hosts_for(
     let seen = Seen::new(plan, &none);
     let reads = reads_at(alloc, &seen, play, host, facts, place)?;
     if reads {
-        hosts_known(alloc, plan, rows)
+        hosts_of(alloc, plan, rows)
     } else {
         hosts_magic(alloc, Val::null())
     }

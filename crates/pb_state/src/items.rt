@@ -5,12 +5,10 @@ ghost use Rattle.std.specs.Option.{option_copied};
 ghost use Rattle.pb_outcome.specs.Items.{next_item, is_over, back_in};
 ghost use Rattle.pb_outcome.specs.declared.item.Planned.TheVariants.{Decided};
 ghost use Rattle.pb_state.specs.Kept.{first_waiting, with_step};
-ghost use Rattle.pb_state.specs.Jobs.{call_in};
+ghost use Rattle.pb_state.specs.Jobs.{call_in, delegate_in};
 ghost use Rattle.pb_state.specs.Row.{came_back};
 ghost use Rattle.pb_state.specs.Back.{settled_in, undone_items};
 
-use crate::seen::Seen;
-use crate::settling::settled_at;
 use pb_facts::facts::Facts;
 use pb_ids::HostNo;
 use pb_outcome::gather::ItemResult;
@@ -20,7 +18,10 @@ use pb_outcome::job::Call;
 use pb_outcome::judge::judge;
 use pb_outcome::outcome::Outcome;
 use pb_plan::PlanPlay;
+use pb_sight::seen::Seen;
+use pb_sight::settling::settled_at;
 use pb_value::items::Items;
+use pb_value::text::Text;
 use std::alloc::{AllocError, Global};
 use std::marker::Model;
 use std::mem;
@@ -149,6 +150,16 @@ fn before_of(number: u32, step: Option<Planned>) -> Option<Before>
     }
 }
 
+/// The name of the host that the item with this number is delegated to, if it is.
+fn delegate_in(items: &[Item], number: u32) -> Option<&Text>
+    ensures { option_copied result ≡ delegate_in items.now number }
+{
+    match items.get(number as usize) {
+        Some(item) => item.delegate.as_ref(),
+        None => None,
+    }
+}
+
 impl TaskItems {
     /// The items of a task.
     pub fn of(items: Items<Item>) -> TaskItems
@@ -188,6 +199,13 @@ impl TaskItems {
         ensures { option_copied result ≡ call_in self.now number }
     {
         call_in(&self.items, number)
+    }
+
+    /// The name of the host that the item with this number is delegated to, if it is.
+    pub fn delegate(&self, number: u32) -> Option<&Text>
+        ensures { option_copied result ≡ delegate_in self.now number }
+    {
+        delegate_in(&self.items, number)
     }
 
     /// The next item has this result. What it was before is handed back.

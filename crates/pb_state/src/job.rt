@@ -1,11 +1,12 @@
 //! The jobs of running tasks.
 
-ghost use Rattle.std.specs.Prelude.{◌≡◌, ◌<◌, IfOk, slice_get, length};
+ghost use Rattle.std.specs.Prelude.{◌≡◌, ◌<◌, IfOk, slice_get, unwrap_or, length};
 ghost use Rattle.std.specs.Option.{option_copied, option_map_or};
-ghost use Rattle.pb_state.specs.Jobs.{row_job, job_with};
+ghost use Rattle.pb_state.specs.Jobs.{connector_named, connector_for, row_job, job_with};
 
 use crate::row::Row;
 use pb_ids::{HostNo, Place, PlayNo, Ticket};
+use pb_inventory::inventory::Inventory;
 use pb_outcome::job::{Call, Job};
 use pb_plan::{Plan, PlanPlay};
 use pb_value::items::Items;
@@ -13,7 +14,48 @@ use pb_value::text::Text;
 use pb_variables::connector::connector;
 use std::alloc::{AllocError, Global};
 
-/// The job of the next item of the task that a host runs: it runs on the host itself, by the host's connector, under this ticket.
+/// The words that connect to a host of this name: a name that is no host's has none.
+fn connector_named(
+    alloc: Global,
+    inventory: &Inventory,
+    name: &Text,
+) -> Result<Items<Text>, AllocError>
+    ensures { IfOk result (λ words. words ≡ connector_named inventory.now name.now) }
+{
+    match inventory.number(name.as_str()) {
+        Some(host) => connector(alloc, inventory, host),
+        None => Ok(Items::new(alloc)),
+    }
+}
+
+/// The words that connect to a host, or to the one of that name, where it is delegated to it.
+fn connector_for(
+    alloc: Global,
+    inventory: &Inventory,
+    host: HostNo,
+    delegate: Option<&Text>,
+) -> Result<Items<Text>, AllocError>
+    requires { host.0 < length inventory.now.hosts }
+    ensures { IfOk result (λ words. words ≡ connector_for inventory.now host.0 (option_copied delegate.entry)) }
+{
+    match delegate {
+        Some(name) => connector_named(alloc, inventory, name),
+        None => connector(alloc, inventory, host),
+    }
+}
+
+/// The name of the host on which a job runs: that of the host itself, or the one that it is delegated to.
+fn target_of(alloc: Global, delegate: Option<&Text>, name: &str) -> Result<Text, AllocError>
+    ensures { IfOk result (λ target. target ≡ unwrap_or (option_copied delegate.entry) name.now) }
+{
+    match delegate {
+        Some(target) => Ok(target.try_clone()?),
+        None => Ok(Text::from_str(alloc, name)?),
+    }
+}
+
+/// The job of the next item of the task that a host runs: it runs on the host itself, or on the one that the item is delegated to, by that host's
+/// connector, under this ticket.
 pub(crate) fn job_in(
     alloc: Global,
     plan: &Plan,
@@ -41,14 +83,16 @@ pub(crate) fn job_in(
         return Ok(None);
     }
     let name = plan.host_name(host);
-    let connector = connector(alloc, plan.inventory(), host)?;
+    let delegate = running.items.delegate(item);
+    let target = target_of(alloc, delegate, name)?;
+    let connector = connector_for(alloc, plan.inventory(), host, delegate)?;
     let job = job_with(
-        alloc, number, host, ticket, item, call, name, connector, place,
+        alloc, number, host, ticket, item, call, name, target, connector, place,
     )?;
     Ok(Some(job))
 }
 
-/// The job of an item that is sent at a place, on a host with this name and connector.
+/// The job of an item that is sent at a place, for a host with this name, on the host of that name with this connector.
 fn job_with(
     alloc: Global,
     number: PlayNo,
@@ -57,10 +101,11 @@ fn job_with(
     item: u32,
     call: &Call,
     name: &str,
+    target: Text,
     connector: Items<Text>,
     place: &Place,
 ) -> Result<Job, AllocError>
-    ensures { IfOk result (λ job. job ≡ job_with number.0 host ticket item call.now name.now connector place.now) }
+    ensures { IfOk result (λ job. job ≡ job_with number.0 host ticket item call.now name.now target connector place.now) }
 {
     Ok(Job {
         ticket,
@@ -69,7 +114,7 @@ fn job_with(
         play: number,
         place: place.try_clone()?,
         item,
-        target: Text::from_str(alloc, name)?,
+        target,
         connector,
         call: call.try_clone(alloc)?,
     })

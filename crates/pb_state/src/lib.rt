@@ -7,24 +7,19 @@
 
 ghost use Rattle.pb_state.specs.Walks.{WalksLead, RowsStay};
 ghost use Rattle.pb_state.specs.Rising.{StartsRise};
-ghost use Rattle.pb_state.specs.Teaching.{OnlyGoodTasksTeach};
 
 mod decided;
 mod due;
 mod ends;
 mod event;
+mod gifts;
 mod handlers;
 mod hosts;
 mod items;
 mod job;
 mod later;
-mod learning;
-mod own;
-mod planned;
 mod row;
 mod rows;
-mod seen;
-mod settling;
 mod state;
 mod told;
 
@@ -40,11 +35,4 @@ pub fn walks_lead()
     ensures walks { WalksLead }
     ensures rows { RowsStay }
     ensures rise { StartsRise }
-{}
-
-/// What a task leaves that failed, be that ignored or not, or that was left out: what its host knows stays, but for the task's result
-/// under the name that it registers, and where the host was out of reach it stays as it is.
-#[tactic(auto, using(crate::proofs::Taught::only_good_tasks_teach))]
-pub fn only_good_tasks_teach()
-    ensures { OnlyGoodTasksTeach }
 {}

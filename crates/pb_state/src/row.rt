@@ -6,21 +6,23 @@ ghost use Rattle.pb_tree.specs.Answer.{AnswerOf};
 ghost use Rattle.pb_tree.specs.Walk.{status_now};
 ghost use Rattle.pb_planes.specs.Set.{is_in as is_member};
 ghost use Rattle.pb_cursors.specs.Walks.{walk_after};
+ghost use Rattle.pb_sight.specs.Learning.{taught_by};
 ghost use Rattle.pb_state.specs.Joining.{walk_if};
 
 use crate::decided::{Decided, Done, TaskEnd};
 use crate::ends::{counted, kind_of};
 use crate::handlers::{marks_in, notified_by};
 use crate::items::{Before, TaskItems};
-use crate::learning::taught;
-use crate::seen::Seen;
 use crate::told::{done_at, told_of};
 use pb_cursors::{LaidTree, PlayWalk};
 use pb_facts::facts::Facts;
 use pb_ids::{HostNo, Ticket};
+use pb_inventory::inventory::Inventory;
 use pb_outcome::outcome::Outcome;
 use pb_plan::PlanPlay;
 use pb_planes::HostSet;
+use pb_sight::learning::taught;
+use pb_sight::seen::Seen;
 use pb_strategies::Standing;
 use pb_tree::{Answer, Kind, Reach, Status};
 use std::alloc::{AllocError, Global};
@@ -232,10 +234,38 @@ fn come_back(
     }
 }
 
+/// What a host knows once the task at a place ended there so, where that is more than before.
+fn known_after(
+    alloc: Global,
+    inventory: &Inventory,
+    play: &PlanPlay,
+    place: usize,
+    host: HostNo,
+    done: &Done,
+    items: &TaskItems,
+    facts: &Facts,
+) -> Result<Option<Facts>, AllocError>
+    ensures { IfOk result (λ known. unwrap_or known facts.now ≡ taught_by inventory.now play.now place host.0 done.now.task.result done.now.result items.now facts.now) }
+{
+    let ended = done.task.result;
+    taught(
+        alloc,
+        inventory,
+        play,
+        place,
+        host,
+        ended,
+        &done.result,
+        items.as_slice(),
+        facts,
+    )
+}
+
 impl Row {
-    ghost use Rattle.pb_state.specs.Row.{first_row, finished, progressed, sent, reported, called, left, pending};
+    ghost use Rattle.pb_state.specs.Row.{first_row, finished, progressed, sent, called, left, pending};
     ghost use Rattle.pb_state.specs.Joining.{with_walk};
-    ghost use Rattle.pb_state.specs.Machine.{done_if, report_decides};
+    ghost use Rattle.pb_state.specs.Prepared.{knows};
+    ghost use Rattle.pb_state.specs.Machine.{done_if};
     ghost use Rattle.pb_state.specs.Back.{back_row, waiting, went_on, ended_now, decided_now, undone};
 
     /// A host before the run.
@@ -293,13 +323,14 @@ impl Row {
     pub fn start(
         &mut self,
         alloc: Global,
+        inventory: &Inventory,
         play: &PlanPlay,
         place: usize,
         items: TaskItems,
     ) -> Result<Option<Done>, AllocError>
         requires batch { self.old.in_batch ≡ true }
         requires room { IsAtMost self.old.counts (2 ^ 64 - 2) }
-        ensures row { OnOk result (self.new ≡ progressed play.now place items self.old) }
+        ensures row { OnOk result (self.new ≡ progressed inventory.now play.now place items self.old) }
         ensures done { IfOk result (λ done. done ≡ done_if play.now place (pending self.old) items) }
         ensures err { OnErr result (self.new ≡ self.old) }
     {
@@ -315,7 +346,16 @@ impl Row {
             return Ok(None);
         }
         let done = done_at(alloc, play, place, self.pending(), &items)?;
-        let known = taught(alloc, play, place, &done, &items, &self.facts)?;
+        let known = known_after(
+            alloc,
+            inventory,
+            play,
+            place,
+            self.host,
+            &done,
+            &items,
+            &self.facts,
+        )?;
         self.finish(alloc, play, place, done.task, known)?;
         Ok(Some(done))
     }
@@ -329,32 +369,8 @@ impl Row {
         }
     }
 
-    /// The job that is out came to this. An `Err` changes nothing.
-    pub fn report(
-        &mut self,
-        alloc: Global,
-        plan: &Seen,
-        play: &PlanPlay,
-        outcome: &Outcome,
-    ) -> Result<Option<Decided>, AllocError>
-        requires { IsAtMost self.old.counts (2 ^ 64 - 2) }
-        ensures row { OnOk result (self.new ≡ reported plan.now play.now outcome.now self.old) }
-        ensures decides { IfOk result (λ decided. decided ≡ report_decides plan.now play.now outcome.now self.old) }
-        ensures err { OnErr result (self.new ≡ self.old) }
-    {
-        let number = self.item();
-        let before = self.take_back(alloc, plan, play, outcome)?;
-        match self.decide(alloc, play, number) {
-            Ok(decided) => Ok(decided),
-            Err(error) => {
-                self.undo(before);
-                Err(error)
-            }
-        }
-    }
-
     /// The job that is out came to this: its item has its result. What the item was before is handed back. An `Err` changes nothing.
-    fn take_back(
+    pub fn take_back(
         &mut self,
         alloc: Global,
         plan: &Seen,
@@ -378,7 +394,7 @@ impl Row {
     }
 
     /// Puts an item of the task that the host runs back as it was.
-    fn undo(&mut self, before: Option<Before>)
+    pub fn undo(&mut self, before: Option<Before>)
         ensures { self.new ≡ undone before self.old }
     {
         match &mut self.running {
@@ -397,14 +413,15 @@ impl Row {
     }
 
     /// What is decided of the task that the host runs, of which the item with this number came back. An `Err` changes nothing.
-    fn decide(
+    pub fn decide(
         &mut self,
         alloc: Global,
+        inventory: &Inventory,
         play: &PlanPlay,
         number: Option<u32>,
     ) -> Result<Option<Decided>, AllocError>
         requires { IsAtMost self.old.counts (2 ^ 64 - 2) }
-        ensures row { OnOk result (self.new ≡ went_on play.now self.old) }
+        ensures row { OnOk result (self.new ≡ went_on inventory.now play.now self.old) }
         ensures decides { IfOk result (λ decided. decided ≡ decided_now play.now number self.old) }
         ensures err { OnErr result (self.new ≡ self.old) }
     {
@@ -413,7 +430,7 @@ impl Row {
             Some(running) => {
                 let place = running.place;
                 let items = told_of(alloc, &running.items, number)?;
-                let done = self.end_if_over(alloc, play)?;
+                let done = self.end_if_over(alloc, inventory, play)?;
                 Ok(Some(Decided {
                     place,
                     is_new: false,
@@ -425,9 +442,14 @@ impl Row {
     }
 
     /// The task that the host runs goes on, or ends where it is over. An `Err` changes nothing.
-    fn end_if_over(&mut self, alloc: Global, play: &PlanPlay) -> Result<Option<Done>, AllocError>
+    fn end_if_over(
+        &mut self,
+        alloc: Global,
+        inventory: &Inventory,
+        play: &PlanPlay,
+    ) -> Result<Option<Done>, AllocError>
         requires { IsAtMost self.old.counts (2 ^ 64 - 2) }
-        ensures row { OnOk result (self.new ≡ went_on play.now self.old) }
+        ensures row { OnOk result (self.new ≡ went_on inventory.now play.now self.old) }
         ensures done { IfOk result (λ done. done ≡ ended_now play.now self.old) }
         ensures err { OnErr result (self.new ≡ self.old) }
     {
@@ -441,7 +463,16 @@ impl Row {
                 let place = running.place;
                 let marks = marks_in(&self.walk);
                 let done = done_at(alloc, play, place, marks, &running.items)?;
-                let known = taught(alloc, play, place, &done, &running.items, &self.facts)?;
+                let known = known_after(
+                    alloc,
+                    inventory,
+                    play,
+                    place,
+                    self.host,
+                    &done,
+                    &running.items,
+                    &self.facts,
+                )?;
                 self.finish(alloc, play, place, done.task, known)?;
                 Ok(Some(done))
             }
@@ -453,6 +484,13 @@ impl Row {
         ensures { self.new ≡ called hosts.now self.old }
     {
         self.waits = self.is_called(hosts);
+    }
+
+    /// What the host knows from now on.
+    pub fn know(&mut self, facts: Facts)
+        ensures { self.new ≡ knows facts self.old }
+    {
+        self.facts = facts;
     }
 
     /// The batch opens, in which the host takes this walk, if it takes part. What it has learnt stays where it is.

@@ -9,17 +9,21 @@ ghost use Rattle.pb_state.specs.Batches.{called_count, joins, room_behind, joine
 ghost use Rattle.pb_state.specs.Joining.{with_walk, walks_from, joined_from};
 ghost use Rattle.pb_state.specs.Oldest.{oldest_out, out_at, older};
 ghost use Rattle.pb_state.specs.Strategies.{standing};
-ghost use Rattle.pb_state.specs.Machine.{is_in, is_running, has_send, is_out, has_ticket, least_place, lesser, change, one_if, running_count, pending_in, done_if, report_decides, has_hosts, first_play};
+ghost use Rattle.pb_state.specs.Machine.{is_in, is_running, has_send, is_out, has_ticket, least_place, lesser, change, one_if, running_count, pending_in, done_if, item_of, report_decides, given_to, gifts_at, report_gives, has_hosts, first_play};
+ghost use Rattle.pb_state.specs.Back.{back_row, undone, went_on, decided_now, gives_now};
+ghost use Rattle.pb_state.specs.Prepared.{knows, with_facts};
 
 use crate::decided::{Decided, Done};
-use crate::items::TaskItems;
+use crate::gifts::{NewFacts, gifts_at, gives_now, with_gifts};
+use crate::items::{Before, TaskItems};
 use crate::row::{Counts, Row, walk_if};
-use crate::seen::Seen;
 use pb_cursors::{LaidTree, PlayWalk};
 use pb_ids::{HostNo, Ticket};
+use pb_inventory::inventory::Inventory;
 use pb_outcome::outcome::Outcome;
 use pb_plan::PlanPlay;
 use pb_planes::HostSet;
+use pb_sight::seen::Seen;
 use pb_strategies::Standings;
 use std::alloc::{AllocError, Global};
 use std::marker::Model;
@@ -169,10 +173,11 @@ pub fn some_ticket(rows: &[Row], ticket: Ticket) -> bool
 }
 
 /// A host starts the task at a place with these items. An `Err` changes nothing.
-pub fn start_row(
+fn start_one(
     alloc: Global,
     rows: &mut HostRows,
     host: HostNo,
+    inventory: &Inventory,
     play: &PlanPlay,
     place: usize,
     items: TaskItems,
@@ -180,20 +185,78 @@ pub fn start_row(
     requires there { host.0 < length rows.old }
     requires batch { IfSome (slice_get rows.old host.0) (λ row. row.in_batch ≡ true) }
     requires room { IfSome (slice_get rows.old host.0) (λ row. IsAtMost row.counts (2 ^ 64 - 2)) }
-    ensures rows { OnOk result (rows.new ≡ change rows.old host.0 (progressed play.now place items)) }
+    ensures rows { OnOk result (rows.new ≡ change rows.old host.0 (progressed inventory.now play.now place items)) }
     ensures done { IfOk result (λ done. done ≡ done_if play.now place (pending_in rows.old host.0) items) }
     ensures err { OnErr result (rows.new ≡ rows.old) }
 {
     match rows.rows.get_mut(host.0 as usize) {
         Some(row) => {
             let was = row.is_running();
-            let done = row.start(alloc, play, place, items)?;
+            let done = row.start(alloc, inventory, play, place, items)?;
             let runs = row.is_running();
             rows.running = recounted(rows.running, was, runs);
             Ok(done)
         }
         None => unreachable!(),
     }
+}
+
+/// What a host knows from now on.
+fn know_row(rows: &mut HostRows, known: NewFacts)
+    ensures { rows.new ≡ change rows.old known.host.0 (knows known.facts) }
+{
+    let (host, facts) = known.parts();
+    if let Some(row) = rows.rows.get_mut(host.0 as usize) {
+        let was = row.is_running();
+        row.know(facts);
+        let runs = row.is_running();
+        rows.running = recounted(rows.running, was, runs);
+    }
+}
+
+/// The last of these hosts knows what is kept for it.
+fn know_last(rows: &mut HostRows, all: &mut Vec<NewFacts>)
+    ensures facts { with_facts all.new.items rows.new ≡ with_facts all.old.items rows.old }
+    ensures fewer { length all.new.items ≡ length all.old.items - 1 }
+{
+    if let Some(known) = all.pop() {
+        know_row(rows, known);
+    }
+}
+
+/// These hosts know what is kept for them.
+fn know_all(rows: &mut HostRows, all: Vec<NewFacts>)
+    ensures { rows.new ≡ with_facts all.items rows.old }
+{
+    let mut left = all;
+    let count = left.len();
+    for _ in 0..count {
+        know_last(rows, &mut left);
+    }
+}
+
+/// A host starts the task at a place with these items; where it ends at once, what it gives to other hosts is theirs. An `Err` changes nothing.
+pub fn start_row(
+    alloc: Global,
+    rows: &mut HostRows,
+    host: HostNo,
+    inventory: &Inventory,
+    play: &PlanPlay,
+    place: usize,
+    items: TaskItems,
+) -> Result<Option<Done>, AllocError>
+    requires there { host.0 < length rows.old }
+    requires batch { IfSome (slice_get rows.old host.0) (λ row. row.in_batch ≡ true) }
+    requires room { IfSome (slice_get rows.old host.0) (λ row. IsAtMost row.counts (2 ^ 64 - 2)) }
+    ensures rows { OnOk result (rows.new ≡ given_to (gifts_at inventory.now play.now place host.0 items) (change rows.old host.0 (progressed inventory.now play.now place items))) }
+    ensures done { IfOk result (λ done. done ≡ done_if play.now place (pending_in rows.old host.0) items) }
+    ensures err { OnErr result (rows.new ≡ rows.old) }
+{
+    let gifts = gifts_at(alloc, inventory, play, place, host, &items)?;
+    let known = with_gifts(alloc, rows.as_slice(), gifts.as_slice())?;
+    let done = start_one(alloc, rows, host, inventory, play, place, items)?;
+    know_all(rows, known);
+    Ok(done)
 }
 
 /// A job of a host goes out.
@@ -205,7 +268,104 @@ pub fn send_row(rows: &mut HostRows, host: HostNo, ticket: Ticket)
     }
 }
 
-/// The job of a host that is out came to this. An `Err` changes nothing.
+/// The job of a host that is out came to this: its item has its result. What the item was before is handed back. An `Err` changes nothing.
+fn take_back(
+    alloc: Global,
+    rows: &mut HostRows,
+    host: HostNo,
+    plan: &Seen,
+    play: &PlanPlay,
+    outcome: &Outcome,
+) -> Result<Option<Before>, AllocError>
+    ensures ok { OnOk result (rows.new ≡ change rows.old host.0 (back_row plan.now play.now outcome.now)) }
+    ensures undo { IfOk result (λ before. change rows.new host.0 (undone before) ≡ rows.old) }
+    ensures err { OnErr result (rows.new ≡ rows.old) }
+{
+    match rows.rows.get_mut(host.0 as usize) {
+        Some(row) => {
+            let was = row.is_running();
+            let before = row.take_back(alloc, plan, play, outcome)?;
+            let runs = row.is_running();
+            rows.running = recounted(rows.running, was, runs);
+            Ok(before)
+        }
+        None => Ok(None),
+    }
+}
+
+/// An item of the task that a host runs is what it was before.
+fn undo(rows: &mut HostRows, host: HostNo, before: Option<Before>)
+    ensures { rows.new ≡ change rows.old host.0 (undone before) }
+{
+    match rows.rows.get_mut(host.0 as usize) {
+        Some(row) => {
+            let was = row.is_running();
+            row.undo(before);
+            let runs = row.is_running();
+            rows.running = recounted(rows.running, was, runs);
+        }
+        None => drop(before),
+    }
+}
+
+/// What is decided of the task that a host runs, of which the item with this number came back. An `Err` changes nothing.
+fn decide_one(
+    alloc: Global,
+    rows: &mut HostRows,
+    host: HostNo,
+    inventory: &Inventory,
+    play: &PlanPlay,
+    number: Option<u32>,
+) -> Result<Option<Decided>, AllocError>
+    requires { IfSome (slice_get rows.old host.0) (λ row. IsAtMost row.counts (2 ^ 64 - 2)) }
+    ensures rows { OnOk result (rows.new ≡ change rows.old host.0 (went_on inventory.now play.now)) }
+    ensures decides { IfOk result (λ decided. decided ≡ option_map_or (decided_now play.now number) (slice_get rows.old host.0) None) }
+    ensures err { OnErr result (rows.new ≡ rows.old) }
+{
+    match rows.rows.get_mut(host.0 as usize) {
+        Some(row) => {
+            let was = row.is_running();
+            let decided = row.decide(alloc, inventory, play, number)?;
+            let goes_on = row.is_running();
+            rows.running = recounted(rows.running, was, goes_on);
+            Ok(decided)
+        }
+        None => Ok(None),
+    }
+}
+
+/// The same; where the task ends, what it gives to other hosts is theirs. An `Err` changes nothing.
+fn decide_row(
+    alloc: Global,
+    rows: &mut HostRows,
+    host: HostNo,
+    inventory: &Inventory,
+    play: &PlanPlay,
+    number: Option<u32>,
+) -> Result<Option<Decided>, AllocError>
+    requires { IfSome (slice_get rows.old host.0) (λ row. IsAtMost row.counts (2 ^ 64 - 2)) }
+    ensures rows { OnOk result (rows.new ≡ given_to (gives_now inventory.now play.now host.0 rows.old) (change rows.old host.0 (went_on inventory.now play.now))) }
+    ensures decides { IfOk result (λ decided. decided ≡ option_map_or (decided_now play.now number) (slice_get rows.old host.0) None) }
+    ensures err { OnErr result (rows.new ≡ rows.old) }
+{
+    let gifts = gives_now(alloc, inventory, play, rows.as_slice(), host)?;
+    let known = with_gifts(alloc, rows.as_slice(), gifts.as_slice())?;
+    let decided = decide_one(alloc, rows, host, inventory, play, number)?;
+    know_all(rows, known);
+    Ok(decided)
+}
+
+/// The number of the item that a host sends next, or whose job is out.
+pub fn item_in(rows: &[Row], host: HostNo) -> Option<u32>
+    ensures { result ≡ option_map_or item_of (slice_get rows.now host.0) None }
+{
+    match rows.get(host.0 as usize) {
+        Some(row) => row.item(),
+        None => None,
+    }
+}
+
+/// The job of a host that is out came to this; where its task ends, what it gives to other hosts is theirs. An `Err` changes nothing.
 pub fn report_row(
     alloc: Global,
     rows: &mut HostRows,
@@ -215,19 +375,18 @@ pub fn report_row(
     outcome: &Outcome,
 ) -> Result<Option<Decided>, AllocError>
     requires { IfSome (slice_get rows.old host.0) (λ row. IsAtMost row.counts (2 ^ 64 - 2)) }
-    ensures rows { OnOk result (rows.new ≡ change rows.old host.0 (reported plan.now play.now outcome.now)) }
+    ensures rows { OnOk result (rows.new ≡ given_to (report_gives plan.now play.now outcome.now host.0 rows.old) (change rows.old host.0 (reported plan.now play.now outcome.now))) }
     ensures decides { IfOk result (λ decided. decided ≡ option_map_or (report_decides plan.now play.now outcome.now) (slice_get rows.old host.0) None) }
     ensures err { OnErr result (rows.new ≡ rows.old) }
 {
-    match rows.rows.get_mut(host.0 as usize) {
-        Some(row) => {
-            let was = row.is_running();
-            let decided = row.report(alloc, plan, play, outcome)?;
-            let goes_on = row.is_running();
-            rows.running = recounted(rows.running, was, goes_on);
-            Ok(decided)
+    let number = item_in(rows.rows.as_slice(), host);
+    let before = take_back(alloc, rows, host, plan, play, outcome)?;
+    match decide_row(alloc, rows, host, plan.inventory(), play, number) {
+        Ok(decided) => Ok(decided),
+        Err(error) => {
+            undo(rows, host, before);
+            Err(error)
         }
-        None => Ok(None),
     }
 }
 

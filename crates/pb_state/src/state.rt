@@ -6,12 +6,12 @@ ghost use Rattle.std.specs.List.{list_any};
 ghost use Rattle.std.specs.Option.{option_copied, option_map_or};
 ghost use Rattle.pb_planes.specs.Set.{is_in as is_member};
 ghost use Rattle.pb_plan.specs.Plan.{PlanOf};
+ghost use Rattle.pb_sight.specs.Results.{items_at};
+ghost use Rattle.pb_sight.specs.Seen.{with_hosts};
 ghost use Rattle.pb_state.specs.Row.{HostRow, called, left};
 ghost use Rattle.pb_state.specs.Batches.{has_later};
 ghost use Rattle.pb_state.specs.Machine.{facts_at, pending_at, plan_seen, play_behind, first_by};
 ghost use Rattle.pb_state.specs.Strategies.{view_of};
-ghost use Rattle.pb_state.specs.Results.{items_at};
-ghost use Rattle.pb_state.specs.Seen.{with_hosts};
 ghost use Rattle.pb_state.specs.Back.{SameTold};
 ghost use Rattle.pb_state.specs.State.{State};
 
@@ -24,20 +24,21 @@ use crate::hosts::hosts_for;
 use crate::items::TaskItems;
 use crate::job::job_in;
 use crate::later::{Later, first_of};
-use crate::planned::items_at;
 use crate::row::{Counts, Row};
 use crate::rows::{
-    called_count, counts_of, first_play, least_place, none_into, oldest_out, some_in, some_out,
-    some_ticket,
+    called_count, counts_of, first_play, item_in, least_place, none_into, oldest_out, some_in,
+    some_out, some_ticket,
 };
-use crate::seen::Seen;
 use crate::told::numbered;
 use pb_batches::batches;
 use pb_facts::facts::Facts;
 use pb_ids::{HostNo, PlayNo, Ticket};
+use pb_inventory::inventory::Inventory;
 use pb_outcome::job::{Job, Report};
 use pb_plan::{Plan, PlanPlay};
 use pb_planes::HostSet;
+use pb_sight::planned::items_at;
+use pb_sight::seen::Seen;
 use pb_strategies::{Strategy, View, may_start, ready, turn_ready};
 use pb_value::val::{Dict, Val};
 use pb_variables::hostvars::hosts_magic;
@@ -558,7 +559,7 @@ impl EngineState {
         ensures err { OnErr result (self.new ≡ self.old) }
     {
         let items = self.items_here(plan, play, host, place)?;
-        self.start_with(host, play, place, items)
+        self.start_with(plan.inventory(), host, play, place, items)
     }
 
     /// The items of the task at a place as it starts on a host, which has learnt what stands in its row.
@@ -594,12 +595,14 @@ impl EngineState {
         let rows = self.rows.as_slice();
         let hosts = hosts_for(self.alloc, plan, rows, play, host, facts, place)?;
         let seen = Seen::new(plan, &hosts);
-        items_at(self.alloc, &seen, play, host, facts, place)
+        let items = items_at(self.alloc, &seen, play, host, facts, place)?;
+        Ok(TaskItems::of(items))
     }
 
     /// The task at a place starts on a host with these items.
     fn start_with(
         &mut self,
+        inventory: &Inventory,
         host: HostNo,
         play: &PlanPlay,
         place: usize,
@@ -607,11 +610,19 @@ impl EngineState {
     ) -> Result<(), AllocError>
         requires open { self.old.is_open ≡ true }
         requires may { may_start_in self.old host.0 play.now ≡ true }
-        ensures ok { OnOk result (self.new ≡ start_with self.old host.0 play.now place items) }
+        ensures ok { OnOk result (self.new ≡ start_with inventory.now self.old host.0 play.now place items) }
         ensures err { OnErr result (self.new ≡ self.old) }
     {
         let told = numbered(self.alloc, &items)?;
-        let done = start_row(self.alloc, &mut self.rows, host, play, place, items)?;
+        let done = start_row(
+            self.alloc,
+            &mut self.rows,
+            host,
+            inventory,
+            play,
+            place,
+            items,
+        )?;
         let is_new = !has_place(self.begun.as_slice(), place);
         begin_at_place(self.begun.as_mut_slice(), place);
         decide(
@@ -844,10 +855,7 @@ impl EngineState {
     pub fn item(&self, host: HostNo) -> Option<u32>
         ensures { result ≡ item_at self.now host.0 }
     {
-        match self.rows.as_slice().get(host.0 as usize) {
-            Some(row) => row.item(),
-            None => None,
-        }
+        item_in(self.rows.as_slice(), host)
     }
 
     /// The job of the next item of the task that a host runs, under a ticket.

@@ -3,8 +3,8 @@
 ghost use Rattle.std.specs.Prelude.{◌≡◌, ◌≤◌, ◌++◌, [], length, IfOk};
 ghost use Rattle.std.specs.Option.{option_copied};
 ghost use Rattle.pb_outcome.specs.Items.{numbered, numbered_at, numbered_then};
+ghost use Rattle.pb_sight.specs.Results.{variable_at};
 ghost use Rattle.pb_state.specs.Machine.{told_in, done_at};
-ghost use Rattle.pb_state.specs.Results.{variable_at};
 ghost use Rattle.pb_state.specs.Row.{ignores_at, caught_at, meta_in, meta_at, task_at};
 
 use crate::decided::{Done, TaskEnd};

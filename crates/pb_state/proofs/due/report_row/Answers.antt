@@ -2,7 +2,8 @@ use Rattle.std.proofs.Common.{◌-◌, ◌^◌, List, subst, sym}
 use Rattle.std.specs.Prelude.{IfSome, slice_get}
 use Rattle.pb_state.specs.Bounds.{IsAtMost}
 use Rattle.pb_state.specs.Row.{HostRow, reported}
-use Rattle.pb_state.proofs.Asked.{one_due}
+use Rattle.pb_state.specs.Machine.{report_gives}
+use Rattle.pb_state.proofs.Asked.{given_due}
 use Rattle.pb_state.proofs.due.report_row.Goals as goal
 
 pub report_row-requires : goal.report_row-requires
@@ -11,7 +12,7 @@ report_row-requires c =
 
 pub invariant_of-rows-2 : goal.invariant_of-rows-2
 invariant_of-rows-2 c =
-    one_due (reported c.args.plan.now c.args.play.now c.args.outcome.now) c.args.host.0 c.rows.inside.sends c.ask_one.new.sends c.rows.inside.standings c.ask_one.new.standings c.rows.inside.rows c.report_row.new.rows
+    given_due (report_gives c.args.plan.now c.args.play.now c.args.outcome.now c.args.host.0 c.rows.inside.rows) (reported c.args.plan.now c.args.play.now c.args.outcome.now) c.args.host.0 c.rows.inside.sends c.ask_one.new.sends c.rows.inside.standings c.ask_one.new.standings c.rows.inside.rows c.report_row.new.rows
     c.rows.invariant
     c.in_ok-decided.ensures.rows
     c.ask_one.ensures.sends

@@ -2,7 +2,8 @@ use Rattle.std.proofs.Common.{◌≡◌, ◌<◌, ◌-◌, ◌^◌, List, length
 use Rattle.std.specs.Prelude.{IfSome, slice_get}
 use Rattle.pb_state.specs.Bounds.{IsAtMost}
 use Rattle.pb_state.specs.Row.{HostRow, progressed}
-use Rattle.pb_state.proofs.Asked.{one_due}
+use Rattle.pb_state.specs.Machine.{gifts_at}
+use Rattle.pb_state.proofs.Asked.{given_due}
 use Rattle.pb_state.proofs.due.start_row.Goals as goal
 
 pub start_row-requires-clause-there : goal.start_row-requires-clause-there
@@ -18,7 +19,7 @@ start_row-requires-clause-room c =
 
 pub invariant_of-rows-2 : goal.invariant_of-rows-2
 invariant_of-rows-2 c =
-    one_due (progressed c.args.play.now c.args.place c.args.items) c.args.host.0 c.rows.inside.sends c.ask_one.new.sends c.rows.inside.standings c.ask_one.new.standings c.rows.inside.rows c.start_row.new.rows
+    given_due (gifts_at c.args.inventory.now c.args.play.now c.args.place c.args.host.0 c.args.items) (progressed c.args.inventory.now c.args.play.now c.args.place c.args.items) c.args.host.0 c.rows.inside.sends c.ask_one.new.sends c.rows.inside.standings c.ask_one.new.standings c.rows.inside.rows c.start_row.new.rows
     c.rows.invariant
     c.in_ok-done.ensures.rows
     c.ask_one.ensures.sends

@@ -1,6 +1,6 @@
 use Rattle.std.proofs.lemmas.Result.{IfOk-weaker}
+use Rattle.pb_sight.proofs.ReadHosts.{items_not_read, told_not_read}
 use Rattle.pb_state.specs.Machine.{learnt_by}
-use Rattle.pb_state.proofs.ReadHosts.{items_not_read, told_not_read}
 use Rattle.pb_state.proofs.hosts.hosts_for.Goals as goal
 
 pub returns-clause-items : goal.returns-clause-items

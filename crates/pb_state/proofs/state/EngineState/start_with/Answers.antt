@@ -1,6 +1,6 @@
 use Rattle.std.proofs.Common.{◌≡◌, true, subst, sym}
 use Rattle.pb_state.specs.State.{State}
-use Rattle.pb_state.specs.Machine.{at_row, next_at}
+use Rattle.pb_state.specs.Machine.{at_row, gifts_at, next_at}
 use Rattle.pb_state.proofs.Stands.{stands_at, start_stands}
 use Rattle.pb_state.proofs.Within.{room_at, start_there, start_in_batch, start_bounded}
 use Rattle.pb_state.proofs.state.EngineState.start_with.Goals as goal
@@ -21,7 +21,7 @@ start_row-requires-clause-room c =
 
 pub invariant_of-self-2 : goal.invariant_of-self-2
 invariant_of-self-2 c =
-    start_bounded c.self.inside.batch c.self.inside.later c.self.inside.play c.self.inside.sends c.args.host.0 c.self.inside.is_open (next_at c.args.self.now c.args.host.0) c.args.play.now c.args.place c.args.items c.self.inside.rows
+    start_bounded c.self.inside.batch c.self.inside.later c.self.inside.play c.self.inside.sends c.args.host.0 c.self.inside.is_open (next_at c.args.self.now c.args.host.0) c.args.inventory.now c.args.play.now c.args.place c.args.items (gifts_at c.args.inventory.now c.args.play.now c.args.place c.args.host.0 c.args.items) c.self.inside.rows
     c.start_row.new.rows c.numbered.ensures.most
     c.self.invariant
     (subst (λ (v : State). v.is_open ≡ true) (sym c.self.view_is) c.requires.open)

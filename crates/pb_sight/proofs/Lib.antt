@@ -1,0 +1,5 @@
+pub mod FewItems
+pub mod ForOthers
+pub mod Layered
+pub mod ReadHosts
+pub mod Taught

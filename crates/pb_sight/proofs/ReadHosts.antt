@@ -1,0 +1,106 @@
+-- A task that doesn't read `hostvars` is the same whatever that stands for.
+use Rattle.std.proofs.Common.{◌≡◌, ℕ, Bool, false, cond, List, [], ◌∷◌, ◌++◌, Option, Some, None, codes, refl, sym, ap, subst, ◌∙◌}
+use Rattle.std.specs.BTreeMap.{is_at}
+use Rattle.std.specs.Cmp.Lexicographic.{slice_cmp}
+use Rattle.std.specs.Map.{lookup}
+use Rattle.std.specs.Option.{option_map_or}
+use Rattle.std.specs.Ordering.{nat_cmp}
+use Rattle.std.proofs.lemmas.Map.Text.{is_eq-slice_cmp}
+use Rattle.pb_value.specs.Datum.{Datum}
+use Rattle.pb_facts.specs.Facts.{FactsOf}
+use Rattle.pb_layers.specs.Scope.{Map}
+use Rattle.pb_conditions.specs.Settled.{sees, settled}
+use Rattle.pb_expr_syntax.specs.Tree.{Tree}
+use Rattle.pb_items.specs.Items.{items_of, settled_item}
+use Rattle.pb_items.specs.Loops.{loop_variable}
+use Rattle.pb_play.specs.declared.task.Task.{Task}
+use Rattle.pb_reach.specs.Reach.{start_from}
+use Rattle.pb_outcome.specs.declared.gather.ItemResult.{ItemResult}
+use Rattle.pb_outcome.specs.declared.item.Item.{Item}
+use Rattle.pb_outcome.specs.declared.item.Planned.TheVariants.{Decided as DecidedItem}
+use Rattle.pb_places.specs.Place.{PlaceOf}
+use Rattle.pb_plan.specs.Plan.{PlayOf, PlanOf}
+use Rattle.pb_reach.specs.Apart.{SameBut}
+use Rattle.pb_variables.specs.Magic.{host_magic, hostvars, hosts_magic}
+use Rattle.pb_sight.specs.Results.{start_with, magic_of, nothing, place_for, items_for, items_at, settled_for, settled_at}
+use Rattle.pb_sight.specs.Seen.{with_hosts, seen_with}
+use Rattle.pb_sight.specs.Unread.{ItemsUnread, ToldUnread}
+
+-- entries in front of others
+behind : (test : List ℕ → Bool) (front xs ys : Map) → lookup test xs ≡ lookup test ys → lookup test (front ++ xs) ≡ lookup test (front ++ ys)
+behind test [] xs ys same = same
+behind test (e ∷ front) xs ys same = ap (λ (o : Option Datum). cond (test e.0) (Some e.1) o) (behind test front xs ys same)
+
+one_entry : (test : List ℕ → Bool) (key : List ℕ) (v w : Datum) → test key ≡ false → lookup test ((key, v) ∷ []) ≡ lookup test ((key, w) ∷ [])
+one_entry test key v w other =
+    ap (λ (b : Bool). cond b (Some v) None) other ∙ sym (ap (λ (b : Bool). cond b (Some w) None) other)
+
+-- magic variables that differ in what `hostvars` stands for
+same_but : (front plan : Map) (v w : Datum) → SameBut (codes "hostvars") (front ++ (plan ++ hosts_magic v)) (front ++ (plan ++ hosts_magic w))
+same_but front plan v w name n =
+    behind (is_at (slice_cmp nat_cmp name)) front (plan ++ hosts_magic v) (plan ++ hosts_magic w)
+    (behind (is_at (slice_cmp nat_cmp name)) plan (hosts_magic v) (hosts_magic w)
+    (one_entry (is_at (slice_cmp nat_cmp name)) (codes "hostvars") v w (is_eq-slice_cmp name (codes "hostvars") ∙ n)))
+
+items_found : (plan : PlanOf) (play : PlayOf) (h : ℕ) (facts : FactsOf) (v w : Datum) (none : List Item) (found : Option PlaceOf) → ItemsUnread plan play h facts found →
+    option_map_or (items_for (with_hosts plan (hosts_magic v)) play h facts) found none ≡ option_map_or (items_for (with_hosts plan (hosts_magic w)) play h facts) found none
+items_found plan play h facts v w none None unread = refl
+items_found plan play h facts v w none (Some place) unread =
+    unread (magic_of (with_hosts plan (hosts_magic v)) play h) (magic_of (with_hosts plan (hosts_magic w)) play h)
+    (same_but (host_magic plan.inventory h ++ play.magic) plan.magic v w)
+
+pub items_unread : (plan : PlanOf) (play : PlayOf) (h : ℕ) (facts : FactsOf) (p : ℕ) (v w : Datum) → ItemsUnread plan play h facts (place_for plan play h p) →
+    items_at (with_hosts plan (hosts_magic v)) play h facts p ≡ items_at (with_hosts plan (hosts_magic w)) play h facts p
+unfolding items_at
+items_unread plan play h facts p v w unread =
+    items_found plan play h facts v w (record { value = None; delegate = None; step = DecidedItem nothing } ∷ []) (place_for plan play h p) unread
+
+told_found : (plan : PlanOf) (play : PlayOf) (h : ℕ) (facts : FactsOf) (v w : Datum) (value : Option Datum) (item : ItemResult) (found : Option PlaceOf) → ToldUnread plan play h facts found →
+    option_map_or (settled_for (with_hosts plan (hosts_magic v)) play h facts value item) found item ≡ option_map_or (settled_for (with_hosts plan (hosts_magic w)) play h facts value item) found item
+told_found plan play h facts v w value item None unread = refl
+told_found plan play h facts v w value item (Some place) unread =
+    unread (magic_of (with_hosts plan (hosts_magic v)) play h) (magic_of (with_hosts plan (hosts_magic w)) play h) value item
+    (same_but (host_magic plan.inventory h ++ play.magic) plan.magic v w)
+
+pub told_unread : (plan : PlanOf) (play : PlayOf) (h : ℕ) (facts : FactsOf) (p : ℕ) (v w : Datum) (value : Option Datum) (item : ItemResult) → ToldUnread plan play h facts (place_for plan play h p) →
+    settled_at (with_hosts plan (hosts_magic v)) play h facts p value item ≡ settled_at (with_hosts plan (hosts_magic w)) play h facts p value item
+unfolding settled_at
+told_unread plan play h facts p v w value item unread = told_found plan play h facts v w value item (place_for plan play h p) unread
+
+-- a task by its parts
+pub items_of_place : (program : Bool) (place : PlaceOf) (seen : List Map) (task : Task) (conditions : List Tree) (delegate_to : Option (List ℕ)) (one other : Map) → task ≡ place.task → conditions ≡ place.conditions →
+    delegate_to ≡ place.delegate_to → items_of (start_from task conditions delegate_to program seen one) ≡ items_of (start_from task conditions delegate_to program seen other) →
+    items_of (start_with program place seen one) ≡ items_of (start_with program place seen other)
+unfolding start_with
+items_of_place program place seen task conditions delegate_to one other t c d same = rw (sym t, sym c, sym d) same
+
+pub told_of_place : (program : Bool) (place : PlaceOf) (seen : List Map) (task : Task) (one other : Map) (value : Option Datum) (item : ItemResult) → task ≡ place.task →
+    settled (sees seen one (loop_variable task.looped value)) task.register task.changed_when task.failed_when item
+    ≡ settled (sees seen other (loop_variable task.looped value)) task.register task.changed_when task.failed_when item →
+    settled_item (start_with program place seen one) value item ≡ settled_item (start_with program place seen other) value item
+unfolding start_with
+told_of_place program place seen task one other value item t same = rw (sym t) same
+
+-- where the value is the same, so is the rest
+pub items_known : (plan : PlanOf) (play : PlayOf) (h : ℕ) (facts : FactsOf) (p : ℕ) (hosts others : Map) → hosts ≡ others →
+    items_at (with_hosts plan hosts) play h facts p ≡ items_at (with_hosts plan others) play h facts p
+items_known plan play h facts p hosts others is = ap (λ (m : Map). items_at (with_hosts plan m) play h facts p) is
+
+pub told_known : (plan : PlanOf) (play : PlayOf) (h : ℕ) (facts : FactsOf) (p : ℕ) (hosts others : Map) (value : Option Datum) (item : ItemResult) → hosts ≡ others →
+    settled_at (with_hosts plan hosts) play h facts p value item ≡ settled_at (with_hosts plan others) play h facts p value item
+told_known plan play h facts p hosts others value item is = ap (λ (m : Map). settled_at (with_hosts plan m) play h facts p value item) is
+
+-- a plan whose `hostvars` has no value, to a task that doesn't look it up
+pub items_not_read : (plan seen : PlanOf) (play : PlayOf) (h : ℕ) (facts : FactsOf) (p : ℕ) (learnt : List FactsOf) (none hosts : Map) (reads : Bool) (value : Datum) → seen ≡ with_hosts plan none →
+    reads ≡ false → (reads ≡ false → ItemsUnread seen play h facts (place_for seen play h p)) → hosts ≡ hosts_magic value →
+    items_at (with_hosts plan hosts) play h facts p ≡ items_at (seen_with plan learnt) play h facts p
+items_not_read plan seen play h facts p learnt none hosts reads value s not_read unread is =
+    items_known plan play h facts p hosts (hosts_magic value) is
+    ∙ items_unread plan play h facts p value (hostvars plan.inventory plan.extra learnt) (subst (λ (q : PlanOf). ItemsUnread q play h facts (place_for q play h p)) s (unread not_read))
+
+pub told_not_read : (plan seen : PlanOf) (play : PlayOf) (h : ℕ) (facts : FactsOf) (p : ℕ) (learnt : List FactsOf) (none hosts : Map) (reads : Bool) (value : Datum) → seen ≡ with_hosts plan none →
+    reads ≡ false → (reads ≡ false → ToldUnread seen play h facts (place_for seen play h p)) → hosts ≡ hosts_magic value → (told : Option Datum) (item : ItemResult) →
+    settled_at (with_hosts plan hosts) play h facts p told item ≡ settled_at (seen_with plan learnt) play h facts p told item
+told_not_read plan seen play h facts p learnt none hosts reads value s not_read unread is told item =
+    told_known plan play h facts p hosts (hosts_magic value) told item is
+    ∙ told_unread plan play h facts p value (hostvars plan.inventory plan.extra learnt) told item (subst (λ (q : PlanOf). ToldUnread q play h facts (place_for q play h p)) s (unread not_read))

@@ -1,0 +1,31 @@
+-- The hosts that items are delegated to, and whose facts theirs are (Ansible's documentation, "Controlling where tasks run", "Delegating tasks" and
+-- "Delegating facts").
+use Rattle.std.specs.Prelude.{ℕ, ◌==◌, Bool, true, false, List, Option, Some, None, position, filter, option_and_then, if◌then◌else◌}
+use Rattle.std.specs.Option.{option_map_or}
+use Rattle.std.specs.Str.{bytes_eq}
+use Rattle.pb_inventory.specs.InventoryOf.{InventoryOf}
+use Rattle.pb_outcome.specs.declared.item.Item.{Item}
+
+-- a host by its name
+abbrev pub host_named : InventoryOf → List ℕ → Option ℕ
+host_named inventory name = position (bytes_eq name) inventory.hosts
+
+-- the host that an item is delegated to: none where it isn't delegated, or to a name that is no host's
+abbrev pub delegate_of : InventoryOf → Item → Option ℕ
+delegate_of inventory item = option_and_then (host_named inventory) item.delegate
+
+-- the facts of an item are those of the host that started it, unless it is delegated to another name than that host's
+abbrev pub is_host : ℕ → Option ℕ → Bool
+is_host host (Some h) = h == host
+is_host host None = false
+
+abbrev pub is_own_name : InventoryOf → ℕ → List ℕ → Bool
+is_own_name inventory host name = is_host host (host_named inventory name)
+
+abbrev pub stays : InventoryOf → ℕ → Item → Bool
+stays inventory host item = option_map_or (is_own_name inventory host) item.delegate true
+
+-- the items whose facts stay with the host: all of them where facts aren't delegated
+abbrev pub kept : InventoryOf → ℕ → (delegates : Bool) → List Item → List Item
+kept inventory host true items = filter (stays inventory host) items
+kept inventory host false items = items

@@ -1,0 +1,27 @@
+-- What holds of a task that doesn't read `hostvars`: where there is none, nothing has to hold.
+use Rattle.std.specs.Prelude.{◌≡◌, ⊤, ℕ, Option, Some, None, codes}
+use Rattle.pb_value.specs.Datum.{Datum}
+use Rattle.pb_facts.specs.Facts.{FactsOf}
+use Rattle.pb_items.specs.Items.{items_of, settled_item}
+use Rattle.pb_layers.specs.Scope.{Map}
+use Rattle.pb_outcome.specs.declared.gather.ItemResult.{ItemResult}
+use Rattle.pb_places.specs.Place.{PlaceOf}
+use Rattle.pb_plan.specs.Plan.{PlayOf, PlanOf}
+use Rattle.pb_reach.specs.Apart.{SameBut}
+use Rattle.pb_sight.specs.Results.{start_with, layers_within}
+
+-- it has the same items, whatever stands for it
+abbrev pub ItemsUnread : PlanOf → PlayOf → ℕ → FactsOf → Option PlaceOf → Type 0
+ItemsUnread plan play h facts None = ⊤
+ItemsUnread plan play h facts (Some place) =
+    (one other : Map) → SameBut (codes "hostvars") one other →
+    items_of (start_with plan.has_facts_program place (layers_within plan play h facts place.role place.block_vars place.task.vars) one)
+    ≡ items_of (start_with plan.has_facts_program place (layers_within plan play h facts place.role place.block_vars place.task.vars) other)
+
+-- and it says the same of each result
+abbrev pub ToldUnread : PlanOf → PlayOf → ℕ → FactsOf → Option PlaceOf → Type 0
+ToldUnread plan play h facts None = ⊤
+ToldUnread plan play h facts (Some place) =
+    (one other : Map) (value : Option Datum) (item : ItemResult) → SameBut (codes "hostvars") one other →
+    settled_item (start_with plan.has_facts_program place (layers_within plan play h facts place.role place.block_vars place.task.vars) one) value item
+    ≡ settled_item (start_with plan.has_facts_program place (layers_within plan play h facts place.role place.block_vars place.task.vars) other) value item

@@ -1,0 +1,93 @@
+//! Whose the facts of delegated items are.
+
+ghost use Rattle.std.specs.Prelude.{◌≡◌, IfOk, filter};
+ghost use Rattle.pb_sight.specs.Delegates.{stays};
+
+use pb_ids::HostNo;
+use pb_inventory::inventory::Inventory;
+use pb_outcome::gather::ItemResult;
+use pb_outcome::item::{Item, Planned};
+use pb_value::text::Text;
+use pb_value::val::Val;
+use std::alloc::{AllocError, Global};
+
+/// Whether the facts of an item stay with the host that started it.
+fn stays(inventory: &Inventory, host: HostNo, item: &Item) -> bool
+    ensures { result ≡ stays inventory.now host.0 item.now }
+{
+    match &item.delegate {
+        Some(name) => match inventory.number(name.as_str()) {
+            Some(delegate) => delegate.0 == host.0,
+            None => false,
+        },
+        None => true,
+    }
+}
+
+/// An equal value of its own, if there is one.
+fn copy_of_value(alloc: Global, value: &Option<Val>) -> Result<Option<Val>, AllocError>
+    ensures { IfOk result (λ copy. copy ≡ value.now) }
+{
+    match value {
+        Some(value) => Ok(Some(value.try_clone(alloc)?)),
+        None => Ok(None),
+    }
+}
+
+/// An equal name of its own, if there is one.
+fn copy_of_name(name: &Option<Text>) -> Result<Option<Text>, AllocError>
+    ensures { IfOk result (λ copy. copy ≡ name.now) }
+{
+    match name {
+        Some(name) => Ok(Some(name.try_clone()?)),
+        None => Ok(None),
+    }
+}
+
+/// An equal step of its own.
+fn copy_of_step(alloc: Global, step: &Planned) -> Result<Planned, AllocError>
+    ensures { IfOk result (λ copy. copy ≡ step.now) }
+{
+    match step {
+        Planned::Decided(item) => {
+            let result = item.result.try_clone(alloc)?;
+            Ok(Planned::Decided(ItemResult {
+                ending: item.ending,
+                result,
+            }))
+        }
+        Planned::Sends(call) => Ok(Planned::Sends(call.try_clone(alloc)?)),
+    }
+}
+
+/// An equal item of its own.
+fn copy_of(alloc: Global, item: &Item) -> Result<Item, AllocError>
+    ensures { IfOk result (λ copy. copy ≡ item.now) }
+{
+    let value = copy_of_value(alloc, &item.value)?;
+    let delegate = copy_of_name(&item.delegate)?;
+    let step = copy_of_step(alloc, &item.step)?;
+    Ok(Item {
+        value,
+        delegate,
+        step,
+    })
+}
+
+/// The items whose facts stay with the host that started them.
+pub(crate) fn staying(
+    alloc: Global,
+    inventory: &Inventory,
+    host: HostNo,
+    items: &[Item],
+) -> Result<Vec<Item>, AllocError>
+    ensures { IfOk result (λ all. all.items ≡ filter (stays inventory.now host.0) items.now) }
+{
+    let mut all = Vec::new(alloc);
+    for item in items {
+        if stays(inventory, host, item) {
+            all.push(copy_of(alloc, item)?)?;
+        }
+    }
+    Ok(all)
+}

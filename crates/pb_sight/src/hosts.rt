@@ -1,0 +1,86 @@
+//! What `hostvars` stands for where a task may look it up.
+
+ghost use Rattle.std.specs.Prelude.{◌≡◌, ◌<◌, Bool, false, codes, length, Option, Some, IfOk};
+ghost use Rattle.pb_value.specs.Datum.{Datum};
+ghost use Rattle.pb_layers.specs.Scope.{Map};
+ghost use Rattle.pb_reach.specs.Apart.{SameBut};
+ghost use Rattle.pb_variables.specs.Learnt.{facts_in};
+ghost use Rattle.pb_variables.specs.Magic.{hostvars, hosts_magic};
+ghost use Rattle.pb_outcome.specs.declared.gather.ItemResult.{ItemResult};
+ghost use Rattle.pb_items.specs.Items.{items_of, settled_item};
+ghost use Rattle.pb_sight.specs.Results.{start_with, place_for};
+ghost use Rattle.pb_sight.specs.Unread.{ItemsUnread, ToldUnread};
+
+use crate::own::Own;
+use crate::planned::{layers_for, place_for};
+use crate::seen::Seen;
+use pb_facts::facts::Facts;
+use pb_ids::HostNo;
+use pb_layers::layers::Layers;
+use pb_places::Place;
+use pb_plan::{Plan, PlanPlay};
+use pb_reach::reach::may_read;
+use pb_value::val::Dict;
+use pb_variables::hostvars::{hosts_magic, hostvars};
+use std::alloc::{AllocError, Global};
+
+/// The variable `hostvars` of a plan whose hosts, by their numbers, have learnt this. The only error is want of memory.
+pub fn hosts_known(alloc: Global, plan: &Plan, learnt: &[&Facts]) -> Result<Dict, AllocError>
+    ensures { IfOk result (λ hosts. hosts ≡ hosts_magic (hostvars plan.now.inventory plan.now.extra (facts_in learnt.now))) }
+{
+    let hosts = hostvars(alloc, plan.inventory(), plan.extra(), learnt)?;
+    hosts_magic(alloc, hosts)
+}
+
+/// Whether the task at a place that sees these layers may look `hostvars` up.
+fn reads_hosts(place: &Place, layers: &Layers) -> bool
+    ensures items { result ≡ false → (program : Bool) (one other : Map) → SameBut (codes "hostvars") one other →
+        items_of (start_with program place.now layers.now one) ≡ items_of (start_with program place.now layers.now other) }
+    ensures told { result ≡ false → (program : Bool) (one other : Map) (value : Option Datum) (item : ItemResult) → SameBut (codes "hostvars") one other →
+        settled_item (start_with program place.now layers.now one) value item ≡ settled_item (start_with program place.now layers.now other) value item }
+{
+    may_read(
+        "hostvars",
+        place.task(),
+        place.conditions(),
+        place.delegate_to(),
+        layers,
+    )
+}
+
+/// Whether the task at a place may look `hostvars` up on a host that has learnt this.
+fn task_reads(
+    alloc: Global,
+    plan: &Seen,
+    play: &PlanPlay,
+    host: HostNo,
+    facts: &Facts,
+    place: &Place,
+) -> Result<bool, AllocError>
+    requires { host.0 < length plan.now.inventory.hosts }
+    ensures items { IfOk result (λ reads. reads ≡ false → ItemsUnread plan.now play.now host.0 facts.now (Some place.now)) }
+    ensures told { IfOk result (λ reads. reads ≡ false → ToldUnread plan.now play.now host.0 facts.now (Some place.now)) }
+{
+    let own = Own::of(alloc, plan, host)?;
+    let layers = layers_for(plan, play, host, facts, place, &own);
+    Ok(reads_hosts(place, &layers))
+}
+
+/// Whether the task at the place with this number may look `hostvars` up on a host that has learnt this. Where it may not, it is the same whatever
+/// `hostvars` stands for. The only error is want of memory.
+pub fn reads_at(
+    alloc: Global,
+    plan: &Seen,
+    play: &PlanPlay,
+    host: HostNo,
+    facts: &Facts,
+    place: usize,
+) -> Result<bool, AllocError>
+    ensures items { IfOk result (λ reads. reads ≡ false → ItemsUnread plan.now play.now host.0 facts.now (place_for plan.now play.now host.0 place)) }
+    ensures told { IfOk result (λ reads. reads ≡ false → ToldUnread plan.now play.now host.0 facts.now (place_for plan.now play.now host.0 place)) }
+{
+    match place_for(plan, play, host, place) {
+        Some(place) => task_reads(alloc, plan, play, host, facts, place),
+        None => Ok(false),
+    }
+}

@@ -1,0 +1,167 @@
+//! What a task that ended leaves with its host.
+
+ghost use Rattle.std.specs.Prelude.{◌≡◌, IfOk, unwrap_or};
+ghost use Rattle.std.specs.Option.{option_copied};
+ghost use Rattle.pb_facts.specs.Facts.{learnt, with_each, given_in};
+ghost use Rattle.pb_sight.specs.Learning.{gives_of, gives_if, learns, learns_at, taught_by};
+
+use crate::delegates::staying;
+use crate::ends::has_run;
+use pb_facts::facts::{Facts, Gives};
+use pb_ids::HostNo;
+use pb_inventory::inventory::Inventory;
+use pb_outcome::gather::TaskResult;
+use pb_outcome::item::Item;
+use pb_places::Place;
+use pb_plan::PlanPlay;
+use pb_play::modules::Module;
+use pb_play::task::Task;
+use pb_value::val::Val;
+use std::alloc::{AllocError, Global};
+
+/// What a module gives beside its result.
+pub(crate) fn gives_of(called: &Module) -> Gives
+    ensures { result ≡ gives_of called.now }
+{
+    match called {
+        Module::SetFact { facts: _ } => Gives::Sets,
+        Module::Setup => Gives::Gathers,
+        Module::Assert {
+            that: _,
+            fail_msg: _,
+            success_msg: _,
+        } => Gives::Nothing,
+        Module::Command(_) => Gives::Nothing,
+        Module::Debug { msg: _ } => Gives::Nothing,
+        Module::DebugVar { text: _, expr: _ } => Gives::Nothing,
+        Module::Fail { msg: _ } => Gives::Nothing,
+        Module::Meta(_) => Gives::Nothing,
+        Module::Shell { cmd: _ } => Gives::Nothing,
+    }
+}
+
+/// What a task gives beside its result: what its module gives, where it went well.
+fn gives_if(went_well: bool, called: &Module) -> Gives
+    ensures { result ≡ gives_if went_well called.now }
+{
+    if went_well {
+        gives_of(called)
+    } else {
+        Gives::Nothing
+    }
+}
+
+/// What a host knows once a task that gives this, and registers its result under this name, ended with these items.
+fn learnt_in(
+    alloc: Global,
+    gives: Gives,
+    register: Option<&str>,
+    shown: Val,
+    items: &[Item],
+    facts: &Facts,
+) -> Result<Facts, AllocError>
+    ensures { IfOk result (λ known. known ≡ learnt gives (option_copied register.entry) shown items.now facts.now) }
+{
+    let mut known = facts.try_clone(alloc)?;
+    known.learn(alloc, gives, register, shown, items)?;
+    Ok(known)
+}
+
+/// The same where the task registers nothing: there is nothing where it gives nothing either, so that nothing is copied then.
+#[tactic(auto, using(pb_facts::proofs::Each::each_nothing))]
+fn given(
+    alloc: Global,
+    gives: Gives,
+    items: &[Item],
+    facts: &Facts,
+) -> Result<Option<Facts>, AllocError>
+    ensures { IfOk result (λ known. unwrap_or known facts.now ≡ with_each gives (given_in items.now) facts.now) }
+{
+    match gives {
+        Gives::Nothing => Ok(None),
+        _ => {
+            let known = learnt_in(alloc, gives, None, Val::null(), items, facts)?;
+            Ok(Some(known))
+        }
+    }
+}
+
+/// What a host knows once a task ended with these items and this result, well or not, where that is more than before.
+fn learns(
+    alloc: Global,
+    shown: &Val,
+    went_well: bool,
+    items: &[Item],
+    facts: &Facts,
+    task: &Task,
+) -> Result<Option<Facts>, AllocError>
+    ensures { IfOk result (λ known. unwrap_or known facts.now ≡ learns shown.now went_well items.now facts.now task.now) }
+{
+    let gives = gives_if(went_well, &task.module);
+    match &task.register {
+        Some(name) => {
+            let shown = shown.try_clone(alloc)?;
+            let known = learnt_in(alloc, gives, Some(name.as_str()), shown, items, facts)?;
+            Ok(Some(known))
+        }
+        None => given(alloc, gives, items, facts),
+    }
+}
+
+/// The same of the task at a place, which the host started: the facts of an item that is delegated to another host don't stay, where facts are delegated.
+fn learns_at(
+    alloc: Global,
+    inventory: &Inventory,
+    host: HostNo,
+    shown: &Val,
+    went_well: bool,
+    items: &[Item],
+    facts: &Facts,
+    place: &Place,
+) -> Result<Option<Facts>, AllocError>
+    ensures { IfOk result (λ known. unwrap_or known facts.now ≡ learns_at inventory.now host.0 shown.now went_well items.now facts.now place.now) }
+{
+    if place.delegate_facts() {
+        let stay = staying(alloc, inventory, host, items)?;
+        learns(
+            alloc,
+            shown,
+            went_well,
+            stay.as_slice(),
+            facts,
+            place.task(),
+        )
+    } else {
+        learns(alloc, shown, went_well, items, facts, place.task())
+    }
+}
+
+/// What a host knows once the task at a place ended there with this result, which is shown so, and these items, where that is more than before. A
+/// host that is out of reach learns nothing, nor do the facts of an item stay that go to another host (`given_by`). The only error is want of memory.
+#[tactic(auto, unfolding(crate::specs::Learning::taught_by))]
+pub fn taught(
+    alloc: Global,
+    inventory: &Inventory,
+    play: &PlanPlay,
+    place: usize,
+    host: HostNo,
+    ended: TaskResult,
+    shown: &Val,
+    items: &[Item],
+    facts: &Facts,
+) -> Result<Option<Facts>, AllocError>
+    ensures { IfOk result (λ known. unwrap_or known facts.now ≡ taught_by inventory.now play.now place host.0 ended shown.now items.now facts.now) }
+{
+    if ended.unreachable {
+        return Ok(None);
+    }
+    match play.place(place) {
+        Some(place) => {
+            let went_well = has_run(ended);
+            learns_at(
+                alloc, inventory, host, shown, went_well, items, facts, place,
+            )
+        }
+        None => Ok(None),
+    }
+}

@@ -1,0 +1,39 @@
+//! What a host has of its own beside what it learns.
+
+ghost use Rattle.std.specs.Prelude.{◌≡◌, ◌<◌, length, IfOk};
+ghost use Rattle.pb_sight.specs.Own.{own_of};
+
+use crate::seen::Seen;
+use pb_ids::HostNo;
+use pb_places::Role;
+use pb_value::val::Dict;
+use pb_variables::magic::host_magic;
+use std::alloc::{AllocError, Global};
+
+/// What a host has of its own, and what stands for a role and for variables where there are none.
+#[derive(Drop)]
+pub struct Own {
+    /// The variables of its groups, merged.
+    pub group_variables: Dict,
+    /// The variables that it has by itself.
+    pub magic: Dict,
+    pub no_role: Role,
+    pub none: Dict,
+}
+
+impl Own {
+    pub fn of(alloc: Global, plan: &Seen, host: HostNo) -> Result<Own, AllocError>
+        requires { host.0 < length plan.now.inventory.hosts }
+        ensures { IfOk result (λ own. own ≡ own_of plan.now host.0) }
+    {
+        let inventory = plan.inventory();
+        let group_variables = inventory.group_vars(alloc, host)?;
+        let magic = host_magic(alloc, inventory, host)?;
+        Ok(Own {
+            group_variables,
+            magic,
+            no_role: Role::none(alloc),
+            none: Dict::new(alloc),
+        })
+    }
+}

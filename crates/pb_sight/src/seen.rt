@@ -1,0 +1,81 @@
+//! A plan as tasks see it.
+
+ghost use Rattle.std.specs.Prelude.{◌≡◌, ◌≤◌, ◌++◌, length};
+ghost use Rattle.pb_sight.specs.Seen.{with_hosts};
+
+use pb_inventory::inventory::Inventory;
+use pb_layers::layers::Magic;
+use pb_plan::Plan;
+use pb_value::val::Dict;
+use std::marker::Model;
+
+/// A plan with magic variables behind its own: `hostvars`, which tells of what hosts have learnt.
+#[derive(Drop)]
+pub struct Seen<'a> {
+    plan: &'a Plan,
+    hosts: &'a Dict,
+}
+
+impl<'a> Model for Seen<'a> {
+    ghost use Rattle.std.specs.Coded.{codes};
+    ghost use Rattle.pb_value.specs.contracts.val.Dict as dict;
+    ghost use Rattle.pb_plan.specs.contracts.plan.Plan as the_plan;
+    ghost use Rattle.pb_plan.specs.Plan.{PlanOf};
+    ghost use Rattle.pb_sight.specs.Seen.{with_hosts};
+
+    ghost Value = { PlanOf };
+
+    ghost coded = { Prim.hlevel (codes, dict.the_row.coded, the_plan.the_row.coded) };
+
+    ghost view = { λ s. with_hosts s.plan.now s.hosts.now };
+}
+
+impl<'a> Seen<'a> {
+    /// A plan with these magic variables behind its own.
+    pub fn new(plan: &'a Plan, hosts: &'a Dict) -> Seen<'a>
+        ensures { result ≡ with_hosts plan.now hosts.now }
+    {
+        Seen { plan, hosts }
+    }
+
+    /// How many hosts there are.
+    pub fn host_count(&self) -> u32
+        ensures value { result ≡ length self.now.inventory.hosts }
+        ensures bound { length self.now.inventory.hosts ≤ 65536 }
+    {
+        self.plan.host_count()
+    }
+
+    /// Whether there is a program that gathers the facts of hosts.
+    pub fn has_facts_program(&self) -> bool
+        ensures { result ≡ self.now.has_facts_program }
+    {
+        self.plan.has_facts_program()
+    }
+
+    /// The inventory, with its variables.
+    pub fn inventory(&self) -> &'a Inventory
+        ensures { result.now ≡ self.now.inventory }
+    {
+        self.plan.inventory()
+    }
+
+    /// The extra variables, as they are given.
+    pub fn extra(&self) -> &'a Dict
+        ensures { result.now ≡ self.now.extra }
+    {
+        self.plan.extra()
+    }
+
+    /// The magic variables, behind those of a host and of a play.
+    pub fn magic(&self, host: &'a Dict, play: &'a Dict) -> Magic<'a>
+        ensures { result ≡ host.now ++ play.now ++ self.now.magic }
+    {
+        Magic {
+            host,
+            play,
+            plan: self.plan.magic(),
+            hosts: self.hosts,
+        }
+    }
+}
