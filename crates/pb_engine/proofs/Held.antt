@@ -1,5 +1,5 @@
 -- What every run keeps: there is a row for each host, a task that runs is at a place of the open play and isn't over, and a job that is out was sent.
-use Rattle.std.proofs.Common.{◌≡◌, ℕ, zero, suc, ◌+◌, ◌<◌, Bool, true, false, ◌&&◌, List, [], ◌∷◌, length, map, refl, ◌∙◌, ap, subst, arith}
+use Rattle.std.proofs.Common.{◌≡◌, ℕ, zero, suc, ◌+◌, ◌<◌, Bool, true, false, ◌&&◌, List, [], ◌∷◌, length, map, refl, sym, ◌∙◌, ap, subst, arith}
 use Rattle.std.specs.Prelude.{◌==◌, Option, Some, None, slice_get, slice_set, option_map, if◌then◌else◌}
 use Rattle.std.specs.Option.{option_map_or}
 use Rattle.std.proofs.lemmas.List.{length-map, length-set}
@@ -25,11 +25,12 @@ use Rattle.pb_state.specs.State.{State}
 use Rattle.pb_inventory.specs.InventoryOf.{InventoryOf}
 use Rattle.pb_sight.specs.declared.gifts.Gift.{Gift}
 use Rattle.pb_state.proofs.Giving.{given_keeps, length-given}
-use Rattle.pb_state.specs.Machine.{possible, after, change, takes, given_to, gifts_at, report_gives, at_row, open_play, same_place, may_start_in, may_send_in, opened_by, after_open, started_in, next_at, facts_at, plan_seen, start_at, sent_in, reported_in, turned_in, first_state}
+use Rattle.pb_state.specs.Machine.{possible, after, change, takes, given_to, gifts_at, report_gives, at_row, open_play, same_place, may_start_in, may_send_in, opened_by, after_open, started_in, next_at, facts_at, plan_seen, start_at, sent_in, reported_in, batch_of, turned_in, first_state}
 use Rattle.pb_state.specs.Run.{legal_from, state_from, IsRun}
 use Rattle.pb_state.proofs.Batching.{length-joined}
 use Rattle.pb_state.proofs.Opening.{length-first, open_case, rows_case}
 use Rattle.pb_state.proofs.Stands.{stands_at, start_stands}
+use Rattle.pb_state.proofs.Turning.{Goes, goes_running, turned_by_case, turned_hosts}
 use Rattle.pb_state.proofs.Walks.{IsIn, AllIn, IsOfPlan, step_of, first_of}
 use Rattle.pb_engine.specs.Over.{IsUnfinished, AreUnfinished, IsGoing}
 
@@ -214,9 +215,20 @@ opened_held plan s held =
       tasks = none_joined _ s.sends play.tree size rows;
     })
 
-turned_held : (plan : PlanOf) (s : State) (found : Option PlayOf) → IsHeld plan s → IsHeld plan (option_map_or (turned_in s) found s)
+-- a turn leaves what hosts run as it is
+goes_held : (f : HostRow → HostRow) → Goes f → (size sends : ℕ) (rows : List HostRow) → AreHeld size sends rows → AreHeld size sends (map f rows)
+goes_held f goes size sends [] held = tt
+goes_held f goes size sends (row ∷ rows) held = (subst (IsHeldTask size sends) (sym (goes_running f goes row)) held.0, goes_held f goes size sends rows held.1)
+
+turned_held : (plan : PlanOf) (s : State) (found : Option PlayOf) → IsHeld plan s → IsHeld plan (option_map_or (turned_in plan.inventory s) found s)
 turned_held plan s None held = held
-turned_held plan s (Some play) held = record { hosts = held.hosts; tasks = held.tasks }
+turned_held plan s (Some play) held =
+    record {
+      hosts = turned_hosts plan.inventory play (batch_of s) s.place ∙ held.hosts;
+      tasks =
+          turned_by_case (AreHeld (places_in (open_play plan s)) s.sends) (λ f goes rows held. goes_held f goes (places_in (open_play plan s)) s.sends rows held)
+          plan.inventory play (batch_of s) s.place held.tasks;
+    }
 
 pub step_held : (plan : PlanOf) (s : State) (e : Event) → possible plan s e ≡ true → IsOfPlan plan s → IsHeld plan s → IsHeld plan (after plan s e)
 step_held plan s Open may trees held = opened_held plan s held

@@ -6,6 +6,7 @@ use Rattle.std.specs.Option.{option_map_or}
 use Rattle.pb_planes.specs.Set.{has_some}
 use Rattle.pb_ids.specs.declared.numbers.Ticket.{Ticket}
 use Rattle.pb_tree.specs.Tree.{TreeOf}
+use Rattle.pb_inventory.specs.InventoryOf.{InventoryOf}
 use Rattle.pb_outcome.specs.declared.job.Report.{Report}
 use Rattle.pb_state.specs.declared.event.Event.{Event}
 use Rattle.pb_state.specs.declared.event.Event.TheVariants.{Open, Start, Send, Report as Reported, Turn, Close, Stop, Forks}
@@ -14,7 +15,7 @@ use Rattle.pb_plan.specs.Plan.{PlayOf, PlanOf}
 use Rattle.pb_state.specs.Batches.{has_later, room_behind, joined_first}
 use Rattle.pb_state.specs.Row.{HostRow}
 use Rattle.pb_state.specs.State.{State}
-use Rattle.pb_state.specs.Machine.{possible, after, at_row, ready, ready_in, is_running, is_out, has_send, sends_running, may_send_item, awaits_running, awaits, may_open, may_start_in, may_send_in, may_report_in, may_turn_in, may_close_in, has_hosts, first_play, next_play, is_left, least_place, open_play, opened_by, after_open, started_in, next_at, start_at, sent_in, reported_in, turned_in, stopped, with_forks, first_state}
+use Rattle.pb_state.specs.Machine.{possible, after, at_row, ready, ready_in, is_running, is_out, has_send, sends_running, may_send_item, awaits_running, awaits, may_open, may_start_in, may_send_in, may_report_in, may_turn_in, may_close_in, has_hosts, first_play, next_play, is_left, least_place, open_play, opened_by, after_open, started_in, next_at, start_at, sent_in, reported_in, batch_of, turned_in, stopped, with_forks, first_state}
 use Rattle.pb_state.specs.Run.{legal_from, state_from, IsRun}
 use Rattle.pb_strategies.specs.MayStart.{is_linear, ready as starting}
 use Rattle.pb_state.specs.Strategies.{view_of}
@@ -22,6 +23,7 @@ use Rattle.pb_state.proofs.Idle.{turn_linear, turn_idle, turns, others_done}
 use Rattle.pb_state.proofs.Opening.{open_case}
 use Rattle.pb_state.proofs.Readies.{none_start, none_sends}
 use Rattle.pb_state.proofs.Stands.{both, linear_place}
+use Rattle.pb_state.proofs.Turning.{turned_idle}
 use Rattle.pb_engine.specs.Over.{has_more, IsOver, IsPlaced, IsPlacedBy, IsPlacedIn}
 
 and_left : (a b : Bool) → (a && b) ≡ true → a ≡ true
@@ -127,14 +129,14 @@ reported_placed plan s r (Some play) here placed may =
     cc)
     (in_play plan s play here placed))
 
-turn_placed : (s : State) (play : PlayOf) (linear : Bool) → is_linear play.strategy ≡ linear → may_turn_in s play ≡ true → IsPlacedBy linear (turned_in s play)
-turn_placed s play true l may = λ none. (none, turn_idle s play may)
-turn_placed s play false l may = absurd (let both_ways : true ≡ false = sym (turn_linear s play may) ∙ l in cc)
+turn_placed : (inventory : InventoryOf) (s : State) (play : PlayOf) (linear : Bool) → is_linear play.strategy ≡ linear → may_turn_in s play ≡ true → IsPlacedBy linear (turned_in inventory s play)
+turn_placed inventory s play true l may = λ none. (none, sym (turned_idle inventory play (batch_of s) s.place) ∙ turn_idle s play may)
+turn_placed inventory s play false l may = absurd (let both_ways : true ≡ false = sym (turn_linear s play may) ∙ l in cc)
 
-turned_placed : (plan : PlanOf) (s : State) (found : Option PlayOf) → open_play plan s ≡ found → IsPlaced plan s → option_map_or (may_turn_in s) found false ≡ true → IsPlaced plan (option_map_or (turned_in s) found s)
+turned_placed : (plan : PlanOf) (s : State) (found : Option PlayOf) → open_play plan s ≡ found → IsPlaced plan s → option_map_or (may_turn_in s) found false ≡ true → IsPlaced plan (option_map_or (turned_in plan.inventory s) found s)
 turned_placed plan s None here placed may = placed
 turned_placed plan s (Some play) here placed may =
-    subst (λ (found : Option PlayOf). IsPlacedIn (turned_in s play) found) (sym here) (turn_placed s play (is_linear play.strategy) refl may)
+    subst (λ (found : Option PlayOf). IsPlacedIn (turned_in plan.inventory s play) found) (sym here) (turn_placed plan.inventory s play (is_linear play.strategy) refl may)
 
 -- a command changes neither place nor rows
 kept_by : (linear : Bool) (s new : State) → new.place ≡ s.place → new.rows ≡ s.rows → IsPlacedBy linear s → IsPlacedBy linear new

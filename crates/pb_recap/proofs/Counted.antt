@@ -21,12 +21,13 @@ use Rattle.pb_plan.specs.Plan.{PlayOf, PlanOf}
 use Rattle.pb_state.specs.Batches.{room_behind, joined_first}
 use Rattle.pb_state.specs.Row.{HostRow, first_rows, next_place, called, left, ended, pending, ignores_at, caught_at, meta_at, task_at, items_after, progressed, sent, reported, reported_running}
 use Rattle.pb_state.specs.State.{State}
-use Rattle.pb_state.specs.Machine.{change, takes, given_to, gifts_at, report_gives, open_play, possible, after, first_state, opened_by, after_open, started_in, facts_at, plan_seen, start_at, start_with, sent_in, reported_in, done_at, done_if, report_decides, decided_by, pending_at, turned_in, may_start_in, next_at, may_report_in, at_row, same_place}
+use Rattle.pb_state.specs.Machine.{change, takes, given_to, gifts_at, report_gives, open_play, possible, after, first_state, opened_by, after_open, started_in, facts_at, plan_seen, start_at, start_with, sent_in, reported_in, done_at, done_if, report_decides, decided_by, pending_at, batch_of, turned_in, may_start_in, next_at, may_report_in, at_row, same_place}
 use Rattle.pb_state.specs.Run.{legal_from, state_from, IsRun}
 use Rattle.pb_state.proofs.Batching.{length-joined}
 use Rattle.pb_state.proofs.Giving.{length-given}
 use Rattle.pb_state.proofs.Stands.{stands_at, start_stands}
 use Rattle.pb_state.proofs.Opening.{length-first, open_case, rows_case}
+use Rattle.pb_state.proofs.Turning.{Goes, goes_counts, turned_by_case, turned_hosts as length-turned}
 use Rattle.pb_recap.specs.declared.kind.CountKind.{CountKind}
 use Rattle.pb_recap.specs.declared.kind.CountKind.TheVariants.{Okay, Changed, Unreachable, Failed, Skipped, Rescued, Ignored}
 use Rattle.pb_recap.specs.Kinds.{count_of}
@@ -191,9 +192,16 @@ opened_counts kind plan s k =
     joined_keeps kind play.tree size rows k
     ∙ rows_case (λ (calls : List HostRow). row_count kind calls k ≡ row_count kind s.rows k) plan s n batch sizes rows play size is refl (λ hosts. called_keeps kind hosts s.rows k))
 
-turned_counts : (kind : CountKind) (s : State) (k : ℕ) (found : Option PlayOf) → row_count kind (option_map_or (turned_in s) found s).rows k ≡ row_count kind s.rows k
-turned_counts kind s k None = refl
-turned_counts kind s k (Some play) = refl
+-- what a turn gives to hosts doesn't count
+goes_keep : (kind : CountKind) (f : HostRow → HostRow) → Goes f → (rows : List HostRow) (k : ℕ) → row_count kind (map f rows) k ≡ row_count kind rows k
+goes_keep kind f goes [] k = refl
+goes_keep kind f goes (row ∷ rows) zero = ap (count_of kind) (goes_counts f goes row)
+goes_keep kind f goes (row ∷ rows) (suc k) = goes_keep kind f goes rows k
+
+turned_counts : (kind : CountKind) (inventory : InventoryOf) (s : State) (k : ℕ) (found : Option PlayOf) → row_count kind (option_map_or (turned_in inventory s) found s).rows k ≡ row_count kind s.rows k
+turned_counts kind inventory s k None = refl
+turned_counts kind inventory s k (Some play) =
+    turned_by_case (λ (rows : List HostRow). row_count kind rows k ≡ row_count kind s.rows k) (λ f goes rows same. goes_keep kind f goes rows k ∙ same) inventory play (batch_of s) s.place refl
 
 -- an event that is possible adds to a host's count what its finished task counts
 step_counts : (plan : PlanOf) (s : State) (e : Event) (k : ℕ) (kind : CountKind) → k < length s.rows → possible plan s e ≡ true
@@ -202,7 +210,7 @@ step_counts plan s Open k kind b may = opened_counts kind plan s k ∙ none_more
 step_counts plan s (Start h) k kind b may = started_counts kind plan s h.0 k (open_play plan s) b may
 step_counts plan s (Send h item ticket) k kind b may = sent_counts kind s h.0 k ticket (open_play plan s) b
 step_counts plan s (Reported r) k kind b may = reported_counts kind plan s r k (open_play plan s) b may
-step_counts plan s Turn k kind b may = turned_counts kind s k (open_play plan s) ∙ none_more (row_count kind s.rows k)
+step_counts plan s Turn k kind b may = turned_counts kind plan.inventory s k (open_play plan s) ∙ none_more (row_count kind s.rows k)
 step_counts plan s Close k kind b may = left_keeps kind s.rows k ∙ none_more (row_count kind s.rows k)
 step_counts plan s Stop k kind b may = none_more (row_count kind s.rows k)
 step_counts plan s (Forks n) k kind b may = none_more (row_count kind s.rows k)
@@ -242,16 +250,16 @@ opened_hosts plan s =
     length-joined play.tree size rows
     ∙ rows_case (λ (calls : List HostRow). length calls ≡ length s.rows) plan s n batch sizes rows play size is refl (λ hosts. length-map s.rows (called hosts)))
 
-turned_hosts : (s : State) (found : Option PlayOf) → length (option_map_or (turned_in s) found s).rows ≡ length s.rows
-turned_hosts s None = refl
-turned_hosts s (Some play) = refl
+turned_hosts : (inventory : InventoryOf) (s : State) (found : Option PlayOf) → length (option_map_or (turned_in inventory s) found s).rows ≡ length s.rows
+turned_hosts inventory s None = refl
+turned_hosts inventory s (Some play) = length-turned inventory play (batch_of s) s.place
 
 step_hosts : (plan : PlanOf) (s : State) (e : Event) → length (after plan s e).rows ≡ length s.rows
 step_hosts plan s Open = opened_hosts plan s
 step_hosts plan s (Start h) = started_hosts plan s h.0 (open_play plan s)
 step_hosts plan s (Send h item ticket) = sent_hosts s h.0 ticket (open_play plan s)
 step_hosts plan s (Reported r) = reported_hosts plan s r (open_play plan s)
-step_hosts plan s Turn = turned_hosts s (open_play plan s)
+step_hosts plan s Turn = turned_hosts plan.inventory s (open_play plan s)
 step_hosts plan s Close = length-map s.rows left
 step_hosts plan s Stop = refl
 step_hosts plan s (Forks n) = refl

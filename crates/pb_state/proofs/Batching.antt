@@ -1,6 +1,6 @@
 -- The batches of a play: how many of them there are, and the rows of a batch that opens.
-use Rattle.std.proofs.Common.{◌≡◌, ℕ, zero, suc, ◌+◌, ◌-◌, ◌<◌, ◌≤◌, Bool, true, false, ◌&&◌, ◌||◌, not, List, [], ◌∷◌, length, map, drop, refl, ap, arith, cond}
-use Rattle.std.specs.Prelude.{Option, Some, None, slice_get, count_by, if◌then◌else◌}
+use Rattle.std.proofs.Common.{◌≡◌, ℕ, zero, suc, ◌-◌, ◌<◌, ◌≤◌, Bool, true, false, ◌||◌, List, [], ◌∷◌, length, map, refl, ap, arith, cond}
+use Rattle.std.specs.Prelude.{None, slice_get}
 use Rattle.std.specs.List.{list_any}
 use Rattle.std.proofs.lemmas.List.{length-map}
 use Rattle.std.proofs.lemmas.List.Sums.{sum_by-cons, count_by-le-length}
@@ -8,7 +8,7 @@ use Rattle.pb_batches.specs.declared.serial.Entry.{Entry}
 use Rattle.pb_batches.specs.Sizes.{first_size, entries_behind, sizes_from, batch_sizes}
 use Rattle.pb_tree.specs.Tree.{TreeOf}
 use Rattle.pb_state.specs.Batches.{called_count, joins, room_behind, joined_first}
-use Rattle.pb_state.specs.Row.{HostRow, is_called, is_waiting, called, joined}
+use Rattle.pb_state.specs.Row.{HostRow, is_called, is_waiting, called}
 
 -- there are as many batches as hosts at most
 few_from : (most n left : ℕ) (entries : List Entry) → length (sizes_from most n left entries) ≤ most

@@ -1,6 +1,7 @@
--- Where nobody runs and nobody may start: under the linear strategy no host is at the current place, and else no host has a next place.
-use Rattle.std.proofs.Common.{◌≡◌, ℕ, zero, suc, ◌+◌, ◌<◌, ◌≤◌, Bool, true, false, ◌&&◌, ◌||◌, not, List, [], ◌∷◌, length, map, refl, sym, ◌∙◌, ap, arith, cond, ◌⊎◌, inl, inr}
-use Rattle.std.specs.Prelude.{Option, Some, None, option_map, slice_get, slice_index_or, is_some, nat_eq, nat_lt, nat_le, min, count_by}
+-- Where nobody runs and nobody may start: under the linear strategy no host is at the current place, unless one settled the task there for all, and else
+-- no host has a next place.
+use Rattle.std.proofs.Common.{◌≡◌, ℕ, zero, suc, ◌<◌, Bool, true, false, ◌&&◌, ◌||◌, not, List, [], ◌∷◌, map, take, refl, sym, ◌∙◌, ap, arith, cond, subst, ◌⊎◌, inl, inr}
+use Rattle.std.specs.Prelude.{Option, Some, None, option_map, slice_get, slice_index_or, is_some, nat_eq, nat_lt, nat_le, min, count_by, if◌then◌else◌}
 use Rattle.std.specs.List.{list_any}
 use Rattle.std.specs.Option.{option_map_or}
 use Rattle.std.proofs.lemmas.Bool.{lt-ltb, eq-eqb, eqb-true, leb-true, leb-false}
@@ -11,13 +12,14 @@ use Rattle.pb_plan.specs.Plan.{PlayOf, throttles_of}
 use Rattle.pb_strategies.specs.declared.standings.Standing.{Standing}
 use Rattle.pb_strategies.specs.declared.strategy.Strategy.{Strategy}
 use Rattle.pb_strategies.specs.declared.strategy.Strategy.TheVariants.{Linear, Free, HostPinned}
-use Rattle.pb_strategies.specs.Hosts.{is_running as standing_runs, is_under_way, runs_in, same_place as same_there}
-use Rattle.pb_strategies.specs.MayStart.{ViewOf, has_room, has_room_at, has_room_to_begin, runs_once, suits, may_start_at, may_start_from, may_start, is_linear, is_idle, turn_ready, ready as starting}
+use Rattle.pb_strategies.specs.Hosts.{is_running as standing_runs, is_under_way, is_next_at, runs_in, same_place as same_there}
+use Rattle.pb_strategies.specs.MayStart.{ViewOf, has_room, has_room_at, has_room_to_begin, runs_once, is_open_once, is_first_at, may_run_once, suits, may_start_at, may_start_from, may_start, is_linear, is_idle, ready as starting}
 use Rattle.pb_state.specs.declared.row.Running.{Running}
-use Rattle.pb_state.specs.Row.{HostRow, next_place}
+use Rattle.pb_state.specs.Row.{HostRow, next_place, runs_once_at}
 use Rattle.pb_state.specs.State.{State}
+use Rattle.pb_state.specs.Turn.{has_settled, is_settled, is_settled_at, settler, source}
 use Rattle.pb_state.specs.Strategies.{has_begun, standing, view_of}
-use Rattle.pb_state.specs.Machine.{is_running, same_place, at_row, lesser, least_place, may_start_in, may_turn_in}
+use Rattle.pb_state.specs.Machine.{is_running, same_place, at_row, lesser, least_place, may_turn_in}
 use Rattle.pb_state.proofs.Stands.{both, runs_same, linear_is, none_starts}
 
 and_left : (a b : Bool) → (a && b) ≡ true → a ≡ true
@@ -129,44 +131,87 @@ same_self a p e = rw e (eq-eqb p p refl)
 there_self : (a : Option ℕ) (p : ℕ) → a ≡ Some p → same_there a (Some p) ≡ true
 there_self a p e = rw e (eq-eqb p p refl)
 
-linear_each : (s : State) (play : PlayOf) (p n : ℕ) (row : HostRow) → play.strategy ≡ Linear → s.place ≡ Some p → list_any is_running s.rows ≡ false → same_place (next_place row) (Some p) ≡ true
-    → option_map_or (may_start_at (view_of s play) n (standing row)) (next_place row) false ≡ true
-linear_each s play p n row l at idle e =
+linear_each : (s : State) (play : PlayOf) (p n : ℕ) (row : HostRow) → play.strategy ≡ Linear → s.place ≡ Some p → list_any is_running s.rows ≡ false
+    → (not (runs_once (view_of s play) p) || may_run_once (view_of s play) n p) ≡ true → same_place (next_place row) (Some p) ≡ true → option_map_or (may_start_at (view_of s play) n (standing row)) (next_place row) false ≡ true
+linear_each s play p n row l at idle once e =
     ap (λ (next : Option ℕ). option_map_or (may_start_at (view_of s play) n (standing row)) next false) (same_is (next_place row) (Some p) e)
     ∙ both (has_room_at (view_of s play) p) (suits play.strategy (view_of s play) n (standing row) p) (idle_room_at s play p idle)
-    (ap (λ (strategy : Strategy). suits strategy (view_of s play) n (standing row) p) l ∙ both (same_there s.place (Some p)) _ (there_self s.place p at) refl)
+    (ap (λ (strategy : Strategy). suits strategy (view_of s play) n (standing row) p) l ∙ both (same_there s.place (Some p)) _ (there_self s.place p at) once)
 
 min_is : (a b : ℕ) (t : Bool) → nat_le a b ≡ t → (min a b ≡ a) ⊎ (min a b ≡ b)
 min_is a b true t = inl (omega (arith, leb-true a b t))
 min_is a b false t = inr (omega (arith, leb-false a b t))
 
-lesser_is : (a b : Option ℕ) (p : ℕ) → lesser a b ≡ Some p → (a ≡ Some p) ⊎ (b ≡ Some p)
+pub lesser_is : (a b : Option ℕ) (p : ℕ) → lesser a b ≡ Some p → (a ≡ Some p) ⊎ (b ≡ Some p)
 lesser_is None q p e = inr e
 lesser_is (Some a) None p e = inl e
 lesser_is (Some a) (Some b) p e = elim (min_is a b (nat_le a b) refl) [ inl m ↦ inl (cc) | inr m ↦ inr (cc) ]
 
-none_least : (p : ℕ) (rows : List HostRow) → ((h : ℕ) → at_row (λ (row : HostRow). same_place (next_place row) (Some p)) rows h ≡ false) → least_place rows ≡ Some p → ⊥
-none_least p [] none e = cc
-none_least p (row ∷ rows) none e =
+-- the first of these hosts whose next place this is
+record FirstAt (p : ℕ) (rows : List HostRow) : Type 0 where
+  at : ℕ
+  here : at_row (λ (row : HostRow). same_place (next_place row) (Some p)) rows at ≡ true
+  before : list_any (is_next_at (Some p)) (take at (map standing rows)) ≡ false
+
+same_both : (next : Option ℕ) (p : ℕ) → same_there next (Some p) ≡ same_place next (Some p)
+same_both (Some q) p = refl
+same_both None p = refl
+
+first_by : (p : ℕ) (row : HostRow) (rows : List HostRow) (b : Bool) → same_place (next_place row) (Some p) ≡ b → (least_place rows ≡ Some p → FirstAt p rows) → least_place (row ∷ rows) ≡ Some p → FirstAt p (row ∷ rows)
+first_by p row rows true t behind e = record { at = 0; here = t; before = refl }
+first_by p row rows false t behind e =
     elim (lesser_is (next_place row) (least_place rows) p e) [
-      | inl here ↦ never (same_place (next_place row) (Some p)) (none 0) (same_self (next_place row) p here)
-      | inr there ↦ none_least p rows (λ h. none (suc h)) there
+      | inl here ↦ absurd (never (same_place (next_place row) (Some p)) t (same_self (next_place row) p here))
+      | inr there ↦
+          let next = behind there in
+          record {
+            at = suc next.at;
+            here = next.here;
+            before = none_false (same_there (next_place row) (Some p)) (list_any (is_next_at (Some p)) (take next.at (map standing rows))) (same_both (next_place row) p ∙ t) next.before;
+          }
     ]
 
--- a turn is possible only where the current place isn't the least
-pub turn_leaves : (s : State) (play : PlayOf) (p : ℕ) → 0 < s.forks → may_turn_in s play ≡ true → s.place ≡ Some p → least_place s.rows ≡ Some p → ⊥
-turn_leaves s play p f may at least =
-    let two = and_left (is_idle (view_of s play) && is_some s.place) _ may in
-    let idle = and_left (is_idle (view_of s play)) _ two in
-    let one = and_left (is_linear play.strategy && not s.stopped) _ idle in
-    let nobody = runs_idle s.rows (eqb-true (running (runs_in (map standing s.rows))) 0 (and_right (is_linear play.strategy && not s.stopped) _ idle)) in
-    let linear = linear_is play.strategy (and_left (is_linear play.strategy) _ one) in
-    let going = not_false s.stopped (and_right (is_linear play.strategy) _ one) in
-    let none = not_false (has_some (starting (view_of s play))) (and_right (is_idle (view_of s play) && is_some s.place) _ may) in
-    none_least p s.rows
-    (none_passes s play (λ (row : HostRow). same_place (next_place row) (Some p)) going nobody f none (λ n row e. linear_each s play p n row linear at nobody e))
-    least
+first_at : (p : ℕ) (rows : List HostRow) → least_place rows ≡ Some p → FirstAt p rows
+first_at p [] e = cc
+first_at p (row ∷ rows) e = first_by p row rows (same_place (next_place row) (Some p)) refl (first_at p rows) e
 
+-- the host whose answer the others get settled the task, and where there is none it isn't settled
+settled_found : (p : ℕ) (b : Bool) (row from : HostRow) (found : Option HostRow) → has_settled p row ≡ b → (found ≡ Some from → has_settled p from ≡ true) → (if b then Some row else found) ≡ Some from → has_settled p from ≡ true
+settled_found p true row from found t behind e = let same : row ≡ from = cc in subst (λ (r : HostRow). has_settled p r ≡ true) same t
+settled_found p false row from found t behind e = behind e
+
+settler_settles : (p : ℕ) (rows : List HostRow) (from : HostRow) → settler p rows ≡ Some from → has_settled p from ≡ true
+settler_settles p [] from e = cc
+settler_settles p (row ∷ rows) from e = settled_found p (has_settled p row) row from (settler p rows) refl (settler_settles p rows from) e
+
+source_settles : (once : Bool) (p : ℕ) (rows : List HostRow) (from : HostRow) → (if once then settler p rows else None) ≡ Some from → has_settled p from ≡ true
+source_settles true p rows from e = settler_settles p rows from e
+source_settles false p rows from e = cc
+
+unsettled_behind : (b rest : Bool) (row : HostRow) (found : Option HostRow) → (found ≡ None → rest ≡ false) → (if b then Some row else found) ≡ None → (b || rest) ≡ false
+unsettled_behind true rest row found behind e = cc
+unsettled_behind false rest row found behind e = behind e
+
+no_settler : (p : ℕ) (rows : List HostRow) → settler p rows ≡ None → list_any (has_settled p) rows ≡ false
+no_settler p [] e = refl
+no_settler p (row ∷ rows) e = unsettled_behind (has_settled p row) (list_any (has_settled p) rows) row (settler p rows) (no_settler p rows) e
+
+no_source : (once : Bool) (p : ℕ) (rows : List HostRow) → (if once then settler p rows else None) ≡ None → (once && list_any (has_settled p) rows) ≡ false
+no_source true p rows e = no_settler p rows e
+no_source false p rows e = refl
+
+-- where it isn't settled, the first host there may run it
+once_open : (s : State) (play : PlayOf) (p n : ℕ) → s.place ≡ Some p → list_any is_running s.rows ≡ false → source play p s.rows ≡ None → list_any (is_next_at (Some p)) (take n (map standing s.rows)) ≡ false
+    → (not (runs_once (view_of s play) p) || may_run_once (view_of s play) n p) ≡ true
+once_open s play p n at idle none first =
+    let settled : is_settled play s.rows s.place ≡ false = ap (λ (place : Option ℕ). option_map_or (is_settled_at play s.rows) place false) at ∙ no_source (runs_once_at play p) p s.rows none in
+    let nobody = eq-eqb (running_at (runs_in (map standing s.rows)) p) 0 (none_at p s.rows idle) in
+    let may : may_run_once (view_of s play) n p ≡ true =
+    both (is_open_once (view_of s play) p) (is_first_at (map standing s.rows) p n)
+    (both (nat_eq (running_at (runs_in (map standing s.rows)) p) 0) (not (is_settled play s.rows s.place)) nobody (ap not settled)) (ap not first) in
+    ap (λ (b : Bool). not (runs_once (view_of s play) p) || b) may ∙ or_true (not (runs_once (view_of s play) p))
+
+-- what a turn is possible under
 pub turn_place : (s : State) (play : PlayOf) → may_turn_in s play ≡ true → is_some s.place ≡ true
 turn_place s play may = and_right (is_idle (view_of s play)) _ (and_left (is_idle (view_of s play) && is_some s.place) _ may)
 
@@ -179,6 +224,32 @@ pub turn_idle : (s : State) (play : PlayOf) → may_turn_in s play ≡ true → 
 turn_idle s play may =
     let idle = and_left (is_idle (view_of s play)) _ (and_left (is_idle (view_of s play) && is_some s.place) _ may) in
     runs_idle s.rows (eqb-true (running (runs_in (map standing s.rows))) 0 (and_right (is_linear play.strategy && not s.stopped) _ idle))
+
+turn_linear_is : (s : State) (play : PlayOf) → may_turn_in s play ≡ true → play.strategy ≡ Linear
+turn_linear_is s play may = linear_is play.strategy (turn_linear s play may)
+
+turn_stopped : (s : State) (play : PlayOf) → may_turn_in s play ≡ true → s.stopped ≡ false
+turn_stopped s play may =
+    let idle = and_left (is_idle (view_of s play)) _ (and_left (is_idle (view_of s play) && is_some s.place) _ may) in
+    not_false s.stopped (and_right (is_linear play.strategy) _ (and_left (is_linear play.strategy && not s.stopped) _ idle))
+
+turn_none : (s : State) (play : PlayOf) → may_turn_in s play ≡ true → has_some (starting (view_of s play)) ≡ false
+turn_none s play may = not_false (has_some (starting (view_of s play))) (and_right (is_idle (view_of s play) && is_some s.place) _ may)
+
+-- a turn is possible at a current place that is the least only where a host settled the task there, which runs once
+pub turn_settles : (s : State) (play : PlayOf) (p : ℕ) → 0 < s.forks → may_turn_in s play ≡ true → s.place ≡ Some p → least_place s.rows ≡ Some p → (from : HostRow) × (source play p s.rows ≡ Some from) × (has_settled p from ≡ true)
+turn_settles s play p f may at least = by_source (source play p s.rows) refl
+  where
+    by_source : (found : Option HostRow) → source play p s.rows ≡ found → (from : HostRow) × (source play p s.rows ≡ Some from) × (has_settled p from ≡ true)
+    by_source (Some from) e = (from, e, source_settles (runs_once_at play p) p s.rows from e)
+    by_source None none =
+        let first = first_at p s.rows least in
+        let idle = turn_idle s play may in
+        absurd
+        (never (may_start (view_of s play) first.at) (none_starts s play first.at (turn_none s play may))
+        (both (has_room (view_of s play)) (option_map_or (may_start_from (view_of s play) first.at) (slice_get (map standing s.rows) first.at) false) (idle_room s play (turn_stopped s play may) idle f)
+        (starts_there (view_of s play) first.at (λ (row : HostRow). same_place (next_place row) (Some p)) s.rows first.at idle
+        (λ row e. linear_each s play p first.at row (turn_linear_is s play may) at idle (once_open s play p first.at at idle none first.before) e) first.here)))
 
 -- where nobody runs and nobody may start, it is possible
 pub turns : (s : State) (play : PlayOf) → is_linear play.strategy ≡ true → s.stopped ≡ false → list_any is_running s.rows ≡ false → is_some s.place ≡ true → has_some (starting (view_of s play)) ≡ false → may_turn_in s play ≡ true

@@ -2,7 +2,7 @@
 use Rattle.std.proofs.Common.{◌≡◌, ℕ, suc, ◌+◌, ◌<◌, Bool, true, false, List, [], ◌∷◌, ◌++◌, length, map, drop, get_or, refl, sym, ◌∙◌, ap, subst, arith, append_assoc}
 use Rattle.std.specs.Prelude.{Option, Some, None, slice_get, is_some, if◌then◌else◌}
 use Rattle.std.proofs.lemmas.List.{length-map, drop_more}
-use Rattle.pb_cursors.specs.Walks.{PlayWalkOf, walk_from}
+use Rattle.pb_cursors.specs.Walks.{PlayWalkOf}
 use Rattle.pb_tree.specs.Tree.{TreeOf}
 use Rattle.pb_state.specs.Batches.{joins, room_behind, joined_first}
 use Rattle.pb_state.specs.Joining.{walk_if, walks_from, with_walk, joined_from}
@@ -33,8 +33,8 @@ walks_more tree waiting n room more waits walk made new all inside at w m e so_f
 
 -- the walk that is made for a host
 as_joined : (inside : Bool) (tree : TreeOf) (row : HostRow)
-    → record row { tree = tree_in (walk_if tree inside); answers = answers_in (walk_if tree inside); in_batch = is_some (walk_if tree inside); running = None; last = None }
-    ≡ record row { tree = if inside then tree else no_tree; answers = []; in_batch = inside; running = None; last = None }
+    → record row { tree = tree_in (walk_if tree inside); answers = answers_in (walk_if tree inside); in_batch = is_some (walk_if tree inside); is_broken = false; running = None; last = None }
+    ≡ record row { tree = if inside then tree else no_tree; answers = []; in_batch = inside; is_broken = false; running = None; last = None }
 as_joined true tree row = refl
 as_joined false tree row = refl
 

@@ -3,6 +3,9 @@ pub mod Preparing
 pub mod InOrder
 pub mod ReadHosts
 pub mod Stands
+pub mod Turning
+pub mod Making
+pub mod Begun
 pub mod Idle
 pub mod Readies
 pub mod SizesLeft

@@ -6,13 +6,14 @@ use Rattle.std.specs.Option.{option_map_or}
 use Rattle.std.proofs.lemmas.Bool.{eqb-true}
 use Rattle.pb_ids.specs.declared.numbers.HostNo.{HostNo}
 use Rattle.pb_ids.specs.declared.numbers.Ticket.{Ticket}
+use Rattle.pb_tree.specs.declared.answer.Kind.{Kind}
 use Rattle.pb_tree.specs.declared.tree.Reach.{Reach}
 use Rattle.pb_tree.specs.declared.tree.Reach.TheVariants.{At, Done}
 use Rattle.pb_tree.specs.Tree.{TreeOf}
 use Rattle.pb_tree.specs.Answer.{AnswerOf}
 use Rattle.pb_tree.specs.Laws.{counts, IsAbove}
 use Rattle.pb_tree.specs.Walk.{reach, is_halted}
-use Rattle.pb_tree.proofs.Rise.{places_rise}
+use Rattle.pb_tree.proofs.Rise.{places_rise, second_passed}
 use Rattle.pb_facts.specs.Facts.{FactsOf}
 use Rattle.pb_outcome.specs.declared.item.Item.{Item}
 use Rattle.pb_outcome.specs.declared.job.Report.{Report}
@@ -23,22 +24,26 @@ use Rattle.pb_sight.proofs.FewItems.{few_items}
 use Rattle.pb_state.specs.declared.decided.TaskEnd.{TaskEnd}
 use Rattle.pb_state.specs.declared.event.Event.{Event}
 use Rattle.pb_state.specs.declared.event.Event.TheVariants.{Open, Start, Send, Report as Reported, Turn, Close, Stop, Forks}
+use Rattle.pb_state.specs.declared.row.Finish.{Finish}
 use Rattle.pb_state.specs.declared.row.Running.{Running}
 use Rattle.pb_inventory.specs.InventoryOf.{InventoryOf}
 use Rattle.pb_plan.specs.Plan.{PlayOf, PlanOf}
 use Rattle.pb_state.specs.Batches.{has_later, joins, room_behind, joined_first}
-use Rattle.pb_state.specs.Row.{HostRow, place_of, next_place, joined, left, finished, ended, task_at, taught, came_back, items_after, progressed, sent, sent_running, reported, reported_running}
+use Rattle.pb_state.specs.Row.{HostRow, place_of, next_place, answered, joined, left, finished, finish_at, ended, task_at, taught, came_back, items_after, progressed, sent, sent_running, reported, reported_running}
 use Rattle.pb_state.specs.Ends.{kind_of, answer_of}
 use Rattle.pb_state.specs.Handlers.{notified_by}
 use Rattle.pb_state.specs.State.{State}
 use Rattle.pb_state.specs.Kept.{first_waiting}
 use Rattle.pb_sight.specs.declared.gifts.Gift.{Gift}
-use Rattle.pb_state.specs.Machine.{possible, after, change, takes, given_to, gifts_at, report_gives, at_row, open_play, same_place, is_running, is_ticket, sends_running, may_send_item, awaits_running, awaits, may_start_in, may_send_in, may_report_in, may_close_in, opened_by, after_open, play_behind, closed, started_in, next_at, facts_at, plan_seen, start_at, sent_in, reported_in, turned_in, first_state}
+use Rattle.pb_state.specs.Machine.{possible, after, change, takes, given_to, gifts_at, report_gives, at_row, open_play, same_place, is_running, is_ticket, sends_running, may_send_item, awaits_running, awaits, may_start_in, may_send_in, may_report_in, may_turn_in, may_close_in, opened_by, after_open, play_behind, closed, started_in, next_at, facts_at, plan_seen, start_at, sent_in, reported_in, batch_of, turned_in, first_state}
 use Rattle.pb_state.specs.Run.{legal_from, IsRun}
+use Rattle.pb_state.specs.Turn.{plain_answer}
 use Rattle.pb_state.proofs.Giving.{given_keeps}
+use Rattle.pb_state.proofs.Idle.{turn_idle}
 use Rattle.pb_state.proofs.InOrder.{first_most, is_next_so, length_back, back_later}
-use Rattle.pb_state.proofs.Opening.{GoesOn, Begins, IsOpening, open_case}
+use Rattle.pb_state.proofs.Opening.{GoesOn, Begins, open_case}
 use Rattle.pb_state.proofs.Stands.{stands_at, start_stands}
+use Rattle.pb_state.proofs.Turning.{Goes, turned_by_case, goes_inside, goes_waits, idle_map}
 use Rattle.pb_state.proofs.Walked.{not_halted, stands_in}
 use Rattle.pb_state.specs.Once.{StartOf, SendOf, running_place, place_run_by, starts_from, sends_from, IsNotIn, NoTwice, IsOnce, NothingTwice}
 
@@ -53,6 +58,14 @@ and_right false b e = cc
 not_false : (b : Bool) → not b ≡ true → b ≡ false
 not_false true e = cc
 not_false false e = refl
+
+or_left : (a b : Bool) → (a || b) ≡ false → a ≡ false
+or_left true b e = e
+or_left false b e = refl
+
+or_right : (a b : Bool) → (a || b) ≡ false → b ≡ false
+or_right true b e = cc
+or_right false b e = e
 
 -- ---- one host
 -- The start at a place has the number 10002 times that place, and the send of the item with the number i there the number i + 1 more: a task has
@@ -99,8 +112,9 @@ all_count false halted e = refl
 answer_counts : (answers : List AnswerOf) (task : TaskEnd) (notified : List ℕ) → counts answers (answer_of task notified) ≡ true
 answer_counts answers task notified = all_count (list_any (λ (b : AnswerOf). is_halted b.kind) answers) (is_halted (kind_of task)) (not_halted task)
 
-finished_from : (n p : ℕ) (task : TaskEnd) (notified : List ℕ) (facts : FactsOf) (row : HostRow) → reach row.tree row.answers ≡ At p → n ≤ 10002 * p + 10002 → RowFrom n (finished p task notified facts row)
-finished_from n p task notified facts row e l =
+finished_from : (n p : ℕ) (finish : Finish) (task : TaskEnd) (notified : List ℕ) (facts : FactsOf) (row : HostRow) → reach row.tree row.answers ≡ At p → n ≤ 10002 * p + 10002
+    → RowFrom n (finished finish task notified facts row)
+finished_from n p finish task notified facts row e l =
     above_from n p (reach row.tree (row.answers ++ answer_of task notified ∷ [])) (places_rise row.tree row.answers (answer_of task notified) p e (answer_counts row.answers task notified)) l
 
 progressed_from : (n p : ℕ) (inventory : InventoryOf) (play : PlayOf) (items : List Item) (row : HostRow) → reach row.tree row.answers ≡ At p → n ≤ 10002 * p + first_waiting items + 1 → length items ≤ 10000
@@ -108,7 +122,7 @@ progressed_from : (n p : ℕ) (inventory : InventoryOf) (play : PlayOf) (items :
 progressed_from n p inventory play items row e l few inside = by_over (is_over items)
   where
     by_over : (over : Bool) → RowFrom n (if over then ended inventory play p items row else record row { running = Some (record { place = p; items = items; out = None }) })
-    by_over true = let most = first_most items in finished_from n p (task_at play p items) (notified_by play p (task_at play p items)) (taught inventory play p row.host items row.facts) row e (omega (arith, l, few, most))
+    by_over true = let most = first_most items in finished_from n p (finish_at play p items) (task_at play p items) (notified_by play p (task_at play p items)) (taught inventory play p row.host items row.facts) row e (omega (arith, l, few, most))
     by_over false = (e, l, few, inside)
 
 same_is : (a b : Option ℕ) → same_place a b ≡ true → (p : ℕ) × (a ≡ Some p) × (b ≡ Some p)
@@ -312,6 +326,43 @@ given_begun h gifts rows w =
 given_out : (h : ℕ) (gifts : List Gift) (rows : List HostRow) → FoundOut (slice_get rows h) → FoundOut (slice_get (given_to gifts rows) h)
 given_out h gifts rows w = given_keeps (λ (all : List HostRow). FoundOut (slice_get all h)) (λ gift all w. out_keeps (takes gift) (λ row. refl) all gift.host.0 h w) gifts rows w
 
+-- ---- turns
+-- an answer at the next place of a host leads it on, or is passed over
+reach_from : (n p : ℕ) (tree : TreeOf) (answers : List AnswerOf) (a : AnswerOf) (counting : Bool) → counts answers a ≡ counting → reach tree answers ≡ At p → IsFrom n (reach tree answers)
+    → IsFrom n (reach tree (answers ++ a ∷ []))
+reach_from n p tree answers a true c e w = let least : n ≤ 10002 * p = subst (IsFrom n) e w in above_from n p (reach tree (answers ++ a ∷ [])) (places_rise tree answers a p e c) (omega (arith, least))
+reach_from n p tree answers a false c e w = subst (IsFrom n) (sym (second_passed tree answers a c)) w
+
+answered_from : (n p : ℕ) (kind : Kind) (broken : Bool) (facts : FactsOf) (row : HostRow) → next_place row ≡ Some p → is_running row ≡ false → RowFrom n row
+    → RowFrom n (record (answered (plain_answer kind) row) { is_broken = broken; facts = facts })
+answered_from n p kind broken facts row next idle w = by_running row.running idle w
+  where
+    by_running : (running : Option Running) → is_some running ≡ false → RunsFrom n row running → RunsFrom n (record (answered (plain_answer kind) row) { is_broken = broken; facts = facts }) running
+    by_running None none v = reach_from n p row.tree row.answers (plain_answer kind) (counts row.answers (plain_answer kind)) refl (place_at (reach row.tree row.answers) row.in_batch p next) v
+    by_running (Some r) none v = cc
+
+goes_from : (n : ℕ) (f : HostRow → HostRow) → Goes f → (row : HostRow) → is_running row ≡ false → RowFrom n row → RowFrom n (f row)
+goes_from n f goes row idle w =
+    elim (goes row) [
+      | inl same ↦ subst (RowFrom n) (sym same) w
+      | inr given ↦ subst (RowFrom n) (sym given.is) (answered_from n given.place given.kind given.broken given.facts row given.next idle w)
+    ]
+
+turn_from : (n : ℕ) (f : HostRow → HostRow) → Goes f → (rows : List HostRow) (h : ℕ) → list_any is_running rows ≡ false → FoundFrom n (slice_get rows h) → FoundFrom n (slice_get (map f rows) h)
+turn_from n f goes [] h idle w = tt
+turn_from n f goes (row ∷ rows) zero idle w = goes_from n f goes row (or_left (is_running row) _ idle) w
+turn_from n f goes (row ∷ rows) (suc h) idle w = turn_from n f goes rows h (or_right (is_running row) _ idle) w
+
+turn_begun : (f : HostRow → HostRow) → Goes f → (rows : List HostRow) (h : ℕ) → FoundBegun (slice_get rows h) → FoundBegun (slice_get (map f rows) h)
+turn_begun f goes [] h w = tt
+turn_begun f goes (row ∷ rows) zero w = begun_same (f row).in_batch row.in_batch (f row).waits row.waits (goes_inside f goes row) (goes_waits f goes row) w
+turn_begun f goes (row ∷ rows) (suc h) w = turn_begun f goes rows h w
+
+turn_out : (f : HostRow → HostRow) → Goes f → (rows : List HostRow) (h : ℕ) → FoundOut (slice_get rows h) → FoundOut (slice_get (map f rows) h)
+turn_out f goes [] h w = tt
+turn_out f goes (row ∷ rows) zero w = goes_waits f goes row ∙ w
+turn_out f goes (row ∷ rows) (suc h) w = turn_out f goes rows h w
+
 -- ---- the states
 -- a host that runs is at its next place
 abbrev pub IsSound : State → Type 0
@@ -325,10 +376,10 @@ IsPast s h play n =
     ⊎ (((play ≡ s.play) × (s.is_open ≡ true) × FoundFrom n (slice_get s.rows h) × FoundBegun (slice_get s.rows h))
     ⊎ ((play ≡ s.play) × (s.is_open ≡ false) × (has_later s.later ≡ true) × FoundOut (slice_get s.rows h)))
 
--- what an event does to the batch: it stays, opens or closes
+-- What an event does to the batch: it stays, opens or closes. A turn may drop the batches that are left, while one is open.
 abbrev pub Stays : State → State → Type 0
 Stays s new =
-    (new.play ≡ s.play) × (new.is_open ≡ s.is_open) × (new.later ≡ s.later) × ((h n : ℕ) → FoundFrom n (slice_get s.rows h) → FoundFrom n (slice_get new.rows h))
+    (new.play ≡ s.play) × (new.is_open ≡ s.is_open) × (s.is_open ≡ false → new.later ≡ s.later) × ((h n : ℕ) → FoundFrom n (slice_get s.rows h) → FoundFrom n (slice_get new.rows h))
     × ((h : ℕ) → FoundBegun (slice_get s.rows h) → FoundBegun (slice_get new.rows h)) × ((h : ℕ) → FoundOut (slice_get s.rows h) → FoundOut (slice_get new.rows h))
 
 -- where the play goes on, and where another one begins
@@ -371,7 +422,7 @@ closes_past s new h play n c (inr last) e begun = inl (omega (arith, e, last))
 pub past_kept : (s new : State) (h play n : ℕ) → Moves s new → IsPast s h play n → IsPast new h play n
 past_kept s new h play n (inl stays) (inl l) = inl (omega (arith, l, stays.0))
 past_kept s new h play n (inl stays) (inr (inl w)) = inr (inl (w.0 ∙ sym stays.0, stays.1 ∙ w.1, stays.3 h n w.2, stays.4 h w.3))
-past_kept s new h play n (inl stays) (inr (inr w)) = inr (inr (w.0 ∙ sym stays.0, stays.1 ∙ w.1, ap has_later stays.2 ∙ w.2, stays.5 h w.3))
+past_kept s new h play n (inl stays) (inr (inr w)) = inr (inr (w.0 ∙ sym stays.0, stays.1 ∙ w.1, ap has_later (stays.2 w.1) ∙ w.2, stays.5 h w.3))
 past_kept s new h play n (inr (inl opens)) (inl l) = inl (opens_later s new play opens.3 l)
 past_kept s new h play n (inr (inl opens)) (inr (inl w)) = absurd (let shut = opens.0 in let opened = w.1 in cc)
 past_kept s new h play n (inr (inl opens)) (inr (inr w)) = opens_past s new h play n opens.1 opens.3 w.0 w.2 w.3
@@ -402,14 +453,14 @@ stays_in s new gifts k f p b l r inside waits from =
     inl (
       p,
       b,
-      l,
+      λ shut. l,
       λ h n w. rw r (given_from n h gifts (change s.rows k f) (from h n w)),
       λ h w. rw r (given_begun h gifts (change s.rows k f) (begun_keeps f inside waits s.rows k h w)),
       λ h w. rw r (given_out h gifts (change s.rows k f) (out_keeps f waits s.rows k h w)),
     )
 
 same_rows : (s new : State) → new.play ≡ s.play → new.is_open ≡ s.is_open → new.later ≡ s.later → new.rows ≡ s.rows → Moves s new
-same_rows s new p b l r = inl (p, b, l, λ h n w. rw r w, λ h w. rw r w, λ h w. rw r w)
+same_rows s new p b l r = inl (p, b, λ shut. l, λ h n w. rw r w, λ h w. rw r w, λ h w. rw r w)
 
 start_at_moves : (plan : PlanOf) (s : State) (k : ℕ) (play : PlayOf) (place : Option ℕ) → open_play plan s ≡ Some play → at_row (stands_at place) s.rows k ≡ true → Moves s (option_map_or (start_at plan s k play) place s)
 start_at_moves plan s k play None o e = same_rows s s refl refl refl refl
@@ -445,9 +496,21 @@ report_moves plan s r (Some play) o e =
     reported_from n (plan_seen plan s) play r.outcome r.ticket r.item row at v)
     w)
 
-turn_moves : (plan : PlanOf) (s : State) (found : Option PlayOf) → Moves s (option_map_or (turned_in s) found s)
-turn_moves plan s None = same_rows s s refl refl refl refl
-turn_moves plan s (Some play) = same_rows s (turned_in s play) refl refl refl refl
+turned_moves : (inventory : InventoryOf) (s : State) (play : PlayOf) → s.is_open ≡ true → list_any is_running s.rows ≡ false → Moves s (turned_in inventory s play)
+turned_moves inventory s play o idle =
+    inl (
+      refl,
+      refl,
+      λ shut. absurd (let both : true ≡ false = sym o ∙ shut in cc),
+      λ h n w. (turned_by_case (λ (all : List HostRow). (list_any is_running all ≡ false) × FoundFrom n (slice_get all h))
+          (λ f goes all holds. (sym (idle_map f goes all) ∙ holds.0, turn_from n f goes all h holds.0 holds.1)) inventory play (batch_of s) s.place (idle, w)).1,
+      λ h w. turned_by_case (λ (all : List HostRow). FoundBegun (slice_get all h)) (λ f goes all v. turn_begun f goes all h v) inventory play (batch_of s) s.place w,
+      λ h w. turned_by_case (λ (all : List HostRow). FoundOut (slice_get all h)) (λ f goes all v. turn_out f goes all h v) inventory play (batch_of s) s.place w,
+    )
+
+turn_moves : (plan : PlanOf) (s : State) (found : Option PlayOf) → open_play plan s ≡ found → option_map_or (may_turn_in s) found false ≡ true → Moves s (option_map_or (turned_in plan.inventory s) found s)
+turn_moves plan s None o e = cc
+turn_moves plan s (Some play) o e = turned_moves plan.inventory s play (is_opened plan s s.is_open play refl o) (turn_idle s play e)
 
 opened_how : (s : State) (n batch : ℕ) (sizes : List ℕ) (rows : List HostRow) (play : PlayOf) (size : ℕ) → GoesOn s n batch sizes rows ⊎ Begins s n batch sizes rows play
     → OpensNext s (opened_by s n batch sizes rows play size) ⊎ OpensFirst s (opened_by s n batch sizes rows play size)
@@ -478,7 +541,7 @@ moves plan s Open p = open_moves plan s (may_open_closed s.stopped s.is_open s.e
 moves plan s (Start host) p = start_moves plan s host.0 (open_play plan s) refl p
 moves plan s (Send host item ticket) p = send_moves plan s host.0 item ticket (open_play plan s) refl p
 moves plan s (Reported r) p = report_moves plan s r (open_play plan s) refl p
-moves plan s Turn p = turn_moves plan s (open_play plan s)
+moves plan s Turn p = turn_moves plan s (open_play plan s) refl p
 moves plan s Close p = close_moves plan s p
 moves plan s Stop p = same_rows s (after plan s Stop) refl refl refl refl
 moves plan s (Forks n) p = same_rows s (after plan s (Forks n)) refl refl refl refl

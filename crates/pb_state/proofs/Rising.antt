@@ -3,7 +3,7 @@ use Rattle.std.proofs.Common.{◌≡◌, ℕ, ◌+◌, ◌*◌, ◌<◌, true, L
 use Rattle.std.specs.Prelude.{Option, Some, None, slice_get}
 use Rattle.pb_ids.specs.declared.numbers.HostNo.{HostNo}
 use Rattle.pb_state.specs.declared.event.Event.{Event}
-use Rattle.pb_state.specs.declared.event.Event.TheVariants.{Open, Start, Send, Report as Reported, Turn, Close, Stop, Forks}
+use Rattle.pb_state.specs.declared.event.Event.TheVariants.{Start}
 use Rattle.pb_plan.specs.Plan.{PlanOf}
 use Rattle.pb_state.specs.State.{State}
 use Rattle.pb_state.specs.Machine.{possible, after, open_play, may_start_in, next_at, first_state}

@@ -8,15 +8,17 @@ use Rattle.pb_ids.specs.declared.numbers.Ticket.{Ticket}
 use Rattle.pb_outcome.specs.declared.job.Report.{Report}
 use Rattle.pb_state.specs.declared.event.Event.{Event}
 use Rattle.pb_state.specs.declared.event.Event.TheVariants.{Open, Start, Send, Report as Reported, Turn, Close, Stop, Forks}
+use Rattle.pb_inventory.specs.InventoryOf.{InventoryOf}
 use Rattle.pb_plan.specs.Plan.{PlayOf, PlanOf}
 use Rattle.pb_sight.specs.Results.{items_at}
 use Rattle.pb_state.specs.Row.{HostRow, progressed, reported, called, left}
 use Rattle.pb_state.specs.State.{State}
-use Rattle.pb_state.specs.Machine.{possible, after, change, gifts_at, report_gives, facts_at, plan_seen, open_play, opened_by, after_open, started_in, next_at, start_at, sent_in, reported_in, turned_in, closed, stopped, first_state}
+use Rattle.pb_state.specs.Machine.{possible, after, change, gifts_at, report_gives, facts_at, plan_seen, open_play, opened_by, after_open, started_in, next_at, start_at, sent_in, reported_in, batch_of, turned_in, closed, stopped, first_state}
 use Rattle.pb_state.specs.Run.{state_from, IsRun}
 use Rattle.pb_state.proofs.Batching.{length-joined}
 use Rattle.pb_state.proofs.Giving.{length-given}
 use Rattle.pb_state.proofs.Opening.{open_case, rows_case}
+use Rattle.pb_state.proofs.Turning.{turned_hosts}
 
 length-changed : (rows : List HostRow) (h : ℕ) (f : HostRow → HostRow) (found : Option HostRow) → length (option_map_or (λ row. set rows h (f row)) found rows) ≡ length rows
 length-changed rows h f None = refl
@@ -64,9 +66,9 @@ reported_keeps plan s r (Some play) = same_sends s (reported_in plan s r play)
     ∙ length-change s.rows r.host.0 (reported (plan_seen plan s) play r.outcome))
     refl refl
 
-turned_keeps : (s : State) (found : Option PlayOf) → Keeps s (option_map_or (turned_in s) found s)
-turned_keeps s None = same_sends s s refl refl refl
-turned_keeps s (Some play) = same_sends s (turned_in s play) refl refl refl
+turned_keeps : (inventory : InventoryOf) (s : State) (found : Option PlayOf) → Keeps s (option_map_or (turned_in inventory s) found s)
+turned_keeps inventory s None = same_sends s s refl refl refl
+turned_keeps inventory s (Some play) = same_sends s (turned_in inventory s play) (turned_hosts inventory play (batch_of s) s.place) refl refl
 
 closed_keeps : (s : State) → Keeps s (closed s)
 closed_keeps s = same_sends s (closed s) (length-map s.rows left) refl refl
@@ -79,7 +81,7 @@ hosts_stay plan s Open = (open_keeps plan s).hosts
 hosts_stay plan s (Start h) = (started_keeps plan s h.0 (open_play plan s)).hosts
 hosts_stay plan s (Send h item ticket) = (sent_keeps s h.0 ticket (open_play plan s)).hosts
 hosts_stay plan s (Reported r) = (reported_keeps plan s r (open_play plan s)).hosts
-hosts_stay plan s Turn = (turned_keeps s (open_play plan s)).hosts
+hosts_stay plan s Turn = (turned_keeps plan.inventory s (open_play plan s)).hosts
 hosts_stay plan s Close = (closed_keeps s).hosts
 hosts_stay plan s Stop = (stopped_keeps s).hosts
 hosts_stay plan s (Forks n) = refl
@@ -100,7 +102,7 @@ forks_stay plan s Open p f = same_forks s.forks _ (open_keeps plan s).forks f
 forks_stay plan s (Start h) p f = same_forks s.forks _ (started_keeps plan s h.0 (open_play plan s)).forks f
 forks_stay plan s (Send h item ticket) p f = same_forks s.forks _ (sent_keeps s h.0 ticket (open_play plan s)).forks f
 forks_stay plan s (Reported r) p f = same_forks s.forks _ (reported_keeps plan s r (open_play plan s)).forks f
-forks_stay plan s Turn p f = same_forks s.forks _ (turned_keeps s (open_play plan s)).forks f
+forks_stay plan s Turn p f = same_forks s.forks _ (turned_keeps plan.inventory s (open_play plan s)).forks f
 forks_stay plan s Close p f = f
 forks_stay plan s Stop p f = f
 forks_stay plan s (Forks n) p f = forks_given s n p
@@ -122,16 +124,16 @@ reported_pool : (plan : PlanOf) (s : State) (r : Report) (found : Option PlayOf)
 reported_pool plan s r None = refl
 reported_pool plan s r (Some play) = refl
 
-turned_pool : (s : State) (found : Option PlayOf) → (option_map_or (turned_in s) found s).pool ≡ s.pool
-turned_pool s None = refl
-turned_pool s (Some play) = refl
+turned_pool : (inventory : InventoryOf) (s : State) (found : Option PlayOf) → (option_map_or (turned_in inventory s) found s).pool ≡ s.pool
+turned_pool inventory s None = refl
+turned_pool inventory s (Some play) = refl
 
 pub pool_stays : (plan : PlanOf) (s : State) (e : Event) → (after plan s e).pool ≡ s.pool
 pool_stays plan s Open = open_case (λ (new : State). new.pool ≡ s.pool) plan s (λ none. refl) (λ n batch sizes rows play size is. refl)
 pool_stays plan s (Start h) = started_pool plan s h.0 (open_play plan s)
 pool_stays plan s (Send h item ticket) = sent_pool s h.0 ticket (open_play plan s)
 pool_stays plan s (Reported r) = reported_pool plan s r (open_play plan s)
-pool_stays plan s Turn = turned_pool s (open_play plan s)
+pool_stays plan s Turn = turned_pool plan.inventory s (open_play plan s)
 pool_stays plan s Close = refl
 pool_stays plan s Stop = refl
 pool_stays plan s (Forks n) = refl
@@ -149,7 +151,7 @@ sends_rise plan s Open = (open_keeps plan s).most
 sends_rise plan s (Start h) = (started_keeps plan s h.0 (open_play plan s)).most
 sends_rise plan s (Send h item ticket) = (sent_keeps s h.0 ticket (open_play plan s)).most
 sends_rise plan s (Reported r) = (reported_keeps plan s r (open_play plan s)).most
-sends_rise plan s Turn = (turned_keeps s (open_play plan s)).most
+sends_rise plan s Turn = (turned_keeps plan.inventory s (open_play plan s)).most
 sends_rise plan s Close = (closed_keeps s).most
 sends_rise plan s Stop = (stopped_keeps s).most
 sends_rise plan s (Forks n) = omega arith
@@ -160,7 +162,7 @@ sends_stay plan s Open = (open_keeps plan s).least
 sends_stay plan s (Start h) = (started_keeps plan s h.0 (open_play plan s)).least
 sends_stay plan s (Send h item ticket) = (sent_keeps s h.0 ticket (open_play plan s)).least
 sends_stay plan s (Reported r) = (reported_keeps plan s r (open_play plan s)).least
-sends_stay plan s Turn = (turned_keeps s (open_play plan s)).least
+sends_stay plan s Turn = (turned_keeps plan.inventory s (open_play plan s)).least
 sends_stay plan s Close = (closed_keeps s).least
 sends_stay plan s Stop = (stopped_keeps s).least
 sends_stay plan s (Forks n) = omega arith

@@ -1,5 +1,5 @@
 -- What the walk of a host allows.
-use Rattle.std.proofs.Common.{◌≡◌, ℕ, ◌+◌, ◌<◌, Bool, true, false, ◌&&◌, not, List, [], ◌∷◌, ◌++◌, length, refl, sym, ap, arith}
+use Rattle.std.proofs.Common.{◌≡◌, ℕ, ◌+◌, ◌<◌, ◌≤◌, Bool, true, false, ◌&&◌, not, List, [], ◌∷◌, ◌++◌, length, refl, sym, ap, arith}
 use Rattle.std.specs.Prelude.{Option, Some, None, if◌then◌else◌}
 use Rattle.std.proofs.lemmas.Bool.{eqb-true}
 use Rattle.pb_tree.specs.declared.tree.Reach.{Reach}
@@ -38,11 +38,29 @@ without_more (a ∷ answers) last k = chosen (is_halted a.kind) a (without_halte
     chosen true a xs ys e = e
     chosen false a xs ys e = omega (arith, e)
 
-one_more : (answers : List AnswerOf) (last : AnswerOf) → is_halted last.kind ≡ false → length (one_halted (answers ++ last ∷ [])) ≡ length (one_halted answers) + 1
+pub one_more : (answers : List AnswerOf) (last : AnswerOf) → is_halted last.kind ≡ false → length (one_halted (answers ++ last ∷ [])) ≡ length (one_halted answers) + 1
 one_more [] last k = rw k refl
 one_more (a ∷ answers) last k = chosen (is_halted a.kind) a (without_halted answers) (without_halted (answers ++ last ∷ [])) (one_halted answers) (one_halted (answers ++ last ∷ [])) (without_more answers last k) (one_more answers last k)
   where
     chosen : (b : Bool) (a : AnswerOf) (xs ys us vs : List AnswerOf) → length ys ≡ length xs + 1 → length vs ≡ length us + 1 → length (if b then a ∷ ys else a ∷ vs) ≡ length (if b then a ∷ xs else a ∷ us) + 1
+    chosen true a xs ys us vs e f = omega (arith, e)
+    chosen false a xs ys us vs e f = omega (arith, f)
+
+-- an answer more leaves as many at least
+without_no_less : (answers : List AnswerOf) (last : AnswerOf) → length (without_halted answers) ≤ length (without_halted (answers ++ last ∷ []))
+without_no_less [] last = omega arith
+without_no_less (a ∷ answers) last = chosen (is_halted a.kind) a (without_halted answers) (without_halted (answers ++ last ∷ [])) (without_no_less answers last)
+  where
+    chosen : (b : Bool) (a : AnswerOf) (xs ys : List AnswerOf) → length xs ≤ length ys → length (if b then xs else a ∷ xs) ≤ length (if b then ys else a ∷ ys)
+    chosen true a xs ys e = e
+    chosen false a xs ys e = omega (arith, e)
+
+pub no_less : (answers : List AnswerOf) (last : AnswerOf) → length (one_halted answers) ≤ length (one_halted (answers ++ last ∷ []))
+no_less [] last = omega arith
+no_less (a ∷ answers) last =
+    chosen (is_halted a.kind) a (without_halted answers) (without_halted (answers ++ last ∷ [])) (one_halted answers) (one_halted (answers ++ last ∷ [])) (without_no_less answers last) (no_less answers last)
+  where
+    chosen : (b : Bool) (a : AnswerOf) (xs ys us vs : List AnswerOf) → length xs ≤ length ys → length us ≤ length vs → length (if b then a ∷ xs else a ∷ us) ≤ length (if b then a ∷ ys else a ∷ vs)
     chosen true a xs ys us vs e f = omega (arith, e)
     chosen false a xs ys us vs e f = omega (arith, f)
 
@@ -55,7 +73,7 @@ same_is (Some p) (Some q) e = (p, refl, ap Some (sym (eqb-true p q e)))
 same_is (Some p) None e = cc
 same_is None q e = cc
 
-place_at : (r : Reach) (b : Bool) (p : ℕ) → (if b then place_of r else None) ≡ Some p → r ≡ At p
+pub place_at : (r : Reach) (b : Bool) (p : ℕ) → (if b then place_of r else None) ≡ Some p → r ≡ At p
 place_at (At q) true p e = ap At (let same : q ≡ p = cc in same)
 place_at (Done ending) true p e = cc
 place_at r false p e = cc
@@ -71,7 +89,7 @@ stands_below place row e =
     at_below row.tree row.answers stood.0 (place_at (reach row.tree row.answers) row.in_batch stood.0 stood.1)
 
 -- and is in the batch
-in_if : (b : Bool) (next : Option ℕ) (p : ℕ) → (if b then next else None) ≡ Some p → b ≡ true
+pub in_if : (b : Bool) (next : Option ℕ) (p : ℕ) → (if b then next else None) ≡ Some p → b ≡ true
 in_if true next p e = refl
 in_if false next p e = cc
 

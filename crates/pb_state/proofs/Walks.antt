@@ -15,15 +15,16 @@ use Rattle.pb_outcome.specs.Items.{is_over}
 use Rattle.pb_state.specs.declared.row.Running.{Running}
 use Rattle.pb_inventory.specs.InventoryOf.{InventoryOf}
 use Rattle.pb_plan.specs.Plan.{PlayOf, PlanOf}
-use Rattle.pb_state.specs.Row.{HostRow, no_tree, place_of, ended, items_after, progressed, sent, reported, reported_running, called, joined, left, first_rows}
+use Rattle.pb_state.specs.Row.{HostRow, no_tree, place_of, ended, items_after, progressed, sent, reported, reported_running, called, left, first_rows}
 use Rattle.pb_state.specs.State.{State}
 use Rattle.pb_state.specs.Batches.{joins, room_behind, joined_first}
 use Rattle.pb_sight.specs.declared.gifts.Gift.{Gift}
-use Rattle.pb_state.specs.Machine.{after, change, takes, given_to, gifts_at, report_gives, open_play, opened_by, after_open, started_in, next_at, facts_at, plan_seen, start_at, sent_in, reported_in, turned_in, first_state}
+use Rattle.pb_state.specs.Machine.{after, change, takes, given_to, gifts_at, report_gives, open_play, after_open, started_in, next_at, facts_at, plan_seen, start_at, sent_in, reported_in, batch_of, turned_in, first_state}
 use Rattle.pb_state.specs.Run.{state_from, IsRun}
 use Rattle.pb_state.specs.Walks.{walks_in, IsWalked, AreWalked, IsTracked, AreNumbered, RowsStay, WalksLead}
 use Rattle.pb_state.proofs.Giving.{given_keeps}
 use Rattle.pb_state.proofs.Opening.{open_case, rows_case}
+use Rattle.pb_state.proofs.Turning.{Goes as RowGoes, turned_by_case, goes_host, goes_tree, goes_inside}
 
 -- a host of the batch walks this tree
 abbrev pub IsIn : TreeOf → HostRow → Type 0
@@ -108,9 +109,14 @@ reported_goes plan s r (Some play) =
           (in_change tree (reported (plan_seen plan s) play r.outcome) (λ row is. reported_in_tree tree (plan_seen plan s) play r.outcome row is) s.rows r.host.0 all);
     }
 
-turned_goes : (plan : PlanOf) (s : State) (found : Option PlayOf) → Goes plan s (option_map_or (turned_in s) found s)
+in_map : (tree : TreeOf) (f : HostRow → HostRow) → RowGoes f → (rows : List HostRow) → AllIn tree rows → AllIn tree (map f rows)
+in_map tree f goes [] all = tt
+in_map tree f goes (row ∷ rows) all = (λ e. goes_tree f goes row ∙ all.0 (sym (goes_inside f goes row) ∙ e), in_map tree f goes rows all.1)
+
+turned_goes : (plan : PlanOf) (s : State) (found : Option PlayOf) → Goes plan s (option_map_or (turned_in plan.inventory s) found s)
 turned_goes plan s None = stays plan s
-turned_goes plan s (Some play) = record { same = refl; keeps = λ tree all. all }
+turned_goes plan s (Some play) =
+    record { same = refl; keeps = λ tree all. turned_by_case (AllIn tree) (λ f goes rows now. in_map tree f goes rows now) plan.inventory play (batch_of s) s.place all }
 
 -- an open
 some_same : (a b : PlayOf) → Some a ≡ Some b → a ≡ b
@@ -217,9 +223,9 @@ reported_numbers plan s r (Some play) = λ all.
     number_given (report_gives (plan_seen plan s) play r.outcome r.host.0 s.rows) (change s.rows r.host.0 (reported (plan_seen plan s) play r.outcome))
     (number_change 0 r.host.0 (reported (plan_seen plan s) play r.outcome) (λ row. reported_host (plan_seen plan s) play r.outcome row) s.rows all)
 
-turned_numbers : (s : State) (found : Option PlayOf) → KeepsNumbers s (option_map_or (turned_in s) found s)
-turned_numbers s None = λ all. all
-turned_numbers s (Some play) = λ all. all
+turned_numbers : (inventory : InventoryOf) (s : State) (found : Option PlayOf) → KeepsNumbers s (option_map_or (turned_in inventory s) found s)
+turned_numbers inventory s None = λ all. all
+turned_numbers inventory s (Some play) = λ all. turned_by_case (AreNumbered 0) (λ f goes rows now. number_map 0 f (goes_host f goes) rows now) inventory play (batch_of s) s.place all
 
 number_joined : (h : ℕ) (tree : TreeOf) (room : ℕ) (rows : List HostRow) → AreNumbered h rows → AreNumbered h (joined_first tree room rows)
 number_joined h tree room [] all = tt
@@ -237,7 +243,7 @@ step_numbers plan s Open = opened_numbers plan s
 step_numbers plan s (Start h) = started_numbers plan s h.0 (open_play plan s)
 step_numbers plan s (Send h item ticket) = sent_numbers s h.0 ticket (open_play plan s)
 step_numbers plan s (Reported r) = reported_numbers plan s r (open_play plan s)
-step_numbers plan s Turn = turned_numbers s (open_play plan s)
+step_numbers plan s Turn = turned_numbers plan.inventory s (open_play plan s)
 step_numbers plan s Close = λ all. number_map 0 left (λ row. refl) s.rows all
 step_numbers plan s Stop = λ all. all
 step_numbers plan s (Forks n) = λ all. all

@@ -1,6 +1,7 @@
 -- Each step keeps the state's numbers within their bounds.
-use Rattle.std.proofs.Common.{◌≡◌, ℕ, zero, suc, ◌+◌, ◌-◌, ◌*◌, ◌^◌, ◌<◌, ◌≤◌, Bool, true, false, ◌&&◌, ◌||◌, List, [], ◌∷◌, length, map, drop, refl, sym, ◌∙◌, ap, subst, arith, suc-mul}
+use Rattle.std.proofs.Common.{◌≡◌, ℕ, zero, suc, ◌+◌, ◌-◌, ◌*◌, ◌^◌, ◌<◌, ◌≤◌, Bool, true, false, ◌&&◌, ◌||◌, List, [], ◌∷◌, ◌++◌, length, map, drop, refl, sym, ◌∙◌, ap, subst, arith, suc-mul, inl, inr}
 use Rattle.std.specs.Bool.{OnTrue}
+use Rattle.std.specs.List.{list_any}
 use Rattle.std.specs.Prelude.{Option, Some, None, IfSome, slice_get, sum_by, option_map, is_none, not, if◌then◌else◌}
 use Rattle.std.specs.Option.{option_map_or}
 use Rattle.std.proofs.lemmas.List.{length-map}
@@ -13,26 +14,31 @@ use Rattle.pb_outcome.specs.Items.{is_over}
 use Rattle.pb_facts.specs.Facts.{FactsOf}
 use Rattle.pb_inventory.specs.InventoryOf.{InventoryOf}
 use Rattle.pb_plan.specs.Plan.{PlayOf, PlanOf}
+use Rattle.pb_tree.specs.Answer.{AnswerOf}
+use Rattle.pb_tree.specs.declared.answer.Kind.{Kind}
 use Rattle.pb_tree.specs.Tree.{TreeOf, size_of}
-use Rattle.pb_tree.specs.Walk.{one_halted}
+use Rattle.pb_tree.specs.Walk.{reach, one_halted, without_halted, is_halted}
 use Rattle.pb_items.specs.Loops.{max_items}
 use Rattle.pb_state.specs.declared.decided.TaskEnd.{TaskEnd}
 use Rattle.pb_state.specs.declared.row.Counts.{Counts}
+use Rattle.pb_state.specs.declared.row.Finish.{Finish}
 use Rattle.pb_state.specs.declared.row.Running.{Running}
 use Rattle.pb_state.specs.Handlers.{notified_by}
 use Rattle.pb_state.specs.Batches.{has_later, joins, room_behind, joined_first}
-use Rattle.pb_state.specs.Row.{HostRow, no_tree, none_counted, first_rows, called, joined, left, finished, ended, task_at, taught, came_back, items_after, progressed, sent, sent_running, reported, reported_running}
+use Rattle.pb_state.specs.Row.{HostRow, no_tree, none_counted, first_rows, place_of, next_place, answered, called, joined, left, finished, finish_at, ended, task_at, taught, came_back, items_after, progressed, sent, sent_running, reported, reported_running}
 use Rattle.pb_state.specs.Ends.{counted, counted_result, is_counted, more}
 use Rattle.pb_sight.specs.declared.gifts.Gift.{Gift}
 use Rattle.pb_state.specs.Machine.{play_behind, change, takes, given_to, at_row, is_ticket, sends_running, awaits_running, awaits, may_send_item, is_running}
 use Rattle.pb_state.specs.Bounds.{IsAtMost, run_places, out_jobs, running_jobs, running_items, plays_behind, IsPlacedIn, IsWithin, AllWithin, most_jobs, IsBounded}
 use Rattle.pb_state.specs.Kept.{first_waiting}
+use Rattle.pb_state.specs.Turn.{BatchOf, plain_answer, turned_by}
 use Rattle.pb_state.proofs.Giving.{given_keeps, given_sum, length-given}
 use Rattle.pb_state.proofs.InOrder.{first_most, is_next_so, length_back, back_later}
 use Rattle.pb_state.proofs.Batching.{joins_waits, length-joined}
 use Rattle.pb_state.proofs.Opening.{length-first}
 use Rattle.pb_state.proofs.Stands.{stands_at}
-use Rattle.pb_state.proofs.Walked.{stands_below, stands_in, one_halted_answer}
+use Rattle.pb_state.proofs.Turning.{Goes, turned_by_case, turned_hosts, idle_map}
+use Rattle.pb_state.proofs.Walked.{at_below, place_at, in_if, stands_below, stands_in, one_halted_answer}
 
 -- counts
 more_at_most : (b : Bool) (n m : ℕ) → n ≤ m → more b n ≤ m + 1
@@ -135,15 +141,15 @@ as_in : (inside : Bool) (row : HostRow) → inside ≡ true → row.waits ≡ tr
 as_in true row i w = w
 as_in false row i w = cc
 
-finished_within : (goes_on : Bool) (play p : ℕ) (task : TaskEnd) (notified : List ℕ) (facts : FactsOf) (row : HostRow) → length (one_halted row.answers) < 16384 → row.in_batch ≡ true
-    → IsWithin true goes_on play row → IsWithin true goes_on play (finished p task notified facts row)
-finished_within goes_on play p task notified facts row b i w =
+finished_within : (goes_on : Bool) (play : ℕ) (finish : Finish) (task : TaskEnd) (notified : List ℕ) (facts : FactsOf) (row : HostRow) → length (one_halted row.answers) < 16384 → row.in_batch ≡ true
+    → IsWithin true goes_on play row → IsWithin true goes_on play (finished finish task notified facts row)
+finished_within goes_on play finish task notified facts row b i w =
     let more = one_halted_answer row.answers task notified in (
       at_most_to (counted task row.counts) _ _ (omega (arith, more)) (counted_at_most task row.counts _ w.0),
       omega (arith, more, b),
       w.2,
       omega arith,
-      as_in row.in_batch (finished p task notified facts row) i (in_waits row.in_batch row i w.4),
+      as_in row.in_batch (finished finish task notified facts row) i (in_waits row.in_batch row i w.4),
     )
 
 -- a host that starts has a place left
@@ -162,7 +168,7 @@ progressed_within : (goes_on : Bool) (k p : ℕ) (inventory : InventoryOf) (play
 progressed_within goes_on k p inventory play items row most b i w = by_over (is_over items)
   where
     by_over : (over : Bool) → IsWithin true goes_on k (if over then ended inventory play p items row else record row { running = Some (record { place = p; items = items; out = None }) })
-    by_over true = finished_within goes_on k p (task_at play p items) (notified_by play p (task_at play p items)) (taught inventory play p row.host items row.facts) row b i w
+    by_over true = finished_within goes_on k (finish_at play p items) (task_at play p items) (notified_by play p (task_at play p items)) (taught inventory play p row.host items row.facts) row b i w
     by_over false = (
       w.0,
       omega (arith, b),
@@ -172,9 +178,9 @@ progressed_within goes_on k p inventory play items row most b i w = by_over (is_
     )
 
 -- a task that ends leaves room for all that its items can have sent
-finished_jobs : (goes_on : Bool) (k p n : ℕ) (task : TaskEnd) (notified : List ℕ) (facts : FactsOf) (row : HostRow) → n ≤ max_items
-    → (max_items * (16384 * plays_behind true k row + length (one_halted row.answers)) + n) + 0 ≤ most_jobs true goes_on k (finished p task notified facts row)
-finished_jobs goes_on k p n task notified facts row m = let more = one_halted_answer row.answers task notified in omega (arith, more, m)
+finished_jobs : (goes_on : Bool) (k n : ℕ) (finish : Finish) (task : TaskEnd) (notified : List ℕ) (facts : FactsOf) (row : HostRow) → n ≤ max_items
+    → (max_items * (16384 * plays_behind true k row + length (one_halted row.answers)) + n) + 0 ≤ most_jobs true goes_on k (finished finish task notified facts row)
+finished_jobs goes_on k n finish task notified facts row m = let more = one_halted_answer row.answers task notified in omega (arith, more, m)
 
 start_keeps : (goes_on : Bool) (k : ℕ) (place : Option ℕ) (inventory : InventoryOf) (play : PlayOf) (p : ℕ) (items : List Item) → length items ≤ max_items → Keeps goes_on k (progressed inventory play p items) (stands_at place) 0
 start_keeps goes_on k place inventory play p items most =
@@ -185,7 +191,7 @@ start_keeps goes_on k place inventory play p items most =
   where
     by_over : (row : HostRow) (over : Bool)
         → (max_items * (16384 * plays_behind true k row + length (one_halted row.answers)) + 0) + 0 ≤ most_jobs true goes_on k (if over then ended inventory play p items row else record row { running = Some (record { place = p; items = items; out = None }) })
-    by_over row true = finished_jobs goes_on k p 0 (task_at play p items) (notified_by play p (task_at play p items)) (taught inventory play p row.host items row.facts) row (omega arith)
+    by_over row true = finished_jobs goes_on k 0 (finish_at play p items) (task_at play p items) (notified_by play p (task_at play p items)) (taught inventory play p row.host items row.facts) row (omega arith)
     by_over row false = omega arith
 
 -- a host that has a job to send runs, and no job of it is out
@@ -246,7 +252,7 @@ report_keeps goes_on k item plan play outcome ticket =
     by_over : (row : HostRow) (r : Running) (items : List Item) (over : Bool) → length items ≡ length r.items → first_waiting r.items + 1 ≤ first_waiting items → first_waiting items ≤ length items → length r.items ≤ max_items
         → (max_items * (16384 * plays_behind true k row + length (one_halted row.answers)) + running_jobs (Some r)) + 0
         ≤ most_jobs true goes_on k (if over then ended plan.inventory play r.place items row else record row { running = Some (record { place = r.place; items = items; out = None }) })
-    by_over row r items true same later within most = finished_jobs goes_on k r.place (running_jobs (Some r)) (task_at play r.place items) (notified_by play r.place (task_at play r.place items)) (taught plan.inventory play r.place row.host items row.facts) row (omega (arith, most))
+    by_over row r items true same later within most = finished_jobs goes_on k (running_jobs (Some r)) (finish_at play r.place items) (task_at play r.place items) (notified_by play r.place (task_at play r.place items)) (taught plan.inventory play r.place row.host items row.facts) row (omega (arith, most))
     by_over row r items false same later within most = omega (arith, same, later, within, at_most_one r.out)
 
     reported_jobs : (row : HostRow) (found : Option Running) → row.running ≡ found → option_map_or (awaits_running ticket item) found false ≡ true → IsWithin true goes_on k row
@@ -329,6 +335,121 @@ pub report_bounded : (batch : ℕ) (later : List ℕ) (k sends h item : ℕ) (is
 report_bounded batch later k sends h item is_open plan play ticket outcome gifts rows new b o e n =
     given_so batch later k sends is_open gifts (change rows h (reported plan play outcome)) new o
     (changed_so batch later k sends 0 h is_open (reported plan play outcome) (awaits ticket item) rows (change rows h (reported plan play outcome)) sends (omega arith) o (report_keeps (has_later later) k item plan play outcome ticket) e b refl) n
+
+-- ---- a turn
+-- an answer more is one more that counts at most
+abbrev IsOneMore : ℕ → ℕ → Type 0
+IsOneMore m n = (m ≤ n) × (n ≤ m + 1)
+
+behind_none : (b : Bool) (last : AnswerOf) → IsOneMore 0 (length (if b then [] else last ∷ []))
+behind_none true last = (omega arith, omega arith)
+behind_none false last = (omega arith, omega arith)
+
+without_most : (answers : List AnswerOf) (last : AnswerOf) → IsOneMore (length (without_halted answers)) (length (without_halted (answers ++ last ∷ [])))
+without_most [] last = behind_none (is_halted last.kind) last
+without_most (a ∷ answers) last = chosen (is_halted a.kind) (without_halted answers) (without_halted (answers ++ last ∷ [])) (without_most answers last)
+  where
+    chosen : (b : Bool) (xs ys : List AnswerOf) → IsOneMore (length xs) (length ys) → IsOneMore (length (if b then xs else a ∷ xs)) (length (if b then ys else a ∷ ys))
+    chosen true xs ys e = e
+    chosen false xs ys e = (omega (arith, e.0), omega (arith, e.1))
+
+first_alone : (b : Bool) (last : AnswerOf) → IsOneMore 0 (length (if b then last ∷ [] else last ∷ []))
+first_alone true last = (omega arith, omega arith)
+first_alone false last = (omega arith, omega arith)
+
+pub one_most : (answers : List AnswerOf) (last : AnswerOf) → (length (one_halted answers) ≤ length (one_halted (answers ++ last ∷ []))) × (length (one_halted (answers ++ last ∷ [])) ≤ length (one_halted answers) + 1)
+one_most [] last = first_alone (is_halted last.kind) last
+one_most (a ∷ answers) last =
+    chosen (is_halted a.kind) (without_halted answers) (without_halted (answers ++ last ∷ [])) (one_halted answers) (one_halted (answers ++ last ∷ [])) (without_most answers last) (one_most answers last)
+  where
+    chosen : (b : Bool) (xs ys us vs : List AnswerOf) → IsOneMore (length xs) (length ys) → IsOneMore (length us) (length vs) → IsOneMore (length (if b then a ∷ xs else a ∷ us)) (length (if b then a ∷ ys else a ∷ vs))
+    chosen true xs ys us vs e f = (omega (arith, e.0), omega (arith, e.1))
+    chosen false xs ys us vs e f = (omega (arith, f.0), omega (arith, f.1))
+
+or_left : (a b : Bool) → (a || b) ≡ false → a ≡ false
+or_left true b e = e
+or_left false b e = refl
+
+or_right : (a b : Bool) → (a || b) ≡ false → b ≡ false
+or_right true b e = cc
+or_right false b e = e
+
+-- a host that is given an answer had a place left
+given_within : (goes_on : Bool) (k p : ℕ) (kind : Kind) (broken : Bool) (facts : FactsOf) (row : HostRow) → next_place row ≡ Some p → is_running row ≡ false → IsWithin true goes_on k row
+    → IsWithin true goes_on k (record (answered (plain_answer kind) row) { is_broken = broken; facts = facts })
+given_within goes_on k p kind broken facts row next idle w =
+    let more = one_most row.answers (plain_answer kind) in
+    let inside = in_if row.in_batch (place_of (reach row.tree row.answers)) p next in
+    let below = at_below row.tree row.answers p (place_at (reach row.tree row.answers) row.in_batch p next) in
+    let none : run_places row.running ≡ 0 = ap run_places (none_running row row.running refl idle) in (
+      at_most_to row.counts _ _ (omega (arith, more.0)) w.0,
+      omega (arith, more.1, below, w.2, none),
+      w.2,
+      w.3,
+      as_in row.in_batch (record (answered (plain_answer kind) row) { is_broken = broken; facts = facts }) inside (in_waits row.in_batch row inside w.4),
+    )
+
+goes_within : (goes_on : Bool) (k : ℕ) (f : HostRow → HostRow) → Goes f → (row : HostRow) → is_running row ≡ false → IsWithin true goes_on k row → IsWithin true goes_on k (f row)
+goes_within goes_on k f goes row idle w =
+    elim (goes row) [
+      | inl same ↦ subst (IsWithin true goes_on k) (sym same) w
+      | inr given ↦ subst (IsWithin true goes_on k) (sym given.is) (given_within goes_on k given.place given.kind given.broken given.facts row given.next idle w)
+    ]
+
+goes_jobs : (goes_on : Bool) (k : ℕ) (f : HostRow → HostRow) → Goes f → (row : HostRow) → most_jobs true goes_on k row ≤ most_jobs true goes_on k (f row)
+goes_jobs goes_on k f goes row =
+    elim (goes row) [
+      | inl same ↦ rw same (omega arith)
+      | inr given ↦ rw given.is (let more = one_most row.answers (plain_answer given.kind) in omega (arith, more.0))
+    ]
+
+-- the rows of an open batch, in which nobody runs
+abbrev IsIdle : Bool → ℕ → ℕ → List HostRow → Type 0
+IsIdle goes_on k sends rows = (list_any is_running rows ≡ false) × AllWithin true goes_on k rows × (sends ≤ sum_by (most_jobs true goes_on k) rows)
+
+map_within : (goes_on : Bool) (k : ℕ) (f : HostRow → HostRow) → Goes f → (rows : List HostRow) → list_any is_running rows ≡ false → AllWithin true goes_on k rows → AllWithin true goes_on k (map f rows)
+map_within goes_on k f goes [] idle w = tt
+map_within goes_on k f goes (row ∷ rows) idle w =
+    (goes_within goes_on k f goes row (or_left (is_running row) _ idle) w.0, map_within goes_on k f goes rows (or_right (is_running row) _ idle) w.1)
+
+map_jobs : (goes_on : Bool) (k : ℕ) (f : HostRow → HostRow) → Goes f → (rows : List HostRow) → sum_by (most_jobs true goes_on k) rows ≤ sum_by (most_jobs true goes_on k) (map f rows)
+map_jobs goes_on k f goes [] = omega arith
+map_jobs goes_on k f goes (row ∷ rows) =
+    let one = goes_jobs goes_on k f goes row in
+    let rest = map_jobs goes_on k f goes rows in
+    omega (arith, one, rest, sum_by-cons (most_jobs true goes_on k) row rows, sum_by-cons (most_jobs true goes_on k) (f row) (map f rows))
+
+map_idle : (goes_on : Bool) (k sends : ℕ) (f : HostRow → HostRow) → Goes f → (rows : List HostRow) → IsIdle goes_on k sends rows → IsIdle goes_on k sends (map f rows)
+map_idle goes_on k sends f goes rows w =
+    (sym (idle_map f goes rows) ∙ w.0, map_within goes_on k f goes rows w.0 w.1, let more = map_jobs goes_on k f goes rows in omega (arith, more, w.2))
+
+-- while a batch is open the bounds don't ask which batches are left
+within_on : (goes_on goes : Bool) (k : ℕ) (rows : List HostRow) → AllWithin true goes_on k rows → AllWithin true goes k rows
+within_on goes_on goes k [] w = tt
+within_on goes_on goes k (row ∷ rows) w = (w.0, within_on goes_on goes k rows w.1)
+
+jobs_on : (goes_on goes : Bool) (k : ℕ) (rows : List HostRow) → sum_by (most_jobs true goes_on k) rows ≡ sum_by (most_jobs true goes k) rows
+jobs_on goes_on goes k [] = refl
+jobs_on goes_on goes k (row ∷ rows) =
+    let rest = jobs_on goes_on goes k rows in
+    omega (arith, rest, sum_by-cons (most_jobs true goes_on k) row rows, sum_by-cons (most_jobs true goes k) row rows)
+
+pub turn_bounded : (batch : ℕ) (later new_later : List ℕ) (play sends : ℕ) (is_open : Bool) (inventory : InventoryOf) (p : PlayOf) (place : Option ℕ) (rows new : List HostRow) → IsBounded is_open batch later play sends rows
+    → is_open ≡ true → list_any is_running rows ≡ false → new ≡ (turned_by inventory p (record { rows = rows; later = later }) place).rows → length new_later ≤ length later → IsBounded is_open batch new_later play sends new
+turn_bounded batch later new_later play sends true inventory p place rows new b o idle n l =
+    let batch_then : BatchOf = record { rows = rows; later = later } in
+    let kept = turned_by_case (IsIdle (has_later later) play sends) (map_idle (has_later later) play sends) inventory p batch_then place (idle, b.counts, b.jobs) in
+    let hosts = turned_hosts inventory p batch_then place in
+    rw n
+    (record {
+      counts = within_on (has_later later) (has_later new_later) play (turned_by inventory p batch_then place).rows kept.1;
+      plays = b.plays;
+      under_way = b.under_way;
+      hosts = omega (arith, hosts, b.hosts);
+      batches = omega (arith, l, b.batches);
+      jobs = let same = jobs_on (has_later later) (has_later new_later) play (turned_by inventory p batch_then place).rows in omega (arith, same, kept.2);
+    })
+turn_bounded batch later new_later play sends false inventory p place rows new b o idle n l = cc
 
 -- the plays that a host has behind it
 behind_most : (under_way : Bool) (play : ℕ) (row : HostRow) → plays_behind under_way play row ≤ play + 1

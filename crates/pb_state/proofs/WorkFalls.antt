@@ -1,12 +1,12 @@
 -- Each event but a command leaves less to do.
 use Rattle.std.proofs.Common.{◌≡◌, ℕ, zero, suc, ◌+◌, ◌-◌, ◌*◌, ◌<◌, ◌≤◌, Bool, true, false, ◌&&◌, not, List, [], ◌∷◌, length, map, drop, get_or, refl, sym, ◌∙◌, ap, subst, arith, ◌⊎◌, inl, inr, suc-mul}
-use Rattle.std.specs.Prelude.{Option, Some, None, option_map, slice_get, sum_by, is_some, is_none, ◌==◌, nat_le, min, if◌then◌else◌, ◌||◌}
+use Rattle.std.specs.Prelude.{Option, Some, None, option_map, slice_get, sum_by, is_some, is_none, ◌==◌, if◌then◌else◌, ◌||◌}
 use Rattle.std.specs.List.{list_any}
 use Rattle.std.specs.Option.{option_map_or}
 use Rattle.std.proofs.lemmas.List.{drop_more, length-map}
 use Rattle.std.proofs.lemmas.List.Sums.{sum_by-cons}
 use Rattle.std.proofs.lemmas.Option.{slice_get_within, get_or_from_slice_get}
-use Rattle.std.proofs.lemmas.Bool.{lt-ltb, leb-true, leb-false, eq-eqb}
+use Rattle.std.proofs.lemmas.Bool.{eq-eqb}
 use Rattle.pb_tree.specs.Tree.{TreeOf, size_of}
 use Rattle.pb_ids.specs.declared.numbers.Ticket.{Ticket}
 use Rattle.pb_outcome.specs.declared.job.Report.{Report}
@@ -19,30 +19,36 @@ use Rattle.pb_state.specs.declared.decided.Decided.{Decided as DecidedOf}
 use Rattle.pb_state.specs.declared.decided.TaskEnd.{TaskEnd}
 use Rattle.pb_outcome.specs.declared.item.Item.{Item}
 use Rattle.pb_outcome.specs.Items.{is_over}
+use Rattle.pb_tree.specs.declared.answer.Kind.{Kind}
+use Rattle.pb_tree.specs.declared.answer.Kind.TheVariants.{Good, Bad, Halted, Gone, Ended}
+use Rattle.pb_tree.specs.Walk.{reach, is_halted}
 use Rattle.pb_state.specs.declared.row.Running.{Running}
+use Rattle.pb_state.specs.declared.row.Finish.{Finish}
 use Rattle.pb_state.specs.declared.event.Event.{Event}
 use Rattle.pb_state.specs.declared.event.Event.TheVariants.{Open, Start, Send, Report as Reported, Turn, Close, Stop, Forks}
 use Rattle.pb_inventory.specs.InventoryOf.{InventoryOf}
 use Rattle.pb_plan.specs.Plan.{PlayOf, PlanOf}
 use Rattle.pb_state.specs.Handlers.{notified_by}
 use Rattle.pb_state.specs.Batches.{has_later, called_count, joins, room_behind, joined_first}
-use Rattle.pb_state.specs.Row.{HostRow, no_tree, next_place, called, joined, left, finished, ended, task_at, taught, came_back, items_after, progressed, sent, sent_running, reported, reported_running}
+use Rattle.pb_state.specs.Row.{HostRow, no_tree, next_place, called, joined, left, answered, finished, finish_at, ended, task_at, taught, came_back, items_after, progressed, sent, sent_running, reported, reported_running}
 use Rattle.pb_state.specs.State.{State}
 use Rattle.pb_sight.specs.declared.gifts.Gift.{Gift}
-use Rattle.pb_state.specs.Machine.{takes, given_to, gifts_at, report_gives, possible, after, change, at_row, open_play, least_place, lesser, same_place, may_open, is_left, may_start_in, may_turn_in, may_close_in, opened_by, after_open, started_in, next_at, facts_at, plan_seen, start_at, turned_in, play_behind, closed, is_running, running_count, is_ticket, sends_running, may_send_item, awaits_running, awaits, may_send_in, may_report_in, sent_in, reported_in}
+use Rattle.pb_state.specs.Machine.{takes, given_to, gifts_at, report_gives, possible, after, change, at_row, open_play, least_place, same_place, may_open, is_left, may_start_in, may_turn_in, may_close_in, opened_by, after_open, started_in, next_at, facts_at, plan_seen, start_at, batch_of, turned_in, play_behind, closed, is_running, is_ticket, sends_running, may_send_item, awaits_running, awaits, may_send_in, may_report_in, sent_in, reported_in}
 use Rattle.pb_batches.specs.Sizes.{batch_sizes}
 use Rattle.pb_state.specs.Kept.{first_waiting}
 use Rattle.pb_state.specs.Run.{is_command}
+use Rattle.pb_state.specs.Turn.{BatchOf, is_at, plain_answer, is_settling, settles, source, copied, copied_if, with_copy, copies, is_halting, halted, turned, turned_by}
 use Rattle.pb_state.specs.Work.{most_events, places_left, place_work, out_work, running_work, row_work, batch_work, batches_work, later_work, rest_work, between_work, turn_work, is_place, work_in, work}
 use Rattle.pb_state.proofs.Giving.{given_sum, length-given}
 use Rattle.pb_state.proofs.InOrder.{is_next_so, length_back, back_later}
 use Rattle.pb_state.proofs.Batching.{few_batches, few_called, length-joined}
 use Rattle.pb_state.proofs.SizesLeft.{later_one}
 use Rattle.pb_state.proofs.Opening.{GoesOn, Begins, IsOpening, open_case, rows_case}
-use Rattle.pb_state.proofs.Idle.{turn_leaves, turn_place}
+use Rattle.pb_state.proofs.Idle.{lesser_is, turn_settles, turn_place, turn_idle}
 use Rattle.pb_state.proofs.Stands.{stands_at, start_stands}
 use Rattle.pb_state.proofs.Steps.{length-change}
-use Rattle.pb_state.proofs.Walked.{stands_below, one_halted_answer, same_is}
+use Rattle.pb_state.proofs.Turning.{Goes, IsGiven, copy_goes, halted_goes, turned_by_case, later_fewer, turned_hosts}
+use Rattle.pb_state.proofs.Walked.{at_below, one_more, no_less, stands_below, one_halted_answer, same_is, place_at}
 
 and_left : (a b : Bool) → (a && b) ≡ true → a ≡ true
 and_left true b e = refl
@@ -57,12 +63,12 @@ not_false true e = cc
 not_false false e = refl
 
 -- a finished task is one answer more
-finished_at : (row : HostRow) (p : ℕ) (task : TaskEnd) (notified : List ℕ) (facts : FactsOf) (next : Option ℕ) → place_work (finished p task notified facts row) next ≤ most_events * (places_left row - 1)
-finished_at row p task notified facts None = omega arith
-finished_at row p task notified facts (Some q) = omega (arith, one_halted_answer row.answers task notified)
+finished_at : (row : HostRow) (finish : Finish) (task : TaskEnd) (notified : List ℕ) (facts : FactsOf) (next : Option ℕ) → place_work (finished finish task notified facts row) next ≤ most_events * (places_left row - 1)
+finished_at row finish task notified facts None = omega arith
+finished_at row finish task notified facts (Some q) = omega (arith, one_halted_answer row.answers task notified)
 
-finished_less : (row : HostRow) (p : ℕ) (task : TaskEnd) (notified : List ℕ) (facts : FactsOf) → row_work (finished p task notified facts row) ≤ most_events * (places_left row - 1)
-finished_less row p task notified facts = finished_at row p task notified facts (next_place (finished p task notified facts row))
+finished_less : (row : HostRow) (finish : Finish) (task : TaskEnd) (notified : List ℕ) (facts : FactsOf) → row_work (finished finish task notified facts row) ≤ most_events * (places_left row - 1)
+finished_less row finish task notified facts = finished_at row finish task notified facts (next_place (finished finish task notified facts row))
 
 -- a start
 with_more : (a b c : ℕ) → a ≤ b → a ≤ c + b
@@ -75,7 +81,7 @@ progressed_less inventory play p items row = by_over (is_over items)
         ≤ 2 * (length items - first_waiting items) + most_events * (places_left row - 1)
     by_over true =
         with_more (row_work (ended inventory play p items row)) (most_events * (places_left row - 1)) (2 * (length items - first_waiting items))
-        (finished_less row p (task_at play p items) (notified_by play p (task_at play p items)) (taught inventory play p row.host items row.facts))
+        (finished_less row (finish_at play p items) (task_at play p items) (notified_by play p (task_at play p items)) (taught inventory play p row.host items row.facts))
     by_over false = omega arith
 
 not_running : (row : HostRow) (running : Option Running) → not (is_some running) ≡ true → running_work row running ≡ place_work row (next_place row)
@@ -226,19 +232,148 @@ is_some_some : (p : Option ℕ) → is_some p ≡ true → (r : ℕ) × (p ≡ S
 is_some_some (Some r) e = (r, refl)
 is_some_some None e = cc
 
-turn_due : (s : State) (play : PlayOf) (b : Bool) → 0 < s.forks → may_turn_in s play ≡ true → is_place s.place (least_place s.rows) ≡ b → turn_work s.place (least_place s.rows) ≡ 1
-turn_due s play false f e t = rw t refl
-turn_due s play true f e t =
-    let at = is_some_some s.place (turn_place s play e) in
-    absurd (turn_leaves s play at.0 f e at.1 (is_place_some s.place (least_place s.rows) at.0 at.1 t))
+-- an answer that a host is given leaves no more of its work
+given_place : (row : HostRow) (kind : Kind) (broken : Bool) (facts : FactsOf) (next : Option ℕ) → place_work (record (answered (plain_answer kind) row) { is_broken = broken; facts = facts }) next ≤ most_events * places_left row
+given_place row kind broken facts None = omega arith
+given_place row kind broken facts (Some q) = omega (arith, no_less row.answers (plain_answer kind))
 
-turn_in_less : (plan : PlanOf) (s : State) (found : Option PlayOf) → 0 < s.forks → open_play plan s ≡ found → option_map_or (may_turn_in s) found false ≡ true → work plan (option_map_or (turned_in s) found s) < work plan s
+given_running : (row : HostRow) (p : ℕ) (kind : Kind) (broken : Bool) (facts : FactsOf) (running : Option Running) → next_place row ≡ Some p
+    → running_work (record (answered (plain_answer kind) row) { is_broken = broken; facts = facts }) running ≤ running_work row running
+given_running row p kind broken facts None e =
+    let old : place_work row (next_place row) ≡ most_events * places_left row = ap (place_work row) e in
+    omega (arith, old, given_place row kind broken facts (next_place (record (answered (plain_answer kind) row) { is_broken = broken; facts = facts })))
+given_running row p kind broken facts (Some r) e = omega (arith, no_less row.answers (plain_answer kind))
+
+given_work : (row new : HostRow) → IsGiven row new → row_work new ≤ row_work row
+given_work row new given = rw given.is (given_running row given.place given.kind given.broken given.facts row.running given.next)
+
+goes_work : (f : HostRow → HostRow) → Goes f → (row : HostRow) → row_work (f row) ≤ row_work row
+goes_work f goes row = elim (goes row) [ inl same ↦ rw same (omega arith) | inr given ↦ given_work row (f row) given ]
+
+map_work : (f : HostRow → HostRow) → Goes f → (rows : List HostRow) → sum_by row_work (map f rows) ≤ sum_by row_work rows
+map_work f goes [] = omega arith
+map_work f goes (row ∷ rows) = omega (arith, goes_work f goes row, map_work f goes rows, sum_by-cons row_work (f row) (map f rows), sum_by-cons row_work row rows)
+
+at_most : (a b c : ℕ) → a ≤ b → b ≤ c → a ≤ c
+at_most a b c e f = omega (arith, e, f)
+
+turned_work : (inventory : InventoryOf) (play : PlayOf) (batch : BatchOf) (place : Option ℕ) → sum_by row_work (turned_by inventory play batch place).rows ≤ sum_by row_work batch.rows
+turned_work inventory play batch place =
+    turned_by_case (λ (rows : List HostRow). sum_by row_work rows ≤ sum_by row_work batch.rows)
+    (λ f goes rows least. at_most (sum_by row_work (map f rows)) (sum_by row_work rows) (sum_by row_work batch.rows) (map_work f goes rows) least)
+    inventory play batch place (omega arith)
+
+-- where a task is settled, an answer less is left to each host there
+settling_counts : (kind : Kind) → is_settling kind ≡ true → is_halted kind ≡ false
+settling_counts Good e = refl
+settling_counts Bad e = refl
+settling_counts Halted e = cc
+settling_counts Gone e = refl
+settling_counts Ended e = refl
+
+settled_last : (p : ℕ) (last : Option Finish) → option_map_or (settles p) last false ≡ true → (finish : Finish) × (last ≡ Some finish) × (is_halted finish.kind ≡ false)
+settled_last p (Some finish) e = (finish, refl, settling_counts finish.kind (and_right (finish.place == p) _ e))
+settled_last p None e = cc
+
+copied_place : (inventory : InventoryOf) (play : PlayOf) (p from : ℕ) (finish : Finish) (row : HostRow) (next : Option ℕ) → is_halted finish.kind ≡ false
+    → place_work (copied inventory play p from finish row) next ≤ most_events * (places_left row - 1)
+copied_place inventory play p from finish row None k = omega arith
+copied_place inventory play p from finish row (Some q) k = omega (arith, one_more row.answers (plain_answer finish.kind) k)
+
+copied_running : (inventory : InventoryOf) (play : PlayOf) (p from : ℕ) (finish : Finish) (row : HostRow) (running : Option Running) → is_halted finish.kind ≡ false → next_place row ≡ Some p → is_some running ≡ false
+    → running_work (copied inventory play p from finish row) running < running_work row running
+copied_running inventory play p from finish row None k e idle =
+    let old : place_work row (next_place row) ≡ most_events * places_left row = ap (place_work row) e in
+    let below = at_below row.tree row.answers p (place_at (reach row.tree row.answers) row.in_batch p e) in
+    omega (arith, old, below, copied_place inventory play p from finish row (next_place (copied inventory play p from finish row)) k)
+copied_running inventory play p from finish row (Some r) k e idle = cc
+
+with_copy_is : (inventory : InventoryOf) (play : PlayOf) (p : ℕ) (from : HostRow) (finish : Finish) (row : HostRow) → from.last ≡ Some finish → next_place row ≡ Some p
+    → with_copy inventory play p (Some from) row ≡ copied inventory play p from.host finish row
+with_copy_is inventory play p from finish row l e =
+    let here : is_at p row ≡ true = ap (λ (next : Option ℕ). option_map_or (λ q. q == p) next false) e ∙ eq-eqb p p refl in
+    ap (λ (last : Option Finish). option_map_or (copied_if inventory play p from.host row) last row) l ∙ ap (λ (b : Bool). if b then copied inventory play p from.host finish row else row) here
+
+copy_less : (inventory : InventoryOf) (play : PlayOf) (p : ℕ) (from : HostRow) (finish : Finish) (row : HostRow) → from.last ≡ Some finish → is_halted finish.kind ≡ false → next_place row ≡ Some p → is_running row ≡ false
+    → row_work (with_copy inventory play p (Some from) row) < row_work row
+copy_less inventory play p from finish row l k e idle = rw (with_copy_is inventory play p from finish row l e) (copied_running inventory play p from.host finish row row.running k e idle)
+
+or_left : (a b : Bool) → (a || b) ≡ false → a ≡ false
+or_left true b e = e
+or_left false b e = refl
+
+or_right : (a b : Bool) → (a || b) ≡ false → b ≡ false
+or_right true b e = cc
+or_right false b e = e
+
+copies_less : (inventory : InventoryOf) (play : PlayOf) (p : ℕ) (from : HostRow) (finish : Finish) (rows : List HostRow) → from.last ≡ Some finish → is_halted finish.kind ≡ false → list_any is_running rows ≡ false → least_place rows ≡ Some p
+    → sum_by row_work (map (with_copy inventory play p (Some from)) rows) < sum_by row_work rows
+copies_less inventory play p from finish [] l k idle e = cc
+copies_less inventory play p from finish (row ∷ rows) l k idle e =
+    let sums = sum_by-cons row_work (with_copy inventory play p (Some from) row) (map (with_copy inventory play p (Some from)) rows) in
+    let copies_on = copy_goes inventory play p (Some from) in
+    elim (lesser_is (next_place row) (least_place rows) p e) [
+      | inl here ↦ omega (arith, sums, sum_by-cons row_work row rows, copy_less inventory play p from finish row l k here (or_left (is_running row) _ idle), map_work (with_copy inventory play p (Some from)) copies_on rows)
+      | inr there ↦
+          omega (arith, sums, sum_by-cons row_work row rows, goes_work (with_copy inventory play p (Some from)) copies_on row, copies_less inventory play p from finish rows l k (or_right (is_running row) _ idle) there)
+    ]
+
+turned_less : (inventory : InventoryOf) (play : PlayOf) (p : ℕ) (batch : BatchOf) (from : HostRow) (finish : Finish) → source play p batch.rows ≡ Some from → from.last ≡ Some finish → is_halted finish.kind ≡ false
+    → list_any is_running batch.rows ≡ false → least_place batch.rows ≡ Some p → sum_by row_work (turned inventory play p batch).rows < sum_by row_work batch.rows
+turned_less inventory play p batch from finish is l k idle e = by_halting (is_halting play p (copies inventory play p batch).rows)
+  where
+    first : sum_by row_work (copies inventory play p batch).rows < sum_by row_work batch.rows
+    first =
+        subst (λ (found : Option HostRow). sum_by row_work (map (with_copy inventory play p found) batch.rows) < sum_by row_work batch.rows) (sym is)
+        (copies_less inventory play p from finish batch.rows l k idle e)
+
+    by_halting : (b : Bool) → sum_by row_work (if b then record { rows = map halted (copies inventory play p batch).rows; later = [] } else copies inventory play p batch).rows < sum_by row_work batch.rows
+    by_halting true = omega (arith, first, map_work halted halted_goes (copies inventory play p batch).rows)
+    by_halting false = first
+
+-- so a turn leaves less to the rows, or to be turned
+turn_falls : (inventory : InventoryOf) (s : State) (play : PlayOf) (b : Bool) → 0 < s.forks → may_turn_in s play ≡ true → is_place s.place (least_place s.rows) ≡ b
+    → 2 * sum_by row_work (turned_by inventory play (batch_of s) s.place).rows < 2 * sum_by row_work s.rows + turn_work s.place (least_place s.rows)
+turn_falls inventory s play false f e t =
+    let due : turn_work s.place (least_place s.rows) ≡ 1 = rw t refl in
+    omega (arith, due, turned_work inventory play (batch_of s) s.place)
+turn_falls inventory s play true f e t =
+    let at = is_some_some s.place (turn_place s play e) in
+    let least = is_place_some s.place (least_place s.rows) at.0 at.1 t in
+    let from = turn_settles s play at.0 f e at.1 least in
+    let last = settled_last at.0 from.0.last from.2 in
+    let less = turned_less inventory play at.0 (batch_of s) from.0 last.0 from.1 last.1 last.2 (turn_idle s play e) least in
+    let there : sum_by row_work (turned_by inventory play (batch_of s) s.place).rows < sum_by row_work s.rows =
+    subst (λ (place : Option ℕ). sum_by row_work (turned_by inventory play (batch_of s) place).rows < sum_by row_work s.rows) (sym at.1) less in
+    omega (arith, there)
+
+-- one batch fewer is left
+fewer_times : (w k a : ℕ) → a * w ≤ (k + a) * w
+fewer_times w zero a = let same : 0 + a ≡ a = omega arith in rw same (omega arith)
+fewer_times w (suc k) a =
+    let rest = fewer_times w k a in
+    let one : suc k + a ≡ suc (k + a) = omega arith in
+    rw one (omega (arith, rest, suc-mul (k + a) w))
+
+times : (w a b : ℕ) → a ≤ b → a * w ≤ b * w
+times w a b l = let at : (b - a) + a ≡ b = omega (arith, l) in rw at at (fewer_times w (b - a) a)
+
+-- and no more behind the batch
+turn_rest : (plan : PlanOf) (s : State) (play : PlayOf) (batch : BatchOf) → length batch.rows ≡ length s.rows → length batch.later ≤ length s.later
+    → rest_work plan (length batch.rows) batch.later s.play play ≤ rest_work plan (length s.rows) s.later s.play play
+turn_rest plan s play batch hosts later =
+    let same : rest_work plan (length batch.rows) batch.later s.play play ≡ rest_work plan (length s.rows) batch.later s.play play = ap (λ (n : ℕ). rest_work plan n batch.later s.play play) hosts in
+    omega (arith, same, times (batch_work (length s.rows) play) (length batch.later) (length s.later) later)
+
+turn_in_less : (plan : PlanOf) (s : State) (found : Option PlayOf) → 0 < s.forks → open_play plan s ≡ found → option_map_or (may_turn_in s) found false ≡ true → work plan (option_map_or (turned_in plan.inventory s) found s) < work plan s
 turn_in_less plan s None f o e = cc
 turn_in_less plan s (Some play) f o e =
-    let due = turn_due s play (is_place s.place (least_place s.rows)) f e refl in
+    let batch = turned_by plan.inventory play (batch_of s) s.place in
+    let rows = turn_falls plan.inventory s play (is_place s.place (least_place s.rows)) f e refl in
+    let rest = turn_rest plan s play batch (turned_hosts plan.inventory play (batch_of s) s.place) (later_fewer plan.inventory play (batch_of s) s.place) in
     let old : work plan s ≡ work_in plan s (Some play) = ap (work_in plan s) o in
-    let new : work plan (turned_in s play) ≡ work_in plan (turned_in s play) (Some play) = ap (work_in plan (turned_in s play)) o in
-    omega (arith, due, no_turn (least_place s.rows), old, new)
+    let new : work plan (turned_in plan.inventory s play) ≡ work_in plan (turned_in plan.inventory s play) (Some play) = ap (work_in plan (turned_in plan.inventory s play)) o in
+    omega (arith, rows, rest, no_turn (least_place batch.rows), old, new)
 
 -- a close
 open_is : (plan : PlanOf) (s : State) (play : PlayOf) (b : Bool) → s.is_open ≡ b → open_play plan s ≡ Some play → b ≡ true
@@ -309,17 +444,6 @@ some_fewer n plays i (suc k) = let same : suc k + i ≡ suc (k + i) = omega arit
 
 fewer : (n : ℕ) (plays : List PlayOf) (i j : ℕ) → i ≤ j → later_work n (drop j plays) ≤ later_work n (drop i plays)
 fewer n plays i j l = let at : (j - i) + i ≡ j = omega (arith, l) in rw at at (some_fewer n plays i (j - i))
-
--- one batch fewer is left
-fewer_times : (w k a : ℕ) → a * w ≤ (k + a) * w
-fewer_times w zero a = let same : 0 + a ≡ a = omega arith in rw same (omega arith)
-fewer_times w (suc k) a =
-    let rest = fewer_times w k a in
-    let one : suc k + a ≡ suc (k + a) = omega arith in
-    rw one (omega (arith, rest, suc-mul (k + a) w))
-
-times : (w a b : ℕ) → a ≤ b → a * w ≤ b * w
-times w a b l = let at : (b - a) + a ≡ b = omega (arith, l) in rw at at (fewer_times w (b - a) a)
 
 -- what is left once a batch of a play has opened
 opened_work : (plan : PlanOf) (s : State) (n batch : ℕ) (sizes : List ℕ) (rows : List HostRow) (play : PlayOf) (size : ℕ) → slice_get plan.plays n ≡ Some play → length rows ≡ length s.rows

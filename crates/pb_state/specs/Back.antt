@@ -1,5 +1,5 @@
 -- A report in its parts: an item comes back, and then its task goes on; and how the item is put back where memory is refused on the way.
-use Rattle.std.specs.Prelude.{◌≡◌, ⊤, ℕ, false, List, [], Option, Some, None, option_map, slice_get}
+use Rattle.std.specs.Prelude.{◌≡◌, ⊤, ℕ, Bool, false, ◌||◌, List, [], Option, Some, None, option_map, unwrap_or, slice_get}
 use Rattle.std.specs.Option.{option_map_or}
 use Rattle.pb_value.specs.Datum.{Datum}
 use Rattle.pb_inventory.specs.InventoryOf.{InventoryOf}
@@ -11,12 +11,15 @@ use Rattle.pb_plan.specs.Plan.{PlayOf, PlanOf}
 use Rattle.pb_sight.specs.Results.{settled_at}
 use Rattle.pb_state.specs.declared.decided.Decided.{Decided}
 use Rattle.pb_state.specs.declared.decided.Done.{Done}
+use Rattle.pb_state.specs.declared.decided.TaskEnd.{TaskEnd}
 use Rattle.pb_state.specs.declared.items.Before.{Before}
+use Rattle.pb_state.specs.declared.row.Finish.{Finish}
 use Rattle.pb_state.specs.declared.row.Running.{Running}
+use Rattle.pb_state.specs.Ends.{breaks, counted, kind_of}
 use Rattle.pb_state.specs.Kept.{with_step}
 use Rattle.pb_sight.specs.declared.gifts.Gift.{Gift}
 use Rattle.pb_state.specs.Machine.{decided_with, done_if, told_in, gifts_at}
-use Rattle.pb_state.specs.Row.{HostRow, pending, items_after, progressed}
+use Rattle.pb_state.specs.Row.{HostRow, kept_items, pending, items_after, progressed, runs_once_at}
 
 -- a result of the item with this number, as its task says of it
 abbrev pub settled_in : PlanOf → PlayOf → ℕ → FactsOf → ℕ → List Item → ℕ → ItemResult → ItemResult
@@ -29,6 +32,29 @@ back_running plan play host facts outcome running = option_map (λ (r : Running)
 
 abbrev pub back_row : PlanOf → PlayOf → Form → HostRow → HostRow
 back_row plan play outcome row = record row { running = back_running plan play row.host row.facts outcome row.running }
+
+-- the end of the task that a host runs, in its parts
+abbrev pub with_running : Option Running → HostRow → HostRow
+with_running running row = record row { running = running }
+
+abbrev pub items_run : Option Running → List Item
+items_run running = option_map_or (λ (r : Running). r.items) running []
+
+abbrev pub finish_of : Bool → ℕ → TaskEnd → Option Running → Finish
+finish_of once place task running = record { place = place; kind = kind_of task; items = kept_items once (items_run running) }
+
+abbrev pub finish_run : PlayOf → ℕ → TaskEnd → Option Running → Finish
+finish_run play place task running = finish_of (runs_once_at play place) place task running
+
+abbrev pub settled_row : Bool → ℕ → TaskEnd → Option FactsOf → HostRow → HostRow
+settled_row once place task known row =
+    record row {
+      is_broken = row.is_broken || breaks task.is_caught (kind_of task);
+      running = None;
+      last = Some (finish_of once place task row.running);
+      facts = unwrap_or known row.facts;
+      counts = counted task row.counts;
+    }
 
 -- the next item waits to be sent
 abbrev pub waiting : HostRow → HostRow

@@ -1,5 +1,5 @@
 -- Worked runs: plays in several batches, throttles, and strategies beside the linear one.
-use Rattle.std.specs.Prelude.{◌≡◌, ℕ, pos, Bool, true, false, List, [], ◌∷◌, ◌++◌, map, codes, Option, Some, None, refl}
+use Rattle.std.specs.Prelude.{◌≡◌, ℕ, pos, Bool, true, false, List, [], ◌∷◌, ◌++◌, map, codes, Some, None, refl}
 use Rattle.pb_batches.specs.declared.serial.Entry.TheVariants.{Number}
 use Rattle.pb_strategies.specs.declared.strategy.Strategy.{Strategy}
 use Rattle.pb_strategies.specs.declared.strategy.Strategy.TheVariants.{Linear, Free, HostPinned}
@@ -19,33 +19,33 @@ use Rattle.pb_state.specs.Row.{HostRow}
 use Rattle.pb_state.specs.Run.{legal_from, state_from}
 use Rattle.pb_state.specs.State.{State}
 
-abbrev start : ℕ → Event
+abbrev pub start : ℕ → Event
 start h = Start (record { 0 = h })
 
-abbrev send : ℕ → ℕ → Event
+abbrev pub send : ℕ → ℕ → Event
 send h ticket = Send (record { 0 = h }) 0 (record { 0 = ticket })
 
 -- a command's program ended with status 0
-abbrev went : ℕ → ℕ → Event
+abbrev pub went : ℕ → ℕ → Event
 went h ticket = Reported (record { ticket = record { 0 = ticket }; host = record { 0 = h }; item = 0; outcome = Ran (pos 0) [] [] })
 
 -- plays of three hosts, of which so many may run at once
-abbrev threes : ℕ → List PlayOf → PlanOf
+abbrev pub threes : ℕ → List PlayOf → PlanOf
 threes forks plays = record (bare_plan (codes "a" ∷ codes "b" ∷ codes "c" ∷ []) plays) { forks = forks }
 
-abbrev all_three : List Bool
+abbrev pub all_three : List Bool
 all_three = true ∷ true ∷ true ∷ []
 
-abbrev led_to : PlanOf → List Event → State
+abbrev pub led_to : PlanOf → List Event → State
 led_to plan events = state_from plan (first_state plan plan.forks 256) events
 
-abbrev is_legal : PlanOf → List Event → Bool
+abbrev pub is_legal : PlanOf → List Event → Bool
 is_legal plan events = legal_from plan (first_state plan plan.forks 256) events
 
 abbrev batch_of : PlanOf → List Event → List Bool
 batch_of plan events = map (λ (row : HostRow). row.in_batch) (led_to plan events).rows
 
-abbrev may : PlanOf → List Event → Event → Bool
+abbrev pub may : PlanOf → List Event → Event → Bool
 may plan events e = possible plan (led_to plan events) e
 
 -- ---- batches
@@ -101,7 +101,7 @@ unfolding on_facts
 is_ended = refl
 
 -- the second host fails in the first play, beside one that doesn't: the batches of the next play are of the hosts that are left
-abbrev is_second : tree.Tree
+abbrev pub is_second : tree.Tree
 is_second = tree.Binary Equal (tree.Name (codes "inventory_hostname")) (tree.Text (codes "b"))
 
 abbrev out_already : PlanOf

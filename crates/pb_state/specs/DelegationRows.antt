@@ -8,7 +8,6 @@ use Rattle.pb_places.specs.Place.{PlaceOf, place_of, bare_task}
 use Rattle.pb_plan.specs.Plan.{PlanOf, bare_inventory, bare_plan, bare_play, bare_tree}
 use Rattle.pb_play.specs.declared.modules.Module.TheVariants.{SetFact, Shell}
 use Rattle.pb_play.specs.declared.task.Task.{Task}
-use Rattle.pb_state.specs.declared.event.Event.{Event}
 use Rattle.pb_state.specs.declared.event.Event.TheVariants.{Open, Start}
 use Rattle.pb_state.specs.FactRows.{on_facts}
 use Rattle.pb_state.specs.Jobs.{job_of}

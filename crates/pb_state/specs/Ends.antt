@@ -6,7 +6,7 @@ use Rattle.pb_play.specs.declared.modules.Meta.{Meta}
 use Rattle.pb_play.specs.declared.modules.Meta.TheVariants.{Noop, EndHost}
 use Rattle.pb_tree.specs.Answer.{AnswerOf}
 use Rattle.pb_tree.specs.declared.answer.Kind.{Kind}
-use Rattle.pb_tree.specs.declared.answer.Kind.TheVariants.{Good, Bad, Gone, Ended}
+use Rattle.pb_tree.specs.declared.answer.Kind.TheVariants.{Good, Bad, Halted, Gone, Ended}
 use Rattle.pb_sight.specs.Ends.{has_run}
 use Rattle.pb_state.specs.declared.decided.TaskEnd.{TaskEnd}
 use Rattle.pb_state.specs.declared.row.Counts.{Counts}
@@ -34,6 +34,14 @@ kind_of task = if task.result.unreachable then Gone else kind_if (fails task.res
 -- a task that changed something notifies handlers, where it neither failed nor lost its host: a failure that is ignored is one
 abbrev pub does_notify : TaskResult → Bool
 does_notify result = result.changed && not result.failed && not result.unreachable
+
+-- a failure that isn't ignored breaks its host where no block round its place rescues it
+abbrev pub breaks : Bool → Kind → Bool
+breaks is_caught Bad = not is_caught
+breaks is_caught Good = false
+breaks is_caught Halted = false
+breaks is_caught Gone = false
+breaks is_caught Ended = false
 
 -- what the host answers, where the task notified these handlers
 abbrev pub answer_of : TaskEnd → List ℕ → AnswerOf

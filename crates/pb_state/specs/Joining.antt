@@ -1,5 +1,5 @@
 -- How the batch of a play opens for all hosts: each gets the walk that was made for it.
-use Rattle.std.specs.Prelude.{ℕ, ◌+◌, Bool, List, [], ◌∷◌, Option, Some, None, is_some, if◌then◌else◌}
+use Rattle.std.specs.Prelude.{ℕ, ◌+◌, Bool, false, List, [], ◌∷◌, Option, Some, None, is_some, if◌then◌else◌}
 use Rattle.pb_cursors.specs.Walks.{PlayWalkOf, walk_from}
 use Rattle.pb_tree.specs.Tree.{TreeOf}
 use Rattle.pb_state.specs.Machine.{change}
@@ -18,7 +18,7 @@ walks_from tree room (waits ∷ rest) = walk_if tree (joins room waits) ∷ walk
 
 -- a host that takes this walk
 abbrev pub with_walk : Option PlayWalkOf → HostRow → HostRow
-with_walk walk row = record row { tree = tree_in walk; answers = answers_in walk; in_batch = is_some walk; running = None; last = None }
+with_walk walk row = record row { tree = tree_in walk; answers = answers_in walk; in_batch = is_some walk; is_broken = false; running = None; last = None }
 
 -- hosts that take these walks, of which the first is that of the host at this number
 abbrev pub joined_from : ℕ → List (Option PlayWalkOf) → List HostRow → List HostRow

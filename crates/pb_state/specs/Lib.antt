@@ -5,8 +5,10 @@ pub mod Walking
 pub mod Kept
 pub mod Batches
 pub mod State
+pub mod Turn
 pub mod Strategies
 pub mod Machine
+pub mod Turned
 pub mod Joining
 pub mod Back
 pub mod Prepared
@@ -26,3 +28,4 @@ pub mod BlockRows
 pub mod HandlerRows
 pub mod BatchRows
 pub mod DelegationRows
+pub mod CouplingRows

@@ -31,6 +31,7 @@ use Rattle.pb_state.specs.Row.{HostRow, first_rows, is_active, is_called, next_p
 use Rattle.pb_state.specs.Handlers.{handler_at, notified_by, newly}
 use Rattle.pb_state.specs.State.{State}
 use Rattle.pb_state.specs.Strategies.{view_of}
+use Rattle.pb_state.specs.Turn.{BatchOf, turned_by}
 use Rattle.pb_strategies.specs.declared.strategy.Strategy.{Strategy}
 use Rattle.pb_strategies.specs.MayStart.{may_start, turn_ready, is_linear, ready as starting}
 
@@ -320,9 +321,19 @@ reported_seen plan s r play =
 abbrev pub reported_in : PlanOf → State → Report → PlayOf → State
 reported_in plan s r play = reported_seen (plan_seen plan s) s r play
 
--- the current place becomes the least next place of the batch
-abbrev pub turned_in : State → PlayOf → State
-turned_in s play = record s { place = least_place s.rows; decided = None }
+-- the third part of a turn: the current place becomes the least next place of the batch
+abbrev pub moved : State → BatchOf → State
+moved s batch = record s { rows = batch.rows; later = batch.later; place = least_place batch.rows; decided = None }
+
+abbrev pub batch_of : State → BatchOf
+batch_of s = record { rows = s.rows; later = s.later }
+
+-- a state with these rows and later batches
+abbrev pub with_batch : BatchOf → State → State
+with_batch batch s = record s { rows = batch.rows; later = batch.later }
+
+abbrev pub turned_in : InventoryOf → State → PlayOf → State
+turned_in inventory s play = moved s (turned_by inventory play (batch_of s) s.place)
 
 -- the number of the play to which a batch of this one leads: the play goes on where batches of it are left
 abbrev pub play_behind : Bool → ℕ → ℕ
@@ -350,7 +361,7 @@ after plan s Open = after_open plan s
 after plan s (Start h) = option_map_or (started_in plan s h.0) (open_play plan s) s
 after plan s (Send h item ticket) = option_map_or (sent_in s h.0 ticket) (open_play plan s) s
 after plan s (Reported r) = option_map_or (reported_in plan s r) (open_play plan s) s
-after plan s Turn = option_map_or (turned_in s) (open_play plan s) s
+after plan s Turn = option_map_or (turned_in plan.inventory s) (open_play plan s) s
 after plan s Close = closed s
 after plan s Stop = stopped s
 after plan s (Forks n) = with_forks s n

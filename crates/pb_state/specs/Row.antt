@@ -1,5 +1,5 @@
 -- What the state keeps of one host, and what a step does to it alone.
-use Rattle.std.specs.Prelude.{ℕ, zero, suc, ◌+◌, Bool, true, false, ◌&&◌, not, List, [], ◌∷◌, ◌++◌, Option, Some, None, option_map, slice_get, if◌then◌else◌}
+use Rattle.std.specs.Prelude.{ℕ, zero, suc, ◌+◌, Bool, true, false, ◌&&◌, ◌||◌, not, List, [], ◌∷◌, ◌++◌, Option, Some, None, option_map, slice_get, slice_index_or, if◌then◌else◌}
 use Rattle.std.specs.Option.{option_map_or}
 use Rattle.pb_ids.specs.declared.numbers.Ticket.{Ticket}
 use Rattle.pb_planes.specs.Set.{is_in as is_member}
@@ -22,10 +22,10 @@ use Rattle.pb_places.specs.Place.{PlaceOf}
 use Rattle.pb_play.specs.declared.modules.Meta.{Meta}
 use Rattle.pb_play.specs.declared.modules.Module.{Module}
 use Rattle.pb_play.specs.declared.modules.Module.TheVariants.{Meta as CalledMeta}
-use Rattle.pb_plan.specs.Plan.{PlayOf, PlanOf}
+use Rattle.pb_plan.specs.Plan.{PlayOf, PlanOf, run_once_of}
 use Rattle.pb_sight.specs.Learning.{taught_by}
 use Rattle.pb_sight.specs.Results.{settled_at, variable_at}
-use Rattle.pb_state.specs.Ends.{kind_of, answer_of, counted}
+use Rattle.pb_state.specs.Ends.{kind_of, answer_of, breaks, counted}
 use Rattle.pb_state.specs.Handlers.{notified_by}
 use Rattle.pb_state.specs.declared.decided.TaskEnd.{TaskEnd}
 use Rattle.pb_state.specs.declared.row.Counts.{Counts}
@@ -43,6 +43,8 @@ pub record HostRow : Type 0 where
   pub in_batch : Bool
   -- whether the host is one of those of the play that goes on whose batch hasn't closed
   pub waits : Bool
+  -- whether the host failed in the open batch where nothing caught or ignored that
+  pub is_broken : Bool
   -- the task that the host runs: some item of it is still to come back
   pub running : Option Running
   -- the task that the host finished last in the open batch
@@ -60,7 +62,7 @@ no_tree = record { nodes = Nothing; handlers = 0; force_handlers = false }
 
 abbrev pub first_row : ℕ → HostRow
 first_row host =
-    record { host = host; tree = no_tree; answers = []; status = Active; in_batch = false; waits = false; running = None; last = None; facts = no_facts; counts = none_counted }
+    record { host = host; tree = no_tree; answers = []; status = Active; in_batch = false; waits = false; is_broken = false; running = None; last = None; facts = no_facts; counts = none_counted }
 
 -- this many hosts, whose first has the number h
 abbrev pub first_rows : ℕ → ℕ → List HostRow
@@ -89,12 +91,13 @@ pending row = marks_of row.tree row.answers
 abbrev pub answered : AnswerOf → HostRow → HostRow
 answered answer row = record row { answers = row.answers ++ answer ∷ []; status = status_now row.tree (row.answers ++ answer ∷ []) }
 
--- the task at a place ends so, with these handlers notified, after which the host knows this
-abbrev pub finished : ℕ → TaskEnd → List ℕ → FactsOf → HostRow → HostRow
-finished place task notified facts row =
+-- a task ends so, with these handlers notified, after which the host knows this, and keeps this of it
+abbrev pub finished : Finish → TaskEnd → List ℕ → FactsOf → HostRow → HostRow
+finished finish task notified facts row =
     record (answered (answer_of task notified) row) {
+      is_broken = row.is_broken || breaks task.is_caught (kind_of task);
       running = None;
-      last = Some (record { place = place; kind = kind_of task });
+      last = Some finish;
       facts = facts;
       counts = counted task row.counts;
     }
@@ -118,6 +121,17 @@ meta_at play p = option_map_or (λ (place : PlaceOf). meta_in place.task.«modul
 abbrev pub task_at : PlayOf → ℕ → List Item → TaskEnd
 task_at play p items = record { result = task_of (ignores_at play p) items; is_caught = caught_at play p; meta = meta_at play p }
 
+-- What is kept of a task that ended: its place, what the host answered there, and where the first host of a batch runs it for all its items, off which
+-- what goes to the other hosts is read.
+abbrev pub runs_once_at : PlayOf → ℕ → Bool
+runs_once_at play p = slice_index_or (run_once_of play.places) p false
+
+abbrev pub kept_items : Bool → List Item → List Item
+kept_items once items = if once then items else []
+
+abbrev pub finish_at : PlayOf → ℕ → List Item → Finish
+finish_at play p items = record { place = p; kind = kind_of (task_at play p items); items = kept_items (runs_once_at play p) items }
+
 -- what a host knows once the task at a place has ended there with these items
 abbrev pub taught : InventoryOf → PlayOf → ℕ → ℕ → List Item → FactsOf → FactsOf
 taught inventory play p host items facts = taught_by inventory play p host (task_at play p items).result (result_of (variable_at play p) items) items facts
@@ -125,7 +139,7 @@ taught inventory play p host items facts = taught_by inventory play p host (task
 -- the task at a place ends with these items
 abbrev pub ended : InventoryOf → PlayOf → ℕ → List Item → HostRow → HostRow
 ended inventory play p items row =
-    finished p (task_at play p items) (notified_by play p (task_at play p items)) (taught inventory play p row.host items row.facts) row
+    finished (finish_at play p items) (task_at play p items) (notified_by play p (task_at play p items)) (taught inventory play p row.host items row.facts) row
 
 -- the task at a place has come to these items: it goes on, or ends
 abbrev pub progressed : InventoryOf → PlayOf → ℕ → List Item → HostRow → HostRow
@@ -168,8 +182,8 @@ is_waiting row = row.waits
 
 -- a host as a batch of a play opens that has this tree, in which it takes part or not
 abbrev pub joined : TreeOf → Bool → HostRow → HostRow
-joined tree inside row = record row { tree = if inside then tree else no_tree; answers = []; in_batch = inside; running = None; last = None }
+joined tree inside row = record row { tree = if inside then tree else no_tree; answers = []; in_batch = inside; is_broken = false; running = None; last = None }
 
 -- a host as the batch closes: it waits no more where it was in it
 abbrev pub left : HostRow → HostRow
-left row = record row { tree = no_tree; answers = []; in_batch = false; waits = row.waits && not row.in_batch; running = None; last = None }
+left row = record row { tree = no_tree; answers = []; in_batch = false; waits = row.waits && not row.in_batch; is_broken = false; running = None; last = None }

@@ -9,11 +9,13 @@ ghost use Rattle.pb_state.specs.Bounds.{IsAtMost};
 ghost use Rattle.pb_state.specs.Machine.{is_running, has_send, change, pending_in, done_if, report_decides, given_to, gifts_at, report_gives};
 ghost use Rattle.pb_state.specs.Strategies.{standing};
 ghost use Rattle.pb_state.specs.Due.{asked_at};
+ghost use Rattle.pb_state.specs.Turned.{halts_at, turned_rows};
 
 use crate::decided::{Decided, Done};
 use crate::items::TaskItems;
 use crate::row::Row;
-use crate::rows::{self, HostRows, sends_into, stand_all};
+use crate::rows::{self, HostRows, sends_into, stand_all, turn_all};
+use crate::turned::turn_of;
 use pb_cursors::LaidTree;
 use pb_ids::{HostNo, Ticket};
 use pb_inventory::inventory::Inventory;
@@ -249,4 +251,30 @@ pub fn leave_all(rows: &mut DueRows)
 {
     rows::leave_all(&mut rows.rows);
     ask_all(&rows.rows, &mut rows.sends, &mut rows.standings);
+}
+
+/// The batch goes on from a place: what one host did for all goes to the others, and hosts are halted; it says whether they are. An `Err` changes
+/// nothing.
+pub fn turn_rows(
+    alloc: Global,
+    rows: &mut DueRows,
+    inventory: &Inventory,
+    play: &PlanPlay,
+    place: usize,
+) -> Result<bool, AllocError>
+    ensures rows { OnOk result (rows.new ≡ turned_rows inventory.now play.now place rows.old) }
+    ensures halts { IfOk result (λ halts. halts ≡ halts_at inventory.now play.now place rows.old) }
+    ensures err { OnErr result (rows.new ≡ rows.old) }
+{
+    // (there are fewer rows than host numbers)
+    let _hosts = rows.rows.hosts();
+    match turn_of(alloc, inventory, play, place, rows.rows.as_slice())? {
+        Some(made) => {
+            let (all, halts) = made.parts();
+            turn_all(&mut rows.rows, all);
+            ask_all(&rows.rows, &mut rows.sends, &mut rows.standings);
+            Ok(halts)
+        }
+        None => Ok(false),
+    }
 }

@@ -2,7 +2,8 @@
 
 ghost use Rattle.std.specs.Prelude.{◌≡◌, ◌<◌, ◌-◌, ◌^◌};
 ghost use Rattle.pb_state.specs.Bounds.{IsAtMost};
-ghost use Rattle.pb_state.specs.Ends.{fails, does_notify, ends_play, kind_if, kind_of, more, is_okay, counted_result, is_counted, counted};
+ghost use Rattle.pb_state.specs.Turn.{is_fatal, is_settling};
+ghost use Rattle.pb_state.specs.Ends.{fails, does_notify, ends_play, kind_if, kind_of, breaks, more, is_okay, counted_result, is_counted, counted};
 
 use crate::decided::TaskEnd;
 use crate::row::Counts;
@@ -58,6 +59,37 @@ pub fn kind_of(task: TaskEnd) -> Kind
     }
     let ends = ends_play(task.meta) && has_run(task.result);
     kind_if(fails(task.result), ends)
+}
+
+/// Whether an answer breaks its host, at a place that is caught or not.
+pub(crate) fn breaks(is_caught: bool, kind: Kind) -> bool
+    ensures { result ≡ breaks is_caught kind }
+{
+    match kind {
+        Kind::Bad => !is_caught,
+        Kind::Good | Kind::Halted | Kind::Gone | Kind::Ended => false,
+    }
+}
+
+/// Whether an answer is over for all where a failure is fatal, at a place that is caught or not.
+pub(crate) fn is_fatal(is_caught: bool, kind: Kind) -> bool
+    ensures { result ≡ is_fatal is_caught kind }
+{
+    match kind {
+        Kind::Bad => !is_caught,
+        Kind::Gone => true,
+        Kind::Good | Kind::Halted | Kind::Ended => false,
+    }
+}
+
+/// Whether an answer settles a task that runs once.
+pub(crate) fn is_settling(kind: Kind) -> bool
+    ensures { result ≡ is_settling kind }
+{
+    match kind {
+        Kind::Good | Kind::Bad | Kind::Ended => true,
+        Kind::Halted | Kind::Gone => false,
+    }
 }
 
 fn more(counts: bool, n: u64) -> u64

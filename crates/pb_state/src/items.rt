@@ -1,6 +1,6 @@
 //! The items of a task that a host runs.
 
-ghost use Rattle.std.specs.Prelude.{◌≡◌, ◌≤◌, ◌||◌, length, slice_get, IfOk, OnOk, OnErr, Some, option_map};
+ghost use Rattle.std.specs.Prelude.{◌≡◌, ◌≤◌, ◌||◌, [], length, slice_get, IfOk, OnOk, OnErr, Some, option_map};
 ghost use Rattle.std.specs.Option.{option_copied};
 ghost use Rattle.pb_outcome.specs.Items.{next_item, is_over, back_in};
 ghost use Rattle.pb_outcome.specs.declared.item.Planned.TheVariants.{Decided};
@@ -170,6 +170,17 @@ impl TaskItems {
         let next = waiting_from(&items, 0);
         let lost = has_unreachable(&items);
         TaskItems { items, next, lost }
+    }
+
+    /// No items. It takes no memory.
+    pub fn none(alloc: Global) -> TaskItems
+        ensures { result ≡ [] }
+    {
+        TaskItems {
+            items: Vec::new(alloc),
+            next: None,
+            lost: false,
+        }
     }
 
     /// The items themselves.

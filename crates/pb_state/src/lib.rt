@@ -22,6 +22,7 @@ mod row;
 mod rows;
 mod state;
 mod told;
+mod turned;
 
 pub use decided::{Decided, Done, TaskEnd};
 pub use event::{Event, Trail};

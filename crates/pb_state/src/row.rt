@@ -10,10 +10,11 @@ ghost use Rattle.pb_sight.specs.Learning.{taught_by};
 ghost use Rattle.pb_state.specs.Joining.{walk_if};
 
 use crate::decided::{Decided, Done, TaskEnd};
-use crate::ends::{counted, kind_of};
+use crate::ends::{breaks, counted, kind_of};
 use crate::handlers::{marks_in, notified_by};
 use crate::items::{Before, TaskItems};
-use crate::told::{done_at, told_of};
+use crate::told::{done_at, runs_once_at, told_of};
+use crate::turned::Turned;
 use pb_cursors::{LaidTree, PlayWalk};
 use pb_facts::facts::Facts;
 use pb_ids::{HostNo, Ticket};
@@ -27,6 +28,7 @@ use pb_strategies::Standing;
 use pb_tree::{Answer, Kind, Reach, Status};
 use std::alloc::{AllocError, Global};
 use std::marker::Model;
+use std::mem;
 use std::rc::Rc;
 
 /// How a host's finished tasks count in the recap (Ansible's documentation, "Return Values").
@@ -48,13 +50,25 @@ pub struct Counts {
     pub ignored: u64,
 }
 
-/// A finished task: its place, by position, and what the host answered there.
-#[derive(Clone, Copy, Debug, PartialEq, Eq)]
+/// What is kept of a finished task: its place, by position, what the host answered there, and its items, if the first host of a batch runs it for all.
 pub struct Finish {
     /// The place's position in the play's tree.
     pub place: usize,
     /// What the host answered there.
     pub kind: Kind,
+    /// Off these is read what goes to the other hosts; there are none of a task that each host runs.
+    pub items: TaskItems,
+}
+
+impl Drop for Finish {
+    fn drop(self) {
+        let Finish {
+            place: _,
+            kind: _,
+            items,
+        } = self;
+        drop(items);
+    }
 }
 
 /// A task that a host runs: its items, and the ticket of the job of the next one if that is out.
@@ -76,13 +90,28 @@ impl Drop for Running {
     }
 }
 
+impl Running {
+    /// The items themselves.
+    fn into_items(self) -> TaskItems
+        ensures { result ≡ self.items }
+    {
+        let Running {
+            place: _,
+            items,
+            out: _,
+        } = self;
+        items
+    }
+}
+
 /// One host: its number, its walk through the open batch's play, where it takes part in that, whether it waits for its batch of the play that goes on
-/// or is in that, its status, what it runs and what it finished last, what it has learnt, and its counts.
+/// or is in that, its status, whether it is broken, what it runs and what it finished last, what it has learnt, and its counts.
 pub struct Row {
     host: HostNo,
     walk: Option<PlayWalk>,
     waits: bool,
     status: Status,
+    is_broken: bool,
     running: Option<Running>,
     last: Option<Finish>,
     facts: Facts,
@@ -96,13 +125,15 @@ impl Drop for Row {
             walk,
             waits: _,
             status: _,
+            is_broken: _,
             running,
-            last: _,
+            last,
             facts,
             counts: _,
         } = self;
         drop(walk);
         drop(running);
+        drop(last);
         drop(facts);
     }
 }
@@ -127,6 +158,7 @@ impl Model for Row {
       status = r.status;
       in_batch = is_some r.walk;
       waits = r.waits;
+      is_broken = r.is_broken;
       running = r.running;
       last = r.last;
       facts = r.facts;
@@ -159,9 +191,9 @@ pub fn is_active(status: Status) -> bool
     matches!(status, Status::Active)
 }
 
-ghost use Rattle.pb_state.specs.Row.{is_active, place_of};
+ghost use Rattle.pb_state.specs.Row.{is_active, kept_items, place_of};
 ghost use Rattle.pb_state.specs.Handlers.{notified_by};
-ghost use Rattle.pb_state.specs.Back.{back_running, undone_running};
+ghost use Rattle.pb_state.specs.Back.{back_running, items_run, undone_running};
 ghost use Rattle.pb_state.specs.Bounds.{IsAtMost};
 
 /// The walk takes one answer more. An `Err` changes nothing.
@@ -191,13 +223,37 @@ fn put_facts(slot: &mut Facts, known: Option<Facts>)
 }
 
 /// The place that is reached.
-fn place_of(reach: Reach) -> Option<usize>
+pub(crate) fn place_of(reach: Reach) -> Option<usize>
     ensures { result ≡ place_of reach }
 {
     match reach {
         Reach::At(place) => Some(place),
         Reach::Done(_) => None,
     }
+}
+
+/// Puts down what is kept of the task that a host finished last.
+fn put_last(slot: &mut Option<Finish>, last: Option<Finish>)
+    ensures { slot.new ≡ last }
+{
+    *slot = last;
+}
+
+/// The items of the task that a host runs.
+fn items_run(alloc: Global, running: Option<Running>) -> TaskItems
+    ensures { result ≡ items_run running }
+{
+    match running {
+        Some(running) => running.into_items(),
+        None => TaskItems::none(alloc),
+    }
+}
+
+/// What is kept of the items of a task that ended.
+fn kept_items(alloc: Global, once: bool, items: TaskItems) -> TaskItems
+    ensures { result ≡ kept_items once items }
+{
+    if once { items } else { TaskItems::none(alloc) }
 }
 
 /// Puts down what a host runs.
@@ -262,11 +318,12 @@ fn known_after(
 }
 
 impl Row {
-    ghost use Rattle.pb_state.specs.Row.{first_row, finished, progressed, sent, called, left, pending};
+    ghost use Rattle.pb_state.specs.Row.{first_row, answered, finished, progressed, sent, called, left, pending};
     ghost use Rattle.pb_state.specs.Joining.{with_walk};
     ghost use Rattle.pb_state.specs.Prepared.{knows};
     ghost use Rattle.pb_state.specs.Machine.{done_if};
-    ghost use Rattle.pb_state.specs.Back.{back_row, waiting, went_on, ended_now, decided_now, undone};
+    ghost use Rattle.pb_state.specs.Back.{back_row, finish_run, settled_row, with_running, waiting, went_on, ended_now, decided_now, undone};
+    ghost use Rattle.pb_state.specs.Turned.{IsOut, turned_if};
 
     /// A host before the run.
     pub fn new(alloc: Global, host: HostNo) -> Row
@@ -277,6 +334,7 @@ impl Row {
             walk: None,
             waits: false,
             status: Status::Active,
+            is_broken: false,
             running: None,
             last: None,
             facts: Facts::new(alloc),
@@ -292,7 +350,41 @@ impl Row {
         }
     }
 
-    /// The task at a place ends, after which the host knows this, where it is more than before. An `Err` changes nothing.
+    /// The host gets one answer more. An `Err` changes nothing.
+    fn answer(&mut self, answer: Answer) -> Result<(), AllocError>
+        requires { self.old.in_batch ≡ true }
+        ensures ok { OnOk result (self.new ≡ answered answer self.old) }
+        ensures err { OnErr result (self.new ≡ self.old) }
+    {
+        let Some(walk) = &mut self.walk else {
+            unreachable!();
+        };
+        self.status = go_on(walk, answer)?;
+        Ok(())
+    }
+
+    /// Puts down how the task at a place ended that the host runs, after which it knows this, where it is more than before.
+    fn settle(
+        &mut self,
+        alloc: Global,
+        once: bool,
+        place: usize,
+        task: TaskEnd,
+        known: Option<Facts>,
+    )
+        requires { IsAtMost self.old.counts (2 ^ 64 - 2) }
+        ensures { self.new ≡ settled_row once place task known self.old }
+    {
+        let kind = kind_of(task);
+        let ran = mem::replace(&mut self.running, None);
+        let items = kept_items(alloc, once, items_run(alloc, ran));
+        put_last(&mut self.last, Some(Finish { place, kind, items }));
+        self.is_broken = self.is_broken || breaks(task.is_caught, kind);
+        put_facts(&mut self.facts, known);
+        self.counts = counted(self.counts, task);
+    }
+
+    /// The task at a place that the host runs ends, after which it knows this, where it is more than before. An `Err` changes nothing.
     fn finish(
         &mut self,
         alloc: Global,
@@ -303,23 +395,17 @@ impl Row {
     ) -> Result<(), AllocError>
         requires batch { self.old.in_batch ≡ true }
         requires room { IsAtMost self.old.counts (2 ^ 64 - 2) }
-        ensures ok { OnOk result (self.new ≡ finished place task (notified_by play.now place task) (unwrap_or known self.old.facts) self.old) }
+        ensures ok { OnOk result (self.new ≡ finished (finish_run play.now place task self.old.running) task (notified_by play.now place task) (unwrap_or known self.old.facts) self.old) }
         ensures err { OnErr result (self.new ≡ self.old) }
     {
-        let kind = kind_of(task);
         let notified = Vec::from_slice(alloc, notified_by(play, place, task))?;
-        let Some(walk) = &mut self.walk else {
-            unreachable!();
-        };
-        self.status = go_on(walk, Answer::of(kind, notified))?;
-        run(&mut self.running, None);
-        self.last = Some(Finish { place, kind });
-        put_facts(&mut self.facts, known);
-        self.counts = counted(self.counts, task);
+        self.answer(Answer::of(kind_of(task), notified))?;
+        self.settle(alloc, runs_once_at(play, place), place, task, known);
         Ok(())
     }
 
     /// The task at a place starts with these items: it waits for their jobs, or ends at once. An `Err` changes nothing.
+    #[tactic(auto, using(crate::proofs::Begun::begun_as))]
     pub fn start(
         &mut self,
         alloc: Global,
@@ -334,30 +420,27 @@ impl Row {
         ensures done { IfOk result (λ done. done ≡ done_if play.now place (pending self.old) items) }
         ensures err { OnErr result (self.new ≡ self.old) }
     {
-        if !items.is_over() {
-            run(
-                &mut self.running,
-                Some(Running {
-                    place,
-                    items,
-                    out: None,
-                }),
-            );
-            return Ok(None);
-        }
-        let done = done_at(alloc, play, place, self.pending(), &items)?;
-        let known = known_after(
-            alloc,
-            inventory,
-            play,
+        let before = self.put_running(Some(Running {
             place,
-            self.host,
-            &done,
-            &items,
-            &self.facts,
-        )?;
-        self.finish(alloc, play, place, done.task, known)?;
-        Ok(Some(done))
+            items,
+            out: None,
+        }));
+        match self.end_if_over(alloc, inventory, play) {
+            Ok(done) => Ok(done),
+            Err(error) => {
+                self.put_running(before);
+                Err(error)
+            }
+        }
+    }
+
+    /// Puts down what the host runs, and hands back what it ran.
+    fn put_running(&mut self, running: Option<Running>) -> Option<Running>
+        requires { self.old.in_batch ≡ true }
+        ensures row { self.new ≡ with_running running self.old }
+        ensures before { result ≡ self.old.running }
+    {
+        mem::replace(&mut self.running, running)
     }
 
     /// A job goes out.
@@ -493,13 +576,43 @@ impl Row {
         self.facts = facts;
     }
 
+    /// What a turn finds of the host, if it takes part in the batch.
+    pub(crate) fn before_turn(&self, alloc: Global) -> Result<Option<Turned>, AllocError>
+        ensures same { IfOk result (λ turned. turned_if turned self.now ≡ self.now) }
+        ensures out { IfOk result (λ turned. IsOut turned self.now) }
+    {
+        match &self.walk {
+            Some(walk) => Ok(Some(Turned {
+                walk: walk.try_clone(alloc)?,
+                status: self.status,
+                is_broken: self.is_broken,
+                facts: None,
+            })),
+            None => Ok(None),
+        }
+    }
+
+    /// What is new of the host as its batch goes on, if anything is.
+    pub(crate) fn turn(&mut self, turned: Option<Turned>)
+        ensures { self.new ≡ turned_if turned self.old }
+    {
+        if let Some(turned) = turned {
+            let (walk, status, is_broken, facts) = turned.parts();
+            put_walk(&mut self.walk, Some(walk));
+            self.status = status;
+            self.is_broken = is_broken;
+            put_facts(&mut self.facts, facts);
+        }
+    }
+
     /// The batch opens, in which the host takes this walk, if it takes part. What it has learnt stays where it is.
     pub fn join(&mut self, walk: Option<PlayWalk>)
         ensures { self.new ≡ with_walk walk self.old }
     {
         put_walk(&mut self.walk, walk);
         run(&mut self.running, None);
-        self.last = None;
+        put_last(&mut self.last, None);
+        self.is_broken = false;
     }
 
     /// The batch closes.
@@ -509,7 +622,8 @@ impl Row {
         self.waits = self.waits && !self.in_batch();
         put_walk(&mut self.walk, None);
         run(&mut self.running, None);
-        self.last = None;
+        put_last(&mut self.last, None);
+        self.is_broken = false;
     }
 }
 
@@ -517,6 +631,7 @@ impl Row {
     ghost use Rattle.pb_state.specs.Row.{is_called, next_place, pending};
     ghost use Rattle.pb_state.specs.declared.row.Running.{Running as RunningOf};
     ghost use Rattle.pb_state.specs.Strategies.{has_begun, standing};
+    ghost use Rattle.pb_state.specs.Turn.{is_at};
     ghost use Rattle.pb_state.specs.Machine.{is_in, is_running, has_send, is_out, has_ticket, is_ticket, is_next, may_send_item, awaits, item_of};
 
     /// Whether the host still takes part in the playbook.
@@ -626,6 +741,30 @@ impl Row {
             Some(walk) => place_of(walk.reach()),
             None => None,
         }
+    }
+
+    /// Whether the host's next place is this one. It walks no tree.
+    pub fn is_at(&self, place: usize) -> bool
+        ensures { result ≡ is_at place self.now }
+    {
+        match self.next_place() {
+            Some(next) => next == place,
+            None => false,
+        }
+    }
+
+    /// The task that the host finished last in the open batch, if it finished one.
+    pub fn last(&self) -> Option<&Finish>
+        ensures { option_copied result ≡ self.now.last }
+    {
+        self.last.as_ref()
+    }
+
+    /// Whether the host failed in the open batch where nothing caught or ignored that.
+    pub fn is_broken(&self) -> bool
+        ensures { result ≡ self.now.is_broken }
+    {
+        self.is_broken
     }
 
     /// Of each handler of the play whether it is pending: notified, and not run since. It walks no tree.

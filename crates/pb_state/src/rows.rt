@@ -12,11 +12,13 @@ ghost use Rattle.pb_state.specs.Strategies.{standing};
 ghost use Rattle.pb_state.specs.Machine.{is_in, is_running, has_send, is_out, has_ticket, least_place, lesser, change, one_if, running_count, pending_in, done_if, item_of, report_decides, given_to, gifts_at, report_gives, has_hosts, first_play};
 ghost use Rattle.pb_state.specs.Back.{back_row, undone, went_on, decided_now, gives_now};
 ghost use Rattle.pb_state.specs.Prepared.{knows, with_facts};
+ghost use Rattle.pb_state.specs.Turned.{each_from, turned_if, with_each};
 
 use crate::decided::{Decided, Done};
 use crate::gifts::{NewFacts, gifts_at, gives_now, with_gifts};
 use crate::items::{Before, TaskItems};
 use crate::row::{Counts, Row, walk_if};
+use crate::turned::Turned;
 use pb_cursors::{LaidTree, PlayWalk};
 use pb_ids::{HostNo, Ticket};
 use pb_inventory::inventory::Inventory;
@@ -578,6 +580,35 @@ fn leave_each(rows: &mut [Row])
     for row in rows.iter_mut() {
         row.leave();
     }
+}
+
+/// What is new of one host as its batch goes on.
+fn turn_row(rows: &mut Vec<Row>, at: usize, turned: Option<Turned>)
+    ensures { rows.new.items ≡ change rows.old.items at (turned_if turned) }
+{
+    if let Some(row) = rows.get_mut(at) {
+        row.turn(turned);
+    }
+}
+
+/// What is new of each host.
+fn turn_each(rows: &mut Vec<Row>, all: Vec<Option<Turned>>)
+    requires { length all.items < 2 ^ 32 }
+    ensures { rows.new.items ≡ each_from 0 all.items rows.old.items }
+{
+    let mut at: usize = 0;
+    for turned in all {
+        turn_row(rows, at, turned);
+        at += 1;
+    }
+}
+
+/// The batch goes on, with what is new of each host.
+pub(crate) fn turn_all(rows: &mut HostRows, all: Vec<Option<Turned>>)
+    requires { length all.items ≡ length rows.old }
+    ensures { rows.new ≡ with_each all.items rows.old }
+{
+    turn_each(&mut rows.rows, all);
 }
 
 /// The least place at which a host of the batch is.

@@ -18,6 +18,7 @@ ghost use Rattle.pb_state.specs.State.{State};
 use crate::decided::{Decided, decide};
 use crate::due::{
     DueRows, begin_first, join_first, leave_all, report_row, send_row, stand_at, start_row,
+    turn_rows,
 };
 use crate::event::Event;
 use crate::hosts::hosts_for;
@@ -30,6 +31,7 @@ use crate::rows::{
     some_out, some_ticket,
 };
 use crate::told::numbered;
+use crate::turned::is_settled;
 use pb_batches::batches;
 use pb_facts::facts::Facts;
 use pb_ids::{HostNo, PlayNo, Ticket};
@@ -163,9 +165,9 @@ impl EngineState {
             forks: self.forks,
             is_stopped: self.stopped,
             place: self.place,
-            is_settled: false,
+            is_settled: is_settled(play, self.rows.as_slice(), self.place),
             throttles: play.throttles(),
-            run_once: &[],
+            run_once: play.run_once(),
             hosts: self.rows.standings(),
         }
     }
@@ -304,7 +306,8 @@ impl EngineState {
 }
 
 impl EngineState {
-    ghost use Rattle.pb_state.specs.Machine.{after, opened_by, goes_on, next_play, begins, begins_at, with_place, next_at, started_in, start_at, start_with, sent_in, reported_in, reported_seen, turned_in, closed, stopped, with_forks, first_state, ready, change, possible, may_open, may_start_in, may_send_in, may_report_in, open_play};
+    ghost use Rattle.pb_state.specs.Machine.{after, opened_by, goes_on, next_play, begins, begins_at, with_place, next_at, started_in, start_at, start_with, sent_in, reported_in, reported_seen, turned_in, moved, batch_of, with_batch, closed, stopped, with_forks, first_state, ready, change, possible, may_open, may_start_in, may_send_in, may_report_in, may_turn_in, is_running, open_play};
+    ghost use Rattle.pb_state.specs.Turn.{turned};
     ghost use Rattle.pb_state.specs.Run.{is_command};
     ghost use Rattle.pb_state.specs.Work.{work};
 
@@ -345,10 +348,7 @@ impl EngineState {
                 Ok(())
             }
             Event::Report(report) => self.report(plan, report),
-            Event::Turn => {
-                self.turn(plan);
-                Ok(())
-            }
+            Event::Turn => self.turn(plan),
             Event::Close => {
                 self.close();
                 Ok(())
@@ -501,15 +501,58 @@ impl EngineState {
         self.place = place;
     }
 
-    fn turn(&mut self, plan: &Plan)
-        ensures { self.new ≡ after plan.now self.old Event.Turn }
+    fn turn(&mut self, plan: &Plan) -> Result<(), AllocError>
+        requires { option_map_or (may_turn_in self.old) (open_play plan.now self.old) false ≡ true }
+        ensures ok { OnOk result (self.new ≡ after plan.now self.old Event.Turn) }
+        ensures err { OnErr result (self.new ≡ self.old) }
     {
-        if let Some(_) = self.open_play(plan) {
-            let place = least_place(self.rows.as_slice());
-            stand_at(&mut self.rows, place);
-            self.place = place;
-            decide(&mut self.decided, None);
+        match self.open_play(plan) {
+            Some(play) => self.turn_in(plan.inventory(), play),
+            None => Ok(()),
         }
+    }
+
+    /// The batch goes on from its current place: first its hosts, and then the place.
+    fn turn_in(&mut self, inventory: &Inventory, play: &PlanPlay) -> Result<(), AllocError>
+        requires open { self.old.is_open ≡ true }
+        requires may { may_turn_in self.old play.now ≡ true }
+        ensures ok { OnOk result (self.new ≡ turned_in inventory.now self.old play.now) }
+        ensures err { OnErr result (self.new ≡ self.old) }
+    {
+        if let Some(place) = self.place {
+            self.turn_hosts(inventory, play, place)?;
+        }
+        self.move_on();
+        Ok(())
+    }
+
+    /// What one host did for all goes to the others, and hosts are halted; where they are, no further batch of the play comes.
+    fn turn_hosts(
+        &mut self,
+        inventory: &Inventory,
+        play: &PlanPlay,
+        place: usize,
+    ) -> Result<(), AllocError>
+        requires open { self.old.is_open ≡ true }
+        requires idle { list_any is_running self.old.rows ≡ false }
+        ensures ok { OnOk result (self.new ≡ with_batch (turned inventory.now play.now place (batch_of self.old)) self.old) }
+        ensures err { OnErr result (self.new ≡ self.old) }
+    {
+        let halts = turn_rows(self.alloc, &mut self.rows, inventory, play, place)?;
+        if halts {
+            drop_later(&mut self.later, Later::none(self.alloc));
+        }
+        Ok(())
+    }
+
+    /// The current place becomes the least next place of the batch.
+    fn move_on(&mut self)
+        ensures { self.new ≡ moved self.old (batch_of self.old) }
+    {
+        let place = least_place(self.rows.as_slice());
+        stand_at(&mut self.rows, place);
+        self.place = place;
+        decide(&mut self.decided, None);
     }
 
     fn close(&mut self)
@@ -934,6 +977,13 @@ fn first_by(strategy: Strategy, rows: &[Row]) -> Option<usize>
         Strategy::Linear => least_place(rows),
         Strategy::Free | Strategy::HostPinned => None,
     }
+}
+
+/// The sizes of the batches that are left become these.
+fn drop_later(slot: &mut Later, later: Later)
+    ensures { slot.new ≡ later }
+{
+    *slot = later;
 }
 
 /// The number of the play to which a batch of this one leads.

@@ -5,7 +5,7 @@ ghost use Rattle.std.specs.Option.{option_copied};
 ghost use Rattle.pb_outcome.specs.Items.{numbered, numbered_at, numbered_then};
 ghost use Rattle.pb_sight.specs.Results.{variable_at};
 ghost use Rattle.pb_state.specs.Machine.{told_in, done_at};
-ghost use Rattle.pb_state.specs.Row.{ignores_at, caught_at, meta_in, meta_at, task_at};
+ghost use Rattle.pb_state.specs.Row.{ignores_at, caught_at, meta_in, meta_at, runs_once_at, task_at};
 
 use crate::decided::{Done, TaskEnd};
 use crate::handlers::newly_at;
@@ -118,7 +118,7 @@ fn ignores_at(play: &PlanPlay, place: usize) -> bool
 }
 
 /// The name of the loop variable of the task at a place, where it has a loop.
-fn variable_at(play: &PlanPlay, place: usize) -> &str
+pub(crate) fn variable_at(play: &PlanPlay, place: usize) -> &str
     ensures { result.now ≡ variable_at play.now place }
 {
     match play.place(place) {
@@ -131,11 +131,21 @@ fn variable_at(play: &PlanPlay, place: usize) -> &str
 }
 
 /// Whether a failure of the task at a place is caught.
-fn caught_at(play: &PlanPlay, place: usize) -> bool
+pub(crate) fn caught_at(play: &PlanPlay, place: usize) -> bool
     ensures { result ≡ caught_at play.now place }
 {
     match play.place(place) {
         Some(place) => place.is_caught(),
+        None => false,
+    }
+}
+
+/// Whether the first host of a batch runs the task at a place for all.
+pub(crate) fn runs_once_at(play: &PlanPlay, place: usize) -> bool
+    ensures { result ≡ runs_once_at play.now place }
+{
+    match play.run_once().get(place) {
+        Some(once) => *once,
         None => false,
     }
 }

@@ -1,4 +1,4 @@
-use Rattle.std.proofs.Common.{◌≡◌, ◌∙◌, map, ap}
+use Rattle.std.proofs.Common.{◌∙◌, map, ap}
 use Rattle.pb_state.specs.Batches.{joined_first}
 use Rattle.pb_state.specs.Joining.{walks_from}
 use Rattle.pb_state.specs.Row.{is_waiting}
