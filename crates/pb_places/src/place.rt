@@ -188,7 +188,7 @@ impl Place {
         }
     }
 
-    /// Whether the facts of a delegated task are those of the host that ran it.
+    /// Whether the facts of a delegated task are those of the host that it is delegated to.
     pub fn delegate_facts(&self) -> bool
         ensures { result ≡ self.now.delegate_facts }
     {

@@ -1,12 +1,11 @@
 -- Readers of objects, once their first parts are read: what stops a part stops the reader, and what is read is handed on.
-use Rattle.std.proofs.Common.{◌≡◌, ℕ, Bool, true, false, List, [], Result, Ok, Err, refl, ap, sym, subst, ◌∙◌}
+use Rattle.std.proofs.Common.{◌≡◌, ℕ, Bool, true, List, [], Result, Ok, Err, refl, ap, sym, subst, ◌∙◌}
 use Rattle.std.specs.Prelude.{Option, codes, unwrap_or}
 use Rattle.std.specs.Result.{IsErrAnd}
 use Rattle.pb_value.specs.Datum.{Datum}
 use Rattle.pb_value.specs.Reading.{and_then, map_ok}
-use Rattle.pb_expr_syntax.specs.Tree.{Tree}
 use Rattle.pb_reading.specs.Ahead.{Takes}
-use Rattle.pb_reading.specs.Fields.{Ahead, Read, field, field_or, others, rule, value_of}
+use Rattle.pb_reading.specs.Fields.{Ahead, Read, field_or, others, rule, value_of}
 use Rattle.pb_reading.specs.Reading.{Reading, Stops, Gives, each_of, required}
 use Rattle.pb_reading.specs.Simple.{text}
 use Rattle.pb_reading.specs.declared.stop.Stop.{Stop}
@@ -15,12 +14,11 @@ use Rattle.pb_written.specs.Simple.{switched}
 use Rattle.pb_written.specs.Texts.{texts}
 use Rattle.pb_play.specs.Arguments.{argument}
 use Rattle.pb_play.specs.Assert.{said}
-use Rattle.pb_written.specs.Conditions.{conditions}
 use Rattle.pb_play.specs.Handlers.{handler, rest_of_handler}
 use Rattle.pb_play.specs.NoEffect.{has_no_effect, key, key_or}
-use Rattle.pb_play.specs.Plays.{before_hosts, lists, play_of, rest_of_play}
+use Rattle.pb_play.specs.Plays.{on_failure, before_hosts, tolerance, lists, play_of, rest_of_play}
 use Rattle.pb_written.specs.Values.{template_value}
-use Rattle.pb_play.specs.Tasks.{tells_of_task, told, looping, rest_of_task}
+use Rattle.pb_play.specs.Tasks.{tells_of_task, looping, rest_of_task}
 use Rattle.pb_play.specs.Variables.{variables}
 use Rattle.pb_play.specs.declared.assert.Said.{Said}
 use Rattle.pb_written.specs.declared.fault.LoadFault.{LoadFault}
@@ -31,6 +29,8 @@ use Rattle.pb_play.specs.declared.other_keys.NoArguments.{NoArguments}
 use Rattle.pb_play.specs.declared.other_keys.WithoutEffect.{WithoutEffect}
 use Rattle.pb_play.specs.declared.play.BeforeHosts.{BeforeHosts}
 use Rattle.pb_play.specs.declared.play.Lists.{Lists}
+use Rattle.pb_play.specs.declared.play.OnFailure.{OnFailure}
+use Rattle.pb_play.specs.declared.play.Tolerance.{Tolerance}
 use Rattle.pb_play.specs.declared.play.Play.{Play}
 use Rattle.pb_play.specs.declared.task.Modules.{Modules}
 use Rattle.pb_play.specs.declared.task.Task.{Task}
@@ -82,140 +82,105 @@ pub said_is : (a b d g : Ahead NoArguments) (fail_msg msg success_msg : Option D
     → said a ≡ Ok (record { value = record { fail_msg = fail_msg; msg = msg; success_msg = success_msg }; ahead = g })
 said_is a b d g fail_msg msg success_msg e f h = behind_msg a b d fail_msg msg e f ∙ ap (λ r. and_then r (with_messages fail_msg msg)) h
 
--- what a task says of the result of its module, behind `changed_when`
-abbrev with_all : Option (List Tree) → Option (List Tree) → Read (Option Bool) Modules → Reading (Read Told Modules) LoadFault
-with_all changed failed x = rule (Ok (record { changed_when = changed; failed_when = failed; ignore_errors = x.value })) x.ahead
+-- what a play says in front of its hosts, behind what comes of a failure
+abbrev with_handlers : OnFailure → Bool → Read (List Handler) WithoutEffect → Reading (Read BeforeHosts WithoutEffect) LoadFault
+with_handlers failure gathers x = rule (Ok (record { on_failure = failure; gathers = gathers; handlers = x.value })) x.ahead
 
-abbrev with_failed : Option (List Tree) → Read (Option (List Tree)) Modules → Reading (Read Told Modules) LoadFault
-with_failed changed x = and_then (field tells_of_task (codes "ignore_errors") switched x.ahead) (with_all changed x.value)
+abbrev with_gathers : OnFailure → Read Bool WithoutEffect → Reading (Read BeforeHosts WithoutEffect) LoadFault
+with_gathers failure x = and_then (key_or (codes "handlers") (each_of handler) [] x.ahead) (with_handlers failure x.value)
 
-behind_changed : (a b : Ahead Modules) (changed : Option (List Tree)) → field tells_of_task (codes "changed_when") conditions a ≡ Ok (record { value = changed; ahead = b })
-    → told a ≡ and_then (field tells_of_task (codes "failed_when") conditions b) (with_failed changed)
-behind_changed a b changed e = ap (λ r. and_then r (λ x. and_then (field tells_of_task (codes "failed_when") conditions x.ahead) (with_failed x.value))) e
+behind_failure : (a b : Ahead WithoutEffect) (failure : OnFailure) → on_failure a ≡ Ok (record { value = failure; ahead = b })
+    → before_hosts a ≡ and_then (key_or (codes "gather_facts") switched true b) (with_gathers failure)
+behind_failure a b failure e = ap (λ r. and_then r (λ x. and_then (key_or (codes "gather_facts") switched true x.ahead) (with_gathers x.value))) e
 
-behind_failed : (a b d : Ahead Modules) (changed failed : Option (List Tree)) → field tells_of_task (codes "changed_when") conditions a ≡ Ok (record { value = changed; ahead = b })
-    → field tells_of_task (codes "failed_when") conditions b ≡ Ok (record { value = failed; ahead = d })
-    → told a ≡ and_then (field tells_of_task (codes "ignore_errors") switched d) (with_all changed failed)
-behind_failed a b d changed failed e f = behind_changed a b changed e ∙ ap (λ r. and_then r (with_failed changed)) f
-
-pub failed_stops : (a b : Ahead Modules) (changed : Option (List Tree)) (s : Stop LoadFault) → field tells_of_task (codes "changed_when") conditions a ≡ Ok (record { value = changed; ahead = b })
-    → Stops s (field tells_of_task (codes "failed_when") conditions b) → Stops s (told a)
-failed_stops a b changed s e stops =
-    subst (Stops s) (sym (behind_changed a b changed e)) (stops_then s (field tells_of_task (codes "failed_when") conditions b) (with_failed changed) stops)
-
-pub ignored_stops : (a b d : Ahead Modules) (changed failed : Option (List Tree)) (s : Stop LoadFault) → field tells_of_task (codes "changed_when") conditions a ≡ Ok (record { value = changed; ahead = b })
-    → field tells_of_task (codes "failed_when") conditions b ≡ Ok (record { value = failed; ahead = d })
-    → Stops s (field tells_of_task (codes "ignore_errors") switched d) → Stops s (told a)
-ignored_stops a b d changed failed s e f stops =
-    subst (Stops s) (sym (behind_failed a b d changed failed e f))
-    (stops_then s (field tells_of_task (codes "ignore_errors") switched d) (with_all changed failed) stops)
-
-pub told_is : (a b d g : Ahead Modules) (changed failed : Option (List Tree)) (ignored : Option Bool)
-    → field tells_of_task (codes "changed_when") conditions a ≡ Ok (record { value = changed; ahead = b })
-    → field tells_of_task (codes "failed_when") conditions b ≡ Ok (record { value = failed; ahead = d })
-    → field tells_of_task (codes "ignore_errors") switched d ≡ Ok (record { value = ignored; ahead = g })
-    → told a ≡ Ok (record { value = record { changed_when = changed; failed_when = failed; ignore_errors = ignored }; ahead = g })
-told_is a b d g changed failed ignored e f h = behind_failed a b d changed failed e f ∙ ap (λ r. and_then r (with_all changed failed)) h
-
--- what a play says in front of its hosts, behind `force_handlers`
-abbrev with_handlers : Bool → Bool → Read (List Handler) WithoutEffect → Reading (Read BeforeHosts WithoutEffect) LoadFault
-with_handlers forced gathers x = rule (Ok (record { force_handlers = forced; gathers = gathers; handlers = x.value })) x.ahead
-
-abbrev with_gathers : Bool → Read Bool WithoutEffect → Reading (Read BeforeHosts WithoutEffect) LoadFault
-with_gathers forced x = and_then (key_or (codes "handlers") (each_of handler) [] x.ahead) (with_handlers forced x.value)
-
-behind_forced : (a b : Ahead WithoutEffect) (forced : Bool) → key_or (codes "force_handlers") switched false a ≡ Ok (record { value = forced; ahead = b })
-    → before_hosts a ≡ and_then (key_or (codes "gather_facts") switched true b) (with_gathers forced)
-behind_forced a b forced e = ap (λ r. and_then r (λ x. and_then (key_or (codes "gather_facts") switched true x.ahead) (with_gathers x.value))) e
-
-behind_gathers : (a b d : Ahead WithoutEffect) (forced gathers : Bool) → key_or (codes "force_handlers") switched false a ≡ Ok (record { value = forced; ahead = b })
+behind_gathers : (a b d : Ahead WithoutEffect) (failure : OnFailure) (gathers : Bool) → on_failure a ≡ Ok (record { value = failure; ahead = b })
     → key_or (codes "gather_facts") switched true b ≡ Ok (record { value = gathers; ahead = d })
-    → before_hosts a ≡ and_then (key_or (codes "handlers") (each_of handler) [] d) (with_handlers forced gathers)
-behind_gathers a b d forced gathers e f = behind_forced a b forced e ∙ ap (λ r. and_then r (with_gathers forced)) f
+    → before_hosts a ≡ and_then (key_or (codes "handlers") (each_of handler) [] d) (with_handlers failure gathers)
+behind_gathers a b d failure gathers e f = behind_failure a b failure e ∙ ap (λ r. and_then r (with_gathers failure)) f
 
-pub gathers_stop : (a b : Ahead WithoutEffect) (forced : Bool) (s : Stop LoadFault) → key_or (codes "force_handlers") switched false a ≡ Ok (record { value = forced; ahead = b })
+pub gathers_stop : (a b : Ahead WithoutEffect) (failure : OnFailure) (s : Stop LoadFault) → on_failure a ≡ Ok (record { value = failure; ahead = b })
     → Stops s (key_or (codes "gather_facts") switched true b) → Stops s (before_hosts a)
-gathers_stop a b forced s e stops =
-    subst (Stops s) (sym (behind_forced a b forced e)) (stops_then s (key_or (codes "gather_facts") switched true b) (with_gathers forced) stops)
+gathers_stop a b failure s e stops =
+    subst (Stops s) (sym (behind_failure a b failure e)) (stops_then s (key_or (codes "gather_facts") switched true b) (with_gathers failure) stops)
 
-pub handlers_stop : (a b d : Ahead WithoutEffect) (forced gathers : Bool) (s : Stop LoadFault) → key_or (codes "force_handlers") switched false a ≡ Ok (record { value = forced; ahead = b })
+pub handlers_stop : (a b d : Ahead WithoutEffect) (failure : OnFailure) (gathers : Bool) (s : Stop LoadFault) → on_failure a ≡ Ok (record { value = failure; ahead = b })
     → key_or (codes "gather_facts") switched true b ≡ Ok (record { value = gathers; ahead = d })
     → Stops s (key_or (codes "handlers") (each_of handler) [] d) → Stops s (before_hosts a)
-handlers_stop a b d forced gathers s e f stops =
-    subst (Stops s) (sym (behind_gathers a b d forced gathers e f))
-    (stops_then s (key_or (codes "handlers") (each_of handler) [] d) (with_handlers forced gathers) stops)
+handlers_stop a b d failure gathers s e f stops =
+    subst (Stops s) (sym (behind_gathers a b d failure gathers e f))
+    (stops_then s (key_or (codes "handlers") (each_of handler) [] d) (with_handlers failure gathers) stops)
 
-pub before_is : (a b d g : Ahead WithoutEffect) (forced gathers : Bool) (handlers : List Handler)
-    → key_or (codes "force_handlers") switched false a ≡ Ok (record { value = forced; ahead = b })
+pub before_is : (a b d g : Ahead WithoutEffect) (failure : OnFailure) (gathers : Bool) (handlers : List Handler)
+    → on_failure a ≡ Ok (record { value = failure; ahead = b })
     → key_or (codes "gather_facts") switched true b ≡ Ok (record { value = gathers; ahead = d })
     → key_or (codes "handlers") (each_of handler) [] d ≡ Ok (record { value = handlers; ahead = g })
-    → before_hosts a ≡ Ok (record { value = record { force_handlers = forced; gathers = gathers; handlers = handlers }; ahead = g })
-before_is a b d g forced gathers handlers e f h = behind_gathers a b d forced gathers e f ∙ ap (λ r. and_then r (with_handlers forced gathers)) h
+    → before_hosts a ≡ Ok (record { value = record { on_failure = failure; gathers = gathers; handlers = handlers }; ahead = g })
+before_is a b d g failure gathers handlers e f h = behind_gathers a b d failure gathers e f ∙ ap (λ r. and_then r (with_handlers failure gathers)) h
 
 -- a play behind its lists of tasks: its variables, then its other keys, then the rules over what was read
-abbrev with_hosts : BeforeHosts → Bool → Option (List ℕ) → Lists → List (List ℕ × Datum) → Read PlayHosts WithoutEffect → Reading (Read Play WithoutEffect) LoadFault
-with_hosts before ig name ls vars x = rule (Ok (play_of before (unwrap_or name x.value.text) x.value.pattern vars ig ls)) x.ahead
+abbrev with_hosts : BeforeHosts → Tolerance → Option (List ℕ) → Lists → List (List ℕ × Datum) → Read PlayHosts WithoutEffect → Reading (Read Play WithoutEffect) LoadFault
+with_hosts before borne name ls vars x = rule (Ok (play_of before (unwrap_or name x.value.text) x.value.pattern vars borne ls)) x.ahead
 
-abbrev with_others : List ℕ → BeforeHosts → Option PlayHosts → Bool → Option (List ℕ) → Lists → List (List ℕ × Datum) → Read WithoutEffect WithoutEffect → Reading (Read Play WithoutEffect) LoadFault
-with_others path before hosts ig name ls vars x = and_then (rule (required path hosts) x.ahead) (with_hosts before ig name ls vars)
+abbrev with_others : List ℕ → BeforeHosts → Option PlayHosts → Tolerance → Option (List ℕ) → Lists → List (List ℕ × Datum) → Read WithoutEffect WithoutEffect → Reading (Read Play WithoutEffect) LoadFault
+with_others path before hosts borne name ls vars x = and_then (rule (required path hosts) x.ahead) (with_hosts before borne name ls vars)
 
-abbrev with_variables : List ℕ → BeforeHosts → Option PlayHosts → Bool → Option (List ℕ) → Lists → Read (List (List ℕ × Datum)) WithoutEffect → Reading (Read Play WithoutEffect) LoadFault
-with_variables path before hosts ig name ls x = and_then (others has_no_effect x.ahead) (with_others path before hosts ig name ls x.value)
+abbrev with_variables : List ℕ → BeforeHosts → Option PlayHosts → Tolerance → Option (List ℕ) → Lists → Read (List (List ℕ × Datum)) WithoutEffect → Reading (Read Play WithoutEffect) LoadFault
+with_variables path before hosts borne name ls x = and_then (others has_no_effect x.ahead) (with_others path before hosts borne name ls x.value)
 
 -- what is read up to them
-pub record AreRead (a : Ahead WithoutEffect) (is_ignored : Bool) (name : Option (List ℕ)) (ls : Lists) (after : Ahead WithoutEffect) : Type 0 where
+pub record AreRead (a : Ahead WithoutEffect) (borne : Tolerance) (name : Option (List ℕ)) (ls : Lists) (after : Ahead WithoutEffect) : Type 0 where
   pub second : Ahead WithoutEffect
   pub third : Ahead WithoutEffect
-  pub ignored : key_or (codes "ignore_errors") switched false a ≡ Ok (record { value = is_ignored; ahead = second })
+  pub tolerated : tolerance a ≡ Ok (record { value = borne; ahead = second })
   pub named : key (codes "name") text second ≡ Ok (record { value = name; ahead = third })
   pub listed : lists third ≡ Ok (record { value = ls; ahead = after })
 
-behind_lists : (path : List ℕ) (before : BeforeHosts) (hosts : Option PlayHosts) (a b : Ahead WithoutEffect) (ig : Bool) (name : Option (List ℕ)) (ls : Lists) → AreRead a ig name ls b
-    → rest_of_play path before hosts a ≡ and_then (key_or (codes "vars") variables [] b) (with_variables path before hosts ig name ls)
-behind_lists path before hosts a b ig name ls e =
-    ap (λ r. and_then r (λ x. and_then (key (codes "name") text x.ahead) (λ y. and_then (lists y.ahead) (λ z. and_then (key_or (codes "vars") variables [] z.ahead) (with_variables path before hosts x.value y.value z.value))))) e.ignored
-    ∙ ap (λ r. and_then r (λ y. and_then (lists y.ahead) (λ z. and_then (key_or (codes "vars") variables [] z.ahead) (with_variables path before hosts ig y.value z.value)))) e.named
-    ∙ ap (λ r. and_then r (λ z. and_then (key_or (codes "vars") variables [] z.ahead) (with_variables path before hosts ig name z.value))) e.listed
+behind_lists : (path : List ℕ) (before : BeforeHosts) (hosts : Option PlayHosts) (a b : Ahead WithoutEffect) (borne : Tolerance) (name : Option (List ℕ)) (ls : Lists) → AreRead a borne name ls b
+    → rest_of_play path before hosts a ≡ and_then (key_or (codes "vars") variables [] b) (with_variables path before hosts borne name ls)
+behind_lists path before hosts a b borne name ls e =
+    ap (λ r. and_then r (λ x. and_then (key (codes "name") text x.ahead) (λ y. and_then (lists y.ahead) (λ z. and_then (key_or (codes "vars") variables [] z.ahead) (with_variables path before hosts x.value y.value z.value))))) e.tolerated
+    ∙ ap (λ r. and_then r (λ y. and_then (lists y.ahead) (λ z. and_then (key_or (codes "vars") variables [] z.ahead) (with_variables path before hosts borne y.value z.value)))) e.named
+    ∙ ap (λ r. and_then r (λ z. and_then (key_or (codes "vars") variables [] z.ahead) (with_variables path before hosts borne name z.value))) e.listed
 
-behind_variables : (path : List ℕ) (before : BeforeHosts) (hosts : Option PlayHosts) (a b d : Ahead WithoutEffect) (ig : Bool) (name : Option (List ℕ)) (ls : Lists) (vars : List (List ℕ × Datum)) → AreRead a ig name ls b
+behind_variables : (path : List ℕ) (before : BeforeHosts) (hosts : Option PlayHosts) (a b d : Ahead WithoutEffect) (borne : Tolerance) (name : Option (List ℕ)) (ls : Lists) (vars : List (List ℕ × Datum)) → AreRead a borne name ls b
     → key_or (codes "vars") variables [] b ≡ Ok (record { value = vars; ahead = d })
-    → rest_of_play path before hosts a ≡ and_then (others has_no_effect d) (with_others path before hosts ig name ls vars)
-behind_variables path before hosts a b d ig name ls vars e f = behind_lists path before hosts a b ig name ls e ∙ ap (λ r. and_then r (with_variables path before hosts ig name ls)) f
+    → rest_of_play path before hosts a ≡ and_then (others has_no_effect d) (with_others path before hosts borne name ls vars)
+behind_variables path before hosts a b d borne name ls vars e f = behind_lists path before hosts a b borne name ls e ∙ ap (λ r. and_then r (with_variables path before hosts borne name ls)) f
 
-behind_others : (path : List ℕ) (before : BeforeHosts) (hosts : Option PlayHosts) (a b d g : Ahead WithoutEffect) (ig : Bool) (name : Option (List ℕ)) (ls : Lists) (vars : List (List ℕ × Datum)) (none : WithoutEffect)
-    → AreRead a ig name ls b → key_or (codes "vars") variables [] b ≡ Ok (record { value = vars; ahead = d }) → others has_no_effect d ≡ Ok (record { value = none; ahead = g })
-    → rest_of_play path before hosts a ≡ and_then (rule (required path hosts) g) (with_hosts before ig name ls vars)
-behind_others path before hosts a b d g ig name ls vars none e f o = behind_variables path before hosts a b d ig name ls vars e f ∙ ap (λ r. and_then r (with_others path before hosts ig name ls vars)) o
+behind_others : (path : List ℕ) (before : BeforeHosts) (hosts : Option PlayHosts) (a b d g : Ahead WithoutEffect) (borne : Tolerance) (name : Option (List ℕ)) (ls : Lists) (vars : List (List ℕ × Datum)) (none : WithoutEffect)
+    → AreRead a borne name ls b → key_or (codes "vars") variables [] b ≡ Ok (record { value = vars; ahead = d }) → others has_no_effect d ≡ Ok (record { value = none; ahead = g })
+    → rest_of_play path before hosts a ≡ and_then (rule (required path hosts) g) (with_hosts before borne name ls vars)
+behind_others path before hosts a b d g borne name ls vars none e f o = behind_variables path before hosts a b d borne name ls vars e f ∙ ap (λ r. and_then r (with_others path before hosts borne name ls vars)) o
 
-pub variables_stop : (path : List ℕ) (before : BeforeHosts) (hosts : Option PlayHosts) (a b : Ahead WithoutEffect) (ig : Bool) (name : Option (List ℕ)) (ls : Lists) (s : Stop LoadFault) → AreRead a ig name ls b
+pub variables_stop : (path : List ℕ) (before : BeforeHosts) (hosts : Option PlayHosts) (a b : Ahead WithoutEffect) (borne : Tolerance) (name : Option (List ℕ)) (ls : Lists) (s : Stop LoadFault) → AreRead a borne name ls b
     → Stops s (key_or (codes "vars") variables [] b) → Stops s (value_of (rest_of_play path before hosts a))
-variables_stop path before hosts a b ig name ls s e stops =
+variables_stop path before hosts a b borne name ls s e stops =
     stops_value s (rest_of_play path before hosts a)
-    (subst (Stops s) (sym (behind_lists path before hosts a b ig name ls e)) (stops_then s (key_or (codes "vars") variables [] b) (with_variables path before hosts ig name ls) stops))
+    (subst (Stops s) (sym (behind_lists path before hosts a b borne name ls e)) (stops_then s (key_or (codes "vars") variables [] b) (with_variables path before hosts borne name ls) stops))
 
-pub others_stop : (path : List ℕ) (before : BeforeHosts) (hosts : Option PlayHosts) (a b d : Ahead WithoutEffect) (ig : Bool) (name : Option (List ℕ)) (ls : Lists) (vars : List (List ℕ × Datum)) (s : Stop LoadFault)
-    → AreRead a ig name ls b → key_or (codes "vars") variables [] b ≡ Ok (record { value = vars; ahead = d }) → Stops s (others has_no_effect d) → Stops s (value_of (rest_of_play path before hosts a))
-others_stop path before hosts a b d ig name ls vars s e f stops =
+pub others_stop : (path : List ℕ) (before : BeforeHosts) (hosts : Option PlayHosts) (a b d : Ahead WithoutEffect) (borne : Tolerance) (name : Option (List ℕ)) (ls : Lists) (vars : List (List ℕ × Datum)) (s : Stop LoadFault)
+    → AreRead a borne name ls b → key_or (codes "vars") variables [] b ≡ Ok (record { value = vars; ahead = d }) → Stops s (others has_no_effect d) → Stops s (value_of (rest_of_play path before hosts a))
+others_stop path before hosts a b d borne name ls vars s e f stops =
     stops_value s (rest_of_play path before hosts a)
-    (subst (Stops s) (sym (behind_variables path before hosts a b d ig name ls vars e f)) (stops_then s (others has_no_effect d) (with_others path before hosts ig name ls vars) stops))
+    (subst (Stops s) (sym (behind_variables path before hosts a b d borne name ls vars e f)) (stops_then s (others has_no_effect d) (with_others path before hosts borne name ls vars) stops))
 
-pub no_hosts_stop : (path : List ℕ) (before : BeforeHosts) (hosts : Option PlayHosts) (a b d g : Ahead WithoutEffect) (ig : Bool) (name : Option (List ℕ)) (ls : Lists) (vars : List (List ℕ × Datum)) (none : WithoutEffect) (s : Stop LoadFault)
-    → AreRead a ig name ls b → key_or (codes "vars") variables [] b ≡ Ok (record { value = vars; ahead = d }) → others has_no_effect d ≡ Ok (record { value = none; ahead = g })
+pub no_hosts_stop : (path : List ℕ) (before : BeforeHosts) (hosts : Option PlayHosts) (a b d g : Ahead WithoutEffect) (borne : Tolerance) (name : Option (List ℕ)) (ls : Lists) (vars : List (List ℕ × Datum)) (none : WithoutEffect) (s : Stop LoadFault)
+    → AreRead a borne name ls b → key_or (codes "vars") variables [] b ≡ Ok (record { value = vars; ahead = d }) → others has_no_effect d ≡ Ok (record { value = none; ahead = g })
     → Stops s (required path hosts) → Stops s (value_of (rest_of_play path before hosts a))
-no_hosts_stop path before hosts a b d g ig name ls vars none s e f o stops =
+no_hosts_stop path before hosts a b d g borne name ls vars none s e f o stops =
     stops_value s (rest_of_play path before hosts a)
-    (subst (Stops s) (sym (behind_others path before hosts a b d g ig name ls vars none e f o)) (stops_then s (rule (required path hosts) g) (with_hosts before ig name ls vars) (stops_rule s (required path hosts) g stops)))
+    (subst (Stops s) (sym (behind_others path before hosts a b d g borne name ls vars none e f o)) (stops_then s (rule (required path hosts) g) (with_hosts before borne name ls vars) (stops_rule s (required path hosts) g stops)))
 
 -- once the hosts are there
-behind_hosts : (path : List ℕ) (before : BeforeHosts) (hosts : Option PlayHosts) (h : PlayHosts) (g : Ahead WithoutEffect) (ig : Bool) (name : Option (List ℕ)) (ls : Lists) (vars : List (List ℕ × Datum)) → required {F = LoadFault} path hosts ≡ Ok h
-    → and_then (rule (required path hosts) g) (with_hosts before ig name ls vars) ≡ with_hosts before ig name ls vars (record { value = h; ahead = g })
-behind_hosts path before hosts h g ig name ls vars e = ap (λ r. and_then (rule r g) (with_hosts before ig name ls vars)) e
+behind_hosts : (path : List ℕ) (before : BeforeHosts) (hosts : Option PlayHosts) (h : PlayHosts) (g : Ahead WithoutEffect) (borne : Tolerance) (name : Option (List ℕ)) (ls : Lists) (vars : List (List ℕ × Datum)) → required {F = LoadFault} path hosts ≡ Ok h
+    → and_then (rule (required path hosts) g) (with_hosts before borne name ls vars) ≡ with_hosts before borne name ls vars (record { value = h; ahead = g })
+behind_hosts path before hosts h g borne name ls vars e = ap (λ r. and_then (rule r g) (with_hosts before borne name ls vars)) e
 
-pub play_is : (path : List ℕ) (before : BeforeHosts) (hosts : Option PlayHosts) (h : PlayHosts) (a b d g : Ahead WithoutEffect) (ig : Bool) (name : Option (List ℕ)) (ls : Lists) (vars : List (List ℕ × Datum)) (none : WithoutEffect)
-    → AreRead a ig name ls b → key_or (codes "vars") variables [] b ≡ Ok (record { value = vars; ahead = d }) → others has_no_effect d ≡ Ok (record { value = none; ahead = g })
-    → required {F = LoadFault} path hosts ≡ Ok h → value_of (rest_of_play path before hosts a) ≡ Ok (play_of before (unwrap_or name h.text) h.pattern vars ig ls)
-play_is path before hosts h a b d g ig name ls vars none e f o at =
-    ap value_of (behind_others path before hosts a b d g ig name ls vars none e f o ∙ behind_hosts path before hosts h g ig name ls vars at)
+pub play_is : (path : List ℕ) (before : BeforeHosts) (hosts : Option PlayHosts) (h : PlayHosts) (a b d g : Ahead WithoutEffect) (borne : Tolerance) (name : Option (List ℕ)) (ls : Lists) (vars : List (List ℕ × Datum)) (none : WithoutEffect)
+    → AreRead a borne name ls b → key_or (codes "vars") variables [] b ≡ Ok (record { value = vars; ahead = d }) → others has_no_effect d ≡ Ok (record { value = none; ahead = g })
+    → required {F = LoadFault} path hosts ≡ Ok h → value_of (rest_of_play path before hosts a) ≡ Ok (play_of before (unwrap_or name h.text) h.pattern vars borne ls)
+play_is path before hosts h a b d g borne name ls vars none e f o at =
+    ap value_of (behind_others path before hosts a b d g borne name ls vars none e f o ∙ behind_hosts path before hosts h g borne name ls vars at)
 
 -- a value that is made of what a part gives
 value_made : {A B S : Type 0} (f : A → B) (r : Reading (Read A S) LoadFault) → value_of (and_then r (λ x. rule (Ok (f x.value)) x.ahead)) ≡ map_ok f (value_of r)

@@ -1,5 +1,5 @@
 -- The plays of a playbook. See Ansible's documentation, "Playbook Keywords", Play.
-use Rattle.std.specs.Prelude.{ℕ, Bool, true, false, List, [], Ok, Option, Some, None, codes, unwrap_or}
+use Rattle.std.specs.Prelude.{ℕ, true, false, List, [], Ok, Option, Some, None, codes, unwrap_or}
 use Rattle.serde_json.specs.Data as json
 use Rattle.pb_value.specs.Datum.{Datum}
 use Rattle.pb_value.specs.Reading.{below}
@@ -16,6 +16,7 @@ use Rattle.pb_play.specs.Hosts.{hosts, expressions_of_hosts}
 use Rattle.pb_play.specs.NodeLists.{node_list}
 use Rattle.pb_play.specs.Nodes.{Nothing}
 use Rattle.pb_play.specs.NoEffect.{has_no_effect, key, key_or}
+use Rattle.pb_play.specs.Percentages.{percentage}
 use Rattle.pb_written.specs.Simple.{switched}
 use Rattle.pb_play.specs.Strategies.{strategy}
 use Rattle.pb_play.specs.Variables.{variables}
@@ -25,16 +26,32 @@ use Rattle.pb_play.specs.declared.other_keys.WithoutEffect.{WithoutEffect}
 use Rattle.pb_play.specs.declared.play.BeforeHosts.{BeforeHosts}
 use Rattle.pb_play.specs.declared.play.Lists.{Lists}
 use Rattle.pb_play.specs.declared.play.Manner.{Manner}
+use Rattle.pb_play.specs.declared.play.OnFailure.{OnFailure}
 use Rattle.pb_play.specs.declared.play.Play.{Play}
+use Rattle.pb_play.specs.declared.play.Tolerance.{Tolerance}
 use Rattle.pb_strategies.specs.declared.strategy.Strategy.TheVariants.{Linear}
+
+-- what comes of a failure: whether it ends the play for all hosts, and whether handlers run behind it
+abbrev pub on_failure : Part WithoutEffect LoadFault OnFailure
+on_failure = do
+  any_errors_fatal ← key (codes "any_errors_fatal") switched
+  force_handlers ← key_or (codes "force_handlers") switched false
+  rule (Ok (record { any_errors_fatal = any_errors_fatal; force_handlers = force_handlers }))
 
 -- what the keys in front of `hosts` say; a play that doesn't say whether it gathers facts does (Ansible's documentation, "Playbook Keywords", gather_facts)
 abbrev pub before_hosts : Part WithoutEffect LoadFault BeforeHosts
 before_hosts = do
-  force_handlers ← key_or (codes "force_handlers") switched false
+  on_failure ← on_failure
   gathers ← key_or (codes "gather_facts") switched true
   handlers ← key_or (codes "handlers") (each_of handler) []
-  rule (Ok (record { force_handlers = force_handlers; gathers = gathers; handlers = handlers }))
+  rule (Ok (record { on_failure = on_failure; gathers = gathers; handlers = handlers }))
+
+-- which failures it bears: whether they are ignored, and how many of a batch's hosts in a hundred may fail
+abbrev pub tolerance : Part WithoutEffect LoadFault Tolerance
+tolerance = do
+  ignore_errors ← key_or (codes "ignore_errors") switched false
+  max_fail_percentage ← key (codes "max_fail_percentage") percentage
+  rule (Ok (record { ignore_errors = ignore_errors; max_fail_percentage = max_fail_percentage }))
 
 -- how the hosts go through a play: a play that doesn't say so goes over all of them at once, task by task
 abbrev pub manner : Part WithoutEffect LoadFault Manner
@@ -54,19 +71,21 @@ lists = do
   rule (Ok (record { post_tasks = post_tasks; pre_tasks = pre_tasks; roles = roles; manner = manner; tasks = tasks }))
 
 -- where it gathers facts, it begins with that
-abbrev pub play_of : BeforeHosts → List ℕ → List Element → List (List ℕ × Datum) → Bool → Lists → Play
-play_of before name hosts vars ignore_errors lists =
+abbrev pub play_of : BeforeHosts → List ℕ → List Element → List (List ℕ × Datum) → Tolerance → Lists → Play
+play_of before name hosts vars tolerance lists =
     record {
       name = name;
       hosts = hosts;
       vars = vars;
-      ignore_errors = ignore_errors;
+      any_errors_fatal = before.on_failure.any_errors_fatal;
+      ignore_errors = tolerance.ignore_errors;
+      max_fail_percentage = tolerance.max_fail_percentage;
       pre_tasks = begun before.gathers lists.pre_tasks;
       tasks = lists.tasks;
       post_tasks = lists.post_tasks;
       roles = lists.roles;
       handlers = before.handlers;
-      force_handlers = before.force_handlers;
+      force_handlers = before.on_failure.force_handlers;
       strategy = lists.manner.strategy;
       serial = lists.manner.serial;
     }
@@ -74,13 +93,13 @@ play_of before name hosts vars ignore_errors lists =
 -- a play behind its hosts; one without a name has its pattern's text as it is written, and one without variables has none
 abbrev pub rest_of_play : List ℕ → BeforeHosts → Option PlayHosts → Part WithoutEffect LoadFault Play
 rest_of_play path before hosts = do
-  ignore_errors ← key_or (codes "ignore_errors") switched false
+  tolerance ← tolerance
   name ← key (codes "name") text
   lists ← lists
   vars ← key_or (codes "vars") variables []
   _ ← others has_no_effect
   h ← rule (required path hosts)
-  rule (Ok (play_of before (unwrap_or name h.text) h.pattern vars ignore_errors lists))
+  rule (Ok (play_of before (unwrap_or name h.text) h.pattern vars tolerance lists))
 
 -- a play
 unfoldable pub play : List ℕ → json.Data → Reading Play LoadFault

@@ -19,7 +19,6 @@ use Rattle.pb_patterns.specs.declared.element.What.TheVariants.{Term, Regex}
 use Rattle.pb_written.specs.Conditions.{conditions}
 use Rattle.pb_role_entries.specs.RoleEntries.{named_alone, role_entry}
 use Rattle.pb_play.specs.Batches.{sizes}
-use Rattle.pb_play.specs.Couplings.{uncoupled}
 use Rattle.pb_play.specs.Handlers.{handler}
 use Rattle.pb_play.specs.Playbooks.{playbook_of, expressions_of_book}
 use Rattle.pb_reading.specs.Fields.{field, field_or, others}
@@ -28,7 +27,7 @@ use Rattle.pb_play.specs.NodeLists.{nodes}
 use Rattle.pb_play.specs.Nodes.{Written, Nothing, Task}
 use Rattle.pb_play.specs.Tasks.{task, tells_of_task, plain_task}
 use Rattle.pb_written.specs.Templates.{is_template}
-use Rattle.pb_written.specs.declared.fault.LoadFault.TheVariants.{NotJson, WrongShape, NotInProfile, NoModule, TwoModules, BadExpression, BadSerial, BadStrategy, BadPattern}
+use Rattle.pb_written.specs.declared.fault.LoadFault.TheVariants.{NotJson, WrongShape, NotInProfile, NoModule, TwoModules, BadExpression, BadPattern}
 use Rattle.pb_play.specs.declared.commands.CommandWords.TheVariants.{Line, Argv}
 use Rattle.pb_play.specs.declared.modules.Module.TheVariants.{Assert, Command, Debug, DebugVar, Fail, SetFact, Setup, Shell}
 use Rattle.pb_play.specs.declared.task.Task as declared
@@ -49,13 +48,13 @@ abbrev all_hosts : List Element
 all_hosts = record { text = codes "all"; mark = Unmarked; what = Term (codes "all") None } ∷ []
 
 hello : playbook_of (codes "[{\"hosts\":\"all\",\"gather_facts\":false,\"tasks\":[{\"name\":\"hi\",\"debug\":{\"msg\":\"hello\"}}]}]")
-    ≡ Ok (record { plays = record { name = codes "all"; hosts = all_hosts; vars = []; ignore_errors = false; pre_tasks = Nothing; tasks = only (plain_task (codes "hi") [] (Debug (text (codes "hello"))) ∷ []); post_tasks = Nothing; roles = []; handlers = []; force_handlers = false; strategy = Linear; serial = sizes [] } ∷ [] })
+    ≡ Ok (record { plays = record { name = codes "all"; hosts = all_hosts; vars = []; any_errors_fatal = None; ignore_errors = false; max_fail_percentage = None; pre_tasks = Nothing; tasks = only (plain_task (codes "hi") [] (Debug (text (codes "hello"))) ∷ []); post_tasks = Nothing; roles = []; handlers = []; force_handlers = false; strategy = Linear; serial = sizes [] } ∷ [] })
 unfolding on_literals
 hello = refl
 
 -- a task without a name has its module's, without the prefix; `debug` shows `Hello world!` where nothing is said
 nothing_said : playbook_of (codes "[{\"hosts\":\"all\",\"name\":\"p\",\"gather_facts\":\"No\",\"tasks\":[{\"ansible.builtin.debug\":{}}]}]")
-    ≡ Ok (record { plays = record { name = codes "p"; hosts = all_hosts; vars = []; ignore_errors = false; pre_tasks = Nothing; tasks = only (plain_task (codes "debug") [] (Debug (text (codes "Hello world!"))) ∷ []); post_tasks = Nothing; roles = []; handlers = []; force_handlers = false; strategy = Linear; serial = sizes [] } ∷ [] })
+    ≡ Ok (record { plays = record { name = codes "p"; hosts = all_hosts; vars = []; any_errors_fatal = None; ignore_errors = false; max_fail_percentage = None; pre_tasks = Nothing; tasks = only (plain_task (codes "debug") [] (Debug (text (codes "Hello world!"))) ∷ []); post_tasks = Nothing; roles = []; handlers = []; force_handlers = false; strategy = Linear; serial = sizes [] } ∷ [] })
 unfolding on_literals
 nothing_said = refl
 
@@ -79,7 +78,7 @@ no_arguments = refl
 
 -- a template is kept as it is written
 template : playbook_of (codes "[{\"hosts\":\"all\",\"gather_facts\":false,\"tasks\":[{\"debug\":{\"msg\":\"{{ x }}\"}}]}]")
-    ≡ Ok (record { plays = record { name = codes "all"; hosts = all_hosts; vars = []; ignore_errors = false; pre_tasks = Nothing; tasks = only (plain_task (codes "debug") [] (Debug (text (codes "{{ x }}"))) ∷ []); post_tasks = Nothing; roles = []; handlers = []; force_handlers = false; strategy = Linear; serial = sizes [] } ∷ [] })
+    ≡ Ok (record { plays = record { name = codes "all"; hosts = all_hosts; vars = []; any_errors_fatal = None; ignore_errors = false; max_fail_percentage = None; pre_tasks = Nothing; tasks = only (plain_task (codes "debug") [] (Debug (text (codes "{{ x }}"))) ∷ []); post_tasks = Nothing; roles = []; handlers = []; force_handlers = false; strategy = Linear; serial = sizes [] } ∷ [] })
 unfolding on_literals
 template = refl
 
@@ -103,7 +102,7 @@ no_hosts = refl
 
 -- facts are gathered where that isn't switched off: a play's first task does it, in front of its pre_tasks
 gathering : playbook_of (codes "[{\"hosts\":\"all\"}]")
-    ≡ Ok (record { plays = record { name = codes "all"; hosts = all_hosts; vars = []; ignore_errors = false; pre_tasks = only (plain_task (codes "Gathering Facts") [] Setup ∷ []); tasks = Nothing; post_tasks = Nothing; roles = []; handlers = []; force_handlers = false; strategy = Linear; serial = sizes [] } ∷ [] })
+    ≡ Ok (record { plays = record { name = codes "all"; hosts = all_hosts; vars = []; any_errors_fatal = None; ignore_errors = false; max_fail_percentage = None; pre_tasks = only (plain_task (codes "Gathering Facts") [] Setup ∷ []); tasks = Nothing; post_tasks = Nothing; roles = []; handlers = []; force_handlers = false; strategy = Linear; serial = sizes [] } ∷ [] })
 unfolding on_literals
 gathering = refl
 
@@ -114,7 +113,9 @@ gathering_first : playbook_of (codes "[{\"hosts\":\"all\",\"gather_facts\":\"Yes
         name = codes "all";
         hosts = all_hosts;
         vars = [];
+        any_errors_fatal = None;
         ignore_errors = true;
+        max_fail_percentage = None;
         pre_tasks = only (plain_task (codes "Gathering Facts") [] Setup ∷ plain_task (codes "debug") [] (Debug (text (codes "Hello world!"))) ∷ []);
         tasks = Nothing;
         post_tasks = Nothing;
@@ -139,7 +140,9 @@ text_of_hosts : playbook_of (codes "[{\"hosts\":\" web : &db\",\"gather_facts\":
         name = codes " web : &db";
         hosts = record { text = codes "web"; mark = Unmarked; what = Term (codes "web") None } ∷ record { text = codes "&db"; mark = Met; what = Term (codes "db") None } ∷ [];
         vars = [];
+        any_errors_fatal = None;
         ignore_errors = false;
+        max_fail_percentage = None;
         pre_tasks = Nothing;
         tasks = Nothing;
         post_tasks = Nothing;
@@ -160,7 +163,9 @@ list_of_hosts : playbook_of (codes "[{\"hosts\":[\"web[0]\",\" \",\"!a\"],\"gath
         name = codes "web[0], ,!a";
         hosts = record { text = codes "web[0]"; mark = Unmarked; what = Term (codes "web") (Some (At 0)) } ∷ record { text = codes "!a"; mark = Excluded; what = Term (codes "a") None } ∷ [];
         vars = [];
+        any_errors_fatal = None;
         ignore_errors = false;
+        max_fail_percentage = None;
         pre_tasks = Nothing;
         tasks = Nothing;
         post_tasks = Nothing;
@@ -176,7 +181,7 @@ list_of_hosts = refl
 
 -- `~` alone is the empty regular expression
 empty_regex : playbook_of (codes "[{\"hosts\":\"~\",\"gather_facts\":false}]")
-    ≡ Ok (record { plays = record { name = codes "~"; hosts = record { text = codes "~"; mark = Unmarked; what = Regex [] } ∷ []; vars = []; ignore_errors = false; pre_tasks = Nothing; tasks = Nothing; post_tasks = Nothing; roles = []; handlers = []; force_handlers = false; strategy = Linear; serial = sizes [] } ∷ [] })
+    ≡ Ok (record { plays = record { name = codes "~"; hosts = record { text = codes "~"; mark = Unmarked; what = Regex [] } ∷ []; vars = []; any_errors_fatal = None; ignore_errors = false; max_fail_percentage = None; pre_tasks = Nothing; tasks = Nothing; post_tasks = Nothing; roles = []; handlers = []; force_handlers = false; strategy = Linear; serial = sizes [] } ∷ [] })
 unfolding on_literals
 empty_regex = refl
 
@@ -226,7 +231,9 @@ three_lists : playbook_of (codes "[{\"hosts\":\"all\",\"gather_facts\":false,\"p
         name = codes "all";
         hosts = all_hosts;
         vars = [];
+        any_errors_fatal = None;
         ignore_errors = false;
+        max_fail_percentage = None;
         pre_tasks = only (plain_task (codes "a") [] (Debug (text (codes "Hello world!"))) ∷ []);
         tasks = Nothing;
         post_tasks = only (plain_task (codes "debug") [] (Debug (text (codes "Hello world!"))) ∷ []);
@@ -246,12 +253,12 @@ no_pre_task = refl
 
 -- keys without effect aren't read as values
 without_effect_on_plays : playbook_of (codes "[{\"hosts\":\"all\",\"gather_facts\":false,\"connection\":\"local\",\"gather_subset\":1.5,\"no_log\":\"Off\",\"remote_user\":1.5,\"tags\":\"nevermore,always\"}]")
-    ≡ Ok (record { plays = record { name = codes "all"; hosts = all_hosts; vars = []; ignore_errors = false; pre_tasks = Nothing; tasks = Nothing; post_tasks = Nothing; roles = []; handlers = []; force_handlers = false; strategy = Linear; serial = sizes [] } ∷ [] })
+    ≡ Ok (record { plays = record { name = codes "all"; hosts = all_hosts; vars = []; any_errors_fatal = None; ignore_errors = false; max_fail_percentage = None; pre_tasks = Nothing; tasks = Nothing; post_tasks = Nothing; roles = []; handlers = []; force_handlers = false; strategy = Linear; serial = sizes [] } ∷ [] })
 unfolding on_literals
 without_effect_on_plays = refl
 
 without_effect_on_tasks : playbook_of (codes "[{\"hosts\":\"all\",\"gather_facts\":false,\"tasks\":[{\"debug\":{},\"connection\":\"local\",\"gather_subset\":1.5,\"no_log\":false,\"remote_user\":1.5,\"tags\":[1.5,\"a\"]}]}]")
-    ≡ Ok (record { plays = record { name = codes "all"; hosts = all_hosts; vars = []; ignore_errors = false; pre_tasks = Nothing; tasks = only (plain_task (codes "debug") [] (Debug (text (codes "Hello world!"))) ∷ []); post_tasks = Nothing; roles = []; handlers = []; force_handlers = false; strategy = Linear; serial = sizes [] } ∷ [] })
+    ≡ Ok (record { plays = record { name = codes "all"; hosts = all_hosts; vars = []; any_errors_fatal = None; ignore_errors = false; max_fail_percentage = None; pre_tasks = Nothing; tasks = only (plain_task (codes "debug") [] (Debug (text (codes "Hello world!"))) ∷ []); post_tasks = Nothing; roles = []; handlers = []; force_handlers = false; strategy = Linear; serial = sizes [] } ∷ [] })
 unfolding on_literals
 without_effect_on_tasks = refl
 
@@ -278,7 +285,9 @@ commands : playbook_of (codes "[{\"hosts\":\"all\",\"gather_facts\":false,\"task
         name = codes "all";
         hosts = all_hosts;
         vars = [];
+        any_errors_fatal = None;
         ignore_errors = false;
+        max_fail_percentage = None;
         pre_tasks = Nothing;
         tasks =
             only (plain_task (codes "command") [] (Command (Line (codes "ls -l"))) ∷
@@ -301,7 +310,9 @@ shells : playbook_of (codes "[{\"hosts\":\"all\",\"gather_facts\":false,\"tasks\
         name = codes "all";
         hosts = all_hosts;
         vars = [];
+        any_errors_fatal = None;
         ignore_errors = false;
+        max_fail_percentage = None;
         pre_tasks = Nothing;
         tasks = only (plain_task (codes "shell") [] (Shell []) ∷ plain_task (codes "shell") [] (Shell (codes "a | b")) ∷ []);
         post_tasks = Nothing;
@@ -321,7 +332,9 @@ fails : playbook_of (codes "[{\"hosts\":\"all\",\"gather_facts\":false,\"tasks\"
         name = codes "all";
         hosts = all_hosts;
         vars = [];
+        any_errors_fatal = None;
         ignore_errors = false;
+        max_fail_percentage = None;
         pre_tasks = Nothing;
         tasks = only (plain_task (codes "fail") [] (Fail (text (codes "Failed as requested from task"))) ∷ plain_task (codes "fail") [] (Fail (int (pos 1))) ∷ []);
         post_tasks = Nothing;
@@ -342,7 +355,9 @@ setups : playbook_of (codes "[{\"hosts\":\"all\",\"gather_facts\":false,\"tasks\
         name = codes "all";
         hosts = all_hosts;
         vars = [];
+        any_errors_fatal = None;
         ignore_errors = false;
+        max_fail_percentage = None;
         pre_tasks = Nothing;
         tasks = only (plain_task (codes "setup") [] Setup ∷ plain_task (codes "setup") [] Setup ∷ []);
         post_tasks = Nothing;
@@ -401,7 +416,9 @@ no_template_in_key : playbook_of (codes "[{\"hosts\":\"all\",\"gather_facts\":fa
         name = codes "all";
         hosts = all_hosts;
         vars = [];
+        any_errors_fatal = None;
         ignore_errors = false;
+        max_fail_percentage = None;
         pre_tasks = Nothing;
         tasks = only (plain_task (codes "fail") [] (Fail (dict (member (codes "{% x") (text (codes "a")) no_members))) ∷ []);
         post_tasks = Nothing;
@@ -422,7 +439,9 @@ variables : playbook_of (codes "[{\"hosts\":\"all\",\"gather_facts\":false,\"var
         name = codes "all";
         hosts = all_hosts;
         vars = (codes "a", int (pos 1)) ∷ (codes "b", text (codes "{{ a }}")) ∷ [];
+        any_errors_fatal = None;
         ignore_errors = false;
+        max_fail_percentage = None;
         pre_tasks = Nothing;
         tasks = only (plain_task (codes "debug") ((codes "-", null) ∷ []) (Debug (text (codes "Hello world!"))) ∷ []);
         post_tasks = Nothing;
@@ -450,7 +469,7 @@ no_template_in_variable = refl
 
 -- `debug` shows the value of an expression, which stands without braces
 shown : playbook_of (codes "[{\"hosts\":\"all\",\"gather_facts\":false,\"tasks\":[{\"debug\":{\"var\":\"x\"}}]}]")
-    ≡ Ok (record { plays = record { name = codes "all"; hosts = all_hosts; vars = []; ignore_errors = false; pre_tasks = Nothing; tasks = only (plain_task (codes "debug") [] (DebugVar (codes "x") (Name (codes "x"))) ∷ []); post_tasks = Nothing; roles = []; handlers = []; force_handlers = false; strategy = Linear; serial = sizes [] } ∷ [] })
+    ≡ Ok (record { plays = record { name = codes "all"; hosts = all_hosts; vars = []; any_errors_fatal = None; ignore_errors = false; max_fail_percentage = None; pre_tasks = Nothing; tasks = only (plain_task (codes "debug") [] (DebugVar (codes "x") (Name (codes "x"))) ∷ []); post_tasks = Nothing; roles = []; handlers = []; force_handlers = false; strategy = Linear; serial = sizes [] } ∷ [] })
 unfolding on_literals
 shown = refl
 
@@ -479,13 +498,15 @@ unfolding on_literals
 other_prefix = refl
 
 -- all keys of a play at once, in the order of their bytes
-all_keys_of_play : playbook_of (codes "[{\"connection\":\"local\",\"force_handlers\":true,\"gather_facts\":false,\"gather_subset\":[],\"handlers\":[{\"shell\":\"h\"}],\"hosts\":\"all\",\"ignore_errors\":true,\"name\":\"p\",\"no_log\":false,\"post_tasks\":[{\"shell\":\"c\"}],\"pre_tasks\":[{\"shell\":\"a\"}],\"remote_user\":\"r\",\"roles\":[\"app\"],\"serial\":[1,\"50%\"],\"strategy\":\"free\",\"tags\":\"t\",\"tasks\":[{\"shell\":\"b\"}],\"vars\":{\"x\":1}}]")
+all_keys_of_play : playbook_of (codes "[{\"any_errors_fatal\":true,\"connection\":\"local\",\"force_handlers\":true,\"gather_facts\":false,\"gather_subset\":[],\"handlers\":[{\"shell\":\"h\"}],\"hosts\":\"all\",\"ignore_errors\":true,\"max_fail_percentage\":20,\"name\":\"p\",\"no_log\":false,\"post_tasks\":[{\"shell\":\"c\"}],\"pre_tasks\":[{\"shell\":\"a\"}],\"remote_user\":\"r\",\"roles\":[\"app\"],\"serial\":[1,\"50%\"],\"strategy\":\"free\",\"tags\":\"t\",\"tasks\":[{\"shell\":\"b\"}],\"vars\":{\"x\":1}}]")
     ≡ Ok (record {
       plays = record {
         name = codes "p";
         hosts = all_hosts;
         vars = (codes "x", int (pos 1)) ∷ [];
+        any_errors_fatal = Some true;
         ignore_errors = true;
+        max_fail_percentage = Some 20;
         pre_tasks = only (plain_task (codes "shell") [] (Shell (codes "a")) ∷ []);
         tasks = only (plain_task (codes "shell") [] (Shell (codes "b")) ∷ []);
         post_tasks = only (plain_task (codes "shell") [] (Shell (codes "c")) ∷ []);
@@ -500,15 +521,17 @@ unfolding on_literals
 all_keys_of_play = refl
 
 -- all keys of a task at once, with one module
-all_keys_of_task : playbook_of (codes "[{\"hosts\":\"all\",\"gather_facts\":false,\"tasks\":[{\"connection\":\"local\",\"gather_subset\":[],\"name\":\"n\",\"no_log\":false,\"remote_user\":\"r\",\"shell\":\"a\",\"tags\":\"t\",\"throttle\":2,\"vars\":{\"x\":1}}]}]")
+all_keys_of_task : playbook_of (codes "[{\"hosts\":\"all\",\"gather_facts\":false,\"tasks\":[{\"any_errors_fatal\":true,\"connection\":\"local\",\"delegate_facts\":true,\"delegate_to\":\"{{ h }}\",\"gather_subset\":[],\"name\":\"n\",\"no_log\":false,\"remote_user\":\"r\",\"run_once\":false,\"shell\":\"a\",\"tags\":\"t\",\"throttle\":2,\"vars\":{\"x\":1}}]}]")
     ≡ Ok (record {
       plays = record {
         name = codes "all";
         hosts = all_hosts;
         vars = [];
+        any_errors_fatal = None;
         ignore_errors = false;
+        max_fail_percentage = None;
         pre_tasks = Nothing;
-        tasks = only (record (plain_task (codes "n") ((codes "x", int (pos 1)) ∷ []) (Shell (codes "a"))) { throttle = Some 2 } ∷ []);
+        tasks = only (record (plain_task (codes "n") ((codes "x", int (pos 1)) ∷ []) (Shell (codes "a"))) { throttle = Some 2; couplings = record { any_errors_fatal = Some true; delegate_facts = Some true; delegate_to = Some (codes "{{ h }}"); run_once = Some false } } ∷ []);
         post_tasks = Nothing;
         roles = [];
         handlers = [];
@@ -535,7 +558,9 @@ all_arguments_of_fail_and_shell : playbook_of (codes "[{\"hosts\":\"all\",\"gath
         name = codes "all";
         hosts = all_hosts;
         vars = [];
+        any_errors_fatal = None;
         ignore_errors = false;
+        max_fail_percentage = None;
         pre_tasks = Nothing;
         tasks = only (plain_task (codes "fail") [] (Fail (text (codes "a"))) ∷ plain_task (codes "shell") [] (Shell (codes "b")) ∷ []);
         post_tasks = Nothing;
@@ -556,7 +581,9 @@ keys_of_a_task : playbook_of (codes "[{\"hosts\":\"all\",\"gather_facts\":false,
         name = codes "all";
         hosts = all_hosts;
         vars = [];
+        any_errors_fatal = None;
         ignore_errors = false;
+        max_fail_percentage = None;
         pre_tasks = Nothing;
         tasks =
             only (record (plain_task (codes "debug") [] (Debug (text (codes "m")))) {
@@ -582,7 +609,9 @@ keys_of_a_play : playbook_of (codes "[{\"hosts\":\"all\",\"gather_facts\":false,
         name = codes "all";
         hosts = all_hosts;
         vars = [];
+        any_errors_fatal = None;
         ignore_errors = true;
+        max_fail_percentage = None;
         pre_tasks = Nothing;
         tasks =
             only (plain_task (codes "assert") [] (Assert (Name (codes "x") ∷ []) (text (codes "Assertion failed")) (text (codes "All assertions passed"))) ∷
@@ -610,7 +639,9 @@ keys_of_a_result : playbook_of (codes "[{\"hosts\":\"all\",\"gather_facts\":fals
         name = codes "all";
         hosts = all_hosts;
         vars = [];
+        any_errors_fatal = None;
         ignore_errors = false;
+        max_fail_percentage = None;
         pre_tasks = Nothing;
         tasks =
             only (record (plain_task (codes "shell") [] (Shell (codes "a"))) { register = Some (codes "r"); changed_when = Some (Truth false ∷ []); failed_when = Some (Name (codes "x") ∷ []) }
@@ -633,187 +664,3 @@ no_name_of_register = refl
 no_condition_of_change : playbook_of (codes "[{\"hosts\":\"all\",\"gather_facts\":false,\"tasks\":[{\"changed_when\":1,\"zzz\":1,\"debug\":{}}]}]") ≡ Err (WrongShape (codes "0/tasks/0/changed_when"))
 unfolding on_literals
 no_condition_of_change = refl
-
--- the handlers that a task notifies, a text or a list of texts; a block notifies none
-notified : playbook_of (codes "[{\"hosts\":\"all\",\"gather_facts\":false,\"tasks\":[{\"notify\":\"h\",\"setup\":{}},{\"notify\":[\"h\",\"web\"],\"setup\":{}},{\"notify\":[],\"setup\":{}}]}]")
-    ≡ Ok (record {
-      plays = record {
-        name = codes "all";
-        hosts = all_hosts;
-        vars = [];
-        ignore_errors = false;
-        pre_tasks = Nothing;
-        tasks =
-            only (record (plain_task (codes "setup") [] Setup) { notify = codes "h" ∷ [] } ∷ record (plain_task (codes "setup") [] Setup) { notify = codes "h" ∷ codes "web" ∷ [] } ∷ plain_task (codes "setup") [] Setup ∷ []);
-        post_tasks = Nothing;
-        roles = [];
-        handlers = [];
-        force_handlers = false;
-        strategy = Linear;
-        serial = sizes [];
-      } ∷ [];
-    })
-unfolding on_literals
-notified = refl
-
-number_is_notified : playbook_of (codes "[{\"hosts\":\"all\",\"tasks\":[{\"notify\":5,\"zzz\":1,\"debug\":{}}]}]") ≡ Err (WrongShape (codes "0/tasks/0/notify"))
-unfolding on_literals
-number_is_notified = refl
-
-null_is_notified : playbook_of (codes "[{\"hosts\":\"all\",\"tasks\":[{\"notify\":[\"h\",null],\"debug\":{}}]}]") ≡ Err (WrongShape (codes "0/tasks/0/notify/1"))
-unfolding on_literals
-null_is_notified = refl
-
-block_notifies : playbook_of (codes "[{\"hosts\":\"all\",\"tasks\":[{\"block\":[],\"notify\":\"h\"}]}]") ≡ Err (NotInProfile (codes "notify"))
-unfolding on_literals
-block_notifies = refl
-
-meta_notifies : playbook_of (codes "[{\"hosts\":\"all\",\"tasks\":[{\"meta\":\"noop\",\"notify\":\"h\"}]}]") ≡ Err (NotInProfile (codes "notify"))
-unfolding on_literals
-meta_notifies = refl
-
--- a play's roles, its handlers, and whether they are forced
-keys_of_roles_and_handlers : playbook_of (codes "[{\"force_handlers\":\"on\",\"gather_facts\":false,\"handlers\":[{\"name\":\"h\",\"setup\":{},\"listen\":\"web\",\"notify\":\"g\",\"register\":\"r\"},{\"shell\":\"a\"}],\"hosts\":\"all\",\"roles\":[\"app\",{\"role\":\"base\",\"x\":1}]}]")
-    ≡ Ok (record {
-      plays = record {
-        name = codes "all";
-        hosts = all_hosts;
-        vars = [];
-        ignore_errors = false;
-        pre_tasks = Nothing;
-        tasks = Nothing;
-        post_tasks = Nothing;
-        roles = named_alone (codes "app") ∷ record (named_alone (codes "base")) { params = (codes "x", int (pos 1)) ∷ [] } ∷ [];
-        handlers =
-            record { task = record (plain_task (codes "h") [] Setup) { notify = codes "g" ∷ []; register = Some (codes "r") }; listens = codes "web" ∷ [] } ∷
-            record { task = plain_task (codes "shell") [] (Shell (codes "a")); listens = [] } ∷ [];
-        force_handlers = true;
-        strategy = Linear;
-        serial = sizes [];
-      } ∷ [];
-    })
-unfolding on_literals
-keys_of_roles_and_handlers = refl
-
--- all keys of a handler at once, with one module
-all_keys_of_handler : playbook_of (codes "[{\"gather_facts\":false,\"handlers\":[{\"changed_when\":\"a\",\"failed_when\":\"b\",\"ignore_errors\":true,\"listen\":[\"web\",\"db\"],\"loop\":[1],\"loop_control\":{\"loop_var\":\"v\"},\"name\":\"n\",\"notify\":[\"g\"],\"register\":\"r\",\"setup\":{},\"throttle\":0,\"vars\":{\"x\":1},\"when\":\"c\"}],\"hosts\":\"all\"}]")
-    ≡ Ok (record {
-      plays = record {
-        name = codes "all";
-        hosts = all_hosts;
-        vars = [];
-        ignore_errors = false;
-        pre_tasks = Nothing;
-        tasks = Nothing;
-        post_tasks = Nothing;
-        roles = [];
-        handlers =
-            record {
-              task = record {
-                name = codes "n";
-                vars = (codes "x", int (pos 1)) ∷ [];
-                «module» = Setup;
-                conditions = Name (codes "c") ∷ [];
-                looped = Some (record { over = list (items_of (int (pos 1) ∷ [])); variable = codes "v" });
-                register = Some (codes "r");
-                changed_when = Some (Name (codes "a") ∷ []);
-                failed_when = Some (Name (codes "b") ∷ []);
-                ignore_errors = Some true;
-                throttle = Some 0;
-                couplings = uncoupled;
-                notify = codes "g" ∷ [];
-              };
-              listens = codes "web" ∷ codes "db" ∷ [];
-            } ∷ [];
-        force_handlers = false;
-        strategy = Linear;
-        serial = sizes [];
-      } ∷ [];
-    })
-unfolding on_literals
-all_keys_of_handler = refl
-
-no_switch_of_handlers : playbook_of (codes "[{\"force_handlers\":1,\"gather_facts\":1}]") ≡ Err (WrongShape (codes "0/force_handlers"))
-unfolding on_literals
-no_switch_of_handlers = refl
-
--- a handler is neither a block nor a meta task: their keys aren't read there, as `listen` isn't on a task
-block_as_handler : playbook_of (codes "[{\"handlers\":[{\"setup\":{}},{\"block\":[]}],\"hosts\":3}]") ≡ Err (NotInProfile (codes "block"))
-unfolding on_literals
-block_as_handler = refl
-
-meta_as_handler : playbook_of (codes "[{\"handlers\":[{\"meta\":\"noop\"}],\"hosts\":\"all\"}]") ≡ Err (NotInProfile (codes "meta"))
-unfolding on_literals
-meta_as_handler = refl
-
-task_listens : playbook_of (codes "[{\"hosts\":\"all\",\"tasks\":[{\"listen\":\"x\",\"setup\":{}}]}]") ≡ Err (NotInProfile (codes "listen"))
-unfolding on_literals
-task_listens = refl
-
-number_listens : playbook_of (codes "[{\"handlers\":[{\"listen\":[\"x\",1],\"setup\":{}}],\"hosts\":\"all\"}]") ≡ Err (WrongShape (codes "0/handlers/0/listen/1"))
-unfolding on_literals
-number_listens = refl
-
-no_module_of_handler : playbook_of (codes "[{\"handlers\":[{\"name\":\"h\"}],\"hosts\":\"all\"}]") ≡ Err NoModule
-unfolding on_literals
-no_module_of_handler = refl
-
-text_as_handler : playbook_of (codes "[{\"handlers\":[{\"setup\":{}},\"h\"],\"hosts\":\"all\"}]") ≡ Err (WrongShape (codes "0/handlers/1"))
-unfolding on_literals
-text_as_handler = refl
-
-no_list_of_handlers : playbook_of (codes "[{\"handlers\":{},\"hosts\":\"all\"}]") ≡ Err (WrongShape (codes "0/handlers"))
-unfolding on_literals
-no_list_of_handlers = refl
-
--- handlers stand in front of hosts, and roles behind them, between `pre_tasks` and `tasks`
-handlers_before_hosts : playbook_of (codes "[{\"handlers\":1,\"hosts\":[]}]") ≡ Err (WrongShape (codes "0/handlers"))
-unfolding on_literals
-handlers_before_hosts = refl
-
-no_expression_behind_handlers : expressions_of_book (codes "[{\"handlers\":1,\"hosts\":\"~b\"}]") ≡ []
-unfolding on_literals
-no_expression_behind_handlers = refl
-
-roles_before_tasks : playbook_of (codes "[{\"hosts\":\"all\",\"roles\":\"app\",\"tasks\":1}]") ≡ Err (WrongShape (codes "0/roles"))
-unfolding on_literals
-roles_before_tasks = refl
-
-no_role_at_entry : playbook_of (codes "[{\"hosts\":\"all\",\"roles\":[\"app\",{\"x\":1}]}]") ≡ Err (WrongShape (codes "0/roles/1"))
-unfolding on_literals
-no_role_at_entry = refl
-
-refused_at_entry : playbook_of (codes "[{\"hosts\":\"all\",\"roles\":[{\"become\":true,\"role\":\"app\"}]}]") ≡ Err (NotInProfile (codes "become"))
-unfolding on_literals
-refused_at_entry = refl
-
--- a key in front comes first
-fault_in_front : playbook_of (codes "[{\"hosts\":\"all\",\"gather_facts\":false,\"tasks\":[{\"name\":1,\"when\":\"x\"}]}]") ≡ Err (WrongShape (codes "0/tasks/0/name"))
-unfolding on_literals
-fault_in_front = refl
-
--- the sizes of batches and the strategy are read between `roles` and `tasks`
-serial_behind_roles : playbook_of (codes "[{\"hosts\":\"all\",\"roles\":\"app\",\"serial\":\"x\"}]") ≡ Err (WrongShape (codes "0/roles"))
-unfolding on_literals
-serial_behind_roles = refl
-
-serial_first : playbook_of (codes "[{\"hosts\":\"all\",\"serial\":\"x\",\"strategy\":\"y\",\"tasks\":1}]") ≡ Err (BadSerial)
-unfolding on_literals
-serial_first = refl
-
-strategy_before_tasks : playbook_of (codes "[{\"hosts\":\"all\",\"serial\":0,\"strategy\":\"debug\",\"tasks\":1}]") ≡ Err (BadStrategy)
-unfolding on_literals
-strategy_before_tasks = refl
-
--- a throttle stands on tasks, handlers and blocks
-play_with_throttle : playbook_of (codes "[{\"hosts\":\"all\",\"throttle\":1,\"vars\":1}]") ≡ Err (NotInProfile (codes "throttle"))
-unfolding on_literals
-play_with_throttle = refl
-
-no_throttle_of_task : playbook_of (codes "[{\"hosts\":\"all\",\"tasks\":[{\"setup\":{},\"throttle\":\"1\",\"vars\":1}]}]") ≡ Err (WrongShape (codes "0/tasks/0/throttle"))
-unfolding on_literals
-no_throttle_of_task = refl
-
-no_throttle_of_handler : playbook_of (codes "[{\"handlers\":[{\"register\":\"r\",\"setup\":{},\"throttle\":-1}],\"hosts\":\"all\"}]") ≡ Err (WrongShape (codes "0/handlers/0/throttle"))
-unfolding on_literals
-no_throttle_of_handler = refl

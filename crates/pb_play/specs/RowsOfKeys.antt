@@ -23,6 +23,7 @@ use Rattle.pb_play.specs.Facts.{set_fact, setup}
 use Rattle.pb_play.specs.Gathering.{begun}
 use Rattle.pb_play.specs.Loops.{over, control, looped}
 use Rattle.pb_play.specs.Nodes.{Nothing, Task}
+use Rattle.pb_play.specs.Percentages.{percentage}
 use Rattle.pb_play.specs.Strategies.{strategy}
 use Rattle.pb_play.specs.Tasks.{plain_task}
 use Rattle.pb_play.specs.Throttles.{throttle}
@@ -324,3 +325,28 @@ beyond_integers = refl
 digits_as_throttle : read throttle (codes "\"1\"") ≡ Some (Err (WrongShape (codes "p")))
 unfolding on_literals
 digits_as_throttle = refl
+
+-- a percentage is an integer from 0 to 100
+none_may_fail : read percentage (codes "0") ≡ Some (Ok 0)
+unfolding on_literals
+none_may_fail = refl
+
+all_may_fail : read percentage (codes "100") ≡ Some (Ok 100)
+unfolding on_literals
+all_may_fail = refl
+
+more_than_all : read percentage (codes "101") ≡ Some (Err (WrongShape (codes "p")))
+unfolding on_literals
+more_than_all = refl
+
+less_than_none : read percentage (codes "-1") ≡ Some (Err (WrongShape (codes "p")))
+unfolding on_literals
+less_than_none = refl
+
+part_of_one : read percentage (codes "49.5") ≡ Some (Err (WrongShape (codes "p")))
+unfolding on_literals
+part_of_one = refl
+
+text_as_percentage : read percentage (codes "\"50%\"") ≡ Some (Err (WrongShape (codes "p")))
+unfolding on_literals
+text_as_percentage = refl

@@ -21,7 +21,7 @@ use Rattle.pb_play.specs.Nodes.{Written, Nothing, Task, Block, Flush}
 use Rattle.pb_play.specs.Tasks.{task, tells_of_task, plain_task}
 use Rattle.pb_written.specs.declared.fault.Limit.TheVariants.{Blocks}
 use Rattle.pb_written.specs.declared.fault.LoadFault.{LoadFault}
-use Rattle.pb_written.specs.declared.fault.LoadFault.TheVariants.{NotInProfile, NoModule, TooLarge}
+use Rattle.pb_written.specs.declared.fault.LoadFault.TheVariants.{NotInProfile, NoModule, TooLarge, BadExpression}
 use Rattle.pb_play.specs.declared.modules.Meta.TheVariants.{Noop, EndHost}
 use Rattle.pb_play.specs.declared.modules.Module.TheVariants.{Meta, Shell}
 use Rattle.pb_play.specs.declared.node.BlockKeys.{BlockKeys}
@@ -47,10 +47,17 @@ abbrev no_keys : BlockKeys
 no_keys = record { conditions = []; vars = []; ignore_errors = None; throttle = None; couplings = uncoupled }
 
 -- all keys of a block at once, in the order of their bytes; a task stands behind it
-all_of_block : read (codes "[{\"always\":[{\"shell\":\"c\"}],\"block\":[{\"shell\":\"a\"}],\"ignore_errors\":true,\"name\":\"n\",\"rescue\":[{\"shell\":\"b\"}],\"throttle\":3,\"vars\":{\"x\":1},\"when\":\"y\"},{\"shell\":\"d\"}]")
+all_of_block : read (codes "[{\"always\":[{\"shell\":\"c\"}],\"any_errors_fatal\":\"yes\",\"block\":[{\"shell\":\"a\"}],\"delegate_facts\":true,\"delegate_to\":\"{{ h }}\",\"ignore_errors\":true,\"name\":\"n\",\"rescue\":[{\"shell\":\"b\"}],\"run_once\":false,\"throttle\":3,\"vars\":{\"x\":1},\"when\":\"y\"},{\"shell\":\"d\"}]")
     ≡ Some (Ok (
-    Block (record { conditions = Name (codes "y") ∷ []; vars = (codes "x", int (pos 1)) ∷ []; ignore_errors = Some true; throttle = Some 3; couplings = uncoupled }) (Task (shell (codes "a")) Nothing) (Task (shell (codes "b")) Nothing)
-    (Task (shell (codes "c")) Nothing) (Task (shell (codes "d")) Nothing)
+    Block
+    (record {
+      conditions = Name (codes "y") ∷ [];
+      vars = (codes "x", int (pos 1)) ∷ [];
+      ignore_errors = Some true;
+      throttle = Some 3;
+      couplings = record { any_errors_fatal = Some true; delegate_facts = Some true; delegate_to = Some (codes "{{ h }}"); run_once = Some false };
+    })
+    (Task (shell (codes "a")) Nothing) (Task (shell (codes "b")) Nothing) (Task (shell (codes "c")) Nothing) (Task (shell (codes "d")) Nothing)
     ))
 unfolding on_literals
 all_of_block = refl
@@ -108,6 +115,36 @@ no_throttle_of_block = refl
 throttle_of_meta : read (codes "[{\"meta\":\"noop\",\"throttle\":1}]") ≡ Some (Err (Own (NotInProfile (codes "throttle"))))
 unfolding on_literals
 throttle_of_meta = refl
+
+-- which host runs a task is told by a text that is a template, and the other keys that couple hosts are switches
+no_delegate_of_task : read (codes "[{\"delegate_to\":1,\"run_once\":1,\"shell\":\"a\"}]") ≡ Some (Err (WrongShape (codes "p/0/delegate_to")))
+unfolding on_literals
+no_delegate_of_task = refl
+
+no_template_of_delegate : read (codes "[{\"block\":[],\"delegate_to\":\"{{ 1 + }}\",\"run_once\":1}]") ≡ Some (Err (Own BadExpression))
+unfolding on_literals
+no_template_of_delegate = refl
+
+no_switch_of_run_once : read (codes "[{\"run_once\":2,\"shell\":\"a\"}]") ≡ Some (Err (WrongShape (codes "p/0/run_once")))
+unfolding on_literals
+no_switch_of_run_once = refl
+
+no_switch_of_fatal_errors : read (codes "[{\"any_errors_fatal\":\"\",\"block\":1}]") ≡ Some (Err (WrongShape (codes "p/0/any_errors_fatal")))
+unfolding on_literals
+no_switch_of_fatal_errors = refl
+
+no_switch_of_facts : read (codes "[{\"block\":[],\"delegate_facts\":[]}]") ≡ Some (Err (WrongShape (codes "p/0/delegate_facts")))
+unfolding on_literals
+no_switch_of_facts = refl
+
+-- a task that steers the run has none of them of its own
+meta_runs_once : read (codes "[{\"meta\":\"noop\",\"run_once\":true}]") ≡ Some (Err (Own (NotInProfile (codes "run_once"))))
+unfolding on_literals
+meta_runs_once = refl
+
+delegated_meta : read (codes "[{\"delegate_to\":\"b\",\"meta\":\"noop\"}]") ≡ Some (Err (Own (NotInProfile (codes "delegate_to"))))
+unfolding on_literals
+delegated_meta = refl
 
 no_variables_of_block : read (codes "[{\"block\":[],\"vars\":[]}]") ≡ Some (Err (WrongShape (codes "p/0/vars")))
 unfolding on_literals

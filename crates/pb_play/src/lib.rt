@@ -11,7 +11,8 @@
 //! The texts of a module's arguments and of variables are templates: a text that is none is `BadExpression`. They are
 //! kept as they are written, since what they give is known only when a task starts on a host. The expression at `var` of `debug` is kept
 //! as its tree, too, and so are conditions. What a play, its blocks and its tasks say of ignored failures is kept as each says it, and so is how many hosts
-//! may run a task at once. A play that gathers facts begins with a task that does. How its hosts go through it, by which strategy and in which batches, is kept
+//! may run a task at once, and how the hosts of a task are coupled: whether one runs it for all, which host runs it in place of another, and which failures end
+//! the play for the others. A play that gathers facts begins with a task that does. How its hosts go through it, by which strategy and in which batches, is kept
 //! as it says (`pb_strategies`, `pb_batches`). The roles that a play names are kept as its entries say (`pb_role_entries`), and its handlers are tasks with the
 //! topics that they listen to. `nodes::read_nodes_at` reads one list of tasks and blocks, for whoever finds such lists elsewhere, and `Handler` reads
 //! itself.
@@ -35,6 +36,7 @@ mod no_effect;
 pub mod node;
 pub mod nodes;
 mod other_keys;
+mod percentage;
 pub mod play;
 pub mod playbook;
 mod strategies;

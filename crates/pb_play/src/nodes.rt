@@ -22,6 +22,7 @@ use pb_reading::stop::{Stop, wrong};
 use pb_value::path::{child, child_at};
 use pb_value::text::Text;
 use pb_written::fault::{Limit, LoadFault};
+use pb_written::simple::Switch;
 use serde_json::{Map, Value};
 use std::alloc::Global;
 
@@ -179,9 +180,9 @@ fn read_block(
 {
     let mut keys = Keys::of(path, members, WithoutEffect);
     let early = read_early(alloc, left, path, &mut keys)?;
-    let ignore_errors = read_told(alloc, &mut keys)?;
+    let told = read_told(alloc, &mut keys)?;
     let rescue = read_part(alloc, left, path, &mut keys, "rescue")?;
-    read_rest(alloc, keys, early, ignore_errors, rescue)
+    read_rest(alloc, keys, early, told, rescue)
 }
 
 #[cycle(nodes)]
@@ -196,8 +197,13 @@ fn read_early(
     ensures path { (ahead keys.new).path ≡ path.now }
 {
     let always = read_part(alloc, left, path, keys, "always")?;
+    let any_errors_fatal = keys.field::<Switch>(alloc, "any_errors_fatal")?;
     let body = read_part(alloc, left, path, keys, "block")?;
-    Ok(Early { always, body })
+    Ok(Early {
+        always,
+        any_errors_fatal,
+        body,
+    })
 }
 
 /// The nodes at a key of the block at this path.

@@ -7,7 +7,7 @@ ghost use Rattle.pb_reading.specs.Fields.{optional, value_of};
 ghost use Rattle.pb_reading.specs.Reading.{Gives};
 ghost use Rattle.pb_play.specs.Refusals.{GivesOf};
 ghost use Rattle.pb_play.specs.Hosts.{hosts};
-ghost use Rattle.pb_play.specs.Plays.{before_hosts, manner, play_of, lists, rest_of_play, play, expressions_at, expressions_of_play};
+ghost use Rattle.pb_play.specs.Plays.{on_failure, before_hosts, tolerance, manner, play_of, lists, rest_of_play, play, expressions_at, expressions_of_play};
 
 use crate::batches::Sizes;
 use crate::gathering::begun;
@@ -16,6 +16,7 @@ use crate::hosts::{PlayHosts, read_hosts};
 use crate::node::NodeList;
 use crate::nodes::no_nodes;
 use crate::other_keys::WithoutEffect;
+use crate::percentage::Percentage;
 use crate::strategies::StrategyName;
 use pb_batches::Serial;
 use pb_patterns::pattern::Pattern;
@@ -48,8 +49,13 @@ pub struct Play {
     /// Its variables, each a value under its name, as they are written: their texts are templates. They are layer 5 of those that a task
     /// sees (`pb_layers`): over those of the inventory, under those of the task. See Ansible's documentation, "Using variables".
     pub vars: Dict,
+    /// Whether a failure on one host ends the play for all, where the play says so: where neither the task nor a block round it does, this counts.
+    /// See Ansible's documentation, "Error handling in playbooks".
+    pub any_errors_fatal: Option<bool>,
     /// Whether failures in it are ignored, where neither the task nor a block round it says so.
     pub ignore_errors: bool,
+    /// How many of a batch's hosts in a hundred may fail before the play ends for the others, 0 to 100, where the play says so.
+    pub max_fail_percentage: Option<u32>,
     /// What it does before its tasks, in this order: first it gathers the facts of its hosts, where that isn't switched off.
     pub pre_tasks: NodeList,
     /// What it does, in this order.
@@ -88,10 +94,32 @@ fn read_hosts_at(
     }
 }
 
+/// What comes of a failure in a play: whether it ends the play for all hosts, and whether handlers run behind it.
+#[derive(Drop)]
+struct OnFailure {
+    any_errors_fatal: Option<bool>,
+    force_handlers: bool,
+}
+
+fn read_on_failure(
+    alloc: Global,
+    keys: &mut Keys<'_, WithoutEffect>,
+) -> Result<OnFailure, Stop<LoadFault>>
+    ensures value { Takes (λ v. v) result (ahead keys.new) (on_failure (ahead keys.old)) }
+    ensures path { (ahead keys.new).path ≡ (ahead keys.old).path }
+{
+    let any_errors_fatal = keys.field::<Switch>(alloc, "any_errors_fatal")?;
+    let force_handlers = keys.field_or::<Switch>(alloc, "force_handlers", false)?;
+    Ok(OnFailure {
+        any_errors_fatal,
+        force_handlers,
+    })
+}
+
 /// What the keys in front of `hosts` say.
 #[derive(Drop)]
 struct BeforeHosts {
-    force_handlers: bool,
+    on_failure: OnFailure,
     gathers: bool,
     handlers: Items<Handler>,
 }
@@ -103,13 +131,35 @@ fn read_before_hosts(
     ensures value { Takes (λ v. v) result (ahead keys.new) (before_hosts (ahead keys.old)) }
     ensures path { (ahead keys.new).path ≡ (ahead keys.old).path }
 {
-    let force_handlers = keys.field_or::<Switch>(alloc, "force_handlers", false)?;
+    let on_failure = read_on_failure(alloc, keys)?;
     let gathers = keys.field_or::<Switch>(alloc, "gather_facts", true)?;
     let handlers = keys.field_or::<Each<Handler>>(alloc, "handlers", Items::new(alloc))?;
     Ok(BeforeHosts {
-        force_handlers,
+        on_failure,
         gathers,
         handlers,
+    })
+}
+
+/// Which failures a play bears: whether it ignores them, and how many hosts in a hundred may fail.
+#[derive(Drop)]
+struct Tolerance {
+    ignore_errors: bool,
+    max_fail_percentage: Option<u32>,
+}
+
+fn read_tolerance(
+    alloc: Global,
+    keys: &mut Keys<'_, WithoutEffect>,
+) -> Result<Tolerance, Stop<LoadFault>>
+    ensures value { Takes (λ v. v) result (ahead keys.new) (tolerance (ahead keys.old)) }
+    ensures path { (ahead keys.new).path ≡ (ahead keys.old).path }
+{
+    let ignore_errors = keys.field_or::<Switch>(alloc, "ignore_errors", false)?;
+    let max_fail_percentage = keys.field::<Percentage>(alloc, "max_fail_percentage")?;
+    Ok(Tolerance {
+        ignore_errors,
+        max_fail_percentage,
     })
 }
 
@@ -164,9 +214,9 @@ impl Lists {
         name: Text,
         hosts: Pattern,
         vars: Dict,
-        ignore_errors: bool,
+        tolerance: Tolerance,
     ) -> Result<Play, AllocError>
-        ensures { IfOk result (λ play. play ≡ play_of before name hosts vars ignore_errors self) }
+        ensures { IfOk result (λ play. play ≡ play_of before name hosts vars tolerance self) }
     {
         let Lists {
             post_tasks,
@@ -177,16 +227,26 @@ impl Lists {
         } = self;
         let Manner { serial, strategy } = manner;
         let BeforeHosts {
-            force_handlers,
+            on_failure,
             gathers,
             handlers,
         } = before;
+        let OnFailure {
+            any_errors_fatal,
+            force_handlers,
+        } = on_failure;
+        let Tolerance {
+            ignore_errors,
+            max_fail_percentage,
+        } = tolerance;
         let pre_tasks = begun(alloc, gathers, pre_tasks)?;
         Ok(Play {
             name,
             hosts,
             vars,
+            any_errors_fatal,
             ignore_errors,
+            max_fail_percentage,
             pre_tasks,
             tasks,
             post_tasks,
@@ -227,7 +287,7 @@ fn read_rest(
 ) -> Result<Play, Stop<LoadFault>>
     ensures { Gives result (value_of (rest_of_play path.now before hosts (ahead keys.entry))) }
 {
-    let ignore_errors = keys.field_or::<Switch>(alloc, "ignore_errors", false)?;
+    let tolerance = read_tolerance(alloc, &mut keys)?;
     let name = keys.field::<PlainText>(alloc, "name")?;
     let lists = read_lists(alloc, &mut keys)?;
     let vars = keys.field_or::<EachNamed<TemplateValue>>(alloc, "vars", Dict::new(alloc))?;
@@ -239,7 +299,7 @@ fn read_rest(
         name.unwrap_or(text),
         pattern,
         vars,
-        ignore_errors,
+        tolerance,
     )?)
 }
 

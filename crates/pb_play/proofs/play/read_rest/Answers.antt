@@ -9,63 +9,63 @@ use Rattle.pb_play.proofs.play.read_rest.Goals as goal
 
 pub returns-in_err-vars : goal.returns-in_err-vars
 returns-in_err-vars c =
-    let read : AreRead (ahead c.args.keys) c.in_ok-ignore_errors.ignore_errors c.in_ok-name.name c.in_ok-lists.lists (ahead c.read_lists.new.keys) =
+    let read : AreRead (ahead c.args.keys) c.in_ok-tolerance.tolerance c.in_ok-name.name c.in_ok-lists.lists (ahead c.read_lists.new.keys) =
     record {
-      second = ahead c.field_or.new.self;
+      second = ahead c.read_tolerance.new.keys;
       third = ahead c.field.new.self;
-      ignored = c.in_ok-ignore_errors.ensures.value;
+      tolerated = c.in_ok-tolerance.ensures.value;
       named = c.in_ok-name.ensures.value;
       listed = c.in_ok-lists.ensures.value;
     } in
     stopped _ c.in_err-vars.field-0.0 _ c.from_residual-in_err-vars.ensures.1
     (
-    variables_stop c.args.path.now c.args.before c.args.hosts (ahead c.args.keys) (ahead c.read_lists.new.keys) c.in_ok-ignore_errors.ignore_errors c.in_ok-name.name c.in_ok-lists.lists c.in_err-vars.field-0.0 read
+    variables_stop c.args.path.now c.args.before c.args.hosts (ahead c.args.keys) (ahead c.read_lists.new.keys) c.in_ok-tolerance.tolerance c.in_ok-name.name c.in_ok-lists.lists c.in_err-vars.field-0.0 read
     (subst (λ none. Stops c.in_err-vars.field-0.0 (key_or (codes "vars") variables none (ahead c.read_lists.new.keys))) c.new.ensures c.in_err-vars.ensures.value)
     )
 
 pub returns-in_err-others : goal.returns-in_err-others
 returns-in_err-others c =
-    let read : AreRead (ahead c.args.keys) c.in_ok-ignore_errors.ignore_errors c.in_ok-name.name c.in_ok-lists.lists (ahead c.read_lists.new.keys) =
+    let read : AreRead (ahead c.args.keys) c.in_ok-tolerance.tolerance c.in_ok-name.name c.in_ok-lists.lists (ahead c.read_lists.new.keys) =
     record {
-      second = ahead c.field_or.new.self;
+      second = ahead c.read_tolerance.new.keys;
       third = ahead c.field.new.self;
-      ignored = c.in_ok-ignore_errors.ensures.value;
+      tolerated = c.in_ok-tolerance.ensures.value;
       named = c.in_ok-name.ensures.value;
       listed = c.in_ok-lists.ensures.value;
     } in
-    let vars : key_or (codes "vars") variables [] (ahead c.read_lists.new.keys) ≡ Ok (record { value = c.in_ok-vars.vars; ahead = ahead c.field_or-2.new.self }) =
-    subst (λ none. key_or (codes "vars") variables none (ahead c.read_lists.new.keys) ≡ Ok (record { value = c.in_ok-vars.vars; ahead = ahead c.field_or-2.new.self })) c.new.ensures c.in_ok-vars.ensures.value in
+    let vars : key_or (codes "vars") variables [] (ahead c.read_lists.new.keys) ≡ Ok (record { value = c.in_ok-vars.vars; ahead = ahead c.field_or.new.self }) =
+    subst (λ none. key_or (codes "vars") variables none (ahead c.read_lists.new.keys) ≡ Ok (record { value = c.in_ok-vars.vars; ahead = ahead c.field_or.new.self })) c.new.ensures c.in_ok-vars.ensures.value in
     stopped _ c.in_err-others.field-0.0 _ c.from_residual-in_err-others.ensures.1
-    (others_stop c.args.path.now c.args.before c.args.hosts (ahead c.args.keys) (ahead c.read_lists.new.keys) (ahead c.field_or-2.new.self) c.in_ok-ignore_errors.ignore_errors c.in_ok-name.name c.in_ok-lists.lists _ c.in_err-others.field-0.0 read vars c.in_err-others.ensures)
+    (others_stop c.args.path.now c.args.before c.args.hosts (ahead c.args.keys) (ahead c.read_lists.new.keys) (ahead c.field_or.new.self) c.in_ok-tolerance.tolerance c.in_ok-name.name c.in_ok-lists.lists _ c.in_err-others.field-0.0 read vars c.in_err-others.ensures)
 
 pub returns-in_err-text : goal.returns-in_err-text
 returns-in_err-text c =
-    let read : AreRead (ahead c.args.keys) c.in_ok-ignore_errors.ignore_errors c.in_ok-name.name c.in_ok-lists.lists (ahead c.read_lists.new.keys) =
+    let read : AreRead (ahead c.args.keys) c.in_ok-tolerance.tolerance c.in_ok-name.name c.in_ok-lists.lists (ahead c.read_lists.new.keys) =
     record {
-      second = ahead c.field_or.new.self;
+      second = ahead c.read_tolerance.new.keys;
       third = ahead c.field.new.self;
-      ignored = c.in_ok-ignore_errors.ensures.value;
+      tolerated = c.in_ok-tolerance.ensures.value;
       named = c.in_ok-name.ensures.value;
       listed = c.in_ok-lists.ensures.value;
     } in
-    let vars : key_or (codes "vars") variables [] (ahead c.read_lists.new.keys) ≡ Ok (record { value = c.in_ok-vars.vars; ahead = ahead c.field_or-2.new.self }) =
-    subst (λ none. key_or (codes "vars") variables none (ahead c.read_lists.new.keys) ≡ Ok (record { value = c.in_ok-vars.vars; ahead = ahead c.field_or-2.new.self })) c.new.ensures c.in_ok-vars.ensures.value in
+    let vars : key_or (codes "vars") variables [] (ahead c.read_lists.new.keys) ≡ Ok (record { value = c.in_ok-vars.vars; ahead = ahead c.field_or.new.self }) =
+    subst (λ none. key_or (codes "vars") variables none (ahead c.read_lists.new.keys) ≡ Ok (record { value = c.in_ok-vars.vars; ahead = ahead c.field_or.new.self })) c.new.ensures c.in_ok-vars.ensures.value in
     stopped _ c.in_err-text.field-0.0 _ c.from_residual-in_err-text.ensures.1
-    (no_hosts_stop c.args.path.now c.args.before c.args.hosts (ahead c.args.keys) (ahead c.read_lists.new.keys) (ahead c.field_or-2.new.self) _ c.in_ok-ignore_errors.ignore_errors c.in_ok-name.name c.in_ok-lists.lists _ _ c.in_err-text.field-0.0 read vars c.in_ok-others.ensures
+    (no_hosts_stop c.args.path.now c.args.before c.args.hosts (ahead c.args.keys) (ahead c.read_lists.new.keys) (ahead c.field_or.new.self) _ c.in_ok-tolerance.tolerance c.in_ok-name.name c.in_ok-lists.lists _ _ c.in_err-text.field-0.0 read vars c.in_ok-others.ensures
     c.in_err-text.ensures)
 
 pub returns : goal.returns
 returns c =
-    let read : AreRead (ahead c.args.keys) c.in_ok-ignore_errors.ignore_errors c.in_ok-name.name c.in_ok-lists.lists (ahead c.read_lists.new.keys) =
+    let read : AreRead (ahead c.args.keys) c.in_ok-tolerance.tolerance c.in_ok-name.name c.in_ok-lists.lists (ahead c.read_lists.new.keys) =
     record {
-      second = ahead c.field_or.new.self;
+      second = ahead c.read_tolerance.new.keys;
       third = ahead c.field.new.self;
-      ignored = c.in_ok-ignore_errors.ensures.value;
+      tolerated = c.in_ok-tolerance.ensures.value;
       named = c.in_ok-name.ensures.value;
       listed = c.in_ok-lists.ensures.value;
     } in
-    let vars : key_or (codes "vars") variables [] (ahead c.read_lists.new.keys) ≡ Ok (record { value = c.in_ok-vars.vars; ahead = ahead c.field_or-2.new.self }) =
-    subst (λ none. key_or (codes "vars") variables none (ahead c.read_lists.new.keys) ≡ Ok (record { value = c.in_ok-vars.vars; ahead = ahead c.field_or-2.new.self })) c.new.ensures c.in_ok-vars.ensures.value in
-    play_is c.args.path.now c.args.before c.args.hosts c.in_ok-text.field-0 (ahead c.args.keys) (ahead c.read_lists.new.keys) (ahead c.field_or-2.new.self) _ c.in_ok-ignore_errors.ignore_errors c.in_ok-name.name c.in_ok-lists.lists _ _ read vars
+    let vars : key_or (codes "vars") variables [] (ahead c.read_lists.new.keys) ≡ Ok (record { value = c.in_ok-vars.vars; ahead = ahead c.field_or.new.self }) =
+    subst (λ none. key_or (codes "vars") variables none (ahead c.read_lists.new.keys) ≡ Ok (record { value = c.in_ok-vars.vars; ahead = ahead c.field_or.new.self })) c.new.ensures c.in_ok-vars.ensures.value in
+    play_is c.args.path.now c.args.before c.args.hosts c.in_ok-text.field-0 (ahead c.args.keys) (ahead c.read_lists.new.keys) (ahead c.field_or.new.self) _ c.in_ok-tolerance.tolerance c.in_ok-name.name c.in_ok-lists.lists _ _ read vars
     c.in_ok-others.ensures c.in_ok-text.ensures
     ∙ cc (c.in_ok-of.ensures, c.unwrap_or.ensures)
