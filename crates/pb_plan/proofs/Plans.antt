@@ -27,7 +27,7 @@ use Rattle.pb_plan.specs.declared.bundle.Bundle.{Bundle}
 use Rattle.pb_plan.specs.declared.bundle.BundleFault.{BundleFault}
 use Rattle.pb_plan.specs.declared.bundle.BundleFault.TheVariants.{Inventory, Playbook as InPlaybook, Roles, Limit, BadForks, TooLarge}
 use Rattle.pb_plan.specs.Plan.{PlayOf, PlanOf}
-use Rattle.pb_plan.specs.Bundle.{in_part, limit_of, limited, extra_in, variables_of, readings_of, expressions_of_limit, expressions_in_plays, expressions_in_limit, are_bad_forks, bundle_bytes, both, play_with, unmatched_line, IsPlayOf, ArePlaysOf, IsPlaybookFault, IsLimitFault, IsBundleFault, IsPlanIn, IsPlanOf}
+use Rattle.pb_plan.specs.Bundle.{in_part, limit_of, limited, extra_in, variables_of, readings_of, expressions_of_limit, expressions_in_plays, expressions_in_limit, are_bad_forks, bundle_bytes, both, play_with, lines_of_play, IsPlayOf, ArePlaysOf, IsPlaybookFault, IsLimitFault, IsBundleFault, IsPlanIn, IsPlanOf}
 
 -- the plays in front are planned
 abbrev pub ArePlannedTo : InventoryOf → List Bool → List Expanded → List Expanded → List PlayOf → List (List ℕ) → Type 0
@@ -39,12 +39,12 @@ one_more : (inventory : InventoryOf) (limit : List Bool) (all rest : List Expand
 one_more inventory limit all rest play planned p lines more before is later others are =
     rw (append_assoc planned (p ∷ []) later, append_assoc lines more others) (before (p ∷ later) (more ++ others) (more, others, is, are, refl))
 
--- a play has the hosts that both select, and lines of the elements that select none
+-- a play has the hosts that both select, and its lines
 pub play_planned : (inventory : InventoryOf) (limit : List Bool) (play : Expanded) (own : Selected) (hosts : List Bool) (planned : PlayOf) (names before after : List (List ℕ))
-    → IsSelection inventory play.hosts own → hosts ≡ both own.hosts limit → planned ≡ play_with inventory hosts play → names ≡ own.unmatched → after ≡ before ++ map unmatched_line names
+    → IsSelection inventory play.hosts own → hosts ≡ both own.hosts limit → planned ≡ play_with inventory hosts play → names ≡ own.unmatched → after ≡ before ++ lines_of_play names play
     → (more : List (List ℕ)) × IsPlayOf inventory limit play planned more × (after ≡ before ++ more)
 play_planned inventory limit play own hosts planned names before after selects are is named put =
-    (map unmatched_line own.unmatched, (own, selects, is ∙ ap (λ (h : List Bool). play_with inventory h play) are, refl), put ∙ ap (λ (ns : List (List ℕ)). before ++ map unmatched_line ns) named)
+    (lines_of_play own.unmatched play, (own, selects, is ∙ ap (λ (h : List Bool). play_with inventory h play) are, refl), put ∙ ap (λ (ns : List (List ℕ)). before ++ lines_of_play ns play) named)
 
 -- the next play is planned
 pub next_planned : (inventory : InventoryOf) (limit : List Bool) (all old rest : List Expanded) (play : Expanded) (planned built : List PlayOf) (p : PlayOf) (first before after : List (List ℕ))

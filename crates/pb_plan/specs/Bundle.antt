@@ -23,6 +23,7 @@ use Rattle.pb_play.specs.Playbooks.{playbook_of, expressions_of_book}
 use Rattle.pb_roles.specs.Plays.{expansion_of}
 use Rattle.pb_roles.specs.declared.files.RoleFile.{RoleFile}
 use Rattle.pb_roles.specs.declared.sections.Expanded.{Expanded}
+use Rattle.pb_plan.specs.Ignored.{ignored_lines}
 use Rattle.pb_plan.specs.declared.bundle.Bundle.{Bundle}
 use Rattle.pb_plan.specs.declared.bundle.BundleFault.{BundleFault}
 use Rattle.pb_plan.specs.declared.bundle.BundleFault.TheVariants.{Inventory, Playbook as InPlaybook, Roles, Limit, Extra, BadForks, TooLarge}
@@ -43,7 +44,7 @@ play_with inventory hosts play =
       hosts = hosts;
       strategy = play.strategy;
       serial = play.serial.entries;
-      max_fail_percentage = 100;
+      max_fail_percentage = play.max_fail_percentage;
       vars = play.vars;
       magic = play_magic inventory hosts;
     }
@@ -139,10 +140,14 @@ unmatched_line element = codes "warning: no host matches " ++ element
 abbrev pub stranger_line : List ℕ → List ℕ
 stranger_line name = codes "warning: no such host " ++ name
 
--- a play has the hosts that its own pattern and the limit select; the lines warn of the elements of its pattern
+-- what is warned of in a play: elements of its pattern that select no host, and then keys that its strategy ignores
+abbrev pub lines_of_play : List (List ℕ) → Expanded → List (List ℕ)
+lines_of_play unmatched play = map unmatched_line unmatched ++ ignored_lines play.strategy play.linear_keys
+
+-- a play has the hosts that its own pattern and the limit select, and these lines
 abbrev pub IsPlayOf : InventoryOf → List Bool → Expanded → PlayOf → List (List ℕ) → Type 0
 IsPlayOf inventory limit play planned lines =
-    (own : Selected) × IsSelection inventory play.hosts own × (planned ≡ play_with inventory (both own.hosts limit) play) × (lines ≡ map unmatched_line own.unmatched)
+    (own : Selected) × IsSelection inventory play.hosts own × (planned ≡ play_with inventory (both own.hosts limit) play) × (lines ≡ lines_of_play own.unmatched play)
 
 abbrev pub ArePlaysOf : InventoryOf → List Bool → List Expanded → List PlayOf → List (List ℕ) → Type 0
 ArePlaysOf inventory limit [] [] lines = lines ≡ []

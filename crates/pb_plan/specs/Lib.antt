@@ -1,2 +1,4 @@
 pub mod Bundle
+pub mod Ignored
+pub mod IgnoredRows
 pub mod Plan

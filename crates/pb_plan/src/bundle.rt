@@ -133,7 +133,7 @@ pub(crate) fn play_with(
         hosts,
         play.strategy,
         play.serial,
-        100,
+        play.max_fail_percentage,
         play.vars,
         magic,
     ))

@@ -2,10 +2,11 @@
 //!
 //! For the layers above: a `Bundle` has the bytes of a run's files, those of roles too, and what its words give. `Plan::of` makes its plan: the hosts
 //! and their variables, and of each play its name, its tree, what stands at each place and the hosts that its pattern and the limit
-//! select; or it answers the bundle's first fault, both as `specs/Bundle.antt` says (`IsPlanOf`, `IsBundleFault`).
+//! select, and warnings, those of keys that a play's strategy ignores among them (`specs/Ignored.antt`); or it answers the bundle's first fault, both as `specs/Bundle.antt` says (`IsPlanOf`, `IsBundleFault`).
 #![tactic(auto)]
 
 mod bundle;
+mod ignored;
 mod plan;
 mod planning;
 

@@ -8,9 +8,10 @@ ghost use Rattle.pb_inventory.specs.Vars.{strangers};
 ghost use Rattle.pb_play.specs.Playbooks.{playbook_of, expressions_of_book};
 ghost use Rattle.pb_roles.specs.Plays.{expansion_of, IsBuilt};
 ghost use Rattle.pb_plan.specs.Plan.{Fits};
-ghost use Rattle.pb_plan.specs.Bundle.{in_part, limit_of, expressions_of_limit, extra_in, stranger_line, unmatched_line, IsLimit, IsPlayOf, ArePlaysOf, IsPlanIn, IsPlanOf, IsBundleFault, IsPlaybookFault, IsLimitFault};
+ghost use Rattle.pb_plan.specs.Bundle.{in_part, limit_of, expressions_of_limit, extra_in, lines_of_play, stranger_line, unmatched_line, IsLimit, IsPlayOf, ArePlaysOf, IsPlanIn, IsPlanOf, IsBundleFault, IsPlaybookFault, IsLimitFault};
 
 use crate::bundle::{Bundle, BundleFault, is_too_large, play_with};
+use crate::ignored::push_ignored;
 use crate::plan::{Plan, PlanPlay};
 use pb_inventory::fault::InvFault;
 use pb_inventory::inventory::Inventory;
@@ -151,7 +152,20 @@ fn push_line(
     Ok(())
 }
 
-/// A play with the hosts that its own pattern and the limit select, and lines for the elements that select none.
+/// Adds lines for the elements of a play's pattern that select no host, and for the keys that its strategy ignores.
+fn push_lines_of_play(
+    alloc: Global,
+    lines: &mut Items<Text>,
+    play: &Expanded,
+    unmatched: &[Text],
+) -> Result<(), AllocError>
+    ensures { OnOk result (lines.new ≡ lines.old ++ lines_of_play unmatched.now play.now) }
+{
+    push_lines(alloc, lines, "warning: no host matches ", unmatched)?;
+    push_ignored(alloc, lines, play.strategy, play.linear_keys)
+}
+
+/// A play with the hosts that its own pattern and the limit select, and lines for what is odd in it.
 fn plan_play(
     alloc: Global,
     inventory: &Inventory,
@@ -165,12 +179,7 @@ fn plan_play(
     ensures fault { IfErr result (λ e. e ≡ BundleFault.Memory) }
 {
     let Selected { hosts, unmatched } = play.hosts.select(alloc, inventory)?;
-    push_lines(
-        alloc,
-        lines,
-        "warning: no host matches ",
-        unmatched.as_slice(),
-    )?;
+    push_lines_of_play(alloc, lines, &play, unmatched.as_slice())?;
     let mut own = hosts;
     own.and_with(limit);
     play_with(alloc, inventory, play, own)

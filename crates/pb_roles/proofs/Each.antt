@@ -119,13 +119,13 @@ then_ok r f met is = rw is refl
 pub roles_fault : (files : RoleFiles) (play : Play) (entries : List RoleEntry) (e : RoleFault) → entries ≡ play.roles → Faults e (roles_of files entries) → Faults e (expanded files play)
 roles_fault files play entries e same =
     faults_pass e (roles_of files entries) (expanded files play)
-    (λ f is. then_fault (roles_of files play.roles) (λ met. checked (head_of play) (sections_of play met)) f (subst (λ (es : List RoleEntry). roles_of files es ≡ Err f) same is))
+    (λ f is. then_fault (roles_of files play.roles) (λ met. checked (head_of play met) (sections_of play met)) f (subst (λ (es : List RoleEntry). roles_of files es ≡ Err f) same is))
 
 pub expanded_is : (files : RoleFiles) (play : Play) (entries : List RoleEntry) (met : Met) (head : Head) (sections : Sections) → entries ≡ play.roles → roles_of files entries ≡ Ok met
-    → head ≡ head_of play → sections ≡ sections_of play met → checked head sections ≡ expanded files play
+    → head ≡ head_of play met → sections ≡ sections_of play met → checked head sections ≡ expanded files play
 expanded_is files play entries met head sections same is of_head of_sections =
     rw (of_head, of_sections)
-    (sym (then_ok (roles_of files play.roles) (λ m. checked (head_of play) (sections_of play m)) met (subst (λ (es : List RoleEntry). roles_of files es ≡ Ok met) same is)))
+    (sym (then_ok (roles_of files play.roles) (λ m. checked (head_of play m) (sections_of play m)) met (subst (λ (es : List RoleEntry). roles_of files es ≡ Ok met) same is)))
 
 -- ---- all plays
 

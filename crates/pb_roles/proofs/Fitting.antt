@@ -28,6 +28,7 @@ use Rattle.pb_roles.specs.declared.met.HandlerIn.{HandlerIn}
 use Rattle.pb_roles.specs.declared.met.Section.{Section}
 use Rattle.pb_roles.specs.declared.sections.Expanded.{Expanded}
 use Rattle.pb_roles.specs.declared.sections.Head.{Head}
+use Rattle.pb_roles.specs.declared.sections.PlayKeys.{PlayKeys}
 use Rattle.pb_roles.specs.declared.sections.Sections.{Sections}
 use Rattle.pb_roles.proofs.Trees.{size_tree}
 
@@ -82,34 +83,34 @@ caught_then flushed round is_caught (written.Flush more) rest =
     rw (caught_then flushed round is_caught more rest, sym (flush_caught flushed.names is_caught 0 flushed.handlers))
     (two_caught (flush_places flushed is_caught) (places_of flushed round is_caught more) (caught_in (length flushed.handlers) is_caught rest))
 
-sections_many : (flushed : Flushed) (ignores : Bool) (sections : List Section) → length (part_places flushed ignores sections) ≡ places_in_all (length flushed.handlers) sections
-sections_many flushed ignores [] = flush_many flushed.names false 0 flushed.handlers
-sections_many flushed ignores (s ∷ sections) =
-    let a = as_many flushed (round_of ignores s.origin) false s.nodes in
-    let b = sections_many flushed ignores sections in
-    rw (append_assoc (places_of flushed (round_of ignores s.origin) false s.nodes) (section_places flushed ignores sections) (flush_places flushed false), length-append, a, b) refl
+sections_many : (flushed : Flushed) (keys : PlayKeys) (sections : List Section) → length (part_places flushed keys sections) ≡ places_in_all (length flushed.handlers) sections
+sections_many flushed keys [] = flush_many flushed.names false 0 flushed.handlers
+sections_many flushed keys (s ∷ sections) =
+    let a = as_many flushed (round_of keys s.origin) false s.nodes in
+    let b = sections_many flushed keys sections in
+    rw (append_assoc (places_of flushed (round_of keys s.origin) false s.nodes) (section_places flushed keys sections) (flush_places flushed false), length-append, a, b) refl
 
-sections_caught : (flushed : Flushed) (ignores : Bool) (sections : List Section) (rest : Nodes)
-    → caught_in (length flushed.handlers) false (sections_then sections (Flush rest)) ≡ are_caught (part_places flushed ignores sections) ++ caught_in (length flushed.handlers) false rest
-sections_caught flushed ignores [] rest = ap (λ (l : List Bool). l ++ caught_in (length flushed.handlers) false rest) (sym (flush_caught flushed.names false 0 flushed.handlers))
-sections_caught flushed ignores (s ∷ sections) rest =
-    caught_then flushed (round_of ignores s.origin) false s.nodes (sections_then sections (Flush rest))
-    ∙ ap (λ (l : List Bool). are_caught (places_of flushed (round_of ignores s.origin) false s.nodes) ++ l) (sections_caught flushed ignores sections rest)
-    ∙ two_caught (places_of flushed (round_of ignores s.origin) false s.nodes) (part_places flushed ignores sections) (caught_in (length flushed.handlers) false rest)
+sections_caught : (flushed : Flushed) (keys : PlayKeys) (sections : List Section) (rest : Nodes)
+    → caught_in (length flushed.handlers) false (sections_then sections (Flush rest)) ≡ are_caught (part_places flushed keys sections) ++ caught_in (length flushed.handlers) false rest
+sections_caught flushed keys [] rest = ap (λ (l : List Bool). l ++ caught_in (length flushed.handlers) false rest) (sym (flush_caught flushed.names false 0 flushed.handlers))
+sections_caught flushed keys (s ∷ sections) rest =
+    caught_then flushed (round_of keys s.origin) false s.nodes (sections_then sections (Flush rest))
+    ∙ ap (λ (l : List Bool). are_caught (places_of flushed (round_of keys s.origin) false s.nodes) ++ l) (sections_caught flushed keys sections rest)
+    ∙ two_caught (places_of flushed (round_of keys s.origin) false s.nodes) (part_places flushed keys sections) (caught_in (length flushed.handlers) false rest)
     ∙ ap (λ (ps : List PlaceOf). are_caught ps ++ caught_in (length flushed.handlers) false rest)
-    (sym (append_assoc (places_of flushed (round_of ignores s.origin) false s.nodes) (section_places flushed ignores sections) (flush_places flushed false)))
+    (sym (append_assoc (places_of flushed (round_of keys s.origin) false s.nodes) (section_places flushed keys sections) (flush_places flushed false)))
 
-map_many : (ignores : Bool) (handlers : List HandlerIn) → length (map (task_of ignores) handlers) ≡ length handlers
-map_many ignores [] = refl
-map_many ignores (h ∷ handlers) = ap suc (map_many ignores handlers)
+map_many : (keys : PlayKeys) (handlers : List HandlerIn) → length (map (task_of keys) handlers) ≡ length handlers
+map_many keys [] = refl
+map_many keys (h ∷ handlers) = ap suc (map_many keys handlers)
 
 all_many : (play : Sections) → length (all_places play) ≡ size_of (tree_of play)
 all_many play =
     let flushed = flushed_in play in
-    let n : length flushed.handlers ≡ length play.handlers = map_many play.ignore_errors play.handlers in
-    let a = sections_many flushed play.ignore_errors play.pre in
-    let b = sections_many flushed play.ignore_errors play.tasks in
-    let c = sections_many flushed play.ignore_errors play.post in
+    let n : length flushed.handlers ≡ length play.handlers = map_many play.keys play.handlers in
+    let a = sections_many flushed play.keys play.pre in
+    let b = sections_many flushed play.keys play.tasks in
+    let c = sections_many flushed play.keys play.post in
     rw (length-append, length-append, a, b, c, n) (sym (size_tree play))
 
 three_caught : (ps ts qs : List PlaceOf) → are_caught ps ++ (are_caught ts ++ (are_caught qs ++ [])) ≡ are_caught ((ps ++ ts) ++ qs)
@@ -118,14 +119,14 @@ three_caught ps ts qs = simp (map-append, append-nil, append_assoc) refl
 all_caught : (play : Sections) → are_caught (all_places play) ≡ caught_places (tree_of play)
 all_caught play =
     let flushed = flushed_in play in
-    let ignores = play.ignore_errors in
+    let keys = play.keys in
     sym
-    (ap (λ (n : ℕ). caught_in n false (nodes_of play)) (sym (map_many ignores play.handlers))
-    ∙ sections_caught flushed ignores play.pre (sections_then play.tasks (Flush (sections_then play.post (Flush Nothing))))
-    ∙ ap (λ (l : List Bool). are_caught (part_places flushed ignores play.pre) ++ l)
-    (sections_caught flushed ignores play.tasks (sections_then play.post (Flush Nothing))
-    ∙ ap (λ (l : List Bool). are_caught (part_places flushed ignores play.tasks) ++ l) (sections_caught flushed ignores play.post Nothing))
-    ∙ three_caught (part_places flushed ignores play.pre) (part_places flushed ignores play.tasks) (part_places flushed ignores play.post))
+    (ap (λ (n : ℕ). caught_in n false (nodes_of play)) (sym (map_many keys play.handlers))
+    ∙ sections_caught flushed keys play.pre (sections_then play.tasks (Flush (sections_then play.post (Flush Nothing))))
+    ∙ ap (λ (l : List Bool). are_caught (part_places flushed keys play.pre) ++ l)
+    (sections_caught flushed keys play.tasks (sections_then play.post (Flush Nothing))
+    ∙ ap (λ (l : List Bool). are_caught (part_places flushed keys play.tasks) ++ l) (sections_caught flushed keys play.post Nothing))
+    ∙ three_caught (part_places flushed keys play.pre) (part_places flushed keys play.tasks) (part_places flushed keys play.post))
 
 -- a play that is built is within the limits
 not_left : (a b c : Bool) → a ≡ c → (c || b) ≡ false → a ≡ false
@@ -160,8 +161,8 @@ unless_fits : (head : Head) (play : Sections) (e : Expanded) (found : Option (Li
 unless_fits head play e None r = within_fits head play e r
 unless_fits head play e (Some name) r = absurd (let never : ⊥ = cc in never)
 
-roles_fit : (r : Result Met RoleFault) (play : Play) (e : Expanded) → and_then r (λ met. checked (head_of play) (sections_of play met)) ≡ Ok e → IsBuilt e
-roles_fit (Ok met) play e is = unless_fits (head_of play) (sections_of play met) e (unknown_of (sections_of play met)) is
+roles_fit : (r : Result Met RoleFault) (play : Play) (e : Expanded) → and_then r (λ met. checked (head_of play met) (sections_of play met)) ≡ Ok e → IsBuilt e
+roles_fit (Ok met) play e is = unless_fits (head_of play met) (sections_of play met) e (unknown_of (sections_of play met)) is
 roles_fit (Err f) play e is = absurd (let never : ⊥ = cc in never)
 
 none_fit : (all : List Expanded) → ok_all [] ≡ Ok all → All IsBuilt all

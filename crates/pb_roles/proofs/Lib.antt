@@ -7,6 +7,7 @@ mod Placed
 mod Plain
 mod PlayNodes
 mod Stack
+mod Standing
 mod Taking
 mod Tests
 mod TreeNodes

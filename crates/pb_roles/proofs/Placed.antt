@@ -12,6 +12,7 @@ use Rattle.pb_handlers.specs.declared.naming.HandlerNames.{HandlerNames}
 use Rattle.pb_roles.specs.Building.{Flushed, RoundOf, TaskIn, inside, is_nothing, all_places, flush_from, flush_places, flushed_in, part_places, placed, places_of, round_of, section_places, task_of}
 use Rattle.pb_roles.specs.Sections.{names_of}
 use Rattle.pb_roles.specs.declared.met.Section.{Section}
+use Rattle.pb_roles.specs.declared.sections.PlayKeys.{PlayKeys}
 use Rattle.pb_roles.specs.declared.sections.Sections.{Sections}
 use Rattle.pb_roles.proofs.PlayNodes.{each_level, is_none, written_block, written_turn}
 
@@ -62,23 +63,23 @@ pub rescued_is : (is_caught is_empty : Bool) (rescue : List Node) → is_empty �
 rescued_is is_caught is_empty rescue e = ap (λ (b : Bool). is_caught || not b) (e ∙ sym (is_none rescue))
 
 -- the places of one section were added, and those of the sections behind it are to come
-pub section_placed : (flushed : Flushed) (ignores : Bool) (old mid new : List PlaceOf) (sections rest all : List Section) (s : Section) → sections ≡ s ∷ rest
-    → mid ++ section_places flushed ignores sections ≡ old ++ section_places flushed ignores all
-    → new ≡ mid ++ places_of flushed (round_of ignores s.origin) false s.nodes
-    → new ++ section_places flushed ignores rest ≡ old ++ section_places flushed ignores all
-section_placed flushed ignores old mid new sections rest all s steps before pushed =
-    ap (λ (ps : List PlaceOf). ps ++ section_places flushed ignores rest) pushed
-    ∙ append_assoc mid (places_of flushed (round_of ignores s.origin) false s.nodes) (section_places flushed ignores rest)
-    ∙ ap (λ (ss : List Section). mid ++ section_places flushed ignores ss) (sym steps)
+pub section_placed : (flushed : Flushed) (keys : PlayKeys) (old mid new : List PlaceOf) (sections rest all : List Section) (s : Section) → sections ≡ s ∷ rest
+    → mid ++ section_places flushed keys sections ≡ old ++ section_places flushed keys all
+    → new ≡ mid ++ places_of flushed (round_of keys s.origin) false s.nodes
+    → new ++ section_places flushed keys rest ≡ old ++ section_places flushed keys all
+section_placed flushed keys old mid new sections rest all s steps before pushed =
+    ap (λ (ps : List PlaceOf). ps ++ section_places flushed keys rest) pushed
+    ∙ append_assoc mid (places_of flushed (round_of keys s.origin) false s.nodes) (section_places flushed keys rest)
+    ∙ ap (λ (ss : List Section). mid ++ section_places flushed keys ss) (sym steps)
     ∙ before
 
-pub part_placed : (flushed : Flushed) (ignores : Bool) (old mid new : List PlaceOf) (sections all : List Section) → sections ≡ []
-    → mid ++ section_places flushed ignores sections ≡ old ++ section_places flushed ignores all
-    → new ≡ mid ++ flush_places flushed false → new ≡ old ++ part_places flushed ignores all
-part_placed flushed ignores old mid new sections all none is pushed =
+pub part_placed : (flushed : Flushed) (keys : PlayKeys) (old mid new : List PlaceOf) (sections all : List Section) → sections ≡ []
+    → mid ++ section_places flushed keys sections ≡ old ++ section_places flushed keys all
+    → new ≡ mid ++ flush_places flushed false → new ≡ old ++ part_places flushed keys all
+part_placed flushed keys old mid new sections all none is pushed =
     pushed
-    ∙ ap (λ (ps : List PlaceOf). ps ++ flush_places flushed false) (sym (append-nil mid) ∙ ap (λ (ss : List Section). mid ++ section_places flushed ignores ss) (sym none) ∙ is)
-    ∙ append_assoc old (section_places flushed ignores all) (flush_places flushed false)
+    ∙ ap (λ (ps : List PlaceOf). ps ++ flush_places flushed false) (sym (append-nil mid) ∙ ap (λ (ss : List Section). mid ++ section_places flushed keys ss) (sym none) ∙ is)
+    ∙ append_assoc old (section_places flushed keys all) (flush_places flushed false)
 
 -- the place of one handler was added, and those of the handlers behind it are to come
 pub handler_placed : (names : List HandlerNames) (is_caught : Bool) (handlers : List TaskIn) (n : ℕ) (handler : TaskIn) (place : PlaceOf) (mid new all : List PlaceOf) → n < length handlers
@@ -92,9 +93,9 @@ handler_placed names is_caught handlers n handler place mid new all lt at is pus
     ∙ before
 
 pub parts_placed : (flushed : Flushed) (play : Sections) (none one two three all : List PlaceOf) → flushed.names ≡ map names_of play.handlers
-    → flushed.handlers ≡ map (task_of play.ignore_errors) play.handlers → none ≡ []
-    → one ≡ none ++ part_places flushed play.ignore_errors play.pre → two ≡ one ++ part_places flushed play.ignore_errors play.tasks
-    → three ≡ two ++ part_places flushed play.ignore_errors play.post → all ≡ three → all ≡ all_places play
+    → flushed.handlers ≡ map (task_of play.keys) play.handlers → none ≡ []
+    → one ≡ none ++ part_places flushed play.keys play.pre → two ≡ one ++ part_places flushed play.keys play.tasks
+    → three ≡ two ++ part_places flushed play.keys play.post → all ≡ three → all ≡ all_places play
 parts_placed flushed play none one two three all names handlers empty a b c d =
     let is : flushed ≡ flushed_in play = λ i. record { names = names i; handlers = handlers i } in
     rw (d, c, b, a, empty, is) refl

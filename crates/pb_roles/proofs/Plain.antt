@@ -1,10 +1,10 @@
 -- Where nothing stands round a task, its place has what its own keys say.
-use Rattle.std.proofs.Common.{◌≡◌, ℕ, Bool, true, false, List, [], refl, ap, ◌∙◌}
+use Rattle.std.proofs.Common.{◌≡◌, Bool, false, List, [], refl, ap}
 use Rattle.std.specs.Prelude.{Option, Some, None, unwrap_or}
 use Rattle.pb_layers.specs.Scope.{or_else}
 use Rattle.pb_handlers.specs.Naming.{notified_from}
 use Rattle.pb_handlers.specs.declared.naming.HandlerNames.{HandlerNames}
-use Rattle.pb_places.specs.Place.{PlaceOf, no_role, place_of}
+use Rattle.pb_places.specs.Place.{no_role, place_of}
 use Rattle.pb_play.specs.Couplings.{uncoupled}
 use Rattle.pb_play.specs.declared.couplings.Couplings.{Couplings}
 use Rattle.pb_play.specs.declared.task.Task.{Task as OneTask}

@@ -19,6 +19,7 @@ use Rattle.pb_roles.specs.Origins.{OriginOf}
 use Rattle.pb_roles.specs.Sections.{names_of}
 use Rattle.pb_roles.specs.declared.met.HandlerIn.{HandlerIn}
 use Rattle.pb_roles.specs.declared.met.Section.{Section}
+use Rattle.pb_roles.specs.declared.sections.PlayKeys.{PlayKeys}
 use Rattle.pb_roles.specs.declared.sections.Sections.{Sections}
 
 -- the keys of a task, a block or a play that are handed down to what stands in it, where they are written
@@ -60,11 +61,20 @@ pub record RoundOf : Type 0 where
   pub block_vars : Map
   pub role : Role
 
--- what stands round all that comes from there: a role has conditions, and the play says whether failures are ignored, but nothing of how many hosts may run
--- a task at once, nor of how they are coupled
-abbrev pub round_of : Bool → OriginOf → RoundOf
-round_of ignore_errors origin =
-    record { keys = record { conditions = origin.conditions; ignore_errors = Some ignore_errors; throttle = None; couplings = uncoupled }; block_vars = []; role = origin.role }
+-- what stands round all that comes from there: a role has conditions, and the play says which failures are ignored and which end it for all hosts, but nothing
+-- of how many hosts may run a task at once, nor of who runs it
+abbrev pub round_of : PlayKeys → OriginOf → RoundOf
+round_of play origin =
+    record {
+      keys = record {
+        conditions = origin.conditions;
+        ignore_errors = Some play.ignore_errors;
+        throttle = None;
+        couplings = record uncoupled { any_errors_fatal = play.any_errors_fatal };
+      };
+      block_vars = [];
+      role = origin.role;
+    }
 
 -- what stands round the nodes of a block
 abbrev pub inside : RoundOf → BlockKeys → RoundOf
@@ -98,8 +108,8 @@ pub record TaskIn : Type 0 where
   pub round : RoundOf
 
 -- a handler has its own role round it, or the play: never what stands round the Flush in which it runs
-abbrev pub task_of : Bool → HandlerIn → TaskIn
-task_of ignore_errors handler = record { task = handler.handler.task; round = round_of ignore_errors handler.origin }
+abbrev pub task_of : PlayKeys → HandlerIn → TaskIn
+task_of keys handler = record { task = handler.handler.task; round = round_of keys handler.origin }
 
 -- what stands at the places of a Flush: each handler, from the one with number n on
 abbrev pub flush_from : List HandlerNames → Bool → ℕ → List TaskIn → List PlaceOf
@@ -141,10 +151,10 @@ abbrev pub sections_then : List Section → Nodes → Nodes
 sections_then [] rest = rest
 sections_then (section ∷ sections) rest = nodes_then section.nodes (sections_then sections rest)
 
-abbrev pub section_places : Flushed → Bool → List Section → List PlaceOf
-section_places flushed ignore_errors [] = []
-section_places flushed ignore_errors (section ∷ sections) =
-    places_of flushed (round_of ignore_errors section.origin) false section.nodes ++ section_places flushed ignore_errors sections
+abbrev pub section_places : Flushed → PlayKeys → List Section → List PlaceOf
+section_places flushed keys [] = []
+section_places flushed keys (section ∷ sections) =
+    places_of flushed (round_of keys section.origin) false section.nodes ++ section_places flushed keys sections
 
 -- a play has three lists of nodes, and behind each its handlers run
 abbrev pub nodes_of : Sections → Nodes
@@ -154,13 +164,13 @@ abbrev pub tree_of : Sections → TreeOf
 tree_of play = record { nodes = nodes_of play; handlers = length play.handlers; force_handlers = play.force_handlers }
 
 abbrev pub flushed_in : Sections → Flushed
-flushed_in play = record { names = map names_of play.handlers; handlers = map (task_of play.ignore_errors) play.handlers }
+flushed_in play = record { names = map names_of play.handlers; handlers = map (task_of play.keys) play.handlers }
 
 -- what stands at the places of some sections and of the Flush behind them
-abbrev pub part_places : Flushed → Bool → List Section → List PlaceOf
-part_places flushed ignore_errors sections = section_places flushed ignore_errors sections ++ flush_places flushed false
+abbrev pub part_places : Flushed → PlayKeys → List Section → List PlaceOf
+part_places flushed keys sections = section_places flushed keys sections ++ flush_places flushed false
 
 abbrev pub all_places : Sections → List PlaceOf
 all_places play =
-    part_places (flushed_in play) play.ignore_errors play.pre ++ part_places (flushed_in play) play.ignore_errors play.tasks
-    ++ part_places (flushed_in play) play.ignore_errors play.post
+    part_places (flushed_in play) play.keys play.pre ++ part_places (flushed_in play) play.keys play.tasks
+    ++ part_places (flushed_in play) play.keys play.post

@@ -4,6 +4,7 @@ pub mod Circles
 pub mod Entries
 pub mod Expansion
 pub mod Files
+pub mod LinearKeys
 pub mod Open
 pub mod Origins
 pub mod Plays

@@ -1,17 +1,20 @@
 -- The plays of a playbook with their trees and what stands at their places, or the first fault.
-use Rattle.std.specs.Prelude.{◌≡◌, ◌≤◌, ℕ, Bool, ◌||◌, List, [], ◌∷◌, length, nat_lt, Option, Some, None, Result, Ok, Err, if◌then◌else◌}
+use Rattle.std.specs.Prelude.{◌≡◌, ◌≤◌, ℕ, Bool, ◌||◌, List, [], ◌∷◌, length, nat_lt, Option, Some, None, Result, Ok, Err, unwrap_or, if◌then◌else◌}
 use Rattle.pb_value.specs.Reading.{and_then}
-use Rattle.pb_tree.specs.Tree.{size_of}
+use Rattle.pb_tree.specs.Tree.{TreeOf, size_of}
 use Rattle.pb_flat.specs.Deep.{always_depth}
 use Rattle.pb_places.specs.Caught.{are_caught, caught_places}
+use Rattle.pb_places.specs.Place.{PlaceOf}
 use Rattle.pb_play.specs.declared.play.Play.{Play}
 use Rattle.pb_roles.specs.Building.{all_places, nodes_of, tree_of}
 use Rattle.pb_roles.specs.Expansion.{roles_of}
+use Rattle.pb_roles.specs.LinearKeys.{linear_keys_of}
 use Rattle.pb_roles.specs.Sections.{sections_of}
 use Rattle.pb_roles.specs.Unknown.{unknown_of}
 use Rattle.pb_roles.specs.declared.fault.RoleFault.{RoleFault}
 use Rattle.pb_roles.specs.declared.fault.RoleFault.TheVariants.{Unknown, TooLarge}
 use Rattle.pb_roles.specs.declared.files.RoleFiles.{RoleFiles}
+use Rattle.pb_roles.specs.declared.met.Met.{Met}
 use Rattle.pb_roles.specs.declared.sections.Expanded.{Expanded}
 use Rattle.pb_roles.specs.declared.sections.Head.{Head}
 use Rattle.pb_roles.specs.declared.sections.Sections.{Sections}
@@ -29,13 +32,35 @@ has_too_many_places play = nat_lt max_places (size_of (tree_of play))
 abbrev pub is_too_deep : Sections → Bool
 is_too_deep play = nat_lt max_depth (always_depth (nodes_of play))
 
--- what stays of a play as it is
-abbrev pub head_of : Play → Head
-head_of play = record { name = play.name; hosts = play.hosts; vars = play.vars; strategy = play.strategy; serial = play.serial }
+-- What stays of a play as it is. Where it doesn't say how many hosts may fail, all may.
+abbrev pub head_of : Play → Met → Head
+head_of play met =
+    record {
+      name = play.name;
+      hosts = play.hosts;
+      vars = play.vars;
+      strategy = play.strategy;
+      serial = play.serial;
+      max_fail_percentage = unwrap_or play.max_fail_percentage 100;
+      linear_keys = linear_keys_of play met;
+    }
+
+abbrev pub with_tree : Head → TreeOf → List PlaceOf → Expanded
+with_tree head tree places =
+    record {
+      name = head.name;
+      hosts = head.hosts;
+      vars = head.vars;
+      strategy = head.strategy;
+      serial = head.serial;
+      max_fail_percentage = head.max_fail_percentage;
+      linear_keys = head.linear_keys;
+      tree = tree;
+      places = places;
+    }
 
 abbrev pub built : Head → Sections → Expanded
-built head play =
-    record { name = head.name; hosts = head.hosts; vars = head.vars; strategy = head.strategy; serial = head.serial; tree = tree_of play; places = all_places play }
+built head play = with_tree head (tree_of play) (all_places play)
 
 abbrev pub within_limits : Head → Sections → Result Expanded RoleFault
 within_limits head play = if has_too_many_places play || is_too_deep play then Err TooLarge else Ok (built head play)
@@ -49,7 +74,7 @@ abbrev pub checked : Head → Sections → Result Expanded RoleFault
 checked head play = unless_unknown (unknown_of play) (within_limits head play)
 
 abbrev pub expanded : RoleFiles → Play → Result Expanded RoleFault
-expanded files play = and_then (roles_of files play.roles) (λ met. checked (head_of play) (sections_of play met))
+expanded files play = and_then (roles_of files play.roles) (λ met. checked (head_of play met) (sections_of play met))
 
 -- play by play, in their order
 unfoldable pub expansion_of : RoleFiles → List Play → Result (List Expanded) RoleFault

@@ -5,21 +5,25 @@ use Rattle.pb_value.specs.Datum.{dict, int, no_members, text}
 use Rattle.pb_value.specs.Reading.{map_ok}
 use Rattle.pb_expr_syntax.specs.Tree.{Tree, Name}
 use Rattle.pb_layers.specs.Scope.{Map}
+use Rattle.pb_play.specs.Batches.{sizes}
 use Rattle.pb_play.specs.Couplings.{uncoupled}
 use Rattle.pb_play.specs.Nodes.{Written, Nothing, Task, Block, Flush}
 use Rattle.pb_written.specs.declared.fault.LoadFault.TheVariants.{NotJson}
 use Rattle.pb_play.specs.declared.modules.Module.TheVariants.{Debug}
 use Rattle.pb_play.specs.declared.node.BlockKeys.{BlockKeys}
 use Rattle.pb_role_entries.specs.declared.entry.EntryAsWritten.{EntryAsWritten}
+use Rattle.pb_play.specs.declared.couplings.Couplings.{Couplings}
 use Rattle.pb_play.specs.declared.handlers.Handler.{Handler}
+use Rattle.pb_play.specs.declared.play.Play.{Play}
 use Rattle.pb_role_entries.specs.declared.entry.RoleEntry.{RoleEntry}
 use Rattle.pb_play.specs.declared.task.Task.{Task as OneTask}
 use Rattle.pb_places.specs.Place.{PlaceOf, bare_task, no_role, place_of}
 use Rattle.pb_places.specs.declared.surroundings.Role.{Role}
 use Rattle.pb_tree.specs.Tree.{paths}
 use Rattle.pb_roles.specs.Building.{all_places, tree_of}
-use Rattle.pb_roles.specs.Expansion.{handlers_in, meets, role_of, roles_with}
+use Rattle.pb_roles.specs.Expansion.{handlers_in, meets, nothing_met, role_of, roles_with}
 use Rattle.pb_roles.specs.Files.{RoleRead, no_meta}
+use Rattle.pb_roles.specs.LinearKeys.{linear_keys_of}
 use Rattle.pb_roles.specs.Origins.{from_play}
 use Rattle.pb_roles.specs.Sections.{counted, own}
 use Rattle.pb_roles.specs.Unknown.{unknown_of}
@@ -29,6 +33,7 @@ use Rattle.pb_roles.specs.declared.met.HandlerIn.{HandlerIn}
 use Rattle.pb_roles.specs.declared.met.Met.{Met}
 use Rattle.pb_roles.specs.declared.met.Section.{Section}
 use Rattle.pb_roles.specs.declared.sections.Sections.{Sections}
+use Rattle.pb_strategies.specs.declared.strategy.Strategy.TheVariants.{Free}
 
 abbrev said : List ℕ → OneTask
 said name = bare_task name (Debug (text (codes "hi")))
@@ -235,7 +240,7 @@ last_counts = refl
 abbrev playing : Written → List Handler → Sections
 playing tasks handlers =
     record {
-      ignore_errors = false;
+      keys = record { any_errors_fatal = None; ignore_errors = false };
       pre = own Nothing ∷ [];
       tasks = own tasks ∷ [];
       post = own Nothing ∷ [];
@@ -325,3 +330,75 @@ throttling =
 
 throttles_handed_down : map (λ (p : PlaceOf). p.throttle) (all_places throttling) ≡ 3 ∷ 2 ∷ 0 ∷ 5 ∷ 2 ∷ 3 ∷ 0 ∷ 0 ∷ 3 ∷ 3 ∷ []
 throttles_handed_down = refl
+
+-- how the hosts of a task are coupled its own keys say, or else those of the nearest block round it, and which failures end a play for all hosts the play
+-- at last; a handler has its own keys and its play's, and never those of a block
+abbrev coupling : Sections
+coupling =
+    record (playing
+    (Block (record no_keys { couplings = record { any_errors_fatal = Some false; delegate_facts = Some true; delegate_to = Some (codes "b"); run_once = Some true } })
+    (Task (said (codes "t")) (Task (record (said (codes "t")) { couplings = record uncoupled { any_errors_fatal = Some true; delegate_to = Some (codes "c"); run_once = Some false } }) (Flush Nothing)))
+    Nothing Nothing (one (codes "t")))
+    (handler (codes "h") [] ∷ []))
+    { keys = record { any_errors_fatal = Some true; ignore_errors = false } }
+
+fatal_handed_down : map (λ (p : PlaceOf). p.any_errors_fatal) (all_places coupling) ≡ true ∷ false ∷ true ∷ true ∷ true ∷ true ∷ true ∷ []
+fatal_handed_down = refl
+
+once_handed_down : map (λ (p : PlaceOf). p.run_once) (all_places coupling) ≡ false ∷ true ∷ false ∷ false ∷ false ∷ false ∷ false ∷ []
+once_handed_down = refl
+
+delegates_handed_down : map (λ (p : PlaceOf). p.delegate_to) (all_places coupling) ≡ None ∷ Some (codes "b") ∷ Some (codes "c") ∷ None ∷ None ∷ None ∷ None ∷ []
+delegates_handed_down = refl
+
+facts_handed_down : map (λ (p : PlaceOf). p.delegate_facts) (all_places coupling) ≡ false ∷ true ∷ true ∷ false ∷ false ∷ false ∷ false ∷ []
+facts_handed_down = refl
+
+-- ---- keys that linear plays alone heed
+
+-- a play with these tasks and handlers
+abbrev writing : Written → List Handler → Play
+writing tasks handlers =
+    record {
+      name = codes "p";
+      hosts = [];
+      vars = [];
+      any_errors_fatal = None;
+      ignore_errors = false;
+      max_fail_percentage = None;
+      pre_tasks = Nothing;
+      tasks = tasks;
+      post_tasks = Nothing;
+      roles = [];
+      handlers = handlers;
+      force_handlers = false;
+      strategy = Free;
+      serial = sizes [];
+    }
+
+none_is_written : linear_keys_of (writing (one (codes "t")) (handler (codes "h") [] ∷ [])) nothing_met ≡ record { any_errors_fatal = false; max_fail_percentage = false; run_once = false }
+none_is_written = refl
+
+-- whatever their values, on the play and on a block without tasks
+written_on_play_and_block : linear_keys_of
+    (record (writing (Block (record no_keys { couplings = record uncoupled { run_once = Some false } }) Nothing Nothing Nothing Nothing) []) { any_errors_fatal = Some false; max_fail_percentage = Some 100 }) nothing_met
+    ≡ record { any_errors_fatal = true; max_fail_percentage = true; run_once = true }
+written_on_play_and_block = refl
+
+-- on a handler that doesn't count, since a later one has its name
+written_on_dropped_handler : linear_keys_of
+    (writing Nothing (record { task = record (said (codes "h")) { couplings = record uncoupled { run_once = Some true } }; listens = [] } ∷ handler (codes "h") [] ∷ [])) nothing_met
+    ≡ record { any_errors_fatal = false; max_fail_percentage = false; run_once = true }
+written_on_dropped_handler = refl
+
+-- on a task and on a handler that roles bring
+abbrev coupled_task : Couplings → OneTask
+coupled_task couplings = record (said (codes "t")) { couplings = couplings }
+
+written_in_roles : linear_keys_of (writing Nothing [])
+    (record nothing_met {
+      sections = own (Block no_keys Nothing Nothing (Task (coupled_task (record uncoupled { any_errors_fatal = Some true })) Nothing) Nothing) ∷ [];
+      handlers = handlers_in from_play (record { task = coupled_task (record uncoupled { run_once = Some true }); listens = [] } ∷ []);
+    })
+    ≡ record { any_errors_fatal = true; max_fail_percentage = false; run_once = true }
+written_in_roles = refl

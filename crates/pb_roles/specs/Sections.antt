@@ -28,7 +28,7 @@ counted handlers = kept (counting (map names_of handlers)) handlers
 abbrev pub sections_of : Play → Met → Sections
 sections_of play met =
     record {
-      ignore_errors = play.ignore_errors;
+      keys = record { any_errors_fatal = play.any_errors_fatal; ignore_errors = play.ignore_errors };
       pre = own play.pre_tasks ∷ [];
       tasks = met.sections ++ own play.tasks ∷ [];
       post = own play.post_tasks ∷ [];

@@ -12,12 +12,13 @@ use crate::fault::RoleFault;
 use crate::files::RoleFiles;
 use crate::flush::all_names;
 use crate::line::Line;
+use crate::linear_keys::linear_keys_of;
 use crate::met::{HandlerIn, Met, Section};
 use crate::nodes::{is_part_deeper, part_left, tree_of};
 use crate::origin::Origin;
 use crate::placing::all_places;
 use crate::roles::{push_handlers, roles_of};
-use crate::sections::{Expanded, Head, Sections};
+use crate::sections::{Expanded, Head, PlayKeys, Sections};
 use crate::unknown::unknown_with;
 use pb_handlers::{Handlers, counting};
 use pb_play::handlers::Handler;
@@ -113,9 +114,10 @@ fn with_handlers(
 
 /// A play whose roles brought this: what stays of it as it is, and what stands in it.
 fn sections_of(alloc: Global, play: Play, met: Met) -> Result<(Head, Sections), AllocError>
-    ensures head { IfOk result (λ r. r.0 ≡ head_of play) }
+    ensures head { IfOk result (λ r. r.0 ≡ head_of play met) }
     ensures sections { IfOk result (λ r. r.1 ≡ sections_of play met) }
 {
+    let linear_keys = linear_keys_of(&play, &met);
     let pre = one_section(alloc, play.pre_tasks)?;
     let tasks = with_tasks(met.sections, play.tasks)?;
     let post = one_section(alloc, play.post_tasks)?;
@@ -126,11 +128,16 @@ fn sections_of(alloc: Global, play: Play, met: Met) -> Result<(Head, Sections), 
         vars: play.vars,
         strategy: play.strategy,
         serial: play.serial,
+        max_fail_percentage: play.max_fail_percentage.unwrap_or(100),
+        linear_keys,
     };
     Ok((
         head,
         Sections {
-            ignore_errors: play.ignore_errors,
+            keys: PlayKeys {
+                any_errors_fatal: play.any_errors_fatal,
+                ignore_errors: play.ignore_errors,
+            },
             pre,
             tasks,
             post,

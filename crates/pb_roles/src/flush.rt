@@ -7,6 +7,7 @@ use crate::met::HandlerIn;
 use crate::nodes::number_of;
 use crate::ready::{Flushes, HandlerTask};
 use crate::round::Round;
+use crate::sections::PlayKeys;
 use pb_handlers::{HandlerNames, Handlers};
 use pb_places::Place;
 use pb_play::handlers::Handler;
@@ -50,32 +51,28 @@ pub(crate) fn all_names(
 }
 
 /// A handler's task with what stands round it.
-fn task_of(
-    alloc: Global,
-    ignore_errors: bool,
-    handler: HandlerIn,
-) -> Result<HandlerTask, AllocError>
-    ensures { IfOk result (λ task. task ≡ task_of ignore_errors handler) }
+fn task_of(alloc: Global, keys: PlayKeys, handler: HandlerIn) -> Result<HandlerTask, AllocError>
+    ensures { IfOk result (λ task. task ≡ task_of keys handler) }
 {
     let HandlerIn { handler, origin } = handler;
     let Handler { task, listens } = handler;
     drop(listens);
-    let round = Round::of(ignore_errors, &origin)?;
+    let round = Round::of(keys, &origin)?;
     let task = Arc::new(alloc, task)?;
     Ok(HandlerTask { task, round })
 }
 
-/// The handlers of a play that ignores failures or not.
+/// The handlers of a play that hands this down.
 pub(crate) fn all_tasks(
     alloc: Global,
-    ignore_errors: bool,
+    keys: PlayKeys,
     handlers: Items<HandlerIn>,
 ) -> Result<Items<HandlerTask>, AllocError>
-    ensures { IfOk result (λ tasks. tasks ≡ map (task_of ignore_errors) handlers) }
+    ensures { IfOk result (λ tasks. tasks ≡ map (task_of keys) handlers) }
 {
     let mut tasks = Items::new(alloc);
     for handler in handlers.into_vec() {
-        tasks.push(task_of(alloc, ignore_errors, handler)?)?;
+        tasks.push(task_of(alloc, keys, handler)?)?;
     }
     Ok(tasks)
 }

@@ -10,7 +10,7 @@ use crate::flush::{all_tasks, push_flush};
 use crate::met::Section;
 use crate::ready::Flushes;
 use crate::round::Round;
-use crate::sections::Sections;
+use crate::sections::{PlayKeys, Sections};
 use pb_handlers::Handlers;
 use pb_places::Place;
 use pb_play::node::Node;
@@ -28,19 +28,19 @@ pub(crate) fn all_places(
     ensures { IfOk result (λ all. all ≡ all_places play) }
 {
     let Sections {
-        ignore_errors,
+        keys,
         pre,
         tasks,
         post,
         handlers,
         force_handlers: _,
     } = play;
-    let handlers = all_tasks(alloc, ignore_errors, handlers)?;
+    let handlers = all_tasks(alloc, keys, handlers)?;
     let flushes = Flushes { names, handlers };
     let mut places = Vec::new(alloc);
-    push_part(alloc, &mut places, &flushes, ignore_errors, pre)?;
-    push_part(alloc, &mut places, &flushes, ignore_errors, tasks)?;
-    push_part(alloc, &mut places, &flushes, ignore_errors, post)?;
+    push_part(alloc, &mut places, &flushes, keys, pre)?;
+    push_part(alloc, &mut places, &flushes, keys, tasks)?;
+    push_part(alloc, &mut places, &flushes, keys, post)?;
     Ok(Items::from_vec(places))
 }
 
@@ -49,13 +49,13 @@ fn push_part(
     alloc: Global,
     places: &mut Vec<Place>,
     flushes: &Flushes,
-    ignore_errors: bool,
+    keys: PlayKeys,
     sections: Items<Section>,
 ) -> Result<(), AllocError>
-    ensures { IfOk result (λ _. places.new.items ≡ places.old.items ++ part_places flushes.now ignore_errors sections) }
+    ensures { IfOk result (λ _. places.new.items ≡ places.old.items ++ part_places flushes.now keys sections) }
 {
     for section in sections.into_vec() {
-        push_section(alloc, places, flushes, ignore_errors, section)?;
+        push_section(alloc, places, flushes, keys, section)?;
     }
     push_flush(alloc, places, flushes, false)
 }
@@ -65,13 +65,13 @@ fn push_section(
     alloc: Global,
     places: &mut Vec<Place>,
     flushes: &Flushes,
-    ignore_errors: bool,
+    keys: PlayKeys,
     section: Section,
 ) -> Result<(), AllocError>
-    ensures { IfOk result (λ _. places.new.items ≡ places.old.items ++ places_of flushes.now (round_of ignore_errors section.origin) false section.nodes) }
+    ensures { IfOk result (λ _. places.new.items ≡ places.old.items ++ places_of flushes.now (round_of keys section.origin) false section.nodes) }
 {
     let Section { origin, nodes } = section;
-    let round = Round::of(ignore_errors, &origin)?;
+    let round = Round::of(keys, &origin)?;
     push_all(alloc, places, flushes, &round, false, nodes.nodes)
 }
 

@@ -12,6 +12,7 @@ ghost use Rattle.pb_handlers.specs.Naming.{notified_from};
 ghost use Rattle.pb_roles.specs.Origins.{listed};
 
 use crate::origin::Origin;
+use crate::sections::PlayKeys;
 use pb_expr_syntax::tree::Expr;
 use pb_facts::put::put_all;
 use pb_handlers::Handlers;
@@ -76,17 +77,22 @@ impl Model for Round {
 }
 
 impl Round {
-    /// What stands round all that comes from there, in a play that ignores failures or not.
-    pub(crate) fn of(ignore_errors: bool, origin: &Origin) -> Result<Round, AllocError>
-        ensures { IfOk result (λ round. round ≡ round_of ignore_errors origin.now) }
+    /// What stands round all that comes from there, in a play that hands this down.
+    pub(crate) fn of(keys: PlayKeys, origin: &Origin) -> Result<Round, AllocError>
+        ensures { IfOk result (λ round. round ≡ round_of keys origin.now) }
     {
         let conditions = sharing(&origin.conditions)?;
         let role = sharing(&origin.role)?;
         Ok(Round {
             conditions,
-            ignore_errors: Some(ignore_errors),
+            ignore_errors: Some(keys.ignore_errors),
             throttle: None,
-            couplings: Couplings::none(),
+            couplings: Couplings {
+                any_errors_fatal: keys.any_errors_fatal,
+                delegate_facts: None,
+                delegate_to: None,
+                run_once: None,
+            },
             block_vars: None,
             role,
         })

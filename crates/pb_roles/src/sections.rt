@@ -1,5 +1,6 @@
 //! What stands in a play, with its roles.
 ghost use Rattle.std.specs.Prelude.{◌≡◌};
+ghost use Rattle.pb_roles.specs.Plays.{with_tree};
 
 use crate::met::{HandlerIn, Section};
 use pb_batches::Serial;
@@ -11,11 +12,28 @@ use pb_value::items::Items;
 use pb_value::text::Text;
 use pb_value::val::Dict;
 
+/// What a play says of failures in all its tasks and handlers, where nothing inside says so.
+#[derive(Clone, Copy, Debug, PartialEq, Eq)]
+pub struct PlayKeys {
+    /// Whether one on a host ends the play for all.
+    pub any_errors_fatal: Option<bool>,
+    /// Whether they are ignored.
+    pub ignore_errors: bool,
+}
+
+/// The keys that linear plays alone heed: which of them are written in a play, whatever their values.
+#[derive(Clone, Copy, Debug, PartialEq, Eq)]
+pub struct LinearKeys {
+    pub any_errors_fatal: bool,
+    pub max_fail_percentage: bool,
+    pub run_once: bool,
+}
+
 /// The lists of nodes of a play, in the order in which they run, and its handlers.
 #[derive(Drop)]
 pub struct Sections {
-    /// Whether failures are ignored where nothing inside says so.
-    pub ignore_errors: bool,
+    /// What it hands down to what stands in it.
+    pub keys: PlayKeys,
     /// Behind each of these three the handlers run that are pending: what is done first,
     pub pre: Items<Section>,
     /// what the roles bring, and then the play's own tasks,
@@ -41,6 +59,10 @@ pub struct Expanded {
     pub strategy: Strategy,
     /// The sizes of the batches of its hosts.
     pub serial: Serial,
+    /// How many of a batch's hosts in a hundred may fail before the play ends for the others: 0 to 100.
+    pub max_fail_percentage: u32,
+    /// Which of the keys that linear plays alone heed stand in it and in its roles.
+    pub linear_keys: LinearKeys,
     pub tree: PlayTree,
     pub places: Items<Place>,
 }
@@ -53,12 +75,14 @@ pub(crate) struct Head {
     pub(crate) vars: Dict,
     pub(crate) strategy: Strategy,
     pub(crate) serial: Serial,
+    pub(crate) max_fail_percentage: u32,
+    pub(crate) linear_keys: LinearKeys,
 }
 
 impl Head {
     /// With a tree, and what stands at its places.
     pub(crate) fn with(self, tree: PlayTree, places: Items<Place>) -> Expanded
-        ensures { result ≡ record { name = self.name; hosts = self.hosts; vars = self.vars; strategy = self.strategy; serial = self.serial; tree = tree; places = places } }
+        ensures { result ≡ with_tree self tree places }
     {
         let Head {
             name,
@@ -66,6 +90,8 @@ impl Head {
             vars,
             strategy,
             serial,
+            max_fail_percentage,
+            linear_keys,
         } = self;
         Expanded {
             name,
@@ -73,6 +99,8 @@ impl Head {
             vars,
             strategy,
             serial,
+            max_fail_percentage,
+            linear_keys,
             tree,
             places,
         }

@@ -13,5 +13,5 @@ pub returns-clause-value : goal.returns-clause-value
 returns-clause-value c =
     IfOk-weaker c.play_with.result _ _
     (λ planned is.
-    play_planned c.args.inventory.now c.args.limit.now c.args.play c.in_ok-hosts.field-0 _ planned _ _ _ c.in_ok-hosts.ensures.selection c.and_with.ensures is c.as_slice.ensures c.in_ok-push_lines.ensures)
+    play_planned c.args.inventory.now c.args.limit.now c.args.play c.in_ok-hosts.field-0 _ planned _ _ _ c.in_ok-hosts.ensures.selection c.and_with.ensures is c.as_slice.ensures c.in_ok-push_lines_of_play.ensures)
     c.play_with.ensures.value
