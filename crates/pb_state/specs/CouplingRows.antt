@@ -1,15 +1,16 @@
 -- Worked runs: tasks that couple the hosts of a batch.
 use Rattle.std.specs.Prelude.{◌≡◌, ℕ, pos, Bool, true, false, List, [], ◌∷◌, ◌++◌, map, codes, Option, Some, None, option_map, refl}
 use Rattle.std.specs.Option.{option_map_or}
-use Rattle.pb_value.specs.Datum.{Datum, text}
+use Rattle.pb_value.specs.Datum.{Datum, int, text}
 use Rattle.pb_batches.specs.declared.serial.Entry.TheVariants.{Number}
 use Rattle.pb_expr_syntax.specs.Tree as tree
+use Rattle.pb_expr_syntax.specs.declared.tree.Op.TheVariants.{Equal}
 use Rattle.pb_outcome.specs.Decided.{shown_result}
 use Rattle.pb_outcome.specs.declared.outcome.Form.{Form}
 use Rattle.pb_outcome.specs.declared.outcome.Form.TheVariants.{Ran, Unreachable as NoAnswer}
 use Rattle.pb_places.specs.Place.{PlaceOf, bare_place}
 use Rattle.pb_plan.specs.Plan.{PlayOf, PlanOf, bare_play, bare_plan, bare_tree}
-use Rattle.pb_play.specs.declared.modules.Module.TheVariants.{DebugVar}
+use Rattle.pb_play.specs.declared.modules.Module.TheVariants.{DebugVar, SetFact}
 use Rattle.pb_tree.specs.Tree.{Nodes, Nothing, Task, Block, Flush}
 use Rattle.pb_tree.specs.declared.tree.Status.{Status}
 use Rattle.pb_tree.specs.declared.tree.Status.TheVariants.{Active, Failed, Halted, Gone as Lost}
@@ -287,3 +288,40 @@ halted_within : (is_legal fatal_always (both_run badly ++ Close ∷ []) ≡ true
     × (statuses_of fatal_always (both_run badly) ≡ Failed ∷ Halted ∷ [])
 unfolding on_facts
 halted_within = (refl, refl, refl)
+
+-- ---- facts that are delegated
+-- of two hosts only the first runs a `set_fact`, whose fact goes to the second: it is defined there from then on, and not on the host that ran the task
+abbrev is_first : tree.Tree
+is_first = tree.Binary Equal (tree.Name (codes "inventory_hostname")) (tree.Text (codes "a"))
+
+abbrev sets_for_second : PlaceOf
+sets_for_second =
+    record (bare_place (codes "set_fact") (SetFact ((codes "x", int (pos 1)) ∷ []))) {
+      conditions = is_first ∷ [];
+      delegate_to = Some (codes "b");
+      delegate_facts = true;
+    }
+
+abbrev shows_x : PlaceOf
+shows_x = bare_place (codes "debug") (DebugVar (codes "x") (tree.Name (codes "x")))
+
+abbrev delegates : PlanOf
+delegates = twos (both (Task (Task last)) (sets_for_second ∷ shows_x ∷ []) ∷ [])
+
+abbrev first_shows : List Event
+first_shows = Open ∷ start 0 ∷ start 1 ∷ Turn ∷ start 0 ∷ []
+
+abbrev both_show : List Event
+both_show = first_shows ++ start 1 ∷ []
+
+abbrev delegated_run : List Event
+delegated_run = both_show ++ Turn ∷ Close ∷ []
+
+abbrev x_is : Datum → Option Datum
+x_is v = Some (shown_result (codes "x") v).result
+
+delegates_facts : (is_legal delegates delegated_run ≡ true)
+    × (counts_of delegates delegated_run ≡ record none_counted { ok = 2 } ∷ record none_counted { ok = 1; skipped = 1 } ∷ [])
+    × (told_by delegates first_shows ≡ x_is (text (codes "VARIABLE IS NOT DEFINED!"))) × (told_by delegates both_show ≡ x_is (int (pos 1)))
+unfolding on_facts
+delegates_facts = (refl, refl, refl, refl)
