@@ -1,0 +1,71 @@
+-- A run goes on by an event that is possible, and is none from one on that isn't.
+use Rattle.std.proofs.Common.{◌≡◌, ◌<◌, ◌+◌, ◌∙◌, ℕ, zero, suc, Bool, true, false, ◌&&◌, List, [], ◌∷◌, ◌++◌, Some, length, take, get_or, refl, sym, ap, subst, arith}
+use Rattle.std.specs.Prelude.{slice_get}
+use Rattle.pb_plan.specs.Plan.{PlanOf}
+use Rattle.pb_state.specs.declared.event.Event.{Event}
+use Rattle.pb_state.specs.Machine.{possible, after}
+use Rattle.pb_state.specs.Run.{legal_from, state_from}
+use Rattle.pb_state.specs.State.{State}
+use Rattle.pb_audit.proofs.Fronts.{with_next}
+use Rattle.pb_audit.specs.Audit.{start_of, is_legal, end_of, IsFirstIllegal}
+use Rattle.pb_audit.specs.Names.{name_of}
+use Rattle.pb_audit.specs.declared.name.EventName.{EventName}
+
+both : (a b : Bool) → (a && b) ≡ true → (a ≡ true) × (b ≡ true)
+both true b h = (refl, h)
+both false b h = cc
+
+none_of : (a b : Bool) → b ≡ false → (a && b) ≡ false
+none_of true b h = h
+none_of false b h = refl
+
+legal_with : (plan : PlanOf) (s : State) (es : List Event) (e : Event) → legal_from plan s es ≡ true → possible plan (state_from plan s es) e ≡ true → legal_from plan s (es ++ e ∷ []) ≡ true
+legal_with plan s [] e legal can = rw can refl
+legal_with plan s (d ∷ es) e legal can =
+    let parts = both (possible plan s d) (legal_from plan (after plan s d) es) legal in
+    rw (parts.0, legal_with plan (after plan s d) es e parts.1 can) refl
+
+state_with : (plan : PlanOf) (s : State) (es : List Event) (e : Event) → state_from plan s (es ++ e ∷ []) ≡ after plan (state_from plan s es) e
+state_with plan s [] e = refl
+state_with plan s (d ∷ es) e = state_with plan (after plan s d) es e
+
+-- one event more
+pub legal_more : (plan : PlanOf) (s t : State) (trail : List Event) (i : ℕ) (e : Event) → i < length trail → e ≡ get_or trail i e → legal_from plan s (take i trail) ≡ true
+    → t ≡ state_from plan s (take i trail) → possible plan t e ≡ true → legal_from plan s (take (i + 1) trail) ≡ true
+legal_more plan s t trail i e h is legal at can =
+    ap (legal_from plan s) (with_next trail i e h is)
+    ∙ legal_with plan s (take i trail) e legal (subst (λ u. possible plan u e ≡ true) at can)
+
+pub state_more : (plan : PlanOf) (s t : State) (trail : List Event) (i : ℕ) (e : Event) → i < length trail → e ≡ get_or trail i e → t ≡ state_from plan s (take i trail)
+    → after plan t e ≡ state_from plan s (take (i + 1) trail)
+state_more plan s t trail i e h is at =
+    ap (λ u. after plan u e) at
+    ∙ sym (ap (state_from plan s) (with_next trail i e h is) ∙ state_with plan s (take i trail) e)
+
+-- the element at a place of a list
+found : (trail : List Event) (i : ℕ) (e : Event) → i < length trail → e ≡ get_or trail i e → slice_get trail i ≡ Some e
+found [] i e h is = absurd (omega arith)
+found (d ∷ es) zero e h is = ap Some (sym is)
+found (d ∷ es) (suc i) e h is = found es i e (omega arith) is
+
+-- a trail with an event that isn't possible where it stands
+not_legal : (plan : PlanOf) (s : State) (trail : List Event) (i : ℕ) (e : Event) → slice_get trail i ≡ Some e → possible plan (state_from plan s (take i trail)) e ≡ false → legal_from plan s trail ≡ false
+not_legal plan s [] i e there cannot = cc
+not_legal plan s (d ∷ es) zero e there cannot =
+    let same : d ≡ e = cc in
+    rw (ap (possible plan s) same ∙ cannot) refl
+not_legal plan s (d ∷ es) (suc i) e there cannot = none_of (possible plan s d) _ (not_legal plan (after plan s d) es i e there cannot)
+
+pub refused_here : (plan : PlanOf) (t : State) (trail : List Event) (i : ℕ) (e : Event) (name : EventName) → i < length trail → e ≡ get_or trail i e → is_legal plan (take i trail) ≡ true
+    → t ≡ end_of plan (take i trail) → possible plan t e ≡ false → name ≡ name_of e → IsFirstIllegal plan trail i name
+refused_here plan t trail i e name h is legal at cannot called = record {
+  event = e;
+  there = found trail i e h is;
+  before = legal;
+  illegal = subst (λ u. possible plan u e ≡ false) at cannot;
+  called = called;
+}
+
+-- the first that isn't possible makes the whole trail illegal
+pub refused_whole : (plan : PlanOf) (trail : List Event) (i : ℕ) (name : EventName) → IsFirstIllegal plan trail i name → is_legal plan trail ≡ false
+refused_whole plan trail i name first = not_legal plan (start_of plan) trail i first.event first.there first.illegal

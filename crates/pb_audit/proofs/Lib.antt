@@ -1,0 +1,7 @@
+pub mod Back
+pub mod Counts
+pub mod Cuts
+pub mod Fronts
+pub mod Going
+pub mod Legal
+pub mod NoNewline
