@@ -45,8 +45,10 @@ request_met app m words request is none has asked =
         sym (same (codes "roles")) ∙ asked.6,
         sym (same (codes "facts_program")) ∙ asked.7,
         subst (λ (found : Option Text). IsStop found request.stop_after) (same (codes "stop_after")) asked.8,
+        sym (same (codes "trail")) ∙ asked.9,
+        sym (same (codes "audit")) ∙ asked.10,
         subst (λ (found : Option Text). purpose_of (is_true found) (is_true (value_in (codes "list_hosts") words)) ≡ request.purpose) (same (codes "syntax_check"))
-            (subst (λ (found : Option Text). purpose_of (is_true (first_value (found_of m) (codes "syntax_check"))) (is_true found) ≡ request.purpose) (same (codes "list_hosts")) asked.9),
+            (subst (λ (found : Option Text). purpose_of (is_true (first_value (found_of m) (codes "syntax_check"))) (is_true found) ≡ request.purpose) (same (codes "list_hosts")) asked.11),
       ),
     )
 

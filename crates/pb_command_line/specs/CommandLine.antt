@@ -1,5 +1,5 @@
--- What the words of the command line mean: `pb-play -i FILE [-f N] [-l PATTERN] [-e JSON] [--roles DIR] [--facts-program PATH] [--outcomes FILE] [--stop-after N] [--syntax-check] [--list-hosts]
--- PLAYBOOK`, and `--help`.
+-- What the words of the command line mean: `pb-play -i FILE [-f N] [-l PATTERN] [-e JSON] [--roles DIR] [--facts-program PATH] [--outcomes FILE] [--stop-after N] [--trail FILE] [--audit TRAIL]
+-- [--syntax-check] [--list-hosts] PLAYBOOK`, and `--help`.
 -- clap's own definitions say how words are read; the program's arguments are stated here. std's say how a number is read.
 use Rattle.std.specs.Prelude.{◌≡◌, ◌≢◌, ◌⊎◌, ◌≤◌, ℕ, Bool, true, false, List, [], Some, None, Option, codes}
 use Rattle.std.specs.Str.{bytes_eq}
@@ -50,6 +50,14 @@ facts_program = record (new_rule (codes "facts_program")) { long = Some (codes "
 abbrev pub stop_after : Rule
 stop_after = record (new_rule (codes "stop_after")) { long = Some (codes "stop-after"); value_names = 1 }
 
+-- `--trail FILE`
+abbrev pub trail : Rule
+trail = record (new_rule (codes "trail")) { long = Some (codes "trail"); value_names = 1 }
+
+-- `--audit TRAIL`
+abbrev pub audit : Rule
+audit = record (new_rule (codes "audit")) { long = Some (codes "audit"); value_names = 1 }
+
 -- `--syntax-check`
 abbrev pub syntax_check : Rule
 syntax_check = record (new_rule (codes "syntax_check")) { long = Some (codes "syntax-check"); action = Some SetTrue }
@@ -73,8 +81,11 @@ gathering_program = with_rule (with_rule limited_program roles) facts_program
 abbrev pub stopping_program : App
 stopping_program = with_rule gathering_program stop_after
 
+abbrev pub recording_program : App
+recording_program = with_rule (with_rule stopping_program trail) audit
+
 abbrev pub program : App
-program = with_rule (with_rule stopping_program syntax_check) list_hosts
+program = with_rule (with_rule recording_program syntax_check) list_hosts
 
 -- what the words, the first of which is the program's name, give an argument
 unfoldable pub value_in : Text → List Text → Option Text
@@ -137,12 +148,13 @@ IsBadNumber Missing = ⊥
 IsBadNumber Memory = Unit
 
 -- what the values of the arguments, each by its name, ask for: these files, so many forks, this limit, these extra variables, this folder of roles, this facts program,
--- this many reports until the run is stopped, and this purpose
+-- this many reports until the run is stopped, this file for its trail, this trail to be looked at, and this purpose
 abbrev pub AskFor : (Text → Option Text) → Request → Type 0
 AskFor value request = (value (codes "inventory") ≡ Some request.inventory) × (value (codes "playbook") ≡ Some request.playbook)
     × AreForks (value (codes "forks")) request.forks × (value (codes "outcomes") ≡ request.outcomes)
     × (value (codes "limit") ≡ request.limit) × (value (codes "extra") ≡ request.extra) × (value (codes "roles") ≡ request.roles)
     × (value (codes "facts_program") ≡ request.facts_program) × IsStop (value (codes "stop_after")) request.stop_after
+    × (value (codes "trail") ≡ request.trail) × (value (codes "audit") ≡ request.audit)
     × (purpose_of (is_true (value (codes "syntax_check"))) (is_true (value (codes "list_hosts"))) ≡ request.purpose)
 
 -- why values ask for nothing to be played

@@ -1,7 +1,7 @@
 ghost use Rattle.pb_command_line.specs.declared.words.WordsFault.TheVariants.{Memory};
 ghost use Rattle.std.specs.Prelude.{◌≡◌, ◌⊎◌, IfOk, IfErr, map, codes, string_bytes};
 ghost use Rattle.clap.specs.Words.{app_of, kind_of, found_of, first_value};
-ghost use Rattle.pb_command_line.specs.CommandLine.{file_program, run_program, limited_program, gathering_program, stopping_program, program, is_true, purpose_of, AskFor, AreRefused, Asks, IsCount, IsNoCount, AreForks, NoForks, IsStop, NoStop, IsReportCount, IsNoReportCount, IsBadNumber, IsRefused, TellsKind};
+ghost use Rattle.pb_command_line.specs.CommandLine.{file_program, run_program, limited_program, gathering_program, stopping_program, recording_program, program, is_true, purpose_of, AskFor, AreRefused, Asks, IsCount, IsNoCount, AreForks, NoForks, IsStop, NoStop, IsReportCount, IsNoReportCount, IsBadNumber, IsRefused, TellsKind};
 
 use clap::error::ErrorKind;
 use clap::{Arg, ArgAction, ArgMatches, Command, Error};
@@ -29,6 +29,10 @@ pub struct Request {
     pub facts_program: Option<Text>,
     /// After how many reports the run is stopped, if it is to be.
     pub stop_after: Option<u32>,
+    /// The path of the file that the run's trail is written to, if it is to be kept.
+    pub trail: Option<Text>,
+    /// The path of the trail that is looked at in place of a run, if one is given.
+    pub audit: Option<Text>,
     /// What is to be done with the plan.
     pub purpose: Purpose,
 }
@@ -36,7 +40,7 @@ pub struct Request {
 /// What a plan is made for.
 #[derive(Clone, Copy, Debug, PartialEq, Eq)]
 pub enum Purpose {
-    /// Its run.
+    /// Its run, or the audit of a trail.
     Run,
     /// To tell that it can be made.
     CheckSyntax,
@@ -129,7 +133,7 @@ fn gathering_words<'a>(alloc: Global) -> Result<Command<'a>, AllocError>
     limited_words(alloc)?.arg(roles)?.arg(facts_program)
 }
 
-/// The program with all its arguments that have a value.
+/// The program with what stands above, and after how many reports the run is stopped.
 fn stopping_words<'a>(alloc: Global) -> Result<Command<'a>, AllocError>
     ensures { IfOk result (λ c. app_of c ≡ stopping_program) }
 {
@@ -138,6 +142,21 @@ fn stopping_words<'a>(alloc: Global) -> Result<Command<'a>, AllocError>
         .value_name("N")
         .help("After how many reports of jobs the run is stopped");
     gathering_words(alloc)?.arg(stop_after)
+}
+
+/// The program with all its arguments that have a value.
+fn recording_words<'a>(alloc: Global) -> Result<Command<'a>, AllocError>
+    ensures { IfOk result (λ c. app_of c ≡ recording_program) }
+{
+    let trail = Arg::new(alloc, "trail")
+        .long("trail")
+        .value_name("FILE")
+        .help("The file that the run's events are written to, a line each");
+    let audit = Arg::new(alloc, "audit")
+        .long("audit")
+        .value_name("TRAIL")
+        .help("Runs nothing: tells whether the events in this file are a legal run");
+    stopping_words(alloc)?.arg(trail)?.arg(audit)
 }
 
 fn command<'a>(alloc: Global) -> Result<Command<'a>, AllocError>
@@ -151,7 +170,7 @@ fn command<'a>(alloc: Global) -> Result<Command<'a>, AllocError>
         .long("list-hosts")
         .action(ArgAction::SetTrue)
         .help("Runs nothing: lists the hosts of each play");
-    stopping_words(alloc)?.arg(syntax_check)?.arg(list_hosts)
+    recording_words(alloc)?.arg(syntax_check)?.arg(list_hosts)
 }
 
 fn fault(alloc: Global, error: &Error) -> WordsFault
@@ -300,6 +319,8 @@ fn request_in(alloc: Global, matches: &ArgMatches<'_>) -> Result<Request, WordsF
     let extra = text_in(alloc, matches, "extra")?;
     let roles = text_in(alloc, matches, "roles")?;
     let facts_program = text_in(alloc, matches, "facts_program")?;
+    let trail = text_in(alloc, matches, "trail")?;
+    let audit = text_in(alloc, matches, "audit")?;
     Ok(Request {
         inventory: Text::from_str(alloc, inventory)?,
         playbook: Text::from_str(alloc, playbook)?,
@@ -310,6 +331,8 @@ fn request_in(alloc: Global, matches: &ArgMatches<'_>) -> Result<Request, WordsF
         roles,
         facts_program,
         stop_after,
+        trail,
+        audit,
         purpose: purpose_in(matches),
     })
 }
