@@ -1,5 +1,5 @@
 -- A run, said of what a caller sees.
-use Rattle.std.proofs.Common.{◌≡◌, ℕ, Bool, true, false, List, Option, Some, None, Result, Ok, Err, IfOk, IfErr, inl, inr, arith}
+use Rattle.std.proofs.Common.{◌≡◌, ℕ, Bool, true, false, List, Option, Some, None, Result, Ok, Err, IfOk, IfErr, inl, inr, arith, sym, subst}
 use Rattle.std.specs.List.{list_any}
 use Rattle.std.specs.Prelude.{if◌then◌else◌}
 use Rattle.pb_outcome.specs.declared.job.Job.{Job}
@@ -21,14 +21,16 @@ use Rattle.pb_runner.specs.Table.{TableGives, TableRan, AllGiven}
 use Rattle.pb_runner.specs.declared.table.Table.{Table}
 use Rattle.pb_command_line.specs.declared.words.Purpose.{Purpose}
 use Rattle.pb_command_line.specs.declared.words.Purpose.TheVariants.{Run, CheckSyntax, ListHosts}
-use Rattle.pb_cli.specs.Played.{IsRunBy, IsCutBy, IsLocalRun, IsLocalCut, IsPlayed, IsGiven, allows_all, commands_for}
+use Rattle.pb_cli.specs.declared.playing.Played.{Played}
+use Rattle.pb_cli.specs.declared.playing.Wanted.{Wanted}
+use Rattle.pb_cli.specs.Audited.{IsVerdict}
+use Rattle.pb_cli.specs.Played.{IsRunBy, IsCutBy, IsLocalRun, IsLocalCut, IsTabledCut, IsPlayed, IsPlayedTo, HasTrail, IsRunOrAudited, IsRunOrAuditedTo, IsGivenFor, allows_all, commands_for}
 use Rattle.pb_cli.specs.Done.{IsShown}
 
 -- what was run, said otherwise
-run_as : (allows gives : Job → Form → Type 0) (has_run others : List (Job × Form) → Type 0) (plan : PlanOf) (commands : List Given) (before after : Option (List ℕ)) (status : ℕ)
-    → ((jobs : List (Job × Form)) → has_run jobs → others jobs) → IsRunBy allows gives has_run plan commands before after status → IsRunBy allows gives others plan commands before after status
-run_as allows gives has_run others plan commands before after status weaker r = record {
-  trail = r.trail;
+run_as : (allows gives : Job → Form → Type 0) (has_run others : List (Job × Form) → Type 0) (plan : PlanOf) (commands : List Given) (trail : List Event) (before after : Option (List ℕ)) (status : ℕ)
+    → ((jobs : List (Job × Form)) → has_run jobs → others jobs) → IsRunBy allows gives has_run plan commands trail before after status → IsRunBy allows gives others plan commands trail before after status
+run_as allows gives has_run others plan commands trail before after status weaker r = record {
   run = record {
     legal = r.run.legal;
     eager = r.run.eager;
@@ -48,32 +50,46 @@ ran_as : (has_run others : List (Job × Form) → Type 0) (plan : PlanOf) (pool 
 ran_as has_run others plan pool trail fault weaker (inl ran) = inl (weaker _ ran)
 ran_as has_run others plan pool trail fault weaker (inr lost) = inr (lost.0, (lost.1.0, lost.1.1, lost.1.2, weaker _ lost.1.3))
 
-cut_as : (allows gives : Job → Form → Type 0) (has_run others : List (Job × Form) → Type 0) (plan : PlanOf) (commands : List Given) (fault : RunFault) (before after : Option (List ℕ))
-    → ((jobs : List (Job × Form)) → has_run jobs → others jobs) → IsCutBy allows gives has_run plan commands fault before after → IsCutBy allows gives others plan commands fault before after
-cut_as allows gives has_run others plan commands fault before after weaker c =
-    record { trail = c.trail; begun = c.begun; ran = ran_as has_run others plan 256 c.trail fault weaker c.ran; cut = c.cut }
+cut_as : (allows gives : Job → Form → Type 0) (has_run others : List (Job × Form) → Type 0) (plan : PlanOf) (commands : List Given) (trail : List Event) (fault : RunFault) (before after : Option (List ℕ))
+    → ((jobs : List (Job × Form)) → has_run jobs → others jobs) → IsCutBy allows gives has_run plan commands trail fault before after → IsCutBy allows gives others plan commands trail fault before after
+cut_as allows gives has_run others plan commands trail fault before after weaker c =
+    record { begun = c.begun; ran = ran_as has_run others plan 256 trail fault weaker c.ran; cut = c.cut }
 
 -- a run by a runner that starts programs
-pub local_run : (result : Result ℕ RunFault) (plan : PlanOf) (stop_after : Option ℕ) (facts facts_after : Option (List ℕ)) (started started_after : Option (List Launch)) (before after : Option (List ℕ))
-    → IfOk result (IsRunBy LocalAllows (LocalGives facts) (λ jobs. LocalRan facts started jobs facts_after started_after) plan (commands_for stop_after) before after)
-    → IfOk result (IsLocalRun plan stop_after facts started started_after before after)
-local_run (Ok status) plan stop_after facts facts_after started started_after before after run = run_as LocalAllows (LocalGives facts) _ _ plan (commands_for stop_after) before after status (λ jobs ran. ran.1) run
-local_run (Err fault) plan stop_after facts facts_after started started_after before after run = tt
+pub local_run : (result : Result (ℕ × List Event) (RunFault × List Event)) (plan : PlanOf) (stop_after : Option ℕ) (facts facts_after : Option (List ℕ)) (started started_after : Option (List Launch)) (before after : Option (List ℕ))
+    → IfOk result (λ ran. IsRunBy LocalAllows (LocalGives facts) (λ jobs. LocalRan facts started jobs facts_after started_after) plan (commands_for stop_after) ran.1 before after ran.0)
+    → IfOk result (λ ran. IsLocalRun plan stop_after facts started started_after ran.1 before after ran.0)
+local_run (Ok ran) plan stop_after facts facts_after started started_after before after run = run_as LocalAllows (LocalGives facts) _ _ plan (commands_for stop_after) ran.1 before after ran.0 (λ jobs ran. ran.1) run
+local_run (Err cut) plan stop_after facts facts_after started started_after before after run = tt
 
-pub local_cut : (result : Result ℕ RunFault) (plan : PlanOf) (stop_after : Option ℕ) (facts facts_after : Option (List ℕ)) (started started_after : Option (List Launch)) (before after : Option (List ℕ))
-    → IfErr result (λ fault. IsCutBy LocalAllows (LocalGives facts) (λ jobs. LocalRan facts started jobs facts_after started_after) plan (commands_for stop_after) fault before after)
-    → IfErr result (λ fault. IsLocalCut plan stop_after facts started started_after fault before after)
-local_cut (Ok status) plan stop_after facts facts_after started started_after before after cut = tt
-local_cut (Err fault) plan stop_after facts facts_after started started_after before after cut = cut_as LocalAllows (LocalGives facts) _ _ plan (commands_for stop_after) fault before after (λ jobs ran. ran.1) cut
+pub local_cut : (result : Result (ℕ × List Event) (RunFault × List Event)) (plan : PlanOf) (stop_after : Option ℕ) (facts facts_after : Option (List ℕ)) (started started_after : Option (List Launch)) (before after : Option (List ℕ))
+    → IfErr result (λ cut. IsCutBy LocalAllows (LocalGives facts) (λ jobs. LocalRan facts started jobs facts_after started_after) plan (commands_for stop_after) cut.1 cut.0 before after)
+    → IfErr result (λ cut. IsLocalCut plan stop_after facts started started_after cut.1 cut.0 before after)
+local_cut (Ok ran) plan stop_after facts facts_after started started_after before after cut = tt
+local_cut (Err fault) plan stop_after facts facts_after started started_after before after cut = cut_as LocalAllows (LocalGives facts) _ _ plan (commands_for stop_after) fault.1 fault.0 before after (λ jobs ran. ran.1) cut
 
 -- a run by a table's runner
-pub table_run : (plan : PlanOf) (commands : List Given) (table table_after : Table) (before after : Option (List ℕ)) (status : ℕ)
-    → IsRunBy allows_all (TableGives table) (λ jobs. TableRan table jobs table_after) plan commands before after status → IsRunBy allows_all (TableGives table) (AllGiven table) plan commands before after status
-table_run plan commands table table_after before after status run = run_as allows_all (TableGives table) _ _ plan commands before after status (λ jobs ran. ran.1) run
+pub table_run : (plan : PlanOf) (commands : List Given) (table table_after : Table) (trail : List Event) (before after : Option (List ℕ)) (status : ℕ)
+    → IsRunBy allows_all (TableGives table) (λ jobs. TableRan table jobs table_after) plan commands trail before after status → IsRunBy allows_all (TableGives table) (AllGiven table) plan commands trail before after status
+table_run plan commands table table_after trail before after status run = run_as allows_all (TableGives table) _ _ plan commands trail before after status (λ jobs ran. ran.1) run
 
-pub table_cut : (plan : PlanOf) (commands : List Given) (table table_after : Table) (fault : RunFault) (before after : Option (List ℕ))
-    → IsCutBy allows_all (TableGives table) (λ jobs. TableRan table jobs table_after) plan commands fault before after → IsCutBy allows_all (TableGives table) (AllGiven table) plan commands fault before after
-table_cut plan commands table table_after fault before after cut = cut_as allows_all (TableGives table) _ _ plan commands fault before after (λ jobs ran. ran.1) cut
+pub table_cut : (plan : PlanOf) (commands : List Given) (table table_after : Table) (trail : List Event) (fault : RunFault) (before after : Option (List ℕ))
+    → IsCutBy allows_all (TableGives table) (λ jobs. TableRan table jobs table_after) plan commands trail fault before after → IsCutBy allows_all (TableGives table) (AllGiven table) plan commands trail fault before after
+table_cut plan commands table table_after trail fault before after cut = cut_as allows_all (TableGives table) _ _ plan commands trail fault before after (λ jobs ran. ran.1) cut
+
+-- a run that couldn't go on, with a table, and in place of an audit
+pub tabled_cut : (outcomes : Option (List ℕ)) (bytes : List ℕ) (plan : PlanOf) (stop_after : Option ℕ) (facts : Option (List ℕ)) (started started_after : Option (List Launch)) (trail : Option (List Event)) (fault : RunFault) (before after : Option (List ℕ))
+    → outcomes ≡ Some bytes → started_after ≡ started → HasTrail trail (λ events. IsTabledCut bytes plan stop_after events fault before after)
+    → HasTrail trail (λ events. IsPlayedTo plan stop_after facts outcomes started started_after events fault before after)
+tabled_cut outcomes bytes plan stop_after facts started started_after None fault before after is same has = absurd has
+tabled_cut outcomes bytes plan stop_after facts started started_after (Some events) fault before after is same has =
+    subst (λ (o : Option (List ℕ)). IsPlayedTo plan stop_after facts o started started_after events fault before after) (sym is) (same, has)
+
+pub run_cut : (audited : Option (List ℕ)) (wanted : Wanted) (plan : PlanOf) (facts : Option (List ℕ)) (started started_after : Option (List Launch)) (fault : RunFault) (trail : Option (List Event)) (before after : Option (List ℕ))
+    → audited ≡ None → HasTrail trail (λ events. IsPlayedTo plan wanted.stop_after facts wanted.outcomes started started_after events fault before after)
+    → IsRunOrAuditedTo audited wanted plan facts started started_after fault trail before after
+run_cut audited wanted plan facts started started_after fault trail before after is has =
+    subst (λ (a : Option (List ℕ)). IsRunOrAuditedTo a wanted plan facts started started_after fault trail before after) (sym is) has
 
 -- no run has status 1
 status_at : (failed lost : Bool) (status : ℕ) → status ≡ (if failed then 2 else (if lost then 4 else 0)) → status ≡ 1 → ⊥
@@ -84,18 +100,35 @@ status_at false false status told one = let is : status ≡ 0 = told in omega (a
 not_told : (counts : List Counts) (status : ℕ) → status ≡ status_of counts → status ≡ 1 → ⊥
 not_told counts status told one = status_at (list_any (has Failed) counts) (list_any (has Unreachable) counts) status told one
 
-not_played : (plan : PlanOf) (stop_after : Option ℕ) (facts outcomes : Option (List ℕ)) (started started_after : Option (List Launch)) (before after : Option (List ℕ)) (status : ℕ)
-    → IsPlayed plan stop_after facts outcomes started started_after before after status → status ≡ 1 → ⊥
-not_played plan stop_after facts None started started_after before after status run one = not_told (recap plan 256 run.trail) status run.told one
-not_played plan stop_after facts (Some bytes) started started_after before after status run one = not_told (recap plan 256 run.1.run.trail) status run.1.run.told one
+not_played : (plan : PlanOf) (stop_after : Option ℕ) (facts outcomes : Option (List ℕ)) (started started_after : Option (List Launch)) (trail : List Event) (before after : Option (List ℕ)) (status : ℕ)
+    → IsPlayed plan stop_after facts outcomes started started_after trail before after status → status ≡ 1 → ⊥
+not_played plan stop_after facts None started started_after trail before after status run one = not_told (recap plan 256 trail) status run.told one
+not_played plan stop_after facts (Some bytes) started started_after trail before after status run one = not_told (recap plan 256 trail) status run.1.run.told one
 
-not_given : (purpose : Purpose) (plan : PlanOf) (stop_after : Option ℕ) (facts outcomes : Option (List ℕ)) (started started_after : Option (List Launch)) (before after : Option (List ℕ)) (status : ℕ)
-    → IsGiven purpose plan stop_after facts outcomes started started_after before after status → status ≡ 1 → ⊥
-not_given Run plan stop_after facts outcomes started started_after before after status given one = not_played plan stop_after facts outcomes started started_after before after status given one
-not_given CheckSyntax plan stop_after facts outcomes started started_after before after status given one = let is : status ≡ 0 = given.2 in omega (arith, is, one)
-not_given ListHosts plan stop_after facts outcomes started started_after before after status given one = let is : status ≡ 0 = given.2 in omega (arith, is, one)
+-- nor has an audit
+not_verdict : (plan : PlanOf) (trail : List Event) (text : List ℕ) (status : ℕ) → IsVerdict plan trail text status → status ≡ 1 → ⊥
+not_verdict plan trail text status (inl legal) one = let is : status ≡ 0 = legal.2 in omega (arith, is, one)
+not_verdict plan trail text status (inr (illegal, step, name, first, told, is)) one = let two : status ≡ 2 = is in omega (arith, two, one)
 
-pub not_shown : (bundle : Bundle) (purpose : Purpose) (stop_after : Option ℕ) (facts outcomes : Option (List ℕ)) (started started_after : Option (List Launch)) (out_before out_after err_before err_after : Option (List ℕ)) (failures failures_after status : ℕ)
-    → IsShown bundle purpose stop_after facts outcomes started started_after out_before out_after err_before err_after failures failures_after status → status ≡ 1 → ⊥
-not_shown bundle purpose stop_after facts outcomes started started_after out_before out_after err_before err_after failures failures_after status shown one =
-    not_given purpose shown.0 stop_after facts outcomes started started_after out_before out_after status shown.2 one
+not_trail : (trail : Option (List Event)) (wanted : Wanted) (plan : PlanOf) (facts : Option (List ℕ)) (started started_after : Option (List Launch)) (before after : Option (List ℕ)) (status : ℕ)
+    → HasTrail trail (λ events. IsPlayed plan wanted.stop_after facts wanted.outcomes started started_after events before after status) → status ≡ 1 → ⊥
+not_trail None wanted plan facts started started_after before after status has one = absurd has
+not_trail (Some events) wanted plan facts started started_after before after status run one = not_played plan wanted.stop_after facts wanted.outcomes started started_after events before after status run one
+
+not_run : (audited : Option (List ℕ)) (wanted : Wanted) (plan : PlanOf) (facts : Option (List ℕ)) (started started_after : Option (List Launch)) (before after : Option (List ℕ)) (played : Played)
+    → IsRunOrAudited audited wanted plan facts started started_after before after played → played.status ≡ 1 → ⊥
+not_run None wanted plan facts started started_after before after played given one =
+    not_trail played.trail wanted plan facts started started_after before after played.status given one
+not_run (Some bytes) wanted plan facts started started_after before after played given one =
+    let audit = given.2 in not_verdict plan audit.trail audit.text played.status audit.verdict one
+
+not_given : (purpose : Purpose) (wanted : Wanted) (plan : PlanOf) (facts : Option (List ℕ)) (started started_after : Option (List Launch)) (before after : Option (List ℕ)) (played : Played)
+    → IsGivenFor purpose wanted plan facts started started_after before after played → played.status ≡ 1 → ⊥
+not_given Run wanted plan facts started started_after before after played given one = not_run wanted.audited wanted plan facts started started_after before after played given one
+not_given CheckSyntax wanted plan facts started started_after before after played given one = let is : played.status ≡ 0 = given.2 in omega (arith, is, one)
+not_given ListHosts wanted plan facts started started_after before after played given one = let is : played.status ≡ 0 = given.2 in omega (arith, is, one)
+
+pub not_shown : (bundle : Bundle) (wanted : Wanted) (facts : Option (List ℕ)) (started started_after : Option (List Launch)) (out_before out_after err_before err_after : Option (List ℕ)) (failures failures_after : ℕ) (played : Played)
+    → IsShown bundle wanted facts started started_after out_before out_after err_before err_after failures failures_after played → played.status ≡ 1 → ⊥
+not_shown bundle wanted facts started started_after out_before out_after err_before err_after failures failures_after played shown one =
+    not_given wanted.purpose wanted shown.0 facts started started_after out_before out_after played shown.2 one

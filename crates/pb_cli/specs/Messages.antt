@@ -1,7 +1,7 @@
 -- What the program writes to standard error.
 use Rattle.std.specs.Prelude.{ℕ, List, [], ◌∷◌, ◌++◌, codes}
 use Rattle.pb_cli.specs.declared.messages.Part.{Part}
-use Rattle.pb_cli.specs.declared.messages.Part.TheVariants.{Words, File, Bundle, Inventory, Extra, Playbook, Limit, Roles, Outcomes, Run}
+use Rattle.pb_cli.specs.declared.messages.Part.TheVariants.{Words, File, Bundle, Inventory, Extra, Playbook, Limit, Roles, Outcomes, Trail, Run}
 
 -- the part of the program's work that a fault belongs to
 abbrev pub part_name : Part → List ℕ
@@ -14,6 +14,7 @@ part_name Playbook = codes "playbook"
 part_name Limit = codes "limit"
 part_name Roles = codes "roles"
 part_name Outcomes = codes "outcomes"
+part_name Trail = codes "trail"
 part_name Run = codes "run"
 
 -- a fault of a part, with a line end

@@ -1,5 +1,5 @@
 -- What playing a bundle means.
-use Rattle.std.specs.Prelude.{◌≡◌, ⊤, ℕ, List, [], ◌∷◌, Option, Some, None, Ok, Err, codes}
+use Rattle.std.specs.Prelude.{◌≡◌, ◌⊎◌, ⊤, ℕ, List, [], ◌∷◌, Option, Some, None, Ok, Err, codes}
 use Rattle.pb_outcome.specs.declared.job.Job.{Job}
 use Rattle.pb_outcome.specs.declared.outcome.Form.{Form}
 use Rattle.pb_runner.specs.declared.fault.TableFault.{TableFault}
@@ -15,6 +15,7 @@ use Rattle.pb_recap.specs.Recap.{recap}
 use Rattle.pb_recap.specs.Kinds.{status_of}
 use Rattle.pb_engine.specs.declared.command.Command.TheVariants.{Stop}
 use Rattle.pb_driver.specs.declared.driver.RunFault.{RunFault}
+use Rattle.pb_driver.specs.declared.driver.RunFault.TheVariants.{Memory}
 use Rattle.pb_driver.specs.declared.given.Given.{Given}
 use Rattle.pb_driver.specs.Cut.{IsPart, IsCut}
 use Rattle.pb_driver.specs.Driven.{IsBegun, IsWholeRun}
@@ -22,6 +23,9 @@ use Rattle.pb_driver.specs.Ran.{IsRanTo}
 use Rattle.pb_driver.specs.Taken.{with_more}
 use Rattle.pb_command_line.specs.declared.words.Purpose.{Purpose}
 use Rattle.pb_command_line.specs.declared.words.Purpose.TheVariants.{Run, CheckSyntax, ListHosts}
+use Rattle.pb_cli.specs.declared.playing.Played.{Played}
+use Rattle.pb_cli.specs.declared.playing.Wanted.{Wanted}
+use Rattle.pb_cli.specs.Audited.{IsAudited, IsAuditCut}
 use Rattle.pb_cli.specs.Listing.{listing}
 
 -- a table may give every outcome
@@ -33,16 +37,14 @@ abbrev pub commands_for : (stop_after : Option ℕ) → List Given
 commands_for None = []
 commands_for (Some reports) = record { after = reports; command = Stop } ∷ []
 
--- what was written is the output of one whole run of the plan, legal and eager, that was given these commands, in which each job that was out is answered with an
+-- what was written is the output of this trail, which is one whole run of the plan, legal and eager, that was given these commands, in which each job that was out is answered with an
 -- outcome that may come of it, exactly these jobs were run, and the status is that of its recap
-pub record IsRunBy (allows gives : Job → Form → Type 0) (has_run : List (Job × Form) → Type 0) (plan : PlanOf) (commands : List Given) (before after : Option (List ℕ)) (status : ℕ) : Type 0 where
-  pub trail : List Event
+pub record IsRunBy (allows gives : Job → Form → Type 0) (has_run : List (Job × Form) → Type 0) (plan : PlanOf) (commands : List Given) (trail : List Event) (before after : Option (List ℕ)) (status : ℕ) : Type 0 where
   pub run : IsWholeRun allows gives has_run plan 256 commands trail before after
   pub told : status ≡ status_of (recap plan 256 trail)
 
--- what was written is a beginning of such an output, whose run couldn't go on, and what was run is what its events say
-pub record IsCutBy (allows gives : Job → Form → Type 0) (has_run : List (Job × Form) → Type 0) (plan : PlanOf) (commands : List Given) (fault : RunFault) (before after : Option (List ℕ)) : Type 0 where
-  pub trail : List Event
+-- what was written is a beginning of the output of this trail, whose run couldn't go on, and what was run is what its events say
+pub record IsCutBy (allows gives : Job → Form → Type 0) (has_run : List (Job × Form) → Type 0) (plan : PlanOf) (commands : List Given) (trail : List Event) (fault : RunFault) (before after : Option (List ℕ)) : Type 0 where
   pub begun : IsBegun allows gives plan 256 commands trail
   pub ran : IsRanTo has_run plan 256 trail fault
   pub cut : IsCut plan 256 trail before after
@@ -52,49 +54,84 @@ abbrev pub started_for : Option (List ℕ) → Option (List Launch) → Option (
 started_for facts_program started started_after jobs = HasStarted facts_program started jobs started_after
 
 -- the programs of a plan's jobs were started, by a runner with this facts program or none
-abbrev pub IsLocalRun : PlanOf → (stop_after : Option ℕ) → (facts_program : Option (List ℕ)) → (started started_after : Option (List Launch)) → Option (List ℕ) → Option (List ℕ) → ℕ → Type 0
-IsLocalRun plan stop_after facts_program started started_after before after status =
-    IsRunBy LocalAllows (LocalGives facts_program) (started_for facts_program started started_after) plan (commands_for stop_after) before after status
+abbrev pub IsLocalRun : PlanOf → (stop_after : Option ℕ) → (facts_program : Option (List ℕ)) → (started started_after : Option (List Launch)) → (trail : List Event) → Option (List ℕ) → Option (List ℕ) → ℕ → Type 0
+IsLocalRun plan stop_after facts_program started started_after trail before after status =
+    IsRunBy LocalAllows (LocalGives facts_program) (started_for facts_program started started_after) plan (commands_for stop_after) trail before after status
 
-abbrev pub IsLocalCut : PlanOf → (stop_after : Option ℕ) → (facts_program : Option (List ℕ)) → (started started_after : Option (List Launch)) → RunFault → Option (List ℕ) → Option (List ℕ) → Type 0
-IsLocalCut plan stop_after facts_program started started_after fault before after =
-    IsCutBy LocalAllows (LocalGives facts_program) (started_for facts_program started started_after) plan (commands_for stop_after) fault before after
+abbrev pub IsLocalCut : PlanOf → (stop_after : Option ℕ) → (facts_program : Option (List ℕ)) → (started started_after : Option (List Launch)) → (trail : List Event) → RunFault → Option (List ℕ) → Option (List ℕ) → Type 0
+IsLocalCut plan stop_after facts_program started started_after trail fault before after =
+    IsCutBy LocalAllows (LocalGives facts_program) (started_for facts_program started started_after) plan (commands_for stop_after) trail fault before after
 
 -- the bytes of a file of outcomes have a table, and the run's reports have the table's outcomes
-pub record IsTabled (bytes : List ℕ) (plan : PlanOf) (stop_after : Option ℕ) (before after : Option (List ℕ)) (status : ℕ) : Type 0 where
+pub record IsTabled (bytes : List ℕ) (plan : PlanOf) (stop_after : Option ℕ) (trail : List Event) (before after : Option (List ℕ)) (status : ℕ) : Type 0 where
   pub table : Table
   pub tabled : table_of bytes ≡ Ok table
-  pub run : IsRunBy allows_all (TableGives table) (AllGiven table) plan (commands_for stop_after) before after status
+  pub run : IsRunBy allows_all (TableGives table) (AllGiven table) plan (commands_for stop_after) trail before after status
 
-pub record IsTabledCut (bytes : List ℕ) (plan : PlanOf) (stop_after : Option ℕ) (fault : RunFault) (before after : Option (List ℕ)) : Type 0 where
+pub record IsTabledCut (bytes : List ℕ) (plan : PlanOf) (stop_after : Option ℕ) (trail : List Event) (fault : RunFault) (before after : Option (List ℕ)) : Type 0 where
   pub table : Table
   pub tabled : table_of bytes ≡ Ok table
-  pub cut : IsCutBy allows_all (TableGives table) (AllGiven table) plan (commands_for stop_after) fault before after
+  pub cut : IsCutBy allows_all (TableGives table) (AllGiven table) plan (commands_for stop_after) trail fault before after
 
--- a run of a plan, stopped behind so many reports where that is asked for: without a file of outcomes the programs of its jobs are started, by a runner with this facts program or none, and with one nothing is started
+-- a run of a plan with this trail, stopped behind so many reports where that is asked for: without a file of outcomes the programs of its jobs are started, by a runner with this facts program or none, and with one nothing is started
 -- but what the file says comes of each job
-abbrev pub IsPlayed : PlanOf → (stop_after : Option ℕ) → (facts_program outcomes : Option (List ℕ)) → (started started_after : Option (List Launch)) → Option (List ℕ) → Option (List ℕ) → ℕ → Type 0
-IsPlayed plan stop_after facts_program None started started_after before after status = IsLocalRun plan stop_after facts_program started started_after before after status
-IsPlayed plan stop_after facts_program (Some bytes) started started_after before after status = (started_after ≡ started) × IsTabled bytes plan stop_after before after status
+abbrev pub IsPlayed : PlanOf → (stop_after : Option ℕ) → (facts_program outcomes : Option (List ℕ)) → (started started_after : Option (List Launch)) → (trail : List Event) → Option (List ℕ) → Option (List ℕ) → ℕ → Type 0
+IsPlayed plan stop_after facts_program None started started_after trail before after status = IsLocalRun plan stop_after facts_program started started_after trail before after status
+IsPlayed plan stop_after facts_program (Some bytes) started started_after trail before after status = (started_after ≡ started) × IsTabled bytes plan stop_after trail before after status
 
 -- such a run that couldn't go on
-abbrev pub IsPlayedTo : PlanOf → (stop_after : Option ℕ) → (facts_program outcomes : Option (List ℕ)) → (started started_after : Option (List Launch)) → RunFault → Option (List ℕ) → Option (List ℕ) → Type 0
-IsPlayedTo plan stop_after facts_program None started started_after fault before after = IsLocalCut plan stop_after facts_program started started_after fault before after
-IsPlayedTo plan stop_after facts_program (Some bytes) started started_after fault before after = (started_after ≡ started) × IsTabledCut bytes plan stop_after fault before after
+abbrev pub IsPlayedTo : PlanOf → (stop_after : Option ℕ) → (facts_program outcomes : Option (List ℕ)) → (started started_after : Option (List Launch)) → (trail : List Event) → RunFault → Option (List ℕ) → Option (List ℕ) → Type 0
+IsPlayedTo plan stop_after facts_program None started started_after trail fault before after = IsLocalCut plan stop_after facts_program started started_after trail fault before after
+IsPlayedTo plan stop_after facts_program (Some bytes) started started_after trail fault before after = (started_after ≡ started) × IsTabledCut bytes plan stop_after trail fault before after
 
 -- a file of outcomes has this first fault
 unfoldable pub IsBadTable : Option (List ℕ) → TableFault → Type 0
 IsBadTable None e = ⊥
 IsBadTable (Some bytes) e = table_of bytes ≡ Err e
 
--- what a plan is made for: its run, to tell that it can be made, or the list of its hosts; only a run starts programs
-abbrev pub IsGiven : Purpose → PlanOf → (stop_after : Option ℕ) → (facts_program outcomes : Option (List ℕ)) → (started started_after : Option (List Launch)) → Option (List ℕ) → Option (List ℕ) → ℕ → Type 0
-IsGiven Run plan stop_after facts_program outcomes started started_after before after status = IsPlayed plan stop_after facts_program outcomes started started_after before after status
-IsGiven CheckSyntax plan stop_after facts_program outcomes started started_after before after status = (started_after ≡ started) × (after ≡ with_more before (codes "ok\n")) × (status ≡ 0)
-IsGiven ListHosts plan stop_after facts_program outcomes started started_after before after status = (started_after ≡ started) × (after ≡ with_more before (listing plan)) × (status ≡ 0)
+-- there is a trail, and this holds of it
+abbrev pub HasTrail : Option (List Event) → (List Event → Type 0) → Type 0
+HasTrail None holds = ⊥
+HasTrail (Some trail) holds = holds trail
 
--- the same where it couldn't go on: a beginning of it
-abbrev pub IsGivenTo : Purpose → PlanOf → (stop_after : Option ℕ) → (facts_program outcomes : Option (List ℕ)) → (started started_after : Option (List Launch)) → RunFault → Option (List ℕ) → Option (List ℕ) → Type 0
-IsGivenTo Run plan stop_after facts_program outcomes started started_after fault before after = IsPlayedTo plan stop_after facts_program outcomes started started_after fault before after
-IsGivenTo CheckSyntax plan stop_after facts_program outcomes started started_after fault before after = (started_after ≡ started) × IsPart before after (codes "ok\n")
-IsGivenTo ListHosts plan stop_after facts_program outcomes started started_after fault before after = (started_after ≡ started) × IsPart before after (listing plan)
+-- a text was written and nothing else done, so that there is no trail
+abbrev pub IsSaid : List ℕ → (started started_after : Option (List Launch)) → Option (List ℕ) → Option (List ℕ) → Played → Type 0
+IsSaid text started started_after before after played = (started_after ≡ started) × (after ≡ with_more before text) × (played.status ≡ 0) × (played.trail ≡ None)
+
+-- a plan is run, and its trail handed out, or a trail is looked at in place of that
+abbrev pub IsRunOrAudited : (audited : Option (List ℕ)) → Wanted → PlanOf → (facts_program : Option (List ℕ)) → (started started_after : Option (List Launch)) → Option (List ℕ) → Option (List ℕ) → Played → Type 0
+IsRunOrAudited None wanted plan facts_program started started_after before after played =
+    HasTrail played.trail (λ trail. IsPlayed plan wanted.stop_after facts_program wanted.outcomes started started_after trail before after played.status)
+IsRunOrAudited (Some bytes) wanted plan facts_program started started_after before after played = (started_after ≡ started) × (played.trail ≡ None) × IsAudited bytes plan before after played.status
+
+-- what a plan is made for: its run or the audit of a trail, to tell that it can be made, or the list of its hosts; only a run starts programs and has a trail
+abbrev pub IsGivenFor : Purpose → Wanted → PlanOf → (facts_program : Option (List ℕ)) → (started started_after : Option (List Launch)) → Option (List ℕ) → Option (List ℕ) → Played → Type 0
+IsGivenFor Run wanted plan facts_program started started_after before after played = IsRunOrAudited wanted.audited wanted plan facts_program started started_after before after played
+IsGivenFor CheckSyntax wanted plan facts_program started started_after before after played = IsSaid (codes "ok\n") started started_after before after played
+IsGivenFor ListHosts wanted plan facts_program started started_after before after played = IsSaid (listing plan) started started_after before after played
+
+abbrev pub IsGiven : Wanted → PlanOf → (facts_program : Option (List ℕ)) → (started started_after : Option (List Launch)) → Option (List ℕ) → Option (List ℕ) → Played → Type 0
+IsGiven wanted plan facts_program started started_after before after played = IsGivenFor wanted.purpose wanted plan facts_program started started_after before after played
+
+-- a beginning of a text was written, and nothing else done
+abbrev pub IsSaidTo : List ℕ → (started started_after : Option (List Launch)) → (trail : Option (List Event)) → Option (List ℕ) → Option (List ℕ) → Type 0
+IsSaidTo text started started_after trail before after = (started_after ≡ started) × (trail ≡ None) × IsPart before after text
+
+abbrev pub IsRunOrAuditedTo : (audited : Option (List ℕ)) → Wanted → PlanOf → (facts_program : Option (List ℕ)) → (started started_after : Option (List Launch)) → RunFault → (trail : Option (List Event)) → Option (List ℕ) → Option (List ℕ) → Type 0
+IsRunOrAuditedTo None wanted plan facts_program started started_after fault trail before after =
+    HasTrail trail (λ events. IsPlayedTo plan wanted.stop_after facts_program wanted.outcomes started started_after events fault before after)
+IsRunOrAuditedTo (Some bytes) wanted plan facts_program started started_after fault trail before after = (started_after ≡ started) × (trail ≡ None) × IsAuditCut bytes plan before after
+
+abbrev pub IsGivenToFor : Purpose → Wanted → PlanOf → (facts_program : Option (List ℕ)) → (started started_after : Option (List Launch)) → RunFault → (trail : Option (List Event)) → Option (List ℕ) → Option (List ℕ) → Type 0
+IsGivenToFor Run wanted plan facts_program started started_after fault trail before after = IsRunOrAuditedTo wanted.audited wanted plan facts_program started started_after fault trail before after
+IsGivenToFor CheckSyntax wanted plan facts_program started started_after fault trail before after = IsSaidTo (codes "ok\n") started started_after trail before after
+IsGivenToFor ListHosts wanted plan facts_program started started_after fault trail before after = IsSaidTo (listing plan) started started_after trail before after
+
+-- memory was refused before anything was started or written, and so before a run began
+abbrev pub IsUnbegun : (started started_after : Option (List Launch)) → RunFault → (trail : Option (List Event)) → Option (List ℕ) → Option (List ℕ) → Type 0
+IsUnbegun started started_after fault trail before after = (fault ≡ Memory) × (started_after ≡ started) × (trail ≡ None) × (after ≡ before)
+
+-- what a plan is made for couldn't go on: it wasn't begun, or a beginning of it was done
+abbrev pub IsGivenTo : Wanted → PlanOf → (facts_program : Option (List ℕ)) → (started started_after : Option (List Launch)) → RunFault → (trail : Option (List Event)) → Option (List ℕ) → Option (List ℕ) → Type 0
+IsGivenTo wanted plan facts_program started started_after fault trail before after =
+    IsUnbegun started started_after fault trail before after ⊎ IsGivenToFor wanted.purpose wanted plan facts_program started started_after fault trail before after

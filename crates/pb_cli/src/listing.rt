@@ -45,7 +45,8 @@ fn heading(alloc: Global, number: usize, count: u32) -> Result<String, AllocErro
     Ok(text)
 }
 
-fn push_number(alloc: Global, text: &mut String, number: u64) -> Result<(), AllocError>
+/// Adds a number in decimal.
+pub(crate) fn push_number(alloc: Global, text: &mut String, number: u64) -> Result<(), AllocError>
     ensures { IfOk result (λ _. string_bytes text.new ≡ string_bytes text.old ++ decimal number) }
 {
     let digits = format!(in alloc; "{number}")?;

@@ -17,6 +17,7 @@ pub enum Part {
     Limit,
     Roles,
     Outcomes,
+    Trail,
     Run,
 }
 
@@ -35,6 +36,7 @@ impl Part {
             Part::Limit => "limit",
             Part::Roles => "roles",
             Part::Outcomes => "outcomes",
+            Part::Trail => "trail",
             Part::Run => "run",
         }
     }

@@ -3,3 +3,6 @@ use Rattle.pb_cli.proofs.program.play_by.Goals as goal
 
 pub returns-in-Err-Outcomes-clause-fault : goal.returns-in-Err-Outcomes-clause-fault
 returns-in-Err-Outcomes-clause-fault g c = λ one. let untold = c.play_bundle.ensures.untold c.in-Err-Outcomes.fault (search rules) in inl (untold.unstarted, untold.unwritten)
+
+pub returns-in-Err-Trail-clause-fault : goal.returns-in-Err-Trail-clause-fault
+returns-in-Err-Trail-clause-fault g c = λ one. let unread = c.play_bundle.ensures.unread c.in-Err-Trail.fault (search rules) in inl (unread.unstarted, unread.unwritten)
