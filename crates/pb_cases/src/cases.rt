@@ -1,7 +1,7 @@
 //! All cases, or those that are named.
 
-use crate::case::{CASES, Case};
-use crate::difference::{push_status, push_streams};
+use crate::case::{CASES, Case, take_written};
+use crate::difference::{push_status, push_streams, push_trail};
 use pb_kept::{Kept, play_words};
 use std::{env, fs, io};
 
@@ -27,12 +27,15 @@ fn names(rt: &HostRuntime) -> io::Result<Vec<String>> {
     Ok(names)
 }
 
-/// A line for each part of what a case shows that isn't what it wants.
+/// A line for each part of what a case shows that isn't what it wants. A trail that an earlier play has left is removed first.
 fn differences(rt: &HostRuntime, name: &str) -> io::Result<String> {
     let case = Case::read(rt, name)?;
+    let _ = take_written(rt, name)?;
     let seen = play_words(rt, case.words.as_slice(), Kept::new(rt.alloc()));
+    let written = take_written(rt, name)?;
     let mut lines = String::new(rt.alloc());
     push_streams(&mut lines, name, &case, &seen)?;
+    push_trail(&mut lines, name, &case.trail, &written)?;
     push_status(&mut lines, name, case.status, seen.status)?;
     Ok(lines)
 }

@@ -29,7 +29,7 @@ fn behind(bytes: &[u8], at: usize) -> &[u8] {
     rest.get(..SHOWN).unwrap_or(rest)
 }
 
-/// A line on a stream, where it differs.
+/// A line on a stream or a trail, where it differs.
 fn push_stream(
     lines: &mut String,
     name: &str,
@@ -70,6 +70,23 @@ pub fn push_streams(
         case.err.as_slice(),
         seen.err.as_slice(),
     )
+}
+
+/// A line on the trail that was written, where it differs, or is there without being wanted, or isn't there.
+pub fn push_trail(
+    lines: &mut String,
+    name: &str,
+    wanted: &Option<Vec<u8>>,
+    seen: &Option<Vec<u8>>,
+) -> Result<(), AllocError> {
+    match (wanted, seen) {
+        (Some(wanted), Some(seen)) => {
+            push_stream(lines, name, "trail", wanted.as_slice(), seen.as_slice())
+        }
+        (Some(_), None) => writeln!(lines, "{name}: no trail was written"),
+        (None, Some(_)) => writeln!(lines, "{name}: a trail was written that isn't wanted"),
+        (None, None) => Ok(()),
+    }
 }
 
 /// A line on the status, where it differs.
