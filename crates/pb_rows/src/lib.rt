@@ -1,8 +1,11 @@
-//! Tests alone, of what no case shows: writers that fail or take little, files of outcomes that are cut at each byte, the largest
-//! bundles and files of outcomes that are taken with those that are one larger, long chains of roles, the events of runs in their order, by
-//! each strategy and in batches, reports that are refused and handed back, commands, and folders of roles as the system has them.
+//! Tests alone, of what no case shows: writers that fail or take little, and the trails of such runs; files of outcomes and trails that
+//! are cut at each byte; the largest numbers in trails, bundles and files of outcomes that are taken with those that are one larger, long
+//! chains of roles, the events of runs in their order, by each strategy and in batches, reports that are refused and handed back, commands,
+//! and folders of roles as the system has them.
 #![tactic(auto)]
 
+#[cfg(test)]
+mod audits;
 #[cfg(test)]
 mod bundles;
 #[cfg(test)]
@@ -13,6 +16,8 @@ mod commands;
 mod cut;
 #[cfg(test)]
 mod engines;
+#[cfg(test)]
+mod kept_trails;
 #[cfg(test)]
 mod loops;
 #[cfg(test)]

@@ -4,12 +4,12 @@ use pb_kept::{Kept, Seen, play_texts};
 use std::fs;
 use std::test::Fail;
 
-const INVENTORY: &str = "{\"all\":{\"hosts\":[\"a\",\"b\"]}}";
+pub const INVENTORY: &str = "{\"all\":{\"hosts\":[\"a\",\"b\"]}}";
 
-const PLAYBOOK: &str =
+pub const PLAYBOOK: &str =
     "[{\"hosts\":\"all\",\"gather_facts\":false,\"tasks\":[{\"name\":\"hi\",\"debug\":{\"msg\":\"hello\"}}]}]";
 
-const OUT: &str = "{\"event\":\"playbook_on_start\",\"plays\":1}
+pub const OUT: &str = "{\"event\":\"playbook_on_start\",\"plays\":1}
 {\"batch\":0,\"event\":\"playbook_on_play_start\",\"hosts\":[\"a\",\"b\"],\"name\":\"all\",\"play\":0}
 {\"event\":\"playbook_on_task_start\",\"name\":\"hi\",\"place\":\"1\",\"play\":0}
 {\"event\":\"runner_on_start\",\"host\":\"a\",\"place\":\"1\",\"play\":0}
@@ -33,9 +33,8 @@ fn play_hello(rt: &HostRuntime, out: Kept) -> Result<Seen, Fail> {
     )?)
 }
 
-/// Plays with a writer that fails at a call: whether it failed. It then has a beginning of the output, and the fault is told.
-fn has_failed(rt: &HostRuntime, call: u64) -> Result<bool, Fail> {
-    let seen = play_hello(rt, Kept::failing(rt.alloc(), call))?;
+/// Whether the writer failed in a play of one task on two hosts. It then has a beginning of the output, and the fault is told.
+pub fn has_failed(seen: &Seen) -> Result<bool, Fail> {
     if seen.status == 0 && seen.out.as_slice() == OUT.as_bytes() {
         return Ok(false);
     }
@@ -50,7 +49,8 @@ fn has_failed(rt: &HostRuntime, call: u64) -> Result<bool, Fail> {
 fn writers_that_fail_or_take_little(rt: HostRuntime) -> Result<(), Fail> {
     let mut failed = 0;
     for call in 1..100 {
-        if !has_failed(&rt, call)? {
+        let seen = play_hello(&rt, Kept::failing(rt.alloc(), call))?;
+        if !has_failed(&seen)? {
             break;
         }
         failed = call;
