@@ -1,0 +1,136 @@
+-- What an operator may rely on in every run. Each law says of all that happens whether it fits what happened before it; what happened before stands newest
+-- first.
+use Rattle.std.specs.Prelude.{◌≡◌, ℕ, zero, suc, ◌+◌, ◌-◌, ◌==◌, nat_lt, Bool, true, false, ◌&&◌, ◌||◌, not, List, [], ◌∷◌, slice_get, slice_index_or, if◌then◌else◌}
+use Rattle.std.specs.Option.{option_map_or}
+use Rattle.pb_limits.specs.Counts.{has_room_for}
+use Rattle.pb_planes.specs.Set.{is_in as is_member}
+use Rattle.pb_plan.specs.Plan.{PlayOf, PlanOf, throttles_of}
+use Rattle.pb_state.specs.declared.decided.TaskEnd.{TaskEnd}
+use Rattle.pb_state.specs.declared.event.Event.{Event}
+use Rattle.pb_state.specs.Machine.{first_state, one_if}
+use Rattle.pb_state.specs.Run.{IsFinished, legal_from, state_from}
+use Rattle.pb_laws.specs.History.{HostTask, Happening, MayRun, Opens, Starts, Sends, Reports, Ends, Given, Closes, Stops, history}
+
+-- ---- what a law says of runs
+-- each thing that happens fits what happened before it
+abbrev pub holds_from : (List Happening → Happening → Bool) → List Happening → List Happening → Bool
+holds_from law past [] = true
+holds_from law past (now ∷ rest) = law past now && holds_from law (now ∷ past) rest
+
+-- what has happened, newest first
+abbrev pub so_far : List Happening → List Happening → List Happening
+so_far past [] = past
+so_far past (now ∷ rest) = so_far (now ∷ past) rest
+
+-- in every run of every plan, with any number of forks and of workers, whether it goes on to its end or not
+abbrev pub Always : (PlanOf → List Happening → Happening → Bool) → Type 0
+Always law =
+    (plan : PlanOf) (forks pool : ℕ) (trail : List Event) →
+    legal_from plan (first_state plan forks pool) trail ≡ true → holds_from (law plan) [] (history plan forks pool trail) ≡ true
+
+-- in every run where nothing can happen any more but commands, and no job is out
+abbrev pub AtTheEnd : (PlanOf → List Happening → Bool) → Type 0
+AtTheEnd law =
+    (plan : PlanOf) (forks pool : ℕ) (trail : List Event) →
+    legal_from plan (first_state plan forks pool) trail ≡ true → IsFinished plan (state_from plan (first_state plan forks pool) trail)
+    → law plan (so_far [] (history plan forks pool trail)) ≡ true
+
+-- ---- own hosts: a host starts a task of a play only if the play's pattern and the limit select it, and only in a batch that it is in; and no host is in two
+-- batches of a play
+-- whether the pattern of a play and the limit select a host
+abbrev pub selects : PlanOf → ℕ → ℕ → Bool
+selects plan play host = option_map_or (λ (p : PlayOf). is_member p.hosts host) (slice_get plan.plays play) false
+
+-- the hosts of the batch that is open, if it is one of this play
+abbrev pub batch_of : ℕ → List Happening → List Bool
+batch_of play [] = []
+batch_of play (Opens other hosts ∷ past) = if other == play then hosts else []
+batch_of play (Closes ∷ past) = []
+batch_of play (now ∷ past) = batch_of play past
+
+abbrev pub share : List Bool → List Bool → Bool
+share [] others = false
+share (a ∷ hosts) [] = false
+share (a ∷ hosts) (b ∷ others) = (a && b) || share hosts others
+
+-- whether one of these hosts was in a batch of the play
+abbrev pub some_were_in : ℕ → List Bool → List Happening → Bool
+some_were_in play hosts [] = false
+some_were_in play hosts (Opens other before ∷ past) = ((other == play) && share before hosts) || some_were_in play hosts past
+some_were_in play hosts (now ∷ past) = some_were_in play hosts past
+
+abbrev pub own_hosts : PlanOf → List Happening → Happening → Bool
+own_hosts plan past (Starts task) = selects plan task.play task.host && is_member (batch_of task.play past) task.host
+own_hosts plan past (Opens play hosts) = not (some_were_in play hosts past)
+own_hosts plan past now = true
+
+-- ---- forks: where a host starts, fewer hosts run than may, and where its task has a throttle, fewer than that run this task
+abbrev pub may_run : List Happening → ℕ
+may_run [] = 0
+may_run (MayRun n ∷ past) = n
+may_run (now ∷ past) = may_run past
+
+-- how many hosts run a task of this kind: one more with each start, and one fewer with each end
+abbrev pub running : (HostTask → Bool) → List Happening → ℕ
+running of [] = 0
+running of (Starts task ∷ past) = running of past + one_if (of task)
+running of (Ends task end notified ∷ past) = running of past - one_if (of task)
+running of (now ∷ past) = running of past
+
+abbrev pub any_task : HostTask → Bool
+any_task task = true
+
+abbrev pub task_at : ℕ → ℕ → HostTask → Bool
+task_at play place task = (task.play == play) && (task.place == place)
+
+-- 0 is none
+abbrev pub throttle_at : PlanOf → ℕ → ℕ → ℕ
+throttle_at plan play place = option_map_or (λ (p : PlayOf). slice_index_or (throttles_of p.places) place 0) (slice_get plan.plays play) 0
+
+abbrev pub within_forks : PlanOf → List Happening → Happening → Bool
+within_forks plan past (Starts task) =
+    nat_lt (running any_task past) (may_run past) && has_room_for (running (task_at task.play task.place) past) (throttle_at plan task.play task.place)
+within_forks plan past now = true
+
+-- ---- jobs: their tickets are 0, 1, 2 and so on; a job that goes out is of a task that its host runs; and each report answers a job that is out, for its host
+-- and its item, so that none is answered twice
+abbrev pub jobs_sent : List Happening → ℕ
+jobs_sent [] = 0
+jobs_sent (Sends task item ticket ∷ past) = jobs_sent past + 1
+jobs_sent (now ∷ past) = jobs_sent past
+
+abbrev pub is_same_task : HostTask → HostTask → Bool
+is_same_task a b = (a.play == b.play) && (a.host == b.host) && (a.place == b.place)
+
+-- whether a host has started a task and not ended it
+abbrev pub runs : HostTask → List Happening → Bool
+runs task [] = false
+runs task (Starts other ∷ past) = is_same_task other task || runs task past
+runs task (Ends other end notified ∷ past) = not (is_same_task other task) && runs task past
+runs task (now ∷ past) = runs task past
+
+-- a job of a host, for an item, is out under a ticket: it was sent so, and no report under that ticket has come since
+abbrev pub is_out : ℕ → ℕ → ℕ → List Happening → Bool
+is_out host item ticket [] = false
+is_out host item ticket (Sends task other under ∷ past) = if under == ticket then (task.host == host) && (other == item) else is_out host item ticket past
+is_out host item ticket (Reports from other under ∷ past) = not (under == ticket) && is_out host item ticket past
+is_out host item ticket (now ∷ past) = is_out host item ticket past
+
+abbrev pub jobs_in_order : PlanOf → List Happening → Happening → Bool
+jobs_in_order plan past (Sends task item ticket) = (ticket == jobs_sent past) && runs task past
+jobs_in_order plan past (Reports host item ticket) = is_out host item ticket past
+jobs_in_order plan past now = true
+
+-- and once the run is finished, all of them are answered
+abbrev pub is_answered : ℕ → List Happening → Bool
+is_answered ticket [] = false
+is_answered ticket (Reports host item under ∷ past) = (under == ticket) || is_answered ticket past
+is_answered ticket (now ∷ past) = is_answered ticket past
+
+-- the jobs with the tickets below this one
+abbrev pub answered_below : ℕ → List Happening → Bool
+answered_below zero past = true
+answered_below (suc ticket) past = is_answered ticket past && answered_below ticket past
+
+abbrev pub all_answered : PlanOf → List Happening → Bool
+all_answered plan past = answered_below (jobs_sent past) past
