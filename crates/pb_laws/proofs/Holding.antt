@@ -11,9 +11,10 @@ use Rattle.pb_state.specs.Walks.{AreNumbered}
 use Rattle.pb_state.proofs.Once.{and_left, and_right}
 use Rattle.pb_state.proofs.Stands.{both}
 use Rattle.pb_state.proofs.Walks.{rows_stay}
-use Rattle.pb_laws.specs.History.{Happening, MayRun, told, history_from, history}
+use Rattle.pb_tree.specs.declared.answer.Kind.{Kind}
+use Rattle.pb_laws.specs.History.{HostTask, Happening, MayRun, Given, told, history_from, history}
 use Rattle.pb_laws.specs.Laws.{holds_from, so_far, Always}
-use Rattle.pb_laws.proofs.Telling.{Seen, seen, Tells, tells}
+use Rattle.pb_laws.proofs.Telling.{Seen, AreGiven, none_given, one_given, seen, Tells, tells}
 
 -- one part of a history after another
 holds_both : (law : List Happening → Happening → Bool) (past xs ys : List Happening) → holds_from law past xs ≡ true → holds_from law (so_far past xs) ys ≡ true → holds_from law past (xs ++ ys) ≡ true
@@ -23,6 +24,17 @@ holds_both law past (x ∷ xs) ys p q = both (law past x) _ (and_left (law past 
 pub so_far_both : (past xs ys : List Happening) → so_far past (xs ++ ys) ≡ so_far (so_far past xs) ys
 so_far_both past [] ys = refl
 so_far_both past (x ∷ xs) ys = so_far_both (x ∷ past) xs ys
+
+-- what hosts are given breaks no law that doesn't speak of it, and is nothing to what doesn't tell of it
+pub given_holds : (law : List Happening → Happening → Bool) → ((past : List Happening) (task : HostTask) (kind : Kind) → law past (Given task kind) ≡ true)
+    → (past happens : List Happening) → AreGiven happens → holds_from law past happens ≡ true
+given_holds law free past [] given = refl
+given_holds law free past (x ∷ xs) (one_given task kind given) = both (law past (Given task kind)) _ (free past task kind) (given_holds law free (Given task kind ∷ past) xs given)
+
+pub given_same : {A : Type 0} (of : List Happening → A) → ((past : List Happening) (task : HostTask) (kind : Kind) → of (Given task kind ∷ past) ≡ of past)
+    → (past happens : List Happening) → AreGiven happens → of (so_far past happens) ≡ of past
+given_same of free past [] given = refl
+given_same of free past (x ∷ xs) (one_given task kind given) = given_same of free (Given task kind ∷ past) xs given ∙ free past task kind
 
 -- what a law rests on, of what has happened and of what is seen now
 pub record Keeps (law : PlanOf → List Happening → Happening → Bool) (Fits : PlanOf → List Happening → Seen → Type 0) : Type 0 where

@@ -81,7 +81,7 @@ abbrev pub any_task : HostTask → Bool
 any_task task = true
 
 abbrev pub task_at : ℕ → ℕ → HostTask → Bool
-task_at play place task = (task.play == play) && (task.place == place)
+task_at play place task = (play == task.play) && (place == task.place)
 
 -- 0 is none
 abbrev pub throttle_at : PlanOf → ℕ → ℕ → ℕ
