@@ -1,3 +1,4 @@
 pub mod Telling
 pub mod Holding
 pub mod WithinForks
+pub mod OwnHosts

@@ -1,7 +1,13 @@
 //! What an operator may rely on in every run.
 #![tactic(auto)]
 
-ghost use Rattle.pb_laws.specs.Laws.{Always, within_forks};
+ghost use Rattle.pb_laws.specs.Laws.{Always, own_hosts, within_forks};
+
+/// A host starts a task of a play only if the play's pattern and the limit select it, and only in a batch that it is in; and no host is in
+/// two batches of a play.
+pub fn hosts_stay_in_their_batches()
+    ensures { Always own_hosts }
+{}
 
 /// Where a host starts, fewer hosts run than may, and where its task has a throttle, fewer than that run this task.
 pub fn hosts_run_within_forks()
