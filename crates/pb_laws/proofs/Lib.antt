@@ -2,3 +2,4 @@ pub mod Telling
 pub mod Holding
 pub mod WithinForks
 pub mod OwnHosts
+pub mod JobsInOrder

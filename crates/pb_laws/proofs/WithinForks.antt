@@ -111,10 +111,10 @@ forks_next plan past v new happens (Forking n) e = refl
 pub IdleShut : Seen → Type 0
 IdleShut v = v.is_open ≡ false → list_any is_some v.tasks ≡ false
 
-opened_shut : (v : Seen) → v.is_open ≡ true → v.is_open ≡ false → ⊥
+pub opened_shut : (v : Seen) → v.is_open ≡ true → v.is_open ≡ false → ⊥
 opened_shut v o s = let both_ways : true ≡ false = sym o ∙ s in cc
 
-idle_next : (plan : PlanOf) (v new : Seen) (happens : List Happening) → Tells plan v happens new → (v.is_open ≡ false → list_any is_some v.tasks ≡ false) → new.is_open ≡ false → list_any is_some new.tasks ≡ false
+pub idle_next : (plan : PlanOf) (v new : Seen) (happens : List Happening) → Tells plan v happens new → (v.is_open ≡ false → list_any is_some v.tasks ≡ false) → new.is_open ≡ false → list_any is_some new.tasks ≡ false
 idle_next plan v new happens (Opening n more tasks inside waiting is) idle s = cc
 idle_next plan v new happens (Starting over host place items end notified is) idle s = absurd (opened_shut v is.opened s)
 idle_next plan v new happens (Sending host item ticket r is) idle s = absurd (opened_shut v is.opened s)
@@ -124,7 +124,7 @@ idle_next plan v new happens (Closing tasks inside waiting is) idle s = is.idle
 idle_next plan v new happens Stopping idle s = idle s
 idle_next plan v new happens (Forking n) idle s = idle s
 
-first_idle : (h n : ℕ) → list_any is_some (tasks_of (first_rows h n)) ≡ false
+pub first_idle : (h n : ℕ) → list_any is_some (tasks_of (first_rows h n)) ≡ false
 first_idle h zero = refl
 first_idle h (suc n) = first_idle (h + 1) n
 

@@ -1,7 +1,7 @@
 //! What an operator may rely on in every run.
 #![tactic(auto)]
 
-ghost use Rattle.pb_laws.specs.Laws.{Always, own_hosts, within_forks};
+ghost use Rattle.pb_laws.specs.Laws.{Always, AtTheEnd, own_hosts, within_forks, jobs_in_order, all_answered};
 
 /// A host starts a task of a play only if the play's pattern and the limit select it, and only in a batch that it is in; and no host is in
 /// two batches of a play.
@@ -12,4 +12,11 @@ pub fn hosts_stay_in_their_batches()
 /// Where a host starts, fewer hosts run than may, and where its task has a throttle, fewer than that run this task.
 pub fn hosts_run_within_forks()
     ensures { Always within_forks }
+{}
+
+/// Jobs have the tickets 0, 1, 2 and so on; a job that goes out is of a task that its host runs; each report answers a job that is out, so that
+/// none is answered twice; and once a run is finished all are answered.
+pub fn jobs_are_answered_once()
+    ensures in_order { Always jobs_in_order }
+    ensures at_the_end { AtTheEnd all_answered }
 {}
