@@ -3,3 +3,4 @@ pub mod Holding
 pub mod WithinForks
 pub mod OwnHosts
 pub mod JobsInOrder
+pub mod AddingUp

@@ -189,7 +189,7 @@ member_in [] h row e i = cc
 member_in (first ∷ rows) zero row e i = let same : first ≡ row = cc in rw same i
 member_in (first ∷ rows) (suc h) row e i = member_in rows h row e i
 
-row_at : (test : HostRow → Bool) (rows : List HostRow) (h : ℕ) → at_row test rows h ≡ true → (row : HostRow) × (slice_get rows h ≡ Some row) × (test row ≡ true)
+pub row_at : (test : HostRow → Bool) (rows : List HostRow) (h : ℕ) → at_row test rows h ≡ true → (row : HostRow) × (slice_get rows h ≡ Some row) × (test row ≡ true)
 row_at test rows h e = by_found (slice_get rows h) refl e
   where
     by_found : (found : Option HostRow) → slice_get rows h ≡ found → option_map_or test found false ≡ true → (row : HostRow) × (slice_get rows h ≡ Some row) × (test row ≡ true)
@@ -335,7 +335,7 @@ start_tells plan s h None o may = cc
 start_tells plan s h (Some play) o may = start_at_tells plan s h play (next_at s h) refl o may (start_stands s h play may)
 
 -- ---- a job that goes out, and what came of it
-sends_is : (item : ℕ) (running : Option Running) → option_map_or (sends_running item) running false ≡ true → (r : Running) × (running ≡ Some r) × (r.out ≡ None) × (next_item r.items ≡ Some item)
+pub sends_is : (item : ℕ) (running : Option Running) → option_map_or (sends_running item) running false ≡ true → (r : Running) × (running ≡ Some r) × (r.out ≡ None) × (next_item r.items ≡ Some item)
 sends_is item None e = cc
 sends_is item (Some r) e = (r, refl, free r.out (and_left (is_none r.out) _ e), at_is item (next_item r.items) (and_right (is_none r.out) _ e))
   where
@@ -343,7 +343,7 @@ sends_is item (Some r) e = (r, refl, free r.out (and_left (is_none r.out) _ e), 
     free None f = refl
     free (Some ticket) f = cc
 
-awaits_is : (ticket : Ticket) (item : ℕ) (running : Option Running) → option_map_or (awaits_running ticket item) running false ≡ true
+pub awaits_is : (ticket : Ticket) (item : ℕ) (running : Option Running) → option_map_or (awaits_running ticket item) running false ≡ true
     → (r : Running) × (running ≡ Some r) × (option_map (λ (t : Ticket). t.0) r.out ≡ Some ticket.0) × (next_item r.items ≡ Some item)
 awaits_is ticket item None e = cc
 awaits_is ticket item (Some r) e = (r, refl, under r.out (and_left (is_ticket ticket r.out) _ e), at_is item (next_item r.items) (and_right (is_ticket ticket r.out) _ e))
@@ -352,10 +352,10 @@ awaits_is ticket item (Some r) e = (r, refl, under r.out (and_left (is_ticket ti
     under None f = cc
     under (Some t) f = ap Some (eqb-true t.0 ticket.0 f)
 
-task_there : (s : State) (h : ℕ) (row : HostRow) (r : Running) → slice_get s.rows h ≡ Some row → row.running ≡ Some r → slice_get (tasks_of s.rows) h ≡ Some (Some r)
+pub task_there : (s : State) (h : ℕ) (row : HostRow) (r : Running) → slice_get s.rows h ≡ Some row → row.running ≡ Some r → slice_get (tasks_of s.rows) h ≡ Some (Some r)
 task_there s h row r there runs = get_map (λ (x : HostRow). x.running) s.rows h ∙ ap (option_map (λ (x : HostRow). x.running)) there ∙ ap (λ (running : Option Running). Some running) runs
 
-place_there : (s : State) (h : HostNo) (row : HostRow) (r : Running) → slice_get s.rows h.0 ≡ Some row → row.running ≡ Some r → place_run_by s h ≡ Some r.place
+pub place_there : (s : State) (h : HostNo) (row : HostRow) (r : Running) → slice_get s.rows h.0 ≡ Some row → row.running ≡ Some r → place_run_by s h ≡ Some r.place
 place_there s h row r there runs = ap (λ (found : Option HostRow). option_map_or running_place found None) there ∙ ap (option_map (λ (x : Running). x.place)) runs
 
 sent_tells : (plan : PlanOf) (s : State) (h : HostNo) (item : ℕ) (ticket : Ticket) (play : PlayOf) (row : HostRow) (r : Running) → open_play plan s ≡ Some play → may_send_in s h.0 item ticket play ≡ true
@@ -449,7 +449,7 @@ beyond_given play host tree had (answer ∷ more) =
     given_more (at_place play host (place_of (reach tree had)) (λ task. Given task answer.kind ∷ [])) (given_beyond play host tree (had ++ answer ∷ []) more)
     (given_there play host (place_of (reach tree had)) answer) (beyond_given play host tree (had ++ answer ∷ []) more)
 
-rows_given : (play host : ℕ) (olds news : List HostRow) → AreGiven (given_in play host olds news)
+pub rows_given : (play host : ℕ) (olds news : List HostRow) → AreGiven (given_in play host olds news)
 rows_given play host [] news = none_given
 rows_given play host (old ∷ olds) [] = none_given
 rows_given play host (old ∷ olds) (new ∷ news) =

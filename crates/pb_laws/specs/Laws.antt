@@ -1,14 +1,19 @@
 -- What an operator may rely on in every run. Each law says of all that happens whether it fits what happened before it; what happened before stands newest
 -- first.
-use Rattle.std.specs.Prelude.{◌≡◌, ℕ, zero, suc, ◌+◌, ◌-◌, ◌==◌, nat_lt, Bool, true, false, ◌&&◌, ◌||◌, not, List, [], ◌∷◌, slice_get, slice_index_or, if◌then◌else◌}
+use Rattle.std.specs.Prelude.{◌≡◌, ℕ, zero, suc, ◌+◌, ◌-◌, ◌==◌, nat_lt, Bool, true, false, ◌&&◌, ◌||◌, not, List, [], ◌∷◌, is_none, slice_get, slice_index_or, if◌then◌else◌}
+use Rattle.std.specs.List.{list_any}
 use Rattle.std.specs.Option.{option_map_or}
 use Rattle.pb_limits.specs.Counts.{has_room_for}
 use Rattle.pb_planes.specs.Set.{is_in as is_member}
 use Rattle.pb_plan.specs.Plan.{PlayOf, PlanOf, throttles_of}
 use Rattle.pb_state.specs.declared.decided.TaskEnd.{TaskEnd}
 use Rattle.pb_state.specs.declared.event.Event.{Event}
+use Rattle.pb_state.specs.declared.row.Counts.{Counts}
 use Rattle.pb_state.specs.Machine.{first_state, one_if}
 use Rattle.pb_state.specs.Run.{IsFinished, legal_from, state_from}
+use Rattle.pb_recap.specs.Kinds.{has, status_of}
+use Rattle.pb_recap.specs.Recap.{recap}
+use Rattle.pb_recap.specs.declared.kind.CountKind.TheVariants.{Failed, Unreachable}
 use Rattle.pb_laws.specs.History.{HostTask, Happening, MayRun, Opens, Starts, Sends, Reports, Ends, Given, Closes, Stops, history}
 
 -- ---- what a law says of runs
@@ -134,3 +139,31 @@ answered_below (suc ticket) past = is_answered ticket past && answered_below tic
 
 abbrev pub all_answered : PlanOf → List Happening → Bool
 all_answered plan past = answered_below (jobs_sent past) past
+
+-- ---- the recap adds up: of each host the tasks that count as ok, failed, rescued, skipped and unreachable are together those that ended on it; and the exit
+-- status is 0 exactly where no host has one that counts as failed or unreachable
+-- a task of `meta` counts only where it failed
+abbrev pub counts : TaskEnd → Bool
+counts end = is_none end.meta || end.result.failed
+
+abbrev pub tasks_ended : ℕ → List Happening → ℕ
+tasks_ended host [] = 0
+tasks_ended host (Ends task end notified ∷ past) = tasks_ended host past + one_if ((task.host == host) && counts end)
+tasks_ended host (now ∷ past) = tasks_ended host past
+
+-- of these hosts, whose first has the number h
+abbrev pub add_up : ℕ → List Counts → List Happening → Bool
+add_up h [] past = true
+add_up h (c ∷ rest) past = (c.ok + c.failed + c.rescued + c.skipped + c.unreachable == tasks_ended h past) && add_up (h + 1) rest past
+
+abbrev pub has_trouble : Counts → Bool
+has_trouble c = has Failed c || has Unreachable c
+
+abbrev pub status_tells : List Counts → Bool
+status_tells all = if list_any has_trouble all then not (status_of all == 0) else status_of all == 0
+
+abbrev pub RecapAddsUp : Type 0
+RecapAddsUp =
+    (plan : PlanOf) (pool : ℕ) (trail : List Event) →
+    legal_from plan (first_state plan plan.forks pool) trail ≡ true
+    → (add_up 0 (recap plan pool trail) (so_far [] (history plan plan.forks pool trail)) ≡ true) × (status_tells (recap plan pool trail) ≡ true)

@@ -1,7 +1,7 @@
 //! What an operator may rely on in every run.
 #![tactic(auto)]
 
-ghost use Rattle.pb_laws.specs.Laws.{Always, AtTheEnd, own_hosts, within_forks, jobs_in_order, all_answered};
+ghost use Rattle.pb_laws.specs.Laws.{Always, AtTheEnd, own_hosts, within_forks, jobs_in_order, all_answered, RecapAddsUp};
 
 /// A host starts a task of a play only if the play's pattern and the limit select it, and only in a batch that it is in; and no host is in
 /// two batches of a play.
@@ -19,4 +19,10 @@ pub fn hosts_run_within_forks()
 pub fn jobs_are_answered_once()
     ensures in_order { Always jobs_in_order }
     ensures at_the_end { AtTheEnd all_answered }
+{}
+
+/// Of each host the recap's counts of ok, failed, rescued, skipped and unreachable tasks come to the number of the tasks that ended on it, where a
+/// task of `meta` is none unless it failed; and the exit status is 0 exactly where no host has a count of failed or unreachable tasks.
+pub fn recap_adds_up()
+    ensures { RecapAddsUp }
 {}
