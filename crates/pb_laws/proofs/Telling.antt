@@ -155,7 +155,7 @@ pub data Tells (plan : PlanOf) (v : Seen) : List Happening → Seen → Type 0 w
       → Tells plan v (Reports host item ticket.0 ∷ ended_so over (task_on v host r.place) end notified) (record v { tasks = put v.tasks host (left_so over r.place items) })
   Turning : (more : Bool) (told : List Happening) → v.is_open ≡ true → AreGiven told → Tells plan v told (record v { has_more = more })
   Closing : (tasks : List (Option Running)) (inside waiting : List Bool) → IsClosing v tasks inside waiting
-      → Tells plan v (Closes ∷ [])
+      → Tells plan v (Closes v.play ∷ [])
           (record { play = play_behind v.has_more v.play; is_open = false; has_more = v.has_more; forks = v.forks; sends = v.sends; tasks = tasks; inside = inside; waiting = waiting })
   Stopping : Tells plan v (Stops ∷ []) v
   Forking : (n : ℕ) → Tells plan v (MayRun n ∷ []) (record v { forks = n })
@@ -555,7 +555,7 @@ left_waits (row ∷ rows) (suc h) e = left_waits rows h e
 close_idle : (a b c d : Bool) → (a && b && not c && d) ≡ true → c ≡ false
 close_idle a b c d e = not_true c (and_right (a && b) (not c) (and_left (a && b && not c) d e))
 
-close_tells : (plan : PlanOf) (s : State) → possible plan s Close ≡ true → Tells plan (seen s) (Closes ∷ []) (seen (closed s))
+close_tells : (plan : PlanOf) (s : State) → possible plan s Close ≡ true → Tells plan (seen s) (Closes s.play ∷ []) (seen (closed s))
 close_tells plan s may =
     Closing (tasks_of (map left s.rows)) (batch_in (map left s.rows)) (waiting_of (map left s.rows))
     (record {

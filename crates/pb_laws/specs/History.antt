@@ -39,8 +39,8 @@ pub data Happening : Type 0 where
   Ends : HostTask → TaskEnd → List ℕ → Happening
   -- a host is given this answer at a place without running the task: that of the host that ran it for all, or that it is halted
   Given : HostTask → Kind → Happening
-  -- the batch closes
-  Closes : Happening
+  -- the batch of this play closes
+  Closes : ℕ → Happening
   -- the run is told to stop
   Stops : Happening
 
@@ -85,7 +85,7 @@ told plan s (Send h item ticket) new = at_place s.play h.0 (place_run_by s h) (�
 told plan s (Reported r) new =
     Reports r.host.0 r.item r.ticket.0 ∷ at_place s.play r.host.0 (place_run_by s r.host) (λ task. ends_if (open_play plan s) (ended_in new.decided) task)
 told plan s Turn new = given_in s.play 0 s.rows new.rows
-told plan s Close new = Closes ∷ []
+told plan s Close new = Closes s.play ∷ []
 told plan s Stop new = Stops ∷ []
 told plan s (Forks n) new = MayRun n ∷ []
 

@@ -50,7 +50,7 @@ selects plan play host = option_map_or (λ (p : PlayOf). is_member p.hosts host)
 abbrev pub batch_of : ℕ → List Happening → List Bool
 batch_of play [] = []
 batch_of play (Opens other hosts ∷ past) = if other == play then hosts else []
-batch_of play (Closes ∷ past) = []
+batch_of play (Closes other ∷ past) = []
 batch_of play (now ∷ past) = batch_of play past
 
 abbrev pub share : List Bool → List Bool → Bool

@@ -1,2 +1,4 @@
 pub mod History
 pub mod Laws
+pub mod Open
+pub mod Rows
