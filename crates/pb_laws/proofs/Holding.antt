@@ -8,9 +8,9 @@ use Rattle.pb_state.specs.Row.{first_rows}
 use Rattle.pb_state.specs.Run.{legal_from, state_from}
 use Rattle.pb_state.specs.State.{State}
 use Rattle.pb_state.specs.Walks.{AreNumbered}
-use Rattle.pb_state.proofs.Once.{and_left, and_right}
+use Rattle.pb_state.proofs.Once.{IsSound, first_sound, sound_kept, moves, and_left, and_right}
 use Rattle.pb_state.proofs.Stands.{both}
-use Rattle.pb_state.proofs.Walks.{rows_stay}
+use Rattle.pb_state.proofs.Walks.{IsOfPlan, step_of, rows_stay}
 use Rattle.pb_tree.specs.declared.answer.Kind.{Kind}
 use Rattle.pb_laws.specs.History.{HostTask, Happening, MayRun, Given, told, history_from, history}
 use Rattle.pb_laws.specs.Laws.{holds_from, so_far, Always}
@@ -54,29 +54,37 @@ numbered_at plan forks pool before s e = subst (λ (t : State). AreNumbered 0 t.
 
 module _ (law : PlanOf → List Happening → Happening → Bool) (Fits : PlanOf → List Happening → Seen → Type 0) (keeps : Keeps law Fits) (plan : PlanOf) (forks pool : ℕ) where
   holds_on : (before : List Event) (s : State) → state_from plan (first_state plan forks pool) before ≡ s → (past : List Happening) (es : List Event) → legal_from plan s es ≡ true → Fits plan past (seen s)
-      → holds_from (law plan) past (history_from plan s es) ≡ true
-  holds_on before s led past [] l fits = refl
-  holds_on before s led past (e ∷ es) l fits =
-      let step = tells plan s e (and_left (possible plan s e) _ l) (numbered_at plan forks pool before s led) in
+      → IsOfPlan plan s → IsSound s → holds_from (law plan) past (history_from plan s es) ≡ true
+  holds_on before s led past [] l fits of sound = refl
+  holds_on before s led past (e ∷ es) l fits of sound =
+      let may = and_left (possible plan s e) _ l in
+      let step = tells plan s e may (numbered_at plan forks pool before s led) of sound in
       holds_both (law plan) past (told plan s e (after plan s e)) (history_from plan (after plan s e) es)
       (keeps.now plan past (seen s) (seen (after plan s e)) (told plan s e (after plan s e)) step fits)
       (holds_on (before ++ e ∷ []) (after plan s e) (state_both plan (first_state plan forks pool) before (e ∷ []) ∙ ap (λ (t : State). after plan t e) led) (so_far past (told plan s e (after plan s e))) es
-      (and_right (possible plan s e) _ l) (keeps.next plan past (seen s) (seen (after plan s e)) (told plan s e (after plan s e)) step fits))
+      (and_right (possible plan s e) _ l) (keeps.next plan past (seen s) (seen (after plan s e)) (told plan s e (after plan s e)) step fits)
+      (step_of plan s e of) (sound_kept s (after plan s e) (moves plan s e may) sound))
 
   fits_on : (before : List Event) (s : State) → state_from plan (first_state plan forks pool) before ≡ s → (past : List Happening) (es : List Event) → legal_from plan s es ≡ true → Fits plan past (seen s)
-      → Fits plan (so_far past (history_from plan s es)) (seen (state_from plan s es))
-  fits_on before s led past [] l fits = fits
-  fits_on before s led past (e ∷ es) l fits =
-      let step = tells plan s e (and_left (possible plan s e) _ l) (numbered_at plan forks pool before s led) in
+      → IsOfPlan plan s → IsSound s → Fits plan (so_far past (history_from plan s es)) (seen (state_from plan s es))
+  fits_on before s led past [] l fits of sound = fits
+  fits_on before s led past (e ∷ es) l fits of sound =
+      let may = and_left (possible plan s e) _ l in
+      let step = tells plan s e may (numbered_at plan forks pool before s led) of sound in
       subst (λ (happened : List Happening). Fits plan happened (seen (state_from plan (after plan s e) es))) (sym (so_far_both past (told plan s e (after plan s e)) (history_from plan (after plan s e) es)))
       (fits_on (before ++ e ∷ []) (after plan s e) (state_both plan (first_state plan forks pool) before (e ∷ []) ∙ ap (λ (t : State). after plan t e) led) (so_far past (told plan s e (after plan s e))) es
-      (and_right (possible plan s e) _ l) (keeps.next plan past (seen s) (seen (after plan s e)) (told plan s e (after plan s e)) step fits))
+      (and_right (possible plan s e) _ l) (keeps.next plan past (seen s) (seen (after plan s e)) (told plan s e (after plan s e)) step fits)
+      (step_of plan s e of) (sound_kept s (after plan s e) (moves plan s e may) sound))
+
+-- no play is open at first
+first_of : (plan : PlanOf) (forks pool : ℕ) → IsOfPlan plan (first_state plan forks pool)
+first_of plan forks pool = λ play o. cc
 
 -- in every run, and at its end
 pub always : (law : PlanOf → List Happening → Happening → Bool) (Fits : PlanOf → List Happening → Seen → Type 0) → Keeps law Fits → Always law
 always law Fits keeps plan forks pool trail l =
-    both (law plan [] (MayRun forks)) _ (keeps.begins plan forks) (holds_on law Fits keeps plan forks pool [] (first_state plan forks pool) refl (MayRun forks ∷ []) trail l (keeps.first plan forks pool))
+    both (law plan [] (MayRun forks)) _ (keeps.begins plan forks) (holds_on law Fits keeps plan forks pool [] (first_state plan forks pool) refl (MayRun forks ∷ []) trail l (keeps.first plan forks pool) (first_of plan forks pool) (first_sound plan forks pool))
 
 pub at_end : (law : PlanOf → List Happening → Happening → Bool) (Fits : PlanOf → List Happening → Seen → Type 0) → Keeps law Fits → (plan : PlanOf) (forks pool : ℕ) (trail : List Event)
     → legal_from plan (first_state plan forks pool) trail ≡ true → Fits plan (so_far [] (history plan forks pool trail)) (seen (state_from plan (first_state plan forks pool) trail))
-at_end law Fits keeps plan forks pool trail l = fits_on law Fits keeps plan forks pool [] (first_state plan forks pool) refl (MayRun forks ∷ []) trail l (keeps.first plan forks pool)
+at_end law Fits keeps plan forks pool trail l = fits_on law Fits keeps plan forks pool [] (first_state plan forks pool) refl (MayRun forks ∷ []) trail l (keeps.first plan forks pool) (first_of plan forks pool) (first_sound plan forks pool)

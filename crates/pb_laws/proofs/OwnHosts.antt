@@ -86,8 +86,8 @@ behind_next plan v new happens play hosts (Opening n more tasks inside waiting i
 behind_next plan v new happens play hosts (Starting over host place items end notified is) w = w
 behind_next plan v new happens play hosts (Sending host item ticket r is) w = w
 behind_next plan v new happens play hosts (Reporting over host item ticket r items end notified is) w = w
-behind_next plan v new happens play hosts (Turning more told opened given) (inl l) = inl l
-behind_next plan v new happens play hosts (Turning more told opened given) (inr w) = inr (w.0, λ s. absurd (opened_shut v opened s), w.2)
+behind_next plan v new happens play hosts (Turning more told opened given is) (inl l) = inl l
+behind_next plan v new happens play hosts (Turning more told opened given is) (inr w) = inr (w.0, λ s. absurd (opened_shut v opened s), w.2)
 behind_next plan v new happens play hosts (Closing tasks inside waiting is) w = behind_closes v v.has_more play hosts inside waiting new refl is.opened is.still refl refl refl refl w
 behind_next plan v new happens play hosts Stopping w = w
 behind_next plan v new happens play hosts (Forking n) w = w
@@ -111,7 +111,7 @@ all_behind plan past v new happens (Starting false host place items end notified
 all_behind plan past v new happens (Sending host item ticket r is) w = w
 all_behind plan past v new happens (Reporting true host item ticket r items end notified is) w = w
 all_behind plan past v new happens (Reporting false host item ticket r items end notified is) w = w
-all_behind plan past v new happens (Turning more told opened given) w = given_behind new past happens given w
+all_behind plan past v new happens (Turning more told opened given is) w = given_behind new past happens given w
 all_behind plan past v new happens (Closing tasks inside waiting is) w = w
 all_behind plan past v new happens Stopping w = w
 all_behind plan past v new happens (Forking n) w = w
@@ -163,7 +163,7 @@ batch_next plan past v new happens (Starting false host place items end notified
 batch_next plan past v new happens (Sending host item ticket r is) b o = b o
 batch_next plan past v new happens (Reporting true host item ticket r items end notified is) b o = b o
 batch_next plan past v new happens (Reporting false host item ticket r items end notified is) b o = b o
-batch_next plan past v new happens (Turning more told opened given) b o = given_same (batch_of v.play) (λ before task how. refl) past happens given ∙ b o
+batch_next plan past v new happens (Turning more told opened given is) b o = given_same (batch_of v.play) (λ before task how. refl) past happens given ∙ b o
 batch_next plan past v new happens (Closing tasks inside waiting is) b o = cc
 batch_next plan past v new happens Stopping b o = b o
 batch_next plan past v new happens (Forking n) b o = b o
@@ -174,7 +174,7 @@ joined_next plan v new happens (Opening n more tasks inside waiting is) j o = is
 joined_next plan v new happens (Starting over host place items end notified is) j o = j o
 joined_next plan v new happens (Sending host item ticket r is) j o = j o
 joined_next plan v new happens (Reporting over host item ticket r items end notified is) j o = j o
-joined_next plan v new happens (Turning more told opened given) j o = j o
+joined_next plan v new happens (Turning more told opened given is) j o = j o
 joined_next plan v new happens (Closing tasks inside waiting is) j o = absurd (let shut : false ≡ true = o in cc)
 joined_next plan v new happens Stopping j o = j o
 joined_next plan v new happens (Forking n) j o = j o
@@ -203,7 +203,7 @@ own_next plan v new happens (Opening n more tasks inside waiting is) own o = own
 own_next plan v new happens (Starting over host place items end notified is) own o = own o
 own_next plan v new happens (Sending host item ticket r is) own o = own o
 own_next plan v new happens (Reporting over host item ticket r items end notified is) own o = own o
-own_next plan v new happens (Turning more told opened given) own o = own (or_first v.is_open v.has_more opened)
+own_next plan v new happens (Turning more told opened given is) own o = own (or_first v.is_open v.has_more opened)
 own_next plan v new happens (Closing tasks inside waiting is) own o = own_closes plan v v.has_more waiting o is.opened is.still own
 own_next plan v new happens Stopping own o = own o
 own_next plan v new happens (Forking n) own o = own o
@@ -224,7 +224,7 @@ own_hold plan past v new happens (Starting false host place items end notified i
 own_hold plan past v new happens (Sending host item ticket r is) own = refl
 own_hold plan past v new happens (Reporting true host item ticket r items end notified is) own = refl
 own_hold plan past v new happens (Reporting false host item ticket r items end notified is) own = refl
-own_hold plan past v new happens (Turning more told opened given) own = given_holds (own_hosts plan) (λ before task how. refl) past happens given
+own_hold plan past v new happens (Turning more told opened given is) own = given_holds (own_hosts plan) (λ before task how. refl) past happens given
 own_hold plan past v new happens (Closing tasks inside waiting is) own = refl
 own_hold plan past v new happens Stopping own = refl
 own_hold plan past v new happens (Forking n) own = refl

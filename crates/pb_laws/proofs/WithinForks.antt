@@ -75,7 +75,7 @@ module _ (kind : HostTask → Bool) (of : ℕ → Option ℕ → Bool) (same : (
       omega (arith, c, tally_put (of v.play) v.tasks host (Some r) None is.there, ap one_if (none v.play), ap one_if (same (task_on v host r.place)))
   counted plan past v new happens (Reporting false host item ticket r items end notified is) idle c =
       omega (arith, c, tally_put (of v.play) v.tasks host (Some r) (Some (record { place = r.place; items = items; out = None })) is.there)
-  counted plan past v new happens (Turning more told opened given) idle c = given_same (running kind) (λ before task how. refl) past happens given ∙ c
+  counted plan past v new happens (Turning more told opened given is) idle c = given_same (running kind) (λ before task how. refl) past happens given ∙ c
   counted plan past v new happens (Closing tasks inside waiting is) idle c =
       c ∙ tally_none (of v.play) (none v.play) v.tasks is.before ∙ sym (tally_none (of new.play) (none new.play) tasks is.idle)
   counted plan past v new happens Stopping idle c = c
@@ -102,7 +102,7 @@ forks_next plan past v new happens (Starting false host place items end notified
 forks_next plan past v new happens (Sending host item ticket r is) e = e
 forks_next plan past v new happens (Reporting true host item ticket r items end notified is) e = e
 forks_next plan past v new happens (Reporting false host item ticket r items end notified is) e = e
-forks_next plan past v new happens (Turning more told opened given) e = given_same may_run (λ before task how. refl) past happens given ∙ e
+forks_next plan past v new happens (Turning more told opened given is) e = given_same may_run (λ before task how. refl) past happens given ∙ e
 forks_next plan past v new happens (Closing tasks inside waiting is) e = e
 forks_next plan past v new happens Stopping e = e
 forks_next plan past v new happens (Forking n) e = refl
@@ -119,7 +119,7 @@ idle_next plan v new happens (Opening n more tasks inside waiting is) idle s = c
 idle_next plan v new happens (Starting over host place items end notified is) idle s = absurd (opened_shut v is.opened s)
 idle_next plan v new happens (Sending host item ticket r is) idle s = absurd (opened_shut v is.opened s)
 idle_next plan v new happens (Reporting over host item ticket r items end notified is) idle s = absurd (opened_shut v is.opened s)
-idle_next plan v new happens (Turning more told opened given) idle s = absurd (opened_shut v opened s)
+idle_next plan v new happens (Turning more told opened given is) idle s = absurd (opened_shut v opened s)
 idle_next plan v new happens (Closing tasks inside waiting is) idle s = is.idle
 idle_next plan v new happens Stopping idle s = idle s
 idle_next plan v new happens (Forking n) idle s = idle s
@@ -149,7 +149,7 @@ forks_hold plan past v new happens (Starting false host place items end notified
 forks_hold plan past v new happens (Sending host item ticket r is) c = refl
 forks_hold plan past v new happens (Reporting true host item ticket r items end notified is) c = refl
 forks_hold plan past v new happens (Reporting false host item ticket r items end notified is) c = refl
-forks_hold plan past v new happens (Turning more told opened given) c = given_holds (within_forks plan) (λ before task how. refl) past happens given
+forks_hold plan past v new happens (Turning more told opened given is) c = given_holds (within_forks plan) (λ before task how. refl) past happens given
 forks_hold plan past v new happens (Closing tasks inside waiting is) c = refl
 forks_hold plan past v new happens Stopping c = refl
 forks_hold plan past v new happens (Forking n) c = refl
