@@ -23,7 +23,7 @@ use Rattle.pb_laws.proofs.Holding.{Keeps, given_holds, given_same, always, at_en
 use Rattle.pb_laws.proofs.WithinForks.{opened_shut, idle_next, first_idle}
 
 -- ---- one entry changed
-put_get : {A : Type 0} (xs : List A) (h k : ℕ) (x y : A) → slice_get (put xs h x) k ≡ Some y → ((k ≡ h) × (x ≡ y)) ⊎ ((k ≢ h) × (slice_get xs k ≡ Some y))
+pub put_get : {A : Type 0} (xs : List A) (h k : ℕ) (x y : A) → slice_get (put xs h x) k ≡ Some y → ((k ≡ h) × (x ≡ y)) ⊎ ((k ≢ h) × (slice_get xs k ≡ Some y))
 put_get [] h k x y e = cc
 put_get (z ∷ zs) zero zero x y e = inl (refl, let same : x ≡ y = cc in same)
 put_get (z ∷ zs) zero (suc k) x y e = inr (λ same. omega (arith, same), e)
@@ -31,24 +31,24 @@ put_get (z ∷ zs) (suc h) zero x y e = inr (λ same. omega (arith, same), e)
 put_get (z ∷ zs) (suc h) (suc k) x y e =
     elim (put_get zs h k x y e) [ inl w ↦ inl (ap suc w.0, w.1) | inr w ↦ inr (λ same. w.0 (let p : k ≡ h = omega (arith, same) in p), w.1) ]
 
-put_there : {A : Type 0} (xs : List A) (h : ℕ) (x y : A) → slice_get xs h ≡ Some y → slice_get (put xs h x) h ≡ Some x
+pub put_there : {A : Type 0} (xs : List A) (h : ℕ) (x y : A) → slice_get xs h ≡ Some y → slice_get (put xs h x) h ≡ Some x
 put_there [] h x y e = cc
 put_there (z ∷ zs) zero x y e = refl
 put_there (z ∷ zs) (suc h) x y e = put_there zs h x y e
 
-put_other : {A : Type 0} (xs : List A) (h k : ℕ) (x y : A) → k ≢ h → slice_get xs k ≡ Some y → slice_get (put xs h x) k ≡ Some y
+pub put_other : {A : Type 0} (xs : List A) (h k : ℕ) (x y : A) → k ≢ h → slice_get xs k ≡ Some y → slice_get (put xs h x) k ≡ Some y
 put_other [] h k x y d e = e
 put_other (z ∷ zs) zero zero x y d e = absurd (d refl)
 put_other (z ∷ zs) zero (suc k) x y d e = e
 put_other (z ∷ zs) (suc h) zero x y d e = e
 put_other (z ∷ zs) (suc h) (suc k) x y d e = put_other zs h k x y (λ same. d (ap suc same)) e
 
-same_found : {A : Type 0} (x y : A) (found : Option A) → found ≡ Some x → found ≡ Some y → x ≡ y
+pub same_found : {A : Type 0} (x y : A) (found : Option A) → found ≡ Some x → found ≡ Some y → x ≡ y
 same_found x y None e f = cc
 same_found x y (Some z) e f = cc
 
 -- where nobody runs no task is found
-idle_none : (tasks : List (Option Running)) (h : ℕ) (r : Running) → list_any is_some tasks ≡ false → slice_get tasks h ≡ Some (Some r) → ⊥
+pub idle_none : (tasks : List (Option Running)) (h : ℕ) (r : Running) → list_any is_some tasks ≡ false → slice_get tasks h ≡ Some (Some r) → ⊥
 idle_none [] h r idle e = cc
 idle_none (None ∷ tasks) zero r idle e = absurd (let same : None ≡ Some r = (let both_ways : Some None ≡ Some (Some r) = e in cc) in cc)
 idle_none (Some q ∷ tasks) zero r idle e = absurd (let shown : true ≡ false = idle in cc)
@@ -56,32 +56,32 @@ idle_none (None ∷ tasks) (suc h) r idle e = idle_none tasks h r idle e
 idle_none (Some q ∷ tasks) (suc h) r idle e = absurd (let shown : true ≡ false = idle in cc)
 
 -- ---- tests on numbers
-same_self : (n : ℕ) → (n == n) ≡ true
+pub same_self : (n : ℕ) → (n == n) ≡ true
 same_self n = eq-eqb n n refl
 
-apart : (m n : ℕ) → m ≢ n → (m == n) ≡ false
+pub apart : (m n : ℕ) → m ≢ n → (m == n) ≡ false
 apart m n d = by_test (m == n) refl
   where
     by_test : (b : Bool) → (m == n) ≡ b → b ≡ false
     by_test true e = absurd (d (eqb-true m n e))
     by_test false e = refl
 
-same_or_apart : (m n : ℕ) → (m ≡ n) ⊎ (m ≢ n)
+pub same_or_apart : (m n : ℕ) → (m ≡ n) ⊎ (m ≢ n)
 same_or_apart m n = by_test (m == n) refl
   where
     by_test : (b : Bool) → (m == n) ≡ b → (m ≡ n) ⊎ (m ≢ n)
     by_test true e = inl (eqb-true m n e)
     by_test false e = inr (λ same. let both_ways : true ≡ false = sym (eq-eqb m n same) ∙ e in absurd (let shown = both_ways in cc))
 
-or_last : (a b : Bool) → b ≡ true → (a || b) ≡ true
+pub or_last : (a b : Bool) → b ≡ true → (a || b) ≡ true
 or_last true b e = refl
 or_last false b e = e
 
-or_first : (a b : Bool) → a ≡ true → (a || b) ≡ true
+pub or_first : (a b : Bool) → a ≡ true → (a || b) ≡ true
 or_first true b e = refl
 or_first false b e = cc
 
-task_self : (task : HostTask) → is_same_task task task ≡ true
+pub task_self : (task : HostTask) → is_same_task task task ≡ true
 task_self task = both ((task.play == task.play) && (task.host == task.host)) (task.place == task.place) (both (task.play == task.play) (task.host == task.host) (same_self task.play) (same_self task.host)) (same_self task.place)
 
 apart_and : (a b c : Bool) → b ≡ false → (a && b && c) ≡ false
@@ -146,10 +146,10 @@ sent_next plan past v new happens Stopping e = e
 sent_next plan past v new happens (Forking n) e = e
 
 -- ---- what hosts run
-some_some : (a b : Running) → ◌≡◌ {A = Option Running} (Some a) (Some b) → a ≡ b
+pub some_some : (a b : Running) → ◌≡◌ {A = Option Running} (Some a) (Some b) → a ≡ b
 some_some a b e = cc
 
-none_some : (r : Running) → ◌≡◌ {A = Option Running} None (Some r) → ⊥
+pub none_some : (r : Running) → ◌≡◌ {A = Option Running} None (Some r) → ⊥
 none_some r e = cc
 
 -- a task that one host starts or ends is nothing to another one
@@ -159,7 +159,7 @@ run_started past started task e = or_last (is_same_task started task) (runs task
 run_ended : (past : List Happening) (ended task : HostTask) (end : TaskEnd) (notified : List ℕ) → ended.host ≢ task.host → runs task past ≡ true → runs task (Ends ended end notified ∷ past) ≡ true
 run_ended past ended task end notified d e = both (not (is_same_task ended task)) (runs task past) (ap not (task_apart ended task d)) e
 
-run_next : (plan : PlanOf) (past : List Happening) (v new : Seen) (happens : List Happening) → Tells plan v happens new
+pub run_next : (plan : PlanOf) (past : List Happening) (v new : Seen) (happens : List Happening) → Tells plan v happens new
     → ((h : ℕ) (r : Running) → slice_get v.tasks h ≡ Some (Some r) → runs (task_on v h r.place) past ≡ true)
     → (h : ℕ) (r : Running) → slice_get new.tasks h ≡ Some (Some r) → runs (task_on new h r.place) (so_far past happens) ≡ true
 run_next plan past v new happens (Opening n more tasks inside waiting is) was h r e = absurd (idle_none tasks h r is.idle e)

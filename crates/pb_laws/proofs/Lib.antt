@@ -4,3 +4,4 @@ pub mod WithinForks
 pub mod OwnHosts
 pub mod JobsInOrder
 pub mod AddingUp
+pub mod InOrder

@@ -156,7 +156,7 @@ or_first : (a b : Bool) → a ≡ true → (a || b) ≡ true
 or_first true b e = refl
 or_first false b e = cc
 
-batch_next : (plan : PlanOf) (past : List Happening) (v new : Seen) (happens : List Happening) → Tells plan v happens new → (v.is_open ≡ true → batch_of v.play past ≡ v.inside) → new.is_open ≡ true → batch_of new.play (so_far past happens) ≡ new.inside
+pub batch_next : (plan : PlanOf) (past : List Happening) (v new : Seen) (happens : List Happening) → Tells plan v happens new → (v.is_open ≡ true → batch_of v.play past ≡ v.inside) → new.is_open ≡ true → batch_of new.play (so_far past happens) ≡ new.inside
 batch_next plan past v new happens (Opening n more tasks inside waiting is) b o = ap (λ (same : Bool). if same then inside else []) (eq-eqb n n refl)
 batch_next plan past v new happens (Starting true host place items end notified is) b o = b o
 batch_next plan past v new happens (Starting false host place items end notified is) b o = b o

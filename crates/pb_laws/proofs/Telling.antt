@@ -133,6 +133,10 @@ AreBehind plan play inside walked place =
 abbrev pub AreFresh : List (List AnswerOf) → Type 0
 AreFresh walked = (h : ℕ) (xs : List AnswerOf) → slice_get walked h ≡ Some xs → xs ≡ []
 
+-- of each host of the batch it is known what it answered
+abbrev pub AreKnown : List Bool → List (List AnswerOf) → Type 0
+AreKnown inside walked = (h : ℕ) → is_member inside h ≡ true → (xs : List AnswerOf) × (slice_get walked h ≡ Some xs)
+
 -- hosts, the first of which has the number h, are given answers, each at the place where it stands
 pub data AreLed (plan : PlanOf) (play : ℕ) : ℕ → List (List AnswerOf) → List Happening → List (List AnswerOf) → Type 0 where
   none_led : (h : ℕ) → AreLed plan play h [] [] []
@@ -169,6 +173,7 @@ pub record IsStarting (plan : PlanOf) (v : Seen) (host place : ℕ) : Type 0 whe
   pub answers : List AnswerOf
   pub answered : slice_get v.walked host ≡ Some answers
   pub at : leads plan v.play answers ≡ Some place
+  pub known : AreKnown v.inside v.walked
   pub current : is_linear_play plan v.play ≡ true → v.place ≡ Some place
 
 pub record IsSending (v : Seen) (host item : ℕ) (ticket : Ticket) (r : Running) : Type 0 where
@@ -197,6 +202,7 @@ pub record IsClosing (plan : PlanOf) (v : Seen) (tasks : List (Option Running)) 
   pub opened : v.is_open ≡ true
   pub before : list_any is_some v.tasks ≡ false
   pub done : (h : ℕ) (xs : List AnswerOf) → is_member v.inside h ≡ true → slice_get v.walked h ≡ Some xs → leads plan v.play xs ≡ None
+  pub known : AreKnown v.inside v.walked
   pub walked : List (List AnswerOf)
   pub fresh : AreFresh walked
   pub idle : list_any is_some tasks ≡ false
@@ -369,6 +375,11 @@ row_inside [] h row e i = cc
 row_inside (first ∷ rows) zero row e i = let same : first ≡ row = cc in rw (← same) i
 row_inside (first ∷ rows) (suc h) row e i = row_inside rows h row e i
 
+all_known : (rows : List HostRow) → AreKnown (batch_in rows) (walked_of rows)
+all_known [] h i = cc
+all_known (row ∷ rows) zero i = (row.answers, refl)
+all_known (row ∷ rows) (suc h) i = all_known rows h i
+
 -- the least place is at most each other one
 lesser_left : (a b : Option ℕ) (p q : ℕ) → lesser a b ≡ Some p → a ≡ Some q → p ≤ q
 lesser_left None b p q e f = cc
@@ -462,6 +473,7 @@ start_needs plan s h p play row o may there stands of =
       answers = row.answers;
       answered = answers_there s.rows h row there;
       at = sym (next_leads plan s.play play s.rows h row (play_there plan s play o) (of play o) there i) ∙ next_there s.rows h p row there stands;
+      known = all_known s.rows;
       current = λ linear.
           suits_place (view_of s play) h (standing row) p
           (linear_is play.strategy (sym (ap (λ (found : Option PlayOf). option_map_or (λ (x : PlayOf). is_linear x.strategy) found false) (play_there plan s play o)) ∙ linear)) (and_right (has_room_at (view_of s play) p) _ free);
@@ -945,6 +957,7 @@ close_tells plan s may of =
       opened = open_of plan s (may_close_in s) (open_play plan s) refl may;
       before = any_tasks s.rows ∙ by_play (open_play plan s) may;
       done = close_done plan s (open_play plan s) refl may of;
+      known = all_known s.rows;
       walked = walked_of (map left s.rows);
       fresh = left_fresh s.rows;
       idle = left_idle s.rows;

@@ -58,9 +58,13 @@ is_linear_play plan play = option_map_or (λ (p : PlayOf). is_linear p.strategy)
 abbrev pub is_not_before : PlanOf → HostTask → List Happening → ℕ → Bool
 is_not_before plan task past host = option_map_or (λ p. nat_le task.place p) (leads_to plan task.play host past) true
 
+abbrev pub places_rise : PlanOf → List Happening → Happening → Bool
+places_rise plan past (Starts task) = rises task past
+places_rise plan past now = true
+
 abbrev pub in_order : PlanOf → List Happening → Happening → Bool
 in_order plan past (Starts task) =
-    stands_at plan task past && (running (is_of task.host) past == 0) && rises task past
+    stands_at plan task past && (running (is_of task.host) past == 0)
     && (not (is_linear_play plan task.play) || each_host (is_not_before plan task past) 0 (batch_of task.play past))
 in_order plan past (Ends task end notified) = stands_at plan task past && runs task past
 in_order plan past (Given task kind) = stands_at plan task past

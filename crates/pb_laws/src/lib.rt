@@ -1,6 +1,7 @@
 //! What an operator may rely on in every run.
 #![tactic(auto)]
 
+ghost use Rattle.pb_laws.specs.Open.{in_order, have_walked};
 ghost use Rattle.pb_laws.specs.Laws.{Always, AtTheEnd, own_hosts, within_forks, jobs_in_order, all_answered, RecapAddsUp};
 
 /// A host starts a task of a play only if the play's pattern and the limit select it, and only in a batch that it is in; and no host is in
@@ -25,4 +26,10 @@ pub fn jobs_are_answered_once()
 /// task of `meta` is none unless it failed; and the exit status is 0 exactly where no host has a count of failed or unreachable tasks.
 pub fn recap_adds_up()
     ensures { RecapAddsUp }
+{}
+
+/// A host starts the task to which its answers lead it.
+pub fn hosts_keep_order()
+    ensures order { Always in_order }
+    ensures walked { Always have_walked }
 {}

@@ -1,0 +1,5 @@
+use Rattle.pb_laws.proofs.InOrder.{hosts_keep_order, batches_are_walked}
+use Rattle.pb_laws.proofs.hosts_keep_order.Goals as goal
+
+pub returns : goal.returns
+returns c = record { order = hosts_keep_order; walked = batches_are_walked }
