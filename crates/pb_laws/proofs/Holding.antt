@@ -17,7 +17,7 @@ use Rattle.pb_laws.specs.Laws.{holds_from, so_far, Always}
 use Rattle.pb_laws.proofs.Telling.{Seen, AreGiven, none_given, one_given, seen, Tells, tells}
 
 -- one part of a history after another
-holds_both : (law : List Happening → Happening → Bool) (past xs ys : List Happening) → holds_from law past xs ≡ true → holds_from law (so_far past xs) ys ≡ true → holds_from law past (xs ++ ys) ≡ true
+pub holds_both : (law : List Happening → Happening → Bool) (past xs ys : List Happening) → holds_from law past xs ≡ true → holds_from law (so_far past xs) ys ≡ true → holds_from law past (xs ++ ys) ≡ true
 holds_both law past [] ys p q = q
 holds_both law past (x ∷ xs) ys p q = both (law past x) _ (and_left (law past x) _ p) (holds_both law (x ∷ past) xs ys (and_right (law past x) _ p) q)
 

@@ -5,3 +5,4 @@ pub mod OwnHosts
 pub mod JobsInOrder
 pub mod AddingUp
 pub mod InOrder
+pub mod RisingPlaces

@@ -1,7 +1,7 @@
 //! What an operator may rely on in every run.
 #![tactic(auto)]
 
-ghost use Rattle.pb_laws.specs.Open.{in_order, have_walked};
+ghost use Rattle.pb_laws.specs.Open.{in_order, places_rise, have_walked};
 ghost use Rattle.pb_laws.specs.Laws.{Always, AtTheEnd, own_hosts, within_forks, jobs_in_order, all_answered, RecapAddsUp};
 
 /// A host starts a task of a play only if the play's pattern and the limit select it, and only in a batch that it is in; and no host is in
@@ -31,5 +31,6 @@ pub fn recap_adds_up()
 /// A host starts the task to which its answers lead it.
 pub fn hosts_keep_order()
     ensures order { Always in_order }
+    ensures rise { Always places_rise }
     ensures walked { Always have_walked }
 {}
