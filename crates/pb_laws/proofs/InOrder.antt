@@ -125,20 +125,20 @@ answered_next : (plan : PlanOf) (past : List Happening) (v new : Seen) (happens 
     → (h : ℕ) (xs : List AnswerOf) → slice_get new.walked h ≡ Some xs → answers h (so_far past happens) ≡ xs
 unfolding AreAnswers
 answered_next plan past v new happens (Opening n more tasks inside waiting is) was h xs e = sym (is.fresh h xs e)
-answered_next plan past v new happens (Starting true host place items end notified is) was h xs e =
+answered_next plan past v new happens (Starting true host place items end notified is so) was h xs e =
     elim (put_get v.walked host h (is.answers ++ answer_of end notified ∷ []) xs e) [
       | inl w ↦ ends_with (Starts (task_on v host place) ∷ past) host h v.play place end notified is.answers xs (was host is.answers is.answered) w
       | inr w ↦ ends_other (Starts (task_on v host place) ∷ past) host h v.play place end notified w.0 ∙ was h xs w.1
     ]
-answered_next plan past v new happens (Starting false host place items end notified is) was h xs e =
+answered_next plan past v new happens (Starting false host place items end notified is so) was h xs e =
     elim (put_get v.walked host h is.answers xs e) [ inl w ↦ ap (λ (k : ℕ). answers k past) w.0 ∙ was host is.answers is.answered ∙ w.1 | inr w ↦ was h xs w.1 ]
 answered_next plan past v new happens (Sending host item ticket r is) was h xs e = was h xs e
-answered_next plan past v new happens (Reporting true host item ticket r items end notified is) was h xs e =
+answered_next plan past v new happens (Reporting true host item ticket r items end notified is so) was h xs e =
     elim (put_get v.walked host h (is.answers ++ answer_of end notified ∷ []) xs e) [
       | inl w ↦ ends_with (Reports host item ticket.0 ∷ past) host h v.play r.place end notified is.answers xs (was host is.answers is.answered) w
       | inr w ↦ ends_other (Reports host item ticket.0 ∷ past) host h v.play r.place end notified w.0 ∙ was h xs w.1
     ]
-answered_next plan past v new happens (Reporting false host item ticket r items end notified is) was h xs e =
+answered_next plan past v new happens (Reporting false host item ticket r items end notified is so) was h xs e =
     elim (put_get v.walked host h is.answers xs e) [ inl w ↦ ap (λ (k : ℕ). answers k past) w.0 ∙ was host is.answers is.answered ∙ w.1 | inr w ↦ was h xs w.1 ]
 answered_next plan past v new happens (Turning more told opened given is) was h xs e =
     ap (λ (k : ℕ). answers k (so_far past happens)) (let same : h ≡ 0 + h = omega arith in same)
@@ -221,11 +221,11 @@ one_next : (plan : PlanOf) (past : List Happening) (v new : Seen) (happens : Lis
     → ((h : ℕ) → running (is_of h) past ≡ busy (slice_get v.tasks h)) → (h : ℕ) → running (is_of h) (so_far past happens) ≡ busy (slice_get new.tasks h)
 unfolding busy
 one_next plan past v new happens (Opening n more tasks inside waiting is) idle was h = was h ∙ idle_busy v.tasks h (idle is.shut) ∙ sym (idle_busy tasks h is.idle)
-one_next plan past v new happens (Starting true host place items end notified is) idle was h = at_once past h (task_on v host place) end notified ∙ kept_on past v.tasks host h None None is.idle refl was
-one_next plan past v new happens (Starting false host place items end notified is) idle was h = began past v.tasks host h v.play place None (record { place = place; items = items; out = None }) is.idle was
+one_next plan past v new happens (Starting true host place items end notified is so) idle was h = at_once past h (task_on v host place) end notified ∙ kept_on past v.tasks host h None None is.idle refl was
+one_next plan past v new happens (Starting false host place items end notified is so) idle was h = began past v.tasks host h v.play place None (record { place = place; items = items; out = None }) is.idle was
 one_next plan past v new happens (Sending host item ticket r is) idle was h = kept_on past v.tasks host h (Some r) (Some (record r { out = Some ticket })) is.there refl was
-one_next plan past v new happens (Reporting true host item ticket r items end notified is) idle was h = ended (Reports host item ticket.0 ∷ past) v.tasks host h v.play r.place end notified r is.there was
-one_next plan past v new happens (Reporting false host item ticket r items end notified is) idle was h = kept_on past v.tasks host h (Some r) (Some (record { place = r.place; items = items; out = None })) is.there refl was
+one_next plan past v new happens (Reporting true host item ticket r items end notified is so) idle was h = ended (Reports host item ticket.0 ∷ past) v.tasks host h v.play r.place end notified r is.there was
+one_next plan past v new happens (Reporting false host item ticket r items end notified is so) idle was h = kept_on past v.tasks host h (Some r) (Some (record { place = r.place; items = items; out = None })) is.there refl was
 one_next plan past v new happens (Turning more told opened given is) idle was h = given_same (running (is_of h)) (λ before done how. refl) past happens given ∙ was h
 one_next plan past v new happens (Closing tasks inside waiting is) idle was h = was h ∙ idle_busy v.tasks h is.before ∙ sym (idle_busy tasks h is.idle)
 one_next plan past v new happens Stopping idle was h = was h
@@ -272,11 +272,11 @@ behind_same plan v host xs there was = λ linear h ys p q inside got to current.
 behind_next : (plan : PlanOf) (v new : Seen) (happens : List Happening) → Tells plan v happens new → (v.is_open ≡ true → AreBehind plan v.play v.inside v.walked v.place)
     → new.is_open ≡ true → AreBehind plan new.play new.inside new.walked new.place
 behind_next plan v new happens (Opening n more tasks inside waiting is) was o = is.behind
-behind_next plan v new happens (Starting true host place items end notified is) was o = behind_more plan v host place is.answers end notified is.answered is.at (was o)
-behind_next plan v new happens (Starting false host place items end notified is) was o = behind_same plan v host is.answers is.answered (was o)
+behind_next plan v new happens (Starting true host place items end notified is so) was o = behind_more plan v host place is.answers end notified is.answered is.at (was o)
+behind_next plan v new happens (Starting false host place items end notified is so) was o = behind_same plan v host is.answers is.answered (was o)
 behind_next plan v new happens (Sending host item ticket r is) was o = was o
-behind_next plan v new happens (Reporting true host item ticket r items end notified is) was o = behind_more plan v host r.place is.answers end notified is.answered is.at (was o)
-behind_next plan v new happens (Reporting false host item ticket r items end notified is) was o = behind_same plan v host is.answers is.answered (was o)
+behind_next plan v new happens (Reporting true host item ticket r items end notified is so) was o = behind_more plan v host r.place is.answers end notified is.answered is.at (was o)
+behind_next plan v new happens (Reporting false host item ticket r items end notified is so) was o = behind_same plan v host is.answers is.answered (was o)
 behind_next plan v new happens (Turning more told opened given is) was o = is.behind
 behind_next plan v new happens (Closing tasks inside waiting is) was o = absurd (let shut : false ≡ true = o in cc)
 behind_next plan v new happens Stopping was o = was o
@@ -321,18 +321,18 @@ start_in_order plan past v host place is walks =
 order_holds : (plan : PlanOf) (past : List Happening) (v new : Seen) (happens : List Happening) → Tells plan v happens new → Walks plan past v → holds_from (in_order plan) past happens ≡ true
 unfolding AreAnswers
 order_holds plan past v new happens (Opening n more tasks inside waiting is) walks = refl
-order_holds plan past v new happens (Starting true host place items end notified is) walks =
+order_holds plan past v new happens (Starting true host place items end notified is so) walks =
     both (in_order plan past (Starts (task_on v host place))) (in_order plan (Starts (task_on v host place) ∷ past) (Ends (task_on v host place) end notified) && true) (start_in_order plan past v host place is walks)
     (both (in_order plan (Starts (task_on v host place) ∷ past) (Ends (task_on v host place) end notified)) true
     (both (stands_at plan (task_on v host place) past) (is_same_task (task_on v host place) (task_on v host place) || runs (task_on v host place) past)
     (stands_there plan v.play host place past is.answers (walks.answered host is.answers is.answered) is.at)
     (or_first (is_same_task (task_on v host place) (task_on v host place)) (runs (task_on v host place) past) (task_self (task_on v host place)))) refl)
-order_holds plan past v new happens (Starting false host place items end notified is) walks = both (in_order plan past (Starts (task_on v host place))) true (start_in_order plan past v host place is walks) refl
+order_holds plan past v new happens (Starting false host place items end notified is so) walks = both (in_order plan past (Starts (task_on v host place))) true (start_in_order plan past v host place is walks) refl
 order_holds plan past v new happens (Sending host item ticket r is) walks = refl
-order_holds plan past v new happens (Reporting true host item ticket r items end notified is) walks =
+order_holds plan past v new happens (Reporting true host item ticket r items end notified is so) walks =
     both (in_order plan (Reports host item ticket.0 ∷ past) (Ends (task_on v host r.place) end notified)) true
     (both (stands_at plan (task_on v host r.place) past) (runs (task_on v host r.place) past) (stands_there plan v.play host r.place past is.answers (walks.answered host is.answers is.answered) is.at) (walks.run host r is.there)) refl
-order_holds plan past v new happens (Reporting false host item ticket r items end notified is) walks = refl
+order_holds plan past v new happens (Reporting false host item ticket r items end notified is so) walks = refl
 order_holds plan past v new happens (Turning more told opened given is) walks =
     led_holds plan v.play 0 v.walked happens is.walked is.led past (λ k xs e. ap (λ (j : ℕ). answers j past) (let same : 0 + k ≡ k = omega arith in same) ∙ walks.answered k xs e)
 order_holds plan past v new happens (Closing tasks inside waiting is) walks = refl
@@ -341,11 +341,11 @@ order_holds plan past v new happens (Forking n) walks = refl
 
 walked_holds : (plan : PlanOf) (past : List Happening) (v new : Seen) (happens : List Happening) → Tells plan v happens new → Walks plan past v → holds_from (have_walked plan) past happens ≡ true
 walked_holds plan past v new happens (Opening n more tasks inside waiting is) walks = refl
-walked_holds plan past v new happens (Starting true host place items end notified is) walks = refl
-walked_holds plan past v new happens (Starting false host place items end notified is) walks = refl
+walked_holds plan past v new happens (Starting true host place items end notified is so) walks = refl
+walked_holds plan past v new happens (Starting false host place items end notified is so) walks = refl
 walked_holds plan past v new happens (Sending host item ticket r is) walks = refl
-walked_holds plan past v new happens (Reporting true host item ticket r items end notified is) walks = refl
-walked_holds plan past v new happens (Reporting false host item ticket r items end notified is) walks = refl
+walked_holds plan past v new happens (Reporting true host item ticket r items end notified is so) walks = refl
+walked_holds plan past v new happens (Reporting false host item ticket r items end notified is so) walks = refl
 walked_holds plan past v new happens (Turning more told opened given is) walks = given_holds (have_walked plan) (λ before task how. refl) past happens given
 walked_holds plan past v new happens (Closing tasks inside waiting is) walks =
     both (each_host (λ host. is_none (leads_to plan v.play host past)) 0 (batch_of v.play past)) true

@@ -135,11 +135,11 @@ record Jobs (plan : PlanOf) (past : List Happening) (v : Seen) : Type 0 where
 -- ---- the number of jobs
 sent_next : (plan : PlanOf) (past : List Happening) (v new : Seen) (happens : List Happening) → Tells plan v happens new → jobs_sent past ≡ v.sends → jobs_sent (so_far past happens) ≡ new.sends
 sent_next plan past v new happens (Opening n more tasks inside waiting is) e = e
-sent_next plan past v new happens (Starting true host place items end notified is) e = e
-sent_next plan past v new happens (Starting false host place items end notified is) e = e
+sent_next plan past v new happens (Starting true host place items end notified is so) e = e
+sent_next plan past v new happens (Starting false host place items end notified is so) e = e
 sent_next plan past v new happens (Sending host item ticket r is) e = ap (λ (n : ℕ). n + 1) e
-sent_next plan past v new happens (Reporting true host item ticket r items end notified is) e = e
-sent_next plan past v new happens (Reporting false host item ticket r items end notified is) e = e
+sent_next plan past v new happens (Reporting true host item ticket r items end notified is so) e = e
+sent_next plan past v new happens (Reporting false host item ticket r items end notified is so) e = e
 sent_next plan past v new happens (Turning more told opened given is) e = given_same jobs_sent (λ before task how. refl) past happens given ∙ e
 sent_next plan past v new happens (Closing tasks inside waiting is) e = e
 sent_next plan past v new happens Stopping e = e
@@ -163,12 +163,12 @@ pub run_next : (plan : PlanOf) (past : List Happening) (v new : Seen) (happens :
     → ((h : ℕ) (r : Running) → slice_get v.tasks h ≡ Some (Some r) → runs (task_on v h r.place) past ≡ true)
     → (h : ℕ) (r : Running) → slice_get new.tasks h ≡ Some (Some r) → runs (task_on new h r.place) (so_far past happens) ≡ true
 run_next plan past v new happens (Opening n more tasks inside waiting is) was h r e = absurd (idle_none tasks h r is.idle e)
-run_next plan past v new happens (Starting true host place items end notified is) was h r e =
+run_next plan past v new happens (Starting true host place items end notified is so) was h r e =
     elim (put_get v.tasks host h None (Some r) e) [
       | inl w ↦ absurd (none_some r w.1)
       | inr w ↦ run_ended (Starts (task_on v host place) ∷ past) (task_on v host place) (task_on v h r.place) end notified (λ same. w.0 (sym same)) (run_started past (task_on v host place) (task_on v h r.place) (was h r w.1))
     ]
-run_next plan past v new happens (Starting false host place items end notified is) was h r e =
+run_next plan past v new happens (Starting false host place items end notified is so) was h r e =
     elim (put_get v.tasks host h (Some (record { place = place; items = items; out = None })) (Some r) e) [
       | inl w ↦
           or_first (is_same_task (task_on v host place) (task_on v h r.place)) (runs (task_on v h r.place) past)
@@ -183,12 +183,12 @@ run_next plan past v new happens (Sending host item ticket q is) was h r e =
           ap (λ (k : ℕ). runs (task_on v k r.place) past) w.0 ∙ ap (λ (x : Running). runs (task_on v host x.place) past) (sym (some_some (record q { out = Some ticket }) r w.1)) ∙ was host q is.there
       | inr w ↦ was h r w.1
     ]
-run_next plan past v new happens (Reporting true host item ticket q items end notified is) was h r e =
+run_next plan past v new happens (Reporting true host item ticket q items end notified is so) was h r e =
     elim (put_get v.tasks host h None (Some r) e) [
       | inl w ↦ absurd (none_some r w.1)
       | inr w ↦ run_ended (Reports host item ticket.0 ∷ past) (task_on v host q.place) (task_on v h r.place) end notified (λ same. w.0 (sym same)) (was h r w.1)
     ]
-run_next plan past v new happens (Reporting false host item ticket q items end notified is) was h r e =
+run_next plan past v new happens (Reporting false host item ticket q items end notified is so) was h r e =
     elim (put_get v.tasks host h (Some (record { place = q.place; items = items; out = None })) (Some r) e) [
       | inl w ↦
           ap (λ (k : ℕ). runs (task_on v k r.place) past) w.0 ∙ ap (λ (x : Running). runs (task_on v host x.place) past) (sym (some_some (record { place = q.place; items = items; out = None }) r w.1)) ∙ was host q is.there
@@ -213,9 +213,9 @@ out_next : (plan : PlanOf) (past : List Happening) (v new : Seen) (happens : Lis
     → (h : ℕ) (r : Running) (ticket item : ℕ) → slice_get new.tasks h ≡ Some (Some r) → out_number r ≡ Some ticket → next_item r.items ≡ Some item → is_out h item ticket (so_far past happens) ≡ true
 unfolding out_number
 out_next plan past v new happens (Opening n more tasks inside waiting is) was below h r t i e o x = absurd (idle_none tasks h r is.idle e)
-out_next plan past v new happens (Starting true host place items end notified is) was below h r t i e o x =
+out_next plan past v new happens (Starting true host place items end notified is so) was below h r t i e o x =
     elim (put_get v.tasks host h None (Some r) e) [ inl w ↦ absurd (none_some r w.1) | inr w ↦ was h r t i w.1 o x ]
-out_next plan past v new happens (Starting false host place items end notified is) was below h r t i e o x =
+out_next plan past v new happens (Starting false host place items end notified is so) was below h r t i e o x =
     elim (put_get v.tasks host h (Some (record { place = place; items = items; out = None })) (Some r) e) [ inl w ↦ absurd (none_out r place t items w.1 o) | inr w ↦ was h r t i w.1 o x ]
 out_next plan past v new happens (Sending host item ticket q is) was below h r t i e o x =
     elim (put_get v.tasks host h (Some (record q { out = Some ticket })) (Some r) e) [
@@ -232,13 +232,13 @@ out_next plan past v new happens (Sending host item ticket q is) was below h r t
         let next : Some item ≡ Some i = sym is.next ∙ ap (λ (y : Running). next_item y.items) same ∙ x in
         let which : item ≡ i = (let shown = next in cc) in
         under_if (ticket.0 == t) ((host == h) && (item == i)) (is_out h i t past) (eq-eqb ticket.0 t under) ∙ both (host == h) (item == i) (eq-eqb host h (sym here)) (eq-eqb item i which)
-out_next plan past v new happens (Reporting true host item ticket q items end notified is) was below h r t i e o x =
+out_next plan past v new happens (Reporting true host item ticket q items end notified is so) was below h r t i e o x =
     elim (put_get v.tasks host h None (Some r) e) [
       | inl w ↦ absurd (none_some r w.1)
       | inr w ↦ still_out past h i t host item ticket.0
           (λ same. w.0 (one_out past t h i host item (was h r t i w.1 o x) (was host q t item is.there (is.out ∙ ap Some same) is.next))) (was h r t i w.1 o x)
     ]
-out_next plan past v new happens (Reporting false host item ticket q items end notified is) was below h r t i e o x =
+out_next plan past v new happens (Reporting false host item ticket q items end notified is so) was below h r t i e o x =
     elim (put_get v.tasks host h (Some (record { place = q.place; items = items; out = None })) (Some r) e) [
       | inl w ↦ absurd (none_out r q.place t items w.1 o)
       | inr w ↦ still_out past h i t host item ticket.0
@@ -254,9 +254,9 @@ below_next : (plan : PlanOf) (v new : Seen) (happens : List Happening) → Tells
     → (h : ℕ) (r : Running) (ticket : ℕ) → slice_get new.tasks h ≡ Some (Some r) → out_number r ≡ Some ticket → ticket < new.sends
 unfolding out_number
 below_next plan v new happens (Opening n more tasks inside waiting is) was h r t e o = absurd (idle_none tasks h r is.idle e)
-below_next plan v new happens (Starting true host place items end notified is) was h r t e o =
+below_next plan v new happens (Starting true host place items end notified is so) was h r t e o =
     elim (put_get v.tasks host h None (Some r) e) [ inl w ↦ absurd (none_some r w.1) | inr w ↦ was h r t w.1 o ]
-below_next plan v new happens (Starting false host place items end notified is) was h r t e o =
+below_next plan v new happens (Starting false host place items end notified is so) was h r t e o =
     elim (put_get v.tasks host h (Some (record { place = place; items = items; out = None })) (Some r) e) [ inl w ↦ absurd (none_out r place t items w.1 o) | inr w ↦ was h r t w.1 o ]
 below_next plan v new happens (Sending host item ticket q is) was h r t e o =
     elim (put_get v.tasks host h (Some (record q { out = Some ticket })) (Some r) e) [
@@ -267,9 +267,9 @@ below_next plan v new happens (Sending host item ticket q is) was h r t e o =
           omega (arith, under, sends)
       | inr w ↦ let least = was h r t w.1 o in omega (arith, least)
     ]
-below_next plan v new happens (Reporting true host item ticket q items end notified is) was h r t e o =
+below_next plan v new happens (Reporting true host item ticket q items end notified is so) was h r t e o =
     elim (put_get v.tasks host h None (Some r) e) [ inl w ↦ absurd (none_some r w.1) | inr w ↦ was h r t w.1 o ]
-below_next plan v new happens (Reporting false host item ticket q items end notified is) was h r t e o =
+below_next plan v new happens (Reporting false host item ticket q items end notified is so) was h r t e o =
     elim (put_get v.tasks host h (Some (record { place = q.place; items = items; out = None })) (Some r) e) [ inl w ↦ absurd (none_out r q.place t items w.1 o) | inr w ↦ was h r t w.1 o ]
 below_next plan v new happens (Turning more told opened given is) was h r t e o = was h r t e o
 below_next plan v new happens (Closing tasks inside waiting is) was h r t e o = absurd (idle_none tasks h r is.idle e)
@@ -290,9 +290,9 @@ answered_next : (plan : PlanOf) (past : List Happening) (v new : Seen) (happens 
 unfolding HasOut out_number
 answered_next plan past v new happens (Opening n more tasks inside waiting is) idle was t l =
     elim (was t l) [ inl a ↦ inl a | inr w ↦ absurd (idle_none v.tasks w.0 w.1.0 (idle is.shut) w.1.1) ]
-answered_next plan past v new happens (Starting true host place items end notified is) idle was t l =
+answered_next plan past v new happens (Starting true host place items end notified is so) idle was t l =
     elim (was t l) [ inl a ↦ inl a | inr w ↦ inr (w.0, other_out v host w.0 t None None is.idle (λ r e. absurd (none_some r e)) w.1) ]
-answered_next plan past v new happens (Starting false host place items end notified is) idle was t l =
+answered_next plan past v new happens (Starting false host place items end notified is so) idle was t l =
     elim (was t l) [ inl a ↦ inl a | inr w ↦ inr (w.0, other_out v host w.0 t None (Some (record { place = place; items = items; out = None })) is.idle (λ r e. absurd (none_some r e)) w.1) ]
 answered_next plan past v new happens (Sending host item ticket q is) idle was t l = by_ticket (same_or_apart t v.sends)
   where
@@ -306,7 +306,7 @@ answered_next plan past v new happens (Sending host item ticket q is) idle was t
     by_ticket (inl same) = inr (host, (record q { out = Some ticket }, put_there v.tasks host (Some (record q { out = Some ticket })) (Some q) is.there, ap Some (is.number ∙ sym same)))
     by_ticket (inr other) =
         elim (was t (omega (arith, l, other))) [ inl a ↦ inl a | inr w ↦ inr (w.0, other_out v host w.0 t (Some q) (Some (record q { out = Some ticket })) is.there free w.1) ]
-answered_next plan past v new happens (Reporting true host item ticket q items end notified is) idle was t l = by_ticket (same_or_apart ticket.0 t)
+answered_next plan past v new happens (Reporting true host item ticket q items end notified is so) idle was t l = by_ticket (same_or_apart ticket.0 t)
   where
     by_ticket : (ticket.0 ≡ t) ⊎ (ticket.0 ≢ t)
         → (((ticket.0 == t) || is_answered t past) ≡ true) ⊎ ((h : ℕ) × ((r : Running) × (slice_get (put v.tasks host None) h ≡ Some (Some r)) × (option_map (λ (u : Ticket). u.0) r.out ≡ Some t)))
@@ -318,7 +318,7 @@ answered_next plan past v new happens (Reporting true host item ticket q items e
               inr (w.0, other_out v host w.0 t (Some q) None is.there
               (λ r e out. other (let number : Some ticket.0 ≡ Some t = sym is.out ∙ ap (λ (y : Running). option_map (λ (u : Ticket). u.0) y.out) (some_some q r e) ∙ out in (let same : ticket.0 ≡ t = (let shown = number in cc) in same))) w.1)
         ]
-answered_next plan past v new happens (Reporting false host item ticket q items end notified is) idle was t l = by_ticket (same_or_apart ticket.0 t)
+answered_next plan past v new happens (Reporting false host item ticket q items end notified is so) idle was t l = by_ticket (same_or_apart ticket.0 t)
   where
     by_ticket : (ticket.0 ≡ t) ⊎ (ticket.0 ≢ t)
         → (((ticket.0 == t) || is_answered t past) ≡ true)
@@ -342,13 +342,13 @@ answered_next plan past v new happens (Forking n) idle was t l = was t l
 jobs_hold : (plan : PlanOf) (past : List Happening) (v new : Seen) (happens : List Happening) → Tells plan v happens new → Jobs plan past v → holds_from (jobs_in_order plan) past happens ≡ true
 unfolding out_number
 jobs_hold plan past v new happens (Opening n more tasks inside waiting is) jobs = refl
-jobs_hold plan past v new happens (Starting true host place items end notified is) jobs = refl
-jobs_hold plan past v new happens (Starting false host place items end notified is) jobs = refl
+jobs_hold plan past v new happens (Starting true host place items end notified is so) jobs = refl
+jobs_hold plan past v new happens (Starting false host place items end notified is so) jobs = refl
 jobs_hold plan past v new happens (Sending host item ticket r is) jobs =
     both (jobs_in_order plan past (Sends (task_on v host r.place) item ticket.0)) true
     (both (ticket.0 == jobs_sent past) (runs (task_on v host r.place) past) (eq-eqb ticket.0 (jobs_sent past) (is.number ∙ sym jobs.sent)) (jobs.run host r is.there)) refl
-jobs_hold plan past v new happens (Reporting true host item ticket r items end notified is) jobs = both (is_out host item ticket.0 past) true (jobs.out host r ticket.0 item is.there is.out is.next) refl
-jobs_hold plan past v new happens (Reporting false host item ticket r items end notified is) jobs = both (is_out host item ticket.0 past) true (jobs.out host r ticket.0 item is.there is.out is.next) refl
+jobs_hold plan past v new happens (Reporting true host item ticket r items end notified is so) jobs = both (is_out host item ticket.0 past) true (jobs.out host r ticket.0 item is.there is.out is.next) refl
+jobs_hold plan past v new happens (Reporting false host item ticket r items end notified is so) jobs = both (is_out host item ticket.0 past) true (jobs.out host r ticket.0 item is.there is.out is.next) refl
 jobs_hold plan past v new happens (Turning more told opened given is) jobs = given_holds (jobs_in_order plan) (λ before task how. refl) past happens given
 jobs_hold plan past v new happens (Closing tasks inside waiting is) jobs = refl
 jobs_hold plan past v new happens Stopping jobs = refl

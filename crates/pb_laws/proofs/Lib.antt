@@ -6,3 +6,4 @@ pub mod JobsInOrder
 pub mod AddingUp
 pub mod InOrder
 pub mod RisingPlaces
+pub mod AllClosed

@@ -83,9 +83,9 @@ behind_closes v false play hosts inside waiting new m o still at shut more_too w
 behind_next : (plan : PlanOf) (v new : Seen) (happens : List Happening) (play : ℕ) (hosts : List Bool) → Tells plan v happens new → IsBehind play hosts v → IsBehind play hosts new
 unfolding IsBehind OpensSo
 behind_next plan v new happens play hosts (Opening n more tasks inside waiting is) w = behind_opens plan v n more new play hosts is.shut is.how refl refl w
-behind_next plan v new happens play hosts (Starting over host place items end notified is) w = w
+behind_next plan v new happens play hosts (Starting over host place items end notified is so) w = w
 behind_next plan v new happens play hosts (Sending host item ticket r is) w = w
-behind_next plan v new happens play hosts (Reporting over host item ticket r items end notified is) w = w
+behind_next plan v new happens play hosts (Reporting over host item ticket r items end notified is so) w = w
 behind_next plan v new happens play hosts (Turning more told opened given is) (inl l) = inl l
 behind_next plan v new happens play hosts (Turning more told opened given is) (inr w) = inr (w.0, λ s. absurd (opened_shut v opened s), w.2)
 behind_next plan v new happens play hosts (Closing tasks inside waiting is) w = behind_closes v v.has_more play hosts inside waiting new refl is.opened is.still refl refl refl refl w
@@ -106,11 +106,11 @@ given_behind v past (x ∷ xs) (one_given task kind given) w = given_behind v (G
 all_behind : (plan : PlanOf) (past : List Happening) (v new : Seen) (happens : List Happening) → Tells plan v happens new → AreBehind past new → AreBehind (so_far past happens) new
 unfolding AreBehind IsBehind
 all_behind plan past v new happens (Opening n more tasks inside waiting is) w = (inr (refl, λ s. cc, λ h was waits. (refl, was)), w)
-all_behind plan past v new happens (Starting true host place items end notified is) w = w
-all_behind plan past v new happens (Starting false host place items end notified is) w = w
+all_behind plan past v new happens (Starting true host place items end notified is so) w = w
+all_behind plan past v new happens (Starting false host place items end notified is so) w = w
 all_behind plan past v new happens (Sending host item ticket r is) w = w
-all_behind plan past v new happens (Reporting true host item ticket r items end notified is) w = w
-all_behind plan past v new happens (Reporting false host item ticket r items end notified is) w = w
+all_behind plan past v new happens (Reporting true host item ticket r items end notified is so) w = w
+all_behind plan past v new happens (Reporting false host item ticket r items end notified is so) w = w
 all_behind plan past v new happens (Turning more told opened given is) w = given_behind new past happens given w
 all_behind plan past v new happens (Closing tasks inside waiting is) w = w
 all_behind plan past v new happens Stopping w = w
@@ -158,11 +158,11 @@ or_first false b e = cc
 
 pub batch_next : (plan : PlanOf) (past : List Happening) (v new : Seen) (happens : List Happening) → Tells plan v happens new → (v.is_open ≡ true → batch_of v.play past ≡ v.inside) → new.is_open ≡ true → batch_of new.play (so_far past happens) ≡ new.inside
 batch_next plan past v new happens (Opening n more tasks inside waiting is) b o = ap (λ (same : Bool). if same then inside else []) (eq-eqb n n refl)
-batch_next plan past v new happens (Starting true host place items end notified is) b o = b o
-batch_next plan past v new happens (Starting false host place items end notified is) b o = b o
+batch_next plan past v new happens (Starting true host place items end notified is so) b o = b o
+batch_next plan past v new happens (Starting false host place items end notified is so) b o = b o
 batch_next plan past v new happens (Sending host item ticket r is) b o = b o
-batch_next plan past v new happens (Reporting true host item ticket r items end notified is) b o = b o
-batch_next plan past v new happens (Reporting false host item ticket r items end notified is) b o = b o
+batch_next plan past v new happens (Reporting true host item ticket r items end notified is so) b o = b o
+batch_next plan past v new happens (Reporting false host item ticket r items end notified is so) b o = b o
 batch_next plan past v new happens (Turning more told opened given is) b o = given_same (batch_of v.play) (λ before task how. refl) past happens given ∙ b o
 batch_next plan past v new happens (Closing tasks inside waiting is) b o = cc
 batch_next plan past v new happens Stopping b o = b o
@@ -171,9 +171,9 @@ batch_next plan past v new happens (Forking n) b o = b o
 joined_next : (plan : PlanOf) (v new : Seen) (happens : List Happening) → Tells plan v happens new → (v.is_open ≡ true → (h : ℕ) → is_member v.inside h ≡ true → is_member v.waiting h ≡ true)
     → new.is_open ≡ true → (h : ℕ) → is_member new.inside h ≡ true → is_member new.waiting h ≡ true
 joined_next plan v new happens (Opening n more tasks inside waiting is) j o = is.joins
-joined_next plan v new happens (Starting over host place items end notified is) j o = j o
+joined_next plan v new happens (Starting over host place items end notified is so) j o = j o
 joined_next plan v new happens (Sending host item ticket r is) j o = j o
-joined_next plan v new happens (Reporting over host item ticket r items end notified is) j o = j o
+joined_next plan v new happens (Reporting over host item ticket r items end notified is so) j o = j o
 joined_next plan v new happens (Turning more told opened given is) j o = j o
 joined_next plan v new happens (Closing tasks inside waiting is) j o = absurd (let shut : false ≡ true = o in cc)
 joined_next plan v new happens Stopping j o = j o
@@ -200,9 +200,9 @@ own_next : (plan : PlanOf) (v new : Seen) (happens : List Happening) → Tells p
     → (new.is_open || new.has_more) ≡ true → (h : ℕ) → is_member new.waiting h ≡ true → selects plan new.play h ≡ true
 unfolding OpensSo
 own_next plan v new happens (Opening n more tasks inside waiting is) own o = own_opens plan v n waiting is.how own
-own_next plan v new happens (Starting over host place items end notified is) own o = own o
+own_next plan v new happens (Starting over host place items end notified is so) own o = own o
 own_next plan v new happens (Sending host item ticket r is) own o = own o
-own_next plan v new happens (Reporting over host item ticket r items end notified is) own o = own o
+own_next plan v new happens (Reporting over host item ticket r items end notified is so) own o = own o
 own_next plan v new happens (Turning more told opened given is) own o = own (or_first v.is_open v.has_more opened)
 own_next plan v new happens (Closing tasks inside waiting is) own o = own_closes plan v v.has_more waiting o is.opened is.still own
 own_next plan v new happens Stopping own o = own o
@@ -219,11 +219,11 @@ own_hold : (plan : PlanOf) (past : List Happening) (v new : Seen) (happens : Lis
 unfolding OpensSo
 own_hold plan past v new happens (Opening n more tasks inside waiting is) own =
     both (own_hosts plan past (Opens n inside)) true (ap not (none_were plan v n inside waiting is.shut is.how is.joins past own.behind)) refl
-own_hold plan past v new happens (Starting true host place items end notified is) own = both (own_hosts plan past (Starts (task_on v host place))) true (start_is_own plan past v host place is own) refl
-own_hold plan past v new happens (Starting false host place items end notified is) own = both (own_hosts plan past (Starts (task_on v host place))) true (start_is_own plan past v host place is own) refl
+own_hold plan past v new happens (Starting true host place items end notified is so) own = both (own_hosts plan past (Starts (task_on v host place))) true (start_is_own plan past v host place is own) refl
+own_hold plan past v new happens (Starting false host place items end notified is so) own = both (own_hosts plan past (Starts (task_on v host place))) true (start_is_own plan past v host place is own) refl
 own_hold plan past v new happens (Sending host item ticket r is) own = refl
-own_hold plan past v new happens (Reporting true host item ticket r items end notified is) own = refl
-own_hold plan past v new happens (Reporting false host item ticket r items end notified is) own = refl
+own_hold plan past v new happens (Reporting true host item ticket r items end notified is so) own = refl
+own_hold plan past v new happens (Reporting false host item ticket r items end notified is so) own = refl
 own_hold plan past v new happens (Turning more told opened given is) own = given_holds (own_hosts plan) (λ before task how. refl) past happens given
 own_hold plan past v new happens (Closing tasks inside waiting is) own = refl
 own_hold plan past v new happens Stopping own = refl

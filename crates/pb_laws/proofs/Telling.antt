@@ -62,6 +62,7 @@ pub record Seen : Type 0 where
   pub has_more : Bool
   pub forks : ℕ
   pub sends : ℕ
+  pub stopped : Bool
   -- of each host what it runs, whether it is in the batch, and whether it waits for one of the play
   pub tasks : List (Option Running)
   pub inside : List Bool
@@ -91,6 +92,7 @@ seen s =
       has_more = has_later s.later;
       forks = s.forks;
       sends = s.sends;
+      stopped = s.stopped;
       tasks = tasks_of s.rows;
       inside = batch_in s.rows;
       waiting = waiting_of s.rows;
@@ -213,20 +215,20 @@ pub record IsClosing (plan : PlanOf) (v : Seen) (tasks : List (Option Running)) 
 pub data Tells (plan : PlanOf) (v : Seen) : List Happening → Seen → Type 0 where
   Opening : (n : ℕ) (more : Bool) (tasks : List (Option Running)) (inside waiting : List Bool) → (is : IsOpening plan v n tasks inside waiting)
       → Tells plan v (Opens n inside ∷ [])
-          (record { play = n; is_open = true; has_more = more; forks = v.forks; sends = v.sends; tasks = tasks; inside = inside; waiting = waiting; walked = is.walked; place = is.place })
-  Starting : (over : Bool) (host place : ℕ) (items : List Item) (end : TaskEnd) (notified : List ℕ) → (is : IsStarting plan v host place)
+          (record { play = n; is_open = true; has_more = more; forks = v.forks; sends = v.sends; stopped = v.stopped; tasks = tasks; inside = inside; waiting = waiting; walked = is.walked; place = is.place })
+  Starting : (over : Bool) (host place : ℕ) (items : List Item) (end : TaskEnd) (notified : List ℕ) → (is : IsStarting plan v host place) → is_over items ≡ over
       → Tells plan v (Starts (task_on v host place) ∷ ended_so over (task_on v host place) end notified)
           (record v { tasks = put v.tasks host (left_so over place items); walked = put v.walked host (answered_so over is.answers (answer_of end notified)) })
   Sending : (host item : ℕ) (ticket : Ticket) (r : Running) → IsSending v host item ticket r
       → Tells plan v (Sends (task_on v host r.place) item ticket.0 ∷ []) (record v { tasks = put v.tasks host (Some (sent_running ticket r)); sends = v.sends + 1 })
-  Reporting : (over : Bool) (host item : ℕ) (ticket : Ticket) (r : Running) (items : List Item) (end : TaskEnd) (notified : List ℕ) → (is : IsReporting plan v host item ticket r)
+  Reporting : (over : Bool) (host item : ℕ) (ticket : Ticket) (r : Running) (items : List Item) (end : TaskEnd) (notified : List ℕ) → (is : IsReporting plan v host item ticket r) → is_over items ≡ over
       → Tells plan v (Reports host item ticket.0 ∷ ended_so over (task_on v host r.place) end notified)
           (record v { tasks = put v.tasks host (left_so over r.place items); walked = put v.walked host (answered_so over is.answers (answer_of end notified)) })
   Turning : (more : Bool) (told : List Happening) → v.is_open ≡ true → AreGiven told → (is : IsTurning plan v told) → Tells plan v told (record v { has_more = more; walked = is.walked; place = is.place })
   Closing : (tasks : List (Option Running)) (inside waiting : List Bool) → (is : IsClosing plan v tasks inside waiting)
       → Tells plan v (Closes v.play ∷ [])
-          (record { play = play_behind v.has_more v.play; is_open = false; has_more = v.has_more; forks = v.forks; sends = v.sends; tasks = tasks; inside = inside; waiting = waiting; walked = is.walked; place = v.place })
-  Stopping : Tells plan v (Stops ∷ []) v
+          (record { play = play_behind v.has_more v.play; is_open = false; has_more = v.has_more; forks = v.forks; sends = v.sends; stopped = v.stopped; tasks = tasks; inside = inside; waiting = waiting; walked = is.walked; place = v.place })
+  Stopping : Tells plan v (Stops ∷ []) (record v { stopped = true })
   Forking : (n : ℕ) → Tells plan v (MayRun n ∷ []) (record v { forks = n })
 
 -- ---- rows as lists
@@ -486,7 +488,7 @@ unfolding start_needs
 started plan s h p play row items are o may there stands of =
     subst (λ (told : List Happening). Tells plan (seen s) told (seen (start_at plan s h play p))) (sym (tells are))
     (subst (λ (new : Seen). Tells plan (seen s) (Starts (task_on (seen s) h p) ∷ ended_so (is_over items) (task_on (seen s) h p) (task_at play p items) (notified_by play p (task_at play p items))) new) (sym (sees are))
-    (Starting (is_over items) h p items (task_at play p items) (notified_by play p (task_at play p items)) (start_needs plan s h p play row o may there stands of)))
+    (Starting (is_over items) h p items (task_at play p items) (notified_by play p (task_at play p items)) (start_needs plan s h p play row o may there stands of) refl))
   where
     tells : items ≡ items_at (plan_seen plan s) play h (facts_at s h) p
         → Starts (task_on (seen s) h p) ∷ ends_if (open_play plan s) (ended_in (start_at plan s h play p).decided) (task_on (seen s) h p)
@@ -596,7 +598,7 @@ reported_tells plan s r play row q items are o may there runs out next of sound 
       answers = row.answers;
       answered = answers_there s.rows r.host.0 row there;
       at = leads_on (sound_at s r.host.0 row q (open_of plan s (may_report_in s r) (Some play) o may) sound there runs);
-    })))
+    }) refl))
   where
     leads_on : (reach row.tree row.answers ≡ At q.place) × (row.in_batch ≡ true) → leads plan s.play row.answers ≡ Some q.place
     leads_on runs_at =

@@ -61,8 +61,8 @@ module _ (kind : HostTask → Bool) (of : ℕ → Option ℕ → Bool) (same : (
       → Count kind of past v → Count kind of (so_far past happens) new
   unfolding Count place_in
   counted plan past v new happens (Opening n more tasks inside waiting is) idle c = c ∙ tally_none (of v.play) (none v.play) v.tasks (idle is.shut) ∙ sym (tally_none (of n) (none n) tasks is.idle)
-  counted plan past v new happens (Starting true host place items end notified is) idle c = omega (arith, c, tally_put (of v.play) v.tasks host None None is.idle)
-  counted plan past v new happens (Starting false host place items end notified is) idle c =
+  counted plan past v new happens (Starting true host place items end notified is so) idle c = omega (arith, c, tally_put (of v.play) v.tasks host None None is.idle)
+  counted plan past v new happens (Starting false host place items end notified is so) idle c =
       omega (
         arith,
         c,
@@ -71,9 +71,9 @@ module _ (kind : HostTask → Bool) (of : ℕ → Option ℕ → Bool) (same : (
         ap one_if (same (task_on v host place)),
       )
   counted plan past v new happens (Sending host item ticket r is) idle c = omega (arith, c, tally_put (of v.play) v.tasks host (Some r) (Some (record r { out = Some ticket })) is.there)
-  counted plan past v new happens (Reporting true host item ticket r items end notified is) idle c =
+  counted plan past v new happens (Reporting true host item ticket r items end notified is so) idle c =
       omega (arith, c, tally_put (of v.play) v.tasks host (Some r) None is.there, ap one_if (none v.play), ap one_if (same (task_on v host r.place)))
-  counted plan past v new happens (Reporting false host item ticket r items end notified is) idle c =
+  counted plan past v new happens (Reporting false host item ticket r items end notified is so) idle c =
       omega (arith, c, tally_put (of v.play) v.tasks host (Some r) (Some (record { place = r.place; items = items; out = None })) is.there)
   counted plan past v new happens (Turning more told opened given is) idle c = given_same (running kind) (λ before task how. refl) past happens given ∙ c
   counted plan past v new happens (Closing tasks inside waiting is) idle c =
@@ -95,13 +95,13 @@ record Counted (plan : PlanOf) (past : List Happening) (v : Seen) : Type 0 where
   each : (play place : ℕ) → Count (task_at play place) (at_in play place) past v
   idle : v.is_open ≡ false → list_any is_some v.tasks ≡ false
 
-forks_next : (plan : PlanOf) (past : List Happening) (v new : Seen) (happens : List Happening) → Tells plan v happens new → may_run past ≡ v.forks → may_run (so_far past happens) ≡ new.forks
+pub forks_next : (plan : PlanOf) (past : List Happening) (v new : Seen) (happens : List Happening) → Tells plan v happens new → may_run past ≡ v.forks → may_run (so_far past happens) ≡ new.forks
 forks_next plan past v new happens (Opening n more tasks inside waiting is) e = e
-forks_next plan past v new happens (Starting true host place items end notified is) e = e
-forks_next plan past v new happens (Starting false host place items end notified is) e = e
+forks_next plan past v new happens (Starting true host place items end notified is so) e = e
+forks_next plan past v new happens (Starting false host place items end notified is so) e = e
 forks_next plan past v new happens (Sending host item ticket r is) e = e
-forks_next plan past v new happens (Reporting true host item ticket r items end notified is) e = e
-forks_next plan past v new happens (Reporting false host item ticket r items end notified is) e = e
+forks_next plan past v new happens (Reporting true host item ticket r items end notified is so) e = e
+forks_next plan past v new happens (Reporting false host item ticket r items end notified is so) e = e
 forks_next plan past v new happens (Turning more told opened given is) e = given_same may_run (λ before task how. refl) past happens given ∙ e
 forks_next plan past v new happens (Closing tasks inside waiting is) e = e
 forks_next plan past v new happens Stopping e = e
@@ -116,9 +116,9 @@ opened_shut v o s = let both_ways : true ≡ false = sym o ∙ s in cc
 
 pub idle_next : (plan : PlanOf) (v new : Seen) (happens : List Happening) → Tells plan v happens new → (v.is_open ≡ false → list_any is_some v.tasks ≡ false) → new.is_open ≡ false → list_any is_some new.tasks ≡ false
 idle_next plan v new happens (Opening n more tasks inside waiting is) idle s = cc
-idle_next plan v new happens (Starting over host place items end notified is) idle s = absurd (opened_shut v is.opened s)
+idle_next plan v new happens (Starting over host place items end notified is so) idle s = absurd (opened_shut v is.opened s)
 idle_next plan v new happens (Sending host item ticket r is) idle s = absurd (opened_shut v is.opened s)
-idle_next plan v new happens (Reporting over host item ticket r items end notified is) idle s = absurd (opened_shut v is.opened s)
+idle_next plan v new happens (Reporting over host item ticket r items end notified is so) idle s = absurd (opened_shut v is.opened s)
 idle_next plan v new happens (Turning more told opened given is) idle s = absurd (opened_shut v opened s)
 idle_next plan v new happens (Closing tasks inside waiting is) idle s = is.idle
 idle_next plan v new happens Stopping idle s = idle s
@@ -144,11 +144,11 @@ started_holds plan past v host place is c =
 
 forks_hold : (plan : PlanOf) (past : List Happening) (v new : Seen) (happens : List Happening) → Tells plan v happens new → Counted plan past v → holds_from (within_forks plan) past happens ≡ true
 forks_hold plan past v new happens (Opening n more tasks inside waiting is) c = refl
-forks_hold plan past v new happens (Starting true host place items end notified is) c = both (within_forks plan past (Starts (task_on v host place))) true (started_holds plan past v host place is c) refl
-forks_hold plan past v new happens (Starting false host place items end notified is) c = both (within_forks plan past (Starts (task_on v host place))) true (started_holds plan past v host place is c) refl
+forks_hold plan past v new happens (Starting true host place items end notified is so) c = both (within_forks plan past (Starts (task_on v host place))) true (started_holds plan past v host place is c) refl
+forks_hold plan past v new happens (Starting false host place items end notified is so) c = both (within_forks plan past (Starts (task_on v host place))) true (started_holds plan past v host place is c) refl
 forks_hold plan past v new happens (Sending host item ticket r is) c = refl
-forks_hold plan past v new happens (Reporting true host item ticket r items end notified is) c = refl
-forks_hold plan past v new happens (Reporting false host item ticket r items end notified is) c = refl
+forks_hold plan past v new happens (Reporting true host item ticket r items end notified is so) c = refl
+forks_hold plan past v new happens (Reporting false host item ticket r items end notified is so) c = refl
 forks_hold plan past v new happens (Turning more told opened given is) c = given_holds (within_forks plan) (λ before task how. refl) past happens given
 forks_hold plan past v new happens (Closing tasks inside waiting is) c = refl
 forks_hold plan past v new happens Stopping c = refl

@@ -1,7 +1,7 @@
 //! What an operator may rely on in every run.
 #![tactic(auto)]
 
-ghost use Rattle.pb_laws.specs.Open.{in_order, places_rise, have_walked};
+ghost use Rattle.pb_laws.specs.Open.{in_order, places_rise, have_walked, all_closed};
 ghost use Rattle.pb_laws.specs.Laws.{Always, AtTheEnd, own_hosts, within_forks, jobs_in_order, all_answered, RecapAddsUp};
 
 /// A host starts a task of a play only if the play's pattern and the limit select it, and only in a batch that it is in; and no host is in
@@ -28,9 +28,16 @@ pub fn recap_adds_up()
     ensures { RecapAddsUp }
 {}
 
-/// A host starts the task to which its answers lead it.
+/// A host starts the task to which its answers lead it, and runs no other; it ends the task that it runs, and is given an answer only where it stands;
+/// in a linear play it starts none while a host of the batch stands at, or runs, one before it; and its places in a play rise.
 pub fn hosts_keep_order()
     ensures order { Always in_order }
     ensures rise { Always places_rise }
+{}
+
+/// Where a batch closes each of its hosts has walked to its end; and once a run is finished that wasn't stopped, and in which some host may run, each
+/// batch that opened has closed.
+pub fn everything_is_done()
     ensures walked { Always have_walked }
+    ensures closed { AtTheEnd all_closed }
 {}
