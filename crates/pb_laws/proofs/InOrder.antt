@@ -24,8 +24,7 @@ use Rattle.pb_state.specs.Turn.{plain_answer}
 use Rattle.pb_state.proofs.Stands.{both}
 use Rattle.pb_state.proofs.Walked.{not_halted}
 use Rattle.pb_laws.specs.History.{HostTask, Happening, MayRun, Opens, Starts, Sends, Reports, Ends, Given, Closes, Stops}
-use Rattle.pb_laws.specs.Laws.{Always, holds_from, so_far, batch_of, running, is_same_task, runs}
-use Rattle.pb_laws.specs.Open.{tree_at, answers, leads_to, stands_at, each_host, is_of, is_linear_play, is_not_before, in_order, have_walked}
+use Rattle.pb_laws.specs.Laws.{Always, holds_from, so_far, batch_of, running, is_same_task, runs, tree_at, answers, leads_to, stands_at, each_host, is_of, is_linear_play, is_not_before, in_order, have_walked}
 use Rattle.pb_laws.proofs.Telling.{Seen, AreGiven, AreBehind, AreFresh, AreKnown, AreLed, none_led, rest_led, one_led, Tells, Opening, Starting, Sending, Reporting, Turning, Closing, Stopping, Forking, IsStarting, IsReporting, put, tasks_of, walked_of, task_on, left_so, answered_so, leads, seen}
 use Rattle.pb_laws.proofs.Holding.{Keeps, given_holds, given_same, always}
 use Rattle.pb_laws.proofs.WithinForks.{idle_next, first_idle}

@@ -19,8 +19,7 @@ use Rattle.pb_state.proofs.Once.{and_left, and_right, start_place}
 use Rattle.pb_state.proofs.Rising.{starts_rise}
 use Rattle.pb_state.proofs.Stands.{both}
 use Rattle.pb_laws.specs.History.{HostTask, Happening, MayRun, Opens, Starts, Sends, Reports, Ends, Given, Closes, Stops, at_place, ended_in, ends_if, given_in, told, history_from}
-use Rattle.pb_laws.specs.Laws.{Always, holds_from, so_far}
-use Rattle.pb_laws.specs.Open.{rises, places_rise}
+use Rattle.pb_laws.specs.Laws.{Always, holds_from, so_far, rises, places_rise}
 use Rattle.pb_laws.proofs.Telling.{AreGiven, none_given, one_given, rows_given}
 use Rattle.pb_laws.proofs.Holding.{holds_both}
 

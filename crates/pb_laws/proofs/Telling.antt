@@ -52,8 +52,7 @@ use Rattle.pb_state.proofs.Turning.{Goes, IsGiven, turned_by_case, goes_tree, go
 use Rattle.pb_state.proofs.Walked.{stands_in, same_is}
 use Rattle.pb_state.proofs.Walks.{AllIn, IsOfPlan}
 use Rattle.pb_laws.specs.History.{HostTask, Happening, MayRun, Opens, Starts, Sends, Reports, Ends, Given, Closes, Stops, at_place, ended_in, notified_in, ends_if, given_beyond, given_in, batch_in, told}
-use Rattle.pb_laws.specs.Laws.{selects}
-use Rattle.pb_laws.specs.Open.{tree_at, is_linear_play}
+use Rattle.pb_laws.specs.Laws.{selects, tree_at, is_linear_play}
 
 -- ---- what is seen of a state
 pub record Seen : Type 0 where

@@ -1,15 +1,22 @@
 -- What an operator may rely on in every run. Each law says of all that happens whether it fits what happened before it; what happened before stands newest
 -- first.
-use Rattle.std.specs.Prelude.{◌≡◌, ℕ, zero, suc, ◌+◌, ◌-◌, ◌==◌, nat_lt, Bool, true, false, ◌&&◌, ◌||◌, not, List, [], ◌∷◌, is_none, slice_get, slice_index_or, if◌then◌else◌}
+use Rattle.std.specs.Prelude.{◌≡◌, ℕ, zero, suc, ◌+◌, ◌-◌, ◌==◌, nat_lt, nat_le, Bool, true, false, ◌&&◌, ◌||◌, not, List, [], ◌∷◌, ◌++◌, Option, is_none, slice_get, slice_index_or, if◌then◌else◌}
 use Rattle.std.specs.List.{list_any}
 use Rattle.std.specs.Option.{option_map_or}
 use Rattle.pb_limits.specs.Counts.{has_room_for}
 use Rattle.pb_planes.specs.Set.{is_in as is_member}
 use Rattle.pb_plan.specs.Plan.{PlayOf, PlanOf, throttles_of}
+use Rattle.pb_strategies.specs.MayStart.{is_linear}
+use Rattle.pb_tree.specs.Answer.{AnswerOf}
+use Rattle.pb_tree.specs.Tree.{TreeOf}
+use Rattle.pb_tree.specs.Walk.{reach}
 use Rattle.pb_state.specs.declared.decided.TaskEnd.{TaskEnd}
 use Rattle.pb_state.specs.declared.event.Event.{Event}
 use Rattle.pb_state.specs.declared.row.Counts.{Counts}
 use Rattle.pb_state.specs.Machine.{first_state, one_if}
+use Rattle.pb_state.specs.Ends.{answer_of}
+use Rattle.pb_state.specs.Row.{place_of, no_tree}
+use Rattle.pb_state.specs.Turn.{plain_answer}
 use Rattle.pb_state.specs.Run.{IsFinished, legal_from, state_from}
 use Rattle.pb_recap.specs.Kinds.{has, status_of}
 use Rattle.pb_recap.specs.Recap.{recap}
@@ -97,12 +104,30 @@ within_forks plan past (Starts task) =
     nat_lt (running any_task past) (may_run past) && has_room_for (running (task_at task.play task.place) past) (throttle_at plan task.play task.place)
 within_forks plan past now = true
 
--- ---- jobs: their tickets are 0, 1, 2 and so on; a job that goes out is of a task that its host runs; and each report answers a job that is out, for its host
--- and its item, so that none is answered twice
-abbrev pub jobs_sent : List Happening → ℕ
-jobs_sent [] = 0
-jobs_sent (Sends task item ticket ∷ past) = jobs_sent past + 1
-jobs_sent (now ∷ past) = jobs_sent past
+-- ---- where a host has come to in its play
+abbrev pub tree_at : PlanOf → ℕ → TreeOf
+tree_at plan play = option_map_or (λ (p : PlayOf). p.tree) (slice_get plan.plays play) no_tree
+
+-- what a host answered in the batch that is open, oldest first: by how its tasks ended there, and by what it was given
+abbrev pub answers : ℕ → List Happening → List AnswerOf
+answers host [] = []
+answers host (Opens play hosts ∷ past) = []
+answers host (Closes play ∷ past) = []
+answers host (Ends task end notified ∷ past) = if task.host == host then answers host past ++ answer_of end notified ∷ [] else answers host past
+answers host (Given task kind ∷ past) = if task.host == host then answers host past ++ plain_answer kind ∷ [] else answers host past
+answers host (now ∷ past) = answers host past
+
+-- the place to which that leads it in the play's tree; none where it has walked to its end
+abbrev pub leads_to : PlanOf → ℕ → ℕ → List Happening → Option ℕ
+leads_to plan play host past = place_of (reach (tree_at plan play) (answers host past))
+
+abbrev pub stands_at : PlanOf → HostTask → List Happening → Bool
+stands_at plan task past = option_map_or (λ p. p == task.place) (leads_to plan task.play task.host past) false
+
+-- of each host of a batch, whose first has the number h
+abbrev pub each_host : (ℕ → Bool) → ℕ → List Bool → Bool
+each_host test h [] = true
+each_host test h (inside ∷ hosts) = (not inside || test h) && each_host test (h + 1) hosts
 
 abbrev pub is_same_task : HostTask → HostTask → Bool
 is_same_task a b = (a.play == b.play) && (a.host == b.host) && (a.place == b.place)
@@ -113,6 +138,63 @@ runs task [] = false
 runs task (Starts other ∷ past) = is_same_task other task || runs task past
 runs task (Ends other end notified ∷ past) = not (is_same_task other task) && runs task past
 runs task (now ∷ past) = runs task past
+
+-- ---- order: a host starts the task to which its answers lead it, and runs no other; it ends the task that it runs, and is given an answer only where it stands,
+-- so that it passes no task over; the places at which it starts in a play rise, so that it starts none twice; and in a linear play it starts none while a
+-- host of the batch stands at, or runs, one before it
+abbrev pub is_of : ℕ → HostTask → Bool
+is_of host task = task.host == host
+
+abbrev pub rises : HostTask → List Happening → Bool
+rises task [] = true
+rises task (Starts other ∷ past) = (not ((other.host == task.host) && (other.play == task.play)) || nat_lt other.place task.place) && rises task past
+rises task (now ∷ past) = rises task past
+
+abbrev pub is_linear_play : PlanOf → ℕ → Bool
+is_linear_play plan play = option_map_or (λ (p : PlayOf). is_linear p.strategy) (slice_get plan.plays play) false
+
+-- whether a host of the batch is at its end, or at no place before this task's
+abbrev pub is_not_before : PlanOf → HostTask → List Happening → ℕ → Bool
+is_not_before plan task past host = option_map_or (λ p. nat_le task.place p) (leads_to plan task.play host past) true
+
+abbrev pub places_rise : PlanOf → List Happening → Happening → Bool
+places_rise plan past (Starts task) = rises task past
+places_rise plan past now = true
+
+abbrev pub in_order : PlanOf → List Happening → Happening → Bool
+in_order plan past (Starts task) =
+    stands_at plan task past && (running (is_of task.host) past == 0)
+    && (not (is_linear_play plan task.play) || each_host (is_not_before plan task past) 0 (batch_of task.play past))
+in_order plan past (Ends task end notified) = stands_at plan task past && runs task past
+in_order plan past (Given task kind) = stands_at plan task past
+in_order plan past now = true
+
+-- ---- everything was done: where a batch closes each of its hosts has walked to its end; and once a run is finished that wasn't stopped, and in which some host may
+-- run, each batch that opened has closed
+abbrev pub have_walked : PlanOf → List Happening → Happening → Bool
+have_walked plan past (Closes play) = each_host (λ host. is_none (leads_to plan play host past)) 0 (batch_of play past)
+have_walked plan past now = true
+
+abbrev pub is_open : List Happening → Bool
+is_open [] = false
+is_open (Opens play hosts ∷ past) = true
+is_open (Closes play ∷ past) = false
+is_open (now ∷ past) = is_open past
+
+abbrev pub was_stopped : List Happening → Bool
+was_stopped [] = false
+was_stopped (Stops ∷ past) = true
+was_stopped (now ∷ past) = was_stopped past
+
+abbrev pub all_closed : PlanOf → List Happening → Bool
+all_closed plan past = was_stopped past || (may_run past == 0) || not (is_open past)
+
+-- ---- jobs: their tickets are 0, 1, 2 and so on; a job that goes out is of a task that its host runs; and each report answers a job that is out, for its host
+-- and its item, so that none is answered twice
+abbrev pub jobs_sent : List Happening → ℕ
+jobs_sent [] = 0
+jobs_sent (Sends task item ticket ∷ past) = jobs_sent past + 1
+jobs_sent (now ∷ past) = jobs_sent past
 
 -- a job of a host, for an item, is out under a ticket: it was sent so, and no report under that ticket has come since
 abbrev pub is_out : ℕ → ℕ → ℕ → List Happening → Bool

@@ -13,8 +13,8 @@ use Rattle.pb_state.specs.declared.event.Event.TheVariants.{Open, Turn, Close, S
 use Rattle.pb_state.specs.declared.row.Counts.{Counts}
 use Rattle.pb_tree.specs.declared.answer.Kind.TheVariants.{Good, Halted}
 use Rattle.pb_laws.specs.History.{HostTask, Happening, MayRun, Opens, Starts, Sends, Reports, Ends, Given, Closes, Stops, history}
-use Rattle.pb_laws.specs.Laws.{holds_from, so_far, own_hosts, within_forks, jobs_in_order, all_answered, add_up, status_tells}
-use Rattle.pb_laws.specs.Open.{in_order, out_is_out, have_walked, all_closed}
+use Rattle.pb_laws.specs.Laws.{holds_from, so_far, own_hosts, within_forks, in_order, places_rise, have_walked, all_closed, jobs_in_order, all_answered, add_up, status_tells}
+use Rattle.pb_laws.specs.Open.{out_is_out}
 
 -- two hosts, of which the first alone is one of the first play's, and both are of the second; each play has one command, with a throttle of one
 abbrev one_task : List Bool → PlayOf

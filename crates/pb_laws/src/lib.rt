@@ -1,8 +1,7 @@
 //! What an operator may rely on in every run.
 #![tactic(auto)]
 
-ghost use Rattle.pb_laws.specs.Open.{in_order, places_rise, have_walked, all_closed};
-ghost use Rattle.pb_laws.specs.Laws.{Always, AtTheEnd, own_hosts, within_forks, jobs_in_order, all_answered, RecapAddsUp};
+ghost use Rattle.pb_laws.specs.Laws.{Always, AtTheEnd, own_hosts, within_forks, in_order, places_rise, have_walked, all_closed, jobs_in_order, all_answered, RecapAddsUp};
 
 /// A host starts a task of a play only if the play's pattern and the limit select it, and only in a batch that it is in; and no host is in
 /// two batches of a play.
