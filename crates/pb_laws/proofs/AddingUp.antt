@@ -1,38 +1,36 @@
 -- The five counts of a host come to the tasks that ended on it: each task that counts is of one kind among them.
-use Rattle.std.proofs.Common.{◌≡◌, ℕ, zero, suc, ◌+◌, Bool, true, false, ◌&&◌, ◌||◌, not, List, [], ◌∷◌, ◌++◌, refl, sym, ◌∙◌, ap, subst, arith}
-use Rattle.std.specs.Prelude.{◌==◌, nat_lt, Option, Some, None, option_map, slice_get, is_none, if◌then◌else◌}
+use Rattle.std.proofs.Common.{◌≡◌, ℕ, ◌+◌, Bool, true, false, ◌&&◌, ◌||◌, not, List, [], ◌∷◌, refl, sym, ◌∙◌, ap, subst, arith}
+use Rattle.std.specs.Prelude.{◌==◌, Option, Some, None, option_map, slice_get, is_none, if◌then◌else◌}
 use Rattle.std.specs.List.{list_any, list_all}
 use Rattle.std.specs.Option.{option_map_or}
 use Rattle.std.proofs.lemmas.Bool.{eq-eqb}
-use Rattle.pb_ids.specs.declared.numbers.HostNo.{HostNo}
 use Rattle.pb_outcome.specs.declared.gather.ItemResult.{ItemResult}
 use Rattle.pb_outcome.specs.declared.gather.TaskResult.{TaskResult}
 use Rattle.pb_outcome.specs.declared.item.Item.{Item}
 use Rattle.pb_outcome.specs.declared.job.Report.{Report}
 use Rattle.pb_outcome.specs.Gathered.{some_unreachable, is_failed, is_skipped, is_changed, is_faulty, gathered}
-use Rattle.pb_outcome.specs.Items.{ended, task_of, is_over}
+use Rattle.pb_outcome.specs.Items.{ended, is_over}
 use Rattle.pb_plan.specs.Plan.{PlayOf, PlanOf}
 use Rattle.pb_play.specs.declared.modules.Meta.{Meta}
 use Rattle.pb_sight.specs.Results.{items_at}
 use Rattle.pb_state.specs.declared.decided.Decided.{Decided}
 use Rattle.pb_state.specs.declared.decided.Done.{Done}
-use Rattle.pb_state.specs.declared.decided.TaskEnd.{TaskEnd}
 use Rattle.pb_state.specs.declared.event.Event.{Event}
 use Rattle.pb_state.specs.declared.event.Event.TheVariants.{Open, Start, Send, Report as Reported, Turn, Close, Stop, Forks}
 use Rattle.pb_state.specs.declared.row.Counts.{Counts}
 use Rattle.pb_state.specs.declared.row.Running.{Running}
-use Rattle.pb_state.specs.Machine.{possible, after, first_state, one_if, open_play, next_at, start_at, started_in, facts_at, plan_seen, reported_in, report_decides, decided_by, done_at, done_if, pending_at, may_start_in, may_report_in, awaits, turned_in}
+use Rattle.pb_state.specs.Machine.{possible, after, first_state, one_if, open_play, next_at, start_at, started_in, facts_at, plan_seen, reported_in, report_decides, decided_by, done_at, done_if, pending_at, may_start_in, may_report_in, awaits}
 use Rattle.pb_state.specs.Once.{place_run_by}
-use Rattle.pb_state.specs.Row.{HostRow, pending, ignores_at, caught_at, meta_at, task_at, items_after}
+use Rattle.pb_state.specs.Row.{HostRow, pending, ignores_at, caught_at, meta_at, items_after}
 use Rattle.pb_state.specs.Run.{legal_from}
 use Rattle.pb_state.specs.State.{State}
 use Rattle.pb_state.proofs.Once.{and_left, and_right, start_place}
 use Rattle.pb_state.proofs.Stands.{both}
 use Rattle.pb_recap.specs.declared.kind.CountKind.{CountKind}
-use Rattle.pb_recap.specs.declared.kind.CountKind.TheVariants.{Okay, Changed, Unreachable, Failed, Skipped, Rescued, Ignored}
+use Rattle.pb_recap.specs.declared.kind.CountKind.TheVariants.{Okay, Unreachable, Failed, Skipped, Rescued}
 use Rattle.pb_recap.specs.Kinds.{has, status_of}
-use Rattle.pb_recap.specs.Recap.{FinishedTask, by_host, ended_by, finishes, result_counts, counts_at_all, counted, count_from, counts_from, hosts_from, recap}
-use Rattle.pb_laws.specs.History.{HostTask, Happening, MayRun, Opens, Starts, Sends, Reports, Ends, Given, Closes, Stops, at_place, ended_in, notified_in, ends_if, given_in, told, history_from, history}
+use Rattle.pb_recap.specs.Recap.{by_host, ended_by, finishes, result_counts, counted, count_from, hosts_from, recap}
+use Rattle.pb_laws.specs.History.{HostTask, Happening, MayRun, Starts, Sends, Reports, at_place, ended_in, ends_if, given_in, told, history_from, history}
 use Rattle.pb_laws.specs.Laws.{so_far, counts, tasks_ended, add_up, has_trouble, status_tells, RecapAddsUp}
 use Rattle.pb_laws.proofs.Telling.{place_there, row_at, awaits_is, rows_given}
 use Rattle.pb_laws.proofs.Holding.{given_same, so_far_both}
@@ -131,7 +129,7 @@ reports_count plan s r k past play row q there runs =
 
 reported_count : (plan : PlanOf) (s : State) (r : Report) (k : ℕ) (past : List Happening) (found : Option PlayOf) → option_map_or (may_report_in s r) found false ≡ true
     → tasks_ended k (so_far (Reports r.host.0 r.item r.ticket.0 ∷ past)
-        (at_place s.play r.host.0 (place_run_by s r.host) (λ task. ends_if (open_play plan s) (ended_in (option_map_or (reported_in plan s r) found s).decided) task)))
+    (at_place s.play r.host.0 (place_run_by s r.host) (λ task. ends_if (open_play plan s) (ended_in (option_map_or (reported_in plan s r) found s).decided) task)))
     ≡ tasks_ended k past + five (λ (kind : CountKind). counted k kind (option_map_or (ended_by r.host.0) (option_map_or (reported_in plan s r) found s).decided None))
 reported_count plan s r k past None may = cc
 reported_count plan s r k past (Some play) may =

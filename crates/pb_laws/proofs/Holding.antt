@@ -1,10 +1,8 @@
 -- A law holds of every run where what it rests on holds at the beginning, and each event keeps it and tells nothing that breaks the law.
-use Rattle.std.proofs.Common.{◌≡◌, ℕ, zero, suc, ◌+◌, Bool, true, false, ◌&&◌, List, [], ◌∷◌, ◌++◌, length, refl, sym, ◌∙◌, ap, subst}
-use Rattle.pb_inventory.specs.InventoryOf.{InventoryOf}
+use Rattle.std.proofs.Common.{◌≡◌, ℕ, Bool, true, List, [], ◌∷◌, ◌++◌, refl, sym, ◌∙◌, ap, subst}
 use Rattle.pb_plan.specs.Plan.{PlanOf}
 use Rattle.pb_state.specs.declared.event.Event.{Event}
 use Rattle.pb_state.specs.Machine.{possible, after, first_state}
-use Rattle.pb_state.specs.Row.{first_rows}
 use Rattle.pb_state.specs.Run.{legal_from, state_from}
 use Rattle.pb_state.specs.State.{State}
 use Rattle.pb_state.specs.Walks.{AreNumbered}
@@ -14,7 +12,7 @@ use Rattle.pb_state.proofs.Walks.{IsOfPlan, step_of, rows_stay}
 use Rattle.pb_tree.specs.declared.answer.Kind.{Kind}
 use Rattle.pb_laws.specs.History.{HostTask, Happening, MayRun, Given, told, history_from, history}
 use Rattle.pb_laws.specs.Laws.{holds_from, so_far, Always}
-use Rattle.pb_laws.proofs.Telling.{Seen, AreGiven, none_given, one_given, seen, Tells, tells}
+use Rattle.pb_laws.proofs.Telling.{Seen, AreGiven, one_given, seen, Tells, tells}
 
 -- one part of a history after another
 pub holds_both : (law : List Happening → Happening → Bool) (past xs ys : List Happening) → holds_from law past xs ≡ true → holds_from law (so_far past xs) ys ≡ true → holds_from law past (xs ++ ys) ≡ true

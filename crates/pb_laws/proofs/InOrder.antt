@@ -1,15 +1,13 @@
 -- Hosts go through a play in its order: what a host answered, by what has happened, is what the machine keeps of it.
-use Rattle.std.proofs.Common.{◌≡◌, ◌≢◌, ℕ, zero, suc, ◌+◌, ◌-◌, ◌<◌, ◌≤◌, Bool, true, false, ◌&&◌, ◌||◌, not, List, [], ◌∷◌, ◌++◌, length, map, refl, sym, ◌∙◌, ap, subst, arith, ◌⊎◌, inl, inr}
+use Rattle.std.proofs.Common.{◌≡◌, ◌≢◌, ℕ, zero, suc, ◌+◌, ◌<◌, ◌≤◌, Bool, true, false, ◌&&◌, ◌||◌, not, List, [], ◌∷◌, ◌++◌, length, refl, sym, ◌∙◌, ap, arith, ◌⊎◌, inl, inr}
 use Rattle.std.specs.Prelude.{◌==◌, nat_le, Option, Some, None, is_some, is_none, slice_get, if◌then◌else◌}
 use Rattle.std.specs.List.{list_any}
 use Rattle.std.specs.Option.{option_map_or}
-use Rattle.std.proofs.lemmas.Bool.{eq-eqb, eqb-true, le-leb}
-use Rattle.pb_outcome.specs.declared.item.Item.{Item}
+use Rattle.std.proofs.lemmas.Bool.{eq-eqb, le-leb}
 use Rattle.pb_planes.specs.Set.{is_in as is_member}
-use Rattle.pb_plan.specs.Plan.{PlayOf, PlanOf}
+use Rattle.pb_plan.specs.Plan.{PlanOf}
 use Rattle.pb_tree.specs.Answer.{AnswerOf}
-use Rattle.pb_tree.specs.Laws.{counts, IsAbove}
-use Rattle.pb_tree.specs.Tree.{TreeOf}
+use Rattle.pb_tree.specs.Laws.{IsAbove}
 use Rattle.pb_tree.specs.Walk.{reach, is_halted}
 use Rattle.pb_tree.specs.declared.answer.Kind.{Kind}
 use Rattle.pb_tree.specs.declared.tree.Reach.{Reach}
@@ -19,17 +17,17 @@ use Rattle.pb_state.specs.declared.decided.TaskEnd.{TaskEnd}
 use Rattle.pb_state.specs.declared.row.Running.{Running}
 use Rattle.pb_state.specs.Ends.{answer_of, kind_of}
 use Rattle.pb_state.specs.Machine.{first_state, one_if}
-use Rattle.pb_state.specs.Row.{HostRow, first_rows, place_of}
+use Rattle.pb_state.specs.Row.{first_rows, place_of}
 use Rattle.pb_state.specs.Turn.{plain_answer}
 use Rattle.pb_state.proofs.Stands.{both}
 use Rattle.pb_state.proofs.Walked.{not_halted}
-use Rattle.pb_laws.specs.History.{HostTask, Happening, MayRun, Opens, Starts, Sends, Reports, Ends, Given, Closes, Stops}
+use Rattle.pb_laws.specs.History.{HostTask, Happening, MayRun, Starts, Reports, Ends, Given}
 use Rattle.pb_laws.specs.Laws.{Always, holds_from, so_far, batch_of, running, is_same_task, runs, tree_at, answers, leads_to, stands_at, each_host, is_of, is_linear_play, is_not_before, in_order, have_walked}
-use Rattle.pb_laws.proofs.Telling.{Seen, AreGiven, AreBehind, AreFresh, AreKnown, AreLed, none_led, rest_led, one_led, Tells, Opening, Starting, Sending, Reporting, Turning, Closing, Stopping, Forking, IsStarting, IsReporting, put, tasks_of, walked_of, task_on, left_so, answered_so, leads, seen}
-use Rattle.pb_laws.proofs.Holding.{Keeps, given_holds, given_same, always}
+use Rattle.pb_laws.proofs.Telling.{Seen, AreBehind, AreLed, none_led, rest_led, one_led, Tells, Opening, Starting, Sending, Reporting, Turning, Closing, Stopping, Forking, IsStarting, put, tasks_of, walked_of, task_on, leads, seen}
+use Rattle.pb_laws.proofs.Holding.{given_holds, given_same, always}
 use Rattle.pb_laws.proofs.WithinForks.{idle_next, first_idle}
 use Rattle.pb_laws.proofs.OwnHosts.{batch_next}
-use Rattle.pb_laws.proofs.JobsInOrder.{put_get, put_there, same_or_apart, same_found, idle_none, same_self, apart, or_last, or_first, task_self, none_some, run_next}
+use Rattle.pb_laws.proofs.JobsInOrder.{put_get, put_there, same_or_apart, idle_none, same_self, apart, or_first, task_self, run_next}
 
 -- ---- what hosts answered
 then_is : (b : Bool) (xs ys : List AnswerOf) → b ≡ true → (if b then xs else ys) ≡ xs

@@ -1,26 +1,25 @@
 -- Tickets count up, a job that goes out is of a task that its host runs, and who has a job out by what happened is whose job the machine has out.
-use Rattle.std.proofs.Common.{◌≡◌, ◌≢◌, ℕ, zero, suc, ◌+◌, ◌<◌, ◌≤◌, Bool, true, false, ◌&&◌, ◌||◌, not, List, [], ◌∷◌, length, map, refl, sym, ◌∙◌, ap, subst, arith, ◌⊎◌, inl, inr}
+use Rattle.std.proofs.Common.{◌≡◌, ◌≢◌, ℕ, zero, suc, ◌+◌, ◌<◌, Bool, true, false, ◌&&◌, ◌||◌, not, List, [], ◌∷◌, length, refl, sym, ◌∙◌, ap, arith, ◌⊎◌, inl, inr}
 use Rattle.std.specs.Prelude.{◌==◌, Option, Some, None, option_map, is_some, slice_get, if◌then◌else◌}
 use Rattle.std.specs.List.{list_any}
 use Rattle.std.specs.Option.{option_map_or}
-use Rattle.std.proofs.lemmas.Bool.{eq-eqb, eqb-true, eqb-false}
+use Rattle.std.proofs.lemmas.Bool.{eq-eqb, eqb-true}
 use Rattle.pb_ids.specs.declared.numbers.Ticket.{Ticket}
 use Rattle.pb_outcome.specs.declared.item.Item.{Item}
 use Rattle.pb_outcome.specs.Items.{next_item}
 use Rattle.pb_plan.specs.Plan.{PlanOf}
 use Rattle.pb_state.specs.declared.decided.TaskEnd.{TaskEnd}
-use Rattle.pb_state.specs.declared.event.Event.{Event}
 use Rattle.pb_state.specs.declared.row.Running.{Running}
 use Rattle.pb_state.specs.Machine.{first_state, is_out as has_job_out}
 use Rattle.pb_state.specs.Row.{HostRow, first_rows}
-use Rattle.pb_state.specs.Run.{IsFinished, legal_from, state_from}
+use Rattle.pb_state.specs.Run.{state_from}
 use Rattle.pb_state.proofs.Once.{and_left, and_right}
 use Rattle.pb_state.proofs.Stands.{both}
-use Rattle.pb_laws.specs.History.{HostTask, Happening, MayRun, Opens, Starts, Sends, Reports, Ends, Given, Closes, Stops, history}
+use Rattle.pb_laws.specs.History.{HostTask, Happening, Starts, Sends, Reports, Ends, history}
 use Rattle.pb_laws.specs.Laws.{Always, AtTheEnd, holds_from, so_far, jobs_sent, is_same_task, runs, is_out, jobs_in_order, is_answered, answered_below, all_answered}
-use Rattle.pb_laws.proofs.Telling.{Seen, AreGiven, Tells, Opening, Starting, Sending, Reporting, Turning, Closing, Stopping, Forking, IsSending, IsReporting, put, tasks_of, task_on, left_so, seen}
+use Rattle.pb_laws.proofs.Telling.{Seen, Tells, Opening, Starting, Sending, Reporting, Turning, Closing, Stopping, Forking, put, tasks_of, task_on}
 use Rattle.pb_laws.proofs.Holding.{Keeps, given_holds, given_same, always, at_end}
-use Rattle.pb_laws.proofs.WithinForks.{opened_shut, idle_next, first_idle}
+use Rattle.pb_laws.proofs.WithinForks.{idle_next, first_idle}
 
 -- ---- one entry changed
 pub put_get : {A : Type 0} (xs : List A) (h k : ℕ) (x y : A) → slice_get (put xs h x) k ≡ Some y → ((k ≡ h) × (x ≡ y)) ⊎ ((k ≢ h) × (slice_get xs k ≡ Some y))
@@ -315,8 +314,11 @@ answered_next plan past v new happens (Reporting true host item ticket q items e
         elim (was t l) [
           | inl a ↦ inl (or_last (ticket.0 == t) (is_answered t past) a)
           | inr w ↦
-              inr (w.0, other_out v host w.0 t (Some q) None is.there
-              (λ r e out. other (let number : Some ticket.0 ≡ Some t = sym is.out ∙ ap (λ (y : Running). option_map (λ (u : Ticket). u.0) y.out) (some_some q r e) ∙ out in (let same : ticket.0 ≡ t = (let shown = number in cc) in same))) w.1)
+              inr (
+                w.0,
+                other_out v host w.0 t (Some q) None is.there
+                    (λ r e out. other (let number : Some ticket.0 ≡ Some t = sym is.out ∙ ap (λ (y : Running). option_map (λ (u : Ticket). u.0) y.out) (some_some q r e) ∙ out in (let same : ticket.0 ≡ t = (let shown = number in cc) in same))) w.1,
+              )
         ]
 answered_next plan past v new happens (Reporting false host item ticket q items end notified is so) idle was t l = by_ticket (same_or_apart ticket.0 t)
   where
@@ -328,8 +330,11 @@ answered_next plan past v new happens (Reporting false host item ticket q items 
         elim (was t l) [
           | inl a ↦ inl (or_last (ticket.0 == t) (is_answered t past) a)
           | inr w ↦
-              inr (w.0, other_out v host w.0 t (Some q) (Some (record { place = q.place; items = items; out = None })) is.there
-              (λ r e out. other (let number : Some ticket.0 ≡ Some t = sym is.out ∙ ap (λ (y : Running). option_map (λ (u : Ticket). u.0) y.out) (some_some q r e) ∙ out in (let same : ticket.0 ≡ t = (let shown = number in cc) in same))) w.1)
+              inr (
+                w.0,
+                other_out v host w.0 t (Some q) (Some (record { place = q.place; items = items; out = None })) is.there
+                    (λ r e out. other (let number : Some ticket.0 ≡ Some t = sym is.out ∙ ap (λ (y : Running). option_map (λ (u : Ticket). u.0) y.out) (some_some q r e) ∙ out in (let same : ticket.0 ≡ t = (let shown = number in cc) in same))) w.1,
+              )
         ]
 answered_next plan past v new happens (Turning more told opened given is) idle was t l =
     elim (was t l) [ inl a ↦ inl (given_same (is_answered t) (λ before task how. refl) past happens given ∙ a) | inr w ↦ inr w ]

@@ -1,15 +1,14 @@
 -- Who starts is in the batch, who is in the batch is one of the play's own hosts, and who was in an earlier batch of the play waits for none.
-use Rattle.std.proofs.Common.{◌≡◌, ℕ, zero, suc, ◌+◌, ◌<◌, ◌≤◌, Bool, true, false, ◌&&◌, ◌||◌, not, List, [], ◌∷◌, length, map, refl, sym, ◌∙◌, ap, subst, arith, ◌⊎◌, inl, inr}
-use Rattle.std.specs.Prelude.{◌==◌, Option, Some, None, slice_get, if◌then◌else◌}
-use Rattle.std.specs.Option.{option_map_or}
+use Rattle.std.proofs.Common.{◌≡◌, ℕ, suc, ◌<◌, ◌≤◌, Bool, true, false, ◌&&◌, ◌||◌, not, List, [], ◌∷◌, refl, sym, ◌∙◌, ap, arith, ◌⊎◌, inl, inr}
+use Rattle.std.specs.Prelude.{◌==◌, if◌then◌else◌}
 use Rattle.std.proofs.lemmas.Bool.{eq-eqb, eqb-true}
 use Rattle.pb_planes.specs.Set.{is_in as is_member}
-use Rattle.pb_plan.specs.Plan.{PlayOf, PlanOf}
-use Rattle.pb_state.specs.Machine.{first_state, play_behind}
+use Rattle.pb_plan.specs.Plan.{PlanOf}
+use Rattle.pb_state.specs.Machine.{play_behind}
 use Rattle.pb_state.proofs.Stands.{both}
-use Rattle.pb_laws.specs.History.{HostTask, Happening, MayRun, Opens, Starts, Sends, Reports, Ends, Given, Closes, Stops}
+use Rattle.pb_laws.specs.History.{Happening, Opens, Starts, Given}
 use Rattle.pb_laws.specs.Laws.{Always, holds_from, so_far, selects, batch_of, share, some_were_in, own_hosts}
-use Rattle.pb_laws.proofs.Telling.{Seen, AreGiven, none_given, one_given, Tells, Opening, Starting, Sending, Reporting, Turning, Closing, Stopping, Forking, IsStarting, IsOpening, IsClosing, task_on, seen}
+use Rattle.pb_laws.proofs.Telling.{Seen, AreGiven, one_given, Tells, Opening, Starting, Sending, Reporting, Turning, Closing, Stopping, Forking, IsStarting, task_on}
 use Rattle.pb_laws.proofs.Holding.{Keeps, given_holds, given_same, always}
 
 -- ---- two batches

@@ -1,26 +1,23 @@
 -- The places at which a host starts in a play rise: what happens starts what the machine's starts are, and those rise.
-use Rattle.std.proofs.Common.{◌≡◌, ℕ, ◌<◌, Bool, true, false, ◌&&◌, ◌||◌, not, List, [], ◌∷◌, ◌++◌, refl, sym, ◌∙◌, ap, subst}
+use Rattle.std.proofs.Common.{◌≡◌, ℕ, Bool, true, false, ◌&&◌, ◌||◌, not, List, [], ◌∷◌, ◌++◌, refl, ap}
 use Rattle.std.specs.Prelude.{◌==◌, nat_lt, Option, Some, None}
-use Rattle.std.specs.Option.{option_map_or}
 use Rattle.std.proofs.lemmas.Bool.{eqb-true, lt-ltb}
 use Rattle.pb_ids.specs.declared.numbers.HostNo.{HostNo}
-use Rattle.pb_ids.specs.declared.numbers.Ticket.{Ticket}
 use Rattle.pb_plan.specs.Plan.{PlayOf, PlanOf}
-use Rattle.pb_outcome.specs.declared.job.Report.{Report}
 use Rattle.pb_state.specs.declared.decided.TaskEnd.{TaskEnd}
 use Rattle.pb_state.specs.declared.event.Event.{Event}
 use Rattle.pb_state.specs.declared.event.Event.TheVariants.{Open, Start, Send, Report as Reported, Turn, Close, Stop, Forks}
 use Rattle.pb_state.specs.Machine.{possible, after, first_state, open_play, next_at}
-use Rattle.pb_state.specs.Once.{StartOf, starts_of, starts_from, place_run_by}
-use Rattle.pb_state.specs.Rising.{IsRise, IsBeforeAll, DoRise}
+use Rattle.pb_state.specs.Once.{StartOf, starts_from, place_run_by}
+use Rattle.pb_state.specs.Rising.{IsBeforeAll, DoRise}
 use Rattle.pb_state.specs.Run.{legal_from}
 use Rattle.pb_state.specs.State.{State}
 use Rattle.pb_state.proofs.Once.{and_left, and_right, start_place}
 use Rattle.pb_state.proofs.Rising.{starts_rise}
 use Rattle.pb_state.proofs.Stands.{both}
-use Rattle.pb_laws.specs.History.{HostTask, Happening, MayRun, Opens, Starts, Sends, Reports, Ends, Given, Closes, Stops, at_place, ended_in, ends_if, given_in, told, history_from}
+use Rattle.pb_laws.specs.History.{HostTask, Happening, MayRun, Starts, Sends, Reports, at_place, ended_in, ends_if, told, history_from}
 use Rattle.pb_laws.specs.Laws.{Always, holds_from, so_far, rises, places_rise}
-use Rattle.pb_laws.proofs.Telling.{AreGiven, none_given, one_given, rows_given}
+use Rattle.pb_laws.proofs.Telling.{AreGiven, one_given, rows_given}
 use Rattle.pb_laws.proofs.Holding.{holds_both}
 
 -- ---- starts and later ones
@@ -108,7 +105,7 @@ module _ (plan : PlanOf) where
   on_start : (s : State) (h : HostNo) (es : List Event) (past : List Happening) (place : Option ℕ) (p : ℕ) → place ≡ Some p → OnFrom (after plan s (Start h)) es → legal_from plan (after plan s (Start h)) es ≡ true
       → DoRise (record { host = h; play = s.play; place = place } ∷ starts_from plan (after plan s (Start h)) es) → AllBefore past (record { host = h; play = s.play; place = place } ∷ starts_from plan (after plan s (Start h)) es)
       → holds_from (places_rise plan) past
-          (at_place s.play h.0 place (λ task. Starts task ∷ ends_if (open_play plan s) (ended_in (after plan s (Start h)).decided) task) ++ history_from plan (after plan s (Start h)) es) ≡ true
+      (at_place s.play h.0 place (λ task. Starts task ∷ ends_if (open_play plan s) (ended_in (after plan s (Start h)).decided) task) ++ history_from plan (after plan s (Start h)) es) ≡ true
   unfolding OnFrom AllBefore start_of
   on_start s h es past None p is on l rise all = cc
   on_start s h es past (Some q) p is on l rise all =

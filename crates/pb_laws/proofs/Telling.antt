@@ -19,14 +19,13 @@ use Rattle.pb_sight.specs.declared.gifts.Gift.{Gift}
 use Rattle.pb_strategies.specs.declared.standings.Standing.{Standing}
 use Rattle.pb_strategies.specs.Hosts.{runs_in, is_running as standing_runs, same_place as same_there}
 use Rattle.pb_strategies.specs.declared.strategy.Strategy.{Strategy}
-use Rattle.pb_strategies.specs.declared.strategy.Strategy.TheVariants.{Linear, Free, HostPinned}
+use Rattle.pb_strategies.specs.declared.strategy.Strategy.TheVariants.{Linear}
 use Rattle.pb_strategies.specs.MayStart.{ViewOf, has_room, has_room_at, suits, may_start_at, may_start_from, is_linear}
 use Rattle.pb_tree.specs.Answer.{AnswerOf}
 use Rattle.pb_tree.specs.declared.answer.Kind.{Kind}
 use Rattle.pb_tree.specs.Tree.{TreeOf}
 use Rattle.pb_tree.specs.Walk.{reach}
 use Rattle.pb_tree.specs.declared.tree.Reach.TheVariants.{At}
-use Rattle.pb_state.specs.declared.decided.Decided.{Decided}
 use Rattle.pb_state.specs.declared.decided.Done.{Done}
 use Rattle.pb_state.specs.declared.decided.TaskEnd.{TaskEnd}
 use Rattle.pb_state.specs.declared.event.Event.{Event}
@@ -35,9 +34,9 @@ use Rattle.pb_state.specs.declared.row.Running.{Running}
 use Rattle.pb_state.specs.Batches.{has_later, joins, room_behind, joined_first}
 use Rattle.pb_state.specs.Ends.{answer_of}
 use Rattle.pb_state.specs.Handlers.{notified_by}
-use Rattle.pb_state.specs.Machine.{possible, after, change, given_to, gifts_at, report_gives, at_row, is_running, first_by, lesser, least_place, open_play, opened_by, after_open, play_behind, closed, next_at, facts_at, plan_seen, start_at, started_in, sent_in, reported_in, report_decides, decided_by, done_at, done_if, pending_at, batch_of, turned_in, is_left, may_start_in, may_send_in, may_report_in, may_turn_in, may_close_in, may_send_item, sends_running, awaits, awaits_running, is_ticket, is_next}
+use Rattle.pb_state.specs.Machine.{possible, after, change, given_to, gifts_at, report_gives, at_row, is_running, first_by, lesser, least_place, open_play, after_open, play_behind, closed, next_at, facts_at, plan_seen, start_at, started_in, sent_in, reported_in, report_decides, decided_by, done_at, done_if, pending_at, batch_of, turned_in, may_start_in, may_send_in, may_report_in, may_turn_in, may_close_in, may_send_item, sends_running, awaits, awaits_running, is_ticket}
 use Rattle.pb_state.specs.Once.{running_place, place_run_by}
-use Rattle.pb_state.specs.Row.{HostRow, no_tree, place_of, next_place, called, is_called, left, ended, pending, task_at, items_after, progressed, sent, sent_running, reported, reported_running}
+use Rattle.pb_state.specs.Row.{HostRow, no_tree, place_of, next_place, called, left, ended, pending, task_at, items_after, progressed, sent, sent_running, reported, reported_running}
 use Rattle.pb_state.specs.State.{State}
 use Rattle.pb_state.specs.Strategies.{standing, view_of}
 use Rattle.pb_state.specs.Turn.{plain_answer, turned_by}
@@ -46,12 +45,12 @@ use Rattle.pb_state.proofs.Batching.{joins_waits}
 use Rattle.pb_state.proofs.Giving.{change_on, given_map, map_same}
 use Rattle.pb_state.proofs.Once.{FoundFrom, RunsFrom, IsSound, and_left, and_right, open_of, start_place}
 use Rattle.pb_state.proofs.Opening.{GoesOn, Begins, open_case}
-use Rattle.pb_state.proofs.Stands.{stands_at, start_stands, runs_same, linear_is}
+use Rattle.pb_state.proofs.Stands.{stands_at, start_stands, linear_is}
 use Rattle.pb_state.proofs.Idle.{turn_linear}
 use Rattle.pb_state.proofs.Turning.{Goes, IsGiven, turned_by_case, goes_tree, goes_inside, goes_waits, goes_running, at_is}
 use Rattle.pb_state.proofs.Walked.{stands_in, same_is}
 use Rattle.pb_state.proofs.Walks.{AllIn, IsOfPlan}
-use Rattle.pb_laws.specs.History.{HostTask, Happening, MayRun, Opens, Starts, Sends, Reports, Ends, Given, Closes, Stops, at_place, ended_in, notified_in, ends_if, given_beyond, given_in, batch_in, told}
+use Rattle.pb_laws.specs.History.{HostTask, Happening, MayRun, Opens, Starts, Sends, Reports, Ends, Given, Closes, Stops, at_place, ended_in, ends_if, given_beyond, given_in, batch_in, told}
 use Rattle.pb_laws.specs.Laws.{selects, tree_at, is_linear_play}
 
 -- ---- what is seen of a state
@@ -214,19 +213,19 @@ pub record IsClosing (plan : PlanOf) (v : Seen) (tasks : List (Option Running)) 
 pub data Tells (plan : PlanOf) (v : Seen) : List Happening → Seen → Type 0 where
   Opening : (n : ℕ) (more : Bool) (tasks : List (Option Running)) (inside waiting : List Bool) → (is : IsOpening plan v n tasks inside waiting)
       → Tells plan v (Opens n inside ∷ [])
-          (record { play = n; is_open = true; has_more = more; forks = v.forks; sends = v.sends; stopped = v.stopped; tasks = tasks; inside = inside; waiting = waiting; walked = is.walked; place = is.place })
+      (record { play = n; is_open = true; has_more = more; forks = v.forks; sends = v.sends; stopped = v.stopped; tasks = tasks; inside = inside; waiting = waiting; walked = is.walked; place = is.place })
   Starting : (over : Bool) (host place : ℕ) (items : List Item) (end : TaskEnd) (notified : List ℕ) → (is : IsStarting plan v host place) → is_over items ≡ over
       → Tells plan v (Starts (task_on v host place) ∷ ended_so over (task_on v host place) end notified)
-          (record v { tasks = put v.tasks host (left_so over place items); walked = put v.walked host (answered_so over is.answers (answer_of end notified)) })
+      (record v { tasks = put v.tasks host (left_so over place items); walked = put v.walked host (answered_so over is.answers (answer_of end notified)) })
   Sending : (host item : ℕ) (ticket : Ticket) (r : Running) → IsSending v host item ticket r
       → Tells plan v (Sends (task_on v host r.place) item ticket.0 ∷ []) (record v { tasks = put v.tasks host (Some (sent_running ticket r)); sends = v.sends + 1 })
   Reporting : (over : Bool) (host item : ℕ) (ticket : Ticket) (r : Running) (items : List Item) (end : TaskEnd) (notified : List ℕ) → (is : IsReporting plan v host item ticket r) → is_over items ≡ over
       → Tells plan v (Reports host item ticket.0 ∷ ended_so over (task_on v host r.place) end notified)
-          (record v { tasks = put v.tasks host (left_so over r.place items); walked = put v.walked host (answered_so over is.answers (answer_of end notified)) })
+      (record v { tasks = put v.tasks host (left_so over r.place items); walked = put v.walked host (answered_so over is.answers (answer_of end notified)) })
   Turning : (more : Bool) (told : List Happening) → v.is_open ≡ true → AreGiven told → (is : IsTurning plan v told) → Tells plan v told (record v { has_more = more; walked = is.walked; place = is.place })
   Closing : (tasks : List (Option Running)) (inside waiting : List Bool) → (is : IsClosing plan v tasks inside waiting)
       → Tells plan v (Closes v.play ∷ [])
-          (record { play = play_behind v.has_more v.play; is_open = false; has_more = v.has_more; forks = v.forks; sends = v.sends; stopped = v.stopped; tasks = tasks; inside = inside; waiting = waiting; walked = is.walked; place = v.place })
+      (record { play = play_behind v.has_more v.play; is_open = false; has_more = v.has_more; forks = v.forks; sends = v.sends; stopped = v.stopped; tasks = tasks; inside = inside; waiting = waiting; walked = is.walked; place = v.place })
   Stopping : Tells plan v (Stops ∷ []) (record v { stopped = true })
   Forking : (n : ℕ) → Tells plan v (MayRun n ∷ []) (record v { forks = n })
 
@@ -510,7 +509,7 @@ started plan s h p play row items are o may there stands of =
 
 start_at_tells : (plan : PlanOf) (s : State) (h : ℕ) (play : PlayOf) (place : Option ℕ) → next_at s h ≡ place → open_play plan s ≡ Some play → may_start_in s h play ≡ true → at_row (stands_at place) s.rows h ≡ true → IsOfPlan plan s
     → Tells plan (seen s) (at_place s.play h place (λ task. Starts task ∷ ends_if (open_play plan s) (ended_in (option_map_or (start_at plan s h play) place s).decided) task))
-        (seen (option_map_or (start_at plan s h play) place s))
+    (seen (option_map_or (start_at plan s h play) place s))
 start_at_tells plan s h play None n o may stands of = absurd (let at = start_place plan s h (Some play) may in let there = at.1 in cc)
 start_at_tells plan s h play (Some p) n o may stands of =
     let at = row_at (stands_at (Some p)) s.rows h stands in
@@ -518,7 +517,7 @@ start_at_tells plan s h play (Some p) n o may stands of =
 
 start_tells : (plan : PlanOf) (s : State) (h : ℕ) (found : Option PlayOf) → open_play plan s ≡ found → option_map_or (may_start_in s h) found false ≡ true → IsOfPlan plan s
     → Tells plan (seen s) (at_place s.play h (next_at s h) (λ task. Starts task ∷ ends_if (open_play plan s) (ended_in (option_map_or (started_in plan s h) found s).decided) task))
-        (seen (option_map_or (started_in plan s h) found s))
+    (seen (option_map_or (started_in plan s h) found s))
 start_tells plan s h None o may of = cc
 start_tells plan s h (Some play) o may of = start_at_tells plan s h play (next_at s h) refl o may (start_stands s h play may) of
 
@@ -582,7 +581,7 @@ reported_tells : (plan : PlanOf) (s : State) (r : Report) (play : PlayOf) (row :
     → open_play plan s ≡ Some play → may_report_in s r play ≡ true → slice_get s.rows r.host.0 ≡ Some row → row.running ≡ Some q
     → option_map (λ (t : Ticket). t.0) q.out ≡ Some r.ticket.0 → next_item q.items ≡ Some r.item → IsOfPlan plan s → IsSound s
     → Tells plan (seen s) (Reports r.host.0 r.item r.ticket.0 ∷ at_place s.play r.host.0 (place_run_by s r.host) (λ task. ends_if (open_play plan s) (ended_in (reported_in plan s r play).decided) task))
-        (seen (reported_in plan s r play))
+    (seen (reported_in plan s r play))
 reported_tells plan s r play row q items are o may there runs out next of sound =
     subst (λ (told : List Happening). Tells plan (seen s) told (seen (reported_in plan s r play))) (sym (tells are))
     (subst
@@ -647,7 +646,7 @@ reported_tells plan s r play row q items are o may there runs out next of sound 
 
 report_tells : (plan : PlanOf) (s : State) (r : Report) (found : Option PlayOf) → open_play plan s ≡ found → option_map_or (may_report_in s r) found false ≡ true → IsOfPlan plan s → IsSound s
     → Tells plan (seen s) (Reports r.host.0 r.item r.ticket.0 ∷ at_place s.play r.host.0 (place_run_by s r.host) (λ task. ends_if (open_play plan s) (ended_in (option_map_or (reported_in plan s r) found s).decided) task))
-        (seen (option_map_or (reported_in plan s r) found s))
+    (seen (option_map_or (reported_in plan s r) found s))
 report_tells plan s r None o may of sound = cc
 report_tells plan s r (Some play) o may of sound =
     let at = row_at (awaits r.ticket r.item) s.rows r.host.0 may in

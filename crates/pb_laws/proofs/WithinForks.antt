@@ -1,6 +1,6 @@
 -- Where a host starts there is room: the hosts that run, by what has happened, are those that the machine counts.
-use Rattle.std.proofs.Common.{◌≡◌, ℕ, zero, suc, ◌+◌, ◌-◌, Bool, true, false, ◌&&◌, ◌||◌, cond, List, [], ◌∷◌, length, map, refl, sym, ◌∙◌, ap, arith}
-use Rattle.std.specs.Prelude.{◌==◌, nat_lt, nat_eq, Option, Some, None, option_map, is_some, slice_get, slice_index_or, count_by}
+use Rattle.std.proofs.Common.{◌≡◌, ℕ, zero, suc, ◌+◌, Bool, true, false, ◌&&◌, cond, List, [], ◌∷◌, length, refl, sym, ◌∙◌, ap, arith}
+use Rattle.std.specs.Prelude.{◌==◌, nat_lt, Option, Some, None, option_map, is_some, slice_get, slice_index_or, count_by}
 use Rattle.std.specs.List.{list_any}
 use Rattle.std.specs.Option.{option_map_or}
 use Rattle.std.proofs.lemmas.Bool.{eq-eqb}
@@ -9,11 +9,11 @@ use Rattle.pb_limits.specs.Counts.{runs_at, has_room_for, running as count_runni
 use Rattle.pb_plan.specs.Plan.{PlayOf, PlanOf, throttles_of}
 use Rattle.pb_state.specs.declared.row.Running.{Running}
 use Rattle.pb_state.specs.Machine.{first_state, one_if}
-use Rattle.pb_state.specs.Row.{HostRow, first_rows}
+use Rattle.pb_state.specs.Row.{first_rows}
 use Rattle.pb_state.proofs.Stands.{both}
-use Rattle.pb_laws.specs.History.{HostTask, Happening, MayRun, Opens, Starts, Sends, Reports, Ends, Given, Closes, Stops}
+use Rattle.pb_laws.specs.History.{HostTask, Happening, Starts}
 use Rattle.pb_laws.specs.Laws.{Always, holds_from, so_far, may_run, running, any_task, task_at, throttle_at, within_forks}
-use Rattle.pb_laws.proofs.Telling.{Seen, AreGiven, Tells, Opening, Starting, Sending, Reporting, Turning, Closing, Stopping, Forking, IsStarting, places, put, tasks_of, task_on, seen}
+use Rattle.pb_laws.proofs.Telling.{Seen, Tells, Opening, Starting, Sending, Reporting, Turning, Closing, Stopping, Forking, IsStarting, places, put, tasks_of, task_on}
 use Rattle.pb_laws.proofs.Holding.{Keeps, given_holds, given_same, always}
 
 -- ---- how many entries of a list of places pass

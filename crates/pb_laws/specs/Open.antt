@@ -7,7 +7,7 @@ use Rattle.pb_tree.specs.declared.answer.Kind.TheVariants.{Good, Bad, Halted, Go
 use Rattle.pb_tree.specs.Tree.{Nodes, Nothing, Task, Block, Flush, TreeOf, size}
 use Rattle.pb_tree.specs.Walk.{front, ends_in_flush}
 use Rattle.pb_state.specs.Ends.{kind_of}
-use Rattle.pb_laws.specs.History.{HostTask, Happening, MayRun, Opens, Starts, Sends, Reports, Ends, Given, Closes, Stops}
+use Rattle.pb_laws.specs.History.{HostTask, Happening, Starts, Ends, Given}
 use Rattle.pb_laws.specs.Laws.{tree_at}
 
 -- ---- out is out: a host that couldn't be reached starts nothing more; one that failed where no rescue catches that, or that was halted, starts nothing more but

@@ -2,18 +2,17 @@
 use Rattle.std.specs.Prelude.{◌≡◌, ℕ, Bool, true, false, List, [], ◌∷◌, codes, None, refl}
 use Rattle.pb_outcome.specs.declared.gather.TaskResult.{TaskResult}
 use Rattle.pb_plan.specs.Plan.{PlanOf, PlayOf, bare_play, bare_plan, bare_tree}
-use Rattle.pb_recap.specs.Kinds.{status_of}
 use Rattle.pb_recap.specs.Recap.{recap}
 use Rattle.pb_state.specs.BatchRows.{start, send, went}
-use Rattle.pb_state.specs.BlockRows.{says, runs, refuses}
+use Rattle.pb_state.specs.BlockRows.{runs, refuses}
 use Rattle.pb_state.specs.FactRows.{on_facts}
 use Rattle.pb_state.specs.declared.decided.TaskEnd.{TaskEnd}
 use Rattle.pb_state.specs.declared.event.Event.{Event}
 use Rattle.pb_state.specs.declared.event.Event.TheVariants.{Open, Turn, Close, Stop, Forks}
 use Rattle.pb_state.specs.declared.row.Counts.{Counts}
-use Rattle.pb_tree.specs.declared.answer.Kind.TheVariants.{Good, Halted}
+use Rattle.pb_tree.specs.declared.answer.Kind.TheVariants.{Halted}
 use Rattle.pb_laws.specs.History.{HostTask, Happening, MayRun, Opens, Starts, Sends, Reports, Ends, Given, Closes, Stops, history}
-use Rattle.pb_laws.specs.Laws.{holds_from, so_far, own_hosts, within_forks, in_order, places_rise, have_walked, all_closed, jobs_in_order, all_answered, add_up, status_tells}
+use Rattle.pb_laws.specs.Laws.{holds_from, so_far, own_hosts, within_forks, in_order, have_walked, all_closed, jobs_in_order, all_answered, add_up, status_tells}
 use Rattle.pb_laws.specs.Open.{out_is_out}
 
 -- two hosts, of which the first alone is one of the first play's, and both are of the second; each play has one command, with a throttle of one

@@ -1,4 +1,8 @@
-//! What an operator may rely on in every run.
+//! Laws of runs: what an operator may rely on in every run of every plan.
+//!
+//! For the layers above: each function here does nothing, and its contract is a law of all legal trails, in an operator's words: own
+//! hosts, forks, order, that everything was done, jobs, and that the recap adds up (docs/THEOREM.md has them on one page). They are said over what happens in
+//! a run (`history`), which is read off a plan and a trail.
 #![tactic(auto)]
 
 ghost use Rattle.pb_laws.specs.Laws.{Always, AtTheEnd, own_hosts, within_forks, in_order, places_rise, have_walked, all_closed, jobs_in_order, all_answered, RecapAddsUp};
@@ -14,19 +18,6 @@ pub fn hosts_run_within_forks()
     ensures { Always within_forks }
 {}
 
-/// Jobs have the tickets 0, 1, 2 and so on; a job that goes out is of a task that its host runs; each report answers a job that is out, so that
-/// none is answered twice; and once a run is finished all are answered.
-pub fn jobs_are_answered_once()
-    ensures in_order { Always jobs_in_order }
-    ensures at_the_end { AtTheEnd all_answered }
-{}
-
-/// Of each host the recap's counts of ok, failed, rescued, skipped and unreachable tasks come to the number of the tasks that ended on it, where a
-/// task of `meta` is none unless it failed; and the exit status is 0 exactly where no host has a count of failed or unreachable tasks.
-pub fn recap_adds_up()
-    ensures { RecapAddsUp }
-{}
-
 /// A host starts the task to which its answers lead it, and runs no other; it ends the task that it runs, and is given an answer only where it stands;
 /// in a linear play it starts none while a host of the batch stands at, or runs, one before it; and its places in a play rise.
 pub fn hosts_keep_order()
@@ -39,4 +30,17 @@ pub fn hosts_keep_order()
 pub fn everything_is_done()
     ensures walked { Always have_walked }
     ensures closed { AtTheEnd all_closed }
+{}
+
+/// Jobs have the tickets 0, 1, 2 and so on; a job that goes out is of a task that its host runs; each report answers a job that is out, so that
+/// none is answered twice; and once a run is finished all are answered.
+pub fn jobs_are_answered_once()
+    ensures in_order { Always jobs_in_order }
+    ensures at_the_end { AtTheEnd all_answered }
+{}
+
+/// Of each host the recap's counts of ok, failed, rescued, skipped and unreachable tasks come to the number of the tasks that ended on it, where a
+/// task of `meta` is none unless it failed; and the exit status is 0 exactly where no host has a count of failed or unreachable tasks.
+pub fn recap_adds_up()
+    ensures { RecapAddsUp }
 {}
