@@ -32,7 +32,9 @@ use Rattle.pb_recap.specs.Kinds.{has, status_of}
 use Rattle.pb_recap.specs.Recap.{by_host, ended_by, finishes, result_counts, counted, count_from, hosts_from, recap}
 use Rattle.pb_laws.specs.History.{HostTask, Happening, MayRun, Starts, Sends, Reports, at_place, ended_in, ends_if, given_in, told, history_from, history}
 use Rattle.pb_laws.specs.Laws.{so_far, counts, tasks_ended, add_up, has_trouble, status_tells, RecapAddsUp}
-use Rattle.pb_laws.proofs.Telling.{place_there, row_at, awaits_is, rows_given}
+use Rattle.pb_laws.proofs.Telling.{row_at}
+use Rattle.pb_laws.proofs.TaskTelling.{place_there, awaits_is}
+use Rattle.pb_laws.proofs.BatchTelling.{rows_given}
 use Rattle.pb_laws.proofs.Holding.{given_same, so_far_both}
 
 -- ---- one task

@@ -30,7 +30,8 @@ use Rattle.pb_state.proofs.Stands.{both, linear_place}
 use Rattle.pb_state.proofs.Turning.{turned_idle}
 use Rattle.pb_laws.specs.History.{Happening, history}
 use Rattle.pb_laws.specs.Laws.{AtTheEnd, holds_from, so_far, may_run, is_open, was_stopped, all_closed}
-use Rattle.pb_laws.proofs.Telling.{Seen, Tells, Opening, Starting, Sending, Reporting, Turning, Closing, Stopping, Forking, tasks_of, task_there}
+use Rattle.pb_laws.proofs.Telling.{Seen, Tells, Opening, Starting, Sending, Reporting, Turning, Closing, Stopping, Forking, tasks_of}
+use Rattle.pb_laws.proofs.TaskTelling.{task_there}
 use Rattle.pb_laws.proofs.Holding.{Keeps, given_same, at_end}
 use Rattle.pb_laws.proofs.WithinForks.{forks_next, first_idle}
 use Rattle.pb_laws.proofs.JobsInOrder.{put_get, idle_none, none_some, some_some}

@@ -12,7 +12,8 @@ use Rattle.pb_state.proofs.Walks.{IsOfPlan, step_of, rows_stay}
 use Rattle.pb_tree.specs.declared.answer.Kind.{Kind}
 use Rattle.pb_laws.specs.History.{HostTask, Happening, MayRun, Given, told, history_from, history}
 use Rattle.pb_laws.specs.Laws.{holds_from, so_far, Always}
-use Rattle.pb_laws.proofs.Telling.{Seen, AreGiven, one_given, seen, Tells, tells}
+use Rattle.pb_laws.proofs.Telling.{Seen, AreGiven, one_given, seen, Tells}
+use Rattle.pb_laws.proofs.BatchTelling.{tells}
 
 -- one part of a history after another
 pub holds_both : (law : List Happening → Happening → Bool) (past xs ys : List Happening) → holds_from law past xs ≡ true → holds_from law (so_far past xs) ys ≡ true → holds_from law past (xs ++ ys) ≡ true

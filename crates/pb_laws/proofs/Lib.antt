@@ -1,4 +1,6 @@
 pub mod Telling
+pub mod TaskTelling
+pub mod BatchTelling
 pub mod Holding
 pub mod WithinForks
 pub mod OwnHosts

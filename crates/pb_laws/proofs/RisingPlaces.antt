@@ -17,7 +17,8 @@ use Rattle.pb_state.proofs.Rising.{starts_rise}
 use Rattle.pb_state.proofs.Stands.{both}
 use Rattle.pb_laws.specs.History.{HostTask, Happening, MayRun, Starts, Sends, Reports, at_place, ended_in, ends_if, told, history_from}
 use Rattle.pb_laws.specs.Laws.{Always, holds_from, so_far, rises, places_rise}
-use Rattle.pb_laws.proofs.Telling.{AreGiven, one_given, rows_given}
+use Rattle.pb_laws.proofs.Telling.{AreGiven, one_given}
+use Rattle.pb_laws.proofs.BatchTelling.{rows_given}
 use Rattle.pb_laws.proofs.Holding.{holds_both}
 
 -- ---- starts and later ones
