@@ -11,12 +11,12 @@ use Rattle.pb_strategies.specs.MayStart.{is_linear}
 use Rattle.pb_tree.specs.Answer.{AnswerOf}
 use Rattle.pb_tree.specs.declared.answer.Kind.{Kind}
 use Rattle.pb_tree.specs.Tree.{TreeOf}
-use Rattle.pb_tree.specs.Walk.{reach}
+use Rattle.pb_tree.specs.Walk.{reach, status_now}
 use Rattle.pb_state.specs.declared.event.Event.{Event}
 use Rattle.pb_state.specs.declared.event.Event.TheVariants.{Open, Start, Send, Report as Reported, Turn, Close, Stop, Forks}
 use Rattle.pb_state.specs.Batches.{has_later, joins, room_behind, joined_first}
-use Rattle.pb_state.specs.Machine.{possible, after, is_running, first_by, least_place, open_play, after_open, closed, batch_of, turned_in, may_turn_in, may_close_in}
-use Rattle.pb_state.specs.Row.{HostRow, no_tree, place_of, next_place, called, left}
+use Rattle.pb_state.specs.Machine.{possible, after, is_running, first_by, least_place, open_play, opened_by, after_open, closed, batch_of, turned_in, may_turn_in, may_close_in}
+use Rattle.pb_state.specs.Row.{HostRow, no_tree, place_of, next_place, is_active, called, left}
 use Rattle.pb_state.specs.State.{State}
 use Rattle.pb_state.specs.Turn.{plain_answer, turned_by}
 use Rattle.pb_state.specs.Walks.{AreNumbered}
@@ -28,7 +28,7 @@ use Rattle.pb_state.proofs.Turning.{Goes, IsGiven, turned_by_case, goes_tree, go
 use Rattle.pb_state.proofs.Walks.{AllIn, IsOfPlan}
 use Rattle.pb_laws.specs.History.{Happening, Opens, Given, Closes, at_place, given_beyond, given_in, batch_in, told}
 use Rattle.pb_laws.specs.Laws.{selects, tree_at}
-use Rattle.pb_laws.proofs.Telling.{Seen, tasks_of, waiting_of, walked_of, leads, seen, AreBehind, AreFresh, AreLed, AreGiven, Tells, map_kept, any_tasks, play_there, tree_there, next_leads, row_of, row_inside, all_known, least_some, rows_behind, none_led, rest_led, one_led, none_given, one_given, Opening, Turning, Closing, Stopping, Forking}
+use Rattle.pb_laws.proofs.Telling.{Seen, tasks_of, waiting_of, active_of, walked_of, leads, seen, AreBehind, AreFresh, AreLed, AreGiven, AreInside, Tells, map_kept, any_tasks, play_there, tree_there, next_leads, row_of, row_inside, all_known, least_some, rows_behind, none_led, rest_led, one_led, none_given, one_given, Opening, Turning, Closing, Stopping, Forking}
 use Rattle.pb_laws.proofs.TaskTelling.{start_tells, send_tells, report_tells}
 
 -- ---- a turn
@@ -85,6 +85,7 @@ record Grows (old new : HostRow) : Type 0 where
   inside : new.in_batch ≡ old.in_batch
   answers : new.answers ≡ old.answers ++ plain kinds
   at : AllAt old.in_batch old.tree old.answers kinds
+  status : ((new.status ≡ old.status) × (new.answers ≡ old.answers)) ⊎ ((new.status ≡ status_now new.tree new.answers) × (old.in_batch ≡ true))
 
 AllGrow : List HostRow → List HostRow → Type 0
 AllGrow [] [] = Unit {0}
@@ -94,12 +95,16 @@ AllGrow (old ∷ olds) (new ∷ news) = Grows old new × AllGrow olds news
 
 stays_so : (old : HostRow) → Grows old old
 unfolding plain AllAt
-stays_so old = record { kinds = []; tree = refl; inside = refl; answers = sym (append-nil old.answers); at = tt }
+stays_so old = record { kinds = []; tree = refl; inside = refl; answers = sym (append-nil old.answers); at = tt; status = inl (refl, refl) }
 
 all_stay : (rows : List HostRow) → AllGrow rows rows
 unfolding AllGrow
 all_stay [] = tt
 all_stay (row ∷ rows) = (stays_so row, all_stay rows)
+
+inside_is : (b : Bool) (next : Option ℕ) (p : ℕ) → (if b then next else None) ≡ Some p → b ≡ true
+inside_is true next p e = refl
+inside_is false next p e = cc
 
 grows_more : (old row new : HostRow) → Grows old row → (new ≡ row) ⊎ IsGiven row new → Grows old new
 grows_more old row new grows (inl same) = subst (Grows old) (sym same) grows
@@ -113,6 +118,7 @@ grows_more old row new grows (inr given) =
           ∙ append_assoc old.answers (plain grows.kinds) (plain_answer given.kind ∷ []) ∙ ap (λ (ys : List AnswerOf). old.answers ++ ys) (sym (plain_more grows.kinds given.kind));
       at = all_at_more old.in_batch old.tree old.answers grows.kinds given.kind given.place grows.at
           (next_so row.in_batch old.in_batch row.tree old.tree row.answers (old.answers ++ plain grows.kinds) grows.inside grows.tree grows.answers given.next);
+      status = inr (subst (λ (r : HostRow). r.status ≡ status_now r.tree r.answers) (sym given.is) refl, sym grows.inside ∙ inside_is row.in_batch (place_of (reach row.tree row.answers)) given.place given.next);
     }
   where
     next_so : (a b : Bool) (t u : TreeOf) (xs ys : List AnswerOf) → a ≡ b → t ≡ u → xs ≡ ys → (if a then place_of (reach t xs) else None) ≡ Some given.place → (if b then place_of (reach u ys) else None) ≡ Some given.place
@@ -146,10 +152,6 @@ row_led plan play h inside tree xs (kind ∷ kinds) walked happens new all same 
     in_place true next p e = e
     in_place false next p e = cc
 
-    inside_is : (b : Bool) (next : Option ℕ) (p : ℕ) → (if b then next else None) ≡ Some p → b ≡ true
-    inside_is true next p e = refl
-    inside_is false next p e = cc
-
     first_told : (next : Option ℕ) → next ≡ Some all.0.0
         → (at_place play h next (λ task. Given task kind ∷ []) ++ given_beyond play h tree (xs ++ plain_answer kind ∷ []) (plain kinds)) ++ happens
         ≡ Given (record { play = play; host = h; place = all.0.0 }) kind ∷ (given_beyond play h tree (xs ++ plain_answer kind ∷ []) (plain kinds) ++ happens)
@@ -172,6 +174,68 @@ rows_led plan play h tree (old ∷ olds) (new ∷ news) same all grow =
     (row_led plan play h old.in_batch old.tree old.answers grow.0.kinds (walked_of olds) (given_in play (h + 1) olds news) (walked_of news) grow.0.at (λ i. all.0 i ∙ same)
     (rows_led plan play (h + 1) tree olds news same all.1 grow.1)))
 
+-- to hosts of the batch alone
+both_inside : (inside : List Bool) (xs ys : List Happening) → AreInside inside xs → AreInside inside ys → AreInside inside (xs ++ ys)
+both_inside inside [] ys a b = b
+both_inside inside (Given task kind ∷ xs) ys a b = (a.0, both_inside inside xs ys a.1 b)
+both_inside inside (now ∷ xs) ys a b = both_inside inside xs ys a b
+
+there_inside : (inside : List Bool) (play host : ℕ) (place : Option ℕ) (kind : Kind) → is_member inside host ≡ true → AreInside inside (at_place play host place (λ task. Given task kind ∷ []))
+there_inside inside play host None kind i = tt
+there_inside inside play host (Some p) kind i = (i, tt)
+
+beyond_inside : (inside : List Bool) (play host : ℕ) (tree : TreeOf) (had more : List AnswerOf) → is_member inside host ≡ true → AreInside inside (given_beyond play host tree had more)
+beyond_inside inside play host tree had [] i = tt
+beyond_inside inside play host tree had (answer ∷ more) i =
+    both_inside inside (at_place play host (place_of (reach tree had)) (λ task. Given task answer.kind ∷ [])) (given_beyond play host tree (had ++ answer ∷ []) more)
+    (there_inside inside play host (place_of (reach tree had)) answer.kind i) (beyond_inside inside play host tree (had ++ answer ∷ []) more i)
+
+kinds_inside : (inside : List Bool) (play host : ℕ) (b : Bool) (tree : TreeOf) (xs : List AnswerOf) (kinds : List Kind) → AllAt b tree xs kinds → (b ≡ true → is_member inside host ≡ true)
+    → AreInside inside (given_beyond play host tree xs (plain kinds))
+unfolding AllAt plain
+kinds_inside inside play host b tree xs [] all i = tt
+kinds_inside inside play host b tree xs (kind ∷ kinds) all i = beyond_inside inside play host tree xs (plain_answer kind ∷ plain kinds) (i (inside_is b (place_of (reach tree xs)) all.0.0 all.0.1))
+
+rows_inside : (inside : List Bool) (play h : ℕ) (olds news : List HostRow) → AllGrow olds news → ((k : ℕ) → is_member (batch_in olds) k ≡ true → is_member inside (h + k) ≡ true) → AreInside inside (given_in play h olds news)
+unfolding AllGrow
+rows_inside inside play h [] news grow i = tt
+rows_inside inside play h (old ∷ olds) [] grow i = tt
+rows_inside inside play h (old ∷ olds) (new ∷ news) grow i =
+    both_inside inside (given_beyond play h old.tree old.answers (drop (length old.answers) new.answers)) (given_in play (h + 1) olds news)
+    (subst (λ (more : List AnswerOf). AreInside inside (given_beyond play h old.tree old.answers more)) (sym (ap (drop (length old.answers)) grow.0.answers ∙ drop_all old.answers (plain grow.0.kinds)))
+    (kinds_inside inside play h old.in_batch old.tree old.answers grow.0.kinds grow.0.at (λ b. ap (is_member inside) (let same : h ≡ h + 0 = omega arith in same) ∙ i 0 b)))
+    (rows_inside inside play (h + 1) olds news grow.1 (λ k b. ap (is_member inside) (let same : (h + 1) + k ≡ h + suc k = omega arith in same) ∙ i (suc k) b))
+
+-- and what they are then
+rows_still : (olds news : List HostRow) (h : ℕ) → AllGrow olds news → is_member (batch_in olds) h ≡ false → is_member (active_of news) h ≡ is_member (active_of olds) h
+unfolding AllGrow
+rows_still [] [] h grow out = refl
+rows_still [] (new ∷ news) h grow out = absurd grow
+rows_still (old ∷ olds) [] h grow out = absurd grow
+rows_still (old ∷ olds) (new ∷ news) zero grow out = by_status grow.0.status
+  where
+    by_status : ((new.status ≡ old.status) × (new.answers ≡ old.answers)) ⊎ ((new.status ≡ status_now new.tree new.answers) × (old.in_batch ≡ true)) → is_active new.status ≡ is_active old.status
+    by_status (inl same) = ap is_active same.0
+    by_status (inr now) = absurd (let both_ways : true ≡ false = sym now.1 ∙ out in cc)
+rows_still (old ∷ olds) (new ∷ news) (suc h) grow out = rows_still olds news h grow.1 out
+
+rows_show : (tree : TreeOf) (olds news : List HostRow) (h : ℕ) (xs : List AnswerOf) → AllGrow olds news → AllIn tree olds → is_member (batch_in olds) h ≡ true → is_member (active_of news) h ≡ true → slice_get (walked_of news) h ≡ Some xs
+    → ((slice_get (walked_of olds) h ≡ Some xs) × (is_member (active_of olds) h ≡ true)) ⊎ (is_active (status_now tree xs) ≡ true)
+unfolding AllGrow
+rows_show tree [] [] h xs grow all inside is there = cc
+rows_show tree [] (new ∷ news) h xs grow all inside is there = absurd grow
+rows_show tree (old ∷ olds) [] h xs grow all inside is there = absurd grow
+rows_show tree (old ∷ olds) (new ∷ news) zero xs grow all inside is there = by_status grow.0.status
+  where
+    by_status : ((new.status ≡ old.status) × (new.answers ≡ old.answers)) ⊎ ((new.status ≡ status_now new.tree new.answers) × (old.in_batch ≡ true))
+        → ((Some old.answers ≡ Some xs) × (is_active old.status ≡ true)) ⊎ (is_active (status_now tree xs) ≡ true)
+    by_status (inl same) = inl (ap (λ (ys : List AnswerOf). Some ys) (sym same.1) ∙ there, ap is_active (sym same.0) ∙ is)
+    by_status (inr now) =
+        let whose : new.tree ≡ tree = grow.0.tree ∙ all.0 inside in
+        let went : new.answers ≡ xs = cc in
+        inr (ap (λ (ys : List AnswerOf). is_active (status_now tree ys)) (sym went) ∙ ap (λ (t : TreeOf). is_active (status_now t new.answers)) (sym whose) ∙ ap is_active (sym now.0) ∙ is)
+rows_show tree (old ∷ olds) (new ∷ news) (suc h) xs grow all inside is there = rows_show tree olds news h xs grow.1 all.1 inside is there
+
 turn_tells : (plan : PlanOf) (s : State) (found : Option PlayOf) → open_play plan s ≡ found → option_map_or (may_turn_in s) found false ≡ true → IsOfPlan plan s
     → Tells plan (seen s) (given_in s.play 0 s.rows (option_map_or (turned_in plan.inventory s) found s).rows) (seen (option_map_or (turned_in plan.inventory s) found s))
 turn_tells plan s None o may of = cc
@@ -181,8 +245,13 @@ turn_tells plan s (Some play) o may of =
     (rows_given s.play 0 s.rows (turned_in plan.inventory s play).rows)
     (record {
       walked = walked_of (turned_in plan.inventory s play).rows;
-      led = rows_led plan s.play 0 play.tree s.rows (turned_in plan.inventory s play).rows (sym (tree_there plan s.play play (play_there plan s play o))) (of play o)
-          (turned_by_case (AllGrow s.rows) (λ f goes rows all. all_grow f goes s.rows rows all) plan.inventory play (batch_of s) s.place (all_stay s.rows));
+      led = rows_led plan s.play 0 play.tree s.rows (turned_in plan.inventory s play).rows (sym (tree_there plan s.play play (play_there plan s play o))) (of play o) grow;
+      only = rows_inside (batch_in s.rows) s.play 0 s.rows (turned_in plan.inventory s play).rows grow (λ k i. ap (is_member (batch_in s.rows)) (let same : 0 + k ≡ k = omega arith in same) ∙ i);
+      active = active_of (turned_in plan.inventory s play).rows;
+      still = λ h out. rows_still s.rows (turned_in plan.inventory s play).rows h grow out;
+      shows = λ h xs inside is there.
+          subst (λ (tree : TreeOf). ((slice_get (walked_of s.rows) h ≡ Some xs) × (is_member (active_of s.rows) h ≡ true)) ⊎ (is_active (status_now tree xs) ≡ true)) (sym (tree_there plan s.play play (play_there plan s play o)))
+          (rows_show play.tree s.rows (turned_in plan.inventory s play).rows h xs grow (of play o) inside is there);
       place = least_place (turned_in plan.inventory s play).rows;
       behind =
           subst (λ (inside : List Bool). AreBehind plan s.play inside (walked_of (turned_in plan.inventory s play).rows) (least_place (turned_in plan.inventory s play).rows))
@@ -192,6 +261,9 @@ turn_tells plan s (Some play) o may of =
           (first_is play.strategy (turn_linear s play may)));
     }))
   where
+    grow : AllGrow s.rows (turned_in plan.inventory s play).rows
+    grow = turned_by_case (AllGrow s.rows) (λ f goes rows all. all_grow f goes s.rows rows all) plan.inventory play (batch_of s) s.place (all_stay s.rows)
+
     first_is : (strategy : Strategy) → is_linear strategy ≡ true → least_place (turned_in plan.inventory s play).rows ≡ first_by strategy (turned_in plan.inventory s play).rows
     first_is strategy linear = ap (λ (b : Bool). if b then least_place (turned_in plan.inventory s play).rows else None) (sym linear)
 
@@ -200,7 +272,7 @@ turn_tells plan s (Some play) o may of =
     map_in tree f goes (row ∷ rows) all = (λ i. goes_tree f goes row ∙ all.0 (sym (goes_inside f goes row) ∙ i), map_in tree f goes rows all.1)
 
     sees : seen (turned_in plan.inventory s play)
-        ≡ record (seen s) { has_more = has_later (turned_by plan.inventory play (batch_of s) s.place).later; walked = walked_of (turned_in plan.inventory s play).rows; place = least_place (turned_in plan.inventory s play).rows }
+        ≡ record (seen s) { has_more = has_later (turned_by plan.inventory play (batch_of s) s.place).later; active = active_of (turned_in plan.inventory s play).rows; walked = walked_of (turned_in plan.inventory s play).rows; place = least_place (turned_in plan.inventory s play).rows }
     sees =
         rw (
           turned_kept (λ (row : HostRow). row.running) goes_running plan.inventory play s,
@@ -222,6 +294,10 @@ joined_waiting : (tree : TreeOf) (room : ℕ) (rows : List HostRow) → waiting_
 joined_waiting tree room [] = refl
 joined_waiting tree room (row ∷ rows) = ap (λ (rest : List Bool). row.waits ∷ rest) (joined_waiting tree (room_behind room row.waits) rows)
 
+joined_active : (tree : TreeOf) (room : ℕ) (rows : List HostRow) → active_of (joined_first tree room rows) ≡ active_of rows
+joined_active tree room [] = refl
+joined_active tree room (row ∷ rows) = ap (λ (rest : List Bool). is_active row.status ∷ rest) (joined_active tree (room_behind room row.waits) rows)
+
 joined_waits : (tree : TreeOf) (room : ℕ) (rows : List HostRow) (h : ℕ) → is_member (batch_in (joined_first tree room rows)) h ≡ true → is_member (waiting_of (joined_first tree room rows)) h ≡ true
 joined_waits tree room [] h e = e
 joined_waits tree room (row ∷ rows) zero e = joins_waits room row.waits e
@@ -232,6 +308,21 @@ called_are hosts k [] h all e = cc
 called_are hosts k (row ∷ rows) zero all e =
     ap (is_member hosts) (let same : k + 0 ≡ k = omega arith in same ∙ sym all.0) ∙ and_left (is_member hosts row.host) _ e
 called_are hosts k (row ∷ rows) (suc h) all e = ap (is_member hosts) (let same : k + suc h ≡ (k + 1) + h = omega arith in same) ∙ called_are hosts (k + 1) rows h all.1 e
+
+called_active : (hosts : List Bool) (rows : List HostRow) (h : ℕ) → is_member (waiting_of (map (called hosts) rows)) h ≡ true → is_member (active_of rows) h ≡ true
+called_active hosts [] h e = e
+called_active hosts (row ∷ rows) zero e = and_right (is_member hosts row.host) _ e
+called_active hosts (row ∷ rows) (suc h) e = called_active hosts rows h e
+
+begun_active : (s : State) (n batch : ℕ) (sizes : List ℕ) (rows : List HostRow) (play : PlayOf) → GoesOn s n batch sizes rows ⊎ Begins s n batch sizes rows play → active_of rows ≡ active_of s.rows
+begun_active s n batch sizes rows play (inl on) = ap active_of on.4
+begun_active s n batch sizes rows play (inr begun) = ap active_of begun.4 ∙ map_kept (λ (row : HostRow). is_active row.status) (called play.hosts) (λ row. refl) s.rows
+
+begun_chosen : (s : State) (n batch : ℕ) (sizes : List ℕ) (rows : List HostRow) (play : PlayOf) (size : ℕ) → GoesOn s n batch sizes rows ⊎ Begins s n batch sizes rows play → has_later s.later ≡ false
+    → (h : ℕ) → is_member (waiting_of (joined_first play.tree size rows)) h ≡ true → is_member (active_of s.rows) h ≡ true
+begun_chosen s n batch sizes rows play size (inl on) more h e = absurd (let both_ways : true ≡ false = sym on.0 ∙ more in cc)
+begun_chosen s n batch sizes rows play size (inr begun) more h e =
+    called_active play.hosts s.rows h (ap (λ (waiting : List Bool). is_member waiting h) (sym (joined_waiting play.tree size rows ∙ ap waiting_of begun.4)) ∙ e)
 
 joined_in : (tree : TreeOf) (room : ℕ) (rows : List HostRow) → AllIn tree (joined_first tree room rows)
 joined_in tree room [] = tt
@@ -269,7 +360,8 @@ open_tells plan s may all =
     open_case (λ (new : State). Tells plan (seen s) (Opens new.play (batch_in new.rows) ∷ []) (seen new)) plan s
     (λ none. absurd (none (and_right (not s.stopped && not s.is_open && not s.ended) _ may)))
     (λ n batch sizes rows play size is.
-    Opening n (has_later (drop 1 sizes)) (tasks_of (joined_first play.tree size rows)) (batch_in (joined_first play.tree size rows)) (waiting_of (joined_first play.tree size rows))
+    subst (λ (active : List Bool). Tells plan (seen s) (Opens n (batch_in (joined_first play.tree size rows)) ∷ []) (record (seen (opened_by s n batch sizes rows play size)) { active = active })) (sym (joined_active play.tree size rows ∙ begun_active s n batch sizes rows play is.how))
+    (Opening n (has_later (drop 1 sizes)) (tasks_of (joined_first play.tree size rows)) (batch_in (joined_first play.tree size rows)) (waiting_of (joined_first play.tree size rows))
     (record {
       shut = may_open_shut s.stopped s.is_open s.ended _ may;
       walked = walked_of (joined_first play.tree size rows);
@@ -278,8 +370,9 @@ open_tells plan s may all =
       behind = rows_behind plan n play (joined_first play.tree size rows) (first_by play.strategy (joined_first play.tree size rows)) is.there (joined_in play.tree size rows) refl;
       idle = joined_idle play.tree size rows;
       joins = joined_waits play.tree size rows;
+      chosen = begun_chosen s n batch sizes rows play size is.how;
       how = opened_how plan s n batch sizes rows play size all is.there is.how;
-    }))
+    })))
 
 -- ---- and one that closes
 left_idle : (rows : List HostRow) → list_any is_some (tasks_of (map left rows)) ≡ false
@@ -330,7 +423,8 @@ close_done plan s (Some play) o may of h xs inside walked =
 
 close_tells : (plan : PlanOf) (s : State) → possible plan s Close ≡ true → IsOfPlan plan s → Tells plan (seen s) (Closes s.play ∷ []) (seen (closed s))
 close_tells plan s may of =
-    Closing (tasks_of (map left s.rows)) (batch_in (map left s.rows)) (waiting_of (map left s.rows))
+    subst (λ (active : List Bool). Tells plan (seen s) (Closes s.play ∷ []) (record (seen (closed s)) { active = active })) (sym (map_kept (λ (row : HostRow). is_active row.status) left (λ row. refl) s.rows))
+    (Closing (tasks_of (map left s.rows)) (batch_in (map left s.rows)) (waiting_of (map left s.rows))
     (record {
       opened = open_of plan s (may_close_in s) (open_play plan s) refl may;
       before = any_tasks s.rows ∙ by_play (open_play plan s) may;
@@ -341,7 +435,7 @@ close_tells plan s may of =
       idle = left_idle s.rows;
       none = left_outside s.rows;
       still = left_waits s.rows;
-    })
+    }))
   where
     by_play : (found : Option PlayOf) → option_map_or (may_close_in s) found false ≡ true → list_any is_running s.rows ≡ false
     by_play None e = cc

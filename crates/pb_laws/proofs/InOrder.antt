@@ -39,8 +39,12 @@ else_is true xs ys e = cc
 else_is false xs ys e = refl
 
 -- of these hosts, the first of which has the number h
-AreAnswers : ℕ → List Happening → List (List AnswerOf) → Type 0
+pub AreAnswers : ℕ → List Happening → List (List AnswerOf) → Type 0
 AreAnswers h past walked = (k : ℕ) (xs : List AnswerOf) → slice_get walked k ≡ Some xs → answers (h + k) past ≡ xs
+
+pub answers_of : (past : List Happening) (walked : List (List AnswerOf)) → ((k : ℕ) (xs : List AnswerOf) → slice_get walked k ≡ Some xs → answers k past ≡ xs) → AreAnswers 0 past walked
+unfolding AreAnswers
+answers_of past walked was = λ k xs e. ap (λ (j : ℕ). answers j past) (let same : 0 + k ≡ k = omega arith in same) ∙ was k xs e
 
 -- what later hosts are given is nothing to an earlier one
 led_below : (plan : PlanOf) (play h : ℕ) (walked : List (List AnswerOf)) (happens : List Happening) (new : List (List AnswerOf)) → AreLed plan play h walked happens new → (j : ℕ) (past : List Happening) → j < h
@@ -51,16 +55,16 @@ led_below plan play h walked happens new (one_led k place xs kind {walked = w} {
     led_below plan play h ((xs ++ plain_answer kind ∷ []) ∷ w) hs n led j (Given (record { play = play; host = h; place = place }) kind ∷ past) l
     ∙ else_is (h == j) (answers j past ++ plain_answer kind ∷ []) (answers j past) (apart h j (λ same. omega (arith, same, l)))
 
-first_answers : (h : ℕ) (past : List Happening) (xs : List AnswerOf) (walked : List (List AnswerOf)) → AreAnswers h past (xs ∷ walked) → answers h past ≡ xs
+pub first_answers : (h : ℕ) (past : List Happening) (xs : List AnswerOf) (walked : List (List AnswerOf)) → AreAnswers h past (xs ∷ walked) → answers h past ≡ xs
 unfolding AreAnswers
 first_answers h past xs walked are = ap (λ (k : ℕ). answers k past) (let same : h ≡ h + 0 = omega arith in same) ∙ are 0 xs refl
 
-rest_answers : (h : ℕ) (past : List Happening) (xs : List AnswerOf) (walked : List (List AnswerOf)) → AreAnswers h past (xs ∷ walked) → AreAnswers (h + 1) past walked
+pub rest_answers : (h : ℕ) (past : List Happening) (xs : List AnswerOf) (walked : List (List AnswerOf)) → AreAnswers h past (xs ∷ walked) → AreAnswers (h + 1) past walked
 unfolding AreAnswers
 rest_answers h past xs walked are = λ k ys e. ap (λ (j : ℕ). answers j past) (let same : (h + 1) + k ≡ h + suc k = omega arith in same) ∙ are (suc k) ys e
 
 -- one answer more of the first of them
-given_answers : (plan : PlanOf) (play h place : ℕ) (past : List Happening) (xs : List AnswerOf) (kind : Kind) (walked : List (List AnswerOf)) → AreAnswers h past (xs ∷ walked)
+pub given_answers : (plan : PlanOf) (play h place : ℕ) (past : List Happening) (xs : List AnswerOf) (kind : Kind) (walked : List (List AnswerOf)) → AreAnswers h past (xs ∷ walked)
     → AreAnswers h (Given (record { play = play; host = h; place = place }) kind ∷ past) ((xs ++ plain_answer kind ∷ []) ∷ walked)
 unfolding AreAnswers
 given_answers plan play h place past xs kind walked are zero ys e =
@@ -118,7 +122,7 @@ ends_with past host h play place end notified xs ys e same =
 ends_other : (past : List Happening) (host h : ℕ) (play place : ℕ) (end : TaskEnd) (notified : List ℕ) → h ≢ host → answers h (Ends (record { play = play; host = host; place = place }) end notified ∷ past) ≡ answers h past
 ends_other past host h play place end notified d = else_is (host == h) (answers h past ++ answer_of end notified ∷ []) (answers h past) (apart host h (λ same. d (sym same)))
 
-answered_next : (plan : PlanOf) (past : List Happening) (v new : Seen) (happens : List Happening) → Tells plan v happens new → ((h : ℕ) (xs : List AnswerOf) → slice_get v.walked h ≡ Some xs → answers h past ≡ xs)
+pub answered_next : (plan : PlanOf) (past : List Happening) (v new : Seen) (happens : List Happening) → Tells plan v happens new → ((h : ℕ) (xs : List AnswerOf) → slice_get v.walked h ≡ Some xs → answers h past ≡ xs)
     → (h : ℕ) (xs : List AnswerOf) → slice_get new.walked h ≡ Some xs → answers h (so_far past happens) ≡ xs
 unfolding AreAnswers
 answered_next plan past v new happens (Opening n more tasks inside waiting is) was h xs e = sym (is.fresh h xs e)
@@ -139,7 +143,7 @@ answered_next plan past v new happens (Reporting false host item ticket r items 
     elim (put_get v.walked host h is.answers xs e) [ inl w ↦ ap (λ (k : ℕ). answers k past) w.0 ∙ was host is.answers is.answered ∙ w.1 | inr w ↦ was h xs w.1 ]
 answered_next plan past v new happens (Turning more told opened given is) was h xs e =
     ap (λ (k : ℕ). answers k (so_far past happens)) (let same : h ≡ 0 + h = omega arith in same)
-    ∙ led_answers plan v.play 0 v.walked happens is.walked is.led past (λ k ys f. ap (λ (j : ℕ). answers j past) (let same : 0 + k ≡ k = omega arith in same) ∙ was k ys f) h xs e
+    ∙ led_answers plan v.play 0 v.walked happens is.walked is.led past (answers_of past v.walked was) h xs e
 answered_next plan past v new happens (Closing tasks inside waiting is) was h xs e = sym (is.fresh h xs e)
 answered_next plan past v new happens Stopping was h xs e = was h xs e
 answered_next plan past v new happens (Forking n) was h xs e = was h xs e
@@ -233,7 +237,7 @@ at_of : (r : Reach) (p : ℕ) → place_of r ≡ Some p → r ≡ At p
 at_of (At q) p e = ap At (let same : q ≡ p = cc in same)
 at_of (Done ending) p e = cc
 
-counts_all : (any halted : Bool) → halted ≡ false → not (any && halted) ≡ true
+pub counts_all : (any halted : Bool) → halted ≡ false → not (any && halted) ≡ true
 counts_all true halted e = rw e refl
 counts_all false halted e = refl
 
@@ -331,7 +335,7 @@ order_holds plan past v new happens (Reporting true host item ticket r items end
     (both (stands_at plan (task_on v host r.place) past) (runs (task_on v host r.place) past) (stands_there plan v.play host r.place past is.answers (walks.answered host is.answers is.answered) is.at) (walks.run host r is.there)) refl
 order_holds plan past v new happens (Reporting false host item ticket r items end notified is so) walks = refl
 order_holds plan past v new happens (Turning more told opened given is) walks =
-    led_holds plan v.play 0 v.walked happens is.walked is.led past (λ k xs e. ap (λ (j : ℕ). answers j past) (let same : 0 + k ≡ k = omega arith in same) ∙ walks.answered k xs e)
+    led_holds plan v.play 0 v.walked happens is.walked is.led past (answers_of past v.walked walks.answered)
 order_holds plan past v new happens (Closing tasks inside waiting is) walks = refl
 order_holds plan past v new happens Stopping walks = refl
 order_holds plan past v new happens (Forking n) walks = refl
@@ -353,7 +357,7 @@ walked_holds plan past v new happens (Closing tasks inside waiting is) walks =
 walked_holds plan past v new happens Stopping walks = refl
 walked_holds plan past v new happens (Forking n) walks = refl
 
-first_fresh : (h n k : ℕ) (xs : List AnswerOf) → slice_get (walked_of (first_rows h n)) k ≡ Some xs → [] ≡ xs
+pub first_fresh : (h n k : ℕ) (xs : List AnswerOf) → slice_get (walked_of (first_rows h n)) k ≡ Some xs → [] ≡ xs
 first_fresh h zero k xs e = cc
 first_fresh h (suc n) zero xs e = let same : [] ≡ xs = cc in same
 first_fresh h (suc n) (suc k) xs e = first_fresh (h + 1) n k xs e

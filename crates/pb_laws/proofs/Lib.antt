@@ -9,3 +9,6 @@ pub mod AddingUp
 pub mod InOrder
 pub mod RisingPlaces
 pub mod AllClosed
+pub mod Leaving
+pub mod Ending
+pub mod StayingOut

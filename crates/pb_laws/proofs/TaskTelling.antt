@@ -1,5 +1,5 @@
 -- What tasks tell: a start, a job that goes out, and the report of what came of it.
-use Rattle.std.proofs.Common.{◌≡◌, ℕ, zero, suc, ◌+◌, Bool, true, false, ◌&&◌, not, List, [], ◌∷◌, map, refl, sym, ◌∙◌, ap, subst}
+use Rattle.std.proofs.Common.{◌≡◌, ℕ, zero, suc, ◌+◌, Bool, true, false, ◌&&◌, not, List, [], ◌∷◌, ◌++◌, map, refl, sym, ◌∙◌, ap, subst}
 use Rattle.std.specs.Prelude.{Option, Some, None, option_map, slice_get, slice_index_or, is_some, is_none, nat_lt, nat_eq, if◌then◌else◌}
 use Rattle.std.specs.Option.{option_map_or}
 use Rattle.std.proofs.lemmas.Bool.{eqb-true}
@@ -19,7 +19,7 @@ use Rattle.pb_strategies.specs.declared.strategy.Strategy.{Strategy}
 use Rattle.pb_strategies.specs.declared.strategy.Strategy.TheVariants.{Linear}
 use Rattle.pb_strategies.specs.MayStart.{ViewOf, has_room, has_room_at, suits, may_start_at, may_start_from, is_linear}
 use Rattle.pb_tree.specs.Tree.{TreeOf}
-use Rattle.pb_tree.specs.Walk.{reach}
+use Rattle.pb_tree.specs.Walk.{reach, status_now}
 use Rattle.pb_tree.specs.declared.tree.Reach.TheVariants.{At}
 use Rattle.pb_state.specs.declared.decided.Done.{Done}
 use Rattle.pb_state.specs.declared.decided.TaskEnd.{TaskEnd}
@@ -28,7 +28,7 @@ use Rattle.pb_state.specs.Ends.{answer_of}
 use Rattle.pb_state.specs.Handlers.{notified_by}
 use Rattle.pb_state.specs.Machine.{gifts_at, report_gives, at_row, is_running, open_play, next_at, facts_at, plan_seen, start_at, started_in, sent_in, reported_in, report_decides, decided_by, done_at, done_if, pending_at, may_start_in, may_send_in, may_report_in, may_send_item, sends_running, awaits, awaits_running, is_ticket}
 use Rattle.pb_state.specs.Once.{running_place, place_run_by}
-use Rattle.pb_state.specs.Row.{HostRow, place_of, next_place, ended, pending, task_at, items_after, progressed, sent, sent_running, reported, reported_running}
+use Rattle.pb_state.specs.Row.{HostRow, place_of, next_place, is_active, ended, pending, task_at, items_after, progressed, sent, sent_running, reported, reported_running}
 use Rattle.pb_state.specs.State.{State}
 use Rattle.pb_state.specs.Strategies.{standing, view_of}
 use Rattle.pb_state.proofs.Giving.{map_same}
@@ -38,7 +38,8 @@ use Rattle.pb_state.proofs.Turning.{at_is}
 use Rattle.pb_state.proofs.Walked.{stands_in, same_is}
 use Rattle.pb_state.proofs.Walks.{IsOfPlan}
 use Rattle.pb_laws.specs.History.{HostTask, Happening, Starts, Sends, Reports, at_place, ended_in, ends_if}
-use Rattle.pb_laws.proofs.Telling.{Seen, tasks_of, walked_of, leads, seen, put, task_on, ended_so, left_so, answered_so, IsStarting, Tells, get_map, put_change, runs_places, member_in, row_at, changed_seen, play_there, in_tree, tree_there, next_leads, answers_there, all_known, Starting, Sending, Reporting}
+use Rattle.pb_laws.specs.Laws.{tree_at}
+use Rattle.pb_laws.proofs.Telling.{Seen, tasks_of, active_of, walked_of, leads, seen, put, task_on, ended_so, left_so, answered_so, active_so, IsStarting, Tells, get_map, put_change, put_same, runs_places, member_in, row_at, changed_seen, play_there, in_tree, tree_there, next_leads, answers_there, all_known, Starting, Sending, Reporting}
 
 -- ---- a task that has come to some items
 progressed_running : (inventory : InventoryOf) (play : PlayOf) (p : ℕ) (items : List Item) (row : HostRow) → (progressed inventory play p items row).running ≡ left_so (is_over items) p items
@@ -70,6 +71,17 @@ progressed_answers inventory play p items row = by_over (is_over items)
         ≡ answered_so over row.answers (answer_of (task_at play p items) (notified_by play p (task_at play p items)))
     by_over true = refl
     by_over false = refl
+
+-- whether its host is active then
+progressed_active : (inventory : InventoryOf) (play : PlayOf) (p h : ℕ) (items : List Item) (tree : TreeOf) (rows : List HostRow) (row : HostRow) → slice_get rows h ≡ Some row → row.tree ≡ tree
+    → put (active_of rows) h (is_active (progressed inventory play p items row).status)
+    ≡ active_so (is_over items) (active_of rows) h tree row.answers (answer_of (task_at play p items) (notified_by play p (task_at play p items)))
+progressed_active inventory play p h items tree rows row there same = by_over (is_over items)
+  where
+    by_over : (over : Bool) → put (active_of rows) h (is_active (if over then ended inventory play p items row else record row { running = Some (record { place = p; items = items; out = None }) }).status)
+        ≡ active_so over (active_of rows) h tree row.answers (answer_of (task_at play p items) (notified_by play p (task_at play p items)))
+    by_over true = ap (λ (t : TreeOf). put (active_of rows) h (is_active (status_now t (row.answers ++ answer_of (task_at play p items) (notified_by play p (task_at play p items)) ∷ [])))) same
+    by_over false = put_same (active_of rows) h (is_active row.status) (get_map (λ (r : HostRow). is_active r.status) rows h ∙ ap (option_map (λ (r : HostRow). is_active r.status)) there)
 
 reported_inside : (plan : PlanOf) (play : PlayOf) (outcome : Form) (row : HostRow) → (reported plan play outcome row).in_batch ≡ row.in_batch
 reported_inside plan play outcome row = by_running row.running
@@ -162,15 +174,20 @@ started plan s h p play row items are o may there stands of =
     tells e = rw e (ap (λ (rest : List Happening). Starts (task_on (seen s) h p) ∷ rest) (ends_so (open_play plan s) play (pending_at s h) (items_at (plan_seen plan s) play h (facts_at s h) p) (task_on (seen s) h p) o))
 
     sees : items ≡ items_at (plan_seen plan s) play h (facts_at s h) p → seen (start_at plan s h play p)
-        ≡ record (seen s) { tasks = put (tasks_of s.rows) h (left_so (is_over items) p items); walked = put (walked_of s.rows) h (answered_so (is_over items) row.answers (answer_of (task_at play p items) (notified_by play p (task_at play p items)))) }
+        ≡ record (seen s) { tasks = put (tasks_of s.rows) h (left_so (is_over items) p items); active = active_so (is_over items) (active_of s.rows) h (tree_at plan s.play) row.answers (answer_of (task_at play p items) (notified_by play p (task_at play p items))); walked = put (walked_of s.rows) h (answered_so (is_over items) row.answers (answer_of (task_at play p items) (notified_by play p (task_at play p items)))) }
     sees e =
         rw e
         (changed_seen s (gifts_at plan.inventory play p h (items_at (plan_seen plan s) play h (facts_at s h) p)) h (progressed plan.inventory play p (items_at (plan_seen plan s) play h (facts_at s h) p)) row
         (left_so (is_over (items_at (plan_seen plan s) play h (facts_at s h) p)) p (items_at (plan_seen plan s) play h (facts_at s h) p))
+        (active_so (is_over (items_at (plan_seen plan s) play h (facts_at s h) p)) (active_of s.rows) h (tree_at plan s.play) row.answers
+        (answer_of (task_at play p (items_at (plan_seen plan s) play h (facts_at s h) p)) (notified_by play p (task_at play p (items_at (plan_seen plan s) play h (facts_at s h) p)))))
         (put (walked_of s.rows) h
         (answered_so (is_over (items_at (plan_seen plan s) play h (facts_at s h) p)) row.answers
         (answer_of (task_at play p (items_at (plan_seen plan s) play h (facts_at s h) p)) (notified_by play p (task_at play p (items_at (plan_seen plan s) play h (facts_at s h) p))))))
         there (progressed_running plan.inventory play p (items_at (plan_seen plan s) play h (facts_at s h) p) row)
+        (put_change (λ (r : HostRow). is_active r.status) (progressed plan.inventory play p (items_at (plan_seen plan s) play h (facts_at s h) p)) s.rows h row there
+        ∙ progressed_active plan.inventory play p h (items_at (plan_seen plan s) play h (facts_at s h) p) (tree_at plan s.play) s.rows row there
+        (in_tree play.tree s.rows h row (of play o) there (stands_in (Some p) row stands) ∙ sym (tree_there plan s.play play (play_there plan s play o))))
         (put_change (λ (r : HostRow). r.answers) (progressed plan.inventory play p (items_at (plan_seen plan s) play h (facts_at s h) p)) s.rows h row there
         ∙ ap (put (walked_of s.rows) h) (progressed_answers plan.inventory play p (items_at (plan_seen plan s) play h (facts_at s h) p) row))
         (progressed_inside plan.inventory play p (items_at (plan_seen plan s) play h (facts_at s h) p)) (progressed_waits plan.inventory play p (items_at (plan_seen plan s) play h (facts_at s h) p)))
@@ -220,7 +237,7 @@ sent_tells plan s h item ticket play row r o may there runs free next =
     subst (λ (told : List Happening). Tells plan (seen s) told (seen (sent_in s h.0 ticket play))) (sym (ap (λ (place : Option ℕ). at_place s.play h.0 place (λ task. Sends task item ticket.0 ∷ [])) (place_there s h row r there runs)))
     (subst (λ (new : Seen). Tells plan (seen s) (Sends (task_on (seen s) h.0 r.place) item ticket.0 ∷ []) new)
     (sym (ap (λ (v : Seen). record v { sends = s.sends + 1 })
-    (changed_seen s [] h.0 (sent ticket) row (Some (sent_running ticket r)) (walked_of s.rows) there (ap (option_map (sent_running ticket)) runs) (map_same (λ (x : HostRow). x.answers) (sent ticket) (λ x. refl) s.rows h.0) (λ x. refl) (λ x. refl))))
+    (changed_seen s [] h.0 (sent ticket) row (Some (sent_running ticket r)) (active_of s.rows) (walked_of s.rows) there (ap (option_map (sent_running ticket)) runs) (map_same (λ (x : HostRow). is_active x.status) (sent ticket) (λ x. refl) s.rows h.0) (map_same (λ (x : HostRow). x.answers) (sent ticket) (λ x. refl) s.rows h.0) (λ x. refl) (λ x. refl))))
     (Sending h.0 item ticket r
     (record {
       opened = open_of plan s (may_send_in s h.0 item ticket) (Some play) o may;
@@ -261,6 +278,7 @@ reported_tells plan s r play row q items are o may there runs out next of sound 
       there = task_there s r.host.0 row q there runs;
       out = out;
       next = next;
+      inside = member_in s.rows r.host.0 row there (sound_at s r.host.0 row q (open_of plan s (may_report_in s r) (Some play) o may) sound there runs).1;
       answers = row.answers;
       answered = answers_there s.rows r.host.0 row there;
       at = leads_on (sound_at s r.host.0 row q (open_of plan s (may_report_in s r) (Some play) o may) sound there runs);
@@ -300,16 +318,28 @@ reported_tells plan s r play row q items are o may there runs out next of sound 
         ap (λ (running : Option Running). (option_map_or (reported_running (plan_seen plan s) play r.outcome row) running row).answers) runs
         ∙ progressed_answers (plan_seen plan s).inventory play q.place (items_after (plan_seen plan s) play row.host row.facts r.outcome q) row
 
+    active_after : put (active_of s.rows) r.host.0 (is_active (reported (plan_seen plan s) play r.outcome row).status)
+        ≡ active_so (is_over (items_after (plan_seen plan s) play row.host row.facts r.outcome q)) (active_of s.rows) r.host.0 (tree_at plan s.play) row.answers
+        (answer_of (task_at play q.place (items_after (plan_seen plan s) play row.host row.facts r.outcome q)) (notified_by play q.place (task_at play q.place (items_after (plan_seen plan s) play row.host row.facts r.outcome q))))
+    active_after =
+        ap (λ (running : Option Running). put (active_of s.rows) r.host.0 (is_active (option_map_or (reported_running (plan_seen plan s) play r.outcome row) running row).status)) runs
+        ∙ progressed_active (plan_seen plan s).inventory play q.place r.host.0 (items_after (plan_seen plan s) play row.host row.facts r.outcome q) (tree_at plan s.play) s.rows row there
+        (in_tree play.tree s.rows r.host.0 row (of play o) there (sound_at s r.host.0 row q (open_of plan s (may_report_in s r) (Some play) o may) sound there runs).1
+        ∙ sym (tree_there plan s.play play (play_there plan s play o)))
+
     sees : items ≡ items_after (plan_seen plan s) play row.host row.facts r.outcome q → seen (reported_in plan s r play)
-        ≡ record (seen s) { tasks = put (tasks_of s.rows) r.host.0 (left_so (is_over items) q.place items); walked = put (walked_of s.rows) r.host.0 (answered_so (is_over items) row.answers (answer_of (task_at play q.place items) (notified_by play q.place (task_at play q.place items)))) }
+        ≡ record (seen s) { tasks = put (tasks_of s.rows) r.host.0 (left_so (is_over items) q.place items); active = active_so (is_over items) (active_of s.rows) r.host.0 (tree_at plan s.play) row.answers (answer_of (task_at play q.place items) (notified_by play q.place (task_at play q.place items))); walked = put (walked_of s.rows) r.host.0 (answered_so (is_over items) row.answers (answer_of (task_at play q.place items) (notified_by play q.place (task_at play q.place items)))) }
     sees e =
         rw e
         (changed_seen s (report_gives (plan_seen plan s) play r.outcome r.host.0 s.rows) r.host.0 (reported (plan_seen plan s) play r.outcome) row
         (left_so (is_over (items_after (plan_seen plan s) play row.host row.facts r.outcome q)) q.place (items_after (plan_seen plan s) play row.host row.facts r.outcome q))
+        (active_so (is_over (items_after (plan_seen plan s) play row.host row.facts r.outcome q)) (active_of s.rows) r.host.0 (tree_at plan s.play) row.answers
+        (answer_of (task_at play q.place (items_after (plan_seen plan s) play row.host row.facts r.outcome q)) (notified_by play q.place (task_at play q.place (items_after (plan_seen plan s) play row.host row.facts r.outcome q)))))
         (put (walked_of s.rows) r.host.0
         (answered_so (is_over (items_after (plan_seen plan s) play row.host row.facts r.outcome q)) row.answers
         (answer_of (task_at play q.place (items_after (plan_seen plan s) play row.host row.facts r.outcome q)) (notified_by play q.place (task_at play q.place (items_after (plan_seen plan s) play row.host row.facts r.outcome q))))))
-        there running_after (put_change (λ (x : HostRow). x.answers) (reported (plan_seen plan s) play r.outcome) s.rows r.host.0 row there ∙ ap (put (walked_of s.rows) r.host.0) answers_after)
+        there running_after (put_change (λ (x : HostRow). is_active x.status) (reported (plan_seen plan s) play r.outcome) s.rows r.host.0 row there ∙ active_after)
+        (put_change (λ (x : HostRow). x.answers) (reported (plan_seen plan s) play r.outcome) s.rows r.host.0 row there ∙ ap (put (walked_of s.rows) r.host.0) answers_after)
         (reported_inside (plan_seen plan s) play r.outcome) (reported_waits (plan_seen plan s) play r.outcome))
 
 pub report_tells : (plan : PlanOf) (s : State) (r : Report) (found : Option PlayOf) → open_play plan s ≡ found → option_map_or (may_report_in s r) found false ≡ true → IsOfPlan plan s → IsSound s

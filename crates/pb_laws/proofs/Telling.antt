@@ -15,13 +15,13 @@ use Rattle.pb_strategies.specs.MayStart.{is_linear}
 use Rattle.pb_tree.specs.Answer.{AnswerOf}
 use Rattle.pb_tree.specs.declared.answer.Kind.{Kind}
 use Rattle.pb_tree.specs.Tree.{TreeOf}
-use Rattle.pb_tree.specs.Walk.{reach}
+use Rattle.pb_tree.specs.Walk.{reach, status_now}
 use Rattle.pb_state.specs.declared.decided.TaskEnd.{TaskEnd}
 use Rattle.pb_state.specs.declared.row.Running.{Running}
 use Rattle.pb_state.specs.Batches.{has_later}
 use Rattle.pb_state.specs.Ends.{answer_of}
 use Rattle.pb_state.specs.Machine.{change, given_to, at_row, is_running, first_by, lesser, least_place, open_play, play_behind}
-use Rattle.pb_state.specs.Row.{HostRow, no_tree, place_of, next_place, sent_running}
+use Rattle.pb_state.specs.Row.{HostRow, no_tree, place_of, next_place, is_active, sent_running}
 use Rattle.pb_state.specs.State.{State}
 use Rattle.pb_state.specs.Strategies.{standing}
 use Rattle.pb_state.specs.Turn.{plain_answer}
@@ -42,6 +42,8 @@ pub record Seen : Type 0 where
   pub tasks : List (Option Running)
   pub inside : List Bool
   pub waiting : List Bool
+  -- whether it is active
+  pub active : List Bool
   -- what it answered in the open batch, and in a linear play the place at which the batch is
   pub walked : List (List AnswerOf)
   pub place : Option ℕ
@@ -51,6 +53,9 @@ tasks_of rows = map (λ (row : HostRow). row.running) rows
 
 abbrev pub waiting_of : List HostRow → List Bool
 waiting_of rows = map (λ (row : HostRow). row.waits) rows
+
+abbrev pub active_of : List HostRow → List Bool
+active_of rows = map (λ (row : HostRow). is_active row.status) rows
 
 abbrev pub walked_of : List HostRow → List (List AnswerOf)
 walked_of rows = map (λ (row : HostRow). row.answers) rows
@@ -71,6 +76,7 @@ seen s =
       tasks = tasks_of s.rows;
       inside = batch_in s.rows;
       waiting = waiting_of s.rows;
+      active = active_of s.rows;
       walked = walked_of s.rows;
       place = s.place;
     }
@@ -101,6 +107,11 @@ abbrev pub answered_so : Bool → List AnswerOf → AnswerOf → List AnswerOf
 answered_so true xs answer = xs ++ answer ∷ []
 answered_so false xs answer = xs
 
+-- a host that answered is active or not, by what it answered
+abbrev pub active_so : Bool → List Bool → ℕ → TreeOf → List AnswerOf → AnswerOf → List Bool
+active_so true active host tree xs answer = put active host (is_active (status_now tree (xs ++ answer ∷ [])))
+active_so false active host tree xs answer = active
+
 -- no host of the batch is at a place before the current one
 abbrev pub AreBehind : PlanOf → ℕ → List Bool → List (List AnswerOf) → Option ℕ → Type 0
 AreBehind plan play inside walked place =
@@ -127,6 +138,12 @@ pub data AreGiven : List Happening → Type 0 where
   none_given : AreGiven []
   one_given : (task : HostTask) (kind : Kind) {rest : List Happening} → AreGiven rest → AreGiven (Given task kind ∷ rest)
 
+-- each is given to a host of the batch
+abbrev pub AreInside : List Bool → List Happening → Type 0
+AreInside inside [] = Unit {0}
+AreInside inside (Given task kind ∷ rest) = (is_member inside task.host ≡ true) × AreInside inside rest
+AreInside inside (now ∷ rest) = AreInside inside rest
+
 -- ---- what the events need
 pub record IsOpening (plan : PlanOf) (v : Seen) (n : ℕ) (tasks : List (Option Running)) (inside waiting : List Bool) : Type 0 where
   pub shut : v.is_open ≡ false
@@ -136,6 +153,7 @@ pub record IsOpening (plan : PlanOf) (v : Seen) (n : ℕ) (tasks : List (Option 
   pub behind : AreBehind plan n inside walked place
   pub idle : list_any is_some tasks ≡ false
   pub joins : (h : ℕ) → is_member inside h ≡ true → is_member waiting h ≡ true
+  pub chosen : v.has_more ≡ false → (h : ℕ) → is_member waiting h ≡ true → is_member v.active h ≡ true
   pub how : ((v.has_more ≡ true) × (n ≡ v.play) × (waiting ≡ v.waiting))
       ⊎ ((v.has_more ≡ false) × (v.play ≤ n) × ((h : ℕ) → is_member waiting h ≡ true → selects plan n h ≡ true))
 
@@ -165,6 +183,7 @@ pub record IsReporting (plan : PlanOf) (v : Seen) (host item : ℕ) (ticket : Ti
   pub there : slice_get v.tasks host ≡ Some (Some r)
   pub out : option_map (λ (t : Ticket). t.0) r.out ≡ Some ticket.0
   pub next : next_item r.items ≡ Some item
+  pub inside : is_member v.inside host ≡ true
   pub answers : List AnswerOf
   pub answered : slice_get v.walked host ≡ Some answers
   pub at : leads plan v.play answers ≡ Some r.place
@@ -172,6 +191,11 @@ pub record IsReporting (plan : PlanOf) (v : Seen) (host item : ℕ) (ticket : Ti
 pub record IsTurning (plan : PlanOf) (v : Seen) (told : List Happening) : Type 0 where
   pub walked : List (List AnswerOf)
   pub led : AreLed plan v.play 0 v.walked told walked
+  pub only : AreInside v.inside told
+  pub active : List Bool
+  pub still : (h : ℕ) → is_member v.inside h ≡ false → is_member active h ≡ is_member v.active h
+  pub shows : (h : ℕ) (xs : List AnswerOf) → is_member v.inside h ≡ true → is_member active h ≡ true → slice_get walked h ≡ Some xs
+      → ((slice_get v.walked h ≡ Some xs) × (is_member v.active h ≡ true)) ⊎ (is_active (status_now (tree_at plan v.play) xs) ≡ true)
   pub place : Option ℕ
   pub behind : AreBehind plan v.play v.inside walked place
 
@@ -190,19 +214,19 @@ pub record IsClosing (plan : PlanOf) (v : Seen) (tasks : List (Option Running)) 
 pub data Tells (plan : PlanOf) (v : Seen) : List Happening → Seen → Type 0 where
   Opening : (n : ℕ) (more : Bool) (tasks : List (Option Running)) (inside waiting : List Bool) → (is : IsOpening plan v n tasks inside waiting)
       → Tells plan v (Opens n inside ∷ [])
-      (record { play = n; is_open = true; has_more = more; forks = v.forks; sends = v.sends; stopped = v.stopped; tasks = tasks; inside = inside; waiting = waiting; walked = is.walked; place = is.place })
+      (record { play = n; is_open = true; has_more = more; forks = v.forks; sends = v.sends; stopped = v.stopped; tasks = tasks; inside = inside; waiting = waiting; active = v.active; walked = is.walked; place = is.place })
   Starting : (over : Bool) (host place : ℕ) (items : List Item) (end : TaskEnd) (notified : List ℕ) → (is : IsStarting plan v host place) → is_over items ≡ over
       → Tells plan v (Starts (task_on v host place) ∷ ended_so over (task_on v host place) end notified)
-      (record v { tasks = put v.tasks host (left_so over place items); walked = put v.walked host (answered_so over is.answers (answer_of end notified)) })
+      (record v { tasks = put v.tasks host (left_so over place items); active = active_so over v.active host (tree_at plan v.play) is.answers (answer_of end notified); walked = put v.walked host (answered_so over is.answers (answer_of end notified)) })
   Sending : (host item : ℕ) (ticket : Ticket) (r : Running) → IsSending v host item ticket r
       → Tells plan v (Sends (task_on v host r.place) item ticket.0 ∷ []) (record v { tasks = put v.tasks host (Some (sent_running ticket r)); sends = v.sends + 1 })
   Reporting : (over : Bool) (host item : ℕ) (ticket : Ticket) (r : Running) (items : List Item) (end : TaskEnd) (notified : List ℕ) → (is : IsReporting plan v host item ticket r) → is_over items ≡ over
       → Tells plan v (Reports host item ticket.0 ∷ ended_so over (task_on v host r.place) end notified)
-      (record v { tasks = put v.tasks host (left_so over r.place items); walked = put v.walked host (answered_so over is.answers (answer_of end notified)) })
-  Turning : (more : Bool) (told : List Happening) → v.is_open ≡ true → AreGiven told → (is : IsTurning plan v told) → Tells plan v told (record v { has_more = more; walked = is.walked; place = is.place })
+      (record v { tasks = put v.tasks host (left_so over r.place items); active = active_so over v.active host (tree_at plan v.play) is.answers (answer_of end notified); walked = put v.walked host (answered_so over is.answers (answer_of end notified)) })
+  Turning : (more : Bool) (told : List Happening) → v.is_open ≡ true → AreGiven told → (is : IsTurning plan v told) → Tells plan v told (record v { has_more = more; active = is.active; walked = is.walked; place = is.place })
   Closing : (tasks : List (Option Running)) (inside waiting : List Bool) → (is : IsClosing plan v tasks inside waiting)
       → Tells plan v (Closes v.play ∷ [])
-      (record { play = play_behind v.has_more v.play; is_open = false; has_more = v.has_more; forks = v.forks; sends = v.sends; stopped = v.stopped; tasks = tasks; inside = inside; waiting = waiting; walked = is.walked; place = v.place })
+      (record { play = play_behind v.has_more v.play; is_open = false; has_more = v.has_more; forks = v.forks; sends = v.sends; stopped = v.stopped; tasks = tasks; inside = inside; waiting = waiting; active = v.active; walked = is.walked; place = v.place })
   Stopping : Tells plan v (Stops ∷ []) (record v { stopped = true })
   Forking : (n : ℕ) → Tells plan v (MayRun n ∷ []) (record v { forks = n })
 
@@ -217,6 +241,11 @@ pub put_change : {A : Type 0} (of : HostRow → A) (f : HostRow → HostRow) (ro
 put_change of f [] h row e = cc
 put_change of f (first ∷ rows) zero row e = let same : first ≡ row = cc in ap (λ (r : HostRow). of (f r) ∷ map of rows) same
 put_change of f (first ∷ rows) (suc h) row e = rw (change_on first rows h f) (ap (λ rest. of first ∷ rest) (put_change of f rows h row e))
+
+pub put_same : {A : Type 0} (xs : List A) (h : ℕ) (x : A) → slice_get xs h ≡ Some x → put xs h x ≡ xs
+put_same [] h x e = cc
+put_same {A = A} (y ∷ ys) zero x e = let same : y ≡ x = cc in ap (λ (z : A). z ∷ ys) (sym same)
+put_same {A = A} (y ∷ ys) (suc h) x e = ap (λ (rest : List A). y ∷ rest) (put_same ys h x e)
 
 pub map_kept : {A : Type 0} (of : HostRow → A) (f : HostRow → HostRow) → ((row : HostRow) → of (f row) ≡ of row) → (rows : List HostRow) → map of (map f rows) ≡ map of rows
 map_kept of f same [] = refl
@@ -243,18 +272,19 @@ row_at test rows h e = by_found (slice_get rows h) refl e
     by_found (Some row) f t = (row, f, t)
 
 -- one row changed, and then what is given to other hosts
-pub changed_seen : (s : State) (gifts : List Gift) (h : ℕ) (f : HostRow → HostRow) (row : HostRow) (task : Option Running) (walked : List (List AnswerOf)) → slice_get s.rows h ≡ Some row → (f row).running ≡ task
-    → walked_of (change s.rows h f) ≡ walked → ((r : HostRow) → (f r).in_batch ≡ r.in_batch) → ((r : HostRow) → (f r).waits ≡ r.waits)
-    → seen (record s { rows = given_to gifts (change s.rows h f) }) ≡ record (seen s) { tasks = put (tasks_of s.rows) h task; walked = walked }
-changed_seen s gifts h f row task walked there runs walks inside waits =
+pub changed_seen : (s : State) (gifts : List Gift) (h : ℕ) (f : HostRow → HostRow) (row : HostRow) (task : Option Running) (active : List Bool) (walked : List (List AnswerOf)) → slice_get s.rows h ≡ Some row → (f row).running ≡ task
+    → active_of (change s.rows h f) ≡ active → walked_of (change s.rows h f) ≡ walked → ((r : HostRow) → (f r).in_batch ≡ r.in_batch) → ((r : HostRow) → (f r).waits ≡ r.waits)
+    → seen (record s { rows = given_to gifts (change s.rows h f) }) ≡ record (seen s) { tasks = put (tasks_of s.rows) h task; active = active; walked = walked }
+changed_seen s gifts h f row task active walked there runs acts walks inside waits =
     let tasks : tasks_of (given_to gifts (change s.rows h f)) ≡ put (tasks_of s.rows) h task =
     given_map (λ (r : HostRow). r.running) (λ gift r. refl) gifts (change s.rows h f) ∙ put_change (λ (r : HostRow). r.running) f s.rows h row there ∙ ap (put (tasks_of s.rows) h) runs in
     let batch : batch_in (given_to gifts (change s.rows h f)) ≡ batch_in s.rows =
     given_map (λ (r : HostRow). r.in_batch) (λ gift r. refl) gifts (change s.rows h f) ∙ map_same (λ (r : HostRow). r.in_batch) f inside s.rows h in
     let waiting : waiting_of (given_to gifts (change s.rows h f)) ≡ waiting_of s.rows =
     given_map (λ (r : HostRow). r.waits) (λ gift r. refl) gifts (change s.rows h f) ∙ map_same (λ (r : HostRow). r.waits) f waits s.rows h in
+    let acted : active_of (given_to gifts (change s.rows h f)) ≡ active = given_map (λ (r : HostRow). is_active r.status) (λ gift r. refl) gifts (change s.rows h f) ∙ acts in
     let went : walked_of (given_to gifts (change s.rows h f)) ≡ walked = given_map (λ (r : HostRow). r.answers) (λ gift r. refl) gifts (change s.rows h f) ∙ walks in
-    rw (tasks, batch, waiting, went) refl
+    rw (tasks, batch, waiting, acted, went) refl
 
 -- ---- the play that is open
 pub play_there : (plan : PlanOf) (s : State) (play : PlayOf) → open_play plan s ≡ Some play → slice_get plan.plays s.play ≡ Some play

@@ -1,4 +1,3 @@
 pub mod History
 pub mod Laws
-pub mod Open
 pub mod Rows

@@ -1,19 +1,20 @@
 -- Worked histories: of each law one that keeps it and one that breaks it; and what the runs of two small plans tell.
-use Rattle.std.specs.Prelude.{◌≡◌, ℕ, Bool, true, false, List, [], ◌∷◌, codes, None, refl}
+use Rattle.std.specs.Prelude.{◌≡◌, ℕ, pos, Bool, true, false, List, [], ◌∷◌, codes, None, refl}
+use Rattle.pb_outcome.specs.declared.outcome.Form.TheVariants.{Ran}
 use Rattle.pb_outcome.specs.declared.gather.TaskResult.{TaskResult}
 use Rattle.pb_plan.specs.Plan.{PlanOf, PlayOf, bare_play, bare_plan, bare_tree}
 use Rattle.pb_recap.specs.Recap.{recap}
-use Rattle.pb_state.specs.BatchRows.{start, send, went}
-use Rattle.pb_state.specs.BlockRows.{runs, refuses}
+use Rattle.pb_state.specs.BatchRows.{start, send, went, is_legal}
+use Rattle.pb_state.specs.BlockRows.{runs, refuses, says, last}
 use Rattle.pb_state.specs.FactRows.{on_facts}
 use Rattle.pb_state.specs.declared.decided.TaskEnd.{TaskEnd}
 use Rattle.pb_state.specs.declared.event.Event.{Event}
-use Rattle.pb_state.specs.declared.event.Event.TheVariants.{Open, Turn, Close, Stop, Forks}
+use Rattle.pb_state.specs.declared.event.Event.TheVariants.{Open, Report as Reported, Turn, Close, Stop, Forks}
 use Rattle.pb_state.specs.declared.row.Counts.{Counts}
 use Rattle.pb_tree.specs.declared.answer.Kind.TheVariants.{Halted}
+use Rattle.pb_tree.specs.Tree.{Nothing, Task, Block, Flush}
 use Rattle.pb_laws.specs.History.{HostTask, Happening, MayRun, Opens, Starts, Sends, Reports, Ends, Given, Closes, Stops, history}
-use Rattle.pb_laws.specs.Laws.{holds_from, so_far, own_hosts, within_forks, in_order, have_walked, all_closed, jobs_in_order, all_answered, add_up, status_tells}
-use Rattle.pb_laws.specs.Open.{out_is_out}
+use Rattle.pb_laws.specs.Laws.{holds_from, so_far, own_hosts, within_forks, in_order, out_is_out, have_walked, all_closed, jobs_in_order, all_answered, add_up, status_tells}
 
 -- two hosts, of which the first alone is one of the first play's, and both are of the second; each play has one command, with a throttle of one
 abbrev one_task : List Bool → PlayOf
@@ -121,7 +122,7 @@ leaves_one_out = refl
 status_of_a_failure : status_tells (none_yet ∷ record none_yet { failed = 1 } ∷ []) ≡ true
 status_of_a_failure = refl
 
--- ---- laws that aren't proved yet
+-- ---- order, and who is out
 abbrev open_both : List Happening
 open_both = Opens 1 (true ∷ true ∷ []) ∷ []
 
@@ -146,6 +147,56 @@ starts_though_lost = refl
 others_go_on : holds_from (out_is_out two_plays) [] (Starts (on 0 0) ∷ Ends (on 0 0) badly [] ∷ Starts (on 1 1) ∷ []) ≡ true
 others_go_on = refl
 
+-- a block of which places 0 and 1 are the body, and 2 and 3 the always part; no host of the play may fail
+abbrev always_part : PlanOf
+always_part =
+    bare_plan (codes "a" ∷ codes "b" ∷ [])
+    (record (bare_play (codes "all") (record { nodes = Flush (Block (Task (Task Nothing)) Nothing (Task (Task Nothing)) last); handlers = 0; force_handlers = false }) (runs ∷ says ∷ says ∷ says ∷ []) (true ∷ true ∷ []))
+    { max_fail_percentage = 0 }
+    ∷ [])
+
+abbrev at_place : ℕ → HostTask
+at_place place = record { play = 0; host = 0; place = place }
+
+always_runs : holds_from (out_is_out always_part) [] (Starts (at_place 0) ∷ Ends (at_place 0) badly [] ∷ Starts (at_place 2) ∷ Ends (at_place 2) well [] ∷ Starts (at_place 3) ∷ []) ≡ true
+always_runs = refl
+
+rest_of_body : holds_from (out_is_out always_part) [] (Starts (at_place 0) ∷ Ends (at_place 0) badly [] ∷ Starts (at_place 1) ∷ []) ≡ false
+rest_of_body = refl
+
+always_though_lost : holds_from (out_is_out always_part) [] (Starts (at_place 0) ∷ Ends (at_place 0) lost [] ∷ Starts (at_place 2) ∷ []) ≡ false
+always_though_lost = refl
+
+rest_though_halted : holds_from (out_is_out always_part) [] (Given (at_place 0) Halted ∷ Starts (at_place 1) ∷ []) ≡ false
+rest_though_halted = refl
+
+-- behind a failure in an always part the rest of that isn't walked, and a halt there changes nothing where the host was halted before
+rest_of_always : holds_from (out_is_out always_part) [] (Starts (at_place 0) ∷ Ends (at_place 0) badly [] ∷ Starts (at_place 2) ∷ Ends (at_place 2) badly [] ∷ Starts (at_place 3) ∷ []) ≡ false
+rest_of_always = refl
+
+halted_again : holds_from (out_is_out always_part) [] (Given (at_place 0) Halted ∷ Starts (at_place 2) ∷ Ends (at_place 2) well [] ∷ Given (at_place 3) Halted ∷ Starts (at_place 3) ∷ []) ≡ true
+halted_again = refl
+
+-- the same where the body has a rescue, which is place 2
+abbrev rescued : PlanOf
+rescued = bare_plan (codes "a" ∷ []) (bare_play (codes "all") (record { nodes = Flush (Block (Task (Task Nothing)) (Task Nothing) Nothing last); handlers = 0; force_handlers = false }) (runs ∷ runs ∷ says ∷ []) (true ∷ []) ∷ [])
+
+rescue_goes_on : holds_from (out_is_out rescued) [] (Starts (at_place 0) ∷ Ends (at_place 0) badly [] ∷ Starts (at_place 2) ∷ []) ≡ true
+rescue_goes_on = refl
+
+rescue_fails : holds_from (out_is_out rescued) [] (Starts (at_place 0) ∷ Ends (at_place 0) badly [] ∷ Starts (at_place 2) ∷ Ends (at_place 2) badly [] ∷ Starts (record { play = 1; host = 0; place = 0 }) ∷ []) ≡ false
+rescue_fails = refl
+
+-- a task, and a handler at places 0 and 2
+abbrev handled : Bool → PlanOf
+handled forces = bare_plan (codes "a" ∷ []) (bare_play (codes "all") (record { nodes = Flush (Task (Flush Nothing)); handlers = 1; force_handlers = forces }) (says ∷ runs ∷ says ∷ []) (true ∷ []) ∷ [])
+
+forced_runs : holds_from (out_is_out (handled true)) [] (Starts (at_place 1) ∷ Ends (at_place 1) badly [] ∷ Starts (at_place 2) ∷ []) ≡ true
+forced_runs = refl
+
+not_forced : holds_from (out_is_out (handled false)) [] (Starts (at_place 1) ∷ Ends (at_place 1) badly [] ∷ Starts (at_place 2) ∷ []) ≡ false
+not_forced = refl
+
 left_open : all_closed two_plays (so_far [] (MayRun 5 ∷ open_both)) ≡ false
 left_open = refl
 
@@ -169,3 +220,14 @@ tells = refl
 counts_it : recap hello 256 trail ≡ record none_yet { failed = 1 } ∷ record none_yet { ok = 1; changed = 1 } ∷ []
 unfolding on_facts
 counts_it = refl
+
+-- a host is halted at each turn while too many have failed, also in an always part, which it goes through all the same
+abbrev fails : Event
+fails = Reported (record { ticket = record { 0 = 0 }; host = record { 0 = 0 }; item = 0; outcome = Ran (pos 1) [] [] })
+
+abbrev halted_trail : List Event
+halted_trail = Open ∷ start 0 ∷ send 0 0 ∷ start 1 ∷ send 1 1 ∷ fails ∷ went 1 1 ∷ Turn ∷ start 0 ∷ start 1 ∷ Turn ∷ start 0 ∷ start 1 ∷ Turn ∷ Close ∷ []
+
+halted_twice : (is_legal always_part halted_trail ≡ true) × (holds_from (out_is_out always_part) [] (history always_part 5 256 halted_trail) ≡ true)
+unfolding on_facts
+halted_twice = (refl, refl)

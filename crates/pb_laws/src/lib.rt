@@ -1,11 +1,11 @@
 //! Laws of runs: what an operator may rely on in every run of every plan.
 //!
 //! For the layers above: each function here does nothing, and its contract is a law of all legal trails, in an operator's words: own
-//! hosts, forks, order, that everything was done, jobs, and that the recap adds up (docs/THEOREM.md has them on one page). They are said over what happens in
+//! hosts, forks, order, who is out, that everything was done, jobs, and that the recap adds up (docs/THEOREM.md has them on one page). They are said over what happens in
 //! a run (`history`), which is read off a plan and a trail.
 #![tactic(auto)]
 
-ghost use Rattle.pb_laws.specs.Laws.{Always, AtTheEnd, own_hosts, within_forks, in_order, places_rise, have_walked, all_closed, jobs_in_order, all_answered, RecapAddsUp};
+ghost use Rattle.pb_laws.specs.Laws.{Always, AtTheEnd, own_hosts, within_forks, in_order, places_rise, out_is_out, have_walked, all_closed, jobs_in_order, all_answered, RecapAddsUp};
 
 /// A host starts a task of a play only if the play's pattern and the limit select it, and only in a batch that it is in; and no host is in
 /// two batches of a play.
@@ -23,6 +23,12 @@ pub fn hosts_run_within_forks()
 pub fn hosts_keep_order()
     ensures order { Always in_order }
     ensures rise { Always places_rise }
+{}
+
+/// A host that couldn't be reached starts nothing more; one that failed where no rescue catches that, or that was halted, starts nothing more but the
+/// always parts round that place and the handlers that are forced, unless one of these ends the play for it.
+pub fn hosts_that_are_out_stay_out()
+    ensures { Always out_is_out }
 {}
 
 /// Where a batch closes each of its hosts has walked to its end; and once a run is finished that wasn't stopped, and in which some host may run, each
