@@ -6,3 +6,4 @@ pub mod Unnamed
 pub mod Alike
 pub mod Stored
 pub mod OwnItems
+pub mod Told

@@ -225,7 +225,7 @@ unfolding items_of
 items_own word some start magic e same = let own = unread word start e in by_loop word some start magic own same start.task.looped own.looped
 
 -- a word with a letter isn't the empty one
-some_letter : (word : List ℕ) → 0 < length word → bytes_eq [] word ≡ false
+pub some_letter : (word : List ℕ) → 0 < length word → bytes_eq [] word ≡ false
 some_letter [] lt = absurd (omega (arith, lt))
 some_letter (w ∷ ws) lt = refl
 
@@ -235,11 +235,3 @@ pub items_same : (word : List ℕ) → 0 < length word → (task : Task) (condit
     items_of (start_from task conditions delegate_to program layers magic) ≡ items_of (start_from task conditions delegate_to program layers other)
 items_same word lt task conditions delegate_to layers e program magic other same =
     items_own word (some_letter word lt) (start_from task conditions delegate_to program layers magic) other e same
-
-pub told_same : (word : List ℕ) → 0 < length word → (task : Task) (conditions : List Tree) (delegate_to : Option (List ℕ)) (layers : List Map) → may_read word task conditions delegate_to layers ≡ false →
-    (magic other variable : Map) (register : Option (List ℕ)) (result : ItemResult) → SameBut word magic other →
-    settled (sees layers magic variable) register task.changed_when task.failed_when result ≡ settled (sees layers other variable) register task.changed_when task.failed_when result
-told_same word lt task conditions delegate_to layers e magic other variable register result same =
-    let own = unread word (start_from task conditions delegate_to false layers magic) e in
-    settled_own word (sees layers magic variable) (sees layers other variable)
-    (λ seen. apart_seen word (some_letter word lt) (start_from task conditions delegate_to false layers magic) other variable seen own same) register task.changed_when task.failed_when own.changed own.failed result

@@ -1,5 +1,6 @@
 pub mod Named
 pub mod Mentions
 pub mod Apart
+pub mod Told
 pub mod Reach
 pub mod Rows

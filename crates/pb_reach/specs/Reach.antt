@@ -1,5 +1,6 @@
--- Whether a name can be looked up while the items of a task are read, by what the task has and by the variables that it sees: a test that may say so
--- of a name that is never looked up, but never says of one that is looked up that it isn't.
+-- Whether a name can be looked up while the items of a task are read, or while the task says of a result whether it changed something or failed, by what
+-- the task has and by the variables that it sees: a test that may say so of a name that is never looked up, but never says of one that is looked up that
+-- it isn't.
 use Rattle.std.specs.Prelude.{ℕ, ◌+◌, Bool, false, not, ◌&&◌, ◌||◌, nat_eq, List, [], ◌∷◌, Option, length}
 use Rattle.std.specs.Option.{option_map_or}
 use Rattle.pb_value.specs.Datum.{items_of, members_of}
@@ -14,6 +15,7 @@ use Rattle.pb_play.specs.declared.task.Task.{Task}
 use Rattle.pb_items.specs.Items.{StartOf}
 use Rattle.pb_reach.specs.Named.{in_tree, in_trees}
 use Rattle.pb_reach.specs.Mentions.{has_inside, mentions, items_mention, members_mention}
+use Rattle.pb_reach.specs.Told.{tells}
 
 abbrev pub words_mention : List ℕ → CommandWords → Bool
 words_mention word (Line line) = has_inside word line
@@ -36,10 +38,13 @@ loop_mentions word looped = option_map_or (λ (l : Loop). mentions word l.over) 
 abbrev pub conditions_name : List ℕ → Option (List Tree) → Bool
 conditions_name word conditions = option_map_or (λ (cs : List Tree). in_trees word (trees_of cs)) conditions false
 
+-- the conditions by which a task says of a result whether it changed something, and whether it failed
+abbrev pub told_names : List ℕ → Task → Bool
+told_names word task = conditions_name word task.changed_when || conditions_name word task.failed_when
+
 -- a task itself; its variables are a layer, and its conditions are among those of its place
 abbrev pub task_mentions : List ℕ → Task → Bool
-task_mentions word task =
-    module_mentions word task.module || loop_mentions word task.looped || (conditions_name word task.changed_when || conditions_name word task.failed_when)
+task_mentions word task = module_mentions word task.module || loop_mentions word task.looped || told_names word task
 
 abbrev pub delegate_mentions : List ℕ → Option (List ℕ) → Bool
 delegate_mentions word to = option_map_or (has_inside word) to false
@@ -56,6 +61,10 @@ layers_mention word layers = not (nat_eq (length layers) 11) || maps_mention wor
 abbrev pub may_read : List ℕ → Task → List Tree → Option (List ℕ) → List Map → Bool
 may_read word task conditions delegate_to layers =
     (task_mentions word task || in_trees word (trees_of conditions)) || (delegate_mentions word delegate_to || layers_mention word layers)
+
+-- of a result neither the module nor the loop is read, and where the task says nothing of it, nothing at all
+abbrev pub may_read_of_result : List ℕ → Task → List Map → Bool
+may_read_of_result word task layers = tells task && (told_names word task || layers_mention word layers)
 
 -- one of some maps
 abbrev pub each_mentions : List ℕ → List Map → Bool

@@ -1,13 +1,14 @@
 -- Worked examples: each is proved by computing both sides.
-use Rattle.std.specs.Prelude.{◌≡◌, true, false, [], ◌∷◌, None, codes, refl}
+use Rattle.std.specs.Prelude.{◌≡◌, ℕ, true, false, List, [], ◌∷◌, Some, None, codes, refl}
 use Rattle.pb_value.specs.Datum.{text, list, dict, items_of, members_of}
 use Rattle.pb_expr_syntax.specs.Tree.{Name, Member, Text}
 use Rattle.pb_layers.specs.Scope.{layers}
 use Rattle.pb_play.specs.declared.modules.Module.TheVariants.{Debug}
+use Rattle.pb_play.specs.declared.task.Task.{Task}
 use Rattle.pb_play.specs.Tasks.{plain_task}
 use Rattle.pb_reach.specs.Mentions.{has_inside, mentions}
 use Rattle.pb_reach.specs.Named.{in_tree}
-use Rattle.pb_reach.specs.Reach.{may_read}
+use Rattle.pb_reach.specs.Reach.{may_read, may_read_of_result}
 
 -- the bytes are searched, whatever they mean
 in_front : has_inside (codes "groups") (codes "groups.web") ≡ true
@@ -42,3 +43,32 @@ by_a_variable = refl
 
 by_a_fact : may_read (codes "x") (plain_task (codes "t") [] (Debug (text (codes "{{ y }}")))) [] None (layers [] [] [] [] [] [] [] [] ((codes "y", text (codes "{{ x }}")) ∷ []) [] []) ≡ false
 by_a_fact = refl
+
+-- of a result a task may read what its own two conditions and its variables name, and not what its module does
+abbrev shows_x : Task
+shows_x = plain_task (codes "t") [] (Debug (text (codes "{{ x }}")))
+
+abbrev changed_by : List ℕ → Task
+changed_by name = record shows_x { changed_when = Some (Name name ∷ []) }
+
+abbrev failed_by : List ℕ → Task
+failed_by name = record shows_x { failed_when = Some (Name name ∷ []) }
+
+by_its_module : may_read (codes "x") (changed_by (codes "r")) [] None (layers [] [] [] [] [] [] [] [] [] [] []) ≡ true
+by_its_module = refl
+
+not_of_a_result : may_read_of_result (codes "x") (changed_by (codes "r")) (layers [] [] [] [] [] [] [] [] [] [] []) ≡ false
+not_of_a_result = refl
+
+by_changed_when : may_read_of_result (codes "x") (changed_by (codes "x")) (layers [] [] [] [] [] [] [] [] [] [] []) ≡ true
+by_changed_when = refl
+
+by_failed_when : may_read_of_result (codes "x") (failed_by (codes "x")) (layers [] [] [] [] [] [] [] [] [] [] []) ≡ true
+by_failed_when = refl
+
+of_a_result_by_a_variable : may_read_of_result (codes "x") (changed_by (codes "y")) (layers [] [] [] [] ((codes "y", text (codes "{{ x }}")) ∷ []) [] [] [] [] [] []) ≡ true
+of_a_result_by_a_variable = refl
+
+-- a task that has neither says nothing of a result, and reads nothing, whatever its variables name
+says_nothing : may_read_of_result (codes "x") shows_x (layers [] [] [] [] ((codes "y", text (codes "{{ x }}")) ∷ []) [] [] [] [] [] []) ≡ false
+says_nothing = refl

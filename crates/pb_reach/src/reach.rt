@@ -7,7 +7,8 @@ ghost use Rattle.pb_conditions.specs.Settled.{sees, settled};
 ghost use Rattle.pb_outcome.specs.declared.gather.ItemResult.{ItemResult};
 ghost use Rattle.pb_items.specs.Items.{items_of};
 ghost use Rattle.pb_reach.specs.Apart.{SameBut};
-ghost use Rattle.pb_reach.specs.Reach.{words_mention, module_mentions, loop_mentions, conditions_name, task_mentions, delegate_mentions, each_mentions, layers_mention, may_read, start_from};
+ghost use Rattle.pb_reach.specs.Reach.{words_mention, module_mentions, loop_mentions, conditions_name, told_names, task_mentions, delegate_mentions, each_mentions, layers_mention, may_read, may_read_of_result, start_from};
+ghost use Rattle.pb_reach.specs.Told.{tells, LeavesResults};
 
 use crate::exprs::{has_name, some_names};
 use crate::texts::has_inside;
@@ -73,12 +74,18 @@ fn conditions_name(word: &str, conditions: &Option<Items<Expr>>) -> bool
     }
 }
 
+fn told_names(word: &str, task: &Task) -> bool
+    ensures { result ≡ told_names word.now task.now }
+{
+    conditions_name(word, &task.changed_when) || conditions_name(word, &task.failed_when)
+}
+
 fn task_mentions(word: &str, task: &Task) -> bool
     ensures { result ≡ task_mentions word.now task.now }
 {
     module_mentions(word, &task.module)
         || loop_mentions(word, &task.looped)
-        || (conditions_name(word, &task.changed_when) || conditions_name(word, &task.failed_when))
+        || told_names(word, task)
 }
 
 fn delegate_mentions(word: &str, delegate_to: Option<&Text>) -> bool
@@ -119,7 +126,7 @@ fn layers_mention(word: &str, layers: &Layers) -> bool
     some_mention(word, &maps)
 }
 
-/// Whether a name can be looked up while the items of a task are read, or what the task says of a result.
+/// Whether a name can be looked up while the items of a task are read.
 ///
 /// Where it can't, it doesn't matter what stands under it among the magic variables (Ansible's documentation, "Special variables"). It may
 /// be said of a name that is never looked up that it can be.
@@ -137,11 +144,6 @@ pub fn may_read(
     ensures items { result ≡ false → (program : Bool) (magic other : Map) → SameBut word.now magic other →
         items_of (start_from task.now conditions.now (option_copied delegate_to.entry) program layers.now magic)
         ≡ items_of (start_from task.now conditions.now (option_copied delegate_to.entry) program layers.now other) }
-
-    // And it says the same of each result.
-    ensures told { result ≡ false → (magic other variable : Map) (item : ItemResult) → SameBut word.now magic other →
-        settled (sees layers.now magic variable) task.now.register task.now.changed_when task.now.failed_when item
-        ≡ settled (sees layers.now other variable) task.now.register task.now.changed_when task.now.failed_when item }
 {
     reads(word, task, conditions, delegate_to, layers)
 }
@@ -157,4 +159,43 @@ fn reads(
 {
     (task_mentions(word, task) || some_names(word, conditions))
         || (delegate_mentions(word, delegate_to) || layers_mention(word, layers))
+}
+
+/// Whether a task says itself of a result whether it changed something, or whether it failed. See Ansible's documentation, "Error handling in
+/// playbooks".
+pub fn tells(task: &Task) -> bool
+    ensures value { result ≡ tells task.now }
+
+    // A task that says nothing leaves each result as it came back, whatever it sees.
+    ensures silent { result ≡ false → LeavesResults task.now }
+{
+    has_either(task)
+}
+
+fn has_either(task: &Task) -> bool
+    ensures { result ≡ tells task.now }
+{
+    task.changed_when.is_some() || task.failed_when.is_some()
+}
+
+/// Whether a name can be looked up while a task says of a result whether it changed something or failed: its module and its loop aren't searched, and
+/// where it says nothing, nothing is.
+///
+/// It may be said of a name that is never looked up that it can be.
+pub fn may_read_of_result(word: &str, task: &Task, layers: &Layers) -> bool
+    requires { 0 < length word.now }
+    ensures value { result ≡ may_read_of_result word.now task.now layers.now }
+
+    // A task that doesn't read the name says the same of each result whatever stands under it.
+    ensures told { result ≡ false → (magic other variable : Map) (item : ItemResult) → SameBut word.now magic other →
+        settled (sees layers.now magic variable) task.now.register task.now.changed_when task.now.failed_when item
+        ≡ settled (sees layers.now other variable) task.now.register task.now.changed_when task.now.failed_when item }
+{
+    reads_of_result(word, task, layers)
+}
+
+fn reads_of_result(word: &str, task: &Task, layers: &Layers) -> bool
+    ensures { result ≡ may_read_of_result word.now task.now layers.now }
+{
+    has_either(task) && (told_names(word, task) || layers_mention(word, layers))
 }
