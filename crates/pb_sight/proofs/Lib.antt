@@ -3,3 +3,4 @@ pub mod ForOthers
 pub mod Layered
 pub mod ReadHosts
 pub mod Taught
+pub mod Untold

@@ -19,7 +19,7 @@ use pb_ids::HostNo;
 use pb_layers::layers::Layers;
 use pb_places::Place;
 use pb_plan::{Plan, PlanPlay};
-use pb_reach::reach::may_read;
+use pb_reach::reach::{may_read, may_read_of_result, tells};
 use pb_value::val::Dict;
 use pb_variables::hostvars::{hosts_magic, hostvars};
 use std::alloc::{AllocError, Global};
@@ -32,12 +32,10 @@ pub fn hosts_known(alloc: Global, plan: &Plan, learnt: &[&Facts]) -> Result<Dict
     hosts_magic(alloc, hosts)
 }
 
-/// Whether the task at a place that sees these layers may look `hostvars` up.
-fn reads_hosts(place: &Place, layers: &Layers) -> bool
-    ensures items { result ≡ false → (program : Bool) (one other : Map) → SameBut (codes "hostvars") one other →
+/// Whether the items of the task at a place that sees these layers may look `hostvars` up.
+fn items_read(place: &Place, layers: &Layers) -> bool
+    ensures { result ≡ false → (program : Bool) (one other : Map) → SameBut (codes "hostvars") one other →
         items_of (start_with program place.now layers.now one) ≡ items_of (start_with program place.now layers.now other) }
-    ensures told { result ≡ false → (program : Bool) (one other : Map) (value : Option Datum) (item : ItemResult) → SameBut (codes "hostvars") one other →
-        settled_item (start_with program place.now layers.now one) value item ≡ settled_item (start_with program place.now layers.now other) value item }
 {
     may_read(
         "hostvars",
@@ -48,8 +46,8 @@ fn reads_hosts(place: &Place, layers: &Layers) -> bool
     )
 }
 
-/// Whether the task at a place may look `hostvars` up on a host that has learnt this.
-fn task_reads(
+/// Whether the items of the task at a place may look `hostvars` up on a host that has learnt this.
+fn start_reads(
     alloc: Global,
     plan: &Seen,
     play: &PlanPlay,
@@ -58,17 +56,16 @@ fn task_reads(
     place: &Place,
 ) -> Result<bool, AllocError>
     requires { host.0 < length plan.now.inventory.hosts }
-    ensures items { IfOk result (λ reads. reads ≡ false → ItemsUnread plan.now play.now host.0 facts.now (Some place.now)) }
-    ensures told { IfOk result (λ reads. reads ≡ false → ToldUnread plan.now play.now host.0 facts.now (Some place.now)) }
+    ensures { IfOk result (λ reads. reads ≡ false → ItemsUnread plan.now play.now host.0 facts.now (Some place.now)) }
 {
     let own = Own::of(alloc, plan, host)?;
     let layers = layers_for(plan, play, host, facts, place, &own);
-    Ok(reads_hosts(place, &layers))
+    Ok(items_read(place, &layers))
 }
 
-/// Whether the task at the place with this number may look `hostvars` up on a host that has learnt this. Where it may not, it is the same whatever
-/// `hostvars` stands for. The only error is want of memory.
-pub fn reads_at(
+/// Whether the task at the place with this number may look `hostvars` up as it starts on a host that has learnt this. Where it may not, it has the same
+/// items whatever `hostvars` stands for. The only error is want of memory.
+pub fn reads_at_start(
     alloc: Global,
     plan: &Seen,
     play: &PlanPlay,
@@ -76,11 +73,71 @@ pub fn reads_at(
     facts: &Facts,
     place: usize,
 ) -> Result<bool, AllocError>
-    ensures items { IfOk result (λ reads. reads ≡ false → ItemsUnread plan.now play.now host.0 facts.now (place_for plan.now play.now host.0 place)) }
-    ensures told { IfOk result (λ reads. reads ≡ false → ToldUnread plan.now play.now host.0 facts.now (place_for plan.now play.now host.0 place)) }
+    ensures { IfOk result (λ reads. reads ≡ false → ItemsUnread plan.now play.now host.0 facts.now (place_for plan.now play.now host.0 place)) }
 {
     match place_for(plan, play, host, place) {
-        Some(place) => task_reads(alloc, plan, play, host, facts, place),
+        Some(place) => start_reads(alloc, plan, play, host, facts, place),
+        None => Ok(false),
+    }
+}
+
+/// Whether the task at a place that sees these layers may look `hostvars` up where it says something of a result.
+fn telling_reads(place: &Place, layers: &Layers) -> bool
+    ensures { result ≡ false → (program : Bool) (one other : Map) (value : Option Datum) (item : ItemResult) → SameBut (codes "hostvars") one other →
+        settled_item (start_with program place.now layers.now one) value item ≡ settled_item (start_with program place.now layers.now other) value item }
+{
+    may_read_of_result("hostvars", place.task(), layers)
+}
+
+/// The same on a host that has learnt this.
+fn told_reads(
+    alloc: Global,
+    plan: &Seen,
+    play: &PlanPlay,
+    host: HostNo,
+    facts: &Facts,
+    place: &Place,
+) -> Result<bool, AllocError>
+    requires { host.0 < length plan.now.inventory.hosts }
+    ensures { IfOk result (λ reads. reads ≡ false → ToldUnread plan.now play.now host.0 facts.now (Some place.now)) }
+{
+    let own = Own::of(alloc, plan, host)?;
+    let layers = layers_for(plan, play, host, facts, place, &own);
+    Ok(telling_reads(place, &layers))
+}
+
+/// Whether the task at a place may look `hostvars` up as it says something of a result. Where it says nothing it sees nothing, and no layers are made.
+fn result_reads(
+    alloc: Global,
+    plan: &Seen,
+    play: &PlanPlay,
+    host: HostNo,
+    facts: &Facts,
+    place: &Place,
+) -> Result<bool, AllocError>
+    requires { host.0 < length plan.now.inventory.hosts }
+    ensures { IfOk result (λ reads. reads ≡ false → ToldUnread plan.now play.now host.0 facts.now (Some place.now)) }
+{
+    if !tells(place.task()) {
+        return Ok(false);
+    }
+    told_reads(alloc, plan, play, host, facts, place)
+}
+
+/// Whether the task at the place with this number may look `hostvars` up as it says of a result whether it changed something or failed, on a host that
+/// has learnt this. Where it may not, it says the same whatever `hostvars` stands for. The only error is want of memory.
+pub fn reads_of_result(
+    alloc: Global,
+    plan: &Seen,
+    play: &PlanPlay,
+    host: HostNo,
+    facts: &Facts,
+    place: usize,
+) -> Result<bool, AllocError>
+    ensures { IfOk result (λ reads. reads ≡ false → ToldUnread plan.now play.now host.0 facts.now (place_for plan.now play.now host.0 place)) }
+{
+    match place_for(plan, play, host, place) {
+        Some(place) => result_reads(alloc, plan, play, host, facts, place),
         None => Ok(false),
     }
 }

@@ -12,11 +12,12 @@ use pb_items::items::settled;
 use pb_outcome::gather::ItemResult;
 use pb_places::Place;
 use pb_plan::PlanPlay;
+use pb_reach::reach::tells;
 use pb_value::val::Val;
 use std::alloc::{AllocError, Global};
 
-/// The result of an item with this value of the loop variable that came back, as the task at a place says of it on a host that has learnt this.
-fn settled_for(
+/// The result of an item with this value of the loop variable that came back, as the task at a place says of it in the scope that its host has then.
+fn settled_seeing(
     alloc: Global,
     plan: &Seen,
     play: &PlanPlay,
@@ -34,6 +35,27 @@ fn settled_for(
     let magic = magic_for(plan, play, host, &own);
     let start = start_with(plan.has_facts_program(), place, &layers, &magic);
     settled(alloc, &start, value, item)
+}
+
+/// The result of an item with this value of the loop variable that came back, as the task at a place says of it on a host that has learnt this. Where the
+/// task says nothing of it no scope is made, and the result stays.
+fn settled_for(
+    alloc: Global,
+    plan: &Seen,
+    play: &PlanPlay,
+    host: HostNo,
+    facts: &Facts,
+    value: &Option<Val>,
+    item: ItemResult,
+    place: &Place,
+) -> Result<ItemResult, AllocError>
+    requires { host.0 < length plan.now.inventory.hosts }
+    ensures { IfOk result (λ told. told ≡ settled_for plan.now play.now host.0 facts.now value.now item place.now) }
+{
+    if !tells(place.task()) {
+        return Ok(item);
+    }
+    settled_seeing(alloc, plan, play, host, facts, value, item, place)
 }
 
 /// The result of an item with this value of the loop variable that came back, as the task at the place with this number says of it on a host that

@@ -2,11 +2,11 @@ use Rattle.std.proofs.Common.{◌≡◌, Bool, false, Option, IfOk, subst, ap, s
 use Rattle.std.specs.Option.{option_copied}
 use Rattle.pb_places.specs.Place.{PlaceOf}
 use Rattle.pb_sight.specs.Unread.{ToldUnread}
-use Rattle.pb_sight.proofs.hosts.reads_at.Goals as goal
+use Rattle.pb_sight.proofs.hosts.reads_of_result.Goals as goal
 
-pub returns-in-Some-clause-told : goal.returns-in-Some-clause-told
-returns-in-Some-clause-told c =
+pub returns-in-Some : goal.returns-in-Some
+returns-in-Some c =
     subst
-    (λ (found : Option PlaceOf). IfOk c.task_reads.result (λ (reads : Bool). reads ≡ false → ToldUnread c.args.plan.now c.args.play.now c.args.host.0 c.args.facts.now found))
+    (λ (found : Option PlaceOf). IfOk c.result_reads.result (λ (reads : Bool). reads ≡ false → ToldUnread c.args.plan.now c.args.play.now c.args.host.0 c.args.facts.now found))
     (sym (ap option_copied c.in-Some.is) ∙ c.place_for.ensures)
-    c.task_reads.ensures.told
+    c.result_reads.ensures

@@ -1,7 +1,7 @@
 use Rattle.std.proofs.Common.{◌≡◌, IfOk}
 use Rattle.pb_items.specs.Items.{settled_item}
 use Rattle.pb_sight.proofs.Layered.{started}
-use Rattle.pb_sight.proofs.settling.settled_for.Goals as goal
+use Rattle.pb_sight.proofs.settling.settled_seeing.Goals as goal
 
 pub returns : goal.returns
 returns c =
