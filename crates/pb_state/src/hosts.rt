@@ -13,7 +13,7 @@ use crate::row::Row;
 use pb_facts::facts::Facts;
 use pb_ids::HostNo;
 use pb_plan::{Plan, PlanPlay};
-use pb_sight::hosts::{hosts_known, reads_at};
+use pb_sight::hosts::{hosts_known, reads_at_start, reads_of_result};
 use pb_sight::seen::Seen;
 use pb_value::val::{Dict, Val};
 use pb_variables::hostvars::hosts_magic;
@@ -38,9 +38,9 @@ fn hosts_of(alloc: Global, plan: &Plan, rows: &[Row]) -> Result<Dict, AllocError
     hosts_known(alloc, plan, learnt.as_slice())
 }
 
-/// The variable `hostvars` as the task at a place may see it on a host that has learnt this: with what all hosts have learnt where the task may look
-/// it up, and else without a value, which is the same to the task.
-pub(crate) fn hosts_for(
+/// The variable `hostvars` as the task at a place may see it as it starts on a host that has learnt this: with what all hosts have learnt where the task
+/// may look it up then, and else without a value, which is the same to the task's items.
+pub(crate) fn hosts_at_start(
     alloc: Global,
     plan: &Plan,
     rows: &[Row],
@@ -49,14 +49,35 @@ pub(crate) fn hosts_for(
     facts: &Facts,
     place: usize,
 ) -> Result<Dict, AllocError>
-    ensures items { IfOk result (λ hosts. items_at (with_hosts plan.now hosts) play.now host.0 facts.now place
+    ensures { IfOk result (λ hosts. items_at (with_hosts plan.now hosts) play.now host.0 facts.now place
         ≡ items_at (seen_with plan.now (learnt_by rows.now)) play.now host.0 facts.now place) }
-    ensures told { IfOk result (λ hosts. (value : Option Datum) (item : ItemResult) → settled_at (with_hosts plan.now hosts) play.now host.0 facts.now place value item
+{
+    let none = Dict::new(alloc);
+    let seen = Seen::new(plan, &none);
+    let reads = reads_at_start(alloc, &seen, play, host, facts, place)?;
+    if reads {
+        hosts_of(alloc, plan, rows)
+    } else {
+        hosts_magic(alloc, Val::null())
+    }
+}
+
+/// The same as a report comes in: where what the task says of a result doesn't look it up, it has no value, which is the same to what the task says.
+pub(crate) fn hosts_at_report(
+    alloc: Global,
+    plan: &Plan,
+    rows: &[Row],
+    play: &PlanPlay,
+    host: HostNo,
+    facts: &Facts,
+    place: usize,
+) -> Result<Dict, AllocError>
+    ensures { IfOk result (λ hosts. (value : Option Datum) (item : ItemResult) → settled_at (with_hosts plan.now hosts) play.now host.0 facts.now place value item
         ≡ settled_at (seen_with plan.now (learnt_by rows.now)) play.now host.0 facts.now place value item) }
 {
     let none = Dict::new(alloc);
     let seen = Seen::new(plan, &none);
-    let reads = reads_at(alloc, &seen, play, host, facts, place)?;
+    let reads = reads_of_result(alloc, &seen, play, host, facts, place)?;
     if reads {
         hosts_of(alloc, plan, rows)
     } else {

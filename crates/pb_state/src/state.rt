@@ -21,7 +21,7 @@ use crate::due::{
     turn_rows,
 };
 use crate::event::Event;
-use crate::hosts::hosts_for;
+use crate::hosts::{hosts_at_report, hosts_at_start};
 use crate::items::TaskItems;
 use crate::job::job_in;
 use crate::later::{Later, first_of};
@@ -636,7 +636,7 @@ impl EngineState {
         ensures { IfOk result (λ items. items ≡ items_at (plan_seen plan.now self.now) play.now host.0 facts.now place) }
     {
         let rows = self.rows.as_slice();
-        let hosts = hosts_for(self.alloc, plan, rows, play, host, facts, place)?;
+        let hosts = hosts_at_start(self.alloc, plan, rows, play, host, facts, place)?;
         let seen = Seen::new(plan, &hosts);
         let items = items_at(self.alloc, &seen, play, host, facts, place)?;
         Ok(TaskItems::of(items))
@@ -725,7 +725,7 @@ impl EngineState {
         let Some(running) = row.running() else {
             return hosts_magic(self.alloc, Val::null());
         };
-        hosts_for(
+        hosts_at_report(
             self.alloc,
             plan,
             rows,

@@ -1,20 +1,12 @@
 use Rattle.std.proofs.lemmas.Result.{IfOk-weaker}
-use Rattle.pb_sight.proofs.ReadHosts.{items_not_read, told_not_read}
+use Rattle.pb_sight.proofs.ReadHosts.{told_not_read}
 use Rattle.pb_state.specs.Machine.{learnt_by}
-use Rattle.pb_state.proofs.hosts.hosts_for.Goals as goal
+use Rattle.pb_state.proofs.hosts.hosts_at_report.Goals as goal
 
-pub returns-clause-items : goal.returns-clause-items
-returns-clause-items c =
-    IfOk-weaker c.hosts_magic.result _ _
-    (λ hosts is.
-    items_not_read c.args.plan.now c.new-seen.result c.args.play.now c.args.host.0 c.args.facts.now c.args.place (learnt_by c.args.rows.now) _ hosts c.in_ok-reads.reads c.null.result c.new-seen.ensures c.if-reads.false
-    c.in_ok-reads.ensures.items is)
-    c.hosts_magic.ensures
-
-pub returns-clause-told : goal.returns-clause-told
-returns-clause-told c =
+pub returns : goal.returns
+returns c =
     IfOk-weaker c.hosts_magic.result _ _
     (λ hosts is value item.
     told_not_read c.args.plan.now c.new-seen.result c.args.play.now c.args.host.0 c.args.facts.now c.args.place (learnt_by c.args.rows.now) _ hosts c.in_ok-reads.reads c.null.result c.new-seen.ensures c.if-reads.false
-    c.in_ok-reads.ensures.told is value item)
+    c.in_ok-reads.ensures is value item)
     c.hosts_magic.ensures
