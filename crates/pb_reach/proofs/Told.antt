@@ -30,8 +30,8 @@ untold None (Some conditions) e sight register result = absurd (true≢false e)
 untold (Some conditions) failed e sight register result = absurd (true≢false e)
 
 -- what is said of a result in two scopes that differ in their magic variables alone
-pub told_same : (word : List ℕ) → 0 < length word → (task : Task) (layers : List Map) → may_read_of_result word task layers ≡ false → (magic other variable : Map) (register : Option (List ℕ))
-    (result : ItemResult) → SameBut word magic other →
+pub told_same : (word : List ℕ) → 0 < length word → (task : Task) (layers : List Map) → may_read_of_result word task layers ≡ false →
+    (magic other variable : Map) (register : Option (List ℕ)) (result : ItemResult) → SameBut word magic other →
     settled (sees layers magic variable) register task.changed_when task.failed_when result ≡ settled (sees layers other variable) register task.changed_when task.failed_when result
 told_same word lt task layers e magic other variable register result same = by_test (tells task) refl e
   where
