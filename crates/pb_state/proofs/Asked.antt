@@ -1,16 +1,20 @@
 -- What is kept beside the rows: it stays right as rows change.
-use Rattle.std.proofs.Common.{◌≡◌, ℕ, zero, suc, ◌+◌, ◌≤◌, Bool, false, List, [], ◌∷◌, length, map, refl, sym, ◌∙◌, ap, arith}
+use Rattle.std.proofs.Common.{◌≡◌, ℕ, zero, suc, ◌+◌, ◌≤◌, Bool, true, false, List, [], ◌∷◌, length, map, refl, sym, ◌∙◌, ap, arith}
 use Rattle.std.specs.Prelude.{Option, Some, None, option_map, slice_get, slice_set, replicate}
 use Rattle.std.specs.Option.{option_map_or}
 use Rattle.std.proofs.lemmas.List.{length-map}
+use Rattle.pb_ids.specs.declared.numbers.HostNo.{HostNo}
+use Rattle.pb_ids.specs.declared.numbers.Ticket.{Ticket}
 use Rattle.pb_strategies.specs.declared.standings.Standing.{Standing}
 use Rattle.pb_strategies.specs.Hosts.{nowhere}
-use Rattle.pb_state.specs.Row.{HostRow, first_rows}
+use Rattle.pb_state.specs.Row.{HostRow, first_rows, sent}
 use Rattle.pb_sight.specs.declared.gifts.Gift.{Gift}
-use Rattle.pb_state.specs.Machine.{change, takes, given_to, has_send}
+use Rattle.pb_state.specs.Machine.{at_row, change, takes, given_to, has_send}
 use Rattle.pb_state.specs.Strategies.{standing}
 use Rattle.pb_state.specs.Due.{asked_at, IsDue}
+use Rattle.pb_state.specs.Oldest.{all_out, ticket_of, with_job, without_job}
 use Rattle.pb_state.proofs.Giving.{given_map}
+use Rattle.pb_state.proofs.TicketOrder.{first_order, quiet_order, sent_order}
 
 -- a list that says something of each host is as long as the rows
 pub width_is : {A : Type 0} (of : HostRow → A) (rows : List HostRow) (told : List A) → told ≡ map of rows → length told ≡ length rows
@@ -59,12 +63,14 @@ one_asked of f h told new_told rows new e n t =
     ∙ asked_changed of f rows h
     ∙ ap (map of) (sym n)
 
-pub one_due : (f : HostRow → HostRow) (h : ℕ) (sends told_sends : List Bool) (standings told_standings : List Standing) (rows new : List HostRow) → IsDue sends standings rows → new ≡ change rows h f
-    → told_sends ≡ asked_at has_send new h sends → told_standings ≡ asked_at standing new h standings → IsDue told_sends told_standings new
-one_due f h sends told_sends standings told_standings rows new due n s t =
+pub sent_due : (ticket : Ticket) (host : HostNo) (sends told_sends : List Bool) (standings told_standings : List Standing) (jobs told_jobs : List (HostNo × Ticket)) (rows new : List HostRow) → at_row has_send rows host.0 ≡ true
+    → IsDue sends standings jobs rows → new ≡ change rows host.0 (sent ticket) → told_sends ≡ asked_at has_send new host.0 sends → told_standings ≡ asked_at standing new host.0 standings → told_jobs ≡ with_job (host, ticket) jobs
+    → IsDue told_sends told_standings told_jobs new
+sent_due ticket host sends told_sends standings told_standings jobs told_jobs rows new w due n s t o =
     record {
-      sending = one_asked has_send f h sends told_sends rows new due.sending n s;
-      stands = one_asked standing f h standings told_standings rows new due.stands n t;
+      sending = one_asked has_send (sent ticket) host.0 sends told_sends rows new due.sending n s;
+      stands = one_asked standing (sent ticket) host.0 standings told_standings rows new due.stands n t;
+      in_order = sent_order ticket host jobs told_jobs rows new w due.in_order n o;
     }
 
 -- what hosts are given changes nothing of it
@@ -100,12 +106,15 @@ one_given of same gifts f h told new_told rows new e n t =
     ∙ sym (given_map of same gifts (change rows h f))
     ∙ ap (map of) (sym n)
 
-pub given_due : (gifts : List Gift) (f : HostRow → HostRow) (h : ℕ) (sends told_sends : List Bool) (standings told_standings : List Standing) (rows new : List HostRow) → IsDue sends standings rows
-    → new ≡ given_to gifts (change rows h f) → told_sends ≡ asked_at has_send new h sends → told_standings ≡ asked_at standing new h standings → IsDue told_sends told_standings new
-given_due gifts f h sends told_sends standings told_standings rows new due n s t =
+-- and a host whose task started or went on has no job that is out
+pub given_due : (gifts : List Gift) (f : HostRow → HostRow) → ((row : HostRow) → ticket_of (f row) ≡ None) → (h : ℕ) (sends told_sends : List Bool) (standings told_standings : List Standing) (jobs told_jobs : List (HostNo × Ticket))
+    (rows new : List HostRow) → IsDue sends standings jobs rows → new ≡ given_to gifts (change rows h f) → told_sends ≡ asked_at has_send new h sends → told_standings ≡ asked_at standing new h standings → told_jobs ≡ without_job h jobs
+    → IsDue told_sends told_standings told_jobs new
+given_due gifts f none h sends told_sends standings told_standings jobs told_jobs rows new due n s t o =
     record {
       sending = one_given has_send (λ gift row. refl) gifts f h sends told_sends rows new due.sending n s;
       stands = one_given standing (λ gift row. refl) gifts f h standings told_standings rows new due.stands n t;
+      in_order = quiet_order gifts f none h jobs told_jobs rows new due.in_order n o;
     }
 
 -- before the run nobody has a job to send, and nobody is in a batch
@@ -117,9 +126,11 @@ first_stand : (h n : ℕ) → replicate n nowhere ≡ map standing (first_rows h
 first_stand h zero = refl
 first_stand h (suc n) = ap (λ (rest : List Standing). nowhere ∷ rest) (first_stand (h + 1) n)
 
-pub first_due : (n : ℕ) (sends : List Bool) (standings : List Standing) (rows : List HostRow) → sends ≡ replicate n false → standings ≡ replicate n nowhere → rows ≡ first_rows 0 n → IsDue sends standings rows
-first_due n sends standings rows s t e =
+pub first_due : (n : ℕ) (sends : List Bool) (standings : List Standing) (jobs : List (HostNo × Ticket)) (rows : List HostRow) → sends ≡ replicate n false → standings ≡ replicate n nowhere → jobs ≡ [] → rows ≡ first_rows 0 n
+    → IsDue sends standings jobs rows
+first_due n sends standings jobs rows s t o e =
     record {
       sending = s ∙ first_send 0 n ∙ ap (map has_send) (sym e);
       stands = t ∙ first_stand 0 n ∙ ap (map standing) (sym e);
+      in_order = o ∙ sym (first_order 0 0 n) ∙ ap all_out (sym e);
     }

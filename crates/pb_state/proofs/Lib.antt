@@ -13,8 +13,8 @@ pub mod Batching
 pub mod Joined
 pub mod Least
 pub mod Opening
-pub mod Oldest
 pub mod OldestOut
+pub mod TicketOrder
 pub mod Steps
 pub mod WorkFalls
 pub mod Walked

@@ -35,10 +35,10 @@ next_place_on p m = rw (after_one p m) (by_order (nat_lt p m))
     by_order false = refl
 
 -- behind one that is another's
-position_on : {A : Type 0} (test : A → Bool) (x : A) (xs : List A) → test x ≡ false → position test (x ∷ xs) ≡ option_map suc (position test xs)
+pub position_on : {A : Type 0} (test : A → Bool) (x : A) (xs : List A) → test x ≡ false → position test (x ∷ xs) ≡ option_map suc (position test xs)
 position_on test x xs e = rw e (next_place_on (position_or_len test xs) (length xs))
 
-position_here : {A : Type 0} (test : A → Bool) (x : A) (xs : List A) → test x ≡ true → position test (x ∷ xs) ≡ Some 0
+pub position_here : {A : Type 0} (test : A → Bool) (x : A) (xs : List A) → test x ≡ true → position test (x ∷ xs) ≡ Some 0
 position_here test x xs e = rw e (rw (lt-ltb 0 (suc (length xs)) (omega arith)) refl)
 
 -- one gift more, by the place of what is kept

@@ -14,6 +14,7 @@ pub mod Back
 pub mod Prepared
 pub mod Jobs
 pub mod Oldest
+pub mod OutRows
 pub mod Due
 pub mod Run
 pub mod Once

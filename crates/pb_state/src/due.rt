@@ -1,4 +1,4 @@
-//! Which hosts are due, beside the rows of all hosts.
+//! Which hosts are due, and which jobs are out, beside the rows of all hosts.
 
 ghost use Rattle.std.specs.Prelude.{◌≡◌, ◌<◌, ◌-◌, ◌^◌, length, map, replicate, slice_get, slice_set, true, IfOk, IfSome, OnOk, OnErr, None};
 ghost use Rattle.std.specs.List.{list_any};
@@ -6,13 +6,15 @@ ghost use Rattle.std.specs.Option.{option_map_or};
 ghost use Rattle.pb_state.specs.Row.{first_rows, called, left, progressed, sent, reported};
 ghost use Rattle.pb_state.specs.Batches.{joined_first};
 ghost use Rattle.pb_state.specs.Bounds.{IsAtMost};
-ghost use Rattle.pb_state.specs.Machine.{is_running, has_send, change, pending_in, done_if, report_decides, given_to, gifts_at, report_gives};
+ghost use Rattle.pb_state.specs.Machine.{at_row, is_running, has_send, is_out, has_ticket, change, pending_in, done_if, report_decides, given_to, gifts_at, report_gives};
 ghost use Rattle.pb_state.specs.Strategies.{standing};
 ghost use Rattle.pb_state.specs.Due.{asked_at};
+ghost use Rattle.pb_state.specs.Oldest.{oldest_out};
 ghost use Rattle.pb_state.specs.Turned.{halts_at, turned_rows};
 
 use crate::decided::{Decided, Done};
 use crate::items::TaskItems;
+use crate::jobs_out::{drop_job, first_job, put_job, some_under};
 use crate::row::Row;
 use crate::rows::{self, HostRows, sends_into, stand_all, turn_all};
 use crate::turned::turn_of;
@@ -28,12 +30,14 @@ use std::alloc::{AllocError, Global};
 use std::marker::Model;
 use std::rc::Rc;
 
-/// The rows of all hosts. Which of them have a job to send, and where each stands, is kept beside them: a step that changes one host's row asks that
-/// row alone.
+/// The rows of all hosts. Which of them have a job to send, where each stands, and which jobs are out is kept beside them: a step that changes one
+/// host's row asks that row alone.
 pub struct DueRows {
     rows: HostRows,
     sends: HostSet,
     standings: Standings,
+    /// The jobs that are out, in the order in which they were sent.
+    out: Vec<(HostNo, Ticket)>,
 }
 
 impl Drop for DueRows {
@@ -42,10 +46,12 @@ impl Drop for DueRows {
             rows,
             sends,
             standings,
+            out,
         } = self;
         drop(rows);
         drop(sends);
         drop(standings);
+        drop(out);
     }
 }
 
@@ -63,7 +69,7 @@ impl Model for DueRows {
 
     ghost view = { λ r. r.rows };
 
-    ghost invariant = { λ r. IsDue r.sends r.standings r.rows };
+    ghost invariant = { λ r. IsDue r.sends r.standings r.out.items r.rows };
 }
 
 impl DueRows {
@@ -74,10 +80,12 @@ impl DueRows {
         let sends = HostSet::empty(alloc, hosts)?;
         let standings = Standings::new(alloc, hosts, 0)?;
         let rows = HostRows::first(alloc, hosts)?;
+        let out = Vec::new(alloc);
         Ok(DueRows {
             rows,
             sends,
             standings,
+            out,
         })
     }
 
@@ -107,6 +115,28 @@ impl DueRows {
         ensures { result.now ≡ map standing self.now }
     {
         &self.standings
+    }
+
+    /// Of the jobs that are out the one that was sent first: its host and its ticket.
+    pub fn oldest_out(&self) -> Option<(HostNo, Ticket)>
+        ensures { result ≡ oldest_out self.now }
+    {
+        first_job(self.out.as_slice())
+    }
+
+    /// Whether a job is out.
+    #[tactic(auto, using(crate::proofs::TicketOrder::some_is_out))]
+    pub fn some_out(&self) -> bool
+        ensures { result ≡ list_any is_out self.now }
+    {
+        self.oldest_out().is_some()
+    }
+
+    /// Whether a job is out under this ticket.
+    pub fn is_ticket_out(&self, ticket: Ticket) -> bool
+        ensures { result ≡ list_any (has_ticket ticket) self.now }
+    {
+        some_under(self.out.as_slice(), ticket)
     }
 }
 
@@ -170,16 +200,21 @@ pub fn start_row(
     ensures err { OnErr result (rows.new ≡ rows.old) }
 {
     let done = rows::start_row(alloc, &mut rows.rows, host, inventory, play, place, items)?;
+    drop_job(&mut rows.out, host);
     ask_one(&rows.rows, host, &mut rows.sends, &mut rows.standings);
     Ok(done)
 }
 
-/// A job of a host goes out.
-pub fn send_row(rows: &mut DueRows, host: HostNo, ticket: Ticket)
-    ensures { rows.new ≡ change rows.old host.0 (sent ticket) }
+/// The job of a host goes out that has one to send. An `Err` changes nothing.
+pub fn send_row(rows: &mut DueRows, host: HostNo, ticket: Ticket) -> Result<(), AllocError>
+    requires { at_row has_send rows.old host.0 ≡ true }
+    ensures ok { OnOk result (rows.new ≡ change rows.old host.0 (sent ticket)) }
+    ensures err { OnErr result (rows.new ≡ rows.old) }
 {
+    put_job(&mut rows.out, (host, ticket))?;
     rows::send_row(&mut rows.rows, host, ticket);
     ask_one(&rows.rows, host, &mut rows.sends, &mut rows.standings);
+    Ok(())
 }
 
 /// The job of a host that is out came to this; where its task ends, what it gives to other hosts is theirs. An `Err` changes nothing.
@@ -197,6 +232,7 @@ pub fn report_row(
     ensures err { OnErr result (rows.new ≡ rows.old) }
 {
     let decided = rows::report_row(alloc, &mut rows.rows, host, plan, play, outcome)?;
+    drop_job(&mut rows.out, host);
     ask_one(&rows.rows, host, &mut rows.sends, &mut rows.standings);
     Ok(decided)
 }
@@ -222,6 +258,7 @@ pub fn join_first(
     let standings = nowhere(alloc, &rows.rows, places)?;
     rows::join_first(alloc, &mut rows.rows, size, laid)?;
     rows.standings = standings;
+    rows.out.clear();
     ask_all(&rows.rows, &mut rows.sends, &mut rows.standings);
     Ok(())
 }
@@ -241,6 +278,7 @@ pub fn begin_first(
     let standings = nowhere(alloc, &rows.rows, places)?;
     rows::begin_first(alloc, &mut rows.rows, hosts, size, laid)?;
     rows.standings = standings;
+    rows.out.clear();
     ask_all(&rows.rows, &mut rows.sends, &mut rows.standings);
     Ok(())
 }
@@ -250,6 +288,7 @@ pub fn leave_all(rows: &mut DueRows)
     ensures { rows.new ≡ map left rows.old }
 {
     rows::leave_all(&mut rows.rows);
+    rows.out.clear();
     ask_all(&rows.rows, &mut rows.sends, &mut rows.standings);
 }
 

@@ -17,6 +17,7 @@ mod handlers;
 mod hosts;
 mod items;
 mod job;
+mod jobs_out;
 mod later;
 mod row;
 mod rows;

@@ -632,7 +632,7 @@ impl Row {
     ghost use Rattle.pb_state.specs.declared.row.Running.{Running as RunningOf};
     ghost use Rattle.pb_state.specs.Strategies.{has_begun, standing};
     ghost use Rattle.pb_state.specs.Turn.{is_at};
-    ghost use Rattle.pb_state.specs.Machine.{is_in, is_running, has_send, is_out, has_ticket, is_ticket, is_next, may_send_item, awaits, item_of};
+    ghost use Rattle.pb_state.specs.Machine.{is_in, is_running, has_send, has_ticket, is_ticket, is_next, may_send_item, awaits, item_of};
 
     /// Whether the host still takes part in the playbook.
     pub fn is_host_active(&self) -> bool
@@ -675,16 +675,6 @@ impl Row {
     {
         match &self.running {
             Some(running) => running.out.is_none(),
-            None => false,
-        }
-    }
-
-    /// Whether a job of the host is out.
-    pub fn is_out(&self) -> bool
-        ensures { result ≡ is_out self.now }
-    {
-        match &self.running {
-            Some(running) => running.out.is_some(),
             None => false,
         }
     }

@@ -7,9 +7,8 @@ ghost use Rattle.pb_state.specs.Row.{HostRow, first_rows, next_place, is_called,
 ghost use Rattle.pb_state.specs.Bounds.{IsAtMost};
 ghost use Rattle.pb_state.specs.Batches.{called_count, joins, room_behind, joined_first};
 ghost use Rattle.pb_state.specs.Joining.{with_walk, walks_from, joined_from};
-ghost use Rattle.pb_state.specs.Oldest.{oldest_out, out_at, older};
 ghost use Rattle.pb_state.specs.Strategies.{standing};
-ghost use Rattle.pb_state.specs.Machine.{is_in, is_running, has_send, is_out, has_ticket, least_place, lesser, change, one_if, running_count, pending_in, done_if, item_of, report_decides, given_to, gifts_at, report_gives, has_hosts, first_play};
+ghost use Rattle.pb_state.specs.Machine.{is_in, is_running, has_send, least_place, lesser, change, one_if, running_count, pending_in, done_if, item_of, report_decides, given_to, gifts_at, report_gives, has_hosts, first_play};
 ghost use Rattle.pb_state.specs.Back.{back_row, undone, went_on, decided_now, gives_now};
 ghost use Rattle.pb_state.specs.Prepared.{knows, with_facts};
 ghost use Rattle.pb_state.specs.Turned.{each_from, turned_if, with_each};
@@ -158,20 +157,6 @@ pub fn some_in(rows: &[Row]) -> bool
     ensures { result ≡ list_any is_in rows.now }
 {
     rows.iter().any(|row| row.is_in())
-}
-
-/// Whether a job is out.
-pub fn some_out(rows: &[Row]) -> bool
-    ensures { result ≡ list_any is_out rows.now }
-{
-    rows.iter().any(|row| row.is_out())
-}
-
-/// Whether a job is out under this ticket.
-pub fn some_ticket(rows: &[Row], ticket: Ticket) -> bool
-    ensures { result ≡ list_any (has_ticket ticket) rows.now }
-{
-    rows.iter().any(|row| row.has_ticket(ticket))
 }
 
 /// A host starts the task at a place with these items. An `Err` changes nothing.
@@ -389,42 +374,6 @@ pub fn report_row(
             undo(rows, host, before);
             Err(error)
         }
-    }
-}
-
-/// Of the jobs that are out the one that was sent first: its host and its ticket.
-#[tactic(auto, using(crate::proofs::Oldest::older_assoc, crate::proofs::Oldest::older_none))]
-pub fn oldest_out(rows: &[Row]) -> Option<(HostNo, Ticket)>
-    requires { length rows.now ≤ 65536 }
-    ensures { result ≡ oldest_out rows.now }
-{
-    let mut oldest = None;
-    for (i, row) in rows.iter().enumerate() {
-        oldest = older(oldest, out_at(HostNo(i as u32), row));
-    }
-    oldest
-}
-
-/// A host and the ticket of its job, if that is out.
-fn out_at(host: HostNo, row: &Row) -> Option<(HostNo, Ticket)>
-    ensures { result ≡ out_at host.0 row.now }
-{
-    match row.running() {
-        Some(running) => match running.out {
-            Some(ticket) => Some((host, ticket)),
-            None => None,
-        },
-        None => None,
-    }
-}
-
-fn older(a: Option<(HostNo, Ticket)>, b: Option<(HostNo, Ticket)>) -> Option<(HostNo, Ticket)>
-    ensures { result ≡ older a b }
-{
-    match (a, b) {
-        (Some(p), Some(q)) => { if p.1.0 <= q.1.0 { Some(p) } else { Some(q) } }
-        (Some(p), None) => Some(p),
-        (None, q) => q,
     }
 }
 

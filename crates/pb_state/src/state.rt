@@ -26,10 +26,7 @@ use crate::items::TaskItems;
 use crate::job::job_in;
 use crate::later::{Later, first_of};
 use crate::row::{Counts, Row};
-use crate::rows::{
-    called_count, counts_of, first_play, item_in, least_place, none_into, oldest_out, some_in,
-    some_out, some_ticket,
-};
+use crate::rows::{called_count, counts_of, first_play, item_in, least_place, none_into, some_in};
 use crate::told::numbered;
 use crate::turned::is_settled;
 use pb_batches::batches;
@@ -343,10 +340,7 @@ impl EngineState {
         match event {
             Event::Open => self.open(plan),
             Event::Start(host) => self.start(plan, *host),
-            Event::Send { host, item, ticket } => {
-                self.send(plan, *host, *item, *ticket);
-                Ok(())
-            }
+            Event::Send { host, item, ticket } => self.send(plan, *host, *item, *ticket),
             Event::Report(report) => self.report(plan, report),
             Event::Turn => self.turn(plan),
             Event::Close => {
@@ -680,26 +674,42 @@ impl EngineState {
         Ok(())
     }
 
-    fn send(&mut self, plan: &Plan, host: HostNo, item: u32, ticket: Ticket)
+    fn send(
+        &mut self,
+        plan: &Plan,
+        host: HostNo,
+        item: u32,
+        ticket: Ticket,
+    ) -> Result<(), AllocError>
         requires { option_map_or (may_send_in self.old host.0 item ticket) (open_play plan.now self.old) false ≡ true }
-        ensures { self.new ≡ after plan.now self.old (Event.Send host item ticket) }
+        ensures ok { OnOk result (self.new ≡ after plan.now self.old (Event.Send host item ticket)) }
+        ensures err { OnErr result (self.new ≡ self.old) }
     {
-        if let Some(play) = self.open_play(plan) {
-            self.send_in(host, item, ticket, play);
+        match self.open_play(plan) {
+            Some(play) => self.send_in(host, item, ticket, play),
+            None => Ok(()),
         }
     }
 
-    fn send_in(&mut self, host: HostNo, item: u32, ticket: Ticket, play: &PlanPlay)
+    fn send_in(
+        &mut self,
+        host: HostNo,
+        item: u32,
+        ticket: Ticket,
+        play: &PlanPlay,
+    ) -> Result<(), AllocError>
         requires open { self.old.is_open ≡ true }
         requires may { may_send_in self.old host.0 item ticket play.now ≡ true }
-        ensures { self.new ≡ sent_in self.old host.0 ticket play.now }
+        ensures ok { OnOk result (self.new ≡ sent_in self.old host.0 ticket play.now) }
+        ensures err { OnErr result (self.new ≡ self.old) }
     {
         // (what only the clauses speak of)
         let _item = item;
         let _play = play;
-        send_row(&mut self.rows, host, ticket);
+        send_row(&mut self.rows, host, ticket)?;
         self.sends += 1;
         decide(&mut self.decided, None);
+        Ok(())
     }
 
     fn report(&mut self, plan: &Plan, report: &Report) -> Result<(), AllocError>
@@ -843,14 +853,14 @@ impl EngineState {
     pub fn some_out(&self) -> bool
         ensures { result ≡ list_any is_out self.now.rows }
     {
-        some_out(self.rows.as_slice())
+        self.rows.some_out()
     }
 
     /// Whether a job is out under this ticket.
     pub fn is_ticket_out(&self, ticket: Ticket) -> bool
         ensures { result ≡ list_any (has_ticket ticket) self.now.rows }
     {
-        some_ticket(self.rows.as_slice(), ticket)
+        self.rows.is_ticket_out(ticket)
     }
 
     /// How many jobs were sent.
@@ -869,7 +879,7 @@ impl EngineState {
         ensures least { IfSome result (λ p. (ticket : Ticket) → list_any (has_ticket ticket) self.now.rows ≡ true → p.1.0 ≤ ticket.0) }
         ensures none { IfNone result (list_any is_out self.now.rows ≡ false) }
     {
-        oldest_out(self.rows.as_slice())
+        self.rows.oldest_out()
     }
 
     /// What a host has learnt: the layers 4 and 9 of the variables that its tasks see.

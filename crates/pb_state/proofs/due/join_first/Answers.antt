@@ -1,7 +1,9 @@
 use Rattle.std.proofs.Common.{◌∙◌, length, ap, sym}
 use Rattle.pb_state.specs.Machine.{has_send}
+use Rattle.pb_state.specs.Oldest.{all_out}
 use Rattle.pb_state.proofs.Asked.{same_width}
 use Rattle.pb_state.proofs.Batching.{length-joined}
+use Rattle.pb_state.proofs.TicketOrder.{joined_order}
 use Rattle.pb_state.proofs.due.join_first.Goals as goal
 
 pub ask_all-requires-clause-sends : goal.ask_all-requires-clause-sends
@@ -13,4 +15,9 @@ ask_all-requires-clause-stands c =
     c.in_ok-standings.ensures ∙ sym (ap length c.in_ok-join_first.ensures.ok ∙ length-joined c.args.laid.now.value.tree c.args.size c.rows.inside.rows)
 
 pub invariant_of-rows-2 : goal.invariant_of-rows-2
-invariant_of-rows-2 c = record { sending = c.ask_all.ensures.sends; stands = c.ask_all.ensures.stands }
+invariant_of-rows-2 c =
+    record {
+      sending = c.ask_all.ensures.sends;
+      stands = c.ask_all.ensures.stands;
+      in_order = c.clear.ensures.items ∙ sym (ap all_out c.in_ok-join_first.ensures.ok ∙ joined_order c.args.laid.now.value.tree 0 c.args.size c.rows.inside.rows);
+    }

@@ -1,7 +1,10 @@
+use Rattle.std.proofs.Common.{◌∙◌, ap, sym}
 use Rattle.pb_state.specs.Row.{left}
 use Rattle.pb_state.specs.Machine.{has_send}
+use Rattle.pb_state.specs.Oldest.{all_out}
 use Rattle.pb_state.specs.Strategies.{standing}
 use Rattle.pb_state.proofs.Asked.{mapped_width}
+use Rattle.pb_state.proofs.TicketOrder.{left_order}
 use Rattle.pb_state.proofs.due.leave_all.Goals as goal
 
 pub ask_all-requires-clause-sends : goal.ask_all-requires-clause-sends
@@ -11,4 +14,9 @@ pub ask_all-requires-clause-stands : goal.ask_all-requires-clause-stands
 ask_all-requires-clause-stands c = mapped_width standing left c.rows.inside.rows c.leave_all.new.rows c.rows.inside.standings c.rows.invariant.stands c.leave_all.ensures
 
 pub invariant_of-rows : goal.invariant_of-rows
-invariant_of-rows c = record { sending = c.ask_all.ensures.sends; stands = c.ask_all.ensures.stands }
+invariant_of-rows c =
+    record {
+      sending = c.ask_all.ensures.sends;
+      stands = c.ask_all.ensures.stands;
+      in_order = c.clear.ensures.items ∙ sym (ap all_out c.leave_all.ensures ∙ left_order 0 c.rows.inside.rows);
+    }

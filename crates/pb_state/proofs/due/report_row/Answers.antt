@@ -4,6 +4,7 @@ use Rattle.pb_state.specs.Bounds.{IsAtMost}
 use Rattle.pb_state.specs.Row.{HostRow, reported}
 use Rattle.pb_state.specs.Machine.{report_gives}
 use Rattle.pb_state.proofs.Asked.{given_due}
+use Rattle.pb_state.proofs.TicketOrder.{reported_quiet}
 use Rattle.pb_state.proofs.due.report_row.Goals as goal
 
 pub report_row-requires : goal.report_row-requires
@@ -12,8 +13,11 @@ report_row-requires c =
 
 pub invariant_of-rows-2 : goal.invariant_of-rows-2
 invariant_of-rows-2 c =
-    given_due (report_gives c.args.plan.now c.args.play.now c.args.outcome.now c.args.host.0 c.rows.inside.rows) (reported c.args.plan.now c.args.play.now c.args.outcome.now) c.args.host.0 c.rows.inside.sends c.ask_one.new.sends c.rows.inside.standings c.ask_one.new.standings c.rows.inside.rows c.report_row.new.rows
+    given_due (report_gives c.args.plan.now c.args.play.now c.args.outcome.now c.args.host.0 c.rows.inside.rows) (reported c.args.plan.now c.args.play.now c.args.outcome.now)
+    (reported_quiet c.args.plan.now c.args.play.now c.args.outcome.now) c.args.host.0 c.rows.inside.sends c.ask_one.new.sends c.rows.inside.standings c.ask_one.new.standings c.rows.inside.out.items c.drop_job.new.all.items
+    c.rows.inside.rows c.report_row.new.rows
     c.rows.invariant
     c.in_ok-decided.ensures.rows
     c.ask_one.ensures.sends
     c.ask_one.ensures.stands
+    c.drop_job.ensures

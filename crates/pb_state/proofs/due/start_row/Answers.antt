@@ -4,6 +4,7 @@ use Rattle.pb_state.specs.Bounds.{IsAtMost}
 use Rattle.pb_state.specs.Row.{HostRow, progressed}
 use Rattle.pb_state.specs.Machine.{gifts_at}
 use Rattle.pb_state.proofs.Asked.{given_due}
+use Rattle.pb_state.proofs.TicketOrder.{progressed_quiet}
 use Rattle.pb_state.proofs.due.start_row.Goals as goal
 
 pub start_row-requires-clause-there : goal.start_row-requires-clause-there
@@ -19,8 +20,11 @@ start_row-requires-clause-room c =
 
 pub invariant_of-rows-2 : goal.invariant_of-rows-2
 invariant_of-rows-2 c =
-    given_due (gifts_at c.args.inventory.now c.args.play.now c.args.place c.args.host.0 c.args.items) (progressed c.args.inventory.now c.args.play.now c.args.place c.args.items) c.args.host.0 c.rows.inside.sends c.ask_one.new.sends c.rows.inside.standings c.ask_one.new.standings c.rows.inside.rows c.start_row.new.rows
+    given_due (gifts_at c.args.inventory.now c.args.play.now c.args.place c.args.host.0 c.args.items) (progressed c.args.inventory.now c.args.play.now c.args.place c.args.items)
+    (progressed_quiet c.args.inventory.now c.args.play.now c.args.place c.args.items) c.args.host.0 c.rows.inside.sends c.ask_one.new.sends c.rows.inside.standings c.ask_one.new.standings c.rows.inside.out.items c.drop_job.new.all.items
+    c.rows.inside.rows c.start_row.new.rows
     c.rows.invariant
     c.in_ok-done.ensures.rows
     c.ask_one.ensures.sends
     c.ask_one.ensures.stands
+    c.drop_job.ensures

@@ -4,6 +4,7 @@ use Rattle.pb_state.specs.Strategies.{standing}
 use Rattle.pb_state.specs.Turned.{with_each}
 use Rattle.pb_state.proofs.Asked.{same_width}
 use Rattle.pb_state.proofs.Making.{length_each, made_some, made_none}
+use Rattle.pb_state.proofs.TicketOrder.{turned_order}
 use Rattle.pb_state.proofs.due.turn_rows.Goals as goal
 
 pub ask_all-requires-clause-sends : goal.ask_all-requires-clause-sends
@@ -31,3 +32,12 @@ returns-in-None-clause-rows c =
 pub returns-in-None-clause-halts : goal.returns-in-None-clause-halts
 returns-in-None-clause-halts c =
     let made = made_none c.args.inventory.now c.args.play.now c.args.place c.as_slice.result.now c.rows.inside.rows c.args.rows.now c.in_ok-made.field-0 c.as_slice.ensures c.rows.view_is c.in-None.is c.in_ok-made.ensures in made.1
+
+-- no ticket changes as a batch goes on
+pub invariant_of-rows : goal.invariant_of-rows
+invariant_of-rows c =
+    record {
+      sending = c.ask_all.ensures.sends;
+      stands = c.ask_all.ensures.stands;
+      in_order = turned_order c.parts-all.result.0.items c.rows.inside.out.items c.rows.inside.rows c.turn_all.new.rows c.rows.invariant.in_order c.turn_all.ensures;
+    }
