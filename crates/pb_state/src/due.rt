@@ -125,7 +125,6 @@ impl DueRows {
     }
 
     /// Whether a job is out.
-    #[tactic(auto, using(crate::proofs::TicketOrder::some_is_out))]
     pub fn some_out(&self) -> bool
         ensures { result ≡ list_any is_out self.now }
     {
