@@ -2,3 +2,5 @@ pub mod Each
 pub mod Facts
 pub mod Book
 pub mod Rows
+pub mod Stood
+pub mod News

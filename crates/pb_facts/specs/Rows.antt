@@ -1,5 +1,5 @@
 -- Worked examples: each is proved by computing both sides.
-use Rattle.std.specs.Prelude.{◌≡◌, ℕ, pos, [], ◌∷◌, Some, None, codes, refl}
+use Rattle.std.specs.Prelude.{◌≡◌, ℕ, pos, [], ◌∷◌, ◌++◌, Some, None, codes, refl}
 use Rattle.pb_value.specs.Datum.{int, text, dict, members_of, value_at}
 use Rattle.pb_layers.specs.Scope.{Map}
 use Rattle.pb_outcome.specs.Decided.{debug_result}
@@ -7,8 +7,9 @@ use Rattle.pb_outcome.specs.Results.{facts_result}
 use Rattle.pb_outcome.specs.declared.item.Item.{Item}
 use Rattle.pb_outcome.specs.declared.item.Planned.TheVariants.{Decided}
 use Rattle.pb_facts.specs.declared.facts.Gives.TheVariants.{Nothing, Sets, Gathers}
-use Rattle.pb_facts.specs.Facts.{no_facts, gathered_layer, merged, with_set, with_registered, learnt, known_of}
+use Rattle.pb_facts.specs.Facts.{no_facts, gathered_layer, merged, with_set, with_registered, given_in, learnt, known_of}
 use Rattle.pb_facts.specs.Book.{changed_at, shared}
+use Rattle.pb_facts.specs.News.{entries_in, registered_entries}
 
 abbrev x : ℕ → Map
 x n = (codes "x", int (pos n)) ∷ []
@@ -88,3 +89,7 @@ shared_result = refl
 
 nothing_to_share : shared (codes "y") (record { gathered = None; set = x 1 }) no_facts ≡ no_facts
 nothing_to_share = refl
+
+-- what a task brings comes entry by entry: its result first, and then the facts of its items
+one_by_one : registered_entries (Some (codes "r")) (int (pos 9)) ++ entries_in (given_in (gives (x 1) ∷ gives (x 2) ∷ [])) ≡ (codes "r", int (pos 9)) ∷ (codes "x", int (pos 1)) ∷ (codes "x", int (pos 2)) ∷ []
+one_by_one = refl

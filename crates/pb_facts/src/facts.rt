@@ -3,12 +3,14 @@ ghost use Rattle.std.specs.Option.{option_copied};
 ghost use Rattle.pb_facts.specs.Facts.{no_facts, gathered_layer, merged, with_set, with_given, with_registered, given_in, learnt, known_of};
 ghost use Rattle.pb_facts.specs.Each.{put_each, gives_some, gathered_after};
 
+use crate::news::{News, Past, put_back, put_entries, set_news};
 use crate::put::put_all;
 use crate::reading::{facts_in, gathered_in};
 use pb_outcome::item::{Item, Planned};
 use pb_value::val::{Dict, Val};
 use std::alloc::{AllocError, Global};
 use std::marker::Model;
+use std::mem;
 
 /// What a module gives beside its result.
 #[derive(Clone, Copy, Debug, PartialEq, Eq)]
@@ -82,6 +84,9 @@ fn gives_some(items: &[Item]) -> bool
 }
 
 impl Facts {
+    ghost use Rattle.pb_facts.specs.Facts.{FactsOf};
+    ghost use Rattle.pb_facts.specs.News.{heard, IsPast};
+
     /// A host that has learnt nothing.
     pub fn new(alloc: Global) -> Facts
         ensures { result ≡ no_facts }
@@ -175,24 +180,6 @@ impl Facts {
         }
     }
 
-    /// What is set once a task with a registered result has set the facts of its items.
-    fn set_after(
-        &self,
-        alloc: Global,
-        register: Option<&str>,
-        shown: Val,
-        items: &[Item],
-    ) -> Result<Dict, AllocError>
-        ensures { IfOk result (λ set. set ≡ put_each (given_in items.now) (with_registered (option_copied register.entry) shown self.now).set) }
-    {
-        let mut set = self.set.try_clone(alloc)?;
-        if let Some(name) = register {
-            set.put(alloc, name, shown)?;
-        }
-        put_each(alloc, &mut set, items)?;
-        Ok(set)
-    }
-
     /// The layer of gathered facts once the items of a task gave theirs.
     fn layer_after(&self, alloc: Global, items: &[Item]) -> Result<Dict, AllocError>
         ensures { IfOk result (λ layer. layer ≡ gathered_layer (gathered_after (given_in items.now) self.now.gathered)) }
@@ -222,7 +209,8 @@ impl Facts {
         match gives {
             Gives::Nothing => self.register(alloc, register, shown),
             Gives::Sets => {
-                self.set = self.set_after(alloc, register, shown, items)?;
+                let news = set_news(alloc, register, shown, items, self)?;
+                drop(self.hear(alloc, news)?);
                 Ok(())
             }
             Gives::Gathers => {
@@ -231,6 +219,34 @@ impl Facts {
                 self.layer = layer;
                 Ok(())
             }
+        }
+    }
+
+    /// Takes in what the host hears, in place. What was before is handed back. An `Err` changes nothing.
+    pub fn hear(&mut self, alloc: Global, news: News) -> Result<Past, AllocError>
+        ensures ok { OnOk result (self.new ≡ heard news self.old) }
+        ensures past { IfOk result (λ past. IsPast past self.old self.new) }
+        ensures err { OnErr result (self.new ≡ self.old) }
+    {
+        match news {
+            News::Nothing => Ok(Past::Nothing),
+            News::Whole(known) => Ok(Past::Was(mem::replace(self, known))),
+            News::More(entries) => {
+                let log = put_entries(alloc, &mut self.set, entries)?;
+                Ok(Past::Stood(log))
+            }
+        }
+    }
+
+    /// Puts back what was before the host heard something. It takes no memory.
+    #[tactic(auto, using(crate::proofs::Heard::back_nothing, crate::proofs::Heard::back_was, crate::proofs::Heard::back_stood))]
+    pub fn unhear(&mut self, past: Past)
+        ensures { (was : FactsOf) → IsPast past was self.old → self.new ≡ was }
+    {
+        match past {
+            Past::Nothing => {}
+            Past::Was(known) => *self = known,
+            Past::Stood(log) => put_back(&mut self.set, log),
         }
     }
 
