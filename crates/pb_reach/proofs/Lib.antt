@@ -6,4 +6,5 @@ pub mod Unnamed
 pub mod Alike
 pub mod Stored
 pub mod OwnItems
+pub mod Unreached
 pub mod Told

@@ -1,5 +1,6 @@
 -- A task has the same items, and each of them the same result, whatever stands under a name that it doesn't read.
 use Rattle.std.proofs.Common.{◌≡◌, ℕ, ◌<◌, Bool, true, false, ◌||◌, List, [], ◌∷◌, length, map, Option, Some, None, Result, Ok, Err, refl, ap, ◌∙◌, arith}
+use Rattle.std.specs.Prelude.{⊤}
 use Rattle.std.specs.Str.{bytes_eq}
 use Rattle.pb_value.specs.Datum.{Datum, text, items_of as row_of, members_of}
 use Rattle.pb_value.specs.Reading.{and_then, map_ok}
@@ -88,34 +89,44 @@ delegate_own : (word : List ℕ) → bytes_eq [] word ≡ false → (scope other
 delegate_own word some scope other apart None e = refl
 delegate_own word some scope other apart (Some template) e = rw (value_own word some scope other apart (text template) e) refl
 
--- what a task says itself of a result
-abbrev Apart : List ℕ → Sees → Sees → Type 0
-Apart word sight other = (seen : Map) → AreApart word (sight seen) (other seen)
+-- what a task says itself of a result, by conditions that hold alike
+abbrev pub HoldAlike : Sees → Sees → Option (List Tree) → Type 0
+HoldAlike sight other None = ⊤
+HoldAlike sight other (Some cs) = (seen : Map) → holds (sight seen) cs ≡ holds (other seen) cs
 
-tell_own : (word : List ℕ) (sight other : Sees) → Apart word sight other → (told : ItemResult → Bool → ItemResult) (register : Option (List ℕ)) (conditions : Option (List Tree)) →
-    conditions_name word conditions ≡ false → (result : ItemResult) → tell told sight register conditions result ≡ tell told other register conditions result
-tell_own word sight other apart told register None e result = refl
-tell_own word sight other apart told register (Some cs) e result =
-    ap (λ (r : Result Bool EvalFault). map_ok (told result) r)
-    (holds_own word (sight (seen_as register result.result)) (other (seen_as register result.result)) (apart (seen_as register result.result)) cs e)
+tell_alike : (sight other : Sees) (told : ItemResult → Bool → ItemResult) (register : Option (List ℕ)) (conditions : Option (List Tree)) → HoldAlike sight other conditions → (result : ItemResult) →
+    tell told sight register conditions result ≡ tell told other register conditions result
+tell_alike sight other told register None alike result = refl
+tell_alike sight other told register (Some cs) alike result = ap (λ (r : Result Bool EvalFault). map_ok (told result) r) (alike (seen_as register result.result))
 
-told_own : (word : List ℕ) (sight other : Sees) → Apart word sight other → (register : Option (List ℕ)) (changed failed : Option (List Tree)) → conditions_name word changed ≡ false →
-    conditions_name word failed ≡ false → (result : ItemResult) → told_by sight register changed failed result ≡ told_by other register changed failed result
-told_own word sight other apart register changed failed e f result =
-    ap (λ (r : Result ItemResult EvalFault). and_then r (tell told_failed sight register failed)) (tell_own word sight other apart told_changed register changed e result)
+told_alike : (sight other : Sees) (register : Option (List ℕ)) (changed failed : Option (List Tree)) → HoldAlike sight other changed → HoldAlike sight other failed → (result : ItemResult) →
+    told_by sight register changed failed result ≡ told_by other register changed failed result
+told_alike sight other register changed failed c f result =
+    ap (λ (r : Result ItemResult EvalFault). and_then r (tell told_failed sight register failed)) (tell_alike sight other told_changed register changed c result)
     ∙ then_alike (tell told_changed other register changed result) (tell told_failed sight register failed) (tell told_failed other register failed)
-    (tell_own word sight other apart told_failed register failed f)
+    (tell_alike sight other told_failed register failed f)
 
-pub settled_own : (word : List ℕ) (sight other : Sees) → ((seen : Map) → AreApart word (sight seen) (other seen)) → (register : Option (List ℕ)) (changed failed : Option (List Tree)) →
-    conditions_name word changed ≡ false → conditions_name word failed ≡ false → (result : ItemResult) → settled sight register changed failed result ≡ settled other register changed failed result
-settled_own word sight other apart register changed failed e f result = by_ending result.ending
+pub settled_alike : (sight other : Sees) (register : Option (List ℕ)) (changed failed : Option (List Tree)) → HoldAlike sight other changed → HoldAlike sight other failed → (result : ItemResult) →
+    settled sight register changed failed result ≡ settled other register changed failed result
+settled_alike sight other register changed failed c f result = by_ending result.ending
   where
     by_ending : (ending : Ending) → settled_by ending sight register changed failed result ≡ settled_by ending other register changed failed result
-    by_ending (Ran c d) = ap or_faulty (told_own word sight other apart register changed failed e f result)
+    by_ending (Ran changes fails) = ap or_faulty (told_alike sight other register changed failed c f result)
     by_ending Skipped = refl
     by_ending Faulty = refl
     by_ending Unreachable = refl
     by_ending NotStarted = refl
+
+-- as they do that don't have the word
+alike_own : (word : List ℕ) (sight other : Sees) → ((seen : Map) → AreApart word (sight seen) (other seen)) → (conditions : Option (List Tree)) → conditions_name word conditions ≡ false →
+    HoldAlike sight other conditions
+alike_own word sight other apart None e = tt
+alike_own word sight other apart (Some cs) e = λ seen. holds_own word (sight seen) (other seen) (apart seen) cs e
+
+pub settled_own : (word : List ℕ) (sight other : Sees) → ((seen : Map) → AreApart word (sight seen) (other seen)) → (register : Option (List ℕ)) (changed failed : Option (List Tree)) →
+    conditions_name word changed ≡ false → conditions_name word failed ≡ false → (result : ItemResult) → settled sight register changed failed result ≡ settled other register changed failed result
+settled_own word sight other apart register changed failed e f result =
+    settled_alike sight other register changed failed (alike_own word sight other apart changed e) (alike_own word sight other apart failed f) result
 
 -- what a start doesn't read, part by part
 pub record Unread (word : List ℕ) (start : StartOf) : Type 0 where

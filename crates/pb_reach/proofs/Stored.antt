@@ -41,14 +41,14 @@ found_apart word name (m ∷ below) e f here has =
     by_value None is here_apart rest p = rest p
 
 -- the magic variables and the loop variable are no templates, nor is what is seen beside the registered results
-above : (n : ℕ) (a b c : Bool) → n ≡ 11 → c ≡ false → ((has_templates (suc n + 1) && a) || ((has_templates (n + 1) && b) || c)) ≡ false
+pub above : (n : ℕ) (a b c : Bool) → n ≡ 11 → c ≡ false → ((has_templates (suc n + 1) && a) || ((has_templates (n + 1) && b) || c)) ≡ false
 above n a b c is e = subst (λ k. ((has_templates (suc k + 1) && a) || ((has_templates (k + 1) && b) || c)) ≡ false) (sym is) e
 
 scope_apart : (word : List ℕ) (layers : List Map) (magic variable : Map) → length layers ≡ 11 → maps_mention word layers ≡ false → maps_mention word (scope layers magic variable) ≡ false
 scope_apart word layers magic variable eleven e =
     above (length layers) (members_mention word (members_of variable)) (members_mention word (members_of magic)) (maps_mention word layers) eleven e
 
-ninth : (n : ℕ) (a b before after rest : Bool) → n ≡ 8 → (a || (b || ((has_templates (n + 1) && before) || rest))) ≡ false → (a || (b || ((has_templates (n + 1) && after) || rest))) ≡ false
+pub ninth : (n : ℕ) (a b before after rest : Bool) → n ≡ 8 → (a || (b || ((has_templates (n + 1) && before) || rest))) ≡ false → (a || (b || ((has_templates (n + 1) && after) || rest))) ≡ false
 ninth n a b before after rest is e =
     subst (λ k. (a || (b || ((has_templates (k + 1) && after) || rest))) ≡ false) (sym is) (subst (λ k. (a || (b || ((has_templates (k + 1) && before) || rest))) ≡ false) is e)
 
@@ -86,7 +86,7 @@ over_layers word some layers magic other variable eleven e same =
           value_unnamed word some f.1 (found_apart word name (scope layers other variable) (scope_apart word layers other variable eleven e) f here has);
     }
 
-eleven_of : (t mention : Bool) → (not t || mention) ≡ false → (t ≡ true) × (mention ≡ false)
+pub eleven_of : (t mention : Bool) → (not t || mention) ≡ false → (t ≡ true) × (mention ≡ false)
 eleven_of true mention e = (refl, e)
 eleven_of false mention e = absurd (true≢false e)
 

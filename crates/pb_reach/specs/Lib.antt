@@ -2,5 +2,6 @@ pub mod Named
 pub mod Mentions
 pub mod Apart
 pub mod Told
+pub mod Reached
 pub mod Reach
 pub mod Rows

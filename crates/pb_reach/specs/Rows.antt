@@ -69,6 +69,10 @@ by_failed_when = refl
 of_a_result_by_a_variable : may_read_of_result (codes "x") (changed_by (codes "y")) (layers [] [] [] [] ((codes "y", text (codes "{{ x }}")) ∷ []) [] [] [] [] [] []) ≡ true
 of_a_result_by_a_variable = refl
 
+-- not where the conditions reach no variable that is a template: the name of what was registered stands in none
+by_no_variable : may_read_of_result (codes "x") (changed_by (codes "r")) (layers [] [] [] [] ((codes "y", text (codes "{{ x }}")) ∷ []) [] [] [] ((codes "r", text (codes "{{ x }}")) ∷ []) [] []) ≡ false
+by_no_variable = refl
+
 -- a task that has neither says nothing of a result, and reads nothing, whatever its variables name
 says_nothing : may_read_of_result (codes "x") shows_x (layers [] [] [] [] ((codes "y", text (codes "{{ x }}")) ∷ []) [] [] [] [] [] []) ≡ false
 says_nothing = refl

@@ -2,8 +2,11 @@
 ghost use Rattle.std.specs.Prelude.{◌≡◌};
 ghost use Rattle.pb_expr_syntax.specs.Tree.{trees_of};
 ghost use Rattle.pb_reach.specs.Named.{in_tree, in_trees};
+ghost use Rattle.pb_reach.specs.Reached.{some_name, some_name_in, layers_store};
 
+use crate::stored::layers_store;
 use pb_expr_syntax::tree::{Expr, ExprList, Form};
+use pb_layers::layers::Layers;
 
 /// Whether an expression has a name; a key behind a dot is none.
 #[cycle(names)]
@@ -42,6 +45,49 @@ pub(crate) fn some_names(word: &str, exprs: &[Expr]) -> bool
 {
     for expr in exprs {
         if has_name(word, expr) {
+            return true;
+        }
+    }
+    false
+}
+
+/// Whether one of an expression's names stands in a layer whose texts are templates.
+#[cycle(reached)]
+fn reaches(layers: &Layers, expr: &Expr) -> bool
+    ensures { result ≡ some_name (layers_store layers.now) expr.now }
+{
+    match &expr.form {
+        Form::Name(name) => layers_store(layers, name.as_str()),
+        Form::List(list) => some_reaches(layers, list),
+        Form::Member(x, _) => reaches(layers, x),
+        Form::Index(x, y) => reaches(layers, x) || reaches(layers, y),
+        Form::Not(x) => reaches(layers, x),
+        Form::Negate(x) => reaches(layers, x),
+        Form::Binary(_, x, y) => reaches(layers, x) || reaches(layers, y),
+        Form::Apply(_, x, args) => reaches(layers, x) || some_reaches(layers, args),
+        Form::IsDefined(x, _) => reaches(layers, x),
+        Form::Int(_) | Form::Text(_) | Form::Truth(_) | Form::Null => false,
+    }
+}
+
+#[cycle(reached)]
+fn some_reaches(layers: &Layers, list: &ExprList) -> bool
+    ensures { result ≡ some_name_in (layers_store layers.now) (trees_of list.now) }
+{
+    for expr in &list.items {
+        if reaches(layers, expr) {
+            return true;
+        }
+    }
+    false
+}
+
+/// Whether one of the names of some expressions does.
+pub(crate) fn some_reach(layers: &Layers, exprs: &[Expr]) -> bool
+    ensures { result ≡ some_name_in (layers_store layers.now) (trees_of exprs.now) }
+{
+    for expr in exprs {
+        if reaches(layers, expr) {
             return true;
         }
     }

@@ -7,10 +7,10 @@ ghost use Rattle.pb_conditions.specs.Settled.{sees, settled};
 ghost use Rattle.pb_outcome.specs.declared.gather.ItemResult.{ItemResult};
 ghost use Rattle.pb_items.specs.Items.{items_of};
 ghost use Rattle.pb_reach.specs.Apart.{SameBut};
-ghost use Rattle.pb_reach.specs.Reach.{words_mention, module_mentions, loop_mentions, conditions_name, told_names, task_mentions, delegate_mentions, each_mentions, layers_mention, may_read, may_read_of_result, start_from};
+ghost use Rattle.pb_reach.specs.Reach.{words_mention, module_mentions, loop_mentions, conditions_name, told_names, conditions_reach, told_reaches, task_mentions, delegate_mentions, each_mentions, layers_mention, may_read, may_read_of_result, start_from};
 ghost use Rattle.pb_reach.specs.Told.{tells, LeavesResults};
 
-use crate::exprs::{has_name, some_names};
+use crate::exprs::{has_name, some_names, some_reach};
 use crate::texts::has_inside;
 use crate::values::{items_mention, members_mention, mentions};
 use pb_expr_syntax::tree::Expr;
@@ -78,6 +78,21 @@ fn told_names(word: &str, task: &Task) -> bool
     ensures { result ≡ told_names word.now task.now }
 {
     conditions_name(word, &task.changed_when) || conditions_name(word, &task.failed_when)
+}
+
+fn conditions_reach(layers: &Layers, conditions: &Option<Items<Expr>>) -> bool
+    ensures { result ≡ conditions_reach layers.now conditions.now }
+{
+    match conditions {
+        Some(conditions) => some_reach(layers, conditions.as_slice()),
+        None => false,
+    }
+}
+
+fn told_reaches(layers: &Layers, task: &Task) -> bool
+    ensures { result ≡ told_reaches layers.now task.now }
+{
+    conditions_reach(layers, &task.changed_when) || conditions_reach(layers, &task.failed_when)
 }
 
 fn task_mentions(word: &str, task: &Task) -> bool
@@ -178,8 +193,8 @@ fn has_either(task: &Task) -> bool
     task.changed_when.is_some() || task.failed_when.is_some()
 }
 
-/// Whether a name can be looked up while a task says of a result whether it changed something or failed: its module and its loop aren't searched, and
-/// where it says nothing, nothing is.
+/// Whether a name can be looked up while a task says of a result whether it changed something or failed: its module and its loop aren't searched, nor
+/// are the variables where its conditions reach none of them.
 ///
 /// It may be said of a name that is never looked up that it can be.
 pub fn may_read_of_result(word: &str, task: &Task, layers: &Layers) -> bool
@@ -197,5 +212,5 @@ pub fn may_read_of_result(word: &str, task: &Task, layers: &Layers) -> bool
 fn reads_of_result(word: &str, task: &Task, layers: &Layers) -> bool
     ensures { result ≡ may_read_of_result word.now task.now layers.now }
 {
-    has_either(task) && (told_names(word, task) || layers_mention(word, layers))
+    told_names(word, task) || (told_reaches(layers, task) && layers_mention(word, layers))
 }
