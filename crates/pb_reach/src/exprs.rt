@@ -4,7 +4,7 @@ ghost use Rattle.pb_expr_syntax.specs.Tree.{trees_of};
 ghost use Rattle.pb_reach.specs.Named.{in_tree, in_trees};
 ghost use Rattle.pb_reach.specs.Reached.{some_name, some_name_in, layers_store};
 
-use crate::stored::layers_store;
+use crate::variables::layers_store;
 use pb_expr_syntax::tree::{Expr, ExprList, Form};
 use pb_layers::layers::Layers;
 

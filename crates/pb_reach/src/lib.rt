@@ -12,6 +12,6 @@
 
 mod exprs;
 pub mod reach;
-mod stored;
 mod texts;
 mod values;
+mod variables;
