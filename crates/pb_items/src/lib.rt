@@ -3,7 +3,7 @@
 //! For the layer above: `items` reads a task's loop, its conditions and what its module is given, in the scopes that its host has at that
 //! moment. Each item has its result at once, or its call is sent as a job, exactly as `items_of` of `specs/Items.antt` says. What can't
 //! be read fails the item, whose result says why. `settled` is what the task says of an item whose job came back (`settled_item`).
-//! `planned` is what a module alone does (`planned_by` of `specs/Planning.antt`). Only want of memory may come in place of an answer.
+//! Only want of memory may come in place of an answer.
 #![tactic(auto)]
 
 mod calls;

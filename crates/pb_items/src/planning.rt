@@ -1,7 +1,7 @@
 //! What an item's module does on a host when its task starts.
 ghost use Rattle.std.specs.Prelude.{◌≡◌, ◌≢◌, IfOk, IfErr, Ok, Err};
 ghost use Rattle.pb_items.specs.Faults.{said};
-ghost use Rattle.pb_items.specs.Planning.{or_not_defined, asserted, setup_of, done_by, planned_by};
+ghost use Rattle.pb_items.specs.Planning.{or_not_defined, asserted, setup_of, done_by};
 ghost use Rattle.pb_items.specs.declared.fault.ItemFault.TheVariants as item;
 ghost use Rattle.pb_operators.specs.declared.fault.EvalFault.TheVariants as eval;
 ghost use Rattle.pb_outcome.specs.Decided as result_of;
@@ -110,18 +110,4 @@ pub(crate) fn done_by(
         Module::Shell { cmd } => return Ok(Planned::Sends(shell_in(alloc, cmd.as_str(), scope)?)),
     };
     Ok(Planned::Decided(result))
-}
-
-/// What a task without conditions and loop does when it starts on a host, from the module that it calls and the scope that the host has
-/// then, where there is no program that gathers facts: texts of at most 1 MiB, values nested at most 64 levels, look-ups nested at most
-/// 16 deep. Err is want of memory alone: what can't be read is an item that fails. See Ansible's documentation of the modules in
-/// `ansible.builtin`.
-#[tactic(auto, unfolding(crate::specs::Planning::planned_by))]
-pub fn planned(alloc: Global, called: &Module, scope: &Scope) -> Result<Planned, AllocError>
-    ensures { IfOk result (λ p. p ≡ planned_by scope.now called.now) }
-{
-    match done_by(alloc, false, called, scope) {
-        Ok(planned) => Ok(planned),
-        Err(fault) => unread(alloc, &fault),
-    }
 }
