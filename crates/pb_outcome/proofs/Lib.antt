@@ -1,4 +1,3 @@
-pub mod Back
 pub mod Cuts
 pub mod ReadsBack
 mod Steps

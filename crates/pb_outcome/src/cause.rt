@@ -28,7 +28,7 @@ impl Cause {
     }
 
     /// The cause of a number, if it is one from 1 to 6.
-    pub fn of_number(number: u64) -> Option<Cause>
+    pub(crate) fn of_number(number: u64) -> Option<Cause>
         ensures { result ≡ cause_of number }
     {
         match number {
@@ -43,7 +43,7 @@ impl Cause {
     }
 
     /// What a result says of the cause.
-    pub fn message(self) -> &'static str
+    pub(crate) fn message(self) -> &'static str
         ensures { result.now ≡ message_of self }
     {
         match self {

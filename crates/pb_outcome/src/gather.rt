@@ -1,6 +1,5 @@
 ghost use Rattle.std.specs.Prelude.{◌≡◌};
-ghost use Rattle.std.specs.List.{list_any, list_all};
-ghost use Rattle.pb_outcome.specs.Gathered.{is_unreachable, is_failed, is_faulty, is_skipped, is_changed, gathered};
+ghost use Rattle.pb_outcome.specs.Gathered.{is_unreachable, is_failed, is_faulty, is_skipped, is_changed};
 
 use pb_value::val::Val;
 
@@ -56,7 +55,7 @@ impl Ending {
         }
     }
 
-    pub fn is_faulty(self) -> bool
+    pub(crate) fn is_faulty(self) -> bool
         ensures { result ≡ is_faulty self }
     {
         matches!(self, Ending::Faulty)
@@ -68,86 +67,12 @@ impl Ending {
         matches!(self, Ending::Skipped)
     }
 
-    pub fn is_changed(self) -> bool
+    pub(crate) fn is_changed(self) -> bool
         ensures { result ≡ is_changed self }
     {
         match self {
             Ending::Ran { changed, failed: _ } => changed,
             _ => false,
         }
-    }
-}
-
-fn has_unreachable(items: &[ItemResult]) -> bool
-    ensures { result ≡ list_any (λ item. is_unreachable item.ending) items.now }
-{
-    for item in items {
-        if item.ending.is_unreachable() {
-            return true;
-        }
-    }
-    false
-}
-
-fn has_failed(items: &[ItemResult]) -> bool
-    ensures { result ≡ list_any (λ item. is_failed item.ending) items.now }
-{
-    for item in items {
-        if item.ending.is_failed() {
-            return true;
-        }
-    }
-    false
-}
-
-fn has_faulty(items: &[ItemResult]) -> bool
-    ensures { result ≡ list_any (λ item. is_faulty item.ending) items.now }
-{
-    for item in items {
-        if item.ending.is_faulty() {
-            return true;
-        }
-    }
-    false
-}
-
-fn has_changed(items: &[ItemResult]) -> bool
-    ensures { result ≡ list_any (λ item. is_changed item.ending) items.now }
-{
-    for item in items {
-        if item.ending.is_changed() {
-            return true;
-        }
-    }
-    false
-}
-
-fn are_skipped(items: &[ItemResult]) -> bool
-    ensures { result ≡ list_all (λ item. is_skipped item.ending) items.now }
-{
-    for item in items {
-        if !item.ending.is_skipped() {
-            return false;
-        }
-    }
-    true
-}
-
-/// The task's result from those of its items. A task of no items, as a loop over an empty list, is skipped. See
-/// Ansible's documentation, "Error handling in playbooks".
-pub fn gather(items: &[ItemResult], ignore_errors: bool) -> TaskResult
-    ensures { result ≡ gathered ignore_errors items.now }
-{
-    let unreachable = has_unreachable(items);
-    let failed = !unreachable && has_failed(items);
-    let skipped = !unreachable && !failed && are_skipped(items);
-    let changed = has_changed(items);
-    let ignored = failed && ignore_errors && !has_faulty(items);
-    TaskResult {
-        unreachable,
-        failed,
-        skipped,
-        changed,
-        ignored,
     }
 }

@@ -1,22 +1,11 @@
-//! The items of a task while it runs: which of them is next, whether the task is over, and what it came to.
-ghost use Rattle.std.specs.Prelude.{◌≡◌, OnOk, OnErr};
-ghost use Rattle.std.specs.List.{list_any, list_all};
+//! The items of a task: whether one found its host out of reach, and what the task came to.
+ghost use Rattle.std.specs.Prelude.{◌≡◌};
+ghost use Rattle.std.specs.List.{list_any};
 ghost use Rattle.pb_outcome.specs.Gathered.{some_unreachable, is_faulty};
-ghost use Rattle.pb_outcome.specs.Items.{next_item, ended, is_over, back_in, task_of, all_skipped, some_failed, some_changed};
-ghost use Rattle.pb_outcome.specs.Results.{judged};
+ghost use Rattle.pb_outcome.specs.Items.{ended, task_of, all_skipped, some_failed, some_changed};
 
-use crate::gather::{ItemResult, TaskResult};
+use crate::gather::TaskResult;
 use crate::item::{Item, Planned};
-use crate::judge::judge;
-use crate::outcome::Outcome;
-use std::alloc::{AllocError, Global};
-
-/// The number of the next item to be sent.
-pub fn next_item(items: &[Item]) -> Option<usize>
-    ensures { result ≡ next_item items.now }
-{
-    items.iter().position(|item| item.waits())
-}
 
 /// Whether an item found its host out of reach.
 pub fn has_unreachable(items: &[Item]) -> bool
@@ -87,15 +76,9 @@ pub(crate) fn are_skipped(items: &[Item]) -> bool
     true
 }
 
-/// Whether nothing is left to be sent, or an item found its host out of reach.
-pub fn is_over(items: &[Item]) -> bool
-    ensures { result ≡ is_over items.now }
-{
-    has_unreachable(items) || next_item(items).is_none()
-}
-
-/// The task's result from those of its items, as far as they have one.
-pub fn gather_items(items: &[Item], ignore_errors: bool) -> TaskResult
+/// The task's result from those of its items, as far as they have one. A task of no items, as a loop over an empty list, is skipped. See
+/// Ansible's documentation, "Error handling in playbooks".
+pub fn gather(items: &[Item], ignore_errors: bool) -> TaskResult
     ensures { result ≡ task_of ignore_errors items.now }
 {
     let unreachable = has_unreachable(items);
@@ -110,28 +93,4 @@ pub fn gather_items(items: &[Item], ignore_errors: bool) -> TaskResult
         changed,
         ignored,
     }
-}
-
-/// Puts a result in the place of the first item that waits; where none waits nothing changes.
-pub fn put_back(items: &mut [Item], back: ItemResult)
-    ensures { items.new ≡ back_in (λ item call. back) items.old }
-{
-    if let Some(at) = next_item(items) {
-        items[at].step = Planned::Decided(back);
-    }
-}
-
-/// Puts what an outcome means for the first item that waits in its place; where none waits nothing changes.
-pub fn answer(alloc: Global, items: &mut [Item], outcome: &Outcome) -> Result<(), AllocError>
-    ensures ok { OnOk result (items.new ≡ back_in (λ item call. judged call outcome.now) items.old) }
-    ensures err { OnErr result (items.new ≡ items.old) }
-{
-    if let Some(at) = next_item(items) {
-        let result = match &items[at].step {
-            Planned::Sends(call) => judge(alloc, call, outcome)?,
-            Planned::Decided(_) => return Ok(()),
-        };
-        items[at].step = Planned::Decided(result);
-    }
-    Ok(())
 }

@@ -12,7 +12,7 @@ use crate::handlers::newly_at;
 use crate::items::TaskItems;
 use pb_outcome::gather::ItemResult;
 use pb_outcome::item::{Item, Planned};
-use pb_outcome::items::gather_items;
+use pb_outcome::items::gather;
 use pb_outcome::registered::registered;
 use pb_plan::PlanPlay;
 use pb_play::modules::{Meta, Module};
@@ -186,7 +186,7 @@ pub fn task_at(play: &PlanPlay, place: usize, items: &TaskItems) -> TaskEnd
     ensures { result ≡ task_at play.now place items.now }
 {
     TaskEnd {
-        result: gather_items(items.as_slice(), ignores_at(play, place)),
+        result: gather(items.as_slice(), ignores_at(play, place)),
         is_caught: caught_at(play, place),
         meta: meta_at(play, place),
     }

@@ -1,9 +1,0 @@
-use Rattle.std.proofs.Common.{◌≡◌, drop}
-use Rattle.std.specs.List.{list_any}
-use Rattle.pb_outcome.specs.Gathered.{is_failed}
-use Rattle.pb_outcome.specs.declared.gather.ItemResult.{ItemResult}
-use Rattle.pb_outcome.proofs.gather.has_failed.Given as goal
-
-abbrev pub invariant-loop-item : goal.invariant-loop-item
-invariant-loop-item l =
-    list_any (λ (item : ItemResult). is_failed item.ending) l.items ≡ list_any (λ (item : ItemResult). is_failed item.ending) (drop l.item-index l.items)
