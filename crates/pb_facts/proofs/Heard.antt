@@ -1,5 +1,5 @@
 -- What is known once what was before is put back.
-use Rattle.std.proofs.Common.{◌≡◌, ◌∙◌, ℕ, List, String, Global, Vec, refl, sym, ap, subst}
+use Rattle.std.proofs.Common.{◌≡◌, ◌∙◌, String, Global, Vec, sym, subst}
 use Rattle.std.specs.Prelude.{Option}
 use Rattle.pb_value.specs.Datum.{Datum, named}
 use Rattle.pb_layers.specs.Scope.{Map}

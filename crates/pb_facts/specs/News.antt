@@ -7,7 +7,7 @@ use Rattle.pb_facts.specs.declared.news.News.{News}
 use Rattle.pb_facts.specs.declared.news.News.TheVariants.{Nothing as NoNews, Whole, More}
 use Rattle.pb_facts.specs.declared.news.Past.{Past}
 use Rattle.pb_facts.specs.declared.news.Past.TheVariants.{Nothing as NoPast, Was, Stood}
-use Rattle.pb_facts.specs.Facts.{FactsOf, put_all, with_set}
+use Rattle.pb_facts.specs.Facts.{FactsOf, with_set}
 
 -- the values come one after another
 abbrev pub heard : News → FactsOf → FactsOf
