@@ -1,13 +1,13 @@
 //! What a task that ended leaves with its host.
 
-ghost use Rattle.std.specs.Prelude.{◌≡◌, IfOk, unwrap_or};
-ghost use Rattle.std.specs.Option.{option_copied};
-ghost use Rattle.pb_facts.specs.Facts.{learnt, with_each, given_in};
+ghost use Rattle.std.specs.Prelude.{◌≡◌, IfOk};
+ghost use Rattle.pb_facts.specs.News.{heard};
 ghost use Rattle.pb_sight.specs.Learning.{gives_of, gives_if, learns, learns_at, taught_by};
 
 use crate::delegates::staying;
 use crate::ends::has_run;
 use pb_facts::facts::{Facts, Gives};
+use pb_facts::news::{News, news_of};
 use pb_ids::HostNo;
 use pb_inventory::inventory::Inventory;
 use pb_outcome::gather::TaskResult;
@@ -51,42 +51,7 @@ fn gives_if(went_well: bool, called: &Module) -> Gives
     }
 }
 
-/// What a host knows once a task that gives this, and registers its result under this name, ended with these items.
-fn learnt_in(
-    alloc: Global,
-    gives: Gives,
-    register: Option<&str>,
-    shown: Val,
-    items: &[Item],
-    facts: &Facts,
-) -> Result<Facts, AllocError>
-    ensures { IfOk result (λ known. known ≡ learnt gives (option_copied register.entry) shown items.now facts.now) }
-{
-    let mut known = facts.try_clone(alloc)?;
-    known.learn(alloc, gives, register, shown, items)?;
-    Ok(known)
-}
-
-/// The same where the task registers nothing: there is nothing where it gives nothing either, so that nothing is copied then.
-#[tactic(auto, using(pb_facts::proofs::Each::each_nothing))]
-fn given(
-    alloc: Global,
-    gives: Gives,
-    items: &[Item],
-    facts: &Facts,
-) -> Result<Option<Facts>, AllocError>
-    ensures { IfOk result (λ known. unwrap_or known facts.now ≡ with_each gives (given_in items.now) facts.now) }
-{
-    match gives {
-        Gives::Nothing => Ok(None),
-        _ => {
-            let known = learnt_in(alloc, gives, None, Val::null(), items, facts)?;
-            Ok(Some(known))
-        }
-    }
-}
-
-/// What a host knows once a task ended with these items and this result, well or not, where that is more than before.
+/// What a host that knows this hears of a task that ended with these items and this result, well or not.
 fn learns(
     alloc: Global,
     shown: &Val,
@@ -94,17 +59,16 @@ fn learns(
     items: &[Item],
     facts: &Facts,
     task: &Task,
-) -> Result<Option<Facts>, AllocError>
-    ensures { IfOk result (λ known. unwrap_or known facts.now ≡ learns shown.now went_well items.now facts.now task.now) }
+) -> Result<News, AllocError>
+    ensures { IfOk result (λ news. heard news facts.now ≡ learns shown.now went_well items.now facts.now task.now) }
 {
     let gives = gives_if(went_well, &task.module);
     match &task.register {
         Some(name) => {
             let shown = shown.try_clone(alloc)?;
-            let known = learnt_in(alloc, gives, Some(name.as_str()), shown, items, facts)?;
-            Ok(Some(known))
+            news_of(alloc, gives, Some(name.as_str()), shown, items, facts)
         }
-        None => given(alloc, gives, items, facts),
+        None => news_of(alloc, gives, None, Val::null(), items, facts),
     }
 }
 
@@ -118,8 +82,8 @@ fn learns_at(
     items: &[Item],
     facts: &Facts,
     place: &Place,
-) -> Result<Option<Facts>, AllocError>
-    ensures { IfOk result (λ known. unwrap_or known facts.now ≡ learns_at inventory.now host.0 shown.now went_well items.now facts.now place.now) }
+) -> Result<News, AllocError>
+    ensures { IfOk result (λ news. heard news facts.now ≡ learns_at inventory.now host.0 shown.now went_well items.now facts.now place.now) }
 {
     if place.delegate_facts() {
         let stay = staying(alloc, inventory, host, items)?;
@@ -136,8 +100,8 @@ fn learns_at(
     }
 }
 
-/// What a host knows once the task at a place ended there with this result, which is shown so, and these items, where that is more than before. A
-/// host that is out of reach learns nothing, nor do the facts of an item stay that go to another host (`given_by`). The only error is want of memory.
+/// What a host that knows this hears once the task at a place ended there with this result, which is shown so, and these items: what it knows then is
+/// what it learns. A host that is out of reach learns nothing, nor do the facts of an item stay that go to another host (`given_by`). The only error is want of memory.
 #[tactic(auto, unfolding(crate::specs::Learning::taught_by))]
 pub fn taught(
     alloc: Global,
@@ -149,11 +113,11 @@ pub fn taught(
     shown: &Val,
     items: &[Item],
     facts: &Facts,
-) -> Result<Option<Facts>, AllocError>
-    ensures { IfOk result (λ known. unwrap_or known facts.now ≡ taught_by inventory.now play.now place host.0 ended shown.now items.now facts.now) }
+) -> Result<News, AllocError>
+    ensures { IfOk result (λ news. heard news facts.now ≡ taught_by inventory.now play.now place host.0 ended shown.now items.now facts.now) }
 {
     if ended.unreachable {
-        return Ok(None);
+        return Ok(News::Nothing);
     }
     match play.place(place) {
         Some(place) => {
@@ -162,6 +126,6 @@ pub fn taught(
                 alloc, inventory, host, shown, went_well, items, facts, place,
             )
         }
-        None => Ok(None),
+        None => Ok(News::Nothing),
     }
 }
