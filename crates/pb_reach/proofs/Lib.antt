@@ -6,5 +6,6 @@ pub mod Unnamed
 pub mod Alike
 pub mod Stored
 pub mod OwnItems
+pub mod Still
 pub mod Unreached
 pub mod Told

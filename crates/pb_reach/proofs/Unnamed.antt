@@ -27,35 +27,36 @@ abbrev in_piece : List ℕ → Piece → Bool
 in_piece word (piece.Plain s) = false
 in_piece word (piece.Code s) = has_inside word s
 
-abbrev FrontApart : List ℕ → Result Front ExprFault → Type 0
-FrontApart word r = IfOk r (λ (f : Front). in_piece word f.piece ≡ false)
+-- the front of a text doesn't pass a test
+abbrev pub FrontWithout : (Piece → Bool) → Result Front ExprFault → Type 0
+FrontWithout test r = IfOk r (λ (f : Front). test f.piece ≡ false)
 
-code_apart : (word code : List ℕ) (n : Option ℕ) → has_inside word code ≡ false → FrontApart word (code_with code n)
+code_apart : (word code : List ℕ) (n : Option ℕ) → has_inside word code ≡ false → FrontWithout (in_piece word) (code_with code n)
 code_apart word code None e = tt
 code_apart word code (Some n) e = inside_take word n code e
 
-open_apart : (word bs : List ℕ) (is_open : Bool) → has_inside word bs ≡ false → FrontApart word (if is_open then code_front bs else Ok (plain_front bs))
+open_apart : (word bs : List ℕ) (is_open : Bool) → has_inside word bs ≡ false → FrontWithout (in_piece word) (if is_open then code_front bs else Ok (plain_front bs))
 open_apart word bs true e = code_apart word (drop 2 bs) (code_size Outside (drop 2 bs)) (inside_drop word 2 bs e)
 open_apart word bs false e = refl
 
-refused_apart : (word : List ℕ) (at : ℕ) (is_refused : Bool) (r : Result Front ExprFault) → FrontApart word r → FrontApart word (if is_refused then Err (Unexpected at) else r)
-refused_apart word at true r e = tt
-refused_apart word at false r e = e
+pub refused_without : (test : Piece → Bool) (at : ℕ) (is_refused : Bool) (r : Result Front ExprFault) → FrontWithout test r → FrontWithout test (if is_refused then Err (Unexpected at) else r)
+refused_without test at true r e = tt
+refused_without test at false r e = e
 
-front_apart : (word : List ℕ) (at : ℕ) (bs : List ℕ) → has_inside word bs ≡ false → FrontApart word (front_at at bs)
-front_apart word at bs e = refused_apart word at (begins_refused bs) (if begins_open bs then code_front bs else Ok (plain_front bs)) (open_apart word bs (begins_open bs) e)
+front_apart : (word : List ℕ) (at : ℕ) (bs : List ℕ) → has_inside word bs ≡ false → FrontWithout (in_piece word) (front_at at bs)
+front_apart word at bs e = refused_without (in_piece word) at (begins_refused bs) (if begins_open bs then code_front bs else Ok (plain_front bs)) (open_apart word bs (begins_open bs) e)
 
-by_apart : (word : List ℕ) (r : Result Front ExprFault) (behind : ℕ → Pieces) → FrontApart word r → ((n : ℕ) → list_any (in_piece word) (behind n).0 ≡ false) →
-    list_any (in_piece word) (pieces_by r behind).0 ≡ false
-by_apart word (Err fault) behind e others = refl
-by_apart word (Ok f) behind e others = joined (in_piece word f.piece) (list_any (in_piece word) (behind f.size).0) e (others f.size)
+pub by_without : (test : Piece → Bool) (r : Result Front ExprFault) (behind : ℕ → Pieces) → FrontWithout test r → ((n : ℕ) → list_any test (behind n).0 ≡ false) →
+    list_any test (pieces_by r behind).0 ≡ false
+by_without test (Err fault) behind e others = refl
+by_without test (Ok f) behind e others = joined (test f.piece) (list_any test (behind f.size).0) e (others f.size)
 
 pieces_apart : (word : List ℕ) (taken at : ℕ) (bs : List ℕ) → has_inside word bs ≡ false → list_any (in_piece word) (pieces_from taken at bs).0 ≡ false
 pieces_apart word zero at [] e = refl
 pieces_apart word (suc taken) at [] e = refl
 pieces_apart word (suc taken) at (b ∷ bs) e = pieces_apart word taken (at + 1) bs (neither (begins word (b ∷ bs)) (has_inside word bs) e).1
 pieces_apart word zero at (b ∷ bs) e =
-    by_apart word (front_at at (b ∷ bs)) (λ size. pieces_from (size - 1) (at + 1) bs) (front_apart word at (b ∷ bs) e)
+    by_without (in_piece word) (front_at at (b ∷ bs)) (λ size. pieces_from (size - 1) (at + 1) bs) (front_apart word at (b ∷ bs) e)
     (λ size. pieces_apart word (size - 1) (at + 1) bs (neither (begins word (b ∷ bs)) (has_inside word bs) e).1)
 
 -- and so are the parts
@@ -67,31 +68,32 @@ part_apart : (word : List ℕ) → bytes_eq [] word ≡ false → (p : Piece) �
 part_apart word some (piece.Plain s) e = refl
 part_apart word some (piece.Code s) e = coded_apart word (tree_of s) (tree_unnamed word some s e)
 
-abbrev PartsApart : List ℕ → Option (List Part) → Type 0
-PartsApart word o = IfSome o (λ (ps : List Part). list_any (in_part word) ps ≡ false)
+-- nor do the parts of a template
+abbrev pub PartsWithout : (Part → Bool) → Option (List Part) → Type 0
+PartsWithout test o = IfSome o (λ (ps : List Part). list_any test ps ≡ false)
 
-more_apart : (word : List ℕ) (p : Part) (ps : Option (List Part)) → in_part word p ≡ false → PartsApart word ps → PartsApart word (option_map (λ qs. p ∷ qs) ps)
-more_apart word p None e others = tt
-more_apart word p (Some ps) e others = joined (in_part word p) (list_any (in_part word) ps) e others
+more_without : (test : Part → Bool) (p : Part) (ps : Option (List Part)) → test p ≡ false → PartsWithout test ps → PartsWithout test (option_map (λ qs. p ∷ qs) ps)
+more_without test p None e others = tt
+more_without test p (Some ps) e others = joined (test p) (list_any test ps) e others
 
-with_apart : (word : List ℕ) (p : Option Part) (ps : Option (List Part)) → IfSome p (λ (q : Part). in_part word q ≡ false) → PartsApart word ps → PartsApart word (some_with p ps)
-with_apart word None ps e others = tt
-with_apart word (Some p) ps e others = more_apart word p ps e others
+pub with_without : (test : Part → Bool) (p : Option Part) (ps : Option (List Part)) → IfSome p (λ (q : Part). test q ≡ false) → PartsWithout test ps → PartsWithout test (some_with p ps)
+with_without test None ps e others = tt
+with_without test (Some p) ps e others = more_without test p ps e others
 
-parts_apart : (word : List ℕ) → bytes_eq [] word ≡ false → (pieces : List Piece) → list_any (in_piece word) pieces ≡ false → PartsApart word (parts_in pieces)
+parts_apart : (word : List ℕ) → bytes_eq [] word ≡ false → (pieces : List Piece) → list_any (in_piece word) pieces ≡ false → PartsWithout (in_part word) (parts_in pieces)
 parts_apart word some [] e = refl
 parts_apart word some (p ∷ ps) e =
-    let both = neither (in_piece word p) (list_any (in_piece word) ps) e in with_apart word (part_in p) (parts_in ps) (part_apart word some p both.0) (parts_apart word some ps both.1)
+    let both = neither (in_piece word p) (list_any (in_piece word) ps) e in with_without (in_part word) (part_in p) (parts_in ps) (part_apart word some p both.0) (parts_apart word some ps both.1)
 
-good_apart : (word : List ℕ) (fault : Option ExprFault) (parts : Option (List Part)) → PartsApart word parts → PartsApart word (unless_bad fault parts)
-good_apart word None parts e = e
-good_apart word (Some fault) parts e = tt
+pub good_without : (test : Part → Bool) (fault : Option ExprFault) (parts : Option (List Part)) → PartsWithout test parts → PartsWithout test (unless_bad fault parts)
+good_without test None parts e = e
+good_without test (Some fault) parts e = tt
 
-template_apart : (word : List ℕ) → bytes_eq [] word ≡ false → (s : List ℕ) → has_inside word s ≡ false → PartsApart word (template_of s)
+template_apart : (word : List ℕ) → bytes_eq [] word ≡ false → (s : List ℕ) → has_inside word s ≡ false → PartsWithout (in_part word) (template_of s)
 unfolding template_of
-template_apart word some s e = good_apart word (pieces_of s).1 (parts_in (pieces_of s).0) (parts_apart word some (pieces_of s).0 (pieces_apart word 0 0 s e))
+template_apart word some s e = good_without (in_part word) (pieces_of s).1 (parts_in (pieces_of s).0) (parts_apart word some (pieces_of s).0 (pieces_apart word 0 0 s e))
 
-no_part : (word : List ℕ) (parts : Option (List Part)) → PartsApart word parts → option_map_or (list_any (in_part word)) parts false ≡ false
+no_part : (word : List ℕ) (parts : Option (List Part)) → PartsWithout (in_part word) parts → option_map_or (list_any (in_part word)) parts false ≡ false
 no_part word None e = refl
 no_part word (Some parts) e = e
 

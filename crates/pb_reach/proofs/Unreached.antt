@@ -1,6 +1,5 @@
--- An expression of which no name stands for a template has the same value whatever stands under a name that it doesn't have.
-use Rattle.std.proofs.Common.{◌≡◌, ℕ, zero, suc, ◌+◌, Bool, true, false, ◌&&◌, nat_eq, List, [], ◌∷◌, Option, Some, None, unwrap_or, option_map, Ok, if◌then◌else◌, length, refl, ap, subst, ◌∙◌, arith, true≢false, eqb-true}
-use Rattle.std.specs.Prelude.{is_some}
+-- An expression of which no name leads to another one has the same value whatever stands under a name that it doesn't have.
+use Rattle.std.proofs.Common.{◌≡◌, ℕ, zero, suc, ◌+◌, Bool, true, false, ◌&&◌, nat_eq, List, [], ◌∷◌, Option, Some, None, unwrap_or, option_map, Ok, if◌then◌else◌, length, codes, refl, sym, ap, subst, ◌∙◌, arith, true≢false, eqb-true}
 use Rattle.std.specs.Option.{option_map_or}
 use Rattle.std.specs.Str.{bytes_eq}
 use Rattle.pb_value.specs.Datum.{Datum, put, value_at}
@@ -17,9 +16,11 @@ use Rattle.pb_conditions.specs.Conditions.{holds}
 use Rattle.pb_conditions.specs.Settled.{seen_in, sees}
 use Rattle.pb_reach.specs.Apart.{SameBut}
 use Rattle.pb_reach.specs.Named.{in_tree, in_trees}
-use Rattle.pb_reach.specs.Reached.{some_name, some_name_in, maps_store, layers_store}
+use Rattle.pb_reach.specs.Mentions.{mentions}
+use Rattle.pb_reach.specs.Reached.{some_name, some_name_in, leads_on, maps_lead, layers_lead}
+use Rattle.pb_reach.proofs.Still.{rendered_still}
 use Rattle.pb_reach.proofs.Stored.{above, ninth, eleven_of}
-use Rattle.pb_reach.proofs.Tests.{neither}
+use Rattle.pb_reach.proofs.Tests.{neither, where_so}
 
 -- every name that isn't the word and doesn't pass the test stands for the same
 abbrev AgreeOn : List ℕ → (List ℕ → Bool) → Names → Names → Type 0
@@ -87,19 +88,19 @@ measured_on : (word : List ℕ) (test : List ℕ → Bool) (names others : Names
 unfolding measured
 measured_on word test names others agree t e g = ap (λ (r : Value). and_then r finished) (value_on word test names others agree t e g)
 
--- Every name but the word stands for the same in both scopes, and what doesn't pass the test stands for no template there.
+-- Every name but the word stands for the same in both scopes, and what doesn't pass the test stands for no template with an expression there.
 pub record IsPlain (word : List ℕ) (test : List ℕ → Bool) (scope other : List Map) : Type 0 where
   pub alike : (name : List ℕ) → bytes_eq name word ≡ false → found name scope ≡ found name other
-  pub plain : (name : List ℕ) (f : ℕ × Datum) → test name ≡ false → found name other ≡ Some f → has_templates f.0 ≡ false
+  pub plain : (name : List ℕ) (f : ℕ × Datum) → test name ≡ false → found name other ≡ Some f → has_templates f.0 ≡ true → mentions (codes "{{") f.1 ≡ false
 
-read_plain : (names others : Names) (name : List ℕ) (f : Option (ℕ × Datum)) → ((g : ℕ × Datum) → f ≡ Some g → has_templates g.0 ≡ false) →
+read_plain : (names others : Names) (name : List ℕ) (f : Option (ℕ × Datum)) → ((g : ℕ × Datum) → f ≡ Some g → has_templates g.0 ≡ true → mentions (codes "{{") g.1 ≡ false) →
     read_as (rendered names) name f ≡ read_as (rendered others) name f
 read_plain names others name None plain = refl
 read_plain names others name (Some g) plain = by_kind (has_templates g.0) (plain g refl)
   where
-    by_kind : (b : Bool) → b ≡ false → (if b then rendered names g.1 else Ok g.1) ≡ (if b then rendered others g.1 else Ok g.1)
-    by_kind true is = absurd (true≢false is)
-    by_kind false is = refl
+    by_kind : (b : Bool) → (b ≡ true → mentions (codes "{{") g.1 ≡ false) → (if b then rendered names g.1 else Ok g.1) ≡ (if b then rendered others g.1 else Ok g.1)
+    by_kind true still = rendered_still names others g.1 (still refl)
+    by_kind false still = refl
 
 names_on : (word : List ℕ) (test : List ℕ → Bool) (scope other : List Map) → IsPlain word test scope other → (levels : ℕ) → AgreeOn word test (names_in scope levels) (names_in other levels)
 names_on word test scope other same zero name e g = refl
@@ -119,48 +120,45 @@ holds_on word test scope other same (c ∷ cs) e g =
     let plain = neither (some_name test c) (some_name_in test (trees_of cs)) g in
     rw (eval_on word test scope other same c both.0 plain.0, holds_on word test scope other same cs both.1 plain.1) refl
 
--- what is found of a name that stands in no map of templates
-not_here : (b : Bool) → (b && true) ≡ false → b ≡ false
-not_here true e = e
-not_here false e = refl
-
-found_plain : (name : List ℕ) (maps : List Map) → maps_store maps name ≡ false → (f : ℕ × Datum) → found name maps ≡ Some f → has_templates f.0 ≡ false
-found_plain name [] e f here = absurd (true≢false (ap (λ (o : Option (ℕ × Datum)). option_map_or (λ d. false) o true) here))
-found_plain name (m ∷ below) e f here =
-    let both = neither (has_templates (length below + 1) && is_some (value_at name m)) (maps_store below name) e in
-    by_value (value_at name m) both.0 (λ p. found_plain name below both.1 f p) here
+-- what is found of a name that stands for no template with an expression
+found_plain : (name : List ℕ) (maps : List Map) → maps_lead maps name ≡ false → (f : ℕ × Datum) → found name maps ≡ Some f → has_templates f.0 ≡ true → mentions (codes "{{") f.1 ≡ false
+found_plain name [] e f here has = absurd (true≢false (ap (λ (o : Option (ℕ × Datum)). option_map_or (λ d. false) o true) here))
+found_plain name (m ∷ below) e f here has =
+    let both = neither (has_templates (length below + 1) && leads_on name m) (maps_lead below name) e in
+    by_value (value_at name m) both.0 (λ p. found_plain name below both.1 f p has) here
   where
-    by_value : (o : Option Datum) → (has_templates (length below + 1) && is_some o) ≡ false → (found name below ≡ Some f → has_templates f.0 ≡ false) →
-        or_else (option_map (λ v. (length below + 1, v)) o) (found name below) ≡ Some f → has_templates f.0 ≡ false
-    by_value (Some v) not_stored rest p =
+    by_value : (o : Option Datum) → (has_templates (length below + 1) && option_map_or (mentions (codes "{{")) o false) ≡ false → (found name below ≡ Some f → mentions (codes "{{") f.1 ≡ false) →
+        or_else (option_map (λ v. (length below + 1, v)) o) (found name below) ≡ Some f → mentions (codes "{{") f.1 ≡ false
+    by_value (Some v) not_led rest p =
         let same : (length below + 1, v) ≡ f = ap (λ (o : Option (ℕ × Datum)). unwrap_or o f) p in
-        subst (λ (g : ℕ × Datum). has_templates g.0 ≡ false) same (not_here (has_templates (length below + 1)) not_stored)
-    by_value None not_stored rest p = rest p
+        let has_here : has_templates (length below + 1) ≡ true = subst (λ (g : ℕ × Datum). has_templates g.0 ≡ true) (sym same) has in
+        subst (λ (g : ℕ × Datum). mentions (codes "{{") g.1 ≡ false) same (where_so (has_templates (length below + 1)) (mentions (codes "{{") v) has_here not_led)
+    by_value None not_led rest p = rest p
 
 -- over the layers stand no templates, nor does what is seen beside the registered results
-scope_plain : (name : List ℕ) (layers : List Map) (magic variable : Map) → length layers ≡ 11 → maps_store layers name ≡ false → maps_store (scope layers magic variable) name ≡ false
-scope_plain name layers magic variable eleven e = above (length layers) (is_some (value_at name variable)) (is_some (value_at name magic)) (maps_store layers name) eleven e
+scope_plain : (name : List ℕ) (layers : List Map) (magic variable : Map) → length layers ≡ 11 → maps_lead layers name ≡ false → maps_lead (scope layers magic variable) name ≡ false
+scope_plain name layers magic variable eleven e = above (length layers) (leads_on name variable) (leads_on name magic) (maps_lead layers name) eleven e
 
-seen_one : (name : List ℕ) (entry : List ℕ × Datum) (layers : List Map) → length layers ≡ 11 → maps_store layers name ≡ false →
-    (length (with_seen (Some entry) layers) ≡ 11) × (maps_store (with_seen (Some entry) layers) name ≡ false)
+seen_one : (name : List ℕ) (entry : List ℕ × Datum) (layers : List Map) → length layers ≡ 11 → maps_lead layers name ≡ false →
+    (length (with_seen (Some entry) layers) ≡ 11) × (maps_lead (with_seen (Some entry) layers) name ≡ false)
 seen_one name entry [] eleven e = (eleven, e)
 seen_one name entry (a ∷ []) eleven e = (eleven, e)
 seen_one name entry (a ∷ b ∷ []) eleven e = (eleven, e)
 seen_one name entry (a ∷ b ∷ c ∷ below) eleven e =
     let eight : length below ≡ 8 = omega (arith, eleven) in (
       eleven,
-      ninth (length below) (has_templates (suc (suc (length below)) + 1) && is_some (value_at name a))
-          (has_templates (suc (length below) + 1) && is_some (value_at name b)) (is_some (value_at name c))
-          (is_some (value_at name (put entry.0 entry.1 c))) (maps_store below name) eight e,
+      ninth (length below) (has_templates (suc (suc (length below)) + 1) && leads_on name a)
+          (has_templates (suc (length below) + 1) && leads_on name b) (leads_on name c)
+          (leads_on name (put entry.0 entry.1 c)) (maps_lead below name) eight e,
     )
 
-seen_plain : (name : List ℕ) (seen : Map) (layers : List Map) → length layers ≡ 11 → maps_store layers name ≡ false →
-    (length (seen_in seen layers) ≡ 11) × (maps_store (seen_in seen layers) name ≡ false)
+seen_plain : (name : List ℕ) (seen : Map) (layers : List Map) → length layers ≡ 11 → maps_lead layers name ≡ false →
+    (length (seen_in seen layers) ≡ 11) × (maps_lead (seen_in seen layers) name ≡ false)
 seen_plain name [] layers eleven e = (eleven, e)
 seen_plain name (entry ∷ seen) layers eleven e = let one = seen_one name entry layers eleven e in seen_plain name seen (with_seen (Some entry) layers) one.0 one.1
 
 scopes_plain : (word : List ℕ) (layers : List Map) (magic other variable seen : Map) → SameBut word magic other →
-    IsPlain word (layers_store layers) (sees layers magic variable seen) (sees layers other variable seen)
+    IsPlain word (layers_lead layers) (sees layers magic variable seen) (sees layers other variable seen)
 scopes_plain word layers magic other variable seen same =
     record {
       alike =
@@ -170,14 +168,14 @@ scopes_plain word layers magic other variable seen same =
           or_else (option_map (λ v. (length (magic ∷ seen_in seen layers) + 1, v)) (value_at name variable)) (or_else (option_map (λ v. (length (seen_in seen layers) + 1, v)) o) (found name (seen_in seen layers))))
           (same name n);
       plain =
-          λ name f g here.
-          let own = eleven_of (nat_eq (length layers) 11) (maps_store layers name) g in
+          λ name f g here has.
+          let own = eleven_of (nat_eq (length layers) 11) (maps_lead layers name) g in
           let known = seen_plain name seen layers (eqb-true (length layers) 11 own.0) own.1 in
-          found_plain name (scope (seen_in seen layers) other variable) (scope_plain name (seen_in seen layers) other variable known.0 known.1) f here;
+          found_plain name (scope (seen_in seen layers) other variable) (scope_plain name (seen_in seen layers) other variable known.0 known.1) f here has;
     }
 
 -- so conditions that don't have the word, and reach no template, are the same in both scopes
 pub holds_unreached : (word : List ℕ) (layers : List Map) (magic other variable seen : Map) → SameBut word magic other → (cs : List Tree) → in_trees word (trees_of cs) ≡ false →
-    some_name_in (layers_store layers) (trees_of cs) ≡ false → holds (sees layers magic variable seen) cs ≡ holds (sees layers other variable seen) cs
+    some_name_in (layers_lead layers) (trees_of cs) ≡ false → holds (sees layers magic variable seen) cs ≡ holds (sees layers other variable seen) cs
 holds_unreached word layers magic other variable seen same cs e g =
-    holds_on word (layers_store layers) (sees layers magic variable seen) (sees layers other variable seen) (scopes_plain word layers magic other variable seen same) cs e g
+    holds_on word (layers_lead layers) (sees layers magic variable seen) (sees layers other variable seen) (scopes_plain word layers magic other variable seen same) cs e g

@@ -15,7 +15,7 @@ use Rattle.pb_play.specs.declared.task.Task.{Task}
 use Rattle.pb_items.specs.Items.{StartOf}
 use Rattle.pb_reach.specs.Named.{in_tree, in_trees}
 use Rattle.pb_reach.specs.Mentions.{has_inside, mentions, items_mention, members_mention}
-use Rattle.pb_reach.specs.Reached.{some_name_in, layers_store}
+use Rattle.pb_reach.specs.Reached.{some_name_in, layers_lead}
 
 abbrev pub words_mention : List ℕ → CommandWords → Bool
 words_mention word (Line line) = has_inside word line
@@ -62,15 +62,15 @@ abbrev pub may_read : List ℕ → Task → List Tree → Option (List ℕ) → 
 may_read word task conditions delegate_to layers =
     (task_mentions word task || in_trees word (trees_of conditions)) || (delegate_mentions word delegate_to || layers_mention word layers)
 
--- whether they reach a variable whose texts are templates
+-- whether they reach a template among the variables
 abbrev pub conditions_reach : List Map → Option (List Tree) → Bool
-conditions_reach layers conditions = option_map_or (λ (cs : List Tree). some_name_in (layers_store layers) (trees_of cs)) conditions false
+conditions_reach layers conditions = option_map_or (λ (cs : List Tree). some_name_in (layers_lead layers) (trees_of cs)) conditions false
 
 abbrev pub told_reaches : List Map → Task → Bool
 told_reaches layers task = conditions_reach layers task.changed_when || conditions_reach layers task.failed_when
 
--- Of a result neither the module nor the loop is read, nor the variables where these conditions reach none of them: so nothing at all where the task has
--- neither condition.
+-- Of a result neither the module nor the loop is read, nor the variables where these conditions reach no template among them: so nothing at all where
+-- the task has neither condition.
 abbrev pub may_read_of_result : List ℕ → Task → List Map → Bool
 may_read_of_result word task layers = told_names word task || (told_reaches layers task && layers_mention word layers)
 

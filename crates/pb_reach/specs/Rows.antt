@@ -69,9 +69,15 @@ by_failed_when = refl
 of_a_result_by_a_variable : may_read_of_result (codes "x") (changed_by (codes "y")) (layers [] [] [] [] ((codes "y", text (codes "{{ x }}")) ∷ []) [] [] [] [] [] []) ≡ true
 of_a_result_by_a_variable = refl
 
--- not where the conditions reach no variable that is a template: the name of what was registered stands in none
-by_no_variable : may_read_of_result (codes "x") (changed_by (codes "r")) (layers [] [] [] [] ((codes "y", text (codes "{{ x }}")) ∷ []) [] [] [] ((codes "r", text (codes "{{ x }}")) ∷ []) [] []) ≡ false
-by_no_variable = refl
+-- not where the conditions reach no template: neither what was registered is one, nor a variable without an expression in it
+by_what_was_registered : may_read_of_result (codes "x") (changed_by (codes "r")) (layers [] [] [] [] ((codes "y", text (codes "{{ x }}")) ∷ []) [] [] [] ((codes "r", text (codes "{{ x }}")) ∷ []) [] []) ≡ false
+by_what_was_registered = refl
+
+by_a_plain_variable : may_read_of_result (codes "x") (changed_by (codes "y")) (layers [] [] [] [] ((codes "y", list (items_of (text (codes "x") ∷ []))) ∷ (codes "z", text (codes "{{ x }}")) ∷ []) [] [] [] [] [] []) ≡ false
+by_a_plain_variable = refl
+
+by_a_list_of_templates : may_read_of_result (codes "x") (changed_by (codes "y")) (layers [] [] [] [] ((codes "y", list (items_of (text (codes "{{ z }}") ∷ []))) ∷ (codes "z", text (codes "{{ x }}")) ∷ []) [] [] [] [] [] []) ≡ true
+by_a_list_of_templates = refl
 
 -- a task that has neither says nothing of a result, and reads nothing, whatever its variables name
 says_nothing : may_read_of_result (codes "x") shows_x (layers [] [] [] [] ((codes "y", text (codes "{{ x }}")) ∷ []) [] [] [] [] [] []) ≡ false

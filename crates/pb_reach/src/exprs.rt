@@ -2,9 +2,9 @@
 ghost use Rattle.std.specs.Prelude.{◌≡◌};
 ghost use Rattle.pb_expr_syntax.specs.Tree.{trees_of};
 ghost use Rattle.pb_reach.specs.Named.{in_tree, in_trees};
-ghost use Rattle.pb_reach.specs.Reached.{some_name, some_name_in, layers_store};
+ghost use Rattle.pb_reach.specs.Reached.{some_name, some_name_in, layers_lead};
 
-use crate::variables::layers_store;
+use crate::variables::layers_lead;
 use pb_expr_syntax::tree::{Expr, ExprList, Form};
 use pb_layers::layers::Layers;
 
@@ -51,13 +51,13 @@ pub(crate) fn some_names(word: &str, exprs: &[Expr]) -> bool
     false
 }
 
-/// Whether one of an expression's names stands in a layer whose texts are templates.
+/// Whether one of an expression's names stands for a template.
 #[cycle(reached)]
 fn reaches(layers: &Layers, expr: &Expr) -> bool
-    ensures { result ≡ some_name (layers_store layers.now) expr.now }
+    ensures { result ≡ some_name (layers_lead layers.now) expr.now }
 {
     match &expr.form {
-        Form::Name(name) => layers_store(layers, name.as_str()),
+        Form::Name(name) => layers_lead(layers, name.as_str()),
         Form::List(list) => some_reaches(layers, list),
         Form::Member(x, _) => reaches(layers, x),
         Form::Index(x, y) => reaches(layers, x) || reaches(layers, y),
@@ -72,7 +72,7 @@ fn reaches(layers: &Layers, expr: &Expr) -> bool
 
 #[cycle(reached)]
 fn some_reaches(layers: &Layers, list: &ExprList) -> bool
-    ensures { result ≡ some_name_in (layers_store layers.now) (trees_of list.now) }
+    ensures { result ≡ some_name_in (layers_lead layers.now) (trees_of list.now) }
 {
     for expr in &list.items {
         if reaches(layers, expr) {
@@ -84,7 +84,7 @@ fn some_reaches(layers: &Layers, list: &ExprList) -> bool
 
 /// Whether one of the names of some expressions does.
 pub(crate) fn some_reach(layers: &Layers, exprs: &[Expr]) -> bool
-    ensures { result ≡ some_name_in (layers_store layers.now) (trees_of exprs.now) }
+    ensures { result ≡ some_name_in (layers_lead layers.now) (trees_of exprs.now) }
 {
     for expr in exprs {
         if reaches(layers, expr) {

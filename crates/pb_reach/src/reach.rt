@@ -194,7 +194,7 @@ fn has_either(task: &Task) -> bool
 }
 
 /// Whether a name can be looked up while a task says of a result whether it changed something or failed: its module and its loop aren't searched, nor
-/// are the variables where its conditions reach none of them.
+/// are the variables where its conditions reach no template among them.
 ///
 /// It may be said of a name that is never looked up that it can be.
 pub fn may_read_of_result(word: &str, task: &Task, layers: &Layers) -> bool

@@ -1,35 +1,36 @@
 //! Names among variables.
-ghost use Rattle.std.specs.Prelude.{◌≡◌, ◌≤◌, is_some, length};
-ghost use Rattle.pb_value.specs.Datum.{value_at};
+ghost use Rattle.std.specs.Prelude.{◌≡◌, ◌≤◌, length};
 ghost use Rattle.pb_layers.specs.Found.{maps_in};
-ghost use Rattle.pb_reach.specs.Reached.{each_stores, layers_store};
+ghost use Rattle.pb_reach.specs.Reached.{leads_on, each_leads, layers_lead};
 
+use crate::values::mentions;
 use pb_layers::layers::Layers;
 use pb_value::val::Dict;
 
-fn stores(map: &Dict, name: &str) -> bool
-    ensures { result ≡ is_some (value_at name.now map.now) }
+/// Whether a name stands in a map for a value in whose texts an expression begins.
+fn leads_on(name: &str, map: &Dict) -> bool
+    ensures { result ≡ leads_on name.now map.now }
 {
     match map.get(name) {
-        Some(_) => true,
+        Some(value) => mentions("{{", value),
         None => false,
     }
 }
 
-/// Whether a name stands in one of some maps.
-fn some_stores(maps: &[&Dict], name: &str) -> bool
+/// Whether it does in one of some maps.
+fn some_lead(maps: &[&Dict], name: &str) -> bool
     requires { length maps.now ≤ 9 }
-    ensures { result ≡ each_stores (maps_in maps.now) name.now }
+    ensures { result ≡ each_leads (maps_in maps.now) name.now }
 {
     match maps {
         [] => false,
-        [map, below @ ..] => stores(*map, name) || some_stores(below, name),
+        [map, below @ ..] => leads_on(name, *map) || some_lead(below, name),
     }
 }
 
-/// Whether a name stands in a layer whose texts are templates: in one of all but the facts of the host, and what was set or registered.
-pub(crate) fn layers_store(layers: &Layers, name: &str) -> bool
-    ensures { result ≡ layers_store layers.now name.now }
+/// Whether it does in a layer whose texts are templates: in one of all but the facts of the host, and what was set or registered.
+pub(crate) fn layers_lead(layers: &Layers, name: &str) -> bool
+    ensures { result ≡ layers_lead layers.now name.now }
 {
     let maps = [
         layers.extra_variables,
@@ -42,5 +43,5 @@ pub(crate) fn layers_store(layers: &Layers, name: &str) -> bool
         layers.group_variables,
         layers.role_defaults,
     ];
-    some_stores(&maps, name)
+    some_lead(&maps, name)
 }
