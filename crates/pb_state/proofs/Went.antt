@@ -4,6 +4,8 @@ use Rattle.std.specs.Prelude.{Option, Some, None, IfSome, option_map, slice_get,
 use Rattle.std.specs.Option.{option_map_or}
 use Rattle.pb_cursors.specs.Walks.{PlayWalkOf}
 use Rattle.pb_facts.specs.Facts.{FactsOf}
+use Rattle.pb_facts.specs.News.{IsPast}
+use Rattle.pb_facts.specs.declared.news.Past.{Past}
 use Rattle.pb_outcome.specs.declared.gather.ItemResult.{ItemResult}
 use Rattle.pb_outcome.specs.declared.item.Item.{Item}
 use Rattle.pb_outcome.specs.declared.job.Call.{Call}
@@ -17,6 +19,7 @@ use Rattle.pb_sight.specs.declared.gifts.Gift.{Gift}
 use Rattle.pb_state.specs.Back.{settled_in, back_running, back_row, went_with, went_on, gives_with, gives_on, gives_now, decided_back, decided_now}
 use Rattle.pb_state.specs.Bounds.{IsAtMost}
 use Rattle.pb_state.specs.Machine.{change, given_to, item_of, decided_by, gifts_by, gifts_of, report_gives, report_decides}
+use Rattle.pb_state.specs.Prepared.{knows}
 use Rattle.pb_state.specs.Row.{HostRow, came_back, reported, reported_running}
 use Rattle.pb_state.specs.Walking.{RunsInBatch}
 use Rattle.pb_outcome.specs.Items.{next_item}
@@ -122,3 +125,8 @@ put_back (r ∷ rows) (suc h) row new f e same = change_on r (slice_set rows h n
 
 pub nobody : (rows : List HostRow) (h : ℕ) (f : HostRow → HostRow) → slice_get rows h ≡ None → change rows h f ≡ rows
 nobody rows h f e = ap (λ (found : Option HostRow). option_map_or (λ (row : HostRow). slice_set rows h (f row)) found rows) e
+
+-- a host that heard something, whose answer was refused memory, knows again what it knew
+pub unheard : (past : Past) (facts : FactsOf) (row hearing after new : HostRow) → hearing ≡ knows facts row → IsPast past row.facts hearing.facts → after ≡ hearing
+    → ((was : FactsOf) → IsPast past was after.facts → new ≡ knows was after) → new ≡ row
+unheard past facts row hearing after new h p a back = back row.facts (subst (λ (r : HostRow). IsPast past row.facts r.facts) (sym a) p) ∙ ap (knows row.facts) (a ∙ h)

@@ -1,5 +1,5 @@
 -- A report in its parts: an item comes back, and then its task goes on; and how the item is put back where memory is refused on the way.
-use Rattle.std.specs.Prelude.{◌≡◌, ⊤, ℕ, Bool, false, ◌||◌, List, [], Option, Some, None, option_map, unwrap_or, slice_get}
+use Rattle.std.specs.Prelude.{◌≡◌, ⊤, ℕ, Bool, false, ◌||◌, List, [], Option, Some, None, option_map, slice_get}
 use Rattle.std.specs.Option.{option_map_or}
 use Rattle.pb_value.specs.Datum.{Datum}
 use Rattle.pb_inventory.specs.InventoryOf.{InventoryOf}
@@ -46,13 +46,12 @@ finish_of once place task running = record { place = place; kind = kind_of task;
 abbrev pub finish_run : PlayOf → ℕ → TaskEnd → Option Running → Finish
 finish_run play place task running = finish_of (runs_once_at play place) place task running
 
-abbrev pub settled_row : Bool → ℕ → TaskEnd → Option FactsOf → HostRow → HostRow
-settled_row once place task known row =
+abbrev pub settled_row : Bool → ℕ → TaskEnd → HostRow → HostRow
+settled_row once place task row =
     record row {
       is_broken = row.is_broken || breaks task.is_caught (kind_of task);
       running = None;
       last = Some (finish_of once place task row.running);
-      facts = unwrap_or known row.facts;
       counts = counted task row.counts;
     }
 

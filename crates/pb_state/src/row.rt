@@ -6,6 +6,7 @@ ghost use Rattle.pb_tree.specs.Answer.{AnswerOf};
 ghost use Rattle.pb_tree.specs.Walk.{status_now};
 ghost use Rattle.pb_planes.specs.Set.{is_in as is_member};
 ghost use Rattle.pb_cursors.specs.Walks.{walk_after};
+ghost use Rattle.pb_facts.specs.News.{heard};
 ghost use Rattle.pb_sight.specs.Learning.{taught_by};
 ghost use Rattle.pb_state.specs.Joining.{walk_if};
 
@@ -17,6 +18,7 @@ use crate::told::{done_at, runs_once_at, told_of};
 use crate::turned::Turned;
 use pb_cursors::{LaidTree, PlayWalk};
 use pb_facts::facts::Facts;
+use pb_facts::news::{News, Past};
 use pb_ids::{HostNo, Ticket};
 use pb_inventory::inventory::Inventory;
 use pb_outcome::outcome::Outcome;
@@ -290,8 +292,8 @@ fn come_back(
     }
 }
 
-/// What a host knows once the task at a place ended there so, where that is more than before.
-fn known_after(
+/// What a host that knows this hears once the task at a place ended there so.
+fn news_after(
     alloc: Global,
     inventory: &Inventory,
     play: &PlanPlay,
@@ -300,8 +302,8 @@ fn known_after(
     done: &Done,
     items: &TaskItems,
     facts: &Facts,
-) -> Result<Option<Facts>, AllocError>
-    ensures { IfOk result (λ known. unwrap_or known facts.now ≡ taught_by inventory.now play.now place host.0 done.now.task.result done.now.result items.now facts.now) }
+) -> Result<News, AllocError>
+    ensures { IfOk result (λ news. heard news facts.now ≡ taught_by inventory.now play.now place host.0 done.now.task.result done.now.result items.now facts.now) }
 {
     let ended = done.task.result;
     taught(
@@ -319,6 +321,8 @@ fn known_after(
 
 impl Row {
     ghost use Rattle.pb_state.specs.Row.{first_row, answered, finished, progressed, sent, called, left, pending};
+    ghost use Rattle.pb_facts.specs.Facts.{FactsOf};
+    ghost use Rattle.pb_facts.specs.News.{IsPast};
     ghost use Rattle.pb_state.specs.Joining.{with_walk};
     ghost use Rattle.pb_state.specs.Prepared.{knows};
     ghost use Rattle.pb_state.specs.Machine.{done_if};
@@ -363,44 +367,75 @@ impl Row {
         Ok(())
     }
 
-    /// Puts down how the task at a place ended that the host runs, after which it knows this, where it is more than before.
-    fn settle(
+    /// The host hears this. What was before is handed back. An `Err` changes nothing.
+    fn hear(&mut self, alloc: Global, news: News) -> Result<Past, AllocError>
+        ensures ok { OnOk result (self.new ≡ knows (heard news self.old.facts) self.old) }
+        ensures past { IfOk result (λ past. IsPast past self.old.facts self.new.facts) }
+        ensures err { OnErr result (self.new ≡ self.old) }
+    {
+        let past = self.facts.hear(alloc, news)?;
+        Ok(past)
+    }
+
+    /// Puts back what was before the host heard something.
+    fn unhear(&mut self, past: Past)
+        ensures { (was : FactsOf) → IsPast past was self.old.facts → self.new ≡ knows was self.old }
+    {
+        self.facts.unhear(past);
+    }
+
+    /// The host hears this, and gets one answer more. An `Err` changes nothing.
+    #[tactic(auto, using(crate::proofs::Went::unheard))]
+    fn hear_and_answer(
         &mut self,
         alloc: Global,
-        once: bool,
-        place: usize,
-        task: TaskEnd,
-        known: Option<Facts>,
-    )
+        answer: Answer,
+        news: News,
+    ) -> Result<(), AllocError>
+        requires { self.old.in_batch ≡ true }
+        ensures ok { OnOk result (self.new ≡ answered answer (knows (heard news self.old.facts) self.old)) }
+        ensures err { OnErr result (self.new ≡ self.old) }
+    {
+        let past = self.hear(alloc, news)?;
+        match self.answer(answer) {
+            Ok(()) => Ok(()),
+            Err(error) => {
+                self.unhear(past);
+                Err(error)
+            }
+        }
+    }
+
+    /// Puts down how the task at a place ended that the host runs.
+    fn settle(&mut self, alloc: Global, once: bool, place: usize, task: TaskEnd)
         requires { IsAtMost self.old.counts (2 ^ 64 - 2) }
-        ensures { self.new ≡ settled_row once place task known self.old }
+        ensures { self.new ≡ settled_row once place task self.old }
     {
         let kind = kind_of(task);
         let ran = mem::replace(&mut self.running, None);
         let items = kept_items(alloc, once, items_run(alloc, ran));
         put_last(&mut self.last, Some(Finish { place, kind, items }));
         self.is_broken = self.is_broken || breaks(task.is_caught, kind);
-        put_facts(&mut self.facts, known);
         self.counts = counted(self.counts, task);
     }
 
-    /// The task at a place that the host runs ends, after which it knows this, where it is more than before. An `Err` changes nothing.
+    /// The task at a place that the host runs ends, and the host hears this. An `Err` changes nothing.
     fn finish(
         &mut self,
         alloc: Global,
         play: &PlanPlay,
         place: usize,
         task: TaskEnd,
-        known: Option<Facts>,
+        news: News,
     ) -> Result<(), AllocError>
         requires batch { self.old.in_batch ≡ true }
         requires room { IsAtMost self.old.counts (2 ^ 64 - 2) }
-        ensures ok { OnOk result (self.new ≡ finished (finish_run play.now place task self.old.running) task (notified_by play.now place task) (unwrap_or known self.old.facts) self.old) }
+        ensures ok { OnOk result (self.new ≡ finished (finish_run play.now place task self.old.running) task (notified_by play.now place task) (heard news self.old.facts) self.old) }
         ensures err { OnErr result (self.new ≡ self.old) }
     {
         let notified = Vec::from_slice(alloc, notified_by(play, place, task))?;
-        self.answer(Answer::of(kind_of(task), notified))?;
-        self.settle(alloc, runs_once_at(play, place), place, task, known);
+        self.hear_and_answer(alloc, Answer::of(kind_of(task), notified), news)?;
+        self.settle(alloc, runs_once_at(play, place), place, task);
         Ok(())
     }
 
@@ -546,7 +581,7 @@ impl Row {
                 let place = running.place;
                 let marks = marks_in(&self.walk);
                 let done = done_at(alloc, play, place, marks, &running.items)?;
-                let known = known_after(
+                let news = news_after(
                     alloc,
                     inventory,
                     play,
@@ -556,7 +591,7 @@ impl Row {
                     &running.items,
                     &self.facts,
                 )?;
-                self.finish(alloc, play, place, done.task, known)?;
+                self.finish(alloc, play, place, done.task, news)?;
                 Ok(Some(done))
             }
         }

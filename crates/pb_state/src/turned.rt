@@ -3,6 +3,7 @@
 ghost use Rattle.std.specs.Prelude.{◌≡◌, ◌<◌, ◌^◌, ℕ, Option, Some, None, List, length, map, count_by, unwrap_or, IfOk, IfNone, OnOk, false};
 ghost use Rattle.std.specs.List.{list_any};
 ghost use Rattle.std.specs.Option.{option_copied};
+ghost use Rattle.pb_facts.specs.News.{heard};
 ghost use Rattle.pb_state.specs.Row.{HostRow, taught};
 ghost use Rattle.pb_state.specs.Turn.{any_errors_fatal_at, batch_count, broken_count, copied, copied_if, has_ended_fatally, has_failed_too_often, has_settled, is_fatal_at, is_halting, is_settled, is_settled_at, settler, source, with_copy};
 ghost use Rattle.pb_state.specs.Turned.{IsTurnOf, turn_answered, turn_copied, turn_halted, turn_may_be_halted, turned_if, turned_row, with_each, with_turned};
@@ -13,6 +14,7 @@ use crate::row::{Finish, Row, is_active, place_of};
 use crate::told::{caught_at, runs_once_at, task_at, variable_at};
 use pb_cursors::PlayWalk;
 use pb_facts::facts::Facts;
+use pb_facts::news::News;
 use pb_ids::HostNo;
 use pb_inventory::inventory::Inventory;
 use pb_outcome::registered::registered;
@@ -42,6 +44,20 @@ impl Drop for Turned {
     }
 }
 
+/// What a host that knows this knows once it has heard something; nothing where that is no more than before.
+fn known_with(alloc: Global, facts: &Facts, news: News) -> Result<Option<Facts>, AllocError>
+    ensures { IfOk result (λ known. unwrap_or known facts.now ≡ heard news facts.now) }
+{
+    match &news {
+        News::Nothing => return Ok(None),
+        News::Whole(_) => {}
+        News::More(_) => {}
+    }
+    let mut known = facts.try_clone(alloc)?;
+    let _past = known.hear(alloc, news)?;
+    Ok(Some(known))
+}
+
 /// What a host knows once it gets what the task at a place left with another host, which ended it with these items; nothing where that is no more than
 /// before.
 fn known_from(
@@ -57,7 +73,7 @@ fn known_from(
 {
     let ended = task_at(play, place, items).result;
     let shown = registered(alloc, variable_at(play, place), items.as_slice())?;
-    taught(
+    let news = taught(
         alloc,
         inventory,
         play,
@@ -67,7 +83,8 @@ fn known_from(
         &shown,
         items.as_slice(),
         facts,
-    )
+    )?;
+    known_with(alloc, facts, news)
 }
 
 impl Turned {
