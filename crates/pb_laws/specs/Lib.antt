@@ -1,3 +1,4 @@
 pub mod History
 pub mod Laws
+pub mod Kept
 pub mod Rows

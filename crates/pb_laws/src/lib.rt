@@ -2,10 +2,12 @@
 //!
 //! For the layers above: each function here does nothing, and its contract is a law of all legal trails, in an operator's words: own
 //! hosts, forks, order, who is out, that everything was done, jobs, and that the recap adds up (docs/THEOREM.md has them on one page). They are said over what happens in
-//! a run (`history`), which is read off a plan and a trail.
+//! a run (`history`), which is read off a plan and a trail. `runs_keep_laws` is all of them at once: a call that knows that its trail is legal cites it, and
+//! says in its own contract that this trail keeps them (`KeepsLaws`).
 #![tactic(auto)]
 
 ghost use Rattle.pb_laws.specs.Laws.{Always, AtTheEnd, own_hosts, within_forks, in_order, places_rise, out_is_out, have_walked, all_closed, jobs_in_order, all_answered, RecapAddsUp};
+ghost use Rattle.pb_laws.specs.Kept.{RunsKeepLaws};
 
 /// A host starts a task of a play only if the play's pattern and the limit select it, and only in a batch that it is in; and no host is in
 /// two batches of a play.
@@ -49,4 +51,9 @@ pub fn jobs_are_answered_once()
 /// task of `meta` is none unless it failed; and the exit status is 0 exactly where no host has a count of failed or unreachable tasks.
 pub fn recap_adds_up()
     ensures { RecapAddsUp }
+{}
+
+/// Every legal trail of a plan keeps all of these laws.
+pub fn runs_keep_laws()
+    ensures { RunsKeepLaws }
 {}
