@@ -1,2 +1,4 @@
 pub mod Plays
 pub mod Names
+pub mod NoLineFeed
+pub mod Whole

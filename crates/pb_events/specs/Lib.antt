@@ -3,6 +3,7 @@ pub mod Line
 pub mod Batch
 pub mod Notify
 pub mod Lines
+pub mod Whole
 pub mod Rows
 pub mod BlockRows
 pub mod HandlerRows

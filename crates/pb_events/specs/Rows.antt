@@ -18,9 +18,10 @@ use Rattle.pb_state.specs.Run.{state_from}
 use Rattle.pb_state.specs.State.{State}
 use Rattle.pb_events.specs.Line.{line}
 use Rattle.pb_events.specs.Lines.{start_line, lines_of, result_line}
+use Rattle.pb_events.specs.Whole.{lines_in}
 
 -- what computes a row
-unfoldable on_literals : ⊤
+unfoldable pub on_literals : ⊤
 unfolding line digits serde_json_on_literals on_tasks
 on_literals = tt
 
@@ -29,7 +30,7 @@ one_task called =
     bare_plan (codes "a" ∷ codes "b" ∷ [])
     (bare_play (codes "all") (bare_tree 0 1 0) (bare_place (codes "hi") called ∷ []) (true ∷ true ∷ []) ∷ [])
 
-abbrev two_hosts : PlanOf
+abbrev pub two_hosts : PlanOf
 two_hosts = one_task (Debug (text (codes "hello")))
 
 abbrev after_of : PlanOf → List Event → State
@@ -38,10 +39,10 @@ after_of plan events = state_from plan (first_state plan 5 5) events
 abbrev after_all : List Event → State
 after_all events = after_of two_hosts events
 
-abbrev first : Event
+abbrev pub first : Event
 first = Start (record { 0 = 0 })
 
-abbrev second : Event
+abbrev pub second : Event
 second = Start (record { 0 = 1 })
 
 begins : start_line 1 ≡ codes "{\"event\":\"playbook_on_start\",\"plays\":1}\n"
@@ -157,3 +158,26 @@ ignored_line : ends_as (record { unreachable = false; failed = true; skipped = f
     ≡ codes "{\"event\":\"runner_on_failed\",\"host\":\"a\",\"ignored\":true,\"place\":\"1\",\"play\":0,\"result\":null}\n"
 unfolding on_literals
 ignored_line = refl
+
+-- the lines of a text: one ends with its line feed, and what stands behind the last is one too
+two_whole : lines_in (codes "a\n\n") ≡ codes "a\n" ∷ codes "\n" ∷ []
+two_whole = refl
+
+one_torn : lines_in (codes "a\nb") ≡ codes "a\n" ∷ codes "b" ∷ []
+one_torn = refl
+
+-- a text that isn't whole is joined with what comes behind it
+joined : lines_in (codes "a" ++ codes "b\n") ≡ codes "ab\n" ∷ []
+joined = refl
+
+-- those of one event
+lines_of_first : lines_in (lines_of two_hosts (after_all (Open ∷ first ∷ [])) first)
+    ≡ codes "{\"event\":\"playbook_on_task_start\",\"name\":\"hi\",\"place\":\"1\",\"play\":0}\n"
+    ∷ codes "{\"event\":\"runner_on_start\",\"host\":\"a\",\"place\":\"1\",\"play\":0}\n"
+    ∷ codes "{\"event\":\"runner_on_ok\",\"host\":\"a\",\"place\":\"1\",\"play\":0,\"result\":{\"changed\":false,\"failed\":false,\"msg\":\"hello\"}}\n"
+    ∷ []
+unfolding on_literals
+lines_of_first = refl
+
+no_line_of_turn : lines_in (lines_of two_hosts (after_all (Open ∷ first ∷ second ∷ Turn ∷ [])) Turn) ≡ []
+no_line_of_turn = refl
