@@ -10,6 +10,7 @@ use Rattle.pb_state.specs.Run.{legal_from, state_from, IsRun}
 use Rattle.pb_state.specs.Once.{IsOnce}
 use Rattle.pb_state.proofs.Once.{run_once}
 use Rattle.pb_state.proofs.Opening.{length-first}
+use Rattle.pb_laws.specs.Kept.{KeepsLaws, RunsKeepLaws}
 
 pub legal_more : (plan : PlanOf) (s : State) (es : List Event) (e : Event) → legal_from plan s es ≡ true → possible plan (state_from plan s es) e ≡ true → legal_from plan s (es ++ e ∷ []) ≡ true
 legal_more plan s [] e l p = rw p refl
@@ -39,6 +40,10 @@ run_on (Err x) plan pool trail new_trail s new_s e run p ok err = rw (err.0, err
 -- a run does nothing twice
 pub once_in_run : (plan : PlanOf) (pool : ℕ) (trail : List Event) (s : State) → IsRun plan pool trail s → IsOnce plan (first_state plan plan.forks pool) trail
 once_in_run plan pool trail s run = run_once plan pool trail s run
+
+-- and keeps the laws of runs
+pub laws_in_run : (plan : PlanOf) (pool : ℕ) (trail : List Event) (s : State) → RunsKeepLaws → IsRun plan pool trail s → KeepsLaws plan pool trail
+laws_in_run plan pool trail s laws run = laws plan pool trail run.legal
 
 -- a set of a plan's hosts is as wide as its first state has rows
 pub first_width : (plan : PlanOf) (pool forks width : ℕ) (ready : List Bool) (s : State) → ready ≡ replicate width false → width ≡ length plan.inventory.hosts → s ≡ first_state plan forks pool → length ready ≡ length s.rows

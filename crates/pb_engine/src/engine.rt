@@ -8,6 +8,7 @@ ghost use Rattle.pb_state.specs.Once.{IsOnce};
 ghost use Rattle.pb_state.specs.Run.{IsRun, is_command};
 ghost use Rattle.pb_state.specs.Work.{work};
 ghost use Rattle.pb_recap.specs.Recap.{recap};
+ghost use Rattle.pb_laws.specs.Kept.{KeepsLaws};
 ghost use Rattle.pb_engine.specs.EngineOf.{EngineOf, Takes, LessWork, IsSound, engine_of};
 ghost use Rattle.pb_engine.specs.Notes.{noted_at};
 ghost use Rattle.pb_engine.specs.Choice.{NextIs};
@@ -221,12 +222,14 @@ impl Engine {
         self.state.pending(host)
     }
 
-    /// The events so far, in order. They do nothing twice.
+    /// The events so far, in order. They do nothing twice, and keep the laws of runs.
     pub fn trail(&self) -> &[Event]
         ensures value { result.now ≡ self.now.trail }
         ensures run { IsSound self.now }
         ensures once { IsOnce self.now.plan (first_state self.now.plan self.now.plan.forks self.now.pool) self.now.trail }
+        ensures laws { KeepsLaws self.now.plan self.now.pool self.now.trail }
     {
+        pb_laws::runs_keep_laws();
         self.trail.as_slice()
     }
 
@@ -247,12 +250,14 @@ impl Engine {
         Recap::of(alloc, &self.state)
     }
 
-    /// The events, which do nothing twice, of an engine that is needed no more. It takes no memory.
+    /// The events, which do nothing twice and keep the laws of runs, of an engine that is needed no more. It takes no memory.
     pub fn into_trail(self) -> Vec<Event>
         ensures value { result.items ≡ self.trail }
         ensures run { IsSound self }
         ensures once { IsOnce self.plan (first_state self.plan self.plan.forks self.pool) self.trail }
+        ensures laws { KeepsLaws self.plan self.pool self.trail }
     {
+        pb_laws::runs_keep_laws();
         self.trail
     }
 }
