@@ -21,7 +21,7 @@ use Rattle.pb_driver.proofs.Pieces.{more_more}
 use Rattle.pb_driver.proofs.Driving.{lines_more, last_at, none_more, fresh_lines, made_of}
 
 -- fronts of lists
-take_behind : (n : ℕ) (a b : List ℕ) → take (length a + n) (a ++ b) ≡ a ++ take n b
+pub take_behind : (n : ℕ) (a b : List ℕ) → take (length a + n) (a ++ b) ≡ a ++ take n b
 take_behind n [] b = let on : 0 + n ≡ n = omega arith in ap (λ k. take k b) on
 take_behind n (x ∷ a) b = let on : length (x ∷ a) + n ≡ suc (length a + n) = omega arith in ap (λ k. take k (x ∷ (a ++ b))) on ∙ ap (λ l. x ∷ l) (take_behind n a b)
 

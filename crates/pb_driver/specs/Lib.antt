@@ -6,3 +6,5 @@ pub mod Obedient
 pub mod CommandRows
 pub mod Driven
 pub mod Cut
+pub mod Written
+pub mod WrittenRows

@@ -9,6 +9,7 @@
 #![tactic(auto)]
 
 ghost use Rattle.pb_driver.specs.Obedient.{CommandsStandBehindReports};
+ghost use Rattle.pb_driver.specs.Written.{LinesStandBehindEvents};
 
 mod driver;
 mod given;
@@ -24,3 +25,11 @@ pub use line_out::{Failed, LineOut, Printed, put_all};
 pub fn commands_stand_behind_reports()
     ensures { CommandsStandBehindReports }
 {}
+
+/// What holds of the output of every trail: behind the first line stand the lines of the events, each directly behind those of the events before it, and no
+/// other line; then come the statistics and the recap. Where a run couldn't go on, the lines of all events but the last were written.
+pub fn lines_stand_behind_events()
+    ensures { LinesStandBehindEvents }
+{
+    pb_events::events_have_lines();
+}
