@@ -12,7 +12,11 @@ use Rattle.pb_recap.specs.Kinds.{status_of, has}
 use Rattle.pb_recap.specs.declared.kind.CountKind.TheVariants.{Failed, Unreachable}
 use Rattle.pb_recap.specs.Recap.{recap}
 use Rattle.pb_driver.specs.declared.driver.RunFault.{RunFault}
+use Rattle.pb_laws.specs.Kept.{RunsKeepLaws}
+use Rattle.pb_driver.specs.Cut.{IsCut}
+use Rattle.pb_driver.specs.Driven.{IsBegun, IsWholeRun}
 use Rattle.pb_driver.specs.Ran.{IsRanTo}
+use Rattle.pb_driver.specs.Written.{LinesStandBehindEvents}
 use Rattle.pb_driver.specs.declared.given.Given.{Given}
 use Rattle.pb_runner.specs.Launch.{Launch}
 use Rattle.pb_runner.specs.Local.{LocalAllows, LocalGives}
@@ -26,6 +30,19 @@ use Rattle.pb_cli.specs.declared.playing.Wanted.{Wanted}
 use Rattle.pb_cli.specs.Audited.{IsVerdict}
 use Rattle.pb_cli.specs.Played.{IsRunBy, IsCutBy, IsLocalRun, IsLocalCut, IsTabledCut, IsPlayed, IsPlayedTo, HasTrail, IsRunOrAudited, IsRunOrAuditedTo, IsGivenFor, allows_all, commands_for}
 use Rattle.pb_cli.specs.Done.{IsShown}
+
+-- a run that is legal keeps the laws of runs, and its output those of lines
+pub run_by : (allows gives : Job → Form → Type 0) (has_run : List (Job × Form) → Type 0) (plan : PlanOf) (commands : List Given) (trail : List Event) (before after : Option (List ℕ)) (status : ℕ)
+    → RunsKeepLaws → LinesStandBehindEvents → IsWholeRun allows gives has_run plan 256 commands trail before after → status ≡ status_of (recap plan 256 trail)
+    → IsRunBy allows gives has_run plan commands trail before after status
+run_by allows gives has_run plan commands trail before after status laws lines run told =
+    record { run = run; told = told; laws = laws plan 256 trail run.legal; lines = lines.whole plan 256 trail }
+
+pub cut_by : (allows gives : Job → Form → Type 0) (has_run : List (Job × Form) → Type 0) (plan : PlanOf) (commands : List Given) (trail : List Event) (fault : RunFault) (before after : Option (List ℕ))
+    → RunsKeepLaws → LinesStandBehindEvents → IsBegun allows gives plan 256 commands trail → IsRanTo has_run plan 256 trail fault → IsCut plan 256 trail before after
+    → IsCutBy allows gives has_run plan commands trail fault before after
+cut_by allows gives has_run plan commands trail fault before after laws lines begun ran cut =
+    record { begun = begun; ran = ran; cut = cut; laws = laws plan 256 trail begun.legal; lines = lines.cut plan 256 trail before after cut }
 
 -- what was run, said otherwise
 run_as : (allows gives : Job → Form → Type 0) (has_run others : List (Job × Form) → Type 0) (plan : PlanOf) (commands : List Given) (trail : List Event) (before after : Option (List ℕ)) (status : ℕ)
@@ -43,6 +60,8 @@ run_as allows gives has_run others plan commands trail before after status weake
     written = r.run.written;
   };
   told = r.told;
+  laws = r.laws;
+  lines = r.lines;
 }
 
 ran_as : (has_run others : List (Job × Form) → Type 0) (plan : PlanOf) (pool : ℕ) (trail : List Event) (fault : RunFault) → ((jobs : List (Job × Form)) → has_run jobs → others jobs)
@@ -53,7 +72,7 @@ ran_as has_run others plan pool trail fault weaker (inr lost) = inr (lost.0, (lo
 cut_as : (allows gives : Job → Form → Type 0) (has_run others : List (Job × Form) → Type 0) (plan : PlanOf) (commands : List Given) (trail : List Event) (fault : RunFault) (before after : Option (List ℕ))
     → ((jobs : List (Job × Form)) → has_run jobs → others jobs) → IsCutBy allows gives has_run plan commands trail fault before after → IsCutBy allows gives others plan commands trail fault before after
 cut_as allows gives has_run others plan commands trail fault before after weaker c =
-    record { begun = c.begun; ran = ran_as has_run others plan 256 trail fault weaker c.ran; cut = c.cut }
+    record { begun = c.begun; ran = ran_as has_run others plan 256 trail fault weaker c.ran; cut = c.cut; laws = c.laws; lines = c.lines }
 
 -- a run by a runner that starts programs
 pub local_run : (result : Result (ℕ × List Event) (RunFault × List Event)) (plan : PlanOf) (stop_after : Option ℕ) (facts facts_after : Option (List ℕ)) (started started_after : Option (List Launch)) (before after : Option (List ℕ))

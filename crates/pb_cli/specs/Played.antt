@@ -13,6 +13,7 @@ use Rattle.pb_state.specs.declared.event.Event.{Event}
 use Rattle.pb_plan.specs.Plan.{PlanOf}
 use Rattle.pb_recap.specs.Recap.{recap}
 use Rattle.pb_recap.specs.Kinds.{status_of}
+use Rattle.pb_laws.specs.Kept.{KeepsLaws}
 use Rattle.pb_engine.specs.declared.command.Command.TheVariants.{Stop}
 use Rattle.pb_driver.specs.declared.driver.RunFault.{RunFault}
 use Rattle.pb_driver.specs.declared.driver.RunFault.TheVariants.{Memory}
@@ -21,6 +22,7 @@ use Rattle.pb_driver.specs.Cut.{IsPart, IsCut}
 use Rattle.pb_driver.specs.Driven.{IsBegun, IsWholeRun}
 use Rattle.pb_driver.specs.Ran.{IsRanTo}
 use Rattle.pb_driver.specs.Taken.{with_more}
+use Rattle.pb_driver.specs.Written.{StandBehindEvents, StandBehindEventsTo}
 use Rattle.pb_command_line.specs.declared.words.Purpose.{Purpose}
 use Rattle.pb_command_line.specs.declared.words.Purpose.TheVariants.{Run, CheckSyntax, ListHosts}
 use Rattle.pb_cli.specs.declared.playing.Played.{Played}
@@ -38,16 +40,21 @@ commands_for None = []
 commands_for (Some reports) = record { after = reports; command = Stop } ∷ []
 
 -- what was written is the output of this trail, which is one whole run of the plan, legal and eager, that was given these commands, in which each job that was out is answered with an
--- outcome that may come of it, exactly these jobs were run, and the status is that of its recap
+-- outcome that may come of it, exactly these jobs were run, and the status is that of its recap; it keeps the laws of runs, and each of its events has its lines
 pub record IsRunBy (allows gives : Job → Form → Type 0) (has_run : List (Job × Form) → Type 0) (plan : PlanOf) (commands : List Given) (trail : List Event) (before after : Option (List ℕ)) (status : ℕ) : Type 0 where
   pub run : IsWholeRun allows gives has_run plan 256 commands trail before after
   pub told : status ≡ status_of (recap plan 256 trail)
+  pub laws : KeepsLaws plan 256 trail
+  pub lines : StandBehindEvents plan 256 trail
 
--- what was written is a beginning of the output of this trail, whose run couldn't go on, and what was run is what its events say
+-- what was written is a beginning of the output of this trail, whose run couldn't go on, and what was run is what its events say; it keeps the laws of runs, and
+-- the lines of all its events but the last stand there
 pub record IsCutBy (allows gives : Job → Form → Type 0) (has_run : List (Job × Form) → Type 0) (plan : PlanOf) (commands : List Given) (trail : List Event) (fault : RunFault) (before after : Option (List ℕ)) : Type 0 where
   pub begun : IsBegun allows gives plan 256 commands trail
   pub ran : IsRanTo has_run plan 256 trail fault
   pub cut : IsCut plan 256 trail before after
+  pub laws : KeepsLaws plan 256 trail
+  pub lines : StandBehindEventsTo plan 256 trail before after
 
 -- what was started for a run's jobs, of which each may have one program
 abbrev pub started_for : Option (List ℕ) → Option (List Launch) → Option (List Launch) → List (Job × Form) → Type 0

@@ -78,6 +78,7 @@ pub enum PlayFault {
 }
 
 /// Runs a plan by this runner, with these commands, and with its lines on a writer. It answers the exit status and the events.
+#[tactic(auto, using(crate::proofs::Running::run_by, crate::proofs::Running::cut_by))]
 fn run_given<N: Runner, O: LineOut>(
     alloc: Global,
     plan: Plan,
@@ -89,6 +90,8 @@ fn run_given<N: Runner, O: LineOut>(
     ensures cut { IfErr result (λ cut. IsCutBy N.allows (N.gives runner.old) (λ jobs. N.ran runner.old jobs runner.new) plan commands.now cut.1 cut.0 (O.taken out.old) (O.taken out.new)) }
     ensures write { IfErr result (λ cut. cut.0 ≡ RunFault.Write → O.failures out.new ≡ one_more (O.failures out.old)) }
 {
+    pb_laws::runs_keep_laws();
+    pb_driver::lines_stand_behind_events();
     match run_plain(alloc, plan, runner, &mut Lowest, commands, out) {
         Ok(
             Ended {
