@@ -7,7 +7,7 @@ use Rattle.pb_outcome.specs.declared.outcome.Form.{Form}
 use Rattle.pb_plan.specs.Plan.{PlanOf}
 use Rattle.pb_plan.specs.declared.bundle.Bundle.{Bundle}
 use Rattle.pb_state.specs.declared.event.Event.{Event}
-use Rattle.pb_state.specs.declared.row.Counts.{Counts}
+use Rattle.pb_one_host.specs.declared.row.Counts.{Counts}
 use Rattle.pb_recap.specs.Kinds.{status_of, has}
 use Rattle.pb_recap.specs.declared.kind.CountKind.TheVariants.{Failed, Unreachable}
 use Rattle.pb_recap.specs.Recap.{recap}

@@ -13,14 +13,16 @@ use Rattle.pb_outcome.specs.declared.outcome.Form.{Form}
 use Rattle.pb_outcome.specs.Items.{next_item}
 use Rattle.pb_state.specs.declared.event.Event.{Event}
 use Rattle.pb_state.specs.declared.event.Event.TheVariants.{Open, Start, Send, Report as Reported, Turn, Close, Stop, Forks}
-use Rattle.pb_state.specs.declared.row.Counts.{Counts}
-use Rattle.pb_state.specs.declared.row.Running.{Running}
+use Rattle.pb_one_host.specs.declared.row.Counts.{Counts}
+use Rattle.pb_one_host.specs.declared.row.Running.{Running}
 use Rattle.pb_plan.specs.Plan.{PlayOf, PlanOf}
-use Rattle.pb_state.specs.Row.{HostRow}
+use Rattle.pb_one_host.specs.Row.{HostRow}
 use Rattle.pb_state.specs.State.{State}
-use Rattle.pb_state.specs.Machine.{possible, after, first_state, is_out, item_of, item_at, open_play}
-use Rattle.pb_state.specs.Jobs.{job_of, job_in, row_job, running_job, item_job, placed_job, call_in, delegate_in, connector_for, job_with}
-use Rattle.pb_state.specs.Oldest.{oldest_out}
+use Rattle.pb_one_host.specs.Runs.{is_out, item_of}
+use Rattle.pb_state.specs.Machine.{possible, after, first_state, item_at, open_play}
+use Rattle.pb_one_host.specs.Calls.{call_in, delegate_in}
+use Rattle.pb_state.specs.Jobs.{job_of, job_in, row_job, running_job, item_job, placed_job, connector_for, job_with}
+use Rattle.pb_all_hosts.specs.Oldest.{oldest_out}
 use Rattle.pb_tree.specs.Tree.{path_at}
 use Rattle.pb_state.specs.Run.{IsEager, IsQuiet, state_from, is_report, is_command}
 use Rattle.pb_state.proofs.Once.{nothing_twice}
@@ -31,7 +33,7 @@ use Rattle.pb_engine.specs.Choice.{NextIs, MovesBy, answer_of}
 use Rattle.pb_engine.specs.declared.engine.Next.{Next}
 use Rattle.pb_engine.specs.declared.engine.Next.TheVariants.{Sent, Moved, Waiting, Finished}
 use Rattle.pb_engine.proofs.Runs.{legal_more}
-use Rattle.pb_state.proofs.OldestOut.{some_oldest}
+use Rattle.pb_all_hosts.proofs.OldestOut.{some_oldest}
 use Rattle.pb_engine.proofs.Waits.{job_in_run, oldest_in_run}
 use Rattle.pb_engine.specs.Refusals.{refusal_of}
 use Rattle.pb_engine.specs.declared.refusal.Refusal.{Refusal}

@@ -11,12 +11,14 @@ use Rattle.pb_outcome.specs.Items.{is_over}
 use Rattle.pb_plan.specs.Plan.{PlayOf, PlanOf}
 use Rattle.pb_state.specs.declared.event.Event.{Event}
 use Rattle.pb_state.specs.declared.event.Event.TheVariants.{Open, Start, Send, Turn, Close}
-use Rattle.pb_state.specs.declared.row.Running.{Running}
-use Rattle.pb_state.specs.Row.{HostRow}
+use Rattle.pb_one_host.specs.declared.row.Running.{Running}
+use Rattle.pb_one_host.specs.Row.{HostRow}
 use Rattle.pb_state.specs.State.{State}
-use Rattle.pb_state.specs.Machine.{possible, ready, ready_in, at_row, has_send, is_next, sends_running, may_send_item, may_start_in, may_send_in, open_play, is_out, first_state}
+use Rattle.pb_one_host.specs.Runs.{has_send, is_next, sends_running, may_send_item, is_out}
+use Rattle.pb_all_hosts.specs.Hosts.{at_row}
+use Rattle.pb_state.specs.Machine.{possible, ready, ready_in, may_start_in, may_send_in, open_play, first_state}
 use Rattle.pb_state.specs.Run.{state_from, IsRun, IsFinished}
-use Rattle.pb_state.proofs.InOrder.{goes_on_at}
+use Rattle.pb_one_host.proofs.InOrder.{goes_on_at}
 use Rattle.pb_state.proofs.Readies.{ready_either}
 use Rattle.pb_state.proofs.Stands.{both}
 use Rattle.pb_state.proofs.Steps.{pool_run}

@@ -17,20 +17,23 @@ use Rattle.pb_outcome.specs.Items.{is_over}
 use Rattle.pb_sight.specs.Results.{items_at}
 use Rattle.pb_state.specs.declared.event.Event.{Event}
 use Rattle.pb_state.specs.declared.event.Event.TheVariants.{Open, Start, Send, Report as Reported, Turn, Close, Stop, Forks}
-use Rattle.pb_state.specs.declared.row.Running.{Running}
+use Rattle.pb_one_host.specs.declared.row.Running.{Running}
 use Rattle.pb_plan.specs.Plan.{PlayOf, PlanOf}
-use Rattle.pb_state.specs.Batches.{room_behind, joined_first}
-use Rattle.pb_state.specs.Row.{HostRow, first_rows, called, place_of, next_place, ended, items_after, progressed, sent, sent_running, reported, reported_running, left}
+use Rattle.pb_all_hosts.specs.Batches.{room_behind, joined_first}
+use Rattle.pb_one_host.specs.Row.{HostRow, first_rows, called, place_of, next_place, ended, items_after, progressed, sent, sent_running, reported, reported_running, left}
 use Rattle.pb_state.specs.State.{State}
 use Rattle.pb_inventory.specs.InventoryOf.{InventoryOf}
 use Rattle.pb_sight.specs.declared.gifts.Gift.{Gift}
-use Rattle.pb_state.proofs.Giving.{given_keeps, length-given}
-use Rattle.pb_state.specs.Machine.{possible, after, change, takes, given_to, gifts_at, report_gives, at_row, open_play, same_place, may_start_in, may_send_in, opened_by, after_open, started_in, next_at, facts_at, plan_seen, start_at, sent_in, reported_in, batch_of, turned_in, first_state}
+use Rattle.pb_all_hosts.proofs.Giving.{given_keeps, length-given}
+use Rattle.pb_all_hosts.specs.Hosts.{change, at_row}
+use Rattle.pb_all_hosts.specs.Giving.{takes, given_to, gifts_at, report_gives}
+use Rattle.pb_state.specs.Machine.{possible, after, open_play, same_place, may_start_in, may_send_in, opened_by, after_open, started_in, next_at, facts_at, plan_seen, start_at, sent_in, reported_in, batch_of, turned_in, first_state}
 use Rattle.pb_state.specs.Run.{legal_from, state_from, IsRun}
-use Rattle.pb_state.proofs.Batching.{length-joined}
-use Rattle.pb_state.proofs.Opening.{length-first, open_case, rows_case}
+use Rattle.pb_all_hosts.proofs.Batching.{length-joined}
+use Rattle.pb_all_hosts.proofs.FirstRows.{length-first}
+use Rattle.pb_state.proofs.Opening.{open_case, rows_case}
 use Rattle.pb_state.proofs.Stands.{stands_at, start_stands}
-use Rattle.pb_state.proofs.Turning.{Goes, goes_running, turned_by_case, turned_hosts}
+use Rattle.pb_all_hosts.proofs.Turning.{Goes, goes_running, turned_by_case, turned_hosts}
 use Rattle.pb_state.proofs.Walks.{IsIn, AllIn, IsOfPlan, step_of, first_of}
 use Rattle.pb_engine.specs.Over.{IsUnfinished, AreUnfinished, IsGoing}
 

@@ -10,15 +10,17 @@ use Rattle.pb_ids.specs.declared.numbers.Ticket.{Ticket}
 use Rattle.pb_planes.specs.Set.{has_some}
 use Rattle.pb_state.specs.declared.event.Event.{Event}
 use Rattle.pb_state.specs.declared.event.Event.TheVariants.{Open, Start, Send, Report as Reported, Turn, Close, Stop, Forks}
-use Rattle.pb_state.specs.declared.row.Running.{Running}
+use Rattle.pb_one_host.specs.declared.row.Running.{Running}
 use Rattle.pb_outcome.specs.declared.job.Report.{Report}
 use Rattle.pb_outcome.specs.Items.{next_item}
 use Rattle.pb_plan.specs.Plan.{PlayOf, PlanOf}
-use Rattle.pb_state.specs.Row.{HostRow}
+use Rattle.pb_one_host.specs.Row.{HostRow}
 use Rattle.pb_state.specs.State.{State}
-use Rattle.pb_state.specs.Machine.{possible, ready, ready_in, at_row, may_open, may_start_in, may_send_in, may_send_item, may_report_in, may_turn_in, may_close_in, has_send, sends_running, is_ticket, is_next, is_out, awaits, awaits_running, item_of, item_at, open_play}
+use Rattle.pb_one_host.specs.Runs.{may_send_item, has_send, sends_running, is_ticket, is_next, is_out, awaits, awaits_running, item_of}
+use Rattle.pb_all_hosts.specs.Hosts.{at_row}
+use Rattle.pb_state.specs.Machine.{possible, ready, ready_in, may_open, may_start_in, may_send_in, may_report_in, may_turn_in, may_close_in, item_at, open_play}
 use Rattle.pb_state.specs.Run.{is_command, IsQuiet, IsFinished}
-use Rattle.pb_state.proofs.InOrder.{goes_on_at}
+use Rattle.pb_one_host.proofs.InOrder.{goes_on_at}
 use Rattle.pb_state.proofs.Readies.{none_start, none_sends_at, ready_either, length_ready_in}
 use Rattle.pb_state.proofs.Stands.{both, none_starts}
 use Rattle.pb_engine.specs.declared.choice.Choice.TheVariants.{Take}

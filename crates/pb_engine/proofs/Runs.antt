@@ -9,7 +9,7 @@ use Rattle.pb_state.specs.Machine.{possible, after, first_state}
 use Rattle.pb_state.specs.Run.{legal_from, state_from, IsRun}
 use Rattle.pb_state.specs.Once.{IsOnce}
 use Rattle.pb_state.proofs.Once.{run_once}
-use Rattle.pb_state.proofs.Opening.{length-first}
+use Rattle.pb_all_hosts.proofs.FirstRows.{length-first}
 use Rattle.pb_laws.specs.Kept.{KeepsLaws, RunsKeepLaws}
 
 pub legal_more : (plan : PlanOf) (s : State) (es : List Event) (e : Event) → legal_from plan s es ≡ true → possible plan (state_from plan s es) e ≡ true → legal_from plan s (es ++ e ∷ []) ≡ true

@@ -10,12 +10,14 @@ use Rattle.pb_inventory.specs.InventoryOf.{InventoryOf}
 use Rattle.pb_outcome.specs.declared.job.Report.{Report}
 use Rattle.pb_state.specs.declared.event.Event.{Event}
 use Rattle.pb_state.specs.declared.event.Event.TheVariants.{Open, Start, Send, Report as Reported, Turn, Close, Stop, Forks}
-use Rattle.pb_state.specs.declared.row.Running.{Running}
+use Rattle.pb_one_host.specs.declared.row.Running.{Running}
 use Rattle.pb_plan.specs.Plan.{PlayOf, PlanOf}
-use Rattle.pb_state.specs.Batches.{has_later, room_behind, joined_first}
-use Rattle.pb_state.specs.Row.{HostRow}
+use Rattle.pb_all_hosts.specs.Batches.{has_later, room_behind, joined_first}
+use Rattle.pb_one_host.specs.Row.{HostRow}
 use Rattle.pb_state.specs.State.{State}
-use Rattle.pb_state.specs.Machine.{possible, after, at_row, ready, ready_in, is_running, is_out, has_send, sends_running, may_send_item, awaits_running, awaits, may_open, may_start_in, may_send_in, may_report_in, may_turn_in, may_close_in, has_hosts, first_play, next_play, is_left, least_place, open_play, opened_by, after_open, started_in, next_at, start_at, sent_in, reported_in, batch_of, turned_in, stopped, with_forks, first_state}
+use Rattle.pb_one_host.specs.Runs.{is_running, is_out, has_send, sends_running, may_send_item, awaits_running, awaits}
+use Rattle.pb_all_hosts.specs.Hosts.{at_row, has_hosts, first_play, least_place}
+use Rattle.pb_state.specs.Machine.{possible, after, ready, ready_in, may_open, may_start_in, may_send_in, may_report_in, may_turn_in, may_close_in, next_play, is_left, open_play, opened_by, after_open, started_in, next_at, start_at, sent_in, reported_in, batch_of, turned_in, stopped, with_forks, first_state}
 use Rattle.pb_state.specs.Run.{legal_from, state_from, IsRun}
 use Rattle.pb_strategies.specs.MayStart.{is_linear, ready as starting}
 use Rattle.pb_state.specs.Strategies.{view_of}
@@ -23,7 +25,7 @@ use Rattle.pb_state.proofs.Idle.{turn_linear, turn_idle, turns, others_done}
 use Rattle.pb_state.proofs.Opening.{open_case}
 use Rattle.pb_state.proofs.Readies.{none_start, none_sends}
 use Rattle.pb_state.proofs.Stands.{both, linear_place}
-use Rattle.pb_state.proofs.Turning.{turned_idle}
+use Rattle.pb_all_hosts.proofs.Turning.{turned_idle}
 use Rattle.pb_engine.specs.Over.{has_more, IsOver, IsPlaced, IsPlacedBy, IsPlacedIn}
 
 and_left : (a b : Bool) → (a && b) ≡ true → a ≡ true

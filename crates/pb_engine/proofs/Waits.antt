@@ -16,16 +16,19 @@ use Rattle.pb_tree.specs.Tree.{TreeOf, paths, path_at, size_of}
 use Rattle.pb_tree.proofs.Paths.{length_paths}
 use Rattle.pb_state.specs.declared.event.Event.{Event}
 use Rattle.pb_state.specs.declared.event.Event.TheVariants.{Open, Start, Send, Report as Reported, Turn, Close, Stop, Forks}
-use Rattle.pb_state.specs.declared.row.Running.{Running}
+use Rattle.pb_one_host.specs.declared.row.Running.{Running}
 use Rattle.pb_plan.specs.Plan.{PlayOf, PlanOf}
-use Rattle.pb_state.specs.Row.{HostRow}
+use Rattle.pb_one_host.specs.Row.{HostRow}
 use Rattle.pb_state.specs.State.{State}
-use Rattle.pb_state.specs.Machine.{possible, at_row, awaits, awaits_running, has_ticket, is_ticket, is_running, item_of, item_at, open_play, may_report_in, may_send_in, may_send_item, sends_running}
-use Rattle.pb_state.specs.Jobs.{job_of, job_in, row_job, running_job, item_job, placed_job, call_in, delegate_in, connector_for, job_with}
-use Rattle.pb_state.specs.Oldest.{oldest_out}
+use Rattle.pb_one_host.specs.Runs.{awaits, awaits_running, has_ticket, is_ticket, is_running, item_of, may_send_item, sends_running}
+use Rattle.pb_all_hosts.specs.Hosts.{at_row}
+use Rattle.pb_state.specs.Machine.{possible, item_at, open_play, may_report_in, may_send_in}
+use Rattle.pb_one_host.specs.Calls.{call_in, delegate_in}
+use Rattle.pb_state.specs.Jobs.{job_of, job_in, row_job, running_job, item_job, placed_job, connector_for, job_with}
+use Rattle.pb_all_hosts.specs.Oldest.{oldest_out}
 use Rattle.pb_state.specs.Run.{is_move, IsRun}
-use Rattle.pb_state.proofs.InOrder.{goes_on_at, has_call}
-use Rattle.pb_state.proofs.OldestOut.{oldest_is_out}
+use Rattle.pb_one_host.proofs.InOrder.{goes_on_at, has_call}
+use Rattle.pb_all_hosts.proofs.OldestOut.{oldest_is_out}
 use Rattle.pb_engine.proofs.Held.{IsHeld, IsHeldTask, IsOutBelow, AreHeld, places_in, held_run}
 use Rattle.pb_engine.proofs.Quiet.{next_alone}
 use Rattle.pb_engine.specs.declared.refusal.Refusal.TheVariants.{UnknownTicket, AlreadyReported, WrongItem}

@@ -4,7 +4,7 @@ use Rattle.std.specs.Prelude.{ℕ, Bool, List, [], slice_get}
 use Rattle.std.specs.Option.{option_map_or}
 use Rattle.pb_handlers.specs.Pending.{marks_after}
 use Rattle.pb_handlers.specs.Told.{history_of}
-use Rattle.pb_state.specs.Row.{HostRow}
+use Rattle.pb_one_host.specs.Row.{HostRow}
 use Rattle.pb_state.specs.State.{State}
 
 abbrev pub noted_on : HostRow → List Bool

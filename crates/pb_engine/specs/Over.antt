@@ -4,11 +4,13 @@ use Rattle.std.specs.List.{list_any}
 use Rattle.pb_outcome.specs.Items.{is_over}
 use Rattle.pb_plan.specs.Plan.{PlayOf, PlanOf}
 use Rattle.pb_strategies.specs.MayStart.{is_linear}
-use Rattle.pb_state.specs.declared.row.Running.{Running}
-use Rattle.pb_state.specs.Batches.{has_later}
-use Rattle.pb_state.specs.Row.{HostRow}
+use Rattle.pb_one_host.specs.declared.row.Running.{Running}
+use Rattle.pb_all_hosts.specs.Batches.{has_later}
+use Rattle.pb_one_host.specs.Row.{HostRow}
 use Rattle.pb_state.specs.State.{State}
-use Rattle.pb_state.specs.Machine.{has_hosts, is_running, least_place, open_play}
+use Rattle.pb_one_host.specs.Runs.{is_running}
+use Rattle.pb_all_hosts.specs.Hosts.{has_hosts, least_place}
+use Rattle.pb_state.specs.Machine.{open_play}
 
 -- a batch is left: of the play that goes on, or of the plays that are left one has an active host of its own
 abbrev pub has_more : PlanOf → State → Bool

@@ -5,7 +5,7 @@ ghost use Rattle.std.specs.Prelude.{◌-◌, slice_get};
 ghost use Rattle.std.specs.Option.{option_copied};
 ghost use Rattle.pb_state.specs.Machine.{possible, after, first_state, facts_at, pending_at};
 ghost use Rattle.pb_state.specs.Once.{IsOnce};
-ghost use Rattle.pb_state.specs.Run.{IsRun, is_command};
+ghost use Rattle.pb_state.specs.Run.{IsRun, is_command, IsFinished};
 ghost use Rattle.pb_state.specs.Work.{work};
 ghost use Rattle.pb_recap.specs.Recap.{recap};
 ghost use Rattle.pb_laws.specs.Kept.{KeepsLaws};
@@ -14,7 +14,6 @@ ghost use Rattle.pb_engine.specs.Notes.{noted_at};
 ghost use Rattle.pb_engine.specs.Choice.{NextIs};
 ghost use Rattle.pb_engine.specs.Refusals.{refusal_of, is_waited_for, fits};
 ghost use Rattle.pb_engine.specs.Commands.{event_for, is_finished, fault_of};
-ghost use Rattle.pb_state.specs.Run.{IsFinished};
 
 use crate::choice::{Choice, choose};
 use crate::command::{Command, CommandFault, event_for, is_finished, is_in_range};

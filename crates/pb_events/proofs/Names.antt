@@ -2,7 +2,7 @@
 use Rattle.std.proofs.Common.{◌≡◌, ℕ, zero, suc, ◌+◌, List, [], ◌∷◌, ◌++◌, drop, map, refl, sym, ap, ◌∙◌, append_assoc, add-one}
 use Rattle.std.specs.Prelude.{Some, slice_get}
 use Rattle.pb_value.specs.Datum.{Datum, text}
-use Rattle.pb_state.specs.Row.{HostRow}
+use Rattle.pb_one_host.specs.Row.{HostRow}
 use Rattle.pb_events.specs.Batch.{batch_names, name_if_in}
 
 names_none : (names : List (List ℕ)) → batch_names names [] ≡ []

@@ -1,6 +1,6 @@
 -- The names of the hosts in the open batch, in host order.
 use Rattle.std.specs.Prelude.{ℕ, Bool, List, [], ◌∷◌, ◌++◌, Option, Some, None, option_map, if◌then◌else◌}
-use Rattle.pb_state.specs.Row.{HostRow}
+use Rattle.pb_one_host.specs.Row.{HostRow}
 
 abbrev pub name_if : List ℕ → Option Bool → List (List ℕ)
 name_if name None = []

@@ -5,7 +5,7 @@ use Rattle.pb_value.specs.Datum.{text, int}
 use Rattle.pb_tree.specs.Tree.{TreeOf, size_of}
 use Rattle.pb_places.specs.Place.{PlaceOf}
 use Rattle.pb_plan.specs.Plan.{PlayOf}
-use Rattle.pb_state.specs.declared.decided.Done.{Done}
+use Rattle.pb_one_host.specs.declared.decided.Done.{Done}
 use Rattle.pb_events.specs.Line.{line}
 
 -- the name of a handler: it stands at the handler's place in the last Flush of the play, which has a place for each handler and is the play's end

@@ -13,15 +13,18 @@ use Rattle.pb_outcome.specs.Items.{ended, is_over}
 use Rattle.pb_plan.specs.Plan.{PlayOf, PlanOf}
 use Rattle.pb_play.specs.declared.modules.Meta.{Meta}
 use Rattle.pb_sight.specs.Results.{items_at}
-use Rattle.pb_state.specs.declared.decided.Decided.{Decided}
-use Rattle.pb_state.specs.declared.decided.Done.{Done}
+use Rattle.pb_one_host.specs.declared.decided.Decided.{Decided}
+use Rattle.pb_one_host.specs.declared.decided.Done.{Done}
 use Rattle.pb_state.specs.declared.event.Event.{Event}
 use Rattle.pb_state.specs.declared.event.Event.TheVariants.{Open, Start, Send, Report as Reported, Turn, Close, Stop, Forks}
-use Rattle.pb_state.specs.declared.row.Counts.{Counts}
-use Rattle.pb_state.specs.declared.row.Running.{Running}
-use Rattle.pb_state.specs.Machine.{possible, after, first_state, one_if, open_play, next_at, start_at, started_in, facts_at, plan_seen, reported_in, report_decides, decided_by, done_at, done_if, pending_at, may_start_in, may_report_in, awaits}
+use Rattle.pb_one_host.specs.declared.row.Counts.{Counts}
+use Rattle.pb_one_host.specs.declared.row.Running.{Running}
+use Rattle.pb_one_host.specs.Decides.{report_decides, decided_by, done_at, done_if}
+use Rattle.pb_one_host.specs.Runs.{awaits}
+use Rattle.pb_all_hosts.specs.Hosts.{one_if}
+use Rattle.pb_state.specs.Machine.{possible, after, first_state, open_play, next_at, start_at, started_in, facts_at, plan_seen, reported_in, pending_at, may_start_in, may_report_in}
 use Rattle.pb_state.specs.Once.{place_run_by}
-use Rattle.pb_state.specs.Row.{HostRow, pending, ignores_at, caught_at, meta_at, items_after}
+use Rattle.pb_one_host.specs.Row.{HostRow, pending, ignores_at, caught_at, meta_at, items_after}
 use Rattle.pb_state.specs.Run.{legal_from}
 use Rattle.pb_state.specs.State.{State}
 use Rattle.pb_state.proofs.Once.{and_left, and_right, start_place}

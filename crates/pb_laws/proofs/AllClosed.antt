@@ -15,19 +15,21 @@ use Rattle.pb_strategies.specs.MayStart.{is_linear, may_start, ready as starting
 use Rattle.pb_tree.specs.Tree.{TreeOf}
 use Rattle.pb_state.specs.declared.event.Event.{Event}
 use Rattle.pb_state.specs.declared.event.Event.TheVariants.{Open, Start, Send, Report as Reported, Turn, Close, Stop, Forks}
-use Rattle.pb_state.specs.declared.row.Running.{Running}
-use Rattle.pb_state.specs.Batches.{room_behind, joined_first}
-use Rattle.pb_state.specs.Machine.{possible, after, at_row, is_running, is_out as has_job_out, is_next, sends_running, may_send_item, awaits_running, awaits, may_start_in, may_send_in, may_report_in, may_turn_in, may_close_in, least_place, open_play, opened_by, after_open, started_in, next_at, start_at, sent_in, reported_in, batch_of, turned_in, stopped, with_forks, first_state}
-use Rattle.pb_state.specs.Row.{HostRow, first_rows}
+use Rattle.pb_one_host.specs.declared.row.Running.{Running}
+use Rattle.pb_all_hosts.specs.Batches.{room_behind, joined_first}
+use Rattle.pb_one_host.specs.Runs.{is_running, is_out as has_job_out, is_next, sends_running, may_send_item, awaits_running, awaits}
+use Rattle.pb_all_hosts.specs.Hosts.{at_row, least_place}
+use Rattle.pb_state.specs.Machine.{possible, after, may_start_in, may_send_in, may_report_in, may_turn_in, may_close_in, open_play, opened_by, after_open, started_in, next_at, start_at, sent_in, reported_in, batch_of, turned_in, stopped, with_forks, first_state}
+use Rattle.pb_one_host.specs.Row.{HostRow, first_rows}
 use Rattle.pb_state.specs.Run.{IsFinished, legal_from, state_from}
 use Rattle.pb_state.specs.State.{State}
 use Rattle.pb_state.specs.Strategies.{view_of}
 use Rattle.pb_state.proofs.Idle.{turn_linear, turn_idle, turns, others_done}
-use Rattle.pb_state.proofs.InOrder.{goes_on_at}
+use Rattle.pb_one_host.proofs.InOrder.{goes_on_at}
 use Rattle.pb_state.proofs.Once.{and_left, and_right}
 use Rattle.pb_state.proofs.Opening.{open_case}
 use Rattle.pb_state.proofs.Stands.{both, linear_place}
-use Rattle.pb_state.proofs.Turning.{turned_idle}
+use Rattle.pb_all_hosts.proofs.Turning.{turned_idle}
 use Rattle.pb_laws.specs.History.{Happening, history}
 use Rattle.pb_laws.specs.Laws.{AtTheEnd, holds_from, so_far, may_run, is_open, was_stopped, all_closed}
 use Rattle.pb_laws.proofs.Telling.{Seen, Tells, Opening, Starting, Sending, Reporting, Turning, Closing, Stopping, Forking, tasks_of}

@@ -14,17 +14,20 @@ use Rattle.pb_tree.specs.Tree.{TreeOf}
 use Rattle.pb_tree.specs.Walk.{reach, status_now}
 use Rattle.pb_state.specs.declared.event.Event.{Event}
 use Rattle.pb_state.specs.declared.event.Event.TheVariants.{Open, Start, Send, Report as Reported, Turn, Close, Stop, Forks}
-use Rattle.pb_state.specs.Batches.{has_later, joins, room_behind, joined_first}
-use Rattle.pb_state.specs.Machine.{possible, after, is_running, first_by, least_place, open_play, opened_by, after_open, closed, batch_of, turned_in, may_turn_in, may_close_in}
-use Rattle.pb_state.specs.Row.{HostRow, no_tree, place_of, next_place, is_active, called, left}
+use Rattle.pb_all_hosts.specs.Batches.{has_later, joins, room_behind, joined_first}
+use Rattle.pb_one_host.specs.Runs.{is_running}
+use Rattle.pb_all_hosts.specs.Hosts.{least_place}
+use Rattle.pb_state.specs.Machine.{possible, after, first_by, open_play, opened_by, after_open, closed, batch_of, turned_in, may_turn_in, may_close_in}
+use Rattle.pb_one_host.specs.Row.{HostRow, no_tree, place_of, next_place, is_active, called, left}
 use Rattle.pb_state.specs.State.{State}
-use Rattle.pb_state.specs.Turn.{plain_answer, turned_by}
+use Rattle.pb_one_host.specs.Ends.{plain_answer}
+use Rattle.pb_all_hosts.specs.Turn.{turned_by}
 use Rattle.pb_state.specs.Walks.{AreNumbered}
-use Rattle.pb_state.proofs.Batching.{joins_waits}
+use Rattle.pb_all_hosts.proofs.Batching.{joins_waits}
 use Rattle.pb_state.proofs.Once.{IsSound, and_left, and_right, open_of}
 use Rattle.pb_state.proofs.Opening.{GoesOn, Begins, open_case}
 use Rattle.pb_state.proofs.Idle.{turn_linear}
-use Rattle.pb_state.proofs.Turning.{Goes, IsGiven, turned_by_case, goes_tree, goes_inside, goes_waits, goes_running}
+use Rattle.pb_all_hosts.proofs.Turning.{Goes, IsGiven, turned_by_case, goes_tree, goes_inside, goes_waits, goes_running}
 use Rattle.pb_state.proofs.Walks.{AllIn, IsOfPlan}
 use Rattle.pb_laws.specs.History.{Happening, Opens, Given, Closes, at_place, given_beyond, given_in, batch_in, told}
 use Rattle.pb_laws.specs.Laws.{selects, tree_at}

@@ -13,12 +13,12 @@ use Rattle.pb_tree.specs.declared.answer.Kind.{Kind}
 use Rattle.pb_tree.specs.declared.tree.Reach.{Reach}
 use Rattle.pb_tree.specs.declared.tree.Reach.TheVariants.{At, Done}
 use Rattle.pb_tree.proofs.Rise.{places_rise as tree_rises}
-use Rattle.pb_state.specs.declared.decided.TaskEnd.{TaskEnd}
-use Rattle.pb_state.specs.declared.row.Running.{Running}
-use Rattle.pb_state.specs.Ends.{answer_of, kind_of}
-use Rattle.pb_state.specs.Machine.{first_state, one_if}
-use Rattle.pb_state.specs.Row.{first_rows, place_of}
-use Rattle.pb_state.specs.Turn.{plain_answer}
+use Rattle.pb_one_host.specs.declared.decided.TaskEnd.{TaskEnd}
+use Rattle.pb_one_host.specs.declared.row.Running.{Running}
+use Rattle.pb_one_host.specs.Ends.{answer_of, kind_of, plain_answer}
+use Rattle.pb_all_hosts.specs.Hosts.{one_if}
+use Rattle.pb_state.specs.Machine.{first_state}
+use Rattle.pb_one_host.specs.Row.{first_rows, place_of}
 use Rattle.pb_state.proofs.Stands.{both}
 use Rattle.pb_state.proofs.Walked.{not_halted}
 use Rattle.pb_laws.specs.History.{HostTask, Happening, MayRun, Starts, Reports, Ends, Given}

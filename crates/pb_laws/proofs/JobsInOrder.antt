@@ -8,10 +8,11 @@ use Rattle.pb_ids.specs.declared.numbers.Ticket.{Ticket}
 use Rattle.pb_outcome.specs.declared.item.Item.{Item}
 use Rattle.pb_outcome.specs.Items.{next_item}
 use Rattle.pb_plan.specs.Plan.{PlanOf}
-use Rattle.pb_state.specs.declared.decided.TaskEnd.{TaskEnd}
-use Rattle.pb_state.specs.declared.row.Running.{Running}
-use Rattle.pb_state.specs.Machine.{first_state, is_out as has_job_out}
-use Rattle.pb_state.specs.Row.{HostRow, first_rows}
+use Rattle.pb_one_host.specs.declared.decided.TaskEnd.{TaskEnd}
+use Rattle.pb_one_host.specs.declared.row.Running.{Running}
+use Rattle.pb_one_host.specs.Runs.{is_out as has_job_out}
+use Rattle.pb_state.specs.Machine.{first_state}
+use Rattle.pb_one_host.specs.Row.{HostRow, first_rows}
 use Rattle.pb_state.specs.Run.{state_from}
 use Rattle.pb_state.proofs.Once.{and_left, and_right}
 use Rattle.pb_state.proofs.Stands.{both}

@@ -14,11 +14,10 @@ use Rattle.pb_tree.specs.declared.answer.Kind.{Kind}
 use Rattle.pb_tree.specs.declared.answer.Kind.TheVariants.{Good, Bad, Halted, Gone, Ended}
 use Rattle.pb_tree.specs.declared.tree.Status.{Status}
 use Rattle.pb_tree.proofs.Rise.{second_passed}
-use Rattle.pb_state.specs.declared.decided.TaskEnd.{TaskEnd}
-use Rattle.pb_state.specs.declared.row.Running.{Running}
-use Rattle.pb_state.specs.Ends.{answer_of, kind_of}
-use Rattle.pb_state.specs.Row.{place_of, is_active, first_rows}
-use Rattle.pb_state.specs.Turn.{plain_answer}
+use Rattle.pb_one_host.specs.declared.decided.TaskEnd.{TaskEnd}
+use Rattle.pb_one_host.specs.declared.row.Running.{Running}
+use Rattle.pb_one_host.specs.Ends.{answer_of, kind_of, plain_answer}
+use Rattle.pb_one_host.specs.Row.{place_of, is_active, first_rows}
 use Rattle.pb_state.proofs.Stands.{both}
 use Rattle.pb_state.proofs.Walked.{not_halted}
 use Rattle.pb_laws.specs.History.{HostTask, Happening, Starts, Reports, Ends, Given}

@@ -21,20 +21,25 @@ use Rattle.pb_strategies.specs.MayStart.{ViewOf, has_room, has_room_at, suits, m
 use Rattle.pb_tree.specs.Tree.{TreeOf}
 use Rattle.pb_tree.specs.Walk.{reach, status_now}
 use Rattle.pb_tree.specs.declared.tree.Reach.TheVariants.{At}
-use Rattle.pb_state.specs.declared.decided.Done.{Done}
-use Rattle.pb_state.specs.declared.decided.TaskEnd.{TaskEnd}
-use Rattle.pb_state.specs.declared.row.Running.{Running}
-use Rattle.pb_state.specs.Ends.{answer_of}
-use Rattle.pb_state.specs.Handlers.{notified_by}
-use Rattle.pb_state.specs.Machine.{gifts_at, report_gives, at_row, is_running, open_play, next_at, facts_at, plan_seen, start_at, started_in, sent_in, reported_in, report_decides, decided_by, done_at, done_if, pending_at, may_start_in, may_send_in, may_report_in, may_send_item, sends_running, awaits, awaits_running, is_ticket}
+use Rattle.pb_one_host.specs.declared.decided.Done.{Done}
+use Rattle.pb_one_host.specs.declared.decided.TaskEnd.{TaskEnd}
+use Rattle.pb_one_host.specs.declared.row.Running.{Running}
+use Rattle.pb_one_host.specs.Ends.{answer_of}
+use Rattle.pb_one_host.specs.Handlers.{notified_by}
+use Rattle.pb_one_host.specs.Runs.{is_running, may_send_item, sends_running, awaits, awaits_running, is_ticket}
+use Rattle.pb_one_host.specs.Decides.{report_decides, decided_by, done_at, done_if}
+use Rattle.pb_all_hosts.specs.Giving.{gifts_at, report_gives}
+use Rattle.pb_all_hosts.specs.Hosts.{at_row}
+use Rattle.pb_state.specs.Machine.{open_play, next_at, facts_at, plan_seen, start_at, started_in, sent_in, reported_in, pending_at, may_start_in, may_send_in, may_report_in}
 use Rattle.pb_state.specs.Once.{running_place, place_run_by}
-use Rattle.pb_state.specs.Row.{HostRow, place_of, next_place, is_active, ended, pending, task_at, items_after, progressed, sent, sent_running, reported, reported_running}
+use Rattle.pb_one_host.specs.Row.{HostRow, place_of, next_place, is_active, ended, pending, task_at, items_after, progressed, sent, sent_running, reported, reported_running}
 use Rattle.pb_state.specs.State.{State}
-use Rattle.pb_state.specs.Strategies.{standing, view_of}
-use Rattle.pb_state.proofs.Giving.{map_same}
+use Rattle.pb_one_host.specs.Standing.{standing}
+use Rattle.pb_state.specs.Strategies.{view_of}
+use Rattle.pb_all_hosts.proofs.Giving.{map_same}
 use Rattle.pb_state.proofs.Once.{FoundFrom, RunsFrom, IsSound, and_left, and_right, open_of, start_place}
 use Rattle.pb_state.proofs.Stands.{stands_at, start_stands, linear_is}
-use Rattle.pb_state.proofs.Turning.{at_is}
+use Rattle.pb_all_hosts.proofs.Turning.{at_is}
 use Rattle.pb_state.proofs.Walked.{stands_in, same_is}
 use Rattle.pb_state.proofs.Walks.{IsOfPlan}
 use Rattle.pb_laws.specs.History.{HostTask, Happening, Starts, Sends, Reports, at_place, ended_in, ends_if}

@@ -16,16 +16,18 @@ use Rattle.pb_tree.specs.Answer.{AnswerOf}
 use Rattle.pb_tree.specs.declared.answer.Kind.{Kind}
 use Rattle.pb_tree.specs.Tree.{TreeOf}
 use Rattle.pb_tree.specs.Walk.{reach, status_now}
-use Rattle.pb_state.specs.declared.decided.TaskEnd.{TaskEnd}
-use Rattle.pb_state.specs.declared.row.Running.{Running}
-use Rattle.pb_state.specs.Batches.{has_later}
-use Rattle.pb_state.specs.Ends.{answer_of}
-use Rattle.pb_state.specs.Machine.{change, given_to, at_row, is_running, first_by, lesser, least_place, open_play, play_behind}
-use Rattle.pb_state.specs.Row.{HostRow, no_tree, place_of, next_place, is_active, sent_running}
+use Rattle.pb_one_host.specs.declared.decided.TaskEnd.{TaskEnd}
+use Rattle.pb_one_host.specs.declared.row.Running.{Running}
+use Rattle.pb_all_hosts.specs.Batches.{has_later}
+use Rattle.pb_one_host.specs.Ends.{answer_of, plain_answer}
+use Rattle.pb_one_host.specs.Runs.{is_running}
+use Rattle.pb_all_hosts.specs.Hosts.{change, at_row, lesser, least_place}
+use Rattle.pb_all_hosts.specs.Giving.{given_to}
+use Rattle.pb_state.specs.Machine.{first_by, open_play, play_behind}
+use Rattle.pb_one_host.specs.Row.{HostRow, no_tree, place_of, next_place, is_active, sent_running}
 use Rattle.pb_state.specs.State.{State}
-use Rattle.pb_state.specs.Strategies.{standing}
-use Rattle.pb_state.specs.Turn.{plain_answer}
-use Rattle.pb_state.proofs.Giving.{change_on, given_map, map_same}
+use Rattle.pb_one_host.specs.Standing.{standing}
+use Rattle.pb_all_hosts.proofs.Giving.{change_on, given_map, map_same}
 use Rattle.pb_state.proofs.Walks.{AllIn}
 use Rattle.pb_laws.specs.History.{HostTask, Happening, MayRun, Opens, Starts, Sends, Reports, Ends, Given, Closes, Stops, batch_in}
 use Rattle.pb_laws.specs.Laws.{selects, tree_at, is_linear_play}

@@ -7,9 +7,10 @@ use Rattle.std.proofs.lemmas.Bool.{eq-eqb}
 use Rattle.std.proofs.lemmas.List.Sums.{sum_by-cons}
 use Rattle.pb_limits.specs.Counts.{runs_at, has_room_for, running as count_running, running_at as count_running_at}
 use Rattle.pb_plan.specs.Plan.{PlayOf, PlanOf, throttles_of}
-use Rattle.pb_state.specs.declared.row.Running.{Running}
-use Rattle.pb_state.specs.Machine.{first_state, one_if}
-use Rattle.pb_state.specs.Row.{first_rows}
+use Rattle.pb_one_host.specs.declared.row.Running.{Running}
+use Rattle.pb_all_hosts.specs.Hosts.{one_if}
+use Rattle.pb_state.specs.Machine.{first_state}
+use Rattle.pb_one_host.specs.Row.{first_rows}
 use Rattle.pb_state.proofs.Stands.{both}
 use Rattle.pb_laws.specs.History.{HostTask, Happening, Starts}
 use Rattle.pb_laws.specs.Laws.{Always, holds_from, so_far, may_run, running, any_task, task_at, throttle_at, within_forks}

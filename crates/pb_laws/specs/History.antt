@@ -7,15 +7,15 @@ use Rattle.pb_tree.specs.Answer.{AnswerOf}
 use Rattle.pb_tree.specs.Tree.{TreeOf}
 use Rattle.pb_tree.specs.Walk.{reach}
 use Rattle.pb_tree.specs.declared.answer.Kind.{Kind}
-use Rattle.pb_state.specs.declared.decided.Decided.{Decided}
-use Rattle.pb_state.specs.declared.decided.Done.{Done}
-use Rattle.pb_state.specs.declared.decided.TaskEnd.{TaskEnd}
+use Rattle.pb_one_host.specs.declared.decided.Decided.{Decided}
+use Rattle.pb_one_host.specs.declared.decided.Done.{Done}
+use Rattle.pb_one_host.specs.declared.decided.TaskEnd.{TaskEnd}
 use Rattle.pb_state.specs.declared.event.Event.{Event}
 use Rattle.pb_state.specs.declared.event.Event.TheVariants.{Open, Start, Send, Report as Reported, Turn, Close, Stop, Forks}
-use Rattle.pb_state.specs.Handlers.{notified_by}
+use Rattle.pb_one_host.specs.Handlers.{notified_by}
 use Rattle.pb_state.specs.Machine.{after, first_state, next_at, open_play}
 use Rattle.pb_state.specs.Once.{place_run_by}
-use Rattle.pb_state.specs.Row.{HostRow, place_of}
+use Rattle.pb_one_host.specs.Row.{HostRow, place_of}
 use Rattle.pb_state.specs.State.{State}
 
 -- the task at a place of a play, on a host; plays and hosts have their numbers, and a place is its position in the play's tree

@@ -15,19 +15,23 @@ use Rattle.pb_sight.specs.Results.{items_at}
 use Rattle.pb_sight.specs.declared.gifts.Gift.{Gift}
 use Rattle.pb_state.specs.declared.event.Event.{Event}
 use Rattle.pb_state.specs.declared.event.Event.TheVariants.{Open, Start, Send, Report as Reported, Turn, Close, Stop, Forks}
-use Rattle.pb_state.specs.declared.row.Counts.{Counts}
-use Rattle.pb_state.specs.declared.row.Running.{Running}
+use Rattle.pb_one_host.specs.declared.row.Counts.{Counts}
+use Rattle.pb_one_host.specs.declared.row.Running.{Running}
 use Rattle.pb_plan.specs.Plan.{PlayOf, PlanOf}
-use Rattle.pb_state.specs.Batches.{room_behind, joined_first}
-use Rattle.pb_state.specs.Row.{HostRow, first_rows, next_place, called, left, ended, pending, ignores_at, caught_at, meta_at, task_at, items_after, progressed, sent, reported, reported_running}
+use Rattle.pb_all_hosts.specs.Batches.{room_behind, joined_first}
+use Rattle.pb_one_host.specs.Row.{HostRow, first_rows, next_place, called, left, ended, pending, ignores_at, caught_at, meta_at, task_at, items_after, progressed, sent, reported, reported_running}
 use Rattle.pb_state.specs.State.{State}
-use Rattle.pb_state.specs.Machine.{change, takes, given_to, gifts_at, report_gives, open_play, possible, after, first_state, opened_by, after_open, started_in, facts_at, plan_seen, start_at, start_with, sent_in, reported_in, done_at, done_if, report_decides, decided_by, pending_at, batch_of, turned_in, may_start_in, next_at, may_report_in, at_row, same_place}
+use Rattle.pb_one_host.specs.Decides.{done_at, done_if, report_decides, decided_by}
+use Rattle.pb_all_hosts.specs.Hosts.{change, at_row}
+use Rattle.pb_all_hosts.specs.Giving.{takes, given_to, gifts_at, report_gives}
+use Rattle.pb_state.specs.Machine.{open_play, possible, after, first_state, opened_by, after_open, started_in, facts_at, plan_seen, start_at, start_with, sent_in, reported_in, pending_at, batch_of, turned_in, may_start_in, next_at, may_report_in, same_place}
 use Rattle.pb_state.specs.Run.{legal_from, state_from, IsRun}
-use Rattle.pb_state.proofs.Batching.{length-joined}
-use Rattle.pb_state.proofs.Giving.{length-given}
+use Rattle.pb_all_hosts.proofs.Batching.{length-joined}
+use Rattle.pb_all_hosts.proofs.Giving.{length-given}
 use Rattle.pb_state.proofs.Stands.{stands_at, start_stands}
-use Rattle.pb_state.proofs.Opening.{length-first, open_case, rows_case}
-use Rattle.pb_state.proofs.Turning.{Goes, goes_counts, turned_by_case, turned_hosts as length-turned}
+use Rattle.pb_all_hosts.proofs.FirstRows.{length-first}
+use Rattle.pb_state.proofs.Opening.{open_case, rows_case}
+use Rattle.pb_all_hosts.proofs.Turning.{Goes, goes_counts, turned_by_case, turned_hosts as length-turned}
 use Rattle.pb_recap.specs.declared.kind.CountKind.{CountKind}
 use Rattle.pb_recap.specs.declared.kind.CountKind.TheVariants.{Okay, Changed, Unreachable, Failed, Skipped, Rescued, Ignored}
 use Rattle.pb_recap.specs.Kinds.{count_of}

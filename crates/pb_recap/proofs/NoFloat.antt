@@ -4,7 +4,7 @@ use Rattle.std.specs.Cmp.Lexicographic.{slice_cmp}
 use Rattle.std.specs.Ordering.{match_ordering}
 use Rattle.serde_json.specs.Data.{Data, Members, no_members, member, put}
 use Rattle.serde_json.specs.Written.{has_float, members_have_float}
-use Rattle.pb_state.specs.declared.row.Counts.{Counts}
+use Rattle.pb_one_host.specs.declared.row.Counts.{Counts}
 use Rattle.pb_recap.specs.Hosts.{hosts_with_count}
 use Rattle.pb_recap.specs.Stats.{with_hosts, counts_data, line_data}
 

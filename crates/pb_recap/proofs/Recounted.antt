@@ -3,12 +3,12 @@ use Rattle.std.proofs.Common.{◌≡◌, ℕ, zero, suc, ◌+◌, Bool, true, fa
 use Rattle.std.specs.Prelude.{Option, Some, None, slice_get, slice_set}
 use Rattle.std.specs.Option.{option_map_or}
 use Rattle.std.proofs.lemmas.Bool.{eq-eqb, ne_eqb}
-use Rattle.pb_state.specs.declared.decided.TaskEnd.{TaskEnd}
+use Rattle.pb_one_host.specs.declared.decided.TaskEnd.{TaskEnd}
 use Rattle.pb_state.specs.declared.event.Event.{Event}
-use Rattle.pb_state.specs.declared.row.Counts.{Counts}
+use Rattle.pb_one_host.specs.declared.row.Counts.{Counts}
 use Rattle.pb_plan.specs.Plan.{PlanOf}
-use Rattle.pb_state.specs.Ends.{more}
-use Rattle.pb_state.specs.Row.{none_counted}
+use Rattle.pb_one_host.specs.Ends.{more}
+use Rattle.pb_one_host.specs.Row.{none_counted}
 use Rattle.pb_state.specs.State.{State}
 use Rattle.pb_state.specs.Machine.{after, first_state}
 use Rattle.pb_state.specs.Run.{state_from, IsRun, IsStep}

@@ -2,7 +2,7 @@
 use Rattle.std.specs.Prelude.{ℕ, nat_lt, Bool, ◌||◌, List, slice_get, if◌then◌else◌}
 use Rattle.std.specs.List.{list_any}
 use Rattle.std.specs.Option.{option_map_or}
-use Rattle.pb_state.specs.declared.row.Counts.{Counts}
+use Rattle.pb_one_host.specs.declared.row.Counts.{Counts}
 use Rattle.pb_recap.specs.declared.kind.CountKind.{CountKind}
 use Rattle.pb_recap.specs.declared.kind.CountKind.TheVariants.{Okay, Changed, Unreachable, Failed, Skipped, Rescued, Ignored}
 

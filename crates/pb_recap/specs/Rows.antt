@@ -4,17 +4,17 @@ use Rattle.std.specs.Fmt.{digits}
 use Rattle.serde_json.proofs.OnLiterals.{serde_json_on_literals}
 use Rattle.pb_value.specs.Datum.{text}
 use Rattle.pb_sight.specs.Results.{on_tasks}
-use Rattle.pb_state.specs.declared.decided.TaskEnd.{TaskEnd}
+use Rattle.pb_one_host.specs.declared.decided.TaskEnd.{TaskEnd}
 use Rattle.pb_outcome.specs.declared.outcome.Form.{Form}
 use Rattle.pb_outcome.specs.declared.outcome.Form.TheVariants.{Ran, Unreachable as NoAnswer}
 use Rattle.pb_play.specs.declared.modules.Module.TheVariants.{Debug, Shell}
 use Rattle.pb_state.specs.declared.event.Event.{Event}
 use Rattle.pb_state.specs.declared.event.Event.TheVariants.{Open, Start, Send, Report as Reported, Turn, Close}
-use Rattle.pb_state.specs.declared.row.Counts.{Counts}
+use Rattle.pb_one_host.specs.declared.row.Counts.{Counts}
 use Rattle.pb_places.specs.Place.{bare_place}
 use Rattle.pb_plan.specs.Plan.{PlanOf, bare_play, bare_plan, bare_tree}
 use Rattle.pb_state.specs.Machine.{first_state}
-use Rattle.pb_state.specs.Row.{none_counted}
+use Rattle.pb_one_host.specs.Row.{none_counted}
 use Rattle.pb_state.specs.Run.{legal_from}
 use Rattle.pb_recap.specs.declared.kind.CountKind.TheVariants.{Okay, Changed, Unreachable, Failed, Ignored}
 use Rattle.pb_recap.specs.Kinds.{status_of}

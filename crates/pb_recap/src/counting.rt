@@ -1,7 +1,7 @@
 //! The counts after one event more.
 
 ghost use Rattle.std.specs.Prelude.{◌≡◌, ◌<◌, ◌-◌, ◌^◌, ℕ, IfSome, Some, option_map, slice_get};
-ghost use Rattle.pb_state.specs.Ends.{more};
+ghost use Rattle.pb_one_host.specs.Ends.{more};
 ghost use Rattle.pb_recap.specs.Counting.{HasRoom, with_task, with_finished, host_of, task_in};
 ghost use Rattle.pb_recap.specs.Recap.{FinishedTask, finished_in};
 

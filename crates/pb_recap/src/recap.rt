@@ -2,7 +2,7 @@
 
 ghost use Rattle.std.specs.Prelude.{◌≡◌, ◌<◌, ◌++◌, ◌∷◌, [], ℕ, List, length, map, replicate, slice_get, sum_by, IfOk, IfSome, string_bytes};
 ghost use Rattle.pb_plan.specs.Plan.{PlanOf};
-ghost use Rattle.pb_state.specs.Row.{HostRow, none_counted};
+ghost use Rattle.pb_one_host.specs.Row.{HostRow, none_counted};
 ghost use Rattle.pb_state.specs.Run.{IsRun, IsStep};
 ghost use Rattle.pb_state.specs.State.{State};
 ghost use Rattle.pb_state.specs.declared.event.Event.{Event};
@@ -29,7 +29,7 @@ pub struct Recap {
 
 impl Model for Recap {
     ghost use Rattle.std.specs.Prelude.{List};
-    ghost use Rattle.pb_state.specs.declared.row.Counts.{Counts};
+    ghost use Rattle.pb_one_host.specs.declared.row.Counts.{Counts};
 
     ghost Value = { List Counts };
 

@@ -14,12 +14,15 @@ use Rattle.pb_strategies.specs.declared.strategy.Strategy.{Strategy}
 use Rattle.pb_strategies.specs.declared.strategy.Strategy.TheVariants.{Linear, Free, HostPinned}
 use Rattle.pb_strategies.specs.Hosts.{is_running as standing_runs, is_under_way, is_next_at, runs_in, same_place as same_there}
 use Rattle.pb_strategies.specs.MayStart.{ViewOf, has_room, has_room_at, has_room_to_begin, runs_once, is_open_once, is_first_at, may_run_once, suits, may_start_at, may_start_from, may_start, is_linear, is_idle, ready as starting}
-use Rattle.pb_state.specs.declared.row.Running.{Running}
-use Rattle.pb_state.specs.Row.{HostRow, next_place, runs_once_at}
+use Rattle.pb_one_host.specs.declared.row.Running.{Running}
+use Rattle.pb_one_host.specs.Row.{HostRow, next_place, runs_once_at}
 use Rattle.pb_state.specs.State.{State}
-use Rattle.pb_state.specs.Turn.{has_settled, is_settled, is_settled_at, settler, source}
-use Rattle.pb_state.specs.Strategies.{has_begun, standing, view_of}
-use Rattle.pb_state.specs.Machine.{is_running, same_place, at_row, lesser, least_place, may_turn_in}
+use Rattle.pb_all_hosts.specs.Turn.{has_settled, is_settled, is_settled_at, settler, source}
+use Rattle.pb_one_host.specs.Standing.{has_begun, standing}
+use Rattle.pb_state.specs.Strategies.{view_of}
+use Rattle.pb_one_host.specs.Runs.{is_running}
+use Rattle.pb_all_hosts.specs.Hosts.{at_row, lesser, least_place}
+use Rattle.pb_state.specs.Machine.{same_place, may_turn_in}
 use Rattle.pb_state.proofs.Stands.{both, runs_same, linear_is, none_starts}
 
 and_left : (a b : Bool) → (a && b) ≡ true → a ≡ true

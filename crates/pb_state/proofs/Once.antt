@@ -21,29 +21,31 @@ use Rattle.pb_outcome.specs.declared.outcome.Form.{Form}
 use Rattle.pb_outcome.specs.Items.{is_over}
 use Rattle.pb_sight.specs.Results.{items_at}
 use Rattle.pb_sight.proofs.FewItems.{few_items}
-use Rattle.pb_state.specs.declared.decided.TaskEnd.{TaskEnd}
+use Rattle.pb_one_host.specs.declared.decided.TaskEnd.{TaskEnd}
 use Rattle.pb_state.specs.declared.event.Event.{Event}
 use Rattle.pb_state.specs.declared.event.Event.TheVariants.{Open, Start, Send, Report as Reported, Turn, Close, Stop, Forks}
-use Rattle.pb_state.specs.declared.row.Finish.{Finish}
-use Rattle.pb_state.specs.declared.row.Running.{Running}
+use Rattle.pb_one_host.specs.declared.row.Finish.{Finish}
+use Rattle.pb_one_host.specs.declared.row.Running.{Running}
 use Rattle.pb_inventory.specs.InventoryOf.{InventoryOf}
 use Rattle.pb_plan.specs.Plan.{PlayOf, PlanOf}
-use Rattle.pb_state.specs.Batches.{has_later, joins, room_behind, joined_first}
-use Rattle.pb_state.specs.Row.{HostRow, place_of, next_place, answered, joined, left, finished, finish_at, ended, task_at, taught, came_back, items_after, progressed, sent, sent_running, reported, reported_running}
-use Rattle.pb_state.specs.Ends.{kind_of, answer_of}
-use Rattle.pb_state.specs.Handlers.{notified_by}
+use Rattle.pb_all_hosts.specs.Batches.{has_later, joins, room_behind, joined_first}
+use Rattle.pb_one_host.specs.Row.{HostRow, place_of, next_place, answered, joined, left, finished, finish_at, ended, task_at, taught, came_back, items_after, progressed, sent, sent_running, reported, reported_running}
+use Rattle.pb_one_host.specs.Ends.{kind_of, answer_of, plain_answer}
+use Rattle.pb_one_host.specs.Handlers.{notified_by}
 use Rattle.pb_state.specs.State.{State}
-use Rattle.pb_state.specs.Kept.{first_waiting}
+use Rattle.pb_one_host.specs.Kept.{first_waiting}
 use Rattle.pb_sight.specs.declared.gifts.Gift.{Gift}
-use Rattle.pb_state.specs.Machine.{possible, after, change, takes, given_to, gifts_at, report_gives, at_row, open_play, same_place, is_running, is_ticket, sends_running, may_send_item, awaits_running, awaits, may_start_in, may_send_in, may_report_in, may_turn_in, may_close_in, opened_by, after_open, play_behind, closed, started_in, next_at, facts_at, plan_seen, start_at, sent_in, reported_in, batch_of, turned_in, first_state}
+use Rattle.pb_one_host.specs.Runs.{is_running, is_ticket, sends_running, may_send_item, awaits_running, awaits}
+use Rattle.pb_all_hosts.specs.Hosts.{change, at_row}
+use Rattle.pb_all_hosts.specs.Giving.{takes, given_to, gifts_at, report_gives}
+use Rattle.pb_state.specs.Machine.{possible, after, open_play, same_place, may_start_in, may_send_in, may_report_in, may_turn_in, may_close_in, opened_by, after_open, play_behind, closed, started_in, next_at, facts_at, plan_seen, start_at, sent_in, reported_in, batch_of, turned_in, first_state}
 use Rattle.pb_state.specs.Run.{legal_from, IsRun}
-use Rattle.pb_state.specs.Turn.{plain_answer}
-use Rattle.pb_state.proofs.Giving.{given_keeps}
+use Rattle.pb_all_hosts.proofs.Giving.{given_keeps}
 use Rattle.pb_state.proofs.Idle.{turn_idle}
-use Rattle.pb_state.proofs.InOrder.{first_most, is_next_so, length_back, back_later}
+use Rattle.pb_one_host.proofs.InOrder.{first_most, is_next_so, length_back, back_later}
 use Rattle.pb_state.proofs.Opening.{GoesOn, Begins, open_case}
 use Rattle.pb_state.proofs.Stands.{stands_at, start_stands}
-use Rattle.pb_state.proofs.Turning.{Goes, turned_by_case, goes_inside, goes_waits, idle_map}
+use Rattle.pb_all_hosts.proofs.Turning.{Goes, turned_by_case, goes_inside, goes_waits, idle_map}
 use Rattle.pb_state.proofs.Walked.{not_halted, stands_in}
 use Rattle.pb_state.specs.Once.{StartOf, SendOf, running_place, place_run_by, starts_from, sends_from, IsNotIn, NoTwice, IsOnce, NothingTwice}
 

@@ -1,14 +1,16 @@
--- The batch that opens next, and the rows of all hosts before the run.
-use Rattle.std.proofs.Common.{◌≡◌, ℕ, zero, suc, ◌+◌, ◌<◌, ◌≤◌, Bool, true, false, List, [], ◌∷◌, ◌++◌, length, map, drop, refl, sym, ◌∙◌, ap, arith, ◌⊎◌, inl, inr}
+-- The batch that opens next.
+use Rattle.std.proofs.Common.{◌≡◌, ℕ, zero, suc, ◌+◌, ◌<◌, ◌≤◌, Bool, true, false, List, [], ◌∷◌, map, drop, refl, sym, ◌∙◌, ap, arith, ◌⊎◌, inl, inr}
 use Rattle.std.specs.Prelude.{Option, Some, None, slice_get, is_some, if◌then◌else◌}
 use Rattle.std.specs.Option.{option_map_or}
 use Rattle.pb_batches.specs.Sizes.{batch_sizes}
 use Rattle.pb_plan.specs.Plan.{PlayOf, PlanOf}
-use Rattle.pb_state.specs.Batches.{has_later, called_count}
-use Rattle.pb_state.specs.Row.{HostRow, first_row, first_rows, called}
+use Rattle.pb_all_hosts.specs.Batches.{has_later, called_count}
+use Rattle.pb_one_host.specs.Row.{HostRow, called}
 use Rattle.pb_state.specs.State.{State}
-use Rattle.pb_state.specs.Machine.{has_hosts, first_play, next_play, is_left, opened_by, goes_on, begins, begins_at, after_open}
-use Rattle.pb_state.proofs.Batching.{some_batch, some_called}
+use Rattle.pb_all_hosts.specs.Hosts.{has_hosts, first_play}
+use Rattle.pb_state.specs.Machine.{next_play, is_left, opened_by, goes_on, begins, begins_at, after_open}
+use Rattle.pb_all_hosts.proofs.Batching.{some_called}
+use Rattle.pb_state.proofs.FewBatches.{some_batch}
 use Rattle.pb_state.proofs.SizesLeft.{later_some}
 
 -- one of the plays from the number m on, and the first of them that has hosts
@@ -114,18 +116,3 @@ rows_case P plan s n batch sizes rows play size is same calls = by_how is.how
     by_how : GoesOn s n batch sizes rows ⊎ Begins s n batch sizes rows play → P rows
     by_how (inl on) = rw on.4 same
     by_how (inr begun) = rw begun.4 (calls play.hosts)
-
--- a row for each host
-pub length-first : (h n : ℕ) → length (first_rows h n) ≡ n
-length-first h zero = refl
-length-first h (suc n) = ap suc (length-first (h + 1) n)
-
-first_end : (h n : ℕ) → first_rows h (suc n) ≡ first_rows h n ++ first_row (h + n) ∷ []
-first_end h zero = ap (λ k. first_row k ∷ []) (let same : h ≡ h + 0 = omega arith in same)
-first_end h (suc n) = ap (λ rest. first_row h ∷ rest) (first_end (h + 1) n ∙ ap (λ k. first_rows (h + 1) n ++ first_row k ∷ []) (let same : (h + 1) + n ≡ h + suc n = omega arith in same))
-
-pub first_more : (n : ℕ) → first_rows 0 (n + 1) ≡ first_rows 0 n ++ first_row n ∷ []
-first_more n =
-    ap (first_rows 0) (let one : n + 1 ≡ suc n = omega arith in one)
-    ∙ first_end 0 n
-    ∙ ap (λ k. first_rows 0 n ++ first_row k ∷ []) (let same : 0 + n ≡ n = omega arith in same)

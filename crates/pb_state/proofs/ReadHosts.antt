@@ -17,12 +17,15 @@ use Rattle.pb_inventory.specs.InventoryOf.{InventoryOf}
 use Rattle.pb_plan.specs.Plan.{PlayOf, PlanOf}
 use Rattle.pb_variables.specs.Learnt.{facts_in}
 use Rattle.pb_sight.specs.Results.{settled_at}
-use Rattle.pb_state.specs.declared.decided.Decided.{Decided}
-use Rattle.pb_state.specs.declared.row.Running.{Running}
-use Rattle.pb_state.specs.Back.{SameTold}
+use Rattle.pb_one_host.specs.declared.decided.Decided.{Decided}
+use Rattle.pb_one_host.specs.declared.row.Running.{Running}
+use Rattle.pb_one_host.specs.Back.{SameTold}
 use Rattle.pb_sight.specs.declared.gifts.Gift.{Gift}
-use Rattle.pb_state.specs.Machine.{change, given_to, gifts_at, gifts_by, gifts_of, report_gives, learnt_by, report_decides, reported_seen, decided_by, decided_with, told_in}
-use Rattle.pb_state.specs.Row.{HostRow, pending, items_after, progressed, reported, reported_running}
+use Rattle.pb_one_host.specs.Decides.{report_decides, decided_by, decided_with, told_in}
+use Rattle.pb_all_hosts.specs.Hosts.{change}
+use Rattle.pb_all_hosts.specs.Giving.{given_to, gifts_at, gifts_by, gifts_of, report_gives}
+use Rattle.pb_state.specs.Machine.{learnt_by, reported_seen}
+use Rattle.pb_one_host.specs.Row.{HostRow, pending, items_after, progressed, reported, reported_running}
 use Rattle.pb_state.specs.State.{State}
 
 -- what one host more has learnt

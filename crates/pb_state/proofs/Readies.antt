@@ -8,10 +8,13 @@ use Rattle.std.proofs.lemmas.Simd.{length-zip2}
 use Rattle.pb_planes.specs.Set.{has_some}
 use Rattle.pb_plan.specs.Plan.{PlayOf}
 use Rattle.pb_strategies.specs.MayStart.{may_start, ready as starting}
-use Rattle.pb_state.specs.Row.{HostRow}
+use Rattle.pb_one_host.specs.Row.{HostRow}
 use Rattle.pb_state.specs.State.{State}
-use Rattle.pb_state.specs.Strategies.{standing, view_of}
-use Rattle.pb_state.specs.Machine.{at_row, has_send, with_sends, ready_in, may_start_in}
+use Rattle.pb_one_host.specs.Standing.{standing}
+use Rattle.pb_state.specs.Strategies.{view_of}
+use Rattle.pb_one_host.specs.Runs.{has_send}
+use Rattle.pb_all_hosts.specs.Hosts.{at_row}
+use Rattle.pb_state.specs.Machine.{with_sends, ready_in, may_start_in}
 use Rattle.pb_state.proofs.Stands.{some_starts}
 
 or_left : (a b : Bool) → (a || b) ≡ false → a ≡ false

@@ -1,7 +1,7 @@
 -- The sizes of the batches that are left.
 use Rattle.std.proofs.Common.{◌≡◌, ℕ, zero, suc, ◌+◌, ◌<◌, ◌≤◌, true, false, List, [], ◌∷◌, length, drop, refl, ◌∙◌, ap, arith}
 use Rattle.std.specs.Prelude.{Some, None, slice_get}
-use Rattle.pb_state.specs.Batches.{has_later}
+use Rattle.pb_all_hosts.specs.Batches.{has_later}
 
 pub some_left : (sizes : List ℕ) (n : ℕ) → n < length sizes → has_later (drop n sizes) ≡ true
 some_left [] n e = absurd (omega (arith, e))

@@ -12,11 +12,14 @@ use Rattle.pb_strategies.specs.declared.strategy.Strategy.{Strategy}
 use Rattle.pb_strategies.specs.declared.strategy.Strategy.TheVariants.{Linear, Free, HostPinned}
 use Rattle.pb_strategies.specs.Hosts.{is_running as standing_runs, same_place as same_there}
 use Rattle.pb_strategies.specs.MayStart.{ViewOf, has_room, has_room_at, suits, may_start_at, may_start_from, may_start, is_linear, ready as starting}
-use Rattle.pb_state.specs.declared.row.Running.{Running}
-use Rattle.pb_state.specs.Row.{HostRow, next_place}
+use Rattle.pb_one_host.specs.declared.row.Running.{Running}
+use Rattle.pb_one_host.specs.Row.{HostRow, next_place}
 use Rattle.pb_state.specs.State.{State}
-use Rattle.pb_state.specs.Strategies.{standing, view_of}
-use Rattle.pb_state.specs.Machine.{is_running, same_place, at_row, next_at, may_start_in}
+use Rattle.pb_one_host.specs.Standing.{standing}
+use Rattle.pb_state.specs.Strategies.{view_of}
+use Rattle.pb_one_host.specs.Runs.{is_running}
+use Rattle.pb_all_hosts.specs.Hosts.{at_row}
+use Rattle.pb_state.specs.Machine.{same_place, next_at, may_start_in}
 
 and_left : (a b : Bool) → (a && b) ≡ true → a ≡ true
 and_left true b e = refl

@@ -11,14 +11,16 @@ use Rattle.pb_state.specs.declared.event.Event.TheVariants.{Open, Start, Send, R
 use Rattle.pb_inventory.specs.InventoryOf.{InventoryOf}
 use Rattle.pb_plan.specs.Plan.{PlayOf, PlanOf}
 use Rattle.pb_sight.specs.Results.{items_at}
-use Rattle.pb_state.specs.Row.{HostRow, progressed, reported, called, left}
+use Rattle.pb_one_host.specs.Row.{HostRow, progressed, reported, called, left}
 use Rattle.pb_state.specs.State.{State}
-use Rattle.pb_state.specs.Machine.{possible, after, change, gifts_at, report_gives, facts_at, plan_seen, open_play, opened_by, after_open, started_in, next_at, start_at, sent_in, reported_in, batch_of, turned_in, closed, stopped, first_state}
+use Rattle.pb_all_hosts.specs.Hosts.{change}
+use Rattle.pb_all_hosts.specs.Giving.{gifts_at, report_gives}
+use Rattle.pb_state.specs.Machine.{possible, after, facts_at, plan_seen, open_play, opened_by, after_open, started_in, next_at, start_at, sent_in, reported_in, batch_of, turned_in, closed, stopped, first_state}
 use Rattle.pb_state.specs.Run.{state_from, IsRun}
-use Rattle.pb_state.proofs.Batching.{length-joined}
-use Rattle.pb_state.proofs.Giving.{length-given}
+use Rattle.pb_all_hosts.proofs.Batching.{length-joined}
+use Rattle.pb_all_hosts.proofs.Giving.{length-given}
 use Rattle.pb_state.proofs.Opening.{open_case, rows_case}
-use Rattle.pb_state.proofs.Turning.{turned_hosts}
+use Rattle.pb_all_hosts.proofs.Turning.{turned_hosts}
 
 length-changed : (rows : List HostRow) (h : ℕ) (f : HostRow → HostRow) (found : Option HostRow) → length (option_map_or (λ row. set rows h (f row)) found rows) ≡ length rows
 length-changed rows h f None = refl

@@ -10,10 +10,11 @@ use Rattle.pb_tree.specs.Answer.{AnswerOf}
 use Rattle.pb_tree.specs.Walk.{reach, one_halted, without_halted, is_halted}
 use Rattle.pb_tree.proofs.Rise.{places_bounded}
 use Rattle.pb_sight.specs.Ends.{has_run}
-use Rattle.pb_state.specs.declared.decided.TaskEnd.{TaskEnd}
-use Rattle.pb_state.specs.Ends.{fails, ends_play, kind_if, kind_of, answer_of}
-use Rattle.pb_state.specs.Row.{HostRow, place_of, next_place}
-use Rattle.pb_state.specs.Machine.{same_place, is_running}
+use Rattle.pb_one_host.specs.declared.decided.TaskEnd.{TaskEnd}
+use Rattle.pb_one_host.specs.Ends.{fails, ends_play, kind_if, kind_of, answer_of}
+use Rattle.pb_one_host.specs.Row.{HostRow, place_of, next_place}
+use Rattle.pb_one_host.specs.Runs.{is_running}
+use Rattle.pb_state.specs.Machine.{same_place}
 use Rattle.pb_state.proofs.Stands.{stands_at}
 
 -- the walk takes an answer at most for each place

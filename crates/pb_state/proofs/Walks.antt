@@ -12,19 +12,21 @@ use Rattle.pb_state.specs.declared.event.Event.{Event}
 use Rattle.pb_state.specs.declared.event.Event.TheVariants.{Open, Start, Send, Report as Reported, Turn, Close, Stop, Forks}
 use Rattle.pb_outcome.specs.declared.item.Item.{Item}
 use Rattle.pb_outcome.specs.Items.{is_over}
-use Rattle.pb_state.specs.declared.row.Running.{Running}
+use Rattle.pb_one_host.specs.declared.row.Running.{Running}
 use Rattle.pb_inventory.specs.InventoryOf.{InventoryOf}
 use Rattle.pb_plan.specs.Plan.{PlayOf, PlanOf}
-use Rattle.pb_state.specs.Row.{HostRow, no_tree, place_of, ended, items_after, progressed, sent, reported, reported_running, called, left, first_rows}
+use Rattle.pb_one_host.specs.Row.{HostRow, no_tree, place_of, ended, items_after, progressed, sent, reported, reported_running, called, left, first_rows}
 use Rattle.pb_state.specs.State.{State}
-use Rattle.pb_state.specs.Batches.{joins, room_behind, joined_first}
+use Rattle.pb_all_hosts.specs.Batches.{joins, room_behind, joined_first}
 use Rattle.pb_sight.specs.declared.gifts.Gift.{Gift}
-use Rattle.pb_state.specs.Machine.{after, change, takes, given_to, gifts_at, report_gives, open_play, after_open, started_in, next_at, facts_at, plan_seen, start_at, sent_in, reported_in, batch_of, turned_in, first_state}
+use Rattle.pb_all_hosts.specs.Hosts.{change}
+use Rattle.pb_all_hosts.specs.Giving.{takes, given_to, gifts_at, report_gives}
+use Rattle.pb_state.specs.Machine.{after, open_play, after_open, started_in, next_at, facts_at, plan_seen, start_at, sent_in, reported_in, batch_of, turned_in, first_state}
 use Rattle.pb_state.specs.Run.{state_from, IsRun}
 use Rattle.pb_state.specs.Walks.{walks_in, IsWalked, AreWalked, IsTracked, AreNumbered, RowsStay, WalksLead}
-use Rattle.pb_state.proofs.Giving.{given_keeps}
+use Rattle.pb_all_hosts.proofs.Giving.{given_keeps}
 use Rattle.pb_state.proofs.Opening.{open_case, rows_case}
-use Rattle.pb_state.proofs.Turning.{Goes as RowGoes, turned_by_case, goes_host, goes_tree, goes_inside}
+use Rattle.pb_all_hosts.proofs.Turning.{Goes as RowGoes, turned_by_case, goes_host, goes_tree, goes_inside}
 
 -- a host of the batch walks this tree
 abbrev pub IsIn : TreeOf → HostRow → Type 0

@@ -19,25 +19,28 @@ use Rattle.pb_tree.specs.declared.answer.Kind.{Kind}
 use Rattle.pb_tree.specs.Tree.{TreeOf, size_of}
 use Rattle.pb_tree.specs.Walk.{reach, one_halted, without_halted, is_halted}
 use Rattle.pb_items.specs.Loops.{max_items}
-use Rattle.pb_state.specs.declared.decided.TaskEnd.{TaskEnd}
-use Rattle.pb_state.specs.declared.row.Counts.{Counts}
-use Rattle.pb_state.specs.declared.row.Finish.{Finish}
-use Rattle.pb_state.specs.declared.row.Running.{Running}
-use Rattle.pb_state.specs.Handlers.{notified_by}
-use Rattle.pb_state.specs.Batches.{has_later, joins, room_behind, joined_first}
-use Rattle.pb_state.specs.Row.{HostRow, no_tree, none_counted, first_rows, place_of, next_place, answered, called, joined, left, finished, finish_at, ended, task_at, taught, came_back, items_after, progressed, sent, sent_running, reported, reported_running}
-use Rattle.pb_state.specs.Ends.{counted, counted_result, is_counted, more}
+use Rattle.pb_one_host.specs.declared.decided.TaskEnd.{TaskEnd}
+use Rattle.pb_one_host.specs.declared.row.Counts.{Counts}
+use Rattle.pb_one_host.specs.declared.row.Finish.{Finish}
+use Rattle.pb_one_host.specs.declared.row.Running.{Running}
+use Rattle.pb_one_host.specs.Handlers.{notified_by}
+use Rattle.pb_all_hosts.specs.Batches.{has_later, joins, room_behind, joined_first}
+use Rattle.pb_one_host.specs.Row.{HostRow, no_tree, none_counted, first_rows, place_of, next_place, answered, called, joined, left, finished, finish_at, ended, task_at, taught, came_back, items_after, progressed, sent, sent_running, reported, reported_running}
+use Rattle.pb_one_host.specs.Ends.{counted, counted_result, is_counted, more, IsAtMost, plain_answer}
 use Rattle.pb_sight.specs.declared.gifts.Gift.{Gift}
-use Rattle.pb_state.specs.Machine.{play_behind, change, takes, given_to, at_row, is_ticket, sends_running, awaits_running, awaits, may_send_item, is_running}
-use Rattle.pb_state.specs.Bounds.{IsAtMost, run_places, out_jobs, running_jobs, running_items, plays_behind, IsPlacedIn, IsWithin, AllWithin, most_jobs, IsBounded}
-use Rattle.pb_state.specs.Kept.{first_waiting}
-use Rattle.pb_state.specs.Turn.{BatchOf, plain_answer, turned_by}
-use Rattle.pb_state.proofs.Giving.{given_keeps, given_sum, length-given}
-use Rattle.pb_state.proofs.InOrder.{first_most, is_next_so, length_back, back_later}
-use Rattle.pb_state.proofs.Batching.{joins_waits, length-joined}
-use Rattle.pb_state.proofs.Opening.{length-first}
+use Rattle.pb_one_host.specs.Runs.{is_ticket, sends_running, awaits_running, awaits, may_send_item, is_running}
+use Rattle.pb_all_hosts.specs.Hosts.{change, at_row}
+use Rattle.pb_all_hosts.specs.Giving.{takes, given_to}
+use Rattle.pb_state.specs.Machine.{play_behind}
+use Rattle.pb_state.specs.Bounds.{run_places, out_jobs, running_jobs, running_items, plays_behind, IsPlacedIn, IsWithin, AllWithin, most_jobs, IsBounded}
+use Rattle.pb_one_host.specs.Kept.{first_waiting}
+use Rattle.pb_all_hosts.specs.Turn.{BatchOf, turned_by}
+use Rattle.pb_all_hosts.proofs.Giving.{given_keeps, given_sum, length-given}
+use Rattle.pb_one_host.proofs.InOrder.{first_most, is_next_so, length_back, back_later}
+use Rattle.pb_all_hosts.proofs.Batching.{joins_waits, length-joined}
+use Rattle.pb_all_hosts.proofs.FirstRows.{length-first}
 use Rattle.pb_state.proofs.Stands.{stands_at}
-use Rattle.pb_state.proofs.Turning.{Goes, turned_by_case, turned_hosts, idle_map}
+use Rattle.pb_all_hosts.proofs.Turning.{Goes, turned_by_case, turned_hosts, idle_map}
 use Rattle.pb_state.proofs.Walked.{at_below, place_at, in_if, stands_below, stands_in, one_halted_answer}
 
 -- counts

@@ -15,39 +15,44 @@ use Rattle.pb_facts.specs.Facts.{FactsOf}
 use Rattle.pb_items.specs.Loops.{max_items}
 use Rattle.pb_sight.specs.Results.{items_at}
 use Rattle.pb_sight.proofs.FewItems.{few_items}
-use Rattle.pb_state.specs.declared.decided.Decided.{Decided as DecidedOf}
-use Rattle.pb_state.specs.declared.decided.TaskEnd.{TaskEnd}
+use Rattle.pb_one_host.specs.declared.decided.Decided.{Decided as DecidedOf}
+use Rattle.pb_one_host.specs.declared.decided.TaskEnd.{TaskEnd}
 use Rattle.pb_outcome.specs.declared.item.Item.{Item}
 use Rattle.pb_outcome.specs.Items.{is_over}
 use Rattle.pb_tree.specs.declared.answer.Kind.{Kind}
 use Rattle.pb_tree.specs.declared.answer.Kind.TheVariants.{Good, Bad, Halted, Gone, Ended}
 use Rattle.pb_tree.specs.Walk.{reach, is_halted}
-use Rattle.pb_state.specs.declared.row.Running.{Running}
-use Rattle.pb_state.specs.declared.row.Finish.{Finish}
+use Rattle.pb_one_host.specs.declared.row.Running.{Running}
+use Rattle.pb_one_host.specs.declared.row.Finish.{Finish}
 use Rattle.pb_state.specs.declared.event.Event.{Event}
 use Rattle.pb_state.specs.declared.event.Event.TheVariants.{Open, Start, Send, Report as Reported, Turn, Close, Stop, Forks}
 use Rattle.pb_inventory.specs.InventoryOf.{InventoryOf}
 use Rattle.pb_plan.specs.Plan.{PlayOf, PlanOf}
-use Rattle.pb_state.specs.Handlers.{notified_by}
-use Rattle.pb_state.specs.Batches.{has_later, called_count, joins, room_behind, joined_first}
-use Rattle.pb_state.specs.Row.{HostRow, no_tree, next_place, called, joined, left, answered, finished, finish_at, ended, task_at, taught, came_back, items_after, progressed, sent, sent_running, reported, reported_running}
+use Rattle.pb_one_host.specs.Handlers.{notified_by}
+use Rattle.pb_all_hosts.specs.Batches.{has_later, called_count, joins, room_behind, joined_first}
+use Rattle.pb_one_host.specs.Row.{HostRow, no_tree, next_place, called, joined, left, answered, finished, finish_at, ended, task_at, taught, came_back, items_after, progressed, sent, sent_running, reported, reported_running, is_at}
 use Rattle.pb_state.specs.State.{State}
 use Rattle.pb_sight.specs.declared.gifts.Gift.{Gift}
-use Rattle.pb_state.specs.Machine.{takes, given_to, gifts_at, report_gives, possible, after, change, at_row, open_play, least_place, same_place, may_open, is_left, may_start_in, may_turn_in, may_close_in, opened_by, after_open, started_in, next_at, facts_at, plan_seen, start_at, batch_of, turned_in, play_behind, closed, is_running, is_ticket, sends_running, may_send_item, awaits_running, awaits, may_send_in, may_report_in, sent_in, reported_in}
+use Rattle.pb_one_host.specs.Runs.{is_running, is_ticket, sends_running, may_send_item, awaits_running, awaits}
+use Rattle.pb_all_hosts.specs.Giving.{takes, given_to, gifts_at, report_gives}
+use Rattle.pb_all_hosts.specs.Hosts.{change, at_row, least_place}
+use Rattle.pb_state.specs.Machine.{possible, after, open_play, same_place, may_open, is_left, may_start_in, may_turn_in, may_close_in, opened_by, after_open, started_in, next_at, facts_at, plan_seen, start_at, batch_of, turned_in, play_behind, closed, may_send_in, may_report_in, sent_in, reported_in}
 use Rattle.pb_batches.specs.Sizes.{batch_sizes}
-use Rattle.pb_state.specs.Kept.{first_waiting}
+use Rattle.pb_one_host.specs.Kept.{first_waiting}
 use Rattle.pb_state.specs.Run.{is_command}
-use Rattle.pb_state.specs.Turn.{BatchOf, is_at, plain_answer, is_settling, settles, source, copied, copied_if, with_copy, copies, is_halting, halted, turned, turned_by}
+use Rattle.pb_one_host.specs.Ends.{plain_answer, is_settling}
+use Rattle.pb_all_hosts.specs.Turn.{BatchOf, settles, source, copied, copied_if, with_copy, copies, is_halting, halted, turned, turned_by}
 use Rattle.pb_state.specs.Work.{most_events, places_left, place_work, out_work, running_work, row_work, batch_work, batches_work, later_work, rest_work, between_work, turn_work, is_place, work_in, work}
-use Rattle.pb_state.proofs.Giving.{given_sum, length-given}
-use Rattle.pb_state.proofs.InOrder.{is_next_so, length_back, back_later}
-use Rattle.pb_state.proofs.Batching.{few_batches, few_called, length-joined}
+use Rattle.pb_all_hosts.proofs.Giving.{given_sum, length-given}
+use Rattle.pb_one_host.proofs.InOrder.{is_next_so, length_back, back_later}
+use Rattle.pb_all_hosts.proofs.Batching.{few_called, length-joined}
+use Rattle.pb_state.proofs.FewBatches.{few_batches}
 use Rattle.pb_state.proofs.SizesLeft.{later_one}
 use Rattle.pb_state.proofs.Opening.{GoesOn, Begins, IsOpening, open_case, rows_case}
 use Rattle.pb_state.proofs.Idle.{lesser_is, turn_settles, turn_place, turn_idle}
 use Rattle.pb_state.proofs.Stands.{stands_at, start_stands}
 use Rattle.pb_state.proofs.Steps.{length-change}
-use Rattle.pb_state.proofs.Turning.{Goes, IsGiven, copy_goes, halted_goes, turned_by_case, later_fewer, turned_hosts}
+use Rattle.pb_all_hosts.proofs.Turning.{Goes, IsGiven, copy_goes, halted_goes, turned_by_case, later_fewer, turned_hosts}
 use Rattle.pb_state.proofs.Walked.{at_below, one_more, no_less, stands_below, one_halted_answer, same_is, place_at}
 
 and_left : (a b : Bool) → (a && b) ≡ true → a ≡ true

@@ -12,10 +12,10 @@ use Rattle.pb_tree.specs.declared.tree.Status.TheVariants.{Active, Failed}
 use Rattle.pb_state.specs.declared.event.Event.{Event}
 use Rattle.pb_state.specs.declared.event.Event.TheVariants.{Open, Start, Send, Report as Reported, Turn, Close, Stop, Forks}
 use Rattle.pb_state.specs.BlockRows.{says, runs, refuses, statuses}
-use Rattle.pb_state.specs.FactRows.{on_facts}
+use Rattle.pb_one_host.specs.FactRows.{on_facts}
 use Rattle.pb_state.specs.Machine.{first_state, possible, ready}
 use Rattle.pb_state.specs.Once.{StartOf, starts_from}
-use Rattle.pb_state.specs.Row.{HostRow}
+use Rattle.pb_one_host.specs.Row.{HostRow}
 use Rattle.pb_state.specs.Run.{legal_from, state_from}
 use Rattle.pb_state.specs.State.{State}
 

@@ -13,10 +13,10 @@ use Rattle.pb_tree.specs.declared.tree.Status.{Status}
 use Rattle.pb_tree.specs.declared.tree.Status.TheVariants.{Active, Failed, Gone as Lost}
 use Rattle.pb_state.specs.declared.event.Event.{Event}
 use Rattle.pb_state.specs.declared.event.Event.TheVariants.{Open, Start, Send, Report as Reported, Turn, Close}
-use Rattle.pb_state.specs.FactRows.{on_facts}
+use Rattle.pb_one_host.specs.FactRows.{on_facts}
 use Rattle.pb_state.specs.Machine.{first_state}
 use Rattle.pb_state.specs.Once.{StartOf, starts_from}
-use Rattle.pb_state.specs.Row.{HostRow}
+use Rattle.pb_one_host.specs.Row.{HostRow}
 use Rattle.pb_state.specs.Run.{legal_from, state_from}
 use Rattle.pb_state.specs.State.{State}
 

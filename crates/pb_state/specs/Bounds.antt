@@ -5,21 +5,11 @@ use Rattle.pb_tree.specs.Tree.{size_of}
 use Rattle.pb_tree.specs.Walk.{one_halted}
 use Rattle.pb_ids.specs.declared.numbers.Ticket.{Ticket}
 use Rattle.pb_items.specs.Loops.{max_items}
-use Rattle.pb_state.specs.declared.row.Counts.{Counts}
-use Rattle.pb_state.specs.declared.row.Running.{Running}
-use Rattle.pb_state.specs.Kept.{first_waiting}
-use Rattle.pb_state.specs.Batches.{has_later}
-use Rattle.pb_state.specs.Row.{HostRow}
-
--- each count of a host is at most n
-pub record IsAtMost (counts : Counts) (n : ℕ) : Type 0 where
-  pub ok : counts.ok ≤ n
-  pub changed : counts.changed ≤ n
-  pub unreachable : counts.unreachable ≤ n
-  pub failed : counts.failed ≤ n
-  pub skipped : counts.skipped ≤ n
-  pub rescued : counts.rescued ≤ n
-  pub ignored : counts.ignored ≤ n
+use Rattle.pb_one_host.specs.declared.row.Running.{Running}
+use Rattle.pb_one_host.specs.Kept.{first_waiting}
+use Rattle.pb_all_hosts.specs.Batches.{has_later}
+use Rattle.pb_one_host.specs.Row.{HostRow}
+use Rattle.pb_one_host.specs.Ends.{IsAtMost}
 
 -- the places at which a host was in the open batch
 abbrev pub run_places : Option Running → ℕ

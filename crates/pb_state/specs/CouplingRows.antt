@@ -17,15 +17,15 @@ use Rattle.pb_tree.specs.declared.tree.Status.TheVariants.{Active, Failed, Halte
 use Rattle.pb_state.specs.BatchRows.{start, send, went, threes, all_three, led_to, is_legal, may, is_second}
 use Rattle.pb_state.specs.BlockRows.{says, runs, refuses, ends, caught, last}
 use Rattle.pb_state.specs.HandlerRows.{flush}
-use Rattle.pb_state.specs.declared.decided.Decided.{Decided}
-use Rattle.pb_state.specs.declared.decided.Done.{Done}
+use Rattle.pb_one_host.specs.declared.decided.Decided.{Decided}
+use Rattle.pb_one_host.specs.declared.decided.Done.{Done}
 use Rattle.pb_state.specs.declared.event.Event.{Event}
 use Rattle.pb_state.specs.declared.event.Event.TheVariants.{Open, Report as Reported, Turn, Close}
-use Rattle.pb_state.specs.declared.row.Counts.{Counts}
-use Rattle.pb_state.specs.FactRows.{on_facts}
+use Rattle.pb_one_host.specs.declared.row.Counts.{Counts}
+use Rattle.pb_one_host.specs.FactRows.{on_facts}
 use Rattle.pb_state.specs.Machine.{first_state, pending_at}
 use Rattle.pb_state.specs.Once.{StartOf, starts_from}
-use Rattle.pb_state.specs.Row.{HostRow, none_counted}
+use Rattle.pb_one_host.specs.Row.{HostRow, none_counted}
 
 -- a job comes to this
 abbrev comes : ℕ → ℕ → Form → Event

@@ -9,10 +9,10 @@ use Rattle.pb_plan.specs.Plan.{PlanOf, bare_inventory, bare_plan, bare_play, bar
 use Rattle.pb_play.specs.declared.modules.Module.TheVariants.{SetFact, Shell}
 use Rattle.pb_play.specs.declared.task.Task.{Task}
 use Rattle.pb_state.specs.declared.event.Event.TheVariants.{Open, Start}
-use Rattle.pb_state.specs.FactRows.{on_facts}
+use Rattle.pb_one_host.specs.FactRows.{on_facts}
 use Rattle.pb_state.specs.Jobs.{job_of}
 use Rattle.pb_state.specs.Machine.{first_state}
-use Rattle.pb_state.specs.Row.{HostRow}
+use Rattle.pb_one_host.specs.Row.{HostRow}
 use Rattle.pb_state.specs.Run.{state_from}
 use Rattle.pb_state.specs.State.{State}
 

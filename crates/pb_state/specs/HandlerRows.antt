@@ -8,14 +8,14 @@ use Rattle.pb_plan.specs.Plan.{PlanOf, bare_play}
 use Rattle.pb_tree.specs.Tree.{Nodes, Nothing, Task, Block, Flush}
 use Rattle.pb_tree.specs.declared.tree.Status.TheVariants.{Active, Failed}
 use Rattle.pb_state.specs.BlockRows.{says, runs, refuses, caught, last, alone, start, after_of, statuses, starts_at}
-use Rattle.pb_state.specs.declared.decided.Decided.{Decided}
-use Rattle.pb_state.specs.declared.decided.Done.{Done}
+use Rattle.pb_one_host.specs.declared.decided.Decided.{Decided}
+use Rattle.pb_one_host.specs.declared.decided.Done.{Done}
 use Rattle.pb_state.specs.declared.event.Event.{Event}
 use Rattle.pb_state.specs.declared.event.Event.TheVariants.{Open, Send, Report as Reported, Turn, Close}
-use Rattle.pb_state.specs.declared.row.Counts.{Counts}
-use Rattle.pb_state.specs.FactRows.{on_facts}
+use Rattle.pb_one_host.specs.declared.row.Counts.{Counts}
+use Rattle.pb_one_host.specs.FactRows.{on_facts}
 use Rattle.pb_state.specs.Machine.{first_state, pending_at}
-use Rattle.pb_state.specs.Row.{HostRow, none_counted}
+use Rattle.pb_one_host.specs.Row.{HostRow, none_counted}
 use Rattle.pb_state.specs.Run.{legal_from}
 
 -- a play's handlers, of which each Flush has a place for each

@@ -1,4 +1,4 @@
--- The job of the next item of the task that a host runs: it is read off the host's row, its play and the place.
+-- The job of the next item of the task that a host runs, and where it goes: it is read off the host's row, its play and the place.
 use Rattle.std.specs.Prelude.{ℕ, List, [], Option, Some, None, option_map, unwrap_or, slice_get}
 use Rattle.std.specs.Option.{option_map_or}
 use Rattle.pb_ids.specs.declared.numbers.HostNo.{HostNo}
@@ -6,18 +6,16 @@ use Rattle.pb_ids.specs.declared.numbers.Ticket.{Ticket}
 use Rattle.pb_tree.specs.Tree.{path_at}
 use Rattle.pb_inventory.specs.InventoryOf.{InventoryOf}
 use Rattle.pb_variables.specs.Connector.{connector_of}
-use Rattle.pb_outcome.specs.declared.item.Item.{Item}
-use Rattle.pb_outcome.specs.declared.item.Planned.{Planned}
-use Rattle.pb_outcome.specs.declared.item.Planned.TheVariants.{Decided, Sends}
 use Rattle.pb_outcome.specs.declared.job.Call.{Call}
 use Rattle.pb_outcome.specs.declared.job.Job.{Job}
 use Rattle.pb_outcome.specs.Items.{next_item}
-use Rattle.pb_state.specs.declared.row.Running.{Running}
 use Rattle.pb_plan.specs.Plan.{PlayOf, PlanOf}
 use Rattle.pb_sight.specs.Delegates.{host_named}
-use Rattle.pb_state.specs.Row.{HostRow}
+use Rattle.pb_one_host.specs.declared.row.Running.{Running}
+use Rattle.pb_one_host.specs.Row.{HostRow}
 use Rattle.pb_state.specs.State.{State}
 use Rattle.pb_state.specs.Machine.{open_play}
+use Rattle.pb_one_host.specs.Calls.{call_in, delegate_in}
 
 -- A job runs on the host itself, by its connector, or on the host that its item is delegated to, by that one's: a name that is no host's has none
 -- (Ansible's documentation, "Controlling where tasks run", "Delegating tasks").
@@ -39,18 +37,6 @@ named_job plan play host ticket item delegate call path =
 
 abbrev pub placed_job : PlanOf → ℕ → HostNo → Ticket → PlayOf → ℕ → ℕ → Option (List ℕ) → Call → Option Job
 placed_job plan number host ticket play p item delegate call = option_map_or (named_job plan number host ticket item delegate call) (path_at play.tree p) None
-
--- what is sent for the item with this number
-abbrev pub call_of : Planned → Option Call
-call_of (Decided result) = None
-call_of (Sends call) = Some call
-
-abbrev pub call_in : List Item → ℕ → Option Call
-call_in items n = option_map_or (λ (item : Item). call_of item.step) (slice_get items n) None
-
--- and the name of the host that it is delegated to, if it is
-abbrev pub delegate_in : List Item → ℕ → Option (List ℕ)
-delegate_in items n = option_map_or (λ (item : Item). item.delegate) (slice_get items n) None
 
 abbrev pub item_job : PlanOf → ℕ → HostNo → Ticket → PlayOf → Running → ℕ → Option Job
 item_job plan number host ticket play r n = option_map_or (placed_job plan number host ticket play r.place n (delegate_in r.items n)) (call_in r.items n) None

@@ -1,6 +1,6 @@
 -- The steps of a run: what may happen in a state, and what it leads to
 -- (Ansible's documentation, "Controlling playbook execution: strategies and more").
-use Rattle.std.specs.Prelude.{ℕ, ◌+◌, ◌==◌, nat_le, Bool, true, false, ◌&&◌, ◌||◌, not, List, [], ◌∷◌, map, drop, length, Option, Some, None, is_some, is_none, option_map, slice_get, slice_set, min, replicate, count_by, if◌then◌else◌}
+use Rattle.std.specs.Prelude.{ℕ, ◌+◌, ◌==◌, nat_le, Bool, true, false, ◌&&◌, ◌||◌, not, List, [], map, drop, length, Option, Some, None, is_some, is_none, slice_get, slice_set, replicate, if◌then◌else◌}
 use Rattle.std.specs.List.{list_any}
 use Rattle.std.specs.Simd.Lanes.{zip2}
 use Rattle.std.specs.Option.{option_map_or}
@@ -8,117 +8,39 @@ use Rattle.pb_ids.specs.declared.numbers.Ticket.{Ticket}
 use Rattle.pb_planes.specs.Set.{is_in as is_member}
 use Rattle.pb_tree.specs.Tree.{size_of}
 use Rattle.pb_inventory.specs.InventoryOf.{InventoryOf}
-use Rattle.pb_facts.specs.Facts.{FactsOf, no_facts, with_given}
-use Rattle.pb_outcome.specs.declared.gather.ItemResult.{ItemResult}
+use Rattle.pb_facts.specs.Facts.{FactsOf, no_facts}
 use Rattle.pb_outcome.specs.declared.item.Item.{Item}
 use Rattle.pb_outcome.specs.declared.job.Report.{Report}
-use Rattle.pb_outcome.specs.declared.outcome.Form.{Form}
-use Rattle.pb_outcome.specs.Items.{next_item, is_over, numbered, numbered_at, result_of}
-use Rattle.pb_sight.specs.Gifts.{given_by}
-use Rattle.pb_sight.specs.Results.{items_at, variable_at}
+use Rattle.pb_outcome.specs.Items.{numbered}
+use Rattle.pb_sight.specs.Results.{items_at}
 use Rattle.pb_sight.specs.Seen.{seen_with}
-use Rattle.pb_sight.specs.declared.gifts.Gift.{Gift}
-use Rattle.pb_state.specs.declared.event.Event.{Event}
-use Rattle.pb_state.specs.declared.event.Event.TheVariants.{Open, Start, Send, Report as Reported, Turn, Close, Stop, Forks}
-use Rattle.pb_state.specs.declared.row.Running.{Running}
-use Rattle.pb_state.specs.declared.decided.Decided.{Decided}
-use Rattle.pb_state.specs.declared.decided.Done.{Done as DoneTask}
-use Rattle.pb_state.specs.declared.decided.TaskEnd.{TaskEnd}
 use Rattle.pb_batches.specs.Sizes.{batch_sizes}
 use Rattle.pb_plan.specs.Plan.{PlayOf, PlanOf}
-use Rattle.pb_state.specs.Batches.{has_later, called_count, joined_first}
-use Rattle.pb_state.specs.Row.{HostRow, first_rows, is_active, is_called, next_place, sent, reported, called, left, pending, task_at, items_after, progressed}
-use Rattle.pb_state.specs.Handlers.{handler_at, notified_by, newly}
-use Rattle.pb_state.specs.State.{State}
-use Rattle.pb_state.specs.Strategies.{view_of}
-use Rattle.pb_state.specs.Turn.{BatchOf, turned_by}
 use Rattle.pb_strategies.specs.declared.strategy.Strategy.{Strategy}
 use Rattle.pb_strategies.specs.MayStart.{may_start, turn_ready, is_linear, ready as starting}
+use Rattle.pb_state.specs.declared.event.Event.{Event}
+use Rattle.pb_state.specs.declared.event.Event.TheVariants.{Open, Start, Send, Report as Reported, Turn, Close, Stop, Forks}
+use Rattle.pb_all_hosts.specs.Batches.{has_later, called_count, joined_first}
+use Rattle.pb_one_host.specs.Row.{HostRow, first_rows, next_place, sent, reported, called, left, progressed}
+use Rattle.pb_state.specs.State.{State}
+use Rattle.pb_state.specs.Strategies.{view_of}
+use Rattle.pb_all_hosts.specs.Turn.{BatchOf, turned_by}
+use Rattle.pb_one_host.specs.Runs.{is_in, is_running, has_send, may_send_item, awaits, item_of}
+use Rattle.pb_one_host.specs.Decides.{decided_with, report_decides}
+use Rattle.pb_all_hosts.specs.Hosts.{at_row, least_place, first_play, change, pending_in}
+use Rattle.pb_all_hosts.specs.Giving.{given_to, gifts_at, report_gives}
 
 -- the play whose batch is open
 abbrev pub open_play : PlanOf → State → Option PlayOf
 open_play plan s = if s.is_open then slice_get plan.plays s.play else None
-
--- a host of the batch that is active
-abbrev pub is_in : HostRow → Bool
-is_in row = row.in_batch && is_active row.status
-
--- a host runs from its start until its task is finished
-abbrev pub is_running : HostRow → Bool
-is_running row = is_some row.running
-
-abbrev pub running_count : List HostRow → ℕ
-running_count rows = count_by is_running rows
-
-abbrev pub one_if : Bool → ℕ
-one_if b = if b then 1 else 0
 
 abbrev pub same_place : Option ℕ → Option ℕ → Bool
 same_place (Some p) (Some q) = p == q
 same_place (Some p) None = false
 same_place None q = false
 
-abbrev pub at_row : (HostRow → Bool) → List HostRow → ℕ → Bool
-at_row test rows h = option_map_or test (slice_get rows h) false
-
--- the least place at which a host of the batch is
-abbrev pub lesser : Option ℕ → Option ℕ → Option ℕ
-lesser None q = q
-lesser (Some p) None = Some p
-lesser (Some p) (Some q) = Some (min p q)
-
-abbrev pub least_place : List HostRow → Option ℕ
-least_place [] = None
-least_place (row ∷ rows) = lesser (next_place row) (least_place rows)
-
-abbrev pub is_ticket : Ticket → Option Ticket → Bool
-is_ticket ticket out = option_map_or (λ (t : Ticket). t.0 == ticket.0) out false
-
--- a host that runs, with no job of it out
-abbrev pub has_send : HostRow → Bool
-has_send row = option_map_or (λ (r : Running). is_none r.out) row.running false
-
--- a host whose job is out
-abbrev pub is_out : HostRow → Bool
-is_out row = option_map_or (λ (r : Running). is_some r.out) row.running false
-
--- a host whose job is out under this ticket
-abbrev pub has_ticket : Ticket → HostRow → Bool
-has_ticket ticket row = option_map_or (λ (r : Running). is_ticket ticket r.out) row.running false
-
--- the item with this number is the next of a task that runs
-abbrev pub is_next : ℕ → Running → Bool
-is_next item r = option_map_or (λ n. n == item) (next_item r.items) false
-
--- a host that runs, with no job of it out, sends the next of its items
-abbrev pub sends_running : ℕ → Running → Bool
-sends_running item r = is_none r.out && is_next item r
-
-abbrev pub may_send_item : ℕ → HostRow → Bool
-may_send_item item row = option_map_or (sends_running item) row.running false
-
--- a host whose job for this item is out under this ticket
-abbrev pub awaits_running : Ticket → ℕ → Running → Bool
-awaits_running ticket item r = is_ticket ticket r.out && is_next item r
-
-abbrev pub awaits : Ticket → ℕ → HostRow → Bool
-awaits ticket item row = option_map_or (awaits_running ticket item) row.running false
-
--- the number of the item that a host sends next, or whose job is out
-abbrev pub item_of : HostRow → Option ℕ
-item_of row = option_map_or (λ (r : Running). next_item r.items) row.running None
-
 abbrev pub item_at : State → ℕ → Option ℕ
 item_at s h = option_map_or item_of (slice_get s.rows h) None
-
--- a play has hosts where one of its own is active
-abbrev pub has_hosts : List HostRow → PlayOf → Bool
-has_hosts rows play = list_any (is_called play.hosts) rows
-
--- the number of the first of these plays that has hosts; their first has the number n
-abbrev pub first_play : List HostRow → ℕ → List PlayOf → Option ℕ
-first_play rows n [] = None
-first_play rows n (play ∷ plays) = if has_hosts rows play then Some n else first_play rows (n + 1) plays
 
 -- the play that begins next: those without hosts are passed over
 -- (Ansible's documentation, "Patterns: targeting hosts and groups")
@@ -168,29 +90,6 @@ ready_in s play = with_sends s.stopped s.rows (starting (view_of s play))
 abbrev pub ready : PlanOf → State → List Bool
 ready plan s = option_map_or (ready_in s) (open_play plan s) (replicate (length s.rows) false)
 
--- one host's row changed
-abbrev pub change : List HostRow → ℕ → (HostRow → HostRow) → List HostRow
-change rows h f = option_map_or (λ row. slice_set rows h (f row)) (slice_get rows h) rows
-
--- how the task at a place ended, if these items end it, on a host with these marks: the handlers that it notified are told where they weren't pending
-abbrev pub newly_at : PlayOf → ℕ → List Bool → TaskEnd → List ℕ
-newly_at play p marks task = newly marks (handler_at play p) (notified_by play p task)
-
-abbrev pub done_at : PlayOf → ℕ → List Bool → List Item → DoneTask
-done_at play p marks items =
-    record { result = result_of (variable_at play p) items; task = task_at play p items; notified = newly_at play p marks (task_at play p items) }
-
-abbrev pub done_if : PlayOf → ℕ → List Bool → List Item → Option DoneTask
-done_if play p marks items = if is_over items then Some (done_at play p marks items) else None
-
--- what a step decided of the task at a place on a host with these marks: the items that ended in it, and how the task ended
-abbrev pub decided_with : PlayOf → ℕ → List Bool → Bool → List (ℕ × ItemResult) → List Item → Decided
-decided_with play p marks is_new told items = record { place = p; is_new = is_new; items = told; done = done_if play p marks items }
-
--- the handlers that are pending on a host; there are none of a number that is no host's
-abbrev pub pending_in : List HostRow → ℕ → List Bool
-pending_in rows h = option_map_or pending (slice_get rows h) []
-
 abbrev pub pending_at : State → ℕ → List Bool
 pending_at s h = pending_in s.rows h
 
@@ -239,19 +138,6 @@ after_open plan s =
     if has_later s.later then option_map_or (goes_on s) (slice_get plan.plays s.play) s
     else option_map_or (begins_at plan s) (next_play plan s) s
 
--- facts that the task of another host gives
-abbrev pub takes : Gift → HostRow → HostRow
-takes gift row = record row { facts = with_given gift.gives gift.facts row.facts }
-
--- each gift goes to its host, one after another
-abbrev pub given_to : List Gift → List HostRow → List HostRow
-given_to [] rows = rows
-given_to (gift ∷ gifts) rows = given_to gifts (change rows gift.host.0 (takes gift))
-
--- what the task at a place gives to other hosts than the one that started it, once these items end it
-abbrev pub gifts_at : InventoryOf → PlayOf → ℕ → ℕ → List Item → List Gift
-gifts_at inventory play p h items = if is_over items then given_by inventory play p h (task_at play p items).result items else []
-
 abbrev pub start_with : InventoryOf → State → ℕ → PlayOf → ℕ → List Item → State
 start_with inventory s h play p items =
     record s {
@@ -283,32 +169,6 @@ started_in plan s h play = option_map_or (start_at plan s h play) (next_at s h) 
 
 abbrev pub sent_in : State → ℕ → Ticket → PlayOf → State
 sent_in s h ticket play = record s { rows = change s.rows h (sent ticket); sends = s.sends + 1; decided = None }
-
--- the item that came back, with its number, where its task has a loop
-abbrev pub told_at : List Item → ℕ → List (ℕ × ItemResult)
-told_at items n = numbered_at n (slice_get items n)
-
-abbrev pub told_in : List Item → Option ℕ → List (ℕ × ItemResult)
-told_in items number = option_map_or (told_at items) number []
-
--- what a report decides of the task that waited for it
-abbrev pub decided_by : PlanOf → PlayOf → Form → HostRow → Running → Decided
-decided_by plan play outcome row r =
-    decided_with play r.place (pending row) false (told_in (items_after plan play row.host row.facts outcome r) (next_item r.items))
-    (items_after plan play row.host row.facts outcome r)
-
-abbrev pub report_decides : PlanOf → PlayOf → Form → HostRow → Option Decided
-report_decides plan play outcome row = option_map (decided_by plan play outcome row) row.running
-
--- and what it gives to other hosts, of a host in this row
-abbrev pub gifts_by : PlanOf → PlayOf → Form → ℕ → HostRow → Running → List Gift
-gifts_by plan play outcome h row r = gifts_at plan.inventory play r.place h (items_after plan play row.host row.facts outcome r)
-
-abbrev pub gifts_of : PlanOf → PlayOf → Form → ℕ → HostRow → List Gift
-gifts_of plan play outcome h row = option_map_or (gifts_by plan play outcome h row) row.running []
-
-abbrev pub report_gives : PlanOf → PlayOf → Form → ℕ → List HostRow → List Gift
-report_gives plan play outcome h rows = option_map_or (gifts_of plan play outcome h) (slice_get rows h) []
 
 -- a report, where tasks see the plan so
 abbrev pub reported_seen : PlanOf → State → Report → PlayOf → State

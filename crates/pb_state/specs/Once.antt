@@ -5,9 +5,9 @@ use Rattle.std.specs.Option.{option_map_or}
 use Rattle.pb_ids.specs.declared.numbers.HostNo.{HostNo}
 use Rattle.pb_state.specs.declared.event.Event.{Event}
 use Rattle.pb_state.specs.declared.event.Event.TheVariants.{Start, Send}
-use Rattle.pb_state.specs.declared.row.Running.{Running}
+use Rattle.pb_one_host.specs.declared.row.Running.{Running}
 use Rattle.pb_plan.specs.Plan.{PlanOf}
-use Rattle.pb_state.specs.Row.{HostRow}
+use Rattle.pb_one_host.specs.Row.{HostRow}
 use Rattle.pb_state.specs.State.{State}
 use Rattle.pb_state.specs.Machine.{after, next_at, first_state}
 use Rattle.pb_state.specs.Run.{legal_from}

@@ -8,9 +8,10 @@ use Rattle.pb_state.specs.declared.event.Event.{Event}
 use Rattle.pb_state.specs.declared.event.Event.TheVariants.{Open, Start, Turn, Close}
 use Rattle.pb_places.specs.Place.{bare_place}
 use Rattle.pb_plan.specs.Plan.{PlayOf, PlanOf, bare_play, bare_plan, bare_tree}
-use Rattle.pb_state.specs.Row.{HostRow, first_row}
+use Rattle.pb_one_host.specs.Row.{HostRow, first_row}
 use Rattle.pb_state.specs.State.{State}
-use Rattle.pb_state.specs.Machine.{possible, first_state, first_play}
+use Rattle.pb_all_hosts.specs.Hosts.{first_play}
+use Rattle.pb_state.specs.Machine.{possible, first_state}
 use Rattle.pb_state.specs.Run.{legal_from, state_from}
 
 -- a play with one task

@@ -1,7 +1,7 @@
 -- The state of a run.
 use Rattle.std.specs.Prelude.{ℕ, Bool, List, Option}
-use Rattle.pb_state.specs.declared.decided.Decided.{Decided}
-use Rattle.pb_state.specs.Row.{HostRow}
+use Rattle.pb_one_host.specs.declared.decided.Decided.{Decided}
+use Rattle.pb_one_host.specs.Row.{HostRow}
 
 pub record State : Type 0 where
   pub rows : List HostRow

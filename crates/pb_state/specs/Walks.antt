@@ -5,7 +5,7 @@ use Rattle.pb_tree.specs.Tree.{TreeOf}
 use Rattle.pb_tree.specs.Walk.{reach}
 use Rattle.pb_state.specs.declared.event.Event.{Event}
 use Rattle.pb_plan.specs.Plan.{PlayOf, PlanOf}
-use Rattle.pb_state.specs.Row.{HostRow, place_of, next_place}
+use Rattle.pb_one_host.specs.Row.{HostRow, place_of, next_place}
 use Rattle.pb_state.specs.State.{State}
 use Rattle.pb_state.specs.Machine.{open_play, first_state}
 use Rattle.pb_state.specs.Run.{state_from}

@@ -5,13 +5,14 @@ use Rattle.pb_ids.specs.declared.numbers.Ticket.{Ticket}
 use Rattle.pb_tree.specs.Tree.{size_of}
 use Rattle.pb_tree.specs.Walk.{one_halted}
 use Rattle.pb_items.specs.Loops.{max_items}
-use Rattle.pb_state.specs.declared.row.Running.{Running}
+use Rattle.pb_one_host.specs.declared.row.Running.{Running}
 use Rattle.pb_plan.specs.Plan.{PlayOf, PlanOf}
-use Rattle.pb_state.specs.Batches.{has_later}
-use Rattle.pb_state.specs.Row.{HostRow, next_place}
-use Rattle.pb_state.specs.Kept.{first_waiting}
+use Rattle.pb_all_hosts.specs.Batches.{has_later}
+use Rattle.pb_one_host.specs.Row.{HostRow, next_place}
+use Rattle.pb_one_host.specs.Kept.{first_waiting}
 use Rattle.pb_state.specs.State.{State}
-use Rattle.pb_state.specs.Machine.{open_play, least_place, same_place}
+use Rattle.pb_all_hosts.specs.Hosts.{least_place}
+use Rattle.pb_state.specs.Machine.{open_play, same_place}
 
 -- a task is started, and each of its items is sent and comes back
 abbrev pub most_events : ℕ

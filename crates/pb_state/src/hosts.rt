@@ -9,9 +9,9 @@ ghost use Rattle.pb_sight.specs.Results.{items_at, settled_at};
 ghost use Rattle.pb_sight.specs.Seen.{with_hosts, seen_with};
 ghost use Rattle.pb_state.specs.Machine.{learnt_by};
 
-use crate::row::Row;
 use pb_facts::facts::Facts;
 use pb_ids::HostNo;
+use pb_one_host::Row;
 use pb_plan::{Plan, PlanPlay};
 use pb_sight::hosts::{hosts_known, reads_at_start, reads_of_result};
 use pb_sight::seen::Seen;

@@ -4,9 +4,9 @@ ghost use Rattle.std.specs.Prelude.{◌≡◌, ◌<◌, IfOk, slice_get, unwrap_
 ghost use Rattle.std.specs.Option.{option_copied, option_map_or};
 ghost use Rattle.pb_state.specs.Jobs.{connector_named, connector_for, row_job, job_with};
 
-use crate::row::Row;
 use pb_ids::{HostNo, Place, PlayNo, Ticket};
 use pb_inventory::inventory::Inventory;
+use pb_one_host::Row;
 use pb_outcome::job::{Call, Job};
 use pb_plan::{Plan, PlanPlay};
 use pb_value::items::Items;

@@ -1,7 +1,7 @@
 //! The batches that are left of a play.
 
 ghost use Rattle.std.specs.Prelude.{◌≡◌, [], drop, slice_get};
-ghost use Rattle.pb_state.specs.Batches.{has_later};
+ghost use Rattle.pb_all_hosts.specs.Batches.{has_later};
 
 use std::alloc::Global;
 use std::marker::Model;

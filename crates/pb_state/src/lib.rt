@@ -2,33 +2,21 @@
 //!
 //! For the layers above: `EngineState` is the state of the strategy machine, and `step` takes exactly the events that
 //! may happen in it, each with exactly its effect; an event that may not happen is `Illegal` and changes nothing.
-//! `Plan` (pb_plan) is what the machine reads of a bundle.
+//! `Plan` (pb_plan) is what the machine reads of a bundle, `pb_one_host` what a step does to one host, and `pb_all_hosts` what it does to the rows of all.
 #![tactic(auto)]
 
 ghost use Rattle.pb_state.specs.Walks.{WalksLead, RowsStay};
 ghost use Rattle.pb_state.specs.Rising.{StartsRise};
 
-mod decided;
-mod due;
-mod ends;
 mod event;
-mod gifts;
-mod handlers;
 mod hosts;
-mod items;
 mod job;
-mod jobs_out;
 mod later;
-mod row;
-mod rows;
 mod state;
-mod told;
-mod turned;
 
-pub use decided::{Decided, Done, TaskEnd};
 pub use event::{Event, Trail};
+pub use pb_one_host::{Counts, Decided, Done, TaskEnd};
 pub use pb_plan::{Bundle, BundleFault, MAX_BYTES, Plan, PlanPlay, RoleFault};
-pub use row::Counts;
 pub use state::{EngineState, StepFault};
 
 /// What holds of every run: each host of the open batch is at the place to which its answers lead in the play's tree, and no other host

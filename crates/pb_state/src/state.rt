@@ -8,31 +8,27 @@ ghost use Rattle.pb_planes.specs.Set.{is_in as is_member};
 ghost use Rattle.pb_plan.specs.Plan.{PlanOf};
 ghost use Rattle.pb_sight.specs.Results.{items_at};
 ghost use Rattle.pb_sight.specs.Seen.{with_hosts};
-ghost use Rattle.pb_state.specs.Row.{HostRow, called, left};
-ghost use Rattle.pb_state.specs.Batches.{has_later};
+ghost use Rattle.pb_one_host.specs.Row.{HostRow, called, left};
+ghost use Rattle.pb_all_hosts.specs.Batches.{has_later};
 ghost use Rattle.pb_state.specs.Machine.{facts_at, pending_at, plan_seen, play_behind, first_by};
 ghost use Rattle.pb_state.specs.Strategies.{view_of};
-ghost use Rattle.pb_state.specs.Back.{SameTold};
+ghost use Rattle.pb_one_host.specs.Back.{SameTold};
 ghost use Rattle.pb_state.specs.State.{State};
 
-use crate::decided::{Decided, decide};
-use crate::due::{
-    DueRows, begin_first, join_first, leave_all, report_row, send_row, stand_at, start_row,
-    turn_rows,
-};
 use crate::event::Event;
 use crate::hosts::{hosts_at_report, hosts_at_start};
-use crate::items::TaskItems;
 use crate::job::job_in;
 use crate::later::{Later, first_of};
-use crate::row::{Counts, Row};
-use crate::rows::{called_count, counts_of, first_play, item_in, least_place, none_into, some_in};
-use crate::told::numbered;
-use crate::turned::is_settled;
+use pb_all_hosts::{
+    DueRows, begin_first, called_count, counts_of, first_play, is_settled, item_in, join_first,
+    least_place, leave_all, none_into, report_row, send_row, some_in, stand_at, start_row,
+    turn_rows,
+};
 use pb_batches::batches;
 use pb_facts::facts::Facts;
 use pb_ids::{HostNo, PlayNo, Ticket};
 use pb_inventory::inventory::Inventory;
+use pb_one_host::{Counts, Decided, Row, TaskItems, decide, numbered};
 use pb_outcome::job::{Job, Report};
 use pb_plan::{Plan, PlanPlay};
 use pb_planes::HostSet;
@@ -139,7 +135,9 @@ impl Model for EngineState {
 }
 
 impl EngineState {
-    ghost use Rattle.pb_state.specs.Machine.{open_play, next_play, is_left, may_open, may_start_in, may_send_in, may_report_in, may_turn_in, may_close_in, at_row, possible, may_send_item, awaits};
+    ghost use Rattle.pb_one_host.specs.Runs.{may_send_item, awaits};
+    ghost use Rattle.pb_all_hosts.specs.Hosts.{at_row};
+    ghost use Rattle.pb_state.specs.Machine.{open_play, next_play, is_left, may_open, may_start_in, may_send_in, may_report_in, may_turn_in, may_close_in, possible};
 
     /// The play whose batch is open.
     fn open_play<'a>(&self, plan: &'a Plan) -> Option<&'a PlanPlay>
@@ -303,8 +301,10 @@ impl EngineState {
 }
 
 impl EngineState {
-    ghost use Rattle.pb_state.specs.Machine.{after, opened_by, goes_on, next_play, begins, begins_at, with_place, next_at, started_in, start_at, start_with, sent_in, reported_in, reported_seen, turned_in, moved, batch_of, with_batch, closed, stopped, with_forks, first_state, ready, change, possible, may_open, may_start_in, may_send_in, may_report_in, may_turn_in, is_running, open_play};
-    ghost use Rattle.pb_state.specs.Turn.{turned};
+    ghost use Rattle.pb_one_host.specs.Runs.{is_running};
+    ghost use Rattle.pb_all_hosts.specs.Hosts.{change};
+    ghost use Rattle.pb_state.specs.Machine.{after, opened_by, goes_on, next_play, begins, begins_at, with_place, next_at, started_in, start_at, start_with, sent_in, reported_in, reported_seen, turned_in, moved, batch_of, with_batch, closed, stopped, with_forks, first_state, ready, possible, may_open, may_start_in, may_send_in, may_report_in, may_turn_in, open_play};
+    ghost use Rattle.pb_all_hosts.specs.Turn.{turned};
     ghost use Rattle.pb_state.specs.Run.{is_command};
     ghost use Rattle.pb_state.specs.Work.{work};
 
@@ -814,10 +814,12 @@ impl EngineState {
 }
 
 impl EngineState {
-    ghost use Rattle.pb_state.specs.Machine.{ready, ready_in, open_play, is_out, has_ticket, at_row, item_at};
+    ghost use Rattle.pb_one_host.specs.Runs.{is_out, has_ticket};
+    ghost use Rattle.pb_all_hosts.specs.Hosts.{at_row};
+    ghost use Rattle.pb_state.specs.Machine.{ready, ready_in, open_play, item_at};
     ghost use Rattle.pb_state.specs.Jobs.{job_of};
     ghost use Rattle.pb_ids.specs.declared.numbers.Ticket.{Ticket};
-    ghost use Rattle.pb_state.specs.Oldest.{oldest_out};
+    ghost use Rattle.pb_all_hosts.specs.Oldest.{oldest_out};
 
     /// How many hosts there are.
     pub fn hosts(&self) -> usize

@@ -1,4 +1,4 @@
-use Rattle.pb_state.proofs.Batching.{few_sizes}
+use Rattle.pb_state.proofs.FewBatches.{few_sizes}
 use Rattle.pb_state.proofs.state.EngineState.begin_in.Goals as goal
 
 pub begin_with-requires-clause-few : goal.begin_with-requires-clause-few

@@ -1,6 +1,6 @@
 use Rattle.std.proofs.Common.{◌≡◌, ◌≤◌, ℕ, true, false, List, subst, sym, refl}
 use Rattle.pb_state.specs.Bounds.{IsBounded}
-use Rattle.pb_state.specs.Batches.{has_later}
+use Rattle.pb_all_hosts.specs.Batches.{has_later}
 use Rattle.pb_state.specs.State.{State}
 use Rattle.pb_state.proofs.Within.{begin_bounded}
 use Rattle.pb_state.proofs.state.EngineState.begin_with.Goals as goal

@@ -1,8 +1,10 @@
 use Rattle.std.proofs.Common.{◌≡◌, true, subst, sym, arith}
 use Rattle.pb_state.specs.State.{State}
-use Rattle.pb_state.specs.Machine.{at_row, has_send, may_send_in}
+use Rattle.pb_one_host.specs.Runs.{has_send}
+use Rattle.pb_all_hosts.specs.Hosts.{at_row}
+use Rattle.pb_state.specs.Machine.{may_send_in}
 use Rattle.pb_state.proofs.Within.{sends_below, send_bounded}
-use Rattle.pb_state.proofs.TicketOrder.{may_has_send}
+use Rattle.pb_state.proofs.MaySend.{may_has_send}
 use Rattle.pb_state.proofs.state.EngineState.send_in.Goals as goal
 
 pub send_row-requires : goal.send_row-requires

@@ -1,6 +1,8 @@
 use Rattle.std.proofs.Common.{◌≡◌, true, subst, sym}
 use Rattle.pb_state.specs.State.{State}
-use Rattle.pb_state.specs.Machine.{at_row, gifts_at, next_at}
+use Rattle.pb_all_hosts.specs.Hosts.{at_row}
+use Rattle.pb_all_hosts.specs.Giving.{gifts_at}
+use Rattle.pb_state.specs.Machine.{next_at}
 use Rattle.pb_state.proofs.Stands.{stands_at, start_stands}
 use Rattle.pb_state.proofs.Within.{room_at, start_there, start_in_batch, start_bounded}
 use Rattle.pb_state.proofs.state.EngineState.start_with.Goals as goal

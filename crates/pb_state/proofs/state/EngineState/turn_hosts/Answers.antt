@@ -2,8 +2,8 @@ use Rattle.std.proofs.Common.{◌≡◌, ◌≤◌, true, false, length, subst, 
 use Rattle.std.specs.Prelude.{Some}
 use Rattle.std.specs.List.{list_any}
 use Rattle.pb_state.specs.State.{State}
-use Rattle.pb_state.specs.Machine.{is_running}
-use Rattle.pb_state.proofs.Making.{rows_turned, with_turn}
+use Rattle.pb_one_host.specs.Runs.{is_running}
+use Rattle.pb_state.proofs.TurnedBatch.{rows_turned, with_turn}
 use Rattle.pb_state.proofs.Within.{turn_bounded}
 use Rattle.pb_state.proofs.state.EngineState.turn_hosts.Goals as goal
 

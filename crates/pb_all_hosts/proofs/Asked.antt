@@ -1,0 +1,138 @@
+-- What is kept beside the rows: it stays right as rows change.
+use Rattle.std.proofs.Common.{◌≡◌, ℕ, zero, suc, ◌+◌, ◌≤◌, Bool, true, false, List, [], ◌∷◌, length, map, refl, sym, ◌∙◌, ap, arith}
+use Rattle.std.specs.Prelude.{Option, Some, None, option_map, slice_get, slice_set, replicate}
+use Rattle.std.specs.Option.{option_map_or}
+use Rattle.std.proofs.lemmas.List.{length-map}
+use Rattle.pb_ids.specs.declared.numbers.HostNo.{HostNo}
+use Rattle.pb_ids.specs.declared.numbers.Ticket.{Ticket}
+use Rattle.pb_strategies.specs.declared.standings.Standing.{Standing}
+use Rattle.pb_strategies.specs.Hosts.{nowhere}
+use Rattle.pb_one_host.specs.Row.{HostRow, first_rows, sent}
+use Rattle.pb_sight.specs.declared.gifts.Gift.{Gift}
+use Rattle.pb_one_host.specs.Runs.{has_send}
+use Rattle.pb_all_hosts.specs.Hosts.{at_row, change}
+use Rattle.pb_all_hosts.specs.Giving.{takes, given_to}
+use Rattle.pb_one_host.specs.Standing.{standing}
+use Rattle.pb_all_hosts.specs.Due.{asked_at, IsDue}
+use Rattle.pb_all_hosts.specs.Oldest.{all_out, ticket_of, with_job, without_job}
+use Rattle.pb_all_hosts.proofs.Giving.{given_map}
+use Rattle.pb_all_hosts.proofs.TicketOrder.{first_order, quiet_order, sent_order}
+
+-- a list that says something of each host is as long as the rows
+pub width_is : {A : Type 0} (of : HostRow → A) (rows : List HostRow) (told : List A) → told ≡ map of rows → length told ≡ length rows
+width_is of rows told e = ap length e ∙ length-map rows of
+
+pub same_width : {A : Type 0} (of : HostRow → A) (rows new : List HostRow) (told : List A) → told ≡ map of rows → length new ≡ length rows → length told ≡ length new
+same_width of rows new told e n = width_is of rows told e ∙ sym n
+
+pub mapped_width : {A : Type 0} (of : HostRow → A) (f : HostRow → HostRow) (rows new : List HostRow) (told : List A) → told ≡ map of rows → new ≡ map f rows → length told ≡ length new
+mapped_width of f rows new told e n = width_is of rows told e ∙ sym (ap length n ∙ length-map rows f)
+
+pub set_past : (set : List Bool) (h : ℕ) (b : Bool) → length set ≤ h → slice_set set h b ≡ set
+set_past [] zero b e = refl
+set_past [] (suc h) b e = refl
+set_past (x ∷ set) zero b e = absurd (omega (arith, e))
+set_past (x ∷ set) (suc h) b e = ap (λ rest. x ∷ rest) (set_past set h b (omega (arith, e)))
+
+-- one host's row changed, and was asked anew
+changed_on : (row : HostRow) (rows : List HostRow) (h : ℕ) (f : HostRow → HostRow) → change (row ∷ rows) (suc h) f ≡ row ∷ change rows h f
+changed_on row rows h f = by_found (slice_get rows h)
+  where
+    by_found : (found : Option HostRow) → option_map_or (λ (r : HostRow). slice_set (row ∷ rows) (suc h) (f r)) found (row ∷ rows) ≡ row ∷ option_map_or (λ (r : HostRow). slice_set rows h (f r)) found rows
+    by_found None = refl
+    by_found (Some r) = refl
+
+asked_on : {A : Type 0} (of : HostRow → A) (row : HostRow) (rows : List HostRow) (h : ℕ) (b : A) (told : List A) → asked_at of (row ∷ rows) (suc h) (b ∷ told) ≡ b ∷ asked_at of rows h told
+asked_on {A} of row rows h b told = by_found (slice_get rows h)
+  where
+    by_found : (found : Option HostRow) → option_map_or (λ (r : HostRow). slice_set (b ∷ told) (suc h) (of r)) found (b ∷ told) ≡ b ∷ option_map_or (λ (r : HostRow). slice_set told h (of r)) found told
+    by_found None = refl
+    by_found (Some r) = refl
+
+asked_changed : {A : Type 0} (of : HostRow → A) (f : HostRow → HostRow) (rows : List HostRow) (h : ℕ) → asked_at of (change rows h f) h (map of rows) ≡ map of (change rows h f)
+asked_changed of f [] h = refl
+asked_changed of f (row ∷ rows) zero = refl
+asked_changed of f (row ∷ rows) (suc h) =
+    ap (λ (all : List HostRow). asked_at of all (suc h) (of row ∷ map of rows)) (changed_on row rows h f)
+    ∙ asked_on of row (change rows h f) h (of row) (map of rows)
+    ∙ ap (λ rest. of row ∷ rest) (asked_changed of f rows h)
+    ∙ ap (map of) (sym (changed_on row rows h f))
+
+one_asked : {A : Type 0} (of : HostRow → A) (f : HostRow → HostRow) (h : ℕ) (told new_told : List A) (rows new : List HostRow) → told ≡ map of rows → new ≡ change rows h f → new_told ≡ asked_at of new h told → new_told ≡ map of new
+one_asked of f h told new_told rows new e n t =
+    t ∙ ap (asked_at of new h) e
+    ∙ ap (λ (all : List HostRow). asked_at of all h (map of rows)) n
+    ∙ asked_changed of f rows h
+    ∙ ap (map of) (sym n)
+
+pub sent_due : (ticket : Ticket) (host : HostNo) (sends told_sends : List Bool) (standings told_standings : List Standing) (jobs told_jobs : List (HostNo × Ticket)) (rows new : List HostRow) → at_row has_send rows host.0 ≡ true
+    → IsDue sends standings jobs rows → new ≡ change rows host.0 (sent ticket) → told_sends ≡ asked_at has_send new host.0 sends → told_standings ≡ asked_at standing new host.0 standings → told_jobs ≡ with_job (host, ticket) jobs
+    → IsDue told_sends told_standings told_jobs new
+sent_due ticket host sends told_sends standings told_standings jobs told_jobs rows new w due n s t o =
+    record {
+      sending = one_asked has_send (sent ticket) host.0 sends told_sends rows new due.sending n s;
+      stands = one_asked standing (sent ticket) host.0 standings told_standings rows new due.stands n t;
+      in_order = sent_order ticket host jobs told_jobs rows new w due.in_order n o;
+    }
+
+-- what hosts are given changes nothing of it
+asked_of : {A : Type 0} (of : HostRow → A) (rows : List HostRow) (h : ℕ) (told : List A) → asked_at of rows h told ≡ option_map_or (slice_set told h) (option_map of (slice_get rows h)) told
+asked_of {A} of rows h told = by_found (slice_get rows h)
+  where
+    by_found : (found : Option HostRow) → option_map_or (λ (r : HostRow). slice_set told h (of r)) found told ≡ option_map_or (slice_set told h) (option_map of found) told
+    by_found None = refl
+    by_found (Some row) = refl
+
+of_changed : {A : Type 0} (of : HostRow → A) (f : HostRow → HostRow) → ((row : HostRow) → of (f row) ≡ of row) → (rows : List HostRow) (k h : ℕ) → option_map of (slice_get (change rows k f) h) ≡ option_map of (slice_get rows h)
+of_changed of f same [] k h = refl
+of_changed of f same (row ∷ rows) zero zero = ap Some (same row)
+of_changed of f same (row ∷ rows) zero (suc h) = refl
+of_changed of f same (row ∷ rows) (suc k) zero = rw (changed_on row rows k f) refl
+of_changed of f same (row ∷ rows) (suc k) (suc h) = rw (changed_on row rows k f) (of_changed of f same rows k h)
+
+asked_given : {A : Type 0} (of : HostRow → A) → ((gift : Gift) (row : HostRow) → of (takes gift row) ≡ of row) → (gifts : List Gift) (rows : List HostRow) (h : ℕ) (told : List A) → asked_at of (given_to gifts rows) h told ≡ asked_at of rows h told
+asked_given of same [] rows h told = refl
+asked_given of same (gift ∷ gifts) rows h told =
+    asked_given of same gifts (change rows gift.host.0 (takes gift)) h told
+    ∙ asked_of of (change rows gift.host.0 (takes gift)) h told
+    ∙ ap (λ found. option_map_or (slice_set told h) found told) (of_changed of (takes gift) (same gift) rows gift.host.0 h)
+    ∙ sym (asked_of of rows h told)
+
+one_given : {A : Type 0} (of : HostRow → A) → ((gift : Gift) (row : HostRow) → of (takes gift row) ≡ of row) → (gifts : List Gift) (f : HostRow → HostRow) (h : ℕ) (told new_told : List A) (rows new : List HostRow) → told ≡ map of rows
+    → new ≡ given_to gifts (change rows h f) → new_told ≡ asked_at of new h told → new_told ≡ map of new
+one_given of same gifts f h told new_told rows new e n t =
+    t ∙ ap (λ (all : List HostRow). asked_at of all h told) n
+    ∙ asked_given of same gifts (change rows h f) h told
+    ∙ ap (asked_at of (change rows h f) h) e
+    ∙ asked_changed of f rows h
+    ∙ sym (given_map of same gifts (change rows h f))
+    ∙ ap (map of) (sym n)
+
+-- and a host whose task started or went on has no job that is out
+pub given_due : (gifts : List Gift) (f : HostRow → HostRow) → ((row : HostRow) → ticket_of (f row) ≡ None) → (h : ℕ) (sends told_sends : List Bool) (standings told_standings : List Standing) (jobs told_jobs : List (HostNo × Ticket))
+    (rows new : List HostRow) → IsDue sends standings jobs rows → new ≡ given_to gifts (change rows h f) → told_sends ≡ asked_at has_send new h sends → told_standings ≡ asked_at standing new h standings → told_jobs ≡ without_job h jobs
+    → IsDue told_sends told_standings told_jobs new
+given_due gifts f none h sends told_sends standings told_standings jobs told_jobs rows new due n s t o =
+    record {
+      sending = one_given has_send (λ gift row. refl) gifts f h sends told_sends rows new due.sending n s;
+      stands = one_given standing (λ gift row. refl) gifts f h standings told_standings rows new due.stands n t;
+      in_order = quiet_order gifts f none h jobs told_jobs rows new due.in_order n o;
+    }
+
+-- before the run nobody has a job to send, and nobody is in a batch
+first_send : (h n : ℕ) → replicate n false ≡ map has_send (first_rows h n)
+first_send h zero = refl
+first_send h (suc n) = ap (λ rest. false ∷ rest) (first_send (h + 1) n)
+
+first_stand : (h n : ℕ) → replicate n nowhere ≡ map standing (first_rows h n)
+first_stand h zero = refl
+first_stand h (suc n) = ap (λ (rest : List Standing). nowhere ∷ rest) (first_stand (h + 1) n)
+
+pub first_due : (n : ℕ) (sends : List Bool) (standings : List Standing) (jobs : List (HostNo × Ticket)) (rows : List HostRow) → sends ≡ replicate n false → standings ≡ replicate n nowhere → jobs ≡ [] → rows ≡ first_rows 0 n
+    → IsDue sends standings jobs rows
+first_due n sends standings jobs rows s t o e =
+    record {
+      sending = s ∙ first_send 0 n ∙ ap (map has_send) (sym e);
+      stands = t ∙ first_stand 0 n ∙ ap (map standing) (sym e);
+      in_order = o ∙ sym (first_order 0 0 n) ∙ ap all_out (sym e);
+    }

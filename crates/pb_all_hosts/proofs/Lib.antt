@@ -1,0 +1,14 @@
+pub mod Giving
+pub mod Preparing
+pub mod Turning
+pub mod Batching
+pub mod FirstRows
+pub mod Counting
+pub mod Making
+pub mod Joined
+pub mod Least
+pub mod OldestOut
+pub mod TicketOrder
+pub mod Asked
+pub mod Overwritten
+pub mod Reported

@@ -1,0 +1,23 @@
+use Rattle.std.proofs.Common.{◌-◌, ◌^◌, List, subst, sym}
+use Rattle.std.specs.Prelude.{IfSome, slice_get}
+use Rattle.pb_one_host.specs.Ends.{IsAtMost}
+use Rattle.pb_one_host.specs.Row.{HostRow, reported}
+use Rattle.pb_all_hosts.specs.Giving.{report_gives}
+use Rattle.pb_all_hosts.proofs.Asked.{given_due}
+use Rattle.pb_all_hosts.proofs.TicketOrder.{reported_quiet}
+use Rattle.pb_all_hosts.proofs.due.report_row.Goals as goal
+
+pub report_row-requires : goal.report_row-requires
+report_row-requires c =
+    subst (λ (all : List HostRow). IfSome (slice_get all c.args.host.0) (λ (row : HostRow). IsAtMost row.counts (2 ^ 64 - 2))) (sym c.rows.view_is) c.requires
+
+pub invariant_of-rows-2 : goal.invariant_of-rows-2
+invariant_of-rows-2 c =
+    given_due (report_gives c.args.plan.now c.args.play.now c.args.outcome.now c.args.host.0 c.rows.inside.rows) (reported c.args.plan.now c.args.play.now c.args.outcome.now)
+    (reported_quiet c.args.plan.now c.args.play.now c.args.outcome.now) c.args.host.0 c.rows.inside.sends c.ask_one.new.sends c.rows.inside.standings c.ask_one.new.standings c.rows.inside.out.items c.drop_job.new.all.items
+    c.rows.inside.rows c.report_row.new.rows
+    c.rows.invariant
+    c.in_ok-decided.ensures.rows
+    c.ask_one.ensures.sends
+    c.ask_one.ensures.stands
+    c.drop_job.ensures

@@ -1,0 +1,319 @@
+//! Which hosts are due, and which jobs are out, beside the rows of all hosts.
+
+ghost use Rattle.std.specs.Prelude.{◌≡◌, ◌<◌, ◌-◌, ◌^◌, length, map, replicate, slice_get, slice_set, true, IfOk, IfSome, OnOk, OnErr, None};
+ghost use Rattle.std.specs.List.{list_any};
+ghost use Rattle.std.specs.Option.{option_map_or};
+ghost use Rattle.pb_one_host.specs.Row.{first_rows, called, left, progressed, sent, reported};
+ghost use Rattle.pb_all_hosts.specs.Batches.{joined_first};
+ghost use Rattle.pb_one_host.specs.Ends.{IsAtMost};
+ghost use Rattle.pb_one_host.specs.Runs.{is_running, has_send, is_out, has_ticket};
+ghost use Rattle.pb_one_host.specs.Decides.{done_if, report_decides};
+ghost use Rattle.pb_all_hosts.specs.Hosts.{at_row, change, pending_in};
+ghost use Rattle.pb_all_hosts.specs.Giving.{given_to, gifts_at, report_gives};
+ghost use Rattle.pb_one_host.specs.Standing.{standing};
+ghost use Rattle.pb_all_hosts.specs.Due.{asked_at};
+ghost use Rattle.pb_all_hosts.specs.Oldest.{oldest_out};
+ghost use Rattle.pb_all_hosts.specs.TurnMade.{halts_at, turned_rows};
+
+use crate::jobs_out::{drop_job, first_job, put_job, some_under};
+use crate::rows::{self, HostRows, sends_into, stand_all, turn_all};
+use crate::turned::turn_of;
+use pb_cursors::LaidTree;
+use pb_ids::{HostNo, Ticket};
+use pb_inventory::inventory::Inventory;
+use pb_one_host::{Decided, Done, Row, TaskItems};
+use pb_outcome::outcome::Outcome;
+use pb_plan::PlanPlay;
+use pb_planes::HostSet;
+use pb_sight::seen::Seen;
+use pb_strategies::Standings;
+use std::alloc::{AllocError, Global};
+use std::marker::Model;
+use std::rc::Rc;
+
+/// The rows of all hosts. Which of them have a job to send, where each stands, and which jobs are out is kept beside them: a step that changes one
+/// host's row asks that row alone.
+pub struct DueRows {
+    rows: HostRows,
+    sends: HostSet,
+    standings: Standings,
+    /// The jobs that are out, in the order in which they were sent.
+    out: Vec<(HostNo, Ticket)>,
+}
+
+impl Drop for DueRows {
+    fn drop(self) {
+        let DueRows {
+            rows,
+            sends,
+            standings,
+            out,
+        } = self;
+        drop(rows);
+        drop(sends);
+        drop(standings);
+        drop(out);
+    }
+}
+
+impl Model for DueRows {
+    ghost use Rattle.std.specs.Prelude.{List};
+    ghost use Rattle.pb_tree.specs.contracts.tree.PlayTree as play_tree;
+    ghost use Rattle.pb_value.specs.contracts.val.Val as val;
+    ghost use Rattle.std.specs.Coded.{codes};
+    ghost use Rattle.pb_one_host.specs.Row.{HostRow};
+    ghost use Rattle.pb_all_hosts.specs.Due.{IsDue};
+
+    ghost Value = { List HostRow };
+
+    ghost coded = { Prim.hlevel (codes, val.the_row.coded, play_tree.the_row.coded) };
+
+    ghost view = { λ r. r.rows };
+
+    ghost invariant = { λ r. IsDue r.sends r.standings r.out.items r.rows };
+}
+
+impl DueRows {
+    /// The rows of this many hosts before the run.
+    pub fn first(alloc: Global, hosts: u32) -> Result<DueRows, AllocError>
+        ensures { IfOk result (λ rows. rows ≡ first_rows 0 hosts) }
+    {
+        let sends = HostSet::empty(alloc, hosts)?;
+        let standings = Standings::new(alloc, hosts, 0)?;
+        let rows = HostRows::first(alloc, hosts)?;
+        let out = Vec::new(alloc);
+        Ok(DueRows {
+            rows,
+            sends,
+            standings,
+            out,
+        })
+    }
+
+    /// The rows, in the order of hosts.
+    pub fn as_slice(&self) -> &[Row]
+        ensures { result.now ≡ self.now }
+    {
+        self.rows.as_slice()
+    }
+
+    /// Whether a host runs.
+    pub fn some_running(&self) -> bool
+        ensures { result ≡ list_any is_running self.now }
+    {
+        self.rows.some_running()
+    }
+
+    /// The hosts that have a job to send.
+    pub fn sends(&self) -> &HostSet
+        ensures { result.now ≡ map has_send self.now }
+    {
+        &self.sends
+    }
+
+    /// Where each host stands.
+    pub fn standings(&self) -> &Standings
+        ensures { result.now ≡ map standing self.now }
+    {
+        &self.standings
+    }
+
+    /// Of the jobs that are out the one that was sent first: its host and its ticket.
+    pub fn oldest_out(&self) -> Option<(HostNo, Ticket)>
+        ensures { result ≡ oldest_out self.now }
+    {
+        first_job(self.out.as_slice())
+    }
+
+    /// Whether a job is out.
+    pub fn some_out(&self) -> bool
+        ensures { result ≡ list_any is_out self.now }
+    {
+        self.oldest_out().is_some()
+    }
+
+    /// Whether a job is out under this ticket.
+    pub fn is_ticket_out(&self, ticket: Ticket) -> bool
+        ensures { result ≡ list_any (has_ticket ticket) self.now }
+    {
+        some_under(self.out.as_slice(), ticket)
+    }
+}
+
+/// Adds a host to a set, or takes it out. A host past the set's end changes nothing.
+#[tactic(auto, using(crate::proofs::Asked::set_past))]
+fn put_in(set: &mut HostSet, host: HostNo, is_in: bool)
+    ensures { set.new ≡ slice_set set.old host.0 is_in }
+{
+    if host.0 < set.width() {
+        set.put(host, is_in);
+    }
+}
+
+/// Asks the row of one host anew.
+fn ask_one(rows: &HostRows, host: HostNo, sends: &mut HostSet, standings: &mut Standings)
+    ensures sends { sends.new ≡ asked_at has_send rows.now host.0 sends.old }
+    ensures stands { standings.new ≡ asked_at standing rows.now host.0 standings.old }
+{
+    if let Some(row) = rows.as_slice().get(host.0 as usize) {
+        put_in(sends, host, row.has_send());
+        standings.put(host, row.standing());
+    }
+}
+
+/// Asks all rows anew.
+fn ask_all(rows: &HostRows, sends: &mut HostSet, standings: &mut Standings)
+    requires sends { length sends.old ≡ length rows.now }
+    requires stands { length standings.old ≡ length rows.now }
+    ensures sends { sends.new ≡ map has_send rows.now }
+    ensures stands { standings.new ≡ map standing rows.now }
+{
+    // (there are fewer rows than host numbers)
+    let _hosts = rows.hosts();
+    let all = rows.as_slice();
+    sends_into(all, sends);
+    stand_all(all, standings);
+}
+
+/// From now on it is kept who is at this place.
+pub fn stand_at(rows: &mut DueRows, place: Option<usize>)
+    ensures { rows.new ≡ rows.old }
+{
+    rows.standings.stand_at(place);
+}
+
+/// A host starts the task at a place with these items; where it ends at once, what it gives to other hosts is theirs. An `Err` changes nothing.
+pub fn start_row(
+    alloc: Global,
+    rows: &mut DueRows,
+    host: HostNo,
+    inventory: &Inventory,
+    play: &PlanPlay,
+    place: usize,
+    items: TaskItems,
+) -> Result<Option<Done>, AllocError>
+    requires there { host.0 < length rows.old }
+    requires batch { IfSome (slice_get rows.old host.0) (λ row. row.in_batch ≡ true) }
+    requires room { IfSome (slice_get rows.old host.0) (λ row. IsAtMost row.counts (2 ^ 64 - 2)) }
+    ensures rows { OnOk result (rows.new ≡ given_to (gifts_at inventory.now play.now place host.0 items) (change rows.old host.0 (progressed inventory.now play.now place items))) }
+    ensures done { IfOk result (λ done. done ≡ done_if play.now place (pending_in rows.old host.0) items) }
+    ensures err { OnErr result (rows.new ≡ rows.old) }
+{
+    let done = rows::start_row(alloc, &mut rows.rows, host, inventory, play, place, items)?;
+    drop_job(&mut rows.out, host);
+    ask_one(&rows.rows, host, &mut rows.sends, &mut rows.standings);
+    Ok(done)
+}
+
+/// The job of a host goes out that has one to send. An `Err` changes nothing.
+pub fn send_row(rows: &mut DueRows, host: HostNo, ticket: Ticket) -> Result<(), AllocError>
+    requires { at_row has_send rows.old host.0 ≡ true }
+    ensures ok { OnOk result (rows.new ≡ change rows.old host.0 (sent ticket)) }
+    ensures err { OnErr result (rows.new ≡ rows.old) }
+{
+    put_job(&mut rows.out, (host, ticket))?;
+    rows::send_row(&mut rows.rows, host, ticket);
+    ask_one(&rows.rows, host, &mut rows.sends, &mut rows.standings);
+    Ok(())
+}
+
+/// The job of a host that is out came to this; where its task ends, what it gives to other hosts is theirs. An `Err` changes nothing.
+pub fn report_row(
+    alloc: Global,
+    rows: &mut DueRows,
+    host: HostNo,
+    plan: &Seen,
+    play: &PlanPlay,
+    outcome: &Outcome,
+) -> Result<Option<Decided>, AllocError>
+    requires { IfSome (slice_get rows.old host.0) (λ row. IsAtMost row.counts (2 ^ 64 - 2)) }
+    ensures rows { OnOk result (rows.new ≡ given_to (report_gives plan.now play.now outcome.now host.0 rows.old) (change rows.old host.0 (reported plan.now play.now outcome.now))) }
+    ensures decides { IfOk result (λ decided. decided ≡ option_map_or (report_decides plan.now play.now outcome.now) (slice_get rows.old host.0) None) }
+    ensures err { OnErr result (rows.new ≡ rows.old) }
+{
+    let decided = rows::report_row(alloc, &mut rows.rows, host, plan, play, outcome)?;
+    drop_job(&mut rows.out, host);
+    ask_one(&rows.rows, host, &mut rows.sends, &mut rows.standings);
+    Ok(decided)
+}
+
+/// Where no host of these is in a batch, in a play with so many places.
+fn nowhere(alloc: Global, rows: &HostRows, places: usize) -> Result<Standings, AllocError>
+    ensures { IfOk result (λ standings. length standings ≡ length rows.now) }
+{
+    Standings::new(alloc, rows.hosts(), places)
+}
+
+/// A batch of this size opens of the play that goes on, which has this tree. An `Err` changes nothing.
+pub fn join_first(
+    alloc: Global,
+    rows: &mut DueRows,
+    size: u32,
+    laid: &Rc<LaidTree>,
+    places: usize,
+) -> Result<(), AllocError>
+    ensures ok { OnOk result (rows.new ≡ joined_first laid.now.value.tree size rows.old) }
+    ensures err { OnErr result (rows.new ≡ rows.old) }
+{
+    let standings = nowhere(alloc, &rows.rows, places)?;
+    rows::join_first(alloc, &mut rows.rows, size, laid)?;
+    rows.standings = standings;
+    rows.out.clear();
+    ask_all(&rows.rows, &mut rows.sends, &mut rows.standings);
+    Ok(())
+}
+
+/// A play begins that has this tree and these hosts of its own, with a batch of this size. An `Err` changes nothing.
+pub fn begin_first(
+    alloc: Global,
+    rows: &mut DueRows,
+    hosts: &HostSet,
+    size: u32,
+    laid: &Rc<LaidTree>,
+    places: usize,
+) -> Result<(), AllocError>
+    ensures ok { OnOk result (rows.new ≡ joined_first laid.now.value.tree size (map (called hosts.now) rows.old)) }
+    ensures err { OnErr result (rows.new ≡ rows.old) }
+{
+    let standings = nowhere(alloc, &rows.rows, places)?;
+    rows::begin_first(alloc, &mut rows.rows, hosts, size, laid)?;
+    rows.standings = standings;
+    rows.out.clear();
+    ask_all(&rows.rows, &mut rows.sends, &mut rows.standings);
+    Ok(())
+}
+
+/// Each host leaves the batch.
+pub fn leave_all(rows: &mut DueRows)
+    ensures { rows.new ≡ map left rows.old }
+{
+    rows::leave_all(&mut rows.rows);
+    rows.out.clear();
+    ask_all(&rows.rows, &mut rows.sends, &mut rows.standings);
+}
+
+/// The batch goes on from a place: what one host did for all goes to the others, and hosts are halted; it says whether they are. An `Err` changes
+/// nothing.
+pub fn turn_rows(
+    alloc: Global,
+    rows: &mut DueRows,
+    inventory: &Inventory,
+    play: &PlanPlay,
+    place: usize,
+) -> Result<bool, AllocError>
+    ensures rows { OnOk result (rows.new ≡ turned_rows inventory.now play.now place rows.old) }
+    ensures halts { IfOk result (λ halts. halts ≡ halts_at inventory.now play.now place rows.old) }
+    ensures err { OnErr result (rows.new ≡ rows.old) }
+{
+    // (there are fewer rows than host numbers)
+    let _hosts = rows.rows.hosts();
+    match turn_of(alloc, inventory, play, place, rows.rows.as_slice())? {
+        Some(made) => {
+            let (all, halts) = made.parts();
+            turn_all(&mut rows.rows, all);
+            ask_all(&rows.rows, &mut rows.sends, &mut rows.standings);
+            Ok(halts)
+        }
+        None => Ok(false),
+    }
+}

@@ -1,0 +1,629 @@
+//! The rows of all hosts.
+
+ghost use Rattle.std.specs.Prelude.{◌≡◌, ◌&&◌, ◌<◌, ◌≤◌, ◌+◌, ◌-◌, ◌^◌, length, map, drop, replicate, slice_get, count_by, true, false, IfOk, IfSome, IfNone, OnOk, OnErr, Some, None};
+ghost use Rattle.std.specs.List.{list_any};
+ghost use Rattle.std.specs.Option.{option_map_or};
+ghost use Rattle.pb_one_host.specs.Row.{HostRow, first_rows, next_place, is_called, is_waiting, called, left, progressed, sent, reported, knows};
+ghost use Rattle.pb_one_host.specs.Ends.{IsAtMost};
+ghost use Rattle.pb_all_hosts.specs.Batches.{called_count, joins, room_behind, joined_first};
+ghost use Rattle.pb_one_host.specs.Walking.{with_walk};
+ghost use Rattle.pb_all_hosts.specs.Joining.{walks_from, joined_from};
+ghost use Rattle.pb_one_host.specs.Standing.{standing};
+ghost use Rattle.pb_one_host.specs.Runs.{is_in, is_running, has_send, item_of};
+ghost use Rattle.pb_one_host.specs.Decides.{done_if, report_decides};
+ghost use Rattle.pb_all_hosts.specs.Hosts.{least_place, lesser, change, one_if, running_count, pending_in, has_hosts, first_play};
+ghost use Rattle.pb_all_hosts.specs.Giving.{given_to, gifts_at, report_gives, gives_now};
+ghost use Rattle.pb_one_host.specs.Back.{back_row, undone, went_on, decided_now};
+ghost use Rattle.pb_all_hosts.specs.Prepared.{with_facts};
+ghost use Rattle.pb_one_host.specs.Turned.{turned_if};
+ghost use Rattle.pb_all_hosts.specs.TurnMade.{each_from, with_each};
+
+use crate::gifts::{NewFacts, gifts_at, gives_now, with_gifts};
+use pb_cursors::{LaidTree, PlayWalk};
+use pb_ids::{HostNo, Ticket};
+use pb_inventory::inventory::Inventory;
+use pb_one_host::{Before, Counts, Decided, Done, Row, TaskItems, Turned, walk_if};
+use pb_outcome::outcome::Outcome;
+use pb_plan::PlanPlay;
+use pb_planes::HostSet;
+use pb_sight::seen::Seen;
+use pb_strategies::Standings;
+use std::alloc::{AllocError, Global};
+use std::marker::Model;
+use std::rc::Rc;
+
+/// The rows of all hosts. How many of them run is kept beside them, so that no step counts them.
+pub struct HostRows {
+    rows: Vec<Row>,
+    running: usize,
+}
+
+impl Drop for HostRows {
+    fn drop(self) {
+        let HostRows { rows, running: _ } = self;
+        drop(rows);
+    }
+}
+
+impl Model for HostRows {
+    ghost use Rattle.std.specs.Prelude.{◌≡◌, ◌<◌, ◌^◌, List, length};
+    ghost use Rattle.pb_tree.specs.contracts.tree.PlayTree as play_tree;
+    ghost use Rattle.pb_value.specs.contracts.val.Val as val;
+    ghost use Rattle.std.specs.Coded.{codes};
+    ghost use Rattle.pb_one_host.specs.Row.{HostRow};
+    ghost use Rattle.pb_all_hosts.specs.Hosts.{running_count};
+
+    ghost Value = { List HostRow };
+
+    ghost coded = { Prim.hlevel (codes, val.the_row.coded, play_tree.the_row.coded) };
+
+    ghost view = { λ r. r.rows.items };
+
+    ghost invariant = { λ r. (r.running ≡ running_count r.rows.items) × (length r.rows.items < 2 ^ 32) };
+}
+
+impl HostRows {
+    /// The rows of this many hosts before the run.
+    pub fn first(alloc: Global, hosts: u32) -> Result<HostRows, AllocError>
+        ensures { IfOk result (λ rows. rows ≡ first_rows 0 hosts) }
+    {
+        let rows = first_rows(alloc, hosts)?;
+        Ok(HostRows { rows, running: 0 })
+    }
+
+    /// The rows, in the order of hosts.
+    pub fn as_slice(&self) -> &[Row]
+        ensures { result.now ≡ self.now }
+    {
+        self.rows.as_slice()
+    }
+
+    /// How many hosts run.
+    pub fn running(&self) -> usize
+        ensures { result ≡ running_count self.now }
+    {
+        self.running
+    }
+
+    /// Whether a host runs.
+    pub fn some_running(&self) -> bool
+        ensures { result ≡ list_any is_running self.now }
+    {
+        self.running != 0
+    }
+
+    /// How many hosts there are.
+    pub fn hosts(&self) -> u32
+        ensures value { result ≡ length self.now }
+        ensures bound { length self.now < 2 ^ 32 }
+    {
+        self.rows.len() as u32
+    }
+}
+
+/// How many run where one of them did or didn't, and does or doesn't now.
+fn recounted(running: usize, was: bool, is: bool) -> usize
+    requires some { was ≡ true → 0 < running }
+    requires room { running < 2 ^ 64 - 1 }
+    ensures { result + one_if was ≡ running + one_if is }
+{
+    match (was, is) {
+        (true, false) => running - 1,
+        (false, true) => running + 1,
+        _ => running,
+    }
+}
+
+/// A row for each host.
+#[tactic(auto, using(crate::proofs::FirstRows::first_more))]
+fn first_rows(alloc: Global, hosts: u32) -> Result<Vec<Row>, AllocError>
+    ensures { IfOk result (λ rows. rows.items ≡ first_rows 0 hosts) }
+{
+    let mut rows = Vec::new(alloc);
+    for host in 0..hosts {
+        rows.push(Row::new(alloc, HostNo(host)))?;
+    }
+    Ok(rows)
+}
+
+/// Whether a host of a set is active.
+fn some_called(rows: &[Row], hosts: &HostSet) -> bool
+    ensures { result ≡ list_any (is_called hosts.now) rows.now }
+{
+    rows.iter().any(|row| row.is_called(hosts))
+}
+
+/// How many hosts of a set are active.
+pub fn called_count(rows: &[Row], hosts: &HostSet) -> u32
+    requires { length rows.now ≤ 65536 }
+    ensures { result ≡ called_count hosts.now rows.now }
+{
+    rows.iter().filter(|row| row.is_called(hosts)).count() as u32
+}
+
+/// The number of the first play from this one on that has hosts: some host of its own is active.
+pub fn first_play(rows: &[Row], plays: &[PlanPlay], from: usize) -> Option<usize>
+    ensures value { result ≡ first_play rows.now from (drop from plays.now) }
+    ensures least { IfSome result (λ number. from ≤ number) }
+{
+    for number in from..plays.len() {
+        if some_called(rows, plays[number].hosts()) {
+            return Some(number);
+        }
+    }
+    None
+}
+
+/// Whether a host of the batch is active.
+pub fn some_in(rows: &[Row]) -> bool
+    ensures { result ≡ list_any is_in rows.now }
+{
+    rows.iter().any(|row| row.is_in())
+}
+
+/// A host starts the task at a place with these items. An `Err` changes nothing.
+fn start_one(
+    alloc: Global,
+    rows: &mut HostRows,
+    host: HostNo,
+    inventory: &Inventory,
+    play: &PlanPlay,
+    place: usize,
+    items: TaskItems,
+) -> Result<Option<Done>, AllocError>
+    requires there { host.0 < length rows.old }
+    requires batch { IfSome (slice_get rows.old host.0) (λ row. row.in_batch ≡ true) }
+    requires room { IfSome (slice_get rows.old host.0) (λ row. IsAtMost row.counts (2 ^ 64 - 2)) }
+    ensures rows { OnOk result (rows.new ≡ change rows.old host.0 (progressed inventory.now play.now place items)) }
+    ensures done { IfOk result (λ done. done ≡ done_if play.now place (pending_in rows.old host.0) items) }
+    ensures err { OnErr result (rows.new ≡ rows.old) }
+{
+    match rows.rows.get_mut(host.0 as usize) {
+        Some(row) => {
+            let was = row.is_running();
+            let done = row.start(alloc, inventory, play, place, items)?;
+            let runs = row.is_running();
+            rows.running = recounted(rows.running, was, runs);
+            Ok(done)
+        }
+        None => unreachable!(),
+    }
+}
+
+/// What a host knows from now on.
+fn know_row(rows: &mut HostRows, known: NewFacts)
+    ensures { rows.new ≡ change rows.old known.host.0 (knows known.facts) }
+{
+    let (host, facts) = known.parts();
+    if let Some(row) = rows.rows.get_mut(host.0 as usize) {
+        let was = row.is_running();
+        row.know(facts);
+        let runs = row.is_running();
+        rows.running = recounted(rows.running, was, runs);
+    }
+}
+
+/// The last of these hosts knows what is kept for it.
+fn know_last(rows: &mut HostRows, all: &mut Vec<NewFacts>)
+    ensures facts { with_facts all.new.items rows.new ≡ with_facts all.old.items rows.old }
+    ensures fewer { length all.new.items ≡ length all.old.items - 1 }
+{
+    if let Some(known) = all.pop() {
+        know_row(rows, known);
+    }
+}
+
+/// These hosts know what is kept for them.
+fn know_all(rows: &mut HostRows, all: Vec<NewFacts>)
+    ensures { rows.new ≡ with_facts all.items rows.old }
+{
+    let mut left = all;
+    let count = left.len();
+    for _ in 0..count {
+        know_last(rows, &mut left);
+    }
+}
+
+/// A host starts the task at a place with these items; where it ends at once, what it gives to other hosts is theirs. An `Err` changes nothing.
+pub fn start_row(
+    alloc: Global,
+    rows: &mut HostRows,
+    host: HostNo,
+    inventory: &Inventory,
+    play: &PlanPlay,
+    place: usize,
+    items: TaskItems,
+) -> Result<Option<Done>, AllocError>
+    requires there { host.0 < length rows.old }
+    requires batch { IfSome (slice_get rows.old host.0) (λ row. row.in_batch ≡ true) }
+    requires room { IfSome (slice_get rows.old host.0) (λ row. IsAtMost row.counts (2 ^ 64 - 2)) }
+    ensures rows { OnOk result (rows.new ≡ given_to (gifts_at inventory.now play.now place host.0 items) (change rows.old host.0 (progressed inventory.now play.now place items))) }
+    ensures done { IfOk result (λ done. done ≡ done_if play.now place (pending_in rows.old host.0) items) }
+    ensures err { OnErr result (rows.new ≡ rows.old) }
+{
+    let gifts = gifts_at(alloc, inventory, play, place, host, &items)?;
+    let known = with_gifts(alloc, rows.as_slice(), gifts.as_slice())?;
+    let done = start_one(alloc, rows, host, inventory, play, place, items)?;
+    know_all(rows, known);
+    Ok(done)
+}
+
+/// A job of a host goes out.
+pub fn send_row(rows: &mut HostRows, host: HostNo, ticket: Ticket)
+    ensures { rows.new ≡ change rows.old host.0 (sent ticket) }
+{
+    if let Some(row) = rows.rows.get_mut(host.0 as usize) {
+        row.send(ticket);
+    }
+}
+
+/// The job of a host that is out came to this: its item has its result. What the item was before is handed back. An `Err` changes nothing.
+fn take_back(
+    alloc: Global,
+    rows: &mut HostRows,
+    host: HostNo,
+    plan: &Seen,
+    play: &PlanPlay,
+    outcome: &Outcome,
+) -> Result<Option<Before>, AllocError>
+    ensures ok { OnOk result (rows.new ≡ change rows.old host.0 (back_row plan.now play.now outcome.now)) }
+    ensures undo { IfOk result (λ before. change rows.new host.0 (undone before) ≡ rows.old) }
+    ensures err { OnErr result (rows.new ≡ rows.old) }
+{
+    match rows.rows.get_mut(host.0 as usize) {
+        Some(row) => {
+            let was = row.is_running();
+            let before = row.take_back(alloc, plan, play, outcome)?;
+            let runs = row.is_running();
+            rows.running = recounted(rows.running, was, runs);
+            Ok(before)
+        }
+        None => Ok(None),
+    }
+}
+
+/// An item of the task that a host runs is what it was before.
+fn undo(rows: &mut HostRows, host: HostNo, before: Option<Before>)
+    ensures { rows.new ≡ change rows.old host.0 (undone before) }
+{
+    match rows.rows.get_mut(host.0 as usize) {
+        Some(row) => {
+            let was = row.is_running();
+            row.undo(before);
+            let runs = row.is_running();
+            rows.running = recounted(rows.running, was, runs);
+        }
+        None => drop(before),
+    }
+}
+
+/// What is decided of the task that a host runs, of which the item with this number came back. An `Err` changes nothing.
+fn decide_one(
+    alloc: Global,
+    rows: &mut HostRows,
+    host: HostNo,
+    inventory: &Inventory,
+    play: &PlanPlay,
+    number: Option<u32>,
+) -> Result<Option<Decided>, AllocError>
+    requires { IfSome (slice_get rows.old host.0) (λ row. IsAtMost row.counts (2 ^ 64 - 2)) }
+    ensures rows { OnOk result (rows.new ≡ change rows.old host.0 (went_on inventory.now play.now)) }
+    ensures decides { IfOk result (λ decided. decided ≡ option_map_or (decided_now play.now number) (slice_get rows.old host.0) None) }
+    ensures err { OnErr result (rows.new ≡ rows.old) }
+{
+    match rows.rows.get_mut(host.0 as usize) {
+        Some(row) => {
+            let was = row.is_running();
+            let decided = row.decide(alloc, inventory, play, number)?;
+            let goes_on = row.is_running();
+            rows.running = recounted(rows.running, was, goes_on);
+            Ok(decided)
+        }
+        None => Ok(None),
+    }
+}
+
+/// The same; where the task ends, what it gives to other hosts is theirs. An `Err` changes nothing.
+fn decide_row(
+    alloc: Global,
+    rows: &mut HostRows,
+    host: HostNo,
+    inventory: &Inventory,
+    play: &PlanPlay,
+    number: Option<u32>,
+) -> Result<Option<Decided>, AllocError>
+    requires { IfSome (slice_get rows.old host.0) (λ row. IsAtMost row.counts (2 ^ 64 - 2)) }
+    ensures rows { OnOk result (rows.new ≡ given_to (gives_now inventory.now play.now host.0 rows.old) (change rows.old host.0 (went_on inventory.now play.now))) }
+    ensures decides { IfOk result (λ decided. decided ≡ option_map_or (decided_now play.now number) (slice_get rows.old host.0) None) }
+    ensures err { OnErr result (rows.new ≡ rows.old) }
+{
+    let gifts = gives_now(alloc, inventory, play, rows.as_slice(), host)?;
+    let known = with_gifts(alloc, rows.as_slice(), gifts.as_slice())?;
+    let decided = decide_one(alloc, rows, host, inventory, play, number)?;
+    know_all(rows, known);
+    Ok(decided)
+}
+
+/// The number of the item that a host sends next, or whose job is out.
+pub fn item_in(rows: &[Row], host: HostNo) -> Option<u32>
+    ensures { result ≡ option_map_or item_of (slice_get rows.now host.0) None }
+{
+    match rows.get(host.0 as usize) {
+        Some(row) => row.item(),
+        None => None,
+    }
+}
+
+/// The job of a host that is out came to this; where its task ends, what it gives to other hosts is theirs. An `Err` changes nothing.
+pub fn report_row(
+    alloc: Global,
+    rows: &mut HostRows,
+    host: HostNo,
+    plan: &Seen,
+    play: &PlanPlay,
+    outcome: &Outcome,
+) -> Result<Option<Decided>, AllocError>
+    requires { IfSome (slice_get rows.old host.0) (λ row. IsAtMost row.counts (2 ^ 64 - 2)) }
+    ensures rows { OnOk result (rows.new ≡ given_to (report_gives plan.now play.now outcome.now host.0 rows.old) (change rows.old host.0 (reported plan.now play.now outcome.now))) }
+    ensures decides { IfOk result (λ decided. decided ≡ option_map_or (report_decides plan.now play.now outcome.now) (slice_get rows.old host.0) None) }
+    ensures err { OnErr result (rows.new ≡ rows.old) }
+{
+    let number = item_in(rows.rows.as_slice(), host);
+    let before = take_back(alloc, rows, host, plan, play, outcome)?;
+    match decide_row(alloc, rows, host, plan.inventory(), play, number) {
+        Ok(decided) => Ok(decided),
+        Err(error) => {
+            undo(rows, host, before);
+            Err(error)
+        }
+    }
+}
+
+/// Of each host whether it waits for its batch.
+fn waiting_in(alloc: Global, rows: &[Row]) -> Result<Vec<bool>, AllocError>
+    ensures { IfOk result (λ all. all.items ≡ map is_waiting rows.now) }
+{
+    let mut all = Vec::with_capacity(alloc, rows.len())?;
+    for row in rows {
+        all.push(row.waits())?;
+    }
+    Ok(all)
+}
+
+/// Of each host whether it is called to a play with these hosts of its own.
+fn called_in(alloc: Global, rows: &[Row], hosts: &HostSet) -> Result<Vec<bool>, AllocError>
+    ensures { IfOk result (λ all. all.items ≡ map (is_called hosts.now) rows.now) }
+{
+    let mut all = Vec::with_capacity(alloc, rows.len())?;
+    for row in rows {
+        all.push(row.is_called(hosts))?;
+    }
+    Ok(all)
+}
+
+/// Whether a host joins a batch that has room for so many more.
+fn joins(room: u32, waits: bool) -> bool
+    ensures { result ≡ joins room waits }
+{
+    waits && 0 < room
+}
+
+/// For how many a batch has room behind a host.
+fn room_behind(room: u32, waits: bool) -> u32
+    ensures { result ≡ room_behind room waits }
+{
+    if joins(room, waits) { room - 1 } else { room }
+}
+
+/// The walks of the hosts, of which these wait, as a batch of this size opens of a play that has this tree. All of them are made before the first row
+/// changes, so that a row is never made anew: what its host has learnt stays in it.
+fn walks_for(
+    alloc: Global,
+    waiting: &[bool],
+    size: u32,
+    laid: &Rc<LaidTree>,
+) -> Result<Vec<Option<PlayWalk>>, AllocError>
+    ensures { IfOk result (λ all. all.items ≡ walks_from laid.now.value.tree size waiting.now) }
+{
+    let mut all = Vec::with_capacity(alloc, waiting.len())?;
+    let mut room = size;
+    for waits in waiting {
+        let walk = walk_if(alloc, joins(room, *waits), laid)?;
+        all.push(walk)?;
+        room = room_behind(room, *waits);
+    }
+    Ok(all)
+}
+
+/// A host takes its walk.
+fn join_row(rows: &mut Vec<Row>, at: usize, walk: Option<PlayWalk>)
+    ensures { rows.new.items ≡ change rows.old.items at (with_walk walk) }
+{
+    if let Some(row) = rows.get_mut(at) {
+        row.join(walk);
+    }
+}
+
+/// Each host takes its walk.
+fn join_each(rows: &mut Vec<Row>, walks: Vec<Option<PlayWalk>>)
+    requires { length walks.items < 2 ^ 32 }
+    ensures { rows.new.items ≡ joined_from 0 walks.items rows.old.items }
+{
+    let mut at: usize = 0;
+    for walk in walks {
+        join_row(rows, at, walk);
+        at += 1;
+    }
+}
+
+/// A batch of this size opens of the play that goes on, which has this tree. An `Err` changes nothing.
+pub fn join_first(
+    alloc: Global,
+    rows: &mut HostRows,
+    size: u32,
+    laid: &Rc<LaidTree>,
+) -> Result<(), AllocError>
+    ensures ok { OnOk result (rows.new ≡ joined_first laid.now.value.tree size rows.old) }
+    ensures err { OnErr result (rows.new ≡ rows.old) }
+{
+    let all = rows.rows.as_slice();
+    let waiting = waiting_in(alloc, all)?;
+    let told = waiting.as_slice();
+    let walks = walks_for(alloc, told, size, laid)?;
+    join_each(&mut rows.rows, walks);
+    rows.running = 0;
+    Ok(())
+}
+
+/// A play begins that has this tree and these hosts of its own, with a batch of this size. An `Err` changes nothing.
+pub fn begin_first(
+    alloc: Global,
+    rows: &mut HostRows,
+    hosts: &HostSet,
+    size: u32,
+    laid: &Rc<LaidTree>,
+) -> Result<(), AllocError>
+    ensures ok { OnOk result (rows.new ≡ joined_first laid.now.value.tree size (map (called hosts.now) rows.old)) }
+    ensures err { OnErr result (rows.new ≡ rows.old) }
+{
+    let all = rows.rows.as_slice();
+    let waiting = called_in(alloc, all, hosts)?;
+    let told = waiting.as_slice();
+    let walks = walks_for(alloc, told, size, laid)?;
+    call_rows(&mut rows.rows, hosts);
+    join_each(&mut rows.rows, walks);
+    rows.running = 0;
+    Ok(())
+}
+
+fn call_rows(rows: &mut Vec<Row>, hosts: &HostSet)
+    ensures { rows.new.items ≡ map (called hosts.now) rows.old.items }
+{
+    call_each(rows.as_mut_slice(), hosts);
+}
+
+/// Each host that is called waits for its batch.
+fn call_each(rows: &mut [Row], hosts: &HostSet)
+    ensures { rows.new ≡ map (called hosts.now) rows.old }
+{
+    for row in rows.iter_mut() {
+        row.call(hosts);
+    }
+}
+
+/// Each host leaves the batch.
+pub fn leave_all(rows: &mut HostRows)
+    ensures { rows.new ≡ map left rows.old }
+{
+    leave_rows(&mut rows.rows);
+    rows.running = 0;
+}
+
+fn leave_rows(rows: &mut Vec<Row>)
+    ensures { rows.new.items ≡ map left rows.old.items }
+{
+    leave_each(rows.as_mut_slice());
+}
+
+fn leave_each(rows: &mut [Row])
+    ensures { rows.new ≡ map left rows.old }
+{
+    for row in rows.iter_mut() {
+        row.leave();
+    }
+}
+
+/// What is new of one host as its batch goes on.
+fn turn_row(rows: &mut Vec<Row>, at: usize, turned: Option<Turned>)
+    ensures { rows.new.items ≡ change rows.old.items at (turned_if turned) }
+{
+    if let Some(row) = rows.get_mut(at) {
+        row.turn(turned);
+    }
+}
+
+/// What is new of each host.
+fn turn_each(rows: &mut Vec<Row>, all: Vec<Option<Turned>>)
+    requires { length all.items < 2 ^ 32 }
+    ensures { rows.new.items ≡ each_from 0 all.items rows.old.items }
+{
+    let mut at: usize = 0;
+    for turned in all {
+        turn_row(rows, at, turned);
+        at += 1;
+    }
+}
+
+/// The batch goes on, with what is new of each host.
+pub(crate) fn turn_all(rows: &mut HostRows, all: Vec<Option<Turned>>)
+    requires { length all.items ≡ length rows.old }
+    ensures { rows.new ≡ with_each all.items rows.old }
+{
+    turn_each(&mut rows.rows, all);
+}
+
+/// The least place at which a host of the batch is.
+#[tactic(auto, using(crate::proofs::Least::lesser_assoc, crate::proofs::Least::lesser_none))]
+pub fn least_place(rows: &[Row]) -> Option<usize>
+    ensures { result ≡ least_place rows.now }
+{
+    let mut least = None;
+    for row in rows {
+        least = lesser(least, row.next_place());
+    }
+    least
+}
+
+fn lesser(a: Option<usize>, b: Option<usize>) -> Option<usize>
+    ensures { result ≡ lesser a b }
+{
+    match (a, b) {
+        (Some(p), Some(q)) => Some(p.min(q)),
+        (Some(p), None) => Some(p),
+        (None, q) => q,
+    }
+}
+
+/// Puts the hosts that have a job to send into a set.
+pub fn sends_into(rows: &[Row], set: &mut HostSet)
+    requires { length set.old ≡ length rows.now }
+    ensures { set.new ≡ map has_send rows.now }
+{
+    let width = set.width();
+    for i in 0..width {
+        let is_in = rows[i as usize].has_send();
+        set.put(HostNo(i), is_in);
+    }
+}
+
+/// Puts down where each host stands.
+pub fn stand_all(rows: &[Row], standings: &mut Standings)
+    requires width { length standings.old ≡ length rows.now }
+    requires few { length rows.now < 2 ^ 32 }
+    ensures { standings.new ≡ map standing rows.now }
+{
+    for i in 0..rows.len() {
+        standings.put(HostNo(i as u32), rows[i].standing());
+    }
+}
+
+/// Takes all hosts out of a set.
+pub fn none_into(set: &mut HostSet)
+    ensures { set.new ≡ replicate (length set.old) false }
+{
+    let width = set.width();
+    for i in 0..width {
+        set.remove(HostNo(i));
+    }
+}
+
+/// How each host's finished tasks count.
+pub fn counts_of(alloc: Global, rows: &[Row]) -> Result<Vec<Counts>, AllocError>
+    ensures { IfOk result (λ counts. counts.items ≡ map (λ (row : HostRow). row.counts) rows.now) }
+{
+    let mut counts = Vec::with_capacity(alloc, rows.len())?;
+    for row in rows {
+        counts.push(row.counts())?;
+    }
+    Ok(counts)
+}

@@ -1,0 +1,4 @@
+pub mod InOrder
+pub mod Begun
+pub mod Numbering
+pub mod Went

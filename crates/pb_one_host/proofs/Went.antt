@@ -1,0 +1,41 @@
+-- A report in its parts, in one row.
+use Rattle.std.proofs.Common.{◌≡◌, ◌∙◌, ℕ, List, sym, ap, subst}
+use Rattle.std.specs.Prelude.{Option, Some, None, slice_get}
+use Rattle.std.specs.Option.{option_map_or}
+use Rattle.pb_cursors.specs.Walks.{PlayWalkOf}
+use Rattle.pb_facts.specs.Facts.{FactsOf}
+use Rattle.pb_facts.specs.News.{IsPast}
+use Rattle.pb_facts.specs.declared.news.Past.{Past}
+use Rattle.pb_outcome.specs.declared.gather.ItemResult.{ItemResult}
+use Rattle.pb_outcome.specs.declared.item.Item.{Item}
+use Rattle.pb_outcome.specs.declared.job.Call.{Call}
+use Rattle.pb_outcome.specs.declared.outcome.Form.{Form}
+use Rattle.pb_outcome.specs.Results.{judged}
+use Rattle.pb_plan.specs.Plan.{PlayOf, PlanOf}
+use Rattle.pb_sight.specs.Results.{settled_at}
+use Rattle.pb_one_host.specs.declared.row.Running.{Running}
+use Rattle.pb_one_host.specs.Back.{settled_in, back_running}
+use Rattle.pb_one_host.specs.Row.{knows, HostRow, came_back}
+use Rattle.pb_one_host.specs.Walking.{RunsInBatch}
+
+-- an item that came back is judged, and then it is what its task says of it
+pub came_as : (plan : PlanOf) (play : PlayOf) (h : ℕ) (facts : FactsOf) (p : ℕ) (outcome : Form) (items : List Item) (n : ℕ) (item : Item) (call : Call) (first result : ItemResult)
+    → first ≡ judged call outcome → result ≡ settled_in plan play h facts p items n first → slice_get items n ≡ Some item → result ≡ came_back plan play h facts p outcome item call
+came_as plan play h facts p outcome items n item call first result j s there =
+    s
+    ∙ ap (λ (found : Option Item). option_map_or (λ (i : Item). settled_at plan play h facts p i.value first) found first) there
+    ∙ ap (λ (r : ItemResult). settled_at plan play h facts p item.value r) j
+
+-- a host that runs is in the batch still
+pub runs_back : (plan : PlanOf) (play : PlayOf) (h : ℕ) (facts : FactsOf) (outcome : Form) (running now : Option Running) (walk : Option PlayWalkOf)
+    → now ≡ back_running plan play h facts outcome running → RunsInBatch running walk → RunsInBatch now walk
+runs_back plan play h facts outcome running now walk e runs = rw e (by_running running runs)
+  where
+    by_running : (running : Option Running) → RunsInBatch running walk → RunsInBatch (back_running plan play h facts outcome running) walk
+    by_running None runs = tt
+    by_running (Some r) runs = runs
+
+-- a host that heard something, whose answer was refused memory, knows again what it knew
+pub unheard : (past : Past) (facts : FactsOf) (row hearing after new : HostRow) → hearing ≡ knows facts row → IsPast past row.facts hearing.facts → after ≡ hearing
+    → ((was : FactsOf) → IsPast past was after.facts → new ≡ knows was after) → new ≡ row
+unheard past facts row hearing after new h p a back = back row.facts (subst (λ (r : HostRow). IsPast past row.facts r.facts) (sym a) p) ∙ ap (knows row.facts) (a ∙ h)

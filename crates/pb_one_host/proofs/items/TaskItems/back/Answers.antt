@@ -1,0 +1,23 @@
+use Rattle.std.proofs.Common.{◌∙◌, ap, sym}
+use Rattle.std.specs.Option.{option_copied}
+use Rattle.pb_one_host.specs.Row.{came_back}
+use Rattle.pb_one_host.proofs.InOrder.{back_nothing, no_call, back_step}
+use Rattle.pb_one_host.proofs.Went.{came_as}
+use Rattle.pb_one_host.proofs.items.TaskItems.back.Goals as goal
+
+pub returns-in_default-clause-ok : goal.returns-in_default-clause-ok
+returns-in_default-clause-ok c =
+    back_nothing (came_back c.args.plan.now c.args.play.now c.args.host.0 c.args.facts.now c.args.place c.args.outcome.now) c.args.self.now (sym c.next.ensures ∙ c.in_default.is)
+
+pub returns-in_default-call-clause-ok : goal.returns-in_default-call-clause-ok
+returns-in_default-call-clause-ok c =
+    absurd (no_call c.args.self.now c.in-Some.number (sym c.next.ensures ∙ c.in-Some.is) (sym c.call.ensures ∙ ap option_copied c.in_default-call.is))
+
+pub returns-clause-ok : goal.returns-clause-ok
+returns-clause-ok c =
+    c.put.ensures.items
+    ∙ back_step (came_back c.args.plan.now c.args.play.now c.args.host.0 c.args.facts.now c.args.place c.args.outcome.now) c.args.self.now c.in-Some.number c.in-Some-call.call.now c.in_ok-item.item
+    (sym c.next.ensures ∙ c.in-Some.is) (sym c.call.ensures ∙ ap option_copied c.in-Some-call.is)
+    (λ item there.
+    came_as c.args.plan.now c.args.play.now c.args.host.0 c.args.facts.now c.args.place c.args.outcome.now c.args.self.now c.in-Some.number item c.in-Some-call.call.now c.in_ok-judged.judged
+    c.in_ok-item.item c.in_ok-judged.ensures c.in_ok-item.ensures there)

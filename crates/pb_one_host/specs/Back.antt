@@ -1,0 +1,95 @@
+-- A report in its parts: an item comes back, and then its task goes on; and how the item is put back where memory is refused on the way.
+use Rattle.std.specs.Prelude.{◌≡◌, ⊤, ℕ, Bool, false, ◌||◌, List, [], Option, Some, None, option_map, slice_get}
+use Rattle.std.specs.Option.{option_map_or}
+use Rattle.pb_value.specs.Datum.{Datum}
+use Rattle.pb_inventory.specs.InventoryOf.{InventoryOf}
+use Rattle.pb_facts.specs.Facts.{FactsOf}
+use Rattle.pb_outcome.specs.declared.gather.ItemResult.{ItemResult}
+use Rattle.pb_outcome.specs.declared.item.Item.{Item}
+use Rattle.pb_outcome.specs.declared.outcome.Form.{Form}
+use Rattle.pb_plan.specs.Plan.{PlayOf, PlanOf}
+use Rattle.pb_sight.specs.Results.{settled_at}
+use Rattle.pb_one_host.specs.declared.decided.Decided.{Decided}
+use Rattle.pb_one_host.specs.declared.decided.Done.{Done}
+use Rattle.pb_one_host.specs.declared.decided.TaskEnd.{TaskEnd}
+use Rattle.pb_one_host.specs.declared.items.Before.{Before}
+use Rattle.pb_one_host.specs.declared.row.Finish.{Finish}
+use Rattle.pb_one_host.specs.declared.row.Running.{Running}
+use Rattle.pb_one_host.specs.Ends.{breaks, counted, kind_of}
+use Rattle.pb_one_host.specs.Kept.{with_step}
+use Rattle.pb_one_host.specs.Decides.{decided_with, done_if, told_in}
+use Rattle.pb_one_host.specs.Row.{HostRow, kept_items, pending, items_after, progressed, runs_once_at}
+
+-- a result of the item with this number, as its task says of it
+abbrev pub settled_in : PlanOf → PlayOf → ℕ → FactsOf → ℕ → List Item → ℕ → ItemResult → ItemResult
+settled_in plan play host facts p items n result =
+    option_map_or (λ (item : Item). settled_at plan play host facts p item.value result) (slice_get items n) result
+
+-- the job that is out of a task came to this
+abbrev pub back_running : PlanOf → PlayOf → ℕ → FactsOf → Form → Option Running → Option Running
+back_running plan play host facts outcome running = option_map (λ (r : Running). record r { items = items_after plan play host facts outcome r }) running
+
+abbrev pub back_row : PlanOf → PlayOf → Form → HostRow → HostRow
+back_row plan play outcome row = record row { running = back_running plan play row.host row.facts outcome row.running }
+
+-- the end of the task that a host runs, in its parts
+abbrev pub with_running : Option Running → HostRow → HostRow
+with_running running row = record row { running = running }
+
+abbrev pub items_run : Option Running → List Item
+items_run running = option_map_or (λ (r : Running). r.items) running []
+
+abbrev pub finish_of : Bool → ℕ → TaskEnd → Option Running → Finish
+finish_of once place task running = record { place = place; kind = kind_of task; items = kept_items once (items_run running) }
+
+abbrev pub finish_run : PlayOf → ℕ → TaskEnd → Option Running → Finish
+finish_run play place task running = finish_of (runs_once_at play place) place task running
+
+abbrev pub settled_row : Bool → ℕ → TaskEnd → HostRow → HostRow
+settled_row once place task row =
+    record row {
+      is_broken = row.is_broken || breaks task.is_caught (kind_of task);
+      running = None;
+      last = Some (finish_of once place task row.running);
+      counts = counted task row.counts;
+    }
+
+-- the next item waits to be sent
+abbrev pub waiting : HostRow → HostRow
+waiting row = record row { running = option_map (λ (r : Running). record r { out = None }) row.running }
+
+-- the task that a host runs goes on, or ends where it is over
+abbrev pub went_with : InventoryOf → PlayOf → HostRow → Running → HostRow
+went_with inventory play row r = progressed inventory play r.place r.items row
+
+abbrev pub went_on : InventoryOf → PlayOf → HostRow → HostRow
+went_on inventory play row = option_map_or (went_with inventory play row) row.running row
+
+abbrev pub ended_with : PlayOf → HostRow → Running → Option Done
+ended_with play row r = done_if play r.place (pending row) r.items
+
+abbrev pub ended_now : PlayOf → HostRow → Option Done
+ended_now play row = option_map_or (ended_with play row) row.running None
+
+-- what is decided of it, where the item with this number came back
+abbrev pub decided_back : PlayOf → Option ℕ → HostRow → Running → Decided
+decided_back play number row r = decided_with play r.place (pending row) false (told_in r.items number) r.items
+
+abbrev pub decided_now : PlayOf → Option ℕ → HostRow → Option Decided
+decided_now play number row = option_map (decided_back play number row) row.running
+
+-- an item as it was
+abbrev pub undone_items : Option Before → List Item → List Item
+undone_items before items = option_map_or (λ (b : Before). with_step b.number b.step items) before items
+
+abbrev pub undone_running : Option Before → Option Running → Option Running
+undone_running before running = option_map (λ (r : Running). record r { items = undone_items before r.items }) running
+
+abbrev pub undone : Option Before → HostRow → HostRow
+undone before row = record row { running = undone_running before row.running }
+
+-- two plans in which the task that a host runs is told the same of each result
+abbrev pub SameTold : PlanOf → PlanOf → PlayOf → HostRow → Option Running → Type 0
+SameTold one other play row None = ⊤
+SameTold one other play row (Some r) =
+    (value : Option Datum) (item : ItemResult) → settled_at one play row.host row.facts r.place value item ≡ settled_at other play row.host row.facts r.place value item

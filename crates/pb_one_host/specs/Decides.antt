@@ -1,0 +1,43 @@
+-- What a step decides of the task that a host runs, and of the items of it that ended.
+use Rattle.std.specs.Prelude.{ℕ, Bool, false, List, [], Option, Some, None, option_map, slice_get, if◌then◌else◌}
+use Rattle.std.specs.Option.{option_map_or}
+use Rattle.pb_outcome.specs.declared.gather.ItemResult.{ItemResult}
+use Rattle.pb_outcome.specs.declared.item.Item.{Item}
+use Rattle.pb_outcome.specs.declared.outcome.Form.{Form}
+use Rattle.pb_outcome.specs.Items.{next_item, is_over, numbered_at, result_of}
+use Rattle.pb_sight.specs.Results.{variable_at}
+use Rattle.pb_plan.specs.Plan.{PlayOf, PlanOf}
+use Rattle.pb_one_host.specs.declared.row.Running.{Running}
+use Rattle.pb_one_host.specs.declared.decided.Decided.{Decided}
+use Rattle.pb_one_host.specs.declared.decided.Done.{Done as DoneTask}
+use Rattle.pb_one_host.specs.Row.{HostRow, pending, task_at, items_after}
+use Rattle.pb_one_host.specs.Handlers.{newly_at}
+
+-- how the task at a place ended, if these items end it, on a host with these marks, and what is shown of it: of the handlers that it notified those
+-- that weren't pending
+abbrev pub done_at : PlayOf → ℕ → List Bool → List Item → DoneTask
+done_at play p marks items =
+    record { result = result_of (variable_at play p) items; task = task_at play p items; notified = newly_at play p marks (task_at play p items) }
+
+abbrev pub done_if : PlayOf → ℕ → List Bool → List Item → Option DoneTask
+done_if play p marks items = if is_over items then Some (done_at play p marks items) else None
+
+-- what a step decided of the task at a place on a host with these marks: the items that ended in it, and how the task ended
+abbrev pub decided_with : PlayOf → ℕ → List Bool → Bool → List (ℕ × ItemResult) → List Item → Decided
+decided_with play p marks is_new told items = record { place = p; is_new = is_new; items = told; done = done_if play p marks items }
+
+-- the item that came back, with its number, where its task has a loop
+abbrev pub told_at : List Item → ℕ → List (ℕ × ItemResult)
+told_at items n = numbered_at n (slice_get items n)
+
+abbrev pub told_in : List Item → Option ℕ → List (ℕ × ItemResult)
+told_in items number = option_map_or (told_at items) number []
+
+-- what a report decides of the task that waited for it
+abbrev pub decided_by : PlanOf → PlayOf → Form → HostRow → Running → Decided
+decided_by plan play outcome row r =
+    decided_with play r.place (pending row) false (told_in (items_after plan play row.host row.facts outcome r) (next_item r.items))
+    (items_after plan play row.host row.facts outcome r)
+
+abbrev pub report_decides : PlanOf → PlayOf → Form → HostRow → Option Decided
+report_decides plan play outcome row = option_map (decided_by plan play outcome row) row.running

@@ -1,0 +1,13 @@
+pub mod Ends
+pub mod Handlers
+pub mod Row
+pub mod Walking
+pub mod Kept
+pub mod Turned
+pub mod Decides
+pub mod Back
+pub mod Runs
+pub mod ItemRows
+pub mod FactRows
+pub mod Calls
+pub mod Standing

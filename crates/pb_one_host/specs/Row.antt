@@ -1,0 +1,197 @@
+-- What the state keeps of one host, and what a step does to it alone.
+use Rattle.std.specs.Prelude.{ℕ, zero, suc, ◌+◌, Bool, true, false, ◌&&◌, ◌||◌, not, List, [], ◌∷◌, ◌++◌, Option, Some, None, option_map, slice_get, slice_index_or, if◌then◌else◌, ◌==◌}
+use Rattle.std.specs.Option.{option_map_or}
+use Rattle.pb_ids.specs.declared.numbers.Ticket.{Ticket}
+use Rattle.pb_planes.specs.Set.{is_in as is_member}
+use Rattle.pb_inventory.specs.InventoryOf.{InventoryOf}
+use Rattle.pb_tree.specs.declared.tree.Status.{Status}
+use Rattle.pb_tree.specs.declared.tree.Status.TheVariants.{Active, Failed, Halted as Stopped, Gone as Lost}
+use Rattle.pb_tree.specs.declared.tree.Reach.{Reach}
+use Rattle.pb_tree.specs.declared.tree.Reach.TheVariants.{At, Done}
+use Rattle.pb_tree.specs.Tree.{TreeOf, Nothing}
+use Rattle.pb_tree.specs.Answer.{AnswerOf}
+use Rattle.pb_tree.specs.Walk.{reach, status_now, marks_of}
+use Rattle.pb_outcome.specs.declared.gather.ItemResult.{ItemResult}
+use Rattle.pb_outcome.specs.declared.item.Item.{Item}
+use Rattle.pb_outcome.specs.declared.job.Call.{Call}
+use Rattle.pb_outcome.specs.declared.outcome.Form.{Form}
+use Rattle.pb_facts.specs.Facts.{FactsOf, no_facts}
+use Rattle.pb_outcome.specs.Items.{task_of, back_in, is_over, result_of}
+use Rattle.pb_outcome.specs.Results.{judged}
+use Rattle.pb_places.specs.Place.{PlaceOf}
+use Rattle.pb_play.specs.declared.modules.Meta.{Meta}
+use Rattle.pb_play.specs.declared.modules.Module.{Module}
+use Rattle.pb_play.specs.declared.modules.Module.TheVariants.{Meta as CalledMeta}
+use Rattle.pb_plan.specs.Plan.{PlayOf, PlanOf, run_once_of}
+use Rattle.pb_sight.specs.Learning.{taught_by}
+use Rattle.pb_sight.specs.Results.{settled_at, variable_at}
+use Rattle.pb_one_host.specs.Ends.{kind_of, answer_of, breaks, counted}
+use Rattle.pb_one_host.specs.Handlers.{notified_by}
+use Rattle.pb_one_host.specs.declared.decided.TaskEnd.{TaskEnd}
+use Rattle.pb_one_host.specs.declared.row.Counts.{Counts}
+use Rattle.pb_one_host.specs.declared.row.Finish.{Finish}
+use Rattle.pb_one_host.specs.declared.row.Running.{Running}
+
+pub record HostRow : Type 0 where
+  -- the host's number
+  pub host : ℕ
+  -- the tree of the play in whose batch the host is; it is empty where the host is in none
+  pub tree : TreeOf
+  -- what the host answered in the open batch, place after place
+  pub answers : List AnswerOf
+  pub status : Status
+  pub in_batch : Bool
+  -- whether the host is one of those of the play that goes on whose batch hasn't closed
+  pub waits : Bool
+  -- whether the host failed in the open batch where nothing caught or ignored that
+  pub is_broken : Bool
+  -- the task that the host runs: some item of it is still to come back
+  pub running : Option Running
+  -- the task that the host finished last in the open batch
+  pub last : Option Finish
+  -- what the host has learnt: the layers 4 and 9 of the variables that its tasks see
+  pub facts : FactsOf
+  -- how its finished tasks count in the recap
+  pub counts : Counts
+
+abbrev pub none_counted : Counts
+none_counted = record { ok = 0; changed = 0; unreachable = 0; failed = 0; skipped = 0; rescued = 0; ignored = 0 }
+
+abbrev pub no_tree : TreeOf
+no_tree = record { nodes = Nothing; handlers = 0; force_handlers = false }
+
+abbrev pub first_row : ℕ → HostRow
+first_row host =
+    record { host = host; tree = no_tree; answers = []; status = Active; in_batch = false; waits = false; is_broken = false; running = None; last = None; facts = no_facts; counts = none_counted }
+
+-- this many hosts, whose first has the number h
+abbrev pub first_rows : ℕ → ℕ → List HostRow
+first_rows h zero = []
+first_rows h (suc n) = first_row h ∷ first_rows (h + 1) n
+
+abbrev pub is_active : Status → Bool
+is_active Active = true
+is_active Failed = false
+is_active Stopped = false
+is_active Lost = false
+
+-- the next place of a host of the batch: where its answers lead it in its play's tree
+abbrev pub place_of : Reach → Option ℕ
+place_of (At p) = Some p
+place_of (Done ending) = None
+
+abbrev pub next_place : HostRow → Option ℕ
+next_place row = if row.in_batch then place_of (reach row.tree row.answers) else None
+
+-- the next place of a host is this one
+abbrev pub is_at : ℕ → HostRow → Bool
+is_at p row = option_map_or (λ q. q == p) (next_place row) false
+
+-- of each handler of the play whether it is pending on a host; none is on a host that is in no batch
+abbrev pub pending : HostRow → List Bool
+pending row = marks_of row.tree row.answers
+
+-- one answer more: a host whose walk went bad is out at once, also while handlers run that are forced
+abbrev pub answered : AnswerOf → HostRow → HostRow
+answered answer row = record row { answers = row.answers ++ answer ∷ []; status = status_now row.tree (row.answers ++ answer ∷ []) }
+
+-- a task ends so, with these handlers notified, after which the host knows this, and keeps this of it
+abbrev pub finished : Finish → TaskEnd → List ℕ → FactsOf → HostRow → HostRow
+finished finish task notified facts row =
+    record (answered (answer_of task notified) row) {
+      is_broken = row.is_broken || breaks task.is_caught (kind_of task);
+      running = None;
+      last = Some finish;
+      facts = facts;
+      counts = counted task row.counts;
+    }
+
+-- what a place says of the task that ends there: whether its failure is ignored, whether that is caught, and which task of `meta` it is; a place
+-- without a task says nothing
+abbrev pub ignores_at : PlayOf → ℕ → Bool
+ignores_at play p = option_map_or (λ (place : PlaceOf). place.ignore_errors) (slice_get play.places p) false
+
+abbrev pub caught_at : PlayOf → ℕ → Bool
+caught_at play p = option_map_or (λ (place : PlaceOf). place.is_caught) (slice_get play.places p) false
+
+abbrev pub meta_in : Module → Option Meta
+meta_in (CalledMeta which) = Some which
+meta_in other = None
+
+abbrev pub meta_at : PlayOf → ℕ → Option Meta
+meta_at play p = option_map_or (λ (place : PlaceOf). meta_in place.task.«module») (slice_get play.places p) None
+
+-- how the task at a place ended, by its items
+abbrev pub task_at : PlayOf → ℕ → List Item → TaskEnd
+task_at play p items = record { result = task_of (ignores_at play p) items; is_caught = caught_at play p; meta = meta_at play p }
+
+-- What is kept of a task that ended: its place, what the host answered there, and where the first host of a batch runs it for all its items, off which
+-- what goes to the other hosts is read.
+abbrev pub runs_once_at : PlayOf → ℕ → Bool
+runs_once_at play p = slice_index_or (run_once_of play.places) p false
+
+abbrev pub kept_items : Bool → List Item → List Item
+kept_items once items = if once then items else []
+
+abbrev pub finish_at : PlayOf → ℕ → List Item → Finish
+finish_at play p items = record { place = p; kind = kind_of (task_at play p items); items = kept_items (runs_once_at play p) items }
+
+-- what a host knows once the task at a place has ended there with these items
+abbrev pub taught : InventoryOf → PlayOf → ℕ → ℕ → List Item → FactsOf → FactsOf
+taught inventory play p host items facts = taught_by inventory play p host (task_at play p items).result (result_of (variable_at play p) items) items facts
+
+-- the task at a place ends with these items
+abbrev pub ended : InventoryOf → PlayOf → ℕ → List Item → HostRow → HostRow
+ended inventory play p items row =
+    finished (finish_at play p items) (task_at play p items) (notified_by play p (task_at play p items)) (taught inventory play p row.host items row.facts) row
+
+-- the task at a place has come to these items: it goes on, or ends
+abbrev pub progressed : InventoryOf → PlayOf → ℕ → List Item → HostRow → HostRow
+progressed inventory play p items row =
+    if is_over items then ended inventory play p items row
+    else record row { running = Some (record { place = p; items = items; out = None }) }
+
+-- a job goes out under this ticket
+abbrev pub sent_running : Ticket → Running → Running
+sent_running ticket r = record r { out = Some ticket }
+
+abbrev pub sent : Ticket → HostRow → HostRow
+sent ticket row = record row { running = option_map (sent_running ticket) row.running }
+
+-- An item of the task at a place once the job that is out came to this: it is judged, and then it is what the task says of it, in the scope that
+-- the host has then (Ansible's documentation, "Error handling in playbooks").
+abbrev pub came_back : PlanOf → PlayOf → ℕ → FactsOf → ℕ → Form → Item → Call → ItemResult
+came_back plan play host facts p outcome item call = settled_at plan play host facts p item.value (judged call outcome)
+
+abbrev pub items_after : PlanOf → PlayOf → ℕ → FactsOf → Form → Running → List Item
+items_after plan play host facts outcome r = back_in (came_back plan play host facts r.place outcome) r.items
+
+abbrev pub reported_running : PlanOf → PlayOf → Form → HostRow → Running → HostRow
+reported_running plan play outcome row r = progressed plan.inventory play r.place (items_after plan play row.host row.facts outcome r) row
+
+-- the job that is out came to this
+abbrev pub reported : PlanOf → PlayOf → Form → HostRow → HostRow
+reported plan play outcome row = option_map_or (reported_running plan play outcome row) row.running row
+
+-- a host is called where it is one of a play's own hosts and active; none is one of them beyond their end
+abbrev pub is_called : List Bool → HostRow → Bool
+is_called hosts row = is_member hosts row.host && is_active row.status
+
+-- a host as a play begins: it waits for its batch where it is called
+abbrev pub called : List Bool → HostRow → HostRow
+called hosts row = record row { waits = is_called hosts row }
+
+abbrev pub is_waiting : HostRow → Bool
+is_waiting row = row.waits
+
+-- a host as a batch of a play opens that has this tree, in which it takes part or not
+abbrev pub joined : TreeOf → Bool → HostRow → HostRow
+joined tree inside row = record row { tree = if inside then tree else no_tree; answers = []; in_batch = inside; is_broken = false; running = None; last = None }
+
+-- a host as the batch closes: it waits no more where it was in it
+abbrev pub left : HostRow → HostRow
+left row = record row { tree = no_tree; answers = []; in_batch = false; waits = row.waits && not row.in_batch; is_broken = false; running = None; last = None }
+
+-- a host knows this
+abbrev pub knows : FactsOf → HostRow → HostRow
+knows facts row = record row { facts = facts }

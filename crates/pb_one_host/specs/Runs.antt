@@ -1,0 +1,52 @@
+-- What a host runs, which job of it goes out next, and what it waits for.
+use Rattle.std.specs.Prelude.{ℕ, ◌==◌, Bool, false, ◌&&◌, Option, None, is_some, is_none}
+use Rattle.std.specs.Option.{option_map_or}
+use Rattle.pb_ids.specs.declared.numbers.Ticket.{Ticket}
+use Rattle.pb_outcome.specs.Items.{next_item}
+use Rattle.pb_one_host.specs.declared.row.Running.{Running}
+use Rattle.pb_one_host.specs.Row.{HostRow, is_active}
+
+-- a host of the batch that is active
+abbrev pub is_in : HostRow → Bool
+is_in row = row.in_batch && is_active row.status
+
+-- a host runs from its start until its task is finished
+abbrev pub is_running : HostRow → Bool
+is_running row = is_some row.running
+
+abbrev pub is_ticket : Ticket → Option Ticket → Bool
+is_ticket ticket out = option_map_or (λ (t : Ticket). t.0 == ticket.0) out false
+
+-- a host that runs, with no job of it out
+abbrev pub has_send : HostRow → Bool
+has_send row = option_map_or (λ (r : Running). is_none r.out) row.running false
+
+-- a host whose job is out
+abbrev pub is_out : HostRow → Bool
+is_out row = option_map_or (λ (r : Running). is_some r.out) row.running false
+
+-- a host whose job is out under this ticket
+abbrev pub has_ticket : Ticket → HostRow → Bool
+has_ticket ticket row = option_map_or (λ (r : Running). is_ticket ticket r.out) row.running false
+
+-- the item with this number is the next of a task that runs
+abbrev pub is_next : ℕ → Running → Bool
+is_next item r = option_map_or (λ n. n == item) (next_item r.items) false
+
+-- a host that runs, with no job of it out, sends the next of its items
+abbrev pub sends_running : ℕ → Running → Bool
+sends_running item r = is_none r.out && is_next item r
+
+abbrev pub may_send_item : ℕ → HostRow → Bool
+may_send_item item row = option_map_or (sends_running item) row.running false
+
+-- a host whose job for this item is out under this ticket
+abbrev pub awaits_running : Ticket → ℕ → Running → Bool
+awaits_running ticket item r = is_ticket ticket r.out && is_next item r
+
+abbrev pub awaits : Ticket → ℕ → HostRow → Bool
+awaits ticket item row = option_map_or (awaits_running ticket item) row.running false
+
+-- the number of the item that a host sends next, or whose job is out
+abbrev pub item_of : HostRow → Option ℕ
+item_of row = option_map_or (λ (r : Running). next_item r.items) row.running None

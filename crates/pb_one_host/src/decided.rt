@@ -1,0 +1,73 @@
+//! What a step decides.
+
+ghost use Rattle.std.specs.Prelude.{◌≡◌};
+
+use pb_outcome::gather::{ItemResult, TaskResult};
+use pb_play::modules::Meta;
+use pb_value::items::Items;
+use pb_value::val::Val;
+
+/// What a step decided of the task that started, or that a report was for.
+pub struct Decided {
+    /// The place's position in the play's tree.
+    pub place: usize,
+    /// Whether no host of the batch had started there before.
+    pub is_new: bool,
+    /// The items of a loop that ended, with their numbers.
+    pub items: Items<(u32, ItemResult)>,
+    /// How the task ended, if it did.
+    pub done: Option<Done>,
+}
+
+impl Drop for Decided {
+    fn drop(self) {
+        let Decided {
+            place: _,
+            is_new: _,
+            items,
+            done,
+        } = self;
+        drop(items);
+        drop(done);
+    }
+}
+
+/// How a task ended on a host, with what its place says of that.
+#[derive(Clone, Copy)]
+pub struct TaskEnd {
+    /// What its items came to.
+    pub result: TaskResult,
+    /// Whether a block round the place rescues a failure there.
+    pub is_caught: bool,
+    /// Which task of `meta` it is, if it is one.
+    pub meta: Option<Meta>,
+}
+
+/// How a task ended on a host, and what is shown of it.
+pub struct Done {
+    /// The task's result, as it is shown.
+    pub result: Val,
+    /// How it ended.
+    pub task: TaskEnd,
+    /// The numbers of the handlers that it notified and that were not pending before, in the order of definition.
+    pub notified: Items<u32>,
+}
+
+impl Drop for Done {
+    fn drop(self) {
+        let Done {
+            result,
+            task: _,
+            notified,
+        } = self;
+        drop(result);
+        drop(notified);
+    }
+}
+
+/// Puts down what a step decided.
+pub fn decide(slot: &mut Option<Decided>, decided: Option<Decided>)
+    ensures { slot.new ≡ decided }
+{
+    *slot = decided;
+}

@@ -1,0 +1,302 @@
+//! The items of a task that a host runs.
+
+ghost use Rattle.std.specs.Prelude.{◌≡◌, ◌≤◌, ◌||◌, [], length, slice_get, IfOk, OnOk, OnErr, Some, option_map};
+ghost use Rattle.std.specs.Option.{option_copied};
+ghost use Rattle.pb_outcome.specs.Items.{next_item, is_over, back_in};
+ghost use Rattle.pb_outcome.specs.declared.item.Planned.TheVariants.{Decided};
+ghost use Rattle.pb_one_host.specs.Kept.{first_waiting, with_step};
+ghost use Rattle.pb_one_host.specs.Calls.{call_in, delegate_in};
+ghost use Rattle.pb_one_host.specs.Row.{came_back};
+ghost use Rattle.pb_one_host.specs.Back.{settled_in, undone_items};
+
+use pb_facts::facts::Facts;
+use pb_ids::HostNo;
+use pb_outcome::gather::ItemResult;
+use pb_outcome::item::{Item, Planned};
+use pb_outcome::items::has_unreachable;
+use pb_outcome::job::Call;
+use pb_outcome::judge::judge;
+use pb_outcome::outcome::Outcome;
+use pb_plan::PlanPlay;
+use pb_sight::seen::Seen;
+use pb_sight::settling::settled_at;
+use pb_value::items::Items;
+use pb_value::text::Text;
+use std::alloc::{AllocError, Global};
+use std::marker::Model;
+use std::mem;
+
+/// The items of a task, at most 10,000. The number of the next one to be sent is kept beside them, so that no item is gone over twice.
+#[derive(Drop)]
+pub struct TaskItems {
+    items: Vec<Item>,
+    next: Option<u32>,
+    lost: bool,
+}
+
+impl Model for TaskItems {
+    ghost use Rattle.std.specs.Prelude.{List};
+    ghost use Rattle.std.specs.Coded.{codes};
+    ghost use Rattle.pb_value.specs.contracts.val.Val as val;
+    ghost use Rattle.pb_outcome.specs.declared.item.Item.{Item};
+
+    ghost Value = { List Item };
+
+    ghost coded = { Prim.hlevel (codes, val.the_row.coded) };
+
+    ghost use Rattle.pb_one_host.specs.Kept.{IsKept};
+
+    ghost view = { λ t. t.items.items };
+
+    ghost invariant = { λ t. IsKept t.items.items t.next t.lost };
+}
+
+/// What an item was before its job came back.
+pub struct Before {
+    /// The item's number.
+    pub number: u32,
+    /// The step that it had.
+    pub step: Planned,
+}
+
+impl Drop for Before {
+    fn drop(self) {
+        let Before { number: _, step } = self;
+        drop(step);
+    }
+}
+
+impl Before {
+    /// The number and the step themselves.
+    fn parts(self) -> (u32, Planned)
+        ensures { result ≡ (self.number, self.step) }
+    {
+        let Before { number, step } = self;
+        (number, step)
+    }
+}
+
+/// The first item that waits, where none does before this number.
+fn waiting_from(items: &[Item], from: u32) -> Option<u32>
+    requires most { length items.now ≤ 10000 }
+    requires passed { from ≤ first_waiting items.now }
+    ensures { result ≡ next_item items.now }
+{
+    for number in from..items.len() as u32 {
+        if items[number as usize].waits() {
+            return Some(number);
+        }
+    }
+    None
+}
+
+/// What is sent for the item with this number.
+fn call_in(items: &[Item], number: u32) -> Option<&Call>
+    ensures { option_copied result ≡ call_in items.now number }
+{
+    match items.get(number as usize) {
+        Some(item) => match &item.step {
+            Planned::Sends(call) => Some(call),
+            Planned::Decided(_) => None,
+        },
+        None => None,
+    }
+}
+
+/// The result of the item with this number, as the task at a place says of it on a host that has learnt this.
+fn settled_in(
+    alloc: Global,
+    plan: &Seen,
+    play: &PlanPlay,
+    host: HostNo,
+    facts: &Facts,
+    place: usize,
+    items: &[Item],
+    number: u32,
+    judged: ItemResult,
+) -> Result<ItemResult, AllocError>
+    ensures { IfOk result (λ told. told ≡ settled_in plan.now play.now host.0 facts.now place items.now number judged) }
+{
+    match items.get(number as usize) {
+        Some(item) => settled_at(alloc, plan, play, host, facts, place, &item.value, judged),
+        None => Ok(judged),
+    }
+}
+
+/// Puts down the step of the item with this number, and hands back what it was.
+fn put_step(items: &mut Vec<Item>, number: u32, step: Planned) -> Option<Planned>
+    ensures items { items.new.items ≡ with_step number step items.old.items }
+    ensures before { result ≡ option_map (λ item. item.step) (slice_get items.old.items number) }
+{
+    let at = number as usize;
+    if at < items.len() {
+        Some(mem::replace(&mut items[at].step, step))
+    } else {
+        None
+    }
+}
+
+fn either(a: bool, b: bool) -> bool
+    ensures { result ≡ (a || b) }
+{
+    a || b
+}
+
+/// What an item was before, if there is one.
+fn before_of(number: u32, step: Option<Planned>) -> Option<Before>
+    ensures { result ≡ option_map (λ step. record { number = number; step = step }) step }
+{
+    match step {
+        Some(step) => Some(Before { number, step }),
+        None => None,
+    }
+}
+
+/// The name of the host that the item with this number is delegated to, if it is.
+fn delegate_in(items: &[Item], number: u32) -> Option<&Text>
+    ensures { option_copied result ≡ delegate_in items.now number }
+{
+    match items.get(number as usize) {
+        Some(item) => item.delegate.as_ref(),
+        None => None,
+    }
+}
+
+impl TaskItems {
+    /// The items of a task.
+    pub fn of(items: Items<Item>) -> TaskItems
+        requires { length items ≤ 10000 }
+        ensures { result ≡ items }
+    {
+        let items = items.into_vec();
+        let next = waiting_from(&items, 0);
+        let lost = has_unreachable(&items);
+        TaskItems { items, next, lost }
+    }
+
+    /// No items. It takes no memory.
+    pub(crate) fn none(alloc: Global) -> TaskItems
+        ensures { result ≡ [] }
+    {
+        TaskItems {
+            items: Vec::new(alloc),
+            next: None,
+            lost: false,
+        }
+    }
+
+    /// The items themselves.
+    pub fn as_slice(&self) -> &[Item]
+        ensures value { result.now ≡ self.now }
+        ensures most { length self.now ≤ 10000 }
+    {
+        self.items.as_slice()
+    }
+
+    /// The number of the next item to be sent, or of the one whose job is out.
+    pub fn next(&self) -> Option<u32>
+        ensures { result ≡ next_item self.now }
+    {
+        self.next
+    }
+
+    /// Whether the task is over: nothing is left to be sent, or an item found its host out of reach.
+    pub fn is_over(&self) -> bool
+        ensures { result ≡ is_over self.now }
+    {
+        self.lost || self.next.is_none()
+    }
+
+    /// What is sent for the item with this number.
+    pub fn call(&self, number: u32) -> Option<&Call>
+        ensures { option_copied result ≡ call_in self.now number }
+    {
+        call_in(&self.items, number)
+    }
+
+    /// The name of the host that the item with this number is delegated to, if it is.
+    pub fn delegate(&self, number: u32) -> Option<&Text>
+        ensures { option_copied result ≡ delegate_in self.now number }
+    {
+        delegate_in(&self.items, number)
+    }
+
+    /// The next item has this result. What it was before is handed back.
+    fn put(&mut self, number: u32, item: ItemResult) -> Option<Before>
+        requires { next_item self.old ≡ Some number }
+        ensures items { self.new ≡ with_step number (Decided item) self.old }
+        ensures undo { undone_items result self.new ≡ self.old }
+    {
+        let is_lost = item.ending.is_unreachable();
+        let step = put_step(&mut self.items, number, Planned::Decided(item));
+        self.next = waiting_from(&self.items, number + 1);
+        self.lost = either(self.lost, is_lost);
+        before_of(number, step)
+    }
+
+    /// The result of the item with this number, as the task at a place says of it on a host that has learnt this.
+    fn settled(
+        &self,
+        alloc: Global,
+        plan: &Seen,
+        play: &PlanPlay,
+        host: HostNo,
+        facts: &Facts,
+        place: usize,
+        number: u32,
+        judged: ItemResult,
+    ) -> Result<ItemResult, AllocError>
+        ensures { IfOk result (λ told. told ≡ settled_in plan.now play.now host.0 facts.now place self.now number judged) }
+    {
+        settled_in(
+            alloc,
+            plan,
+            play,
+            host,
+            facts,
+            place,
+            &self.items,
+            number,
+            judged,
+        )
+    }
+
+    /// The job of the next item came to this: it is judged, and then it is what the task at this place says of it on a host that has learnt this. What
+    /// the item was before is handed back. An `Err` changes nothing.
+    pub(crate) fn back(
+        &mut self,
+        alloc: Global,
+        plan: &Seen,
+        play: &PlanPlay,
+        host: HostNo,
+        facts: &Facts,
+        place: usize,
+        outcome: &Outcome,
+    ) -> Result<Option<Before>, AllocError>
+        ensures ok { OnOk result (self.new ≡ back_in (came_back plan.now play.now host.0 facts.now place outcome.now) self.old) }
+        ensures undo { IfOk result (λ before. undone_items before self.new ≡ self.old) }
+        ensures err { OnErr result (self.new ≡ self.old) }
+    {
+        let Some(number) = self.next() else {
+            return Ok(None);
+        };
+        let Some(call) = self.call(number) else {
+            return Ok(None);
+        };
+        let judged = judge(alloc, call, outcome)?;
+        let item = self.settled(alloc, plan, play, host, facts, place, number, judged)?;
+        Ok(self.put(number, item))
+    }
+
+    /// Puts an item back as it was.
+    pub(crate) fn undo(&mut self, before: Option<Before>)
+        ensures { self.new ≡ undone_items before self.old }
+    {
+        if let Some(before) = before {
+            let (number, step) = before.parts();
+            put_step(&mut self.items, number, step);
+            self.next = waiting_from(&self.items, 0);
+            self.lost = has_unreachable(&self.items);
+        }
+    }
+}

@@ -1,6 +1,0 @@
-use Rattle.std.proofs.Common.{◌≡◌, take}
-use Rattle.pb_state.specs.Handlers.{newly}
-use Rattle.pb_state.proofs.handlers.newly.Given as goal
-
-abbrev pub invariant-loop-handler : goal.invariant-loop-handler
-invariant-loop-handler l = l.new ≡ newly l.marks l.own (take l.handler-index l.handlers)

@@ -1,9 +1,0 @@
-use Rattle.std.specs.Option.{option_copied}
-use Rattle.pb_state.proofs.Making.{something_new}
-use Rattle.pb_state.proofs.turned.turn_of.Goals as goal
-
-pub returns : goal.returns
-returns c =
-    let made =
-    something_new c.args.inventory.now c.args.play.now c.args.place c.args.rows.now (option_copied c.source-from.result) c.is_halting-halts.result c.in_ok-all.all.items c.source-from.ensures c.is_halting-halts.ensures c.in_ok-all.ensures.each in
-    (made.0, c.in_ok-all.ensures.many, made.1)
