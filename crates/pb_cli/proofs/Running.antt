@@ -38,11 +38,19 @@ pub run_by : (allows gives : Job → Form → Type 0) (has_run : List (Job × Fo
 run_by allows gives has_run plan commands trail before after status laws lines run told =
     record { run = run; told = told; laws = laws plan 256 trail run.legal; lines = lines.whole plan 256 trail }
 
-pub cut_by : (allows gives : Job → Form → Type 0) (has_run : List (Job × Form) → Type 0) (plan : PlanOf) (commands : List Given) (trail : List Event) (fault : RunFault) (before after : Option (List ℕ))
+cut_by : (allows gives : Job → Form → Type 0) (has_run : List (Job × Form) → Type 0) (plan : PlanOf) (commands : List Given) (trail : List Event) (fault : RunFault) (before after : Option (List ℕ))
     → RunsKeepLaws → LinesStandBehindEvents → IsBegun allows gives plan 256 commands trail → IsRanTo has_run plan 256 trail fault → IsCut plan 256 trail before after
     → IsCutBy allows gives has_run plan commands trail fault before after
 cut_by allows gives has_run plan commands trail fault before after laws lines begun ran cut =
     record { begun = begun; ran = ran; cut = cut; laws = laws plan 256 trail begun.legal; lines = lines.cut plan 256 trail before after cut }
+
+-- the same of the events as they are handed out
+pub cut_handed : (allows gives : Job → Form → Type 0) (has_run : List (Job × Form) → Type 0) (plan : PlanOf) (commands : List Given) (trail handed : List Event) (fault : RunFault) (before after : Option (List ℕ))
+    → handed ≡ trail → RunsKeepLaws → LinesStandBehindEvents → IsBegun allows gives plan 256 commands trail → IsRanTo has_run plan 256 trail fault → IsCut plan 256 trail before after
+    → IsCutBy allows gives has_run plan commands handed fault before after
+cut_handed allows gives has_run plan commands trail handed fault before after same laws lines begun ran cut =
+    subst (λ (events : List Event). IsCutBy allows gives has_run plan commands events fault before after) (sym same)
+    (cut_by allows gives has_run plan commands trail fault before after laws lines begun ran cut)
 
 -- what was run, said otherwise
 run_as : (allows gives : Job → Form → Type 0) (has_run others : List (Job × Form) → Type 0) (plan : PlanOf) (commands : List Given) (trail : List Event) (before after : Option (List ℕ)) (status : ℕ)

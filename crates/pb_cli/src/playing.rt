@@ -78,7 +78,7 @@ pub enum PlayFault {
 }
 
 /// Runs a plan by this runner, with these commands, and with its lines on a writer. It answers the exit status and the events.
-#[tactic(auto, using(crate::proofs::Running::run_by, crate::proofs::Running::cut_by))]
+#[tactic(auto, using(crate::proofs::Running::run_by))]
 fn run_given<N: Runner, O: LineOut>(
     alloc: Global,
     plan: Plan,
