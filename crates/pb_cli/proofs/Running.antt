@@ -21,6 +21,7 @@ use Rattle.pb_driver.specs.declared.given.Given.{Given}
 use Rattle.pb_runner.specs.Launch.{Launch}
 use Rattle.pb_runner.specs.Local.{LocalAllows, LocalGives}
 use Rattle.pb_runner.specs.LocalRan.{LocalRan}
+use Rattle.pb_runner.specs.Reading.{table_of}
 use Rattle.pb_runner.specs.Table.{TableGives, TableRan, AllGiven}
 use Rattle.pb_runner.specs.declared.table.Table.{Table}
 use Rattle.pb_command_line.specs.declared.words.Purpose.{Purpose}
@@ -103,6 +104,17 @@ table_run plan commands table table_after trail before after status run = run_as
 pub table_cut : (plan : PlanOf) (commands : List Given) (table table_after : Table) (trail : List Event) (fault : RunFault) (before after : Option (List ℕ))
     → IsCutBy allows_all (TableGives table) (λ jobs. TableRan table jobs table_after) plan commands trail fault before after → IsCutBy allows_all (TableGives table) (AllGiven table) plan commands trail fault before after
 table_cut plan commands table table_after trail fault before after cut = cut_as allows_all (TableGives table) _ _ plan commands trail fault before after (λ jobs ran. ran.1) cut
+
+-- the same, told by the fault that is answered
+pub tabled_to : (bytes : List ℕ) (plan : PlanOf) (stop_after : Option ℕ) (table table_after : Table) (events : List Event) (met fault : RunFault) (trail : Option (List Event)) (before after : Option (List ℕ))
+    → table_of bytes ≡ Ok table → IsCutBy allows_all (TableGives table) (λ jobs. TableRan table jobs table_after) plan (commands_for stop_after) events met before after
+    → met ≡ fault → Some events ≡ trail → HasTrail trail (λ es. IsTabledCut bytes plan stop_after es fault before after)
+tabled_to bytes plan stop_after table table_after events met fault trail before after is cut same_fault same_trail =
+    let whole : IsTabledCut bytes plan stop_after events met before after =
+    record { table = table; tabled = is; cut = table_cut plan (commands_for stop_after) table table_after events met before after cut }
+    in
+    subst (λ (f : RunFault). HasTrail trail (λ es. IsTabledCut bytes plan stop_after es f before after)) same_fault
+    (subst (λ (t : Option (List Event)). HasTrail t (λ es. IsTabledCut bytes plan stop_after es met before after)) same_trail whole)
 
 -- a run that couldn't go on, with a table, and in place of an audit
 pub tabled_cut : (outcomes : Option (List ℕ)) (bytes : List ℕ) (plan : PlanOf) (stop_after : Option ℕ) (facts : Option (List ℕ)) (started started_after : Option (List Launch)) (trail : Option (List Event)) (fault : RunFault) (before after : Option (List ℕ))
