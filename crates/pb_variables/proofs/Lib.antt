@@ -1,3 +1,5 @@
+pub mod Belonging
+pub mod Keeping
 pub mod Learning
 pub mod Named
 pub mod Texts

@@ -27,3 +27,7 @@ stored inventory host name = option_or (value_at name (vars_of_host inventory ho
 -- the words that connect to a host: none where it has none
 abbrev pub connector_of : InventoryOf → ℕ → List (List ℕ)
 connector_of inventory host = option_map_or words_in (stored inventory host (codes "pb_connector")) []
+
+-- the same where a host has these variables of its own, and these from its groups
+abbrev pub connector_in : (own groups : List (List ℕ × Datum)) → List (List ℕ)
+connector_in own groups = option_map_or words_in (option_or (value_at (codes "pb_connector") own) (value_at (codes "pb_connector") groups)) []

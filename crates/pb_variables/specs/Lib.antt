@@ -4,3 +4,5 @@ pub mod Extra
 pub mod Learnt
 pub mod Magic
 pub mod Rows
+pub mod Shared
+pub mod Weight

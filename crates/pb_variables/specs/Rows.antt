@@ -7,9 +7,11 @@ use Rattle.pb_facts.specs.Facts.{FactsOf}
 use Rattle.pb_groups.specs.Members.{own_of as own}
 use Rattle.pb_groups.specs.Ways.{link}
 use Rattle.pb_inventory.specs.InventoryOf.{InventoryOf}
-use Rattle.pb_variables.specs.Connector.{connector_of}
+use Rattle.pb_variables.specs.Connector.{connector_of, connector_in}
 use Rattle.pb_variables.specs.Extra.{variables_in}
 use Rattle.pb_variables.specs.Magic.{hostvars, plan_magic, play_magic, host_magic}
+use Rattle.pb_variables.specs.Shared.{numbers_of_host, with_names}
+use Rattle.pb_variables.specs.Weight.{weight, kept_weight}
 use Rattle.pb_variables.specs.declared.fault.ExtraFault.TheVariants.{WrongShape}
 
 -- {"_x":"{{","y2":1}: a text is kept as it stands
@@ -137,3 +139,21 @@ no_texts = refl
 
 pub no_words : connector_of (connected (row [])) 1 ≡ []
 no_words = refl
+
+pub own_before_groups : connector_in ((codes "pb_connector", row []) ∷ []) ((codes "pb_connector", row (text (codes "far") ∷ [])) ∷ []) ≡ []
+own_before_groups = refl
+
+-- b is in `all` and in `ungrouped`, a in `all` and in `web`: variables of groups that lie deeper come later
+pub numbers_of_first : numbers_of_host two_hosts 0 ≡ 0 ∷ 1 ∷ []
+numbers_of_first = refl
+
+pub numbers_of_second : numbers_of_host two_hosts 1 ≡ 0 ∷ 2 ∷ []
+numbers_of_second = refl
+
+-- a list, the text in it, and the two bytes of that
+pub weight_of_list : weight (row (text (codes "ab") ∷ [])) ≡ 130
+weight_of_list = refl
+
+-- two groups, a name of one byte with its value, and the list of one name of three
+pub weight_of_kept : kept_weight (0 ∷ 2 ∷ []) (with_names ((codes "x", int (pos 1)) ∷ []) (codes "web" ∷ [])) ≡ 1292
+weight_of_kept = refl

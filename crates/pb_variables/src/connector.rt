@@ -1,31 +1,23 @@
 //! The words of the program that connects to a host.
-ghost use Rattle.std.specs.Prelude.{◌≡◌, ◌<◌, length, unwrap_or, [], IfOk};
+ghost use Rattle.std.specs.Prelude.{◌≡◌, unwrap_or, [], IfOk};
 ghost use Rattle.pb_value.specs.Datum.{items_of};
-ghost use Rattle.pb_variables.specs.Connector.{texts_in, words_in, connector_of};
+ghost use Rattle.pb_variables.specs.Connector.{texts_in, words_in, connector_in};
 
-use pb_ids::HostNo;
-use pb_inventory::inventory::Inventory;
 use pb_value::items::Items;
 use pb_value::text::Text;
-use pb_value::val::{Node, Val};
+use pb_value::val::{Dict, Node, Val};
 use std::alloc::{AllocError, Global};
 
 /// The words that connect to a host, as its inventory variable `pb_connector` has them: a list of texts. Its own variable stands
 /// before that of its groups, and any other value than a list of texts counts as no words. Texts are taken as they stand, and are
 /// no templates. The only error is want of memory.
-pub fn connector(
-    alloc: Global,
-    inventory: &Inventory,
-    host: HostNo,
-) -> Result<Items<Text>, AllocError>
-    requires { host.0 < length inventory.now.hosts }
-    ensures { IfOk result (λ words. words ≡ connector_of inventory.now host.0) }
+pub fn connector(alloc: Global, own: &Dict, groups: &Dict) -> Result<Items<Text>, AllocError>
+    ensures { IfOk result (λ words. words ≡ connector_in own.now groups.now) }
 {
-    if let Some(own) = inventory.host_vars(host).get("pb_connector") {
-        return words_in(alloc, own);
+    if let Some(value) = own.get("pb_connector") {
+        return words_in(alloc, value);
     }
-    let shared = inventory.group_vars(alloc, host)?;
-    match shared.get("pb_connector") {
+    match groups.get("pb_connector") {
         Some(value) => words_in(alloc, value),
         None => Ok(Items::new(alloc)),
     }

@@ -6,6 +6,8 @@
 //! whole plan, for a play and for a host (`specs/Magic.antt`), each as a dict of its own. `hostvars`
 //! answers what stands for the variables of all hosts, with what they have learnt.
 //! `connector` answers the words of the program that connects to a host (`specs/Connector.antt`).
+//! `GroupShares` has what all hosts have from their groups, the variables of these and their names, made once for hosts of the same groups
+//! (`specs/Shared.antt`).
 #![tactic(auto)]
 
 pub mod connector;
@@ -14,3 +16,5 @@ pub mod fault;
 pub mod hostvars;
 pub mod magic;
 mod put;
+pub mod shared;
+mod weight;

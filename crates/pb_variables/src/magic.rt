@@ -2,7 +2,7 @@ ghost use Rattle.std.specs.Prelude.{◌≡◌, ◌<◌, ℕ, List, [], ◌∷◌
 ghost use Rattle.pb_planes.specs.Set.{is_in};
 ghost use Rattle.pb_value.specs.Datum.{put, value_at};
 ghost use Rattle.pb_inventory.specs.Vars.{group_name, host_name, names_of_hosts};
-ghost use Rattle.pb_variables.specs.Magic.{texts, groups_map, names_in, plan_magic, play_magic, host_magic};
+ghost use Rattle.pb_variables.specs.Magic.{texts, groups_map, names_in, plan_magic, play_magic, magic_with};
 ghost use Rattle.pb_variables.specs.ByName.{value_in, hosts_under};
 
 use crate::put::texts;
@@ -115,15 +115,18 @@ fn is_listed(hosts: &HostSet, host: HostNo) -> bool
     hosts.has(host)
 }
 
-/// The magic variables of a host: `group_names`, the names of its groups, all but `all`, in byte
-/// order; and `inventory_hostname`, its own name. The only error is want of memory.
-#[tactic(auto, unfolding(crate::specs::Magic::host_magic))]
-pub fn host_magic(alloc: Global, inventory: &Inventory, host: HostNo) -> Result<Dict, AllocError>
+/// The magic variables of a host: `group_names`, the list of the names of its groups, all but `all`, in byte order, which is given; and
+/// `inventory_hostname`, its own name. The only error is want of memory.
+pub fn host_magic(
+    alloc: Global,
+    inventory: &Inventory,
+    host: HostNo,
+    names: &Val,
+) -> Result<Dict, AllocError>
     requires { host.0 < length inventory.now.hosts }
-    ensures { IfOk result (λ known. known ≡ host_magic inventory.now host.0) }
+    ensures { IfOk result (λ known. known ≡ magic_with names.now (host_name inventory.now host.0)) }
 {
-    let names = inventory.group_names(alloc, host)?;
-    let groups = texts(alloc, names)?;
+    let groups = names.try_clone(alloc)?;
     let name = Text::from_str(alloc, inventory.name(host))?;
     let mut known = Dict::new(alloc);
     known.put(alloc, "group_names", groups)?;
