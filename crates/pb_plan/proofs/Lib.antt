@@ -1,2 +1,3 @@
+mod Connected
 mod Fitting
 mod Plans

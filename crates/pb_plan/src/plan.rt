@@ -1,8 +1,12 @@
 //! What the machine reads of a bundle.
 
-ghost use Rattle.std.specs.Prelude.{◌≡◌, ◌<◌, ◌≤◌, length, slice_get, option_map, IfOk, Some};
+ghost use Rattle.std.specs.Prelude.{◌≡◌, ◌<◌, ◌≤◌, ℕ, List, length, slice_get, option_map, IfOk, Some};
 ghost use Rattle.std.specs.Option.{option_copied};
+ghost use Rattle.pb_value.specs.Datum.{value_at};
+ghost use Rattle.pb_inventory.specs.Vars.{groups_of_host, last_given};
 ghost use Rattle.pb_tree.specs.Tree.{size_of};
+ghost use Rattle.pb_variables.specs.Connector.{connector_of};
+ghost use Rattle.pb_variables.specs.Shared.{from_groups, AreKept};
 ghost use Rattle.pb_plan.specs.Plan.{throttles_of, run_once_of};
 
 use pb_batches::Serial;
@@ -16,6 +20,8 @@ use pb_tree::PlayTree;
 use pb_value::items::Items;
 use pb_value::text::Text;
 use pb_value::val::Dict;
+use pb_variables::connector::connector;
+use pb_variables::shared::{GroupShares, SharedGroups};
 use std::alloc::{AllocError, Global};
 use std::marker::Model;
 use std::rc::Rc;
@@ -262,6 +268,8 @@ pub struct Plan {
     warnings: Items<Text>,
     extra: Dict,
     magic: Dict,
+    /// What hosts have from their groups, made once for all hosts of the same groups.
+    shares: GroupShares,
 }
 
 impl Drop for Plan {
@@ -274,12 +282,14 @@ impl Drop for Plan {
             warnings,
             extra,
             magic,
+            shares,
         } = self;
         drop(inventory);
         drop(plays);
         drop(warnings);
         drop(extra);
         drop(magic);
+        drop(shares);
     }
 }
 
@@ -306,8 +316,9 @@ impl Model for Plan {
     } };
 
     ghost use Rattle.std.specs.Prelude.{◌<◌, ◌≤◌, length};
+    ghost use Rattle.pb_variables.specs.Shared.{AreKept};
 
-    ghost invariant = { λ p. (length p.plays ≤ 256) × (0 < p.forks) × (p.forks ≤ 256) };
+    ghost invariant = { λ p. (length p.plays ≤ 256) × (0 < p.forks) × (p.forks ≤ 256) × AreKept p.inventory p.shares };
 }
 
 impl Plan {
@@ -322,10 +333,12 @@ impl Plan {
         warnings: Items<Text>,
         extra: Dict,
         magic: Dict,
+        shares: GroupShares,
     ) -> Plan
         requires plays { length plays ≤ 256 }
         requires some { 0 < forks }
         requires bound { forks ≤ 256 }
+        requires kept { AreKept inventory shares }
         ensures { result ≡ record {
           plays = plays;
           forks = forks;
@@ -344,6 +357,7 @@ impl Plan {
             warnings,
             extra,
             magic,
+            shares,
         }
     }
 
@@ -402,6 +416,25 @@ impl Plan {
         ensures { result.now ≡ self.now.inventory }
     {
         &self.inventory
+    }
+
+    /// What a host has from its groups: their variables, merged, and their names. Hosts of the same groups share it, as far as the plan keeps it. The only
+    /// error is want of memory.
+    pub fn of_groups(&self, alloc: Global, host: HostNo) -> Result<SharedGroups, AllocError>
+        requires { host.0 < length self.now.inventory.hosts }
+        ensures value { IfOk result (λ of. of ≡ from_groups self.now.inventory host.0) }
+        ensures last { IfOk result (λ of. (name : List ℕ) → value_at name of.variables ≡ last_given self.now.inventory name (groups_of_host self.now.inventory host.0)) }
+    {
+        self.shares.of_groups(alloc, &self.inventory, host)
+    }
+
+    /// The words that connect to a host, as its inventory variable `pb_connector` has them. The only error is want of memory.
+    pub fn connector(&self, alloc: Global, host: HostNo) -> Result<Items<Text>, AllocError>
+        requires { host.0 < length self.now.inventory.hosts }
+        ensures { IfOk result (λ words. words ≡ connector_of self.now.inventory host.0) }
+    {
+        let groups = self.of_groups(alloc, host)?;
+        connector(alloc, self.inventory.host_vars(host), groups.variables())
     }
 
     /// The extra variables, as they are given.

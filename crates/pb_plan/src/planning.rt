@@ -27,6 +27,7 @@ use pb_value::val::Dict;
 use pb_variables::extra::read_extra;
 use pb_variables::fault::ExtraFault;
 use pb_variables::magic::plan_magic;
+use pb_variables::shared::GroupShares;
 use pb_written::fault::LoadFault;
 use std::alloc::{AllocError, Global};
 
@@ -253,6 +254,7 @@ fn plan_with(
     let mut lines = first_lines(alloc, &inventory, &selected)?;
     let plays = plan_plays(alloc, &inventory, &selected.hosts, plays, &mut lines)?;
     let magic = plan_magic(alloc, &inventory)?;
+    let shares = GroupShares::of(alloc, &inventory)?;
     Ok(Plan::from_parts(
         inventory,
         plays,
@@ -261,6 +263,7 @@ fn plan_with(
         lines,
         extra,
         magic,
+        shares,
     ))
 }
 
