@@ -21,14 +21,14 @@ same : (plan : PlanOf) (play : PlayOf) (h : ℕ) (facts : FactsOf) (role : Role)
 same plan play h facts role blocks tasks inventory groups hosts gathered plays set extra i g v f p s x = cc
 
 -- where something stands for the role and the variables that a place lacks
-pub layered : (plan : PlanOf) (play : PlayOf) (h : ℕ) (facts : FactsOf) (place : PlaceOf) (own : Own) (inventory : InventoryOf) (role : Role) (task : Task) (blocks hosts gathered plays set extra : Map)
-    → own ≡ own_of plan h → inventory ≡ plan.inventory → (own.no_role ≡ no_role → role ≡ place.role) → (own.none ≡ [] → blocks ≡ place.block_vars) → task ≡ place.task
+pub layered : (plan : PlanOf) (play : PlayOf) (h : ℕ) (facts : FactsOf) (place : PlaceOf) (own : Own) (inventory : InventoryOf) (role : Role) (task : Task) (blocks groups hosts gathered plays set extra : Map)
+    → own ≡ own_of plan h → groups ≡ own.groups.variables → inventory ≡ plan.inventory → (own.no_role ≡ no_role → role ≡ place.role) → (own.none ≡ [] → blocks ≡ place.block_vars) → task ≡ place.task
     → hosts ≡ vars_of_host inventory h → gathered ≡ gathered_layer facts.gathered → plays ≡ play.vars → set ≡ facts.set → extra ≡ plan.extra
-    → layers role.defaults own.group_variables hosts gathered plays role.vars blocks task.vars set role.params extra
+    → layers role.defaults groups hosts gathered plays role.vars blocks task.vars set role.params extra
     ≡ layers_within plan play h facts place.role place.block_vars place.task.vars
-layered plan play h facts place own inventory role task blocks hosts gathered plays set extra o i r b t v f p s x =
+layered plan play h facts place own inventory role task blocks groups hosts gathered plays set extra o g i r b t v f p s x =
     rw (r (ap (λ (w : Own). w.no_role) o), b (ap (λ (w : Own). w.none) o), t)
-    (same plan play h facts place.role place.block_vars place.task.vars inventory own.group_variables hosts gathered plays set extra i (ap (λ (w : Own). w.group_variables) o) v f p s x)
+    (same plan play h facts place.role place.block_vars place.task.vars inventory groups hosts gathered plays set extra i (g ∙ ap (λ (w : Own). w.groups.variables) o) v f p s x)
 
 pub magic_is : (plan : PlanOf) (play : PlayOf) (h : ℕ) (own : Own) (plays plans : Map) → own ≡ own_of plan h → plays ≡ play.magic → plans ≡ plan.magic → own.magic ++ plays ++ plans ≡ magic_of plan play h
 magic_is plan play h own plays plans o p q = rw (p, q) (ap (λ (w : Own). w.magic ++ play.magic ++ plan.magic) o)

@@ -8,13 +8,14 @@ use pb_ids::HostNo;
 use pb_places::Role;
 use pb_value::val::Dict;
 use pb_variables::magic::host_magic;
+use pb_variables::shared::SharedGroups;
 use std::alloc::{AllocError, Global};
 
 /// What a host has of its own, and what stands for a role and for variables where there are none.
 #[derive(Drop)]
 pub struct Own {
-    /// The variables of its groups, merged.
-    pub group_variables: Dict,
+    /// What it has from its groups, which the plan has made for all hosts of these.
+    pub groups: SharedGroups,
     /// The variables that it has by itself.
     pub magic: Dict,
     pub no_role: Role,
@@ -22,15 +23,15 @@ pub struct Own {
 }
 
 impl Own {
+    #[tactic(auto, unfolding(pb_variables::specs::Magic::host_magic))]
     pub fn of(alloc: Global, plan: &Seen, host: HostNo) -> Result<Own, AllocError>
         requires { host.0 < length plan.now.inventory.hosts }
         ensures { IfOk result (λ own. own ≡ own_of plan.now host.0) }
     {
-        let inventory = plan.inventory();
-        let group_variables = inventory.group_vars(alloc, host)?;
-        let magic = host_magic(alloc, inventory, host)?;
+        let groups = plan.of_groups(alloc, host)?;
+        let magic = host_magic(alloc, plan.inventory(), host, groups.names())?;
         Ok(Own {
-            group_variables,
+            groups,
             magic,
             no_role: Role::none(alloc),
             none: Dict::new(alloc),

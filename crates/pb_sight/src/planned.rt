@@ -62,7 +62,7 @@ pub(crate) fn layers_for<'a>(
     let task = place.task();
     Layers {
         role_defaults: &role.defaults,
-        group_variables: &own.group_variables,
+        group_variables: own.groups.variables(),
         host_variables: inventory.host_vars(host),
         host_facts: facts.gathered_layer(),
         play_variables: play.vars(),

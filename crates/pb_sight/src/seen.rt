@@ -1,12 +1,16 @@
 //! A plan as tasks see it.
 
-ghost use Rattle.std.specs.Prelude.{◌≡◌, ◌≤◌, ◌++◌, length};
+ghost use Rattle.std.specs.Prelude.{◌≡◌, ◌<◌, ◌≤◌, ◌++◌, length, IfOk};
+ghost use Rattle.pb_variables.specs.Shared.{from_groups};
 ghost use Rattle.pb_sight.specs.Seen.{with_hosts};
 
+use pb_ids::HostNo;
 use pb_inventory::inventory::Inventory;
 use pb_layers::layers::Magic;
 use pb_plan::Plan;
 use pb_value::val::Dict;
+use pb_variables::shared::SharedGroups;
+use std::alloc::{AllocError, Global};
 use std::marker::Model;
 
 /// A plan with magic variables behind its own: `hostvars`, which tells of what hosts have learnt.
@@ -58,6 +62,14 @@ impl<'a> Seen<'a> {
         ensures { result.now ≡ self.now.inventory }
     {
         self.plan.inventory()
+    }
+
+    /// What a host has from its groups.
+    pub fn of_groups(&self, alloc: Global, host: HostNo) -> Result<SharedGroups, AllocError>
+        requires { host.0 < length self.now.inventory.hosts }
+        ensures { IfOk result (λ of. of ≡ from_groups self.now.inventory host.0) }
+    {
+        self.plan.of_groups(alloc, host)
     }
 
     /// The extra variables, as they are given.
