@@ -5,25 +5,19 @@ ghost use Rattle.std.specs.Option.{option_copied, option_map_or};
 ghost use Rattle.pb_state.specs.Jobs.{connector_named, connector_for, row_job, job_with};
 
 use pb_ids::{HostNo, Place, PlayNo, Ticket};
-use pb_inventory::inventory::Inventory;
 use pb_one_host::Row;
 use pb_outcome::job::{Call, Job};
 use pb_plan::{Plan, PlanPlay};
 use pb_value::items::Items;
 use pb_value::text::Text;
-use pb_variables::connector::connector;
 use std::alloc::{AllocError, Global};
 
 /// The words that connect to a host of this name: a name that is no host's has none.
-fn connector_named(
-    alloc: Global,
-    inventory: &Inventory,
-    name: &Text,
-) -> Result<Items<Text>, AllocError>
-    ensures { IfOk result (λ words. words ≡ connector_named inventory.now name.now) }
+fn connector_named(alloc: Global, plan: &Plan, name: &Text) -> Result<Items<Text>, AllocError>
+    ensures { IfOk result (λ words. words ≡ connector_named plan.now.inventory name.now) }
 {
-    match inventory.number(name.as_str()) {
-        Some(host) => connector(alloc, inventory, host),
+    match plan.inventory().number(name.as_str()) {
+        Some(host) => plan.connector(alloc, host),
         None => Ok(Items::new(alloc)),
     }
 }
@@ -31,16 +25,16 @@ fn connector_named(
 /// The words that connect to a host, or to the one of that name, where it is delegated to it.
 fn connector_for(
     alloc: Global,
-    inventory: &Inventory,
+    plan: &Plan,
     host: HostNo,
     delegate: Option<&Text>,
 ) -> Result<Items<Text>, AllocError>
-    requires { host.0 < length inventory.now.hosts }
-    ensures { IfOk result (λ words. words ≡ connector_for inventory.now host.0 (option_copied delegate.entry)) }
+    requires { host.0 < length plan.now.inventory.hosts }
+    ensures { IfOk result (λ words. words ≡ connector_for plan.now.inventory host.0 (option_copied delegate.entry)) }
 {
     match delegate {
-        Some(name) => connector_named(alloc, inventory, name),
-        None => connector(alloc, inventory, host),
+        Some(name) => connector_named(alloc, plan, name),
+        None => plan.connector(alloc, host),
     }
 }
 
@@ -85,7 +79,7 @@ pub(crate) fn job_in(
     let name = plan.host_name(host);
     let delegate = running.items.delegate(item);
     let target = target_of(alloc, delegate, name)?;
-    let connector = connector_for(alloc, plan.inventory(), host, delegate)?;
+    let connector = connector_for(alloc, plan, host, delegate)?;
     let job = job_with(
         alloc, number, host, ticket, item, call, name, target, connector, place,
     )?;
