@@ -7,7 +7,7 @@ use Rattle.pb_state.specs.Machine.{possible, after}
 use Rattle.pb_state.specs.Run.{legal_from, state_from}
 use Rattle.pb_state.specs.State.{State}
 use Rattle.pb_audit.proofs.Fronts.{with_next}
-use Rattle.pb_audit.specs.Audit.{start_of, is_legal, end_of, IsFirstIllegal}
+use Rattle.pb_audit.specs.Audit.{start_under, is_legal_under, end_under, IsFirstIllegalUnder}
 use Rattle.pb_audit.specs.Names.{name_of}
 use Rattle.pb_audit.specs.declared.name.EventName.{EventName}
 
@@ -56,9 +56,9 @@ not_legal plan s (d ∷ es) zero e there cannot =
     rw (ap (possible plan s) same ∙ cannot) refl
 not_legal plan s (d ∷ es) (suc i) e there cannot = none_of (possible plan s d) _ (not_legal plan (after plan s d) es i e there cannot)
 
-pub refused_here : (plan : PlanOf) (t : State) (trail : List Event) (i : ℕ) (e : Event) (name : EventName) → i < length trail → e ≡ get_or trail i e → is_legal plan (take i trail) ≡ true
-    → t ≡ end_of plan (take i trail) → possible plan t e ≡ false → name ≡ name_of e → IsFirstIllegal plan trail i name
-refused_here plan t trail i e name h is legal at cannot called = record {
+pub refused_here : (plan : PlanOf) (forks : ℕ) (t : State) (trail : List Event) (i : ℕ) (e : Event) (name : EventName) → i < length trail → e ≡ get_or trail i e → is_legal_under plan forks (take i trail) ≡ true
+    → t ≡ end_under plan forks (take i trail) → possible plan t e ≡ false → name ≡ name_of e → IsFirstIllegalUnder plan forks trail i name
+refused_here plan forks t trail i e name h is legal at cannot called = record {
   event = e;
   there = found trail i e h is;
   before = legal;
@@ -67,5 +67,5 @@ refused_here plan t trail i e name h is legal at cannot called = record {
 }
 
 -- the first that isn't possible makes the whole trail illegal
-pub refused_whole : (plan : PlanOf) (trail : List Event) (i : ℕ) (name : EventName) → IsFirstIllegal plan trail i name → is_legal plan trail ≡ false
-refused_whole plan trail i name first = not_legal plan (start_of plan) trail i first.event first.there first.illegal
+pub refused_whole : (plan : PlanOf) (forks : ℕ) (trail : List Event) (i : ℕ) (name : EventName) → IsFirstIllegalUnder plan forks trail i name → is_legal_under plan forks trail ≡ false
+refused_whole plan forks trail i name first = not_legal plan (start_under plan forks) trail i first.event first.there first.illegal

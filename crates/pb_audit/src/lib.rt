@@ -2,7 +2,7 @@
 //!
 //! For the layers above: `trail_text` writes the events of a run down, and `read_trail` reads that text as the same
 //! events (`reads_back`), or tells the first line that is no event. `audit` answers Ok exactly where events are a legal run of a
-//! plan, else it tells the first of them that isn't possible where it stands. So one machine can check what another one did.
+//! plan, else it tells the first of them that isn't possible where it stands; `replay` gives the state to which they lead, with any forks. So one machine can check what another one did.
 //! Only want of memory may come in the place of each of these answers.
 #![tactic(auto)]
 
@@ -13,7 +13,7 @@ mod name;
 mod reading;
 mod writing;
 
-pub use auditing::audit;
+pub use auditing::{audit, replay};
 pub use fault::{AuditFault, TrailFault};
 pub use name::EventName;
 pub use reading::read_trail;

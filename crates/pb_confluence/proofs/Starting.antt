@@ -1,0 +1,347 @@
+-- A start, a send and a report: an event of one host.
+use Rattle.std.proofs.Common.{◌≡◌, ℕ, zero, suc, ◌+◌, Bool, true, false, ◌&&◌, ◌||◌, not, List, [], ◌∷◌, map, take, cond, refl, sym, ◌∙◌, ap, subst, arith}
+use Rattle.std.proofs.lemmas.Bool.{eqb-true, eq-eqb}
+use Rattle.std.proofs.lemmas.List.Sums.{sum_by-cons}
+use Rattle.std.specs.Prelude.{◌==◌, nat_eq, Option, Some, None, IfSome, option_map, is_some, slice_get, slice_set, if◌then◌else◌}
+use Rattle.std.specs.List.{list_any}
+use Rattle.std.specs.Option.{option_map_or}
+use Rattle.pb_limits.specs.Counts.{runs_at, running_at}
+use Rattle.pb_ids.specs.declared.numbers.Ticket.{Ticket}
+use Rattle.pb_inventory.specs.InventoryOf.{InventoryOf}
+use Rattle.pb_facts.specs.Facts.{FactsOf, no_facts}
+use Rattle.pb_outcome.specs.declared.item.Item.{Item}
+use Rattle.pb_outcome.specs.declared.job.Report.{Report}
+use Rattle.pb_outcome.specs.declared.outcome.Form.{Form}
+use Rattle.pb_plan.specs.Plan.{PlayOf, PlanOf}
+use Rattle.pb_sight.specs.declared.gifts.Gift.{Gift}
+use Rattle.pb_sight.specs.Results.{items_at}
+use Rattle.pb_strategies.specs.declared.standings.Standing.{Standing}
+use Rattle.pb_strategies.specs.declared.strategy.Strategy.{Strategy}
+use Rattle.pb_strategies.specs.declared.strategy.Strategy.TheVariants.{Linear}
+use Rattle.pb_strategies.specs.Hosts.{is_running as standing_runs, is_next_at, runs_in, same_place}
+use Rattle.pb_strategies.specs.MayStart.{has_room, has_room_at, is_open_once, is_first_at, may_run_once, suits, may_start_at, may_start_from, is_linear}
+use Rattle.pb_one_host.specs.declared.row.Running.{Running}
+use Rattle.pb_one_host.specs.Back.{SameTold}
+use Rattle.pb_one_host.specs.Row.{HostRow, next_place, progressed, sent, reported, items_after, runs_once_at}
+use Rattle.pb_one_host.specs.Runs.{is_running, sends_running, may_send_item, awaits_running, awaits}
+use Rattle.pb_one_host.specs.Standing.{standing}
+use Rattle.pb_all_hosts.specs.Hosts.{at_row, change}
+use Rattle.pb_all_hosts.specs.Giving.{given_to, gifts_at, gifts_by, gifts_of}
+use Rattle.pb_all_hosts.specs.Turn.{has_settled, is_settled_at, is_settled}
+use Rattle.pb_state.specs.Machine.{open_play, learnt_by, facts_at, plan_seen, next_at, may_start_in, may_send_in, may_report_in, start_at, started_in, sent_in, reported_in}
+use Rattle.pb_state.specs.Jobs.{row_job, job_in, job_of}
+use Rattle.pb_state.specs.State.{State}
+use Rattle.pb_state.specs.Strategies.{view_of}
+use Rattle.pb_state.specs.Walks.{AreNumbered}
+use Rattle.pb_state.proofs.ReadHosts.{rows_same}
+use Rattle.pb_state.proofs.Stands.{runs_same, linear_is}
+use Rattle.pb_confluence.specs.Fixed.{Fixed, outcome_of}
+use Rattle.pb_confluence.specs.Effect.{outcome_for, started, complete}
+use Rattle.pb_confluence.proofs.Apart.{AreApart}
+use Rattle.pb_confluence.proofs.Lists.{and_left, and_right, none_false, Every, every_at, every_changed, found_in, number_at}
+use Rattle.pb_confluence.proofs.Once.{Before, Fresh, Solo, IfOnce, on_once, running_first, solo_changed, solo_started, open_fresh, first_before}
+use Rattle.pb_confluence.proofs.Rows.{RunsAt, IsWell, start_whole, send_whole, report_whole, progressed_well, sent_well, reported_well, any_ticket}
+use Rattle.pb_confluence.proofs.Values.{in_open, rest, value, Holds, HoldsIn, row_changed}
+
+-- ---- what such an event keeps
+abbrev pub KeepsRows : PlanOf → Fixed → State → List HostRow → Type 0
+KeepsRows plan f s new = HoldsIn s.place new (open_play plan s) × (rest plan f s.is_open s.ended s.place s.play (record { rows = new; later = s.later }) ≡ value plan f s)
+
+-- and what any event does
+abbrev pub Keeps : PlanOf → Fixed → State → State → Type 0
+Keeps plan f s t = HoldsIn t.place t.rows (open_play plan t) × (value plan f t ≡ value plan f s)
+
+pub opened : (b : Bool) (found : Option PlayOf) (play : PlayOf) → (if b then found else None) ≡ Some play → (b ≡ true) × (found ≡ Some play)
+opened true found play e = (refl, e)
+opened false found play e = cc
+
+-- the value of a state whose batch is open
+pub open_value : (plan : PlanOf) (f : Fixed) (s : State) (play : PlayOf) (rows : List HostRow) → open_play plan s ≡ Some play
+    → rest plan f s.is_open s.ended s.place s.play (record { rows = rows; later = s.later }) ≡ in_open plan f s.play s.place (record { rows = rows; later = s.later }) play
+open_value plan f s play rows o =
+    let is = opened s.is_open (slice_get plan.plays s.play) play o in
+    ap (λ (b : Bool). rest plan f b s.ended s.place s.play (record { rows = rows; later = s.later })) is.0
+    ∙ ap (λ (found : Option PlayOf). option_map_or (in_open plan f s.play s.place (record { rows = rows; later = s.later })) found rows) is.1
+
+pub keeps_rows : (plan : PlanOf) (f : Fixed) (s : State) (play : PlayOf) (new : List HostRow) → open_play plan s ≡ Some play → Holds play s.place new
+    → in_open plan f s.play s.place (record { rows = new; later = s.later }) play ≡ in_open plan f s.play s.place (record { rows = s.rows; later = s.later }) play → KeepsRows plan f s new
+keeps_rows plan f s play new o holds same =
+    (subst (λ (found : Option PlayOf). HoldsIn s.place new found) (sym o) holds, open_value plan f s play new o ∙ same ∙ sym (open_value plan f s play s.rows o))
+
+-- ---- changes of one row that are alike there
+pub change_at : (rows : List HostRow) (h : ℕ) (f g : HostRow → HostRow) → ((row : HostRow) → slice_get rows h ≡ Some row → f row ≡ g row) → change rows h f ≡ change rows h g
+change_at rows h f g on = by_found (slice_get rows h) refl
+  where
+    by_found : (found : Option HostRow) → slice_get rows h ≡ found → option_map_or (λ (row : HostRow). slice_set rows h (f row)) found rows ≡ option_map_or (λ (row : HostRow). slice_set rows h (g row)) found rows
+    by_found None e = refl
+    by_found (Some row) e = ap (slice_set rows h) (on row e)
+
+pub row_test : (test : HostRow → Bool) (rows : List HostRow) (h : ℕ) (row : HostRow) → at_row test rows h ≡ true → slice_get rows h ≡ Some row → test row ≡ true
+row_test test rows h row e found = sym (ap (λ (o : Option HostRow). option_map_or test o false) found) ∙ e
+
+-- ---- a start
+-- what a start is possible under in a linear play
+pub record IsStart (s : State) (h : ℕ) (play : PlayOf) : Type 0 where
+  pub row : HostRow
+  pub there : slice_get s.rows h ≡ Some row
+  pub idle : row.running ≡ None
+  pub place : ℕ
+  pub next : next_place row ≡ Some place
+  pub current : s.place ≡ Some place
+  pub once : runs_once_at play place ≡ true → (is_open_once (view_of s play) place ≡ true) × (list_any (is_next_at (Some place)) (take h (map standing s.rows)) ≡ false)
+
+idle_is : (x : Option Running) → not (is_some x) ≡ true → x ≡ None
+idle_is None e = refl
+idle_is (Some r) e = cc
+
+not_is : (b : Bool) → not b ≡ true → b ≡ false
+not_is true e = cc
+not_is false e = refl
+
+same_is : (place : Option ℕ) (p : ℕ) → same_place place (Some p) ≡ true → place ≡ Some p
+same_is None p e = cc
+same_is (Some q) p e = ap Some (eqb-true q p e)
+
+once_of : (once may : Bool) → (not once || may) ≡ true → once ≡ true → may ≡ true
+once_of true may e o = e
+once_of false may e o = cc
+
+starts_at : (s : State) (h : ℕ) (play : PlayOf) (row : HostRow) (next : Option ℕ) → is_linear play.strategy ≡ true → slice_get s.rows h ≡ Some row → row.running ≡ None → next_place row ≡ next
+    → option_map_or (may_start_at (view_of s play) h (standing row)) next false ≡ true → IsStart s h play
+starts_at s h play row None l there idle n e = cc
+starts_at s h play row (Some p) l there idle n e =
+    let asked : suits Linear (view_of s play) h (standing row) p ≡ true =
+    ap (λ (strategy : Strategy). suits strategy (view_of s play) h (standing row) p) (sym (linear_is play.strategy l)) ∙ and_right (has_room_at (view_of s play) p) (suits play.strategy (view_of s play) h (standing row) p) e in
+    let may = and_right (same_place s.place (Some p)) (not (runs_once_at play p) || may_run_once (view_of s play) h p) asked in
+    record {
+      row = row;
+      there = there;
+      idle = idle;
+      place = p;
+      next = n;
+      current = same_is s.place p (and_left (same_place s.place (Some p)) (not (runs_once_at play p) || may_run_once (view_of s play) h p) asked);
+      once =
+          λ o.
+          let both = once_of (runs_once_at play p) (may_run_once (view_of s play) h p) may o in (
+            and_left (is_open_once (view_of s play) p) (is_first_at (map standing s.rows) p h) both,
+            not_is (list_any (is_next_at (Some p)) (take h (map standing s.rows))) (and_right (is_open_once (view_of s play) p) (is_first_at (map standing s.rows) p h) both),
+          );
+    }
+
+get_standing : (rows : List HostRow) (h : ℕ) → slice_get (map standing rows) h ≡ option_map standing (slice_get rows h)
+get_standing [] h = refl
+get_standing (row ∷ rows) zero = refl
+get_standing (row ∷ rows) (suc h) = get_standing rows h
+
+starts_found : (s : State) (h : ℕ) (play : PlayOf) (found : Option HostRow) → is_linear play.strategy ≡ true → slice_get s.rows h ≡ found
+    → option_map_or (may_start_from (view_of s play) h) (option_map standing found) false ≡ true → IsStart s h play
+starts_found s h play None l there e = cc
+starts_found s h play (Some row) l there e =
+    let idle : not (is_some row.running) ≡ true =
+    ap not (sym (runs_same row.running)) ∙ and_left (not (standing_runs (standing row))) (option_map_or (may_start_at (view_of s play) h (standing row)) (next_place row) false) e in
+    starts_at s h play row (next_place row) l there (idle_is row.running idle) refl
+    (and_right (not (standing_runs (standing row))) (option_map_or (may_start_at (view_of s play) h (standing row)) (next_place row) false) e)
+
+pub is_start : (s : State) (h : ℕ) (play : PlayOf) → is_linear play.strategy ≡ true → may_start_in s h play ≡ true → IsStart s h play
+is_start s h play l e =
+    starts_found s h play (slice_get s.rows h) l refl
+    (ap (λ (o : Option Standing). option_map_or (may_start_from (view_of s play) h) o false) (sym (get_standing s.rows h))
+    ∙ and_right (has_room (view_of s play)) (option_map_or (may_start_from (view_of s play) h) (slice_get (map standing s.rows) h) false) e)
+
+-- where nobody runs a place, and all that run are at it, nobody runs
+runs_there : (p : ℕ) (row : HostRow) (x : Option Running) → RunsAt (Some p) row x → ◌≡◌ {A = ℕ} (cond (runs_at p (option_map (λ (r : Running). r.place) x)) 1 0) 0 → is_some x ≡ false
+runs_there p row None h e = refl
+runs_there p row (Some r) h e =
+    let same : nat_eq p r.place ≡ true = (let at : p ≡ r.place = (let both : Some p ≡ Some r.place = h.0 in cc) in eq-eqb p r.place at) in
+    let one : ◌≡◌ {A = ℕ} (cond (nat_eq p r.place) 1 0) 1 = ap (λ (b : Bool). cond b 1 0) same in
+    absurd (omega (arith, one, e))
+
+none_there : (p : ℕ) (rows : List HostRow) → Every (IsWell (Some p)) rows → running_at (runs_in (map standing rows)) p ≡ 0 → list_any is_running rows ≡ false
+none_there p [] all e = refl
+none_there p (row ∷ rows) all e =
+    let on = sum_by-cons (λ (r : Option ℕ). cond (runs_at p r) 1 0) (option_map (λ (r : Running). r.place) row.running) (runs_in (map standing rows)) in
+    none_false (is_running row) (list_any is_running rows) (runs_there p row row.running all.0.0 (omega (arith, on, e))) (none_there p rows all.1 (omega (arith, on, e)))
+
+-- the rows once a host started
+start_facts : (s : State) (h : ℕ) (play : PlayOf) (row : HostRow) → slice_get s.rows h ≡ Some row → facts_at s h ≡ row.facts
+start_facts s h play row there = ap (λ (found : Option HostRow). option_map_or (λ (r : HostRow). r.facts) found no_facts) there
+
+pub start_rows : (plan : PlanOf) (s : State) (h n : ℕ) (play : PlayOf) (p : ℕ) → AreApart plan → slice_get plan.plays n ≡ Some play → AreNumbered 0 s.rows → (start_at plan s h play p).rows ≡ change s.rows h (started plan play p)
+start_rows plan s h n play p apart there numbered =
+    ap (λ (gifts : List Gift). given_to gifts (change s.rows h (progressed plan.inventory play p (items_at (plan_seen plan s) play h (facts_at s h) p)))) (apart.gives n play there p h (items_at (plan_seen plan s) play h (facts_at s h) p))
+    ∙ change_at s.rows h (progressed plan.inventory play p (items_at (plan_seen plan s) play h (facts_at s h) p)) (started plan play p)
+    (λ row found.
+    ap (λ (items : List Item). progressed plan.inventory play p items row)
+    (apart.starts n play there (learnt_by s.rows) h (facts_at s h) p
+    ∙ ap (λ (facts : FactsOf). items_at plan play h facts p) (start_facts s h play row found)
+    ∙ ap (λ (k : ℕ). items_at plan play k row.facts p) (sym (number_at 0 s.rows h row numbered found ∙ (let same : 0 + h ≡ h = omega arith in same)))))
+
+-- what was open for all is fresh
+once_fresh : (s : State) (play : PlayOf) (p : ℕ) (rows : List HostRow) → s.place ≡ Some p → s.rows ≡ rows → Every (IsWell (Some p)) rows → runs_once_at play p ≡ true → is_open_once (view_of s play) p ≡ true → Every (Fresh p) rows
+once_fresh s play p rows current is all once open_once =
+    let nobody : running_at (runs_in (map standing rows)) p ≡ 0 =
+    ap (λ (xs : List HostRow). running_at (runs_in (map standing xs)) p) (sym is)
+    ∙ eqb-true (running_at (runs_in (map standing s.rows)) p) 0 (and_left (nat_eq (running_at (runs_in (map standing s.rows)) p) 0) (not (is_settled play s.rows s.place)) open_once) in
+    let unsettled : is_settled play s.rows s.place ≡ false =
+    not_is (is_settled play s.rows s.place) (and_right (nat_eq (running_at (runs_in (map standing s.rows)) p) 0) (not (is_settled play s.rows s.place)) open_once) in
+    let none : (runs_once_at play p && list_any (has_settled p) rows) ≡ false =
+    sym (ap (λ (place : Option ℕ). option_map_or (is_settled_at play s.rows) place false) current ∙ ap (λ (xs : List HostRow). runs_once_at play p && list_any (has_settled p) xs) is) ∙ unsettled in
+    open_fresh p rows (none_there p rows all nobody) (settled_none (runs_once_at play p) (list_any (has_settled p) rows) once none)
+  where
+    settled_none : (a b : Bool) → a ≡ true → (a && b) ≡ false → b ≡ false
+    settled_none true b e f = f
+    settled_none false b e f = cc
+
+if_once : (b : Bool) (A : Type 0) → (b ≡ true → A) → IfOnce b A
+if_once true A on = on refl
+if_once false A on = tt
+
+start_core : (plan : PlanOf) (f : Fixed) (s : State) (play : PlayOf) (h p : ℕ) → s.place ≡ Some p → IsStart s h play
+    → ((row : HostRow) → slice_get s.rows h ≡ Some row → (row.running ≡ None) × (next_place row ≡ Some p))
+    → (runs_once_at play p ≡ true → (is_open_once (view_of s play) p ≡ true) × (list_any (is_next_at (Some p)) (take h (map standing s.rows)) ≡ false))
+    → Holds play (Some p) s.rows
+    → Holds play (Some p) (change s.rows h (started plan play p))
+    × (in_open plan f s.play (Some p) (record { rows = change s.rows h (started plan play p); later = s.later }) play ≡ in_open plan f s.play (Some p) (record { rows = s.rows; later = s.later }) play)
+start_core plan f s play h p current is at once holds =
+    let fresh : IfOnce (runs_once_at play p) (Every (Fresh p) s.rows × Before p s.rows h) =
+    if_once (runs_once_at play p) (Every (Fresh p) s.rows × Before p s.rows h)
+    (λ o. let all = once_fresh s play p s.rows current refl holds.0 o (once o).0 in (all, first_before p s.rows h all (once o).1)) in (
+      (
+        every_changed (IsWell (Some p)) (started plan play p) s.rows h (λ row found. progressed_well plan.inventory play p (items_at plan play row.host row.facts p) row (at row found).1) holds.0,
+        on_once (runs_once_at play p) (Every (Fresh p) s.rows × Before p s.rows h) (Solo p (change s.rows h (started plan play p))) (λ two. solo_started p (started plan play p) s.rows h two.0 two.1) fresh,
+      ),
+      row_changed plan f s.play p h play s.rows s.later (started plan play p) (on_once (runs_once_at play p) (Every (Fresh p) s.rows × Before p s.rows h) (Before p s.rows h) (λ two. two.1) fresh)
+          (λ row found. start_whole plan f s.play play p row (at row found).0 (at row found).1),
+    )
+
+pub start_keeps : (plan : PlanOf) (f : Fixed) (s : State) (h : ℕ) (play : PlayOf) → AreApart plan → AreNumbered 0 s.rows → open_play plan s ≡ Some play → Holds play s.place s.rows → IsStart s h play → Keeps plan f s (started_in plan s h play)
+start_keeps plan f s h play apart numbered o holds is =
+    let there = opened s.is_open (slice_get plan.plays s.play) play o in
+    let at : (row : HostRow) → slice_get s.rows h ≡ Some row → (row.running ≡ None) × (next_place row ≡ Some is.place) =
+    (λ row found. let same : is.row ≡ row = (let both : Some is.row ≡ Some row = sym is.there ∙ found in cc) in subst (λ (r : HostRow). (r.running ≡ None) × (next_place r ≡ Some is.place)) same (is.idle, is.next)) in
+    let next : next_at s h ≡ Some is.place = ap (λ (found : Option HostRow). option_map_or next_place found None) is.there ∙ is.next in
+    let core = start_core plan f s play h is.place is.current is at is.once (subst (λ (q : Option ℕ). Holds play q s.rows) is.current holds) in
+    let moved = subst
+    (λ (q : Option ℕ). Holds play q (change s.rows h (started plan play is.place))
+    × (in_open plan f s.play q (record { rows = change s.rows h (started plan play is.place); later = s.later }) play ≡ in_open plan f s.play q (record { rows = s.rows; later = s.later }) play))
+    (sym is.current) core in
+    subst (λ (place : Option ℕ). Keeps plan f s (option_map_or (start_at plan s h play) place s)) (sym next)
+    (subst (KeepsRows plan f s) (sym (start_rows plan s h s.play play is.place apart there.1 numbered))
+    (keeps_rows plan f s play (change s.rows h (started plan play is.place)) o moved.0 moved.1))
+
+-- ---- a send, a report: an event of a host that runs
+pub sends_some : (item : ℕ) (x : Option Running) → option_map_or (sends_running item) x false ≡ true → (r : Running) × (x ≡ Some r)
+sends_some item None e = cc
+sends_some item (Some r) e = (r, refl)
+
+pub awaits_some : (ticket : Ticket) (item : ℕ) (x : Option Running) → option_map_or (awaits_running ticket item) x false ≡ true → (r : Running) × (x ≡ Some r)
+awaits_some ticket item None e = cc
+awaits_some ticket item (Some r) e = (r, refl)
+
+-- what such an event's change of the row has to give
+record Unseen (plan : PlanOf) (f : Fixed) (number p : ℕ) (play : PlayOf) (c : HostRow → HostRow) (row : HostRow) : Type 0 where
+  well : IsWell (Some p) (c row)
+  same : complete plan f number play p (c row) ≡ complete plan f number play p row
+
+goes_on_at : (plan : PlanOf) (f : Fixed) (s : State) (play : PlayOf) (h p : ℕ) (c : HostRow → HostRow) (at : HostRow) → slice_get s.rows h ≡ Some at → is_running at ≡ true → Holds play (Some p) s.rows
+    → ((row : HostRow) → slice_get s.rows h ≡ Some row → Unseen plan f s.play p play c row)
+    → Holds play (Some p) (change s.rows h c) × (in_open plan f s.play (Some p) (record { rows = change s.rows h c; later = s.later }) play ≡ in_open plan f s.play (Some p) (record { rows = s.rows; later = s.later }) play)
+goes_on_at plan f s play h p c at found runs holds on = (
+  (
+    every_changed (IsWell (Some p)) c s.rows h (λ row there. (on row there).well) holds.0,
+    on_once (runs_once_at play p) (Solo p s.rows) (Solo p (change s.rows h c)) (λ solo. solo_changed p c s.rows h at solo found runs) holds.1,
+  ),
+  row_changed plan f s.play p h play s.rows s.later c (on_once (runs_once_at play p) (Solo p s.rows) (Before p s.rows h) (λ solo. running_first p s.rows h at solo found runs) holds.1)
+      (λ row there. (on row there).same),
+)
+
+goes_on : (plan : PlanOf) (f : Fixed) (s : State) (play : PlayOf) (h p : ℕ) (c : HostRow → HostRow) (at : HostRow) → open_play plan s ≡ Some play → s.place ≡ Some p → slice_get s.rows h ≡ Some at → is_running at ≡ true
+    → Holds play s.place s.rows → ((row : HostRow) → slice_get s.rows h ≡ Some row → Unseen plan f s.play p play c row) → KeepsRows plan f s (change s.rows h c)
+goes_on plan f s play h p c at o current found runs holds on =
+    let core = goes_on_at plan f s play h p c at found runs (subst (λ (q : Option ℕ). Holds play q s.rows) current holds) on in
+    let moved = subst
+    (λ (q : Option ℕ). Holds play q (change s.rows h c)
+    × (in_open plan f s.play q (record { rows = change s.rows h c; later = s.later }) play ≡ in_open plan f s.play q (record { rows = s.rows; later = s.later }) play))
+    (sym current) core in
+    keeps_rows plan f s play (change s.rows h c) o moved.0 moved.1
+
+pub same_row : (one other : HostRow) (found : Option HostRow) → found ≡ Some one → found ≡ Some other → one ≡ other
+same_row one other None e f = cc
+same_row one other (Some row) e f = cc
+
+send_runs : (plan : PlanOf) (f : Fixed) (s : State) (h : ℕ) (ticket : Ticket) (play : PlayOf) (row : HostRow) (r : Running) → open_play plan s ≡ Some play → slice_get s.rows h ≡ Some row → row.running ≡ Some r → Holds play s.place s.rows
+    → Keeps plan f s (sent_in s h ticket play)
+send_runs plan f s h ticket play row r o there runs holds =
+    let well : RunsAt s.place row (Some r) = subst (RunsAt s.place row) runs (every_at (IsWell s.place) s.rows h row holds.0 there).0 in
+    goes_on plan f s play h r.place (sent ticket) row o well.0 there (ap is_some runs) holds
+    (λ other found.
+    let same = same_row row other (slice_get s.rows h) there found in
+    record {
+      well = sent_well (Some r.place) ticket other (subst (λ (q : Option ℕ). IsWell q other) well.0 (every_at (IsWell s.place) s.rows h other holds.0 found));
+      same = send_whole plan f s.play play r.place ticket other r (subst (λ (x : HostRow). x.running ≡ Some r) same runs) well.2;
+    })
+
+pub send_keeps : (plan : PlanOf) (f : Fixed) (s : State) (h item : ℕ) (ticket : Ticket) (play : PlayOf) → open_play plan s ≡ Some play → may_send_in s h item ticket play ≡ true → Holds play s.place s.rows → Keeps plan f s (sent_in s h ticket play)
+send_keeps plan f s h item ticket play o may holds =
+    let sends = and_right (not s.stopped && (ticket.0 == s.sends)) (at_row (may_send_item item) s.rows h) may in
+    let at = found_in (may_send_item item) (slice_get s.rows h) sends in
+    let some = sends_some item at.0.running at.2 in
+    send_runs plan f s h ticket play at.0 some.0 o at.1 some.1 holds
+
+-- ---- a report
+told_same : (plan : PlanOf) (s : State) (n : ℕ) (play : PlayOf) (row : HostRow) (x : Option Running) → AreApart plan → slice_get plan.plays n ≡ Some play → SameTold (plan_seen plan s) plan play row x
+told_same plan s n play row None apart there = tt
+told_same plan s n play row (Some r) apart there = λ value item. apart.tells n play there (learnt_by s.rows) row.host row.facts r.place value item
+
+told_found : (plan : PlanOf) (s : State) (n : ℕ) (play : PlayOf) (found : Option HostRow) → AreApart plan → slice_get plan.plays n ≡ Some play → IfSome found (λ row. SameTold (plan_seen plan s) plan play row row.running)
+told_found plan s n play None apart there = tt
+told_found plan s n play (Some row) apart there = told_same plan s n play row row.running apart there
+
+gives_run : (plan seen : PlanOf) (n : ℕ) (play : PlayOf) (outcome : Form) (h : ℕ) (row : HostRow) (x : Option Running) → AreApart plan → slice_get plan.plays n ≡ Some play → seen.inventory ≡ plan.inventory
+    → option_map_or (gifts_by seen play outcome h row) x [] ≡ []
+gives_run plan seen n play outcome h row None apart there is = refl
+gives_run plan seen n play outcome h row (Some r) apart there is =
+    ap (λ (inventory : InventoryOf). gifts_at inventory play r.place h (items_after seen play row.host row.facts outcome r)) is
+    ∙ apart.gives n play there r.place h (items_after seen play row.host row.facts outcome r)
+
+gives_none : (plan seen : PlanOf) (n : ℕ) (play : PlayOf) (outcome : Form) (h : ℕ) (found : Option HostRow) → AreApart plan → slice_get plan.plays n ≡ Some play → seen.inventory ≡ plan.inventory
+    → option_map_or (gifts_of seen play outcome h) found [] ≡ []
+gives_none plan seen n play outcome h None apart there is = refl
+gives_none plan seen n play outcome h (Some row) apart there is = gives_run plan seen n play outcome h row row.running apart there is
+
+pub report_rows : (plan : PlanOf) (s : State) (r : Report) (n : ℕ) (play : PlayOf) → AreApart plan → slice_get plan.plays n ≡ Some play → (reported_in plan s r play).rows ≡ change s.rows r.host.0 (reported plan play r.outcome)
+report_rows plan s r n play apart there =
+    ap (λ (gifts : List Gift). given_to gifts (change s.rows r.host.0 (reported (plan_seen plan s) play r.outcome))) (gives_none plan (plan_seen plan s) n play r.outcome r.host.0 (slice_get s.rows r.host.0) apart there refl)
+    ∙ rows_same (plan_seen plan s) plan refl play r.outcome s.rows r.host.0 (slice_get s.rows r.host.0) refl (told_found plan s n play (slice_get s.rows r.host.0) apart there)
+
+-- what is fixed for the job is what is fixed for the row's next job
+pub fixed_row : (plan : PlanOf) (f : Fixed) (s : State) (r : Report) (play : PlayOf) (row : HostRow) → open_play plan s ≡ Some play → slice_get s.rows r.host.0 ≡ Some row → AreNumbered 0 s.rows → r.outcome ≡ outcome_of f (job_of plan s r.host r.ticket)
+    → r.outcome ≡ outcome_for plan f s.play play row
+fixed_row plan f s r play row o there numbered is =
+    is
+    ∙ ap (λ (found : Option PlayOf). outcome_of f (option_map_or (job_in plan s r.host r.ticket) found None)) o
+    ∙ ap (λ (found : Option HostRow). outcome_of f (option_map_or (row_job plan s.play r.host r.ticket play) found None)) there
+    ∙ any_ticket plan f s.play r.host r.ticket play row (number_at 0 s.rows r.host.0 row numbered there ∙ (let same : 0 + r.host.0 ≡ r.host.0 = omega arith in same))
+
+report_runs : (plan : PlanOf) (f : Fixed) (s : State) (r : Report) (play : PlayOf) (row : HostRow) (t : Running) → AreApart plan → AreNumbered 0 s.rows → open_play plan s ≡ Some play → slice_get s.rows r.host.0 ≡ Some row → row.running ≡ Some t
+    → r.outcome ≡ outcome_of f (job_of plan s r.host r.ticket) → Holds play s.place s.rows → Keeps plan f s (reported_in plan s r play)
+report_runs plan f s r play row t apart numbered o there runs is holds =
+    let well : RunsAt s.place row (Some t) = subst (RunsAt s.place row) runs (every_at (IsWell s.place) s.rows r.host.0 row holds.0 there).0 in
+    let opens = opened s.is_open (slice_get plan.plays s.play) play o in
+    subst (KeepsRows plan f s) (sym (report_rows plan s r s.play play apart opens.1))
+    (goes_on plan f s play r.host.0 t.place (reported plan play r.outcome) row o well.0 there (ap is_some runs) holds
+    (λ other found.
+    let same = same_row row other (slice_get s.rows r.host.0) there found in
+    record {
+      well = reported_well plan play r.outcome t.place other (subst (λ (q : Option ℕ). IsWell q other) well.0 (every_at (IsWell s.place) s.rows r.host.0 other holds.0 found));
+      same =
+          report_whole plan f s.play play r.outcome other t (subst (λ (x : HostRow). x.running ≡ Some t) same runs) (subst (λ (x : HostRow). next_place x ≡ Some t.place) same well.1) well.2
+          (fixed_row plan f s r play other o found numbered is);
+    }))
+
+pub report_keeps : (plan : PlanOf) (f : Fixed) (s : State) (r : Report) (play : PlayOf) → AreApart plan → AreNumbered 0 s.rows → open_play plan s ≡ Some play → may_report_in s r play ≡ true
+    → r.outcome ≡ outcome_of f (job_of plan s r.host r.ticket) → Holds play s.place s.rows → Keeps plan f s (reported_in plan s r play)
+report_keeps plan f s r play apart numbered o may is holds =
+    let at = found_in (awaits r.ticket r.item) (slice_get s.rows r.host.0) may in
+    let some = awaits_some r.ticket r.item at.0.running at.2 in
+    report_runs plan f s r play at.0 some.0 apart numbered o at.1 some.1 is holds

@@ -1,0 +1,49 @@
+-- The whole effect of a task on one host, where what comes of its jobs is fixed: the host starts it, and each of its items comes back at once.
+use Rattle.std.specs.Prelude.{ℕ, zero, suc, List, [], ◌∷◌, Option, Some, None, if◌then◌else◌}
+use Rattle.pb_outcome.specs.declared.item.Item.{Item}
+use Rattle.pb_outcome.specs.declared.outcome.Form.{Form}
+use Rattle.pb_outcome.specs.Items.{waits}
+use Rattle.pb_plan.specs.Plan.{PlayOf, PlanOf}
+use Rattle.pb_sight.specs.Results.{items_at}
+use Rattle.pb_one_host.specs.declared.row.Running.{Running}
+use Rattle.pb_one_host.specs.Row.{HostRow, is_at, progressed, reported}
+use Rattle.pb_state.specs.Jobs.{row_job}
+use Rattle.pb_confluence.specs.Fixed.{Fixed, outcome_of}
+
+-- how many items are still to come back
+abbrev pub waiting_count : List Item → ℕ
+waiting_count [] = zero
+waiting_count (item ∷ items) = if waits item then suc (waiting_count items) else waiting_count items
+
+-- what comes of the next job of a host; which ticket it has is nothing to it
+abbrev pub outcome_for : PlanOf → Fixed → ℕ → PlayOf → HostRow → Form
+outcome_for plan f number play row = outcome_of f (row_job plan number (record { 0 = row.host }) (record { 0 = zero }) play row)
+
+-- the next item of the task that a host runs comes back
+abbrev pub item_back : PlanOf → Fixed → ℕ → PlayOf → HostRow → HostRow
+item_back plan f number play row = reported plan play (outcome_for plan f number play row) row
+
+-- and so many of them, one after another; where the task has ended nothing comes back
+abbrev pub items_back : PlanOf → Fixed → ℕ → PlayOf → ℕ → HostRow → HostRow
+items_back plan f number play zero row = row
+items_back plan f number play (suc n) row = items_back plan f number play n (item_back plan f number play row)
+
+-- what a host runs comes to its end
+abbrev pub settled : PlanOf → Fixed → ℕ → PlayOf → Option Running → HostRow → HostRow
+settled plan f number play None row = row
+settled plan f number play (Some r) row = items_back plan f number play (waiting_count r.items) row
+
+-- the task at a place as it starts on a host: what it sees is the plan and what the host has learnt
+abbrev pub started : PlanOf → PlayOf → ℕ → HostRow → HostRow
+started plan play p row = progressed plan.inventory play p (items_at plan play row.host row.facts p) row
+
+abbrev pub whole : PlanOf → Fixed → ℕ → PlayOf → ℕ → HostRow → HostRow
+whole plan f number play p row = settled plan f number play (started plan play p row).running (started plan play p row)
+
+-- what a place does to one host by itself: a host that runs a task ends it, one that stands there starts the task and ends it, and any other is as it was
+abbrev pub completed : PlanOf → Fixed → ℕ → PlayOf → ℕ → Option Running → HostRow → HostRow
+completed plan f number play p None row = if is_at p row then whole plan f number play p row else row
+completed plan f number play p (Some r) row = settled plan f number play (Some r) row
+
+abbrev pub complete : PlanOf → Fixed → ℕ → PlayOf → ℕ → HostRow → HostRow
+complete plan f number play p row = completed plan f number play p row.running row

@@ -1,0 +1,101 @@
+-- Worked runs: whatever the forks, they end in what their hosts reach together; and which plans are independent.
+use Rattle.std.specs.Prelude.{◌≡◌, ℕ, pos, true, false, ◌==◌, List, [], ◌∷◌, map, codes, Some, refl, if◌then◌else◌}
+use Rattle.pb_batches.specs.declared.serial.Entry.TheVariants.{Number}
+use Rattle.pb_expr_syntax.specs.Tree as tree
+use Rattle.pb_outcome.specs.declared.outcome.Form.{Form}
+use Rattle.pb_outcome.specs.declared.outcome.Form.TheVariants.{Ran, Unreachable as NoAnswer}
+use Rattle.pb_places.specs.Place.{PlaceOf, bare_place}
+use Rattle.pb_plan.specs.Plan.{PlanOf, bare_play, bare_tree}
+use Rattle.pb_play.specs.declared.modules.Module.TheVariants.{DebugVar}
+use Rattle.pb_strategies.specs.declared.strategy.Strategy.TheVariants.{Free}
+use Rattle.pb_one_host.specs.declared.row.Counts.{Counts}
+use Rattle.pb_one_host.specs.FactRows.{on_facts}
+use Rattle.pb_one_host.specs.Row.{HostRow, none_counted}
+use Rattle.pb_state.specs.declared.event.Event.{Event}
+use Rattle.pb_state.specs.declared.event.Event.TheVariants.{Open, Report as Reported, Turn, Close, Forks}
+use Rattle.pb_state.specs.Machine.{first_state}
+use Rattle.pb_state.specs.BatchRows.{start, send, went, threes, all_three, led_to, is_legal}
+use Rattle.pb_state.specs.BlockRows.{says, runs}
+use Rattle.pb_confluence.specs.Fixed.{Fixed, IsFixed}
+use Rattle.pb_confluence.specs.Independent.{is_independent, are_linear}
+use Rattle.pb_confluence.specs.Together.{together}
+
+abbrev comes : ℕ → ℕ → Form → Event
+comes h ticket outcome = Reported (record { ticket = record { 0 = ticket }; host = record { 0 = h }; item = 0; outcome = outcome })
+
+abbrev counts : List HostRow → List Counts
+counts rows = map (λ (row : HostRow). row.counts) rows
+
+-- ---- a command whose failure is fatal for all, and then a task: the first host fails
+abbrev fails : Fixed
+fails asked = if asked.host == 0 then Ran (pos 1) [] [] else Ran (pos 0) [] []
+
+abbrev fatal : ℕ → PlanOf
+fatal forks = threes forks (bare_play (codes "all") (bare_tree 0 2 0) (record runs { any_errors_fatal = true } ∷ says ∷ []) all_three ∷ [])
+
+abbrev one_by_one : List Event
+one_by_one = Open ∷ start 0 ∷ send 0 0 ∷ comes 0 0 (Ran (pos 1) [] []) ∷ start 1 ∷ send 1 1 ∷ went 1 1 ∷ start 2 ∷ send 2 2 ∷ went 2 2 ∷ Turn ∷ Close ∷ []
+
+abbrev all_at_once : List Event
+all_at_once = Open ∷ start 2 ∷ send 2 0 ∷ start 0 ∷ start 1 ∷ send 1 1 ∷ went 1 1 ∷ send 0 2 ∷ comes 0 2 (Ran (pos 1) [] []) ∷ went 2 0 ∷ Turn ∷ Close ∷ []
+
+together_fatal : counts (together (fatal 1) fails) ≡ record none_counted { failed = 1 } ∷ record none_counted { ok = 1; changed = 1 } ∷ record none_counted { ok = 1; changed = 1 } ∷ []
+unfolding on_facts
+together_fatal = refl
+
+fatal_one : (is_legal (fatal 1) one_by_one ≡ true) × ((led_to (fatal 1) one_by_one).rows ≡ together (fatal 1) fails)
+unfolding on_facts
+fatal_one = (refl, refl)
+
+fatal_all : (is_legal (fatal 256) all_at_once ≡ true) × ((led_to (fatal 256) all_at_once).rows ≡ together (fatal 1) fails)
+unfolding on_facts
+fatal_all = (refl, refl)
+
+-- ---- a task that runs once in each batch of two: the first host of the first batch is out of reach, so the second one runs it for all
+abbrev out_of_reach : Fixed
+out_of_reach asked = if asked.host == 0 then NoAnswer [] else Ran (pos 0) (codes "A") []
+
+abbrev once : PlaceOf
+once = record runs { run_once = true; task = record runs.task { register = Some (codes "r") } }
+
+abbrev for_all : PlanOf
+for_all = threes 5 (record (bare_play (codes "all") (bare_tree 0 2 0) (once ∷ says ∷ []) all_three) { serial = Number (pos 2) ∷ [] } ∷ [])
+
+abbrev for_all_run : List Event
+for_all_run =
+    Open ∷ start 0 ∷ send 0 0 ∷ comes 0 0 (NoAnswer []) ∷ Forks 1 ∷ start 1 ∷ send 1 1 ∷ comes 1 1 (Ran (pos 0) (codes "A") []) ∷ Turn ∷ start 1 ∷ Turn ∷ Close
+    ∷ Open ∷ start 2 ∷ send 2 2 ∷ comes 2 2 (Ran (pos 0) (codes "A") []) ∷ Turn ∷ start 2 ∷ Turn ∷ Close ∷ []
+
+abbrev for_all_counts : List Counts
+for_all_counts = record none_counted { unreachable = 1 } ∷ record none_counted { ok = 2; changed = 1 } ∷ record none_counted { ok = 2; changed = 1 } ∷ []
+
+for_all_ends : (is_legal for_all for_all_run ≡ true) × (counts (led_to for_all for_all_run).rows ≡ for_all_counts) × (counts (together for_all out_of_reach) ≡ for_all_counts)
+unfolding on_facts
+for_all_ends = (refl, refl, refl)
+
+-- and it is a run under these outcomes
+for_all_fixed : IsFixed for_all out_of_reach (first_state for_all 5 256) (Open ∷ start 0 ∷ send 0 0 ∷ comes 0 0 (NoAnswer []) ∷ [])
+unfolding on_facts
+for_all_fixed = (tt, (tt, (tt, (refl, tt))))
+
+-- ---- which plans are independent, and linear
+abbrev names_hosts : PlaceOf
+names_hosts = bare_place (codes "debug") (DebugVar (codes "hostvars") (tree.Name (codes "hostvars")))
+
+-- a key behind a dot is no name
+abbrev names_member : PlaceOf
+names_member = bare_place (codes "debug") (DebugVar (codes "x.hostvars") (tree.Member (tree.Name (codes "x")) (codes "hostvars")))
+
+abbrev one_task : PlaceOf → PlanOf
+one_task place = threes 5 (bare_play (codes "all") (bare_tree 0 1 0) (place ∷ []) all_three ∷ [])
+
+independent : (is_independent for_all ≡ true) × (is_independent (fatal 1) ≡ true) × (is_independent (one_task names_member) ≡ true) × (is_independent (one_task names_hosts) ≡ false)
+    × (is_independent (one_task (record says { delegate_facts = true })) ≡ false)
+unfolding on_facts
+independent = (refl, refl, refl, refl, refl)
+
+abbrev free : PlanOf
+free = threes 5 (record (bare_play (codes "all") (bare_tree 0 1 0) (says ∷ []) all_three) { strategy = Free } ∷ [])
+
+linear : (are_linear for_all ≡ true) × (are_linear free ≡ false)
+linear = (refl, refl)

@@ -1,0 +1,46 @@
+//! However many hosts run at once, a run ends in the same.
+//!
+//! For the layers above: each function here does nothing, and its contract is a law of whole runs under fixed outcomes (`specs/Confluence.antt`). Where all
+//! plays are linear and no host knows of another (`specs/Independent.antt`), and what comes of each job is given by the job (`specs/Fixed.antt`), every
+//! finished run that wasn't stopped ends in what the hosts reach together (`specs/Together.antt`), whatever its forks, its choices and its order of reports.
+#![tactic(auto)]
+
+ghost use Rattle.pb_confluence.specs.Confluence.{EndsTogether, CountsTogether, EndAlike};
+ghost use Rattle.pb_confluence.specs.Alone.{EndsAlone, StrategiesAgree};
+ghost use Rattle.pb_confluence.specs.Local.{EventsAreLocal};
+
+/// In an independent plan a start, a send and a report of a host change this host's row alone, to what the plan, the play, the row and the event make of it.
+#[tactic(auto, using(crate::proofs::Local::events_are_local))]
+pub fn events_are_local()
+    ensures { EventsAreLocal }
+{}
+
+/// A finished run that wasn't stopped, of a linear and independent plan under fixed outcomes, ends in the rows that its hosts reach together.
+#[tactic(auto, using(crate::proofs::Ends::ends_together))]
+pub fn ends_together()
+    ensures { EndsTogether }
+{}
+
+/// The recap of such a run is what its hosts count together.
+#[tactic(auto, using(crate::proofs::Forks::counts_together))]
+pub fn counts_together()
+    ensures { CountsTogether }
+{}
+
+/// Two such runs, of plans that differ in forks alone, end with the same facts of each host and the same recap.
+#[tactic(auto, using(crate::proofs::Forks::end_alike))]
+pub fn end_alike()
+    ensures { EndAlike }
+{}
+
+/// Where no host has an effect on others, such a run, under any strategies, gives each host the facts and counts that it reaches alone.
+#[tactic(auto, using(crate::proofs::AloneEnds::ends_alone))]
+pub fn ends_alone()
+    ensures { EndsAlone }
+{}
+
+/// So whole runs of plans that differ in strategies, in sizes of batches and in forks give each host the same facts and counts.
+#[tactic(auto, using(crate::proofs::Orders::strategies_agree))]
+pub fn strategies_agree()
+    ensures { StrategiesAgree }
+{}
