@@ -388,7 +388,8 @@ pub fn play_bundle<L: Launcher, O: LineOut, E: LineOut>(
 }
 
 /// What holds of each trail that `play_bundle` hands out, be it of a whole run or of one that couldn't go on: it is a legal run
-/// of a plan of the bundle. So where its text is looked at with the same bundle it is called legal, unless memory is refused.
+/// of a plan of the bundle. An audit of its text with the same bundle asks this very thing of the plan that it makes; that a
+/// bundle has only one plan isn't proved.
 #[tactic(auto, using(crate::proofs::Trails::trails_are_legal))]
 pub fn trails_are_legal()
     ensures { TrailsAreLegal }

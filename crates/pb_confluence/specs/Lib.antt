@@ -5,4 +5,5 @@ pub mod Independent
 pub mod Confluence
 pub mod Rows
 pub mod Alone
+pub mod AloneRows
 pub mod Local

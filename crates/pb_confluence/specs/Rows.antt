@@ -20,14 +20,14 @@ use Rattle.pb_confluence.specs.Fixed.{Fixed, IsFixed}
 use Rattle.pb_confluence.specs.Independent.{is_independent, are_linear}
 use Rattle.pb_confluence.specs.Together.{together}
 
-abbrev comes : ℕ → ℕ → Form → Event
+abbrev pub comes : ℕ → ℕ → Form → Event
 comes h ticket outcome = Reported (record { ticket = record { 0 = ticket }; host = record { 0 = h }; item = 0; outcome = outcome })
 
-abbrev counts : List HostRow → List Counts
+abbrev pub counts : List HostRow → List Counts
 counts rows = map (λ (row : HostRow). row.counts) rows
 
 -- ---- a command whose failure is fatal for all, and then a task: the first host fails
-abbrev fails : Fixed
+abbrev pub fails : Fixed
 fails asked = if asked.host == 0 then Ran (pos 1) [] [] else Ran (pos 0) [] []
 
 abbrev fatal : ℕ → PlanOf
