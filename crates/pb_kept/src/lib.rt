@@ -1,4 +1,4 @@
-//! Plays of the program into memory, for tests and cases.
+//! Plays of the program into memory, for tests.
 //!
 //! For the layers above: `Kept` is a writer that keeps what it takes, and can be told to take little at a time or to fail;
 //! `play_words` and `play_texts` play the program's words and give what they showed.
