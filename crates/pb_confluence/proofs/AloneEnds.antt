@@ -460,7 +460,8 @@ pub ends_alone : EndsAlone
 ends_alone plan f pool trail s uncoupled independent run early h row found =
     let free : AreFree plan = all_free plan.plays uncoupled in
     let first : IsGood plan (first_state plan plan.forks pool) = (
-      (first_right 0 (length plan.inventory.hosts), first_waits 0 (length plan.inventory.hosts)), along_first plan plan.forks pool run.some,
+      (first_right 0 (length plan.inventory.hosts), first_waits 0 (length plan.inventory.hosts)),
+      along_first plan plan.forks pool run.some,
     ) in
     let kept = trail_keeps plan f (first_state plan plan.forks pool) trail free (apart_of plan independent) first run.run.legal run.is_fixed in
     let good : IsGood plan s = subst (IsGood plan) run.run.ends kept.0 in

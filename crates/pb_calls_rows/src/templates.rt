@@ -1,0 +1,57 @@
+//! A template that is rendered.
+
+use pb_expr_eval::eval::render;
+use pb_layers::layers::{Layers, Magic};
+use pb_layers::scope::Scope;
+use pb_template::template::Template;
+use pb_value::text::Text;
+use pb_value::val::{Dict, Val};
+use std::alloc::Global;
+use std::test::Fail;
+
+/// What a template gives where only a play has variables, as a text.
+fn rendered(alloc: Global, variables: &Dict, text: &str) -> Result<String, Fail> {
+    let none = Dict::new(alloc);
+    let layers = Layers {
+        role_defaults: &none,
+        group_variables: &none,
+        host_variables: &none,
+        host_facts: &none,
+        play_variables: variables,
+        role_variables: &none,
+        block_variables: &none,
+        task_variables: &none,
+        set_facts: &none,
+        role_parameters: &none,
+        extra_variables: &none,
+    };
+    let magic = Magic {
+        host: &none,
+        play: &none,
+        plan: &none,
+        hosts: &none,
+    };
+    let Ok(template) = Template::parse(alloc, text) else {
+        return Err(Fail::new("a template"));
+    };
+    match render(alloc, &template, &Scope::new(&layers, &magic, &none)) {
+        Ok(value) => Ok(value.text_of(alloc)?),
+        Err(_) => Err(Fail::new("a value")),
+    }
+}
+
+#[test]
+fn a_template(rt: HostRuntime) -> Result<(), Fail> {
+    let alloc = rt.alloc();
+    let mut variables = Dict::new(alloc);
+    variables.put(alloc, "name", Val::text(Text::from_str(alloc, "web1")?))?;
+    assert_eq!(rt;
+        rendered(alloc, &variables, "host {{ name }}!")?.as_str(),
+        "host web1!"
+    );
+    assert_eq!(rt;
+        rendered(alloc, &variables, "{{ name ~ '.lan' }}")?.as_str(),
+        "web1.lan"
+    );
+    Ok(())
+}
