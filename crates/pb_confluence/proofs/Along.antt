@@ -1,5 +1,5 @@
 -- What holds in each state of a run, by the laws of the machine; and that a report tells of a job.
-use Rattle.std.proofs.Common.{◌≡◌, ◌<◌, ◌∙◌, ℕ, Bool, true, false, List, [], ◌∷◌, refl, ap}
+use Rattle.std.proofs.Common.{◌≡◌, ◌<◌, ◌∙◌, ℕ, true, false, List, [], ◌∷◌, refl, ap}
 use Rattle.std.specs.Prelude.{Option, Some, None, IfSome, is_some, slice_get}
 use Rattle.std.specs.Option.{option_map_or}
 use Rattle.pb_outcome.specs.declared.job.Job.{Job}
@@ -17,7 +17,7 @@ use Rattle.pb_state.specs.Run.{state_from}
 use Rattle.pb_state.specs.State.{State}
 use Rattle.pb_state.specs.Walks.{AreNumbered}
 use Rattle.pb_state.proofs.Steps.{forks_stay}
-use Rattle.pb_state.proofs.Walks.{AllIn, IsOfPlan, first_of, step_of, rows_stay}
+use Rattle.pb_state.proofs.Walks.{IsOfPlan, first_of, step_of, rows_stay}
 use Rattle.pb_engine.proofs.Held.{IsHeld, held_run, step_held}
 use Rattle.pb_engine.proofs.Waits.{runs_job}
 use Rattle.pb_confluence.specs.Confluence.{with_forks}

@@ -1,5 +1,5 @@
 -- What a host reaches alone hangs neither on strategies nor on the sizes of batches.
-use Rattle.std.proofs.Common.{◌≡◌, ℕ, zero, suc, ◌+◌, Bool, true, List, [], ◌∷◌, map, refl, sym, ◌∙◌, ap}
+use Rattle.std.proofs.Common.{◌≡◌, ℕ, zero, suc, ◌+◌, true, List, [], ◌∷◌, map, refl, sym, ◌∙◌, ap}
 use Rattle.std.specs.Prelude.{Option, Some, None, if◌then◌else◌}
 use Rattle.pb_tree.specs.Tree.{size_of}
 use Rattle.pb_plan.specs.Plan.{PlayOf, PlanOf}

@@ -9,7 +9,7 @@ use Rattle.pb_strategies.specs.declared.strategy.Strategy.{Strategy}
 use Rattle.pb_strategies.specs.declared.strategy.Strategy.TheVariants.{Linear, Free}
 use Rattle.pb_one_host.specs.declared.row.Counts.{Counts}
 use Rattle.pb_one_host.specs.FactRows.{on_facts}
-use Rattle.pb_one_host.specs.Row.{HostRow, none_counted}
+use Rattle.pb_one_host.specs.Row.{none_counted}
 use Rattle.pb_state.specs.declared.event.Event.{Event}
 use Rattle.pb_state.specs.declared.event.Event.TheVariants.{Open, Turn, Close}
 use Rattle.pb_state.specs.BatchRows.{start, send, went, threes, all_three, led_to, is_legal}
