@@ -1,5 +1,7 @@
 //! What hosts learn, kept for all of them in one book.
 
+ghost use Rattle.std.specs.Prelude.{◌≡◌, length, OnOk};
+
 use pb_facts::book::FactBook;
 use pb_ids::HostNo;
 use pb_value::text::Text;
