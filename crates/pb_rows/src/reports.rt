@@ -10,7 +10,7 @@ use std::alloc::Global;
 use std::test::Fail;
 
 const COMMAND: &str =
-    "[{\"hosts\":\"all\",\"gather_facts\":false,\"tasks\":[{\"command\":\"run it\"}]}]";
+    "[{\"hosts\":\"all\",\"gather_facts\":false,\"tasks\":[{\"command\":\"run it\",\"register\":\"r\"}]}]";
 
 /// An engine over two hosts with a command, under one fork.
 fn engine_of(alloc: Global) -> Result<Engine, Fail> {
@@ -79,5 +79,48 @@ fn reports_that_are_refused(rt: HostRuntime) -> Result<(), Fail> {
             "{ticket} {host} {item}"
         );
     }
+    Ok(())
+}
+
+/// What host a has registered, as a text; nothing, where there is none.
+fn learnt(alloc: Global, engine: &Engine) -> Result<String, Fail> {
+    if engine.plan().host_count() == 0 {
+        return Err(Fail::new("a host"));
+    }
+    match engine.facts(HostNo(0)).set_layer().get("r") {
+        Some(result) => Ok(result.text_of(alloc)?),
+        None => Ok(String::new(alloc)),
+    }
+}
+
+/// Gives the engine host a's report, with what its program wrote. Whether it is taken.
+fn is_taken(engine: &mut Engine, alloc: Global, out: &str) -> Result<bool, Fail> {
+    let outcome = match Outcome::ran(0, Text::from_str(alloc, out)?, Text::new(alloc)) {
+        Ok(outcome) => outcome,
+        Err(_) => return Err(Fail::new("an outcome")),
+    };
+    let report = Report {
+        ticket: Ticket(0),
+        host: HostNo(0),
+        item: 0,
+        outcome,
+    };
+    Ok(engine.absorb(report).is_ok())
+}
+
+/// A second report of a job teaches its host nothing.
+#[test]
+fn facts_as_after_one(rt: HostRuntime) -> Result<(), Fail> {
+    let alloc = rt.alloc();
+    let mut engine = engine_of(alloc)?;
+    for _ in 0..10 {
+        let _ = sent(&mut engine);
+    }
+    assert!(rt; learnt(alloc, &engine)?.is_empty());
+    assert!(rt; is_taken(&mut engine, alloc, "one")?);
+    let once = learnt(alloc, &engine)?;
+    assert!(rt; once.as_str().contains("\"stdout\":\"one\""));
+    assert!(rt; !is_taken(&mut engine, alloc, "two")?);
+    assert_eq!(rt; learnt(alloc, &engine)?.as_str(), once.as_str());
     Ok(())
 }
