@@ -3,6 +3,9 @@
 //! For the layers above: each function here does nothing, and its contract is a law of whole runs under fixed outcomes (`specs/Confluence.antt`). Where all
 //! plays are linear and no host knows of another (`specs/Independent.antt`), and what comes of each job is given by the job (`specs/Fixed.antt`), every
 //! finished run that wasn't stopped ends in what the hosts reach together (`specs/Together.antt`), whatever its forks, its choices and its order of reports.
+//! A law has no body that could be wrong, but the definitions on which it rests could be. Each of these wrong ones (`wrong-bodies/`) is refused, by the
+//! law's proof or by a worked row: every host runs a task that runs once; a turn halts nobody; a turn comes where nobody stands; a run that was stopped counts as
+//! whole; a message may name `hostvars`; a failure that is fatal for all leaves hosts alone; a run that ended while a batch was left counts for hosts alone.
 #![tactic(auto)]
 
 ghost use Rattle.pb_confluence.specs.Confluence.{EndsTogether, CountsTogether, EndAlike};
