@@ -12,3 +12,5 @@ pub mod AllClosed
 pub mod Leaving
 pub mod Ending
 pub mod StayingOut
+pub mod OutJobs
+pub mod JobsStay

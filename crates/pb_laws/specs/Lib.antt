@@ -2,3 +2,5 @@ pub mod History
 pub mod Laws
 pub mod Kept
 pub mod Rows
+pub mod JobsOut
+pub mod JobsOutRows

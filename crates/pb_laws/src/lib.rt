@@ -7,6 +7,7 @@
 #![tactic(auto)]
 
 ghost use Rattle.pb_laws.specs.Laws.{Always, AtTheEnd, own_hosts, within_forks, in_order, places_rise, out_is_out, have_walked, all_closed, jobs_in_order, all_answered, RecapAddsUp};
+ghost use Rattle.pb_laws.specs.JobsOut.{RunsFitWorkers};
 ghost use Rattle.pb_laws.specs.Kept.{RunsKeepLaws};
 
 /// A host starts a task of a play only if the play's pattern and the limit select it, and only in a batch that it is in; and no host is in
@@ -56,4 +57,10 @@ pub fn recap_adds_up()
 /// Every legal trail of a plan keeps all of these laws.
 pub fn runs_keep_laws()
     ensures { RunsKeepLaws }
+{}
+
+/// What a run owes whoever runs its jobs, where there are at least as many workers as the plan has forks: no more hosts run, and no more jobs are out, than there are
+/// workers, and fewer where a job may go out; a job that is out stays what it is until its host reports; and the report of a job that is out may come.
+pub fn runs_fit_their_workers()
+    ensures { RunsFitWorkers }
 {}
