@@ -868,6 +868,9 @@ impl EngineState {
     /// How many jobs were sent.
     pub fn sends(&self) -> u64
         ensures value { result ≡ self.now.sends }
+
+        // A ticket and two bits more fit into 64 bits, wherever a job is sent.
+        ensures few { self.now.is_open ≡ true → result < 2 ^ 62 }
     {
         self.sends
     }
