@@ -5,3 +5,4 @@ pub mod Fronts
 pub mod Going
 pub mod Legal
 pub mod NoNewline
+pub mod Pools

@@ -6,6 +6,8 @@
 //! Only want of memory may come in the place of each of these answers.
 #![tactic(auto)]
 
+ghost use Rattle.pb_audit.specs.Larger.{LargerPoolsAllow};
+
 mod auditing;
 mod fault;
 mod lines;
@@ -18,3 +20,9 @@ pub use fault::{AuditFault, TrailFault};
 pub use name::EventName;
 pub use reading::read_trail;
 pub use writing::trail_text;
+
+/// What holds of every trail: where it is legal with some workers it is legal with more, and leads to the same state but for their number.
+/// So the trail of a run by a few workers passes its audit.
+pub fn larger_pools_allow_as_much()
+    ensures { LargerPoolsAllow }
+{}
