@@ -1,5 +1,5 @@
 -- Commands: one that is in range is possible, and it is known whether a run is at its end.
-use Rattle.std.proofs.Common.{◌≡◌, ℕ, zero, suc, Bool, true, false, ◌&&◌, ◌||◌, not, List, [], ◌∷◌, ◌++◌, length, map, replicate, refl, sym, ◌∙◌, ap, ◌⊎◌, inl, inr}
+use Rattle.std.proofs.Common.{◌≡◌, ℕ, zero, suc, Bool, true, false, ◌&&◌, not, List, [], ◌∷◌, length, replicate, refl, sym, ◌∙◌, ap, inl, inr}
 use Rattle.std.specs.Prelude.{◌==◌, Option, Some, None, slice_get, is_none}
 use Rattle.std.specs.List.{list_any}
 use Rattle.std.specs.Option.{option_map_or}
@@ -7,7 +7,6 @@ use Rattle.std.proofs.lemmas.Bool.{eq-eqb}
 use Rattle.pb_ids.specs.declared.numbers.HostNo.{HostNo}
 use Rattle.pb_ids.specs.declared.numbers.Ticket.{Ticket}
 use Rattle.pb_planes.specs.Set.{has_some}
-use Rattle.pb_outcome.specs.Items.{is_over}
 use Rattle.pb_plan.specs.Plan.{PlayOf, PlanOf}
 use Rattle.pb_state.specs.declared.event.Event.{Event}
 use Rattle.pb_state.specs.declared.event.Event.TheVariants.{Open, Start, Send, Turn, Close}
@@ -16,8 +15,8 @@ use Rattle.pb_one_host.specs.Row.{HostRow}
 use Rattle.pb_state.specs.State.{State}
 use Rattle.pb_one_host.specs.Runs.{has_send, is_next, sends_running, may_send_item, is_out}
 use Rattle.pb_all_hosts.specs.Hosts.{at_row}
-use Rattle.pb_state.specs.Machine.{possible, ready, ready_in, may_start_in, may_send_in, open_play, first_state}
-use Rattle.pb_state.specs.Run.{state_from, IsRun, IsFinished}
+use Rattle.pb_state.specs.Machine.{possible, ready, ready_in, may_start_in, may_send_in, open_play}
+use Rattle.pb_state.specs.Run.{IsRun, IsFinished}
 use Rattle.pb_one_host.proofs.InOrder.{goes_on_at}
 use Rattle.pb_state.proofs.Readies.{ready_either}
 use Rattle.pb_state.proofs.Stands.{both}

@@ -27,7 +27,7 @@ use Rattle.pb_sight.specs.declared.gifts.Gift.{Gift}
 use Rattle.pb_all_hosts.proofs.Giving.{given_keeps, length-given}
 use Rattle.pb_all_hosts.specs.Hosts.{change, at_row}
 use Rattle.pb_all_hosts.specs.Giving.{takes, given_to, gifts_at, report_gives}
-use Rattle.pb_state.specs.Machine.{possible, after, open_play, same_place, may_start_in, may_send_in, opened_by, after_open, started_in, next_at, facts_at, plan_seen, start_at, sent_in, reported_in, batch_of, turned_in, first_state}
+use Rattle.pb_state.specs.Machine.{possible, after, open_play, same_place, may_start_in, may_send_in, after_open, started_in, next_at, facts_at, plan_seen, start_at, sent_in, reported_in, batch_of, turned_in, first_state}
 use Rattle.pb_state.specs.Run.{legal_from, state_from, IsRun}
 use Rattle.pb_all_hosts.proofs.Batching.{length-joined}
 use Rattle.pb_all_hosts.proofs.FirstRows.{length-first}

@@ -1,9 +1,9 @@
 -- A state in which no host is ready, and no turn, close or open is possible, is quiet; and finished, if no job is out.
-use Rattle.std.proofs.Common.{◌≡◌, ℕ, Bool, true, false, ◌&&◌, ◌||◌, not, List, [], ◌∷◌, length, map, replicate, refl, sym, ◌∙◌, ap, zero, suc, inl, inr}
+use Rattle.std.proofs.Common.{◌≡◌, ℕ, Bool, true, false, ◌&&◌, ◌||◌, not, List, [], ◌∷◌, length, replicate, refl, sym, ◌∙◌, ap, zero, suc, inl, inr}
 use Rattle.std.specs.Prelude.{◌==◌, Option, Some, None, slice_get, is_some, is_none}
 use Rattle.std.specs.List.{list_any}
 use Rattle.std.specs.Option.{option_map_or}
-use Rattle.std.proofs.lemmas.List.{length-map, length-replicate}
+use Rattle.std.proofs.lemmas.List.{length-replicate}
 use Rattle.std.proofs.lemmas.Bool.{eq-eqb}
 use Rattle.pb_ids.specs.declared.numbers.HostNo.{HostNo}
 use Rattle.pb_ids.specs.declared.numbers.Ticket.{Ticket}

@@ -1,16 +1,14 @@
 -- Jobs that are out in a run.
-use Rattle.std.proofs.Common.{◌≡◌, ℕ, zero, suc, ◌<◌, ◌≤◌, Bool, true, false, ◌&&◌, ◌||◌, not, List, [], ◌∷◌, length, refl, ◌∙◌, ap, subst, arith}
+use Rattle.std.proofs.Common.{◌≡◌, ℕ, zero, suc, ◌<◌, Bool, true, false, ◌&&◌, ◌||◌, not, List, [], ◌∷◌, length, refl, ◌∙◌, ap, arith}
 use Rattle.std.specs.Prelude.{◌==◌, Option, Some, None, slice_get, is_some, option_map, unwrap_or, if◌then◌else◌}
 use Rattle.std.specs.List.{list_any}
 use Rattle.std.specs.Option.{option_map_or}
 use Rattle.std.proofs.lemmas.Bool.{lt-ltb, eqb-true}
-use Rattle.std.proofs.lemmas.Option.{slice_get_within}
 use Rattle.pb_ids.specs.declared.numbers.HostNo.{HostNo}
 use Rattle.pb_ids.specs.declared.numbers.Ticket.{Ticket}
 use Rattle.pb_outcome.specs.declared.job.Call.{Call}
 use Rattle.pb_outcome.specs.declared.job.Job.{Job}
 use Rattle.pb_outcome.specs.declared.job.Report.{Report}
-use Rattle.pb_outcome.specs.declared.outcome.Form.{Form}
 use Rattle.pb_outcome.specs.Items.{next_item}
 use Rattle.pb_tree.specs.Tree.{TreeOf, paths, path_at, size_of}
 use Rattle.pb_tree.proofs.Paths.{length_paths}
@@ -29,10 +27,12 @@ use Rattle.pb_all_hosts.specs.Oldest.{oldest_out}
 use Rattle.pb_state.specs.Run.{is_move, IsRun}
 use Rattle.pb_one_host.proofs.InOrder.{goes_on_at, has_call}
 use Rattle.pb_all_hosts.proofs.OldestOut.{oldest_is_out}
+use Rattle.pb_laws.specs.JobsOut.{IsOut, IsReportOf}
+use Rattle.pb_laws.proofs.JobsStay.{at_found, report_waits}
 use Rattle.pb_engine.proofs.Held.{IsHeld, IsHeldTask, IsOutBelow, AreHeld, places_in, held_run}
 use Rattle.pb_engine.proofs.Quiet.{next_alone}
 use Rattle.pb_engine.specs.declared.refusal.Refusal.TheVariants.{UnknownTicket, AlreadyReported, WrongItem}
-use Rattle.pb_engine.specs.declared.engine.Next.TheVariants.{Sent, Moved}
+use Rattle.pb_engine.specs.declared.engine.Next.TheVariants.{Sent}
 use Rattle.pb_engine.specs.Refusals.{refusal_of, is_sent, is_waited_for, fits}
 use Rattle.pb_engine.specs.Choice.{answer_of}
 
@@ -217,7 +217,18 @@ oldest_taken plan s r held e next =
     let waits = any_at (has_ticket r.ticket) s.rows r.host.0 out in
     all_true (is_sent s r) (is_waited_for s r) (fits s r) (lt-ltb r.ticket.0 s.sends (waits_sent plan s r.ticket held waits)) waits (awaits_at r.ticket r.item (slice_get s.rows r.host.0) next ∙ out)
 
+-- any job that is out is waited for
+out_at : (plan : PlanOf) (s : State) (x : Job) (r : Report) → IsHeld plan s → (row : HostRow) → slice_get s.rows r.host.0 ≡ Some row → has_ticket r.ticket row ≡ true → awaits r.ticket r.item row ≡ true → refusal_of s r ≡ None
+out_at plan s x r held row there ticket awaited =
+    let waits = any_at (has_ticket r.ticket) s.rows r.host.0 (at_found (has_ticket r.ticket) s.rows r.host.0 row there ticket) in
+    all_true (is_sent s r) (is_waited_for s r) (fits s r) (lt-ltb r.ticket.0 s.sends (waits_sent plan s r.ticket held waits)) waits (at_found (awaits r.ticket r.item) s.rows r.host.0 row there awaited)
+
 -- of a run
+pub out_awaited : (plan : PlanOf) (pool : ℕ) (trail : List Event) (s : State) (x : Job) (r : Report) → IsRun plan pool trail s → IsOut plan s x → IsReportOf x r → refusal_of s r ≡ None
+out_awaited plan pool trail s x r run out its =
+    let row = report_waits plan s x r out its in
+    out_at plan s x r (held_run plan pool trail s run) row.0 row.1 row.2 row.3
+
 pub report_in_run : (plan : PlanOf) (pool : ℕ) (trail : List Event) (s : State) (r : Report) → IsRun plan pool trail s → refusal_of s r ≡ None → option_map_or (may_report_in s r) (open_play plan s) false ≡ true
 report_in_run plan pool trail s r run e = report_possible plan s r (held_run plan pool trail s run) e
 

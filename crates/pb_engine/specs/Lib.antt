@@ -6,3 +6,4 @@ pub mod Picking
 pub mod Choice
 pub mod Commands
 pub mod Refusals
+pub mod Awaited

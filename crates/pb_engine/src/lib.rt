@@ -9,6 +9,8 @@
 //! is at its end is never stuck: it was stopped, it ended early, or no batch is open and none is left to open.
 #![tactic(auto)]
 
+ghost use Rattle.pb_engine.specs.Awaited.{JobsOutAreAwaited};
+
 mod choice;
 mod command;
 mod engine;
@@ -21,3 +23,8 @@ pub use engine::{Engine, Next};
 pub use fault::EngineFault;
 pub use picker::{Lowest, Picker, RoundRobin};
 pub use refusal::Refusal;
+
+/// What holds of every run: a report of a job that is out, of its host and its item, is not refused.
+pub fn jobs_that_are_out_are_awaited()
+    ensures { JobsOutAreAwaited }
+{}
