@@ -1,2 +1,1 @@
-pub mod Tickets
 pub mod Numbers

@@ -1,6 +1,5 @@
 use crate::jobs::{job, report_of};
 use crate::row::one_job;
-use crate::run::run;
 use pb_forks::Pool;
 use pb_outcome::cause::Cause;
 use pb_outcome::job::{Allows, Job};
@@ -8,83 +7,8 @@ use pb_outcome::outcome::Outcome;
 use pb_runner::runner::Runner;
 use pb_value::text::Text;
 use std::alloc::Global;
-use std::process::Abort;
-use std::sync::Wait;
-use std::sync::atomic::{AtomicU64, Ordering};
+use std::fs;
 use std::test::Fail;
-use std::thread::Threads;
-use std::{fs, thread};
-
-// A runner that answers only once all have begun, or says so after ten million turns.
-#[derive(Drop)]
-struct Gate<'a> {
-    begun: &'a AtomicU64,
-    late: &'a AtomicU64,
-    all: u64,
-}
-
-impl<'a> Allows for Gate<'a> {
-    ghost allows = { λ _ _. Unit {0} };
-}
-
-impl<'a> Runner for Gate<'a> {
-    ghost gives = { λ _ _ _. Unit {0} };
-
-    ghost ran = { λ _ _ _. Unit {0} };
-
-    ghost ran_none = { λ _. tt };
-
-    ghost ran_more = { λ _ _ _ _ _ _ _. tt };
-
-    fn run(&mut self, _alloc: Global, _job: &Job) -> Outcome {
-        self.begun.fetch_add(1, Ordering::SeqCst);
-        for _ in 0..10_000_000u64 {
-            if self.begun.load(Ordering::SeqCst) >= self.all {
-                return Outcome::not_started(Cause::OutOfMemory);
-            }
-            thread::yield_now();
-        }
-        self.late.fetch_add(1, Ordering::SeqCst);
-        Outcome::not_started(Cause::CannotStart)
-    }
-}
-
-fn held<R: Threads + Wait + Abort + Sync>(
-    rt: &R,
-    alloc: Global,
-    threads: u64,
-) -> Result<u64, Fail> {
-    let begun = AtomicU64::new(0);
-    let late = AtomicU64::new(0);
-    let mut runners = Vec::new(alloc);
-    for _ in 0..threads {
-        runners.push(Gate {
-            begun: &begun,
-            late: &late,
-            all: threads,
-        })?;
-    }
-    if runners.len() == 0 || runners.len() > 256 || threads > 256 {
-        return Err("runners")?;
-    }
-    let Ok((collected, _end)) = run(rt, alloc, runners, threads) else {
-        return Err("run")?;
-    };
-    assert_eq!(rt; late.load(Ordering::SeqCst), 0);
-    Ok(collected)
-}
-
-#[test]
-fn two_workers_are_held(rt: HostRuntime) -> Result<(), Fail> {
-    assert_eq!(rt; held(&rt, rt.alloc(), 2)?, 2);
-    Ok(())
-}
-
-#[test]
-fn eight_workers_are_held(rt: HostRuntime) -> Result<(), Fail> {
-    assert_eq!(rt; held(&rt, rt.alloc(), 8)?, 8);
-    Ok(())
-}
 
 #[derive(Drop)]
 struct Silent;
