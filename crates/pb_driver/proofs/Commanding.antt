@@ -2,8 +2,6 @@
 use Rattle.std.proofs.Common.{◌≡◌, ℕ, Bool, true, false, List, [], ◌∷◌, ◌++◌, refl, sym, ◌∙◌, ap, subst, append_assoc}
 use Rattle.std.proofs.lemmas.List.{append-nil}
 use Rattle.std.specs.Prelude.{Option, Result, Ok, Err, IfErr, ◌<◌}
-use Rattle.pb_outcome.specs.declared.job.Job.{Job}
-use Rattle.pb_outcome.specs.declared.outcome.Form.{Form}
 use Rattle.pb_state.specs.declared.event.Event.{Event}
 use Rattle.pb_state.specs.declared.event.Event.TheVariants.{Open, Start, Send, Report as Reported, Turn, Close, Stop, Forks}
 use Rattle.pb_plan.specs.Plan.{PlanOf}
@@ -22,12 +20,13 @@ use Rattle.pb_driver.specs.declared.given.Given.{Given}
 use Rattle.pb_driver.specs.Taken.{with_more}
 use Rattle.pb_driver.specs.Output.{lines_from}
 use Rattle.pb_driver.specs.Cut.{Breaks}
-use Rattle.pb_driver.specs.Ran.{answer_in, answers_from, answers_in, RunsAlong, RunsOver}
+use Rattle.pb_laws.specs.JobsOut.{has_mail}
+use Rattle.pb_driver.specs.Mails.{Mail, mail_in, mails_from, mails_in, GoesAlong, GoesOver}
 use Rattle.pb_driver.specs.Commanded.{is_taken}
-use Rattle.pb_driver.specs.Driven.{IsAnswered, HasBegun, IsSame, Keeps, AreCommands, TakesCommands, lines_of_trail}
+use Rattle.pb_driver.specs.Driven.{Answers, IsAnswered, HasBegun, IsSame, Keeps, AreCommands, TakesCommands, lines_of_trail}
 use Rattle.pb_driver.proofs.Driving.{no_report}
 use Rattle.pb_driver.proofs.Cutting.{all_short}
-use Rattle.pb_driver.proofs.Runs.{no_answer, over_along}
+use Rattle.pb_driver.proofs.Going.{no_mail, over_along}
 
 -- a command is no report, has no lines, and leaves as much to do as before
 pub is_for : (command : Command) → is_command (event_for command) ≡ true
@@ -43,6 +42,16 @@ command_report Turn c = refl
 command_report Close c = refl
 command_report Stop c = refl
 command_report (Forks n) c = refl
+
+pub command_mail : (e : Event) → is_command e ≡ true → has_mail e ≡ false
+command_mail Open c = refl
+command_mail (Start h) c = refl
+command_mail (Send h item ticket) c = cc
+command_mail (Reported r) c = cc
+command_mail Turn c = refl
+command_mail Close c = refl
+command_mail Stop c = refl
+command_mail (Forks n) c = refl
 
 no_lines : (plan : PlanOf) (s : State) (e : Event) → is_command e ≡ true → lines_of plan s e ≡ []
 no_lines plan s Open c = cc
@@ -81,14 +90,14 @@ lines_behind : (plan : PlanOf) (s : State) (es cs : List Event) → AreCommands 
 lines_behind plan s [] cs c = lines_none plan s cs c
 lines_behind plan s (e ∷ es) cs c = ap (λ l. lines_of plan (after plan s e) e ++ l) (lines_behind plan (after plan s e) es cs c)
 
-answers_none : (plan : PlanOf) (s : State) (cs : List Event) → AreCommands cs → answers_from plan s cs ≡ []
-answers_none plan s [] c = refl
-answers_none plan s (e ∷ es) c =
-    ap (λ (l : List (Job × Form)). l ++ answers_from plan (after plan s e) es) (no_answer plan s e (command_report e c.0)) ∙ answers_none plan (after plan s e) es c.1
+mails_none : (plan : PlanOf) (s : State) (cs : List Event) → AreCommands cs → mails_from plan s cs ≡ []
+mails_none plan s [] c = refl
+mails_none plan s (e ∷ es) c =
+    ap (λ (l : List Mail). l ++ mails_from plan (after plan s e) es) (no_mail plan s e (command_mail e c.0)) ∙ mails_none plan (after plan s e) es c.1
 
-answers_behind : (plan : PlanOf) (s : State) (es cs : List Event) → AreCommands cs → answers_from plan s (es ++ cs) ≡ answers_from plan s es
-answers_behind plan s [] cs c = answers_none plan s cs c
-answers_behind plan s (e ∷ es) cs c = ap (λ l. answer_in plan s e ++ l) (answers_behind plan (after plan s e) es cs c)
+mails_behind : (plan : PlanOf) (s : State) (es cs : List Event) → AreCommands cs → mails_from plan s (es ++ cs) ≡ mails_from plan s es
+mails_behind plan s [] cs c = mails_none plan s cs c
+mails_behind plan s (e ∷ es) cs c = ap (λ l. mail_in plan s e ++ l) (mails_behind plan (after plan s e) es cs c)
 
 eager_none : (plan : PlanOf) (s : State) (cs : List Event) → AreCommands cs → IsEager plan s cs
 eager_none plan s [] c = tt
@@ -98,28 +107,28 @@ eager_behind : (plan : PlanOf) (s : State) (es cs : List Event) → AreCommands 
 eager_behind plan s [] cs c eager = eager_none plan s cs c
 eager_behind plan s (e ∷ es) cs c eager = (eager.0, eager_behind plan (after plan s e) es cs c eager.1)
 
-answered_none : (allows gives : Job → Form → Type 0) (plan : PlanOf) (s : State) (cs : List Event) → AreCommands cs → IsAnswered allows gives plan s cs
-answered_none allows gives plan s [] c = tt
-answered_none allows gives plan s (e ∷ es) c = (no_report allows gives plan s e (command_report e c.0), answered_none allows gives plan (after plan s e) es c.1)
+answered_none : (answers : Answers) (plan : PlanOf) (s : State) (cs : List Event) → AreCommands cs → IsAnswered answers plan s cs
+answered_none answers plan s [] c = tt
+answered_none answers plan s (e ∷ es) c = (no_report answers plan s e (command_report e c.0), answered_none answers plan (after plan s e) es c.1)
 
-answered_behind : (allows gives : Job → Form → Type 0) (plan : PlanOf) (s : State) (es cs : List Event) → AreCommands cs → IsAnswered allows gives plan s es → IsAnswered allows gives plan s (es ++ cs)
-answered_behind allows gives plan s [] cs c answered = answered_none allows gives plan s cs c
-answered_behind allows gives plan s (e ∷ es) cs c answered = (answered.0, answered_behind allows gives plan (after plan s e) es cs c answered.1)
+answered_behind : (answers : Answers) (plan : PlanOf) (s : State) (es cs : List Event) → AreCommands cs → IsAnswered answers plan s es → IsAnswered answers plan s (es ++ cs)
+answered_behind answers plan s [] cs c answered = answered_none answers plan s cs c
+answered_behind answers plan s (e ∷ es) cs c answered = (answered.0, answered_behind answers plan (after plan s e) es cs c answered.1)
 
 -- what an engine keeps that took commands
-pub begun_behind : (allows gives : Job → Form → Type 0) (old new : EngineOf) → TakesCommands old new → HasBegun allows gives old → HasBegun allows gives new
-begun_behind allows gives old new took begun = record {
+pub begun_behind : (answers : Answers) (old new : EngineOf) → TakesCommands old new → HasBegun answers old → HasBegun answers new
+begun_behind answers old new took begun = record {
   legal = took.same.run.legal;
   eager = rw (took.trail, took.same.plan, took.same.pool) (eager_behind old.plan (first_state old.plan old.plan.forks old.pool) old.trail took.events took.commands begun.eager);
   once = once_in_run new.plan new.pool new.trail new.state took.same.run;
-  answered = rw (took.trail, took.same.plan, took.same.pool) (answered_behind allows gives old.plan (first_state old.plan old.plan.forks old.pool) old.trail took.events took.commands begun.answered);
+  answered = rw (took.trail, took.same.plan, took.same.pool) (answered_behind answers old.plan (first_state old.plan old.plan.forks old.pool) old.trail took.events took.commands begun.answered);
 }
 
 lines_same : (old new : EngineOf) → TakesCommands old new → lines_of_trail new ≡ lines_of_trail old
 lines_same old new took = rw (took.trail, took.same.plan, took.same.pool) (lines_behind old.plan (first_state old.plan old.plan.forks old.pool) old.trail took.events took.commands)
 
-answers_same : (old new : EngineOf) → TakesCommands old new → answers_in new ≡ answers_in old
-answers_same old new took = rw (took.trail, took.same.plan, took.same.pool) (answers_behind old.plan (first_state old.plan old.plan.forks old.pool) old.trail took.events took.commands)
+mails_same : (old new : EngineOf) → TakesCommands old new → mails_in new ≡ mails_in old
+mails_same old new took = rw (took.trail, took.same.plan, took.same.pool) (mails_behind old.plan (first_state old.plan old.plan.forks old.pool) old.trail took.events took.commands)
 
 work_same : (old new : EngineOf) → IsSound old → TakesCommands old new → work new.plan new.state ≡ work old.plan old.state
 work_same old new sound took =
@@ -141,20 +150,20 @@ breaks_behind old mid new t u took breaks = λ base before. breaks base (before 
 pub breaks_told : (old new : EngineOf) (t : Option (List ℕ)) → TakesCommands old new → Breaks old new t t
 breaks_told old new t took = λ base before. all_short new base t (before ∙ ap (λ l. with_more base l) (sym (lines_same old new took)))
 
-pub along_behind : {R : Type 0} (ran : R → List (Job × Form) → R → Type 0) (old mid new : EngineOf) (r s : R) → TakesCommands old mid → RunsAlong ran mid new r s → RunsAlong ran old new r s
-along_behind {R} ran old mid new r s took along = λ base was. along base (subst (λ jobs. ran base jobs r) (sym (answers_same old mid took)) was)
+pub along_behind : {H : Type 0} (went : H → List Mail → H → Type 0) (old mid new : EngineOf) (r s : H) → TakesCommands old mid → GoesAlong went mid new r s → GoesAlong went old new r s
+along_behind {H} went old mid new r s took along = λ base was. along base (subst (λ mails. went base mails r) (sym (mails_same old mid took)) was)
 
-pub over_behind : {R : Type 0} (ran : R → List (Job × Form) → R → Type 0) (old mid new : EngineOf) (r s : R) (fault : RunFault) → TakesCommands old mid → RunsOver ran mid new r s fault
-    → RunsOver ran old new r s fault
-over_behind {R} ran old mid new r s fault took over = λ base was. over base (subst (λ jobs. ran base jobs r) (sym (answers_same old mid took)) was)
+pub over_behind : {H : Type 0} (answers : Answers) (went : H → List Mail → H → Type 0) (old mid new : EngineOf) (r s : H) (fault : RunFault) → TakesCommands old mid → GoesOver answers went mid new r s fault
+    → GoesOver answers went old new r s fault
+over_behind {H} answers went old mid new r s fault took over = λ base was. over base (subst (λ mails. went base mails r) (sym (mails_same old mid took)) was)
 
-over_none : {R : Type 0} (ran : R → List (Job × Form) → R → Type 0) (old new : EngineOf) (r : R) (fault : RunFault) → TakesCommands old new → RunsOver ran old new r r fault
-over_none {R} ran old new r fault took = over_along ran old new r r fault (λ base was. subst (λ jobs. ran base jobs r) (sym (answers_same old new took)) was)
+over_none : {H : Type 0} (answers : Answers) (went : H → List Mail → H → Type 0) (old new : EngineOf) (r : H) (fault : RunFault) → TakesCommands old new → GoesOver answers went old new r r fault
+over_none {H} answers went old new r fault took = over_along answers went old new r r fault (λ base was. subst (λ mails. went base mails r) (sym (mails_same old new took)) was)
 
-pub over_told : {R A : Type 0} (ran : R → List (Job × Form) → R → Type 0) (old new : EngineOf) (r : R) (result : Result A RunFault) → TakesCommands old new
-    → IfErr result (λ fault. RunsOver ran old new r r fault)
-over_told {R} {A} ran old new r (Ok v) took = tt
-over_told {R} {A} ran old new r (Err fault) took = over_none ran old new r fault took
+pub over_told : {H A : Type 0} (answers : Answers) (went : H → List Mail → H → Type 0) (old new : EngineOf) (r : H) (result : Result A RunFault) → TakesCommands old new
+    → IfErr result (λ fault. GoesOver answers went old new r r fault)
+over_told {H} {A} answers went old new r (Ok v) took = tt
+over_told {H} {A} answers went old new r (Err fault) took = over_none answers went old new r fault took
 
 pub less_behind : (old mid new : EngineOf) → IsSound old → TakesCommands old mid → LessWork mid new → LessWork old new
 less_behind old mid new sound took less = subst (λ (n : ℕ). work new.plan new.state < n) (work_same old mid sound took) less

@@ -8,14 +8,12 @@ use Rattle.pb_plan.specs.Plan.{PlanOf}
 use Rattle.pb_state.specs.State.{State}
 use Rattle.pb_state.specs.Machine.{after, first_state}
 use Rattle.pb_state.specs.Run.{IsFinished}
-use Rattle.pb_outcome.specs.declared.job.Job.{Job}
-use Rattle.pb_outcome.specs.declared.outcome.Form.{Form}
 use Rattle.pb_engine.specs.EngineOf.{EngineOf, taken, IsSound, engine_of}
 use Rattle.pb_events.specs.Lines.{start_line}
 use Rattle.pb_recap.specs.Recap.{recap}
 use Rattle.pb_driver.specs.Taken.{with_more}
 use Rattle.pb_driver.specs.Output.{lines_from, end_lines}
-use Rattle.pb_driver.specs.Driven.{IsSame, IsFresh, Keeps, TakesOne, last_lines, lines_of_trail}
+use Rattle.pb_driver.specs.Driven.{Answers, IsSame, IsFresh, Keeps, TakesOne, last_lines, lines_of_trail}
 use Rattle.pb_driver.specs.Cut.{all_but_last, IsPart, lines_to, least_written, IsCut, IsShort, Breaks}
 use Rattle.pb_driver.proofs.Pieces.{more_more}
 use Rattle.pb_driver.proofs.Driving.{lines_more, last_at, none_more, fresh_lines, made_of}
@@ -79,8 +77,8 @@ short_more old e base t u sound before part = record {
   most = let all : length (lines_of_trail (taken old e)) ≡ length (lines_of_trail old) + length (last_lines (taken old e)) = ap length (all_lines old e sound) ∙ length-append _ _ in omega arith;
 }
 
-pub breaks_one : (allows gives : Job → Form → Type 0) (old new : EngineOf) (t u : Option (List ℕ)) → IsSound old → TakesOne allows gives old new → IsPart t u (last_lines new) → Breaks old new t u
-breaks_one allows gives old new t u sound one part = λ base before.
+pub breaks_one : (answers : Answers) (old new : EngineOf) (t u : Option (List ℕ)) → IsSound old → TakesOne answers old new → IsPart t u (last_lines new) → Breaks old new t u
+breaks_one answers old new t u sound one part = λ base before.
     rw one.takes.1 (short_more old one.event base t u sound before (subst (λ (v : EngineOf). IsPart t u (last_lines v)) one.takes.1 part))
 
 -- nothing was written, or a front of the first line

@@ -1,29 +1,22 @@
 -- A driver's turn.
-use Rattle.std.proofs.Common.{◌≡◌, ℕ, ◌-◌, Bool, true, false, List, [], ◌∷◌, ◌++◌, length, refl, sym, ◌∙◌, ap, arith, append_assoc, length-append}
+use Rattle.std.proofs.Common.{◌≡◌, ℕ, ◌-◌, ◌≤◌, Bool, true, false, List, [], ◌∷◌, ◌++◌, length, refl, sym, ◌∙◌, ap, arith, append_assoc, length-append}
+use Rattle.std.proofs.lemmas.Bool.{ltb-true}
 use Rattle.std.proofs.lemmas.List.{append-nil}
-use Rattle.std.specs.Prelude.{Option, Some, None, option_map, unwrap_or, slice_get, nat_lt, if◌then◌else◌, Result, Ok, Err, ◌↔◌}
+use Rattle.std.specs.Prelude.{Option, Some, None, slice_get, nat_lt, if◌then◌else◌, Result, Ok, Err}
 use Rattle.std.specs.List.{list_any}
-use Rattle.std.specs.Option.{option_map_or}
 use Rattle.pb_ids.specs.declared.numbers.HostNo.{HostNo}
 use Rattle.pb_ids.specs.declared.numbers.Ticket.{Ticket}
-use Rattle.pb_outcome.specs.declared.job.Call.{Call}
 use Rattle.pb_outcome.specs.declared.job.Job.{Job}
 use Rattle.pb_outcome.specs.declared.job.Report.{Report}
-use Rattle.pb_outcome.specs.declared.outcome.Form.{Form}
-use Rattle.pb_outcome.specs.Items.{next_item}
 use Rattle.pb_state.specs.declared.event.Event.{Event}
 use Rattle.pb_state.specs.declared.event.Event.TheVariants.{Open, Start, Send, Report as Reported, Turn, Close, Stop, Forks}
 use Rattle.pb_one_host.specs.declared.row.Counts.{Counts}
-use Rattle.pb_one_host.specs.declared.row.Running.{Running}
-use Rattle.pb_plan.specs.Plan.{PlayOf, PlanOf}
-use Rattle.pb_one_host.specs.Row.{HostRow}
+use Rattle.pb_plan.specs.Plan.{PlanOf}
 use Rattle.pb_state.specs.State.{State}
-use Rattle.pb_one_host.specs.Runs.{is_out, item_of}
-use Rattle.pb_state.specs.Machine.{possible, after, first_state, item_at, open_play}
-use Rattle.pb_one_host.specs.Calls.{call_in, delegate_in}
-use Rattle.pb_state.specs.Jobs.{job_of, job_in, row_job, running_job, item_job, placed_job, connector_for, job_with}
+use Rattle.pb_one_host.specs.Runs.{is_out}
+use Rattle.pb_state.specs.Machine.{possible, after, first_state, item_at}
+use Rattle.pb_state.specs.Jobs.{job_of}
 use Rattle.pb_all_hosts.specs.Oldest.{oldest_out}
-use Rattle.pb_tree.specs.Tree.{path_at}
 use Rattle.pb_state.specs.Run.{IsEager, IsQuiet, state_from, is_report, is_command}
 use Rattle.pb_state.proofs.Once.{nothing_twice}
 use Rattle.pb_engine.specs.EngineOf.{EngineOf, Takes, taken, IsSound, LessWork, engine_of}
@@ -36,15 +29,13 @@ use Rattle.pb_engine.proofs.Runs.{legal_more}
 use Rattle.pb_all_hosts.proofs.OldestOut.{some_oldest}
 use Rattle.pb_engine.proofs.Waits.{job_in_run, oldest_in_run}
 use Rattle.pb_engine.specs.Refusals.{refusal_of}
-use Rattle.pb_engine.specs.declared.refusal.Refusal.{Refusal}
 use Rattle.pb_events.specs.Lines.{lines_of, start_line}
 use Rattle.pb_recap.specs.Recap.{recap}
 use Rattle.pb_driver.specs.Taken.{with_more}
 use Rattle.pb_driver.specs.Output.{lines_from, end_lines}
-use Rattle.pb_driver.specs.Ran.{answers_of}
 use Rattle.pb_driver.specs.declared.given.Given.{Given}
 use Rattle.pb_driver.specs.Commanded.{IsObeyed, IsObeyedTo, run_with}
-use Rattle.pb_driver.specs.Driven.{IsAnswerAt, IsAnswered, TakesOne, TakesOwn, HasBegun, IsSame, IsFresh, IsBegun, HasEnded, IsWholeRun, Keeps, last_lines, lines_of_trail}
+use Rattle.pb_driver.specs.Driven.{Answers, IsAnswerAt, IsAnswered, TakesOne, TakesOwn, HasBegun, IsSame, IsFresh, IsBegunBy, HasEnded, IsWhole, Keeps, last_lines, lines_of_trail}
 use Rattle.pb_driver.proofs.Pieces.{more_more}
 
 -- an event that the machine takes by itself is no report and no command
@@ -68,33 +59,33 @@ own_command plan s Close next a = refl
 own_command plan s Stop next a = cc
 own_command plan s (Forks n) next a = cc
 
-pub no_report : (allows gives : Job → Form → Type 0) (plan : PlanOf) (s : State) (e : Event) → is_report e ≡ false → IsAnswerAt allows gives plan s e
-no_report allows gives plan s Open m = tt
-no_report allows gives plan s (Start h) m = tt
-no_report allows gives plan s (Send h item ticket) m = tt
-no_report allows gives plan s (Reported r) m = cc
-no_report allows gives plan s Turn m = tt
-no_report allows gives plan s Close m = tt
-no_report allows gives plan s Stop m = tt
-no_report allows gives plan s (Forks n) m = tt
+pub no_report : (answers : Answers) (plan : PlanOf) (s : State) (e : Event) → is_report e ≡ false → IsAnswerAt answers plan s e
+no_report answers plan s Open m = tt
+no_report answers plan s (Start h) m = tt
+no_report answers plan s (Send h item ticket) m = tt
+no_report answers plan s (Reported r) m = cc
+no_report answers plan s Turn m = tt
+no_report answers plan s Close m = tt
+no_report answers plan s Stop m = tt
+no_report answers plan s (Forks n) m = tt
 
 -- an answer of `next` that took an event took one
-moves_by : {P : Type 0} (picks : P → List Bool → ℕ → P → Type 0) (old_picker new_picker : P) (allows gives : Job → Form → Type 0) (old new : EngineOf) (next : Next) → MovesBy picks old_picker new_picker old new next → TakesOne allows gives old new
-moves_by picks old_picker new_picker allows gives old new next m =
+moves_by : {P : Type 0} (picks : P → List Bool → ℕ → P → Type 0) (old_picker new_picker : P) (answers : Answers) (old new : EngineOf) (next : Next) → MovesBy picks old_picker new_picker old new next → TakesOne answers old new
+moves_by picks old_picker new_picker answers old new next m =
     let none = own_report old.plan old.state m.0 next m.1.answer in
     record {
       event = m.0;
       takes = m.1.takes;
       eager = λ is. let wrong : true ≡ false = sym is ∙ none in cc;
-      answer = no_report allows gives old.plan old.state m.0 none;
+      answer = no_report answers old.plan old.state m.0 none;
       uncommanded = own_command old.plan old.state m.0 next m.1.answer;
     }
 
-pub moves_sent : {P : Type 0} (picks : P → List Bool → ℕ → P → Type 0) (old_picker new_picker : P) (allows gives : Job → Form → Type 0) (old new : EngineOf) (job : Job) → NextIs picks old_picker new_picker old new (Sent job) → TakesOne allows gives old new
-moves_sent picks old_picker new_picker allows gives old new job m = moves_by picks old_picker new_picker allows gives old new (Sent job) m
+pub moves_sent : {P : Type 0} (picks : P → List Bool → ℕ → P → Type 0) (old_picker new_picker : P) (answers : Answers) (old new : EngineOf) (job : Job) → NextIs picks old_picker new_picker old new (Sent job) → TakesOne answers old new
+moves_sent picks old_picker new_picker answers old new job m = moves_by picks old_picker new_picker answers old new (Sent job) m
 
-pub moves_one : {P : Type 0} (picks : P → List Bool → ℕ → P → Type 0) (old_picker new_picker : P) (allows gives : Job → Form → Type 0) (old new : EngineOf) → NextIs picks old_picker new_picker old new Moved → TakesOne allows gives old new
-moves_one picks old_picker new_picker allows gives old new m = moves_by picks old_picker new_picker allows gives old new Moved m
+pub moves_one : {P : Type 0} (picks : P → List Bool → ℕ → P → Type 0) (old_picker new_picker : P) (answers : Answers) (old new : EngineOf) → NextIs picks old_picker new_picker old new Moved → TakesOne answers old new
+moves_one picks old_picker new_picker answers old new m = moves_by picks old_picker new_picker answers old new Moved m
 
 pub less_sent : {P : Type 0} (picks : P → List Bool → ℕ → P → Type 0) (old_picker new_picker : P) (old new : EngineOf) (job : Job) → NextIs picks old_picker new_picker old new (Sent job) → LessWork old new
 less_sent picks old_picker new_picker old new job m = m.1.work
@@ -115,47 +106,13 @@ waits_out picks old_picker new_picker old new m = rw m.0 m.2
 pub waits_same : {P : Type 0} (picks : P → List Bool → ℕ → P → Type 0) (old_picker new_picker : P) (old new : EngineOf) → NextIs picks old_picker new_picker old new Waiting → new ≡ old
 waits_same picks old_picker new_picker old new m = m.0
 
--- a job is of its host's next item
-some_is : {X : Type 0} (x y : X) → Some x ≡ Some y → x ≡ y
-some_is x y e = cc
-
-item_named : (plan : PlanOf) (number : ℕ) (host : HostNo) (ticket : Ticket) (item : ℕ) (delegate : Option (List ℕ)) (call : Call) (job : Job) (path : Option (List ℕ)) (name : Option (List ℕ))
-    → option_map_or (λ (p : List ℕ). option_map (λ (n : List ℕ). job_with number host ticket item call n (unwrap_or delegate n) (connector_for plan.inventory host.0 delegate) p) name) path None ≡ Some job → job.item ≡ item
-item_named plan number host ticket item delegate call job None name e = cc
-item_named plan number host ticket item delegate call job (Some path) None e = cc
-item_named plan number host ticket item delegate call job (Some path) (Some name) e =
-    ap (λ (j : Job). j.item) (sym (some_is (job_with number host ticket item call name (unwrap_or delegate name) (connector_for plan.inventory host.0 delegate) path) job e))
-
-item_called : (plan : PlanOf) (number : ℕ) (host : HostNo) (ticket : Ticket) (play : PlayOf) (p item : ℕ) (delegate : Option (List ℕ)) (job : Job) (found : Option Call) → option_map_or (placed_job plan number host ticket play p item delegate) found None ≡ Some job → job.item ≡ item
-item_called plan number host ticket play p item delegate job None e = cc
-item_called plan number host ticket play p item delegate job (Some call) e = item_named plan number host ticket item delegate call job (path_at play.tree p) (slice_get plan.inventory.hosts host.0) e
-
-item_next : (plan : PlanOf) (number : ℕ) (host : HostNo) (ticket : Ticket) (play : PlayOf) (r : Running) (job : Job) (next : Option ℕ) → option_map_or (item_job plan number host ticket play r) next None ≡ Some job → next ≡ Some job.item
-item_next plan number host ticket play r job None e = cc
-item_next plan number host ticket play r job (Some n) e = ap Some (sym (item_called plan number host ticket play r.place n (delegate_in r.items n) job (call_in r.items n) e))
-
-item_task : (plan : PlanOf) (number : ℕ) (host : HostNo) (ticket : Ticket) (play : PlayOf) (job : Job) (running : Option Running) → option_map_or (running_job plan number host ticket play) running None ≡ Some job → option_map_or (λ (r : Running). next_item r.items) running None ≡ Some job.item
-item_task plan number host ticket play job None e = cc
-item_task plan number host ticket play job (Some r) e = item_next plan number host ticket play r job (next_item r.items) e
-
-item_row : (plan : PlanOf) (number : ℕ) (host : HostNo) (ticket : Ticket) (play : PlayOf) (job : Job) (row : Option HostRow) → option_map_or (row_job plan number host ticket play) row None ≡ Some job → option_map_or item_of row None ≡ Some job.item
-item_row plan number host ticket play job None e = cc
-item_row plan number host ticket play job (Some row) e = item_task plan number host ticket play job row.running e
-
-item_in : (plan : PlanOf) (s : State) (host : HostNo) (ticket : Ticket) (job : Job) (found : Option PlayOf) → option_map_or (job_in plan s host ticket) found None ≡ Some job → item_at s host.0 ≡ Some job.item
-item_in plan s host ticket job None e = cc
-item_in plan s host ticket job (Some play) e = item_row plan s.play host ticket play job (slice_get s.rows host.0) e
-
-pub item_of_job : (plan : PlanOf) (s : State) (host : HostNo) (ticket : Ticket) (job : Job) → job_of plan s host ticket ≡ Some job → item_at s host.0 ≡ Some job.item
-item_of_job plan s host ticket job e = item_in plan s host ticket job (open_play plan s) e
-
--- the report of the job that was out
-pub answers : (allows gives : Job → Form → Type 0) (old new : EngineOf) (job : Job) (r : Report) → Takes old new (Reported r) → IsQuiet old.plan old.state → job_of old.plan old.state r.host r.ticket ≡ Some job → oldest_out old.state.rows ≡ Some (r.host, r.ticket) → allows job r.outcome → gives job r.outcome → TakesOne allows gives old new
-answers allows gives old new job r takes quiet is oldest allowed given = record {
+-- the report of a job that was out
+pub takes_report : (answers : Answers) (old new : EngineOf) (r : Report) → Takes old new (Reported r) → IsQuiet old.plan old.state → answers old.plan old.state r → TakesOne answers old new
+takes_report answers old new r takes quiet answer = record {
   event = Reported r;
   takes = takes;
   eager = λ report. quiet;
-  answer = record { job = job; is_out = is; oldest = oldest; allowed = allowed; given = given };
+  answer = answer;
   uncommanded = refl;
 }
 
@@ -164,9 +121,9 @@ eager_more : (plan : PlanOf) (s : State) (es : List Event) (e : Event) → IsEag
 eager_more plan s [] e a b = (b, tt)
 eager_more plan s (d ∷ es) e a b = (a.0, eager_more plan (after plan s d) es e a.1 b)
 
-answered_more : (allows gives : Job → Form → Type 0) (plan : PlanOf) (s : State) (es : List Event) (e : Event) → IsAnswered allows gives plan s es → IsAnswerAt allows gives plan (state_from plan s es) e → IsAnswered allows gives plan s (es ++ e ∷ [])
-answered_more allows gives plan s [] e a b = (b, tt)
-answered_more allows gives plan s (d ∷ es) e a b = (a.0, answered_more allows gives plan (after plan s d) es e a.1 b)
+answered_more : (answers : Answers) (plan : PlanOf) (s : State) (es : List Event) (e : Event) → IsAnswered answers plan s es → IsAnswerAt answers plan (state_from plan s es) e → IsAnswered answers plan s (es ++ e ∷ [])
+answered_more answers plan s [] e a b = (b, tt)
+answered_more answers plan s (d ∷ es) e a b = (a.0, answered_more answers plan (after plan s d) es e a.1 b)
 
 pub lines_more : (plan : PlanOf) (s : State) (es : List Event) (e : Event) → lines_from plan s (es ++ e ∷ []) ≡ lines_from plan s es ++ lines_of plan (after plan (state_from plan s es) e) e
 lines_more plan s [] e = append-nil (lines_of plan (after plan s e) e)
@@ -181,50 +138,19 @@ last_at old e =
     let there : length (old.trail ++ e ∷ []) - 1 ≡ length old.trail = simp length-append (omega arith) in
     rw (there, last_is old.trail e (length old.trail) refl) refl
 
-begun_at : (allows gives : Job → Form → Type 0) (old : EngineOf) (e : Event) → IsSound old → HasBegun allows gives old → possible old.plan old.state e ≡ true → (is_report e ≡ true → IsQuiet old.plan old.state) → IsAnswerAt allows gives old.plan old.state e → HasBegun allows gives (taken old e)
-begun_at allows gives old e sound begun may eager answer = record {
+begun_at : (answers : Answers) (old : EngineOf) (e : Event) → IsSound old → HasBegun answers old → possible old.plan old.state e ≡ true → (is_report e ≡ true → IsQuiet old.plan old.state) → IsAnswerAt answers old.plan old.state e → HasBegun answers (taken old e)
+begun_at answers old e sound begun may eager answer = record {
   legal = legal_more old.plan (first_state old.plan old.plan.forks old.pool) old.trail e begun.legal (rw sound.ends may);
   once = nothing_twice old.plan old.plan.forks old.pool (old.trail ++ e ∷ []) (legal_more old.plan (first_state old.plan old.plan.forks old.pool) old.trail e begun.legal (rw sound.ends may));
   eager = eager_more old.plan (first_state old.plan old.plan.forks old.pool) old.trail e begun.eager (rw sound.ends eager);
-  answered = answered_more allows gives old.plan (first_state old.plan old.plan.forks old.pool) old.trail e begun.answered (rw sound.ends answer);
+  answered = answered_more answers old.plan (first_state old.plan old.plan.forks old.pool) old.trail e begun.answered (rw sound.ends answer);
 }
 
-pub begun_one : (allows gives : Job → Form → Type 0) (old new : EngineOf) → IsSound old → HasBegun allows gives old → TakesOne allows gives old new → HasBegun allows gives new
-begun_one allows gives old new sound begun one = rw one.takes.1 (begun_at allows gives old one.event sound begun one.takes.0 one.eager one.answer)
+pub begun_one : (answers : Answers) (old new : EngineOf) → IsSound old → HasBegun answers old → TakesOne answers old new → HasBegun answers new
+begun_one answers old new sound begun one = rw one.takes.1 (begun_at answers old one.event sound begun one.takes.0 one.eager one.answer)
 
-pub begun_same : (allows gives : Job → Form → Type 0) (old new : EngineOf) → new ≡ old → HasBegun allows gives old → HasBegun allows gives new
-begun_same allows gives old new same begun = rw same begun
-
--- with a runner that gives the same
-answered_as : (allows gives others : Job → Form → Type 0) → ((job : Job) (outcome : Form) → gives job outcome → others job outcome) → (plan : PlanOf) (s : State) (e : Event) → IsAnswerAt allows gives plan s e → IsAnswerAt allows others plan s e
-answered_as allows gives others lasting plan s Open a = tt
-answered_as allows gives others lasting plan s (Start h) a = tt
-answered_as allows gives others lasting plan s (Send h item ticket) a = tt
-answered_as allows gives others lasting plan s (Reported r) a = record { job = a.job; is_out = a.is_out; oldest = a.oldest; allowed = a.allowed; given = lasting a.job r.outcome a.given }
-answered_as allows gives others lasting plan s Turn a = tt
-answered_as allows gives others lasting plan s Close a = tt
-answered_as allows gives others lasting plan s Stop a = tt
-answered_as allows gives others lasting plan s (Forks n) a = tt
-
-all_as : (allows gives others : Job → Form → Type 0) → ((job : Job) (outcome : Form) → gives job outcome → others job outcome) → (plan : PlanOf) (s : State) (es : List Event) → IsAnswered allows gives plan s es → IsAnswered allows others plan s es
-all_as allows gives others lasting plan s [] a = tt
-all_as allows gives others lasting plan s (e ∷ es) a = (answered_as allows gives others lasting plan s e a.0, all_as allows gives others lasting plan (after plan s e) es a.1)
-
-pub begun_as : (allows gives others : Job → Form → Type 0) (engine : EngineOf) → ((job : Job) (outcome : Form) → gives job outcome ↔ others job outcome) → HasBegun allows gives engine → HasBegun allows others engine
-begun_as allows gives others engine lasting begun = record {
-  legal = begun.legal;
-  eager = begun.eager;
-  once = begun.once;
-  answered = all_as allows gives others (λ job outcome. (lasting job outcome).0) engine.plan (first_state engine.plan engine.plan.forks engine.pool) engine.trail begun.answered;
-}
-
-pub begun_back : (allows gives others : Job → Form → Type 0) (engine : EngineOf) → ((job : Job) (outcome : Form) → gives job outcome ↔ others job outcome) → HasBegun allows others engine → HasBegun allows gives engine
-begun_back allows gives others engine lasting begun = record {
-  legal = begun.legal;
-  eager = begun.eager;
-  once = begun.once;
-  answered = all_as allows others gives (λ job outcome. (lasting job outcome).1) engine.plan (first_state engine.plan engine.plan.forks engine.pool) engine.trail begun.answered;
-}
+pub begun_same : (answers : Answers) (old new : EngineOf) → new ≡ old → HasBegun answers old → HasBegun answers new
+begun_same answers old new same begun = rw same begun
 
 -- the lines of one event more
 keeps_at : (old : EngineOf) (e : Event) (t : Option (List ℕ)) → IsSound old → Keeps old (taken old e) t (with_more t (last_lines (taken old e)))
@@ -232,14 +158,14 @@ keeps_at old e t sound = λ base before.
     rw (before, last_at old e, lines_more old.plan (first_state old.plan old.plan.forks old.pool) old.trail e, sound.ends)
     (more_more base (lines_from old.plan (first_state old.plan old.plan.forks old.pool) old.trail) (lines_of old.plan (after old.plan old.state e) e))
 
-pub keeps_one : (allows gives : Job → Form → Type 0) (old new : EngineOf) (t t' : Option (List ℕ)) → IsSound old → TakesOne allows gives old new → t' ≡ with_more t (last_lines new) → Keeps old new t t'
-keeps_one allows gives old new t t' sound one told = rw (told, one.takes.1) (keeps_at old one.event t sound)
+pub keeps_one : (answers : Answers) (old new : EngineOf) (t t' : Option (List ℕ)) → IsSound old → TakesOne answers old new → t' ≡ with_more t (last_lines new) → Keeps old new t t'
+keeps_one answers old new t t' sound one told = rw (told, one.takes.1) (keeps_at old one.event t sound)
 
 pub keeps_same : (old new : EngineOf) (t : Option (List ℕ)) → new ≡ old → Keeps old new t t
 keeps_same old new t same = rw same (λ base before. before)
 
-pub same_one : (allows gives : Job → Form → Type 0) (old new : EngineOf) → TakesOne allows gives old new → IsSound new → IsSame old new
-same_one allows gives old new one sound = record { plan = ap (λ (v : EngineOf). v.plan) one.takes.1; pool = ap (λ (v : EngineOf). v.pool) one.takes.1; run = sound }
+pub same_one : (answers : Answers) (old new : EngineOf) → TakesOne answers old new → IsSound new → IsSame old new
+same_one answers old new one sound = record { plan = ap (λ (v : EngineOf). v.plan) one.takes.1; pool = ap (λ (v : EngineOf). v.pool) one.takes.1; run = sound }
 
 pub same_same : (old new : EngineOf) → new ≡ old → IsSound new → IsSame old new
 same_same old new same sound = record { plan = ap (λ (v : EngineOf). v.plan) same; pool = ap (λ (v : EngineOf). v.pool) same; run = sound }
@@ -255,15 +181,15 @@ none_more (Some t) = ap Some (sym (append-nil t))
 pub fresh_lines : (old : EngineOf) (t : Option (List ℕ)) → IsFresh old → t ≡ with_more t (lines_of_trail old)
 fresh_lines old t fresh = rw fresh.1 (none_more t)
 
-pub empty_begun : (allows gives : Job → Form → Type 0) (plan : PlanOf) (pool : ℕ) (commands : List Given) → IsBegun allows gives plan pool commands []
-empty_begun allows gives plan pool commands = record { legal = refl; eager = tt; once = record { starts = tt; sends = tt }; answered = tt; obeyed = (run_with plan pool commands [], refl) }
+pub empty_begun : (answers : Answers) (plan : PlanOf) (pool : ℕ) (commands : List Given) → IsBegunBy answers plan pool commands []
+empty_begun answers plan pool commands = record { legal = refl; eager = tt; once = record { starts = tt; sends = tt }; answered = tt; obeyed = (run_with plan pool commands [], refl) }
 
-pub fresh_begun : (allows gives : Job → Form → Type 0) (old : EngineOf) → IsFresh old → HasBegun allows gives old
-fresh_begun allows gives old fresh = record { legal = rw fresh.1 refl; eager = rw fresh.1 tt; once = rw fresh.1 (record { starts = tt; sends = tt }); answered = rw fresh.1 tt }
+pub fresh_begun : (answers : Answers) (old : EngineOf) → IsFresh old → HasBegun answers old
+fresh_begun answers old fresh = record { legal = rw fresh.1 refl; eager = rw fresh.1 tt; once = rw fresh.1 (record { starts = tt; sends = tt }); answered = rw fresh.1 tt }
 
 -- a run that is finished, with its end, is whole
-pub whole : (allows gives : Job → Form → Type 0) (has_run : List (Job × Form) → Type 0) (commands : List Given) (old new : EngineOf) (t0 t1 t2 t3 : Option (List ℕ)) (counts : List Counts) → IsFresh old → t1 ≡ with_more t0 (start_line (length old.plan.plays)) → Keeps old new t1 t2 → HasBegun allows gives new → IsObeyed new.plan new.pool commands new.trail → IsSame old new → HasEnded new.plan new.state → t3 ≡ with_more t2 (end_lines new.plan counts) → counts ≡ recap new.plan new.pool new.trail → has_run (answers_of old.plan old.pool new.trail) → IsWholeRun allows gives has_run old.plan old.pool commands new.trail t0 t3
-whole allows gives has_run commands old new t0 t1 t2 t3 counts fresh started keeps begun obeyed same last ended counted ran =
+pub whole : (answers : Answers) (commands : List Given) (old new : EngineOf) (t0 t1 t2 t3 : Option (List ℕ)) (counts : List Counts) → IsFresh old → t1 ≡ with_more t0 (start_line (length old.plan.plays)) → Keeps old new t1 t2 → HasBegun answers new → IsObeyed new.plan new.pool commands new.trail → IsSame old new → HasEnded new.plan new.state → t3 ≡ with_more t2 (end_lines new.plan counts) → counts ≡ recap new.plan new.pool new.trail → IsWhole answers old.plan old.pool commands new.trail t0 t3
+whole answers commands old new t0 t1 t2 t3 counts fresh started keeps begun obeyed same last ended counted =
     let lines = keeps t1 (fresh_lines old t1 fresh) in
     rw (← same.plan, ← same.pool)
     (record {
@@ -274,7 +200,6 @@ whole allows gives has_run commands old new t0 t1 t2 t3 counts fresh started kee
       obeyed = obeyed;
       finished = rw same.run.ends last.finished;
       over = rw same.run.ends last.over;
-      ran = rw (same.plan, same.pool) ran;
       written =
           ended ∙ ap (λ (c : List Counts). with_more t2 (end_lines new.plan c)) counted
           ∙ ap (λ (u : Option (List ℕ)). with_more u (end_lines new.plan (recap new.plan new.pool new.trail))) lines
@@ -294,14 +219,31 @@ made_at : (plan : PlanOf) (pool : ℕ) (engine : EngineOf) (b : Bool) (made : En
 made_at plan pool engine true made e = let wrong : false ≡ true = ap is_value e in cc
 made_at plan pool engine false made e = ap (λ r. value_or r engine) e
 
+pub made_is : (plan : PlanOf) (pool : ℕ) (engine : EngineOf) → engine_of plan pool ≡ Ok engine → record { plan = plan; pool = pool; state = first_state plan plan.forks pool; trail = [] } ≡ engine
+made_is plan pool engine e = made_at plan pool engine (nat_lt pool plan.forks) (record { plan = plan; pool = pool; state = first_state plan plan.forks pool; trail = [] }) e
+
 pub made_of : (plan : PlanOf) (pool : ℕ) (engine : EngineOf) → engine_of plan pool ≡ Ok engine → (engine.plan ≡ plan) × (engine.pool ≡ pool)
 made_of plan pool engine e =
     let same = made_at plan pool engine (nat_lt pool plan.forks) (record { plan = plan; pool = pool; state = first_state plan plan.forks pool; trail = [] }) e in
     (sym (ap (λ (v : EngineOf). v.plan) same), sym (ap (λ (v : EngineOf). v.pool) same))
 
+-- a pool that isn't too small
+small_by : (plan : PlanOf) (pool : ℕ) (fault : EngineFault) (made : EngineOf) (b : Bool) → nat_lt pool plan.forks ≡ b → plan.forks ≤ pool → (if b then Err PoolTooSmall else Ok made) ≡ Err fault → ⊥
+small_by plan pool fault made true is le e = let low = ltb-true pool plan.forks is in omega (arith, low, le)
+small_by plan pool fault made false is le e = let wrong : true ≡ false = ap is_value e in cc
+
+pub not_small : (plan : PlanOf) (pool : ℕ) (fault : EngineFault) → plan.forks ≤ pool → engine_of plan pool ≡ Err fault → ⊥
+not_small plan pool fault le e = small_by plan pool fault (record { plan = plan; pool = pool; state = first_state plan plan.forks pool; trail = [] }) (nat_lt pool plan.forks) refl le e
+
+-- as the plan's run
+pub whole_of : (answers : Answers) (commands : List Given) (plan : PlanOf) (pool : ℕ) (engine : EngineOf) (new_trail trail : List Event) (t u : Option (List ℕ)) → engine_of plan pool ≡ Ok engine → IsWhole answers engine.plan engine.pool commands new_trail t u → trail ≡ new_trail → IsWhole answers plan pool commands trail t u
+whole_of answers commands plan pool engine new_trail trail t u made run is =
+    let from = made_of plan pool engine made in
+    rw (is, ← from.0, ← from.1) run
+
 -- the events of an engine that couldn't go on
-pub begun_of : (allows gives : Job → Form → Type 0) (commands : List Given) (plan : PlanOf) (pool : ℕ) (engine new : EngineOf) (trail : List Event) → engine_of plan pool ≡ Ok engine → IsSame engine new → HasBegun allows gives new → IsObeyedTo engine.plan engine.pool commands new.trail → trail ≡ new.trail → IsBegun allows gives plan pool commands trail
-begun_of allows gives commands plan pool engine new trail made same begun obeyed is =
+pub begun_of : (answers : Answers) (commands : List Given) (plan : PlanOf) (pool : ℕ) (engine new : EngineOf) (trail : List Event) → engine_of plan pool ≡ Ok engine → IsSame engine new → HasBegun answers new → IsObeyedTo engine.plan engine.pool commands new.trail → trail ≡ new.trail → IsBegunBy answers plan pool commands trail
+begun_of answers commands plan pool engine new trail made same begun obeyed is =
     let from = made_of plan pool engine made in
     rw (is, ← from.0, ← from.1, ← same.plan, ← same.pool)
     (record { legal = begun.legal; eager = begun.eager; once = begun.once; answered = begun.answered; obeyed = rw (same.plan, same.pool) obeyed })
@@ -313,23 +255,16 @@ oldest_found s none out = let no = some_oldest s.rows none in cc
 pub job_found : (engine : EngineOf) (host : HostNo) (ticket : Ticket) → IsSound engine → oldest_out engine.state.rows ≡ Some (host, ticket) → job_of engine.plan engine.state host ticket ≡ None → ⊥
 job_found engine host ticket sound oldest none = job_in_run engine.plan engine.pool engine.trail engine.state (host, ticket) sound oldest none
 
-pub never_refused : (engine : EngineOf) (r : Report) (refusal : Refusal) → IsSound engine → oldest_out engine.state.rows ≡ Some (r.host, r.ticket) → item_at engine.state r.host.0 ≡ Some r.item → refusal_of engine.state r ≡ Some refusal → ⊥
-never_refused engine r refusal sound oldest next refused = let none = oldest_in_run engine.plan engine.pool engine.trail engine.state r sound oldest next in cc
+pub oldest_waits : (engine : EngineOf) (r : Report) → IsSound engine → oldest_out engine.state.rows ≡ Some (r.host, r.ticket) → item_at engine.state r.host.0 ≡ Some r.item → refusal_of engine.state r ≡ None
+oldest_waits engine r sound oldest next = oldest_in_run engine.plan engine.pool engine.trail engine.state r sound oldest next
 
 -- the report that comes where `next` waits
-pub waits_took : {P : Type 0} (picks : P → List Bool → ℕ → P → Type 0) (old_picker new_picker : P) (allows gives : Job → Form → Type 0) (old mid new : EngineOf) → NextIs picks old_picker new_picker old mid Waiting → TakesOne allows gives mid new → TakesOne allows gives old new
-waits_took picks old_picker new_picker allows gives old mid new m one = rw (← m.0) one
+pub waits_took : {P : Type 0} (picks : P → List Bool → ℕ → P → Type 0) (old_picker new_picker : P) (answers : Answers) (old mid new : EngineOf) → NextIs picks old_picker new_picker old mid Waiting → TakesOne answers mid new → TakesOne answers old new
+waits_took picks old_picker new_picker answers old mid new m one = rw (← m.0) one
 
 -- an event that was taken is no command
-pub takes_own : (allows gives : Job → Form → Type 0) (old new : EngineOf) → TakesOne allows gives old new → TakesOwn old new
-takes_own allows gives old new one = (one.event, one.takes, one.uncommanded)
+pub takes_own : (answers : Answers) (old new : EngineOf) → TakesOne answers old new → TakesOwn old new
+takes_own answers old new one = (one.event, one.takes, one.uncommanded)
 
 pub waits_less : {P : Type 0} (picks : P → List Bool → ℕ → P → Type 0) (old_picker new_picker : P) (old mid new : EngineOf) → NextIs picks old_picker new_picker old mid Waiting → LessWork mid new → LessWork old new
 waits_less picks old_picker new_picker old mid new m less = rw (← m.0) less
-
--- what a runner gives, where it runs nothing, and over several runs
-pub gives_same : (gives : Job → Form → Type 0) (job : Job) (outcome : Form) → gives job outcome ↔ gives job outcome
-gives_same gives job outcome = (λ g. g, λ g. g)
-
-pub gives_more : (first second third : Job → Form → Type 0) (job : Job) (outcome : Form) → second job outcome ↔ first job outcome → third job outcome ↔ second job outcome → third job outcome ↔ first job outcome
-gives_more first second third job outcome a b = (λ g. a.0 (b.0 g), λ g. b.1 (a.1 g))

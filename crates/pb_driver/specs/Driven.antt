@@ -33,42 +33,69 @@ pub record IsAnswer (allows gives : Job → Form → Type 0) (plan : PlanOf) (s 
   pub allowed : allows job r.outcome
   pub given : gives job r.outcome
 
-abbrev pub IsAnswerAt : (Job → Form → Type 0) → (Job → Form → Type 0) → PlanOf → State → Event → Type 0
-IsAnswerAt allows gives plan s Open = Unit {0}
-IsAnswerAt allows gives plan s (Start h) = Unit {0}
-IsAnswerAt allows gives plan s (Send h item ticket) = Unit {0}
-IsAnswerAt allows gives plan s (Reported r) = IsAnswer allows gives plan s r
-IsAnswerAt allows gives plan s Turn = Unit {0}
-IsAnswerAt allows gives plan s Close = Unit {0}
-IsAnswerAt allows gives plan s Stop = Unit {0}
-IsAnswerAt allows gives plan s (Forks n) = Unit {0}
+-- of workers: a report answers a job that is out, of its host and its item, with an outcome that the workers' kind allows for this job
+pub record IsWorkersAnswer (allows : Job → Form → Type 0) (plan : PlanOf) (s : State) (r : Report) : Type 0 where
+  pub job : Job
+  pub is_out : job_of plan s r.host r.ticket ≡ Some job
+  pub its : (r.ticket ≡ job.ticket) × (r.host ≡ job.host) × (r.item ≡ job.item)
+  pub allowed : allows job r.outcome
+
+-- what is true of a report, in the state in which it is taken
+abbrev pub Answers : Type 1
+Answers = PlanOf → State → Report → Type 0
+
+abbrev pub IsAnswerAt : Answers → PlanOf → State → Event → Type 0
+IsAnswerAt answers plan s Open = Unit {0}
+IsAnswerAt answers plan s (Start h) = Unit {0}
+IsAnswerAt answers plan s (Send h item ticket) = Unit {0}
+IsAnswerAt answers plan s (Reported r) = answers plan s r
+IsAnswerAt answers plan s Turn = Unit {0}
+IsAnswerAt answers plan s Close = Unit {0}
+IsAnswerAt answers plan s Stop = Unit {0}
+IsAnswerAt answers plan s (Forks n) = Unit {0}
 
 -- each report answers a job that was out
-abbrev pub IsAnswered : (Job → Form → Type 0) → (Job → Form → Type 0) → PlanOf → State → List Event → Type 0
-IsAnswered allows gives plan s [] = Unit {0}
-IsAnswered allows gives plan s (e ∷ es) = IsAnswerAt allows gives plan s e × IsAnswered allows gives plan (after plan s e) es
+abbrev pub IsAnswered : Answers → PlanOf → State → List Event → Type 0
+IsAnswered answers plan s [] = Unit {0}
+IsAnswered answers plan s (e ∷ es) = IsAnswerAt answers plan s e × IsAnswered answers plan (after plan s e) es
 
 -- the beginning of a run, which is one itself: a run that couldn't go on leaves this much of its trail, with the commands that were given
-pub record IsBegun (allows gives : Job → Form → Type 0) (plan : PlanOf) (pool : ℕ) (commands : List Given) (trail : List Event) : Type 0 where
+pub record IsBegunBy (answers : Answers) (plan : PlanOf) (pool : ℕ) (commands : List Given) (trail : List Event) : Type 0 where
   pub legal : legal_from plan (first_state plan plan.forks pool) trail ≡ true
   pub eager : IsEager plan (first_state plan plan.forks pool) trail
   pub once : IsOnce plan (first_state plan plan.forks pool) trail
-  pub answered : IsAnswered allows gives plan (first_state plan plan.forks pool) trail
+  pub answered : IsAnswered answers plan (first_state plan plan.forks pool) trail
   pub obeyed : IsObeyedTo plan pool commands trail
+
+-- by one runner
+abbrev pub IsBegun : (allows gives : Job → Form → Type 0) → PlanOf → ℕ → List Given → List Event → Type 0
+IsBegun allows gives = IsBegunBy (IsAnswer allows gives)
 
 -- nothing is possible any more, since the run was stopped or ended early, or no batch is open and none is left to open
 pub record HasEnded (plan : PlanOf) (s : State) : Type 0 where
   pub finished : IsFinished plan s
   pub over : IsOver plan s
 
--- a whole run: a legal, eager trail that does nothing twice, whose reports answer the jobs that were out and that ends in a finished state and isn't stuck
+-- a whole run, whoever ran its jobs: a legal, eager trail that does nothing twice, whose reports answer the jobs that were out and that ends in a finished state
+-- and isn't stuck there; the commands that were due and aren't refused stand in it, and no others; and its output and nothing else was written
+pub record IsWhole (answers : Answers) (plan : PlanOf) (pool : ℕ) (commands : List Given) (trail : List Event) (before after : Option (List ℕ)) : Type 0 where
+  pub legal : legal_from plan (first_state plan plan.forks pool) trail ≡ true
+  pub eager : IsEager plan (first_state plan plan.forks pool) trail
+  pub once : IsOnce plan (first_state plan plan.forks pool) trail
+  pub answered : IsAnswered answers plan (first_state plan plan.forks pool) trail
+  pub obeyed : IsObeyed plan pool commands trail
+  pub finished : IsFinished plan (state_from plan (first_state plan plan.forks pool) trail)
+  pub over : IsOver plan (state_from plan (first_state plan plan.forks pool) trail)
+  pub written : after ≡ with_more before (output plan pool trail)
+
+-- a whole run by one runner: a legal, eager trail that does nothing twice, whose reports answer the jobs that were out and that ends in a finished state and isn't stuck
 -- there; the commands that were due and aren't refused stand in it, and no others; exactly the jobs of its reports were run, in their order; and its output and
 -- nothing else was written
 pub record IsWholeRun (allows gives : Job → Form → Type 0) (has_run : List (Job × Form) → Type 0) (plan : PlanOf) (pool : ℕ) (commands : List Given) (trail : List Event) (before after : Option (List ℕ)) : Type 0 where
   pub legal : legal_from plan (first_state plan plan.forks pool) trail ≡ true
   pub eager : IsEager plan (first_state plan plan.forks pool) trail
   pub once : IsOnce plan (first_state plan plan.forks pool) trail
-  pub answered : IsAnswered allows gives plan (first_state plan plan.forks pool) trail
+  pub answered : IsAnswered (IsAnswer allows gives) plan (first_state plan plan.forks pool) trail
   pub obeyed : IsObeyed plan pool commands trail
   pub finished : IsFinished plan (state_from plan (first_state plan plan.forks pool) trail)
   pub over : IsOver plan (state_from plan (first_state plan plan.forks pool) trail)
@@ -80,18 +107,18 @@ abbrev pub IsTold : PlanOf → ℕ → List Event → List Counts → ℕ → Ty
 IsTold plan pool trail counts status = (counts ≡ recap plan pool trail) × (status ≡ status_of (recap plan pool trail))
 
 -- the beginning of a run, as an engine has it, whatever commands were due
-pub record HasBegun (allows gives : Job → Form → Type 0) (engine : EngineOf) : Type 0 where
+pub record HasBegun (answers : Answers) (engine : EngineOf) : Type 0 where
   pub legal : legal_from engine.plan (first_state engine.plan engine.plan.forks engine.pool) engine.trail ≡ true
   pub eager : IsEager engine.plan (first_state engine.plan engine.plan.forks engine.pool) engine.trail
   pub once : IsOnce engine.plan (first_state engine.plan engine.plan.forks engine.pool) engine.trail
-  pub answered : IsAnswered allows gives engine.plan (first_state engine.plan engine.plan.forks engine.pool) engine.trail
+  pub answered : IsAnswered answers engine.plan (first_state engine.plan engine.plan.forks engine.pool) engine.trail
 
 -- the engine took one event that isn't a command; where it is a report, nothing that the machine takes by itself was possible, and the job that was out is answered
-pub record TakesOne (allows gives : Job → Form → Type 0) (old new : EngineOf) : Type 0 where
+pub record TakesOne (answers : Answers) (old new : EngineOf) : Type 0 where
   pub event : Event
   pub takes : Takes old new event
   pub eager : is_report event ≡ true → IsQuiet old.plan old.state
-  pub answer : IsAnswerAt allows gives old.plan old.state event
+  pub answer : IsAnswerAt answers old.plan old.state event
   pub uncommanded : is_command event ≡ false
 
 -- at most one event was taken, and no command

@@ -1,10 +1,15 @@
 pub mod Taken
 pub mod Output
 pub mod Ran
+pub mod Mails
 pub mod Commanded
 pub mod Obedient
 pub mod CommandRows
 pub mod Driven
+pub mod Crews
+pub mod FitsPool
 pub mod Cut
 pub mod Written
 pub mod WrittenRows
+pub mod Workers
+pub mod MailRows

@@ -13,7 +13,6 @@ use Rattle.pb_state.specs.Machine.{after, first_state}
 use Rattle.pb_state.specs.Jobs.{job_of}
 use Rattle.pb_all_hosts.specs.Oldest.{oldest_out}
 use Rattle.pb_state.specs.Run.{state_from}
-use Rattle.pb_engine.specs.EngineOf.{EngineOf}
 use Rattle.pb_driver.specs.declared.driver.RunFault.{RunFault}
 use Rattle.pb_driver.specs.declared.driver.RunFault.TheVariants.{Memory}
 
@@ -45,15 +44,3 @@ abbrev pub IsRanTo : (List (Job × Form) → Type 0) → PlanOf → ℕ → List
 IsRanTo has_run plan pool trail fault =
     has_run (answers_of plan pool trail)
     ⊎ ((fault ≡ Memory) × ((job : Job) × (outcome : Form) × IsOldestJob plan (state_from plan (first_state plan plan.forks pool) trail) job × has_run (answers_of plan pool trail ++ (job, outcome) ∷ [])))
-
-abbrev pub answers_in : EngineOf → List (Job × Form)
-answers_in engine = answers_of engine.plan engine.pool engine.trail
-
--- where the jobs of the old engine's reports were run, those of the new engine's are, whatever was run before
-abbrev pub RunsAlong : {R : Type 0} → (R → List (Job × Form) → R → Type 0) → EngineOf → EngineOf → R → R → Type 0
-RunsAlong {R} ran old new before after = (base : R) → ran base (answers_in old) before → ran base (answers_in new) after
-
--- the same of a run that couldn't go on
-abbrev pub RunsOver : {R : Type 0} → (R → List (Job × Form) → R → Type 0) → EngineOf → EngineOf → R → R → RunFault → Type 0
-RunsOver {R} ran old new before after fault =
-    (base : R) → ran base (answers_in old) before → IsRanTo (λ jobs. ran base jobs after) new.plan new.pool new.trail fault

@@ -1,6 +1,5 @@
 -- Worked lines of two trails, each with the number of its event.
 use Rattle.std.specs.Prelude.{◌≡◌, [], ◌∷◌, codes, refl}
-use Rattle.pb_state.specs.declared.event.Event.{Event}
 use Rattle.pb_state.specs.declared.event.Event.TheVariants.{Open, Turn}
 use Rattle.pb_events.specs.Rows.{on_literals, two_hosts, first}
 use Rattle.pb_driver.specs.Written.{lines_told, certain_lines}

@@ -1,32 +1,33 @@
 //! The driver.
 
-ghost use Rattle.std.specs.Prelude.{◌≡◌, ◌<◌, ◌≤◌, ◌-◌, ◌⊎◌, ◌++◌, ◌↔◌, [], ℕ, List, drop, length, slice_get, IfOk, IfErr, OnOk, OnErr, Ok, true, false};
+ghost use Rattle.std.specs.Prelude.{◌≡◌, ◌≢◌, ◌<◌, ◌≤◌, ◌-◌, ◌⊎◌, ◌++◌, [], ℕ, List, drop, length, slice_get, IfOk, IfErr, OnOk, OnErr, Ok, Err, true, false};
 ghost use Rattle.std.specs.List.{list_any};
-ghost use Rattle.pb_outcome.specs.declared.job.Job.{Job};
-ghost use Rattle.pb_outcome.specs.declared.outcome.Form.{Form};
 ghost use Rattle.pb_state.specs.Run.{IsQuiet};
 ghost use Rattle.std.specs.Option.{option_map_or};
 ghost use Rattle.pb_one_host.specs.Runs.{is_out};
-ghost use Rattle.pb_state.specs.Machine.{first_state};
 ghost use Rattle.pb_engine.specs.Commands.{event_for};
-ghost use Rattle.pb_engine.specs.EngineOf.{LessWork, IsSound, Takes};
+ghost use Rattle.pb_engine.specs.EngineOf.{EngineOf, LessWork, IsSound, Takes, engine_of};
 ghost use Rattle.pb_recap.specs.Recap.{recap};
 ghost use Rattle.pb_driver.specs.Taken.{with_more, one_more};
 ghost use Rattle.pb_driver.specs.Output.{output, end_lines};
+ghost use Rattle.pb_driver.specs.Crews.{FitsSince, HasFitEnd};
 ghost use Rattle.pb_driver.specs.Cut.{IsPart, IsCut, Breaks};
-ghost use Rattle.pb_driver.specs.Ran.{IsRanTo, RunsAlong, RunsOver};
+ghost use Rattle.pb_driver.specs.Mails.{GoesAlong, GoesOver, HasGoneTo, mails_of};
+ghost use Rattle.pb_driver.specs.Ran.{IsRanTo};
 ghost use Rattle.pb_driver.specs.Commanded.{IsAlong, IsObeyed, IsObeyedTo, count_report, is_taken, none_due};
-ghost use Rattle.pb_driver.specs.Driven.{IsSame, Keeps, TakesOne, TakesAtMost, TakesCommands, TakesOwn, HasBegun, HasEnded, last_lines, IsWholeRun, IsBegun, IsTold, IsFresh};
+ghost use Rattle.pb_driver.specs.Driven.{IsSame, Keeps, TakesOne, TakesAtMost, TakesCommands, TakesOwn, HasBegun, HasEnded, last_lines, IsWhole, IsWholeRun, IsBegun, IsBegunBy, IsTold, IsFresh};
 
+use crate::alone::Alone;
+use crate::crew::Crew;
 use crate::given::{Given, Told, count_last, next_due};
 use crate::line_out::{Failed, LineOut, put_all};
 use pb_engine::{CommandFault, Engine, EngineFault, Next, Picker, Refusal};
 use pb_events::{lines_of, start_line};
-use pb_outcome::job::Report;
 use pb_recap::Recap;
 use pb_runner::runner::Runner;
 use pb_state::{Event, Plan};
 use std::alloc::{AllocError, Global};
+use std::snapshot::Snapshot;
 use thiserror::Error;
 
 /// How many workers a run in one thread counts as having.
@@ -41,6 +42,9 @@ pub enum RunFault {
     /// The writer failed.
     #[error("2 Write")]
     Write,
+    /// A worker couldn't be started.
+    #[error("3 Closed")]
+    Closed,
 }
 
 impl From<AllocError> for RunFault {
@@ -92,6 +96,7 @@ fn emit<W: LineOut>(alloc: Global, engine: &Engine, writer: &mut W) -> Result<()
     ensures part { OnErr result (IsPart (W.taken writer.old) (W.taken writer.new) (last_lines engine.now)) }
     ensures quiet { OnOk result (W.failures writer.new ≡ W.failures writer.old) }
     ensures failed { IfErr result (λ e. e ≡ RunFault.Write → W.failures writer.new ≡ one_more (W.failures writer.old)) }
+    ensures opened { IfErr result (λ e. e ≢ RunFault.Closed) }
 {
     if let Some(event) = engine.last() {
         let text = lines_of(alloc, engine.plan(), engine.state(), event)?;
@@ -100,34 +105,27 @@ fn emit<W: LineOut>(alloc: Global, engine: &Engine, writer: &mut W) -> Result<()
     Ok(())
 }
 
-/// Runs the oldest of the jobs that are out, and takes its report.
-#[tactic(auto, using(crate::proofs::Driving::answers, crate::proofs::Driving::item_of_job, crate::proofs::Driving::oldest_found, crate::proofs::Driving::job_found, crate::proofs::Driving::never_refused, crate::proofs::Driving::gives_same, crate::proofs::Runs::over_same))]
-fn answer<R: Runner>(alloc: Global, engine: &mut Engine, runner: &mut R) -> Result<(), RunFault>
-    requires sound { IsSound engine.old }
+/// Takes the report of a job that is out.
+#[tactic(auto, using(crate::proofs::Driving::takes_report, crate::proofs::Crewing::since_taken, crate::proofs::Going::along_came, crate::proofs::Going::over_none, crate::proofs::Going::over_lost))]
+fn answer<H, C: Crew<H>>(
+    alloc: Global,
+    engine: &mut Engine,
+    crew: &C,
+    hand: &mut H,
+) -> Result<(), RunFault>
+    requires since { FitsSince (C.fits crew.now hand.old) engine.old }
     requires quiet { IsQuiet engine.old.plan engine.old.state }
     requires out { list_any is_out engine.old.state.rows ≡ true }
-    ensures took { OnOk result (TakesOne R.allows (R.gives runner.old) engine.old engine.new) }
+    ensures took { OnOk result (TakesOne (C.answers crew.now) engine.old engine.new) }
     ensures work { OnOk result (LessWork engine.old engine.new) }
-    ensures ran { OnOk result (RunsAlong R.ran engine.old engine.new runner.old runner.new) }
-    ensures lost { IfErr result (λ e. RunsOver R.ran engine.old engine.new runner.old runner.new e) }
+    ensures since { OnOk result (FitsSince (C.fits crew.now hand.new) engine.new) }
+    ensures went { OnOk result (GoesAlong C.went engine.old engine.new hand.old hand.new) }
+    ensures lost { IfErr result (λ e. GoesOver (C.answers crew.now) C.went engine.old engine.new hand.old hand.new e) }
     ensures err { OnErr result (engine.new ≡ engine.old) }
     ensures fault { IfErr result (λ e. e ≡ RunFault.Memory) }
     ensures run { IsSound engine.new }
-    ensures lasting { (job : Job) (outcome : Form) → R.gives runner.new job outcome ↔ R.gives runner.old job outcome }
 {
-    let Some((host, ticket)) = engine.state().oldest_out() else {
-        unreachable!()
-    };
-    let Some(job) = engine.state().job(alloc, engine.plan(), host, ticket)? else {
-        unreachable!()
-    };
-    let outcome = runner.run(alloc, &job);
-    let report = Report {
-        ticket,
-        host,
-        item: job.item,
-        outcome,
-    };
+    let report = crew.collect(hand, alloc, engine)?;
     match engine.absorb(report) {
         Ok(()) => Ok(()),
         Err((_, refusal)) => match refusal {
@@ -139,63 +137,69 @@ fn answer<R: Runner>(alloc: Global, engine: &mut Engine, runner: &mut R) -> Resu
     }
 }
 
-/// One event: one of the machine's own, or the report of the oldest job where the machine waits for one. It answers
-/// whether there was one to take.
-#[tactic(auto, using(crate::proofs::Driving::moves_one, crate::proofs::Driving::moves_sent, crate::proofs::Driving::less_sent, crate::proofs::Driving::less_next, crate::proofs::Driving::over_next, crate::proofs::Driving::waits_quiet, crate::proofs::Driving::waits_out, crate::proofs::Driving::waits_same, crate::proofs::Driving::waits_took, crate::proofs::Driving::waits_less, crate::proofs::Driving::gives_same, crate::proofs::Runs::along_sent, crate::proofs::Runs::along_moved, crate::proofs::Runs::along_same, crate::proofs::Runs::over_same, crate::proofs::Runs::waits_along, crate::proofs::Runs::waits_over))]
-fn advance<R: Runner, P: Picker>(
+/// One event: one of the machine's own, or the report of a job where the machine waits for one. It answers whether there was
+/// one to take.
+#[tactic(auto, using(crate::proofs::Driving::moves_one, crate::proofs::Driving::moves_sent, crate::proofs::Driving::less_sent, crate::proofs::Driving::less_next, crate::proofs::Driving::over_next, crate::proofs::Driving::waits_quiet, crate::proofs::Driving::waits_out, crate::proofs::Driving::waits_same, crate::proofs::Driving::waits_took, crate::proofs::Driving::waits_less, crate::proofs::Crewing::has_sent, crate::proofs::Crewing::since_now, crate::proofs::Crewing::since_moved, crate::proofs::Crewing::since_waits, crate::proofs::Crewing::since_as, crate::proofs::Going::along_sent, crate::proofs::Going::along_moved, crate::proofs::Going::along_same, crate::proofs::Going::over_same, crate::proofs::Going::waits_along, crate::proofs::Going::waits_over))]
+fn advance<H, C: Crew<H>, P: Picker>(
     alloc: Global,
     engine: &mut Engine,
-    runner: &mut R,
+    crew: &C,
+    hand: &mut H,
     picker: &mut P,
 ) -> Result<bool, RunFault>
-    requires { IsSound engine.old }
-    ensures took { result ≡ Ok true → TakesOne R.allows (R.gives runner.old) engine.old engine.new }
+    requires { FitsSince (C.fits crew.now hand.old) engine.old }
+    ensures took { result ≡ Ok true → TakesOne (C.answers crew.now) engine.old engine.new }
     ensures work { result ≡ Ok true → LessWork engine.old engine.new }
     ensures over { result ≡ Ok false → (engine.new ≡ engine.old) × HasEnded engine.old.plan engine.old.state }
-    ensures ran { OnOk result (RunsAlong R.ran engine.old engine.new runner.old runner.new) }
-    ensures lost { IfErr result (λ e. RunsOver R.ran engine.old engine.new runner.old runner.new e) }
+    ensures since { OnOk result (FitsSince (C.fits crew.now hand.new) engine.new) }
+    ensures went { OnOk result (GoesAlong C.went engine.old engine.new hand.old hand.new) }
+    ensures lost { IfErr result (λ e. GoesOver (C.answers crew.now) C.went engine.old engine.new hand.old hand.new e) }
     ensures err { OnErr result (engine.new ≡ engine.old) }
     ensures fault { IfErr result (λ e. e ≡ RunFault.Memory) }
     ensures run { IsSound engine.new }
-    ensures lasting { (job : Job) (outcome : Form) → R.gives runner.new job outcome ↔ R.gives runner.old job outcome }
 {
     match engine.next(picker)? {
         Next::Finished => return Ok(false),
-        Next::Sent(_) => return Ok(true),
+        Next::Sent(job) => {
+            crew.send(hand, engine, job);
+            return Ok(true);
+        }
         Next::Moved => return Ok(true),
         Next::Waiting => {}
     }
-    answer(alloc, engine, runner)?;
+    answer(alloc, engine, crew, hand)?;
     Ok(true)
 }
 
 /// One event, with its lines. It answers whether there was one to take.
-#[tactic(auto, using(crate::proofs::Driving::keeps_one, crate::proofs::Driving::keeps_same, crate::proofs::Driving::same_one, crate::proofs::Driving::same_same, crate::proofs::Driving::begun_one, crate::proofs::Driving::begun_same, crate::proofs::Cutting::breaks_same, crate::proofs::Runs::over_along, crate::proofs::Driving::takes_own))]
-fn take_one<R: Runner, P: Picker, W: LineOut>(
+#[tactic(auto, using(crate::proofs::Driving::keeps_one, crate::proofs::Driving::keeps_same, crate::proofs::Driving::same_one, crate::proofs::Driving::same_same, crate::proofs::Driving::begun_one, crate::proofs::Driving::begun_same, crate::proofs::Cutting::breaks_same, crate::proofs::Going::over_along, crate::proofs::Driving::takes_own))]
+fn take_one<H, C: Crew<H>, P: Picker, W: LineOut>(
     alloc: Global,
     engine: &mut Engine,
-    runner: &mut R,
+    crew: &C,
+    hand: &mut H,
     picker: &mut P,
     writer: &mut W,
 ) -> Result<bool, RunFault>
-    requires sound { IsSound engine.old }
-    requires begun { HasBegun R.allows (R.gives runner.old) engine.old }
+    requires since { FitsSince (C.fits crew.now hand.old) engine.old }
+    requires begun { HasBegun (C.answers crew.now) engine.old }
     ensures own { result ≡ Ok true → TakesOwn engine.old engine.new }
     ensures still { result ≡ Ok false → engine.new ≡ engine.old }
     ensures most { TakesAtMost engine.old engine.new }
     ensures same { IsSame engine.old engine.new }
-    ensures begun { HasBegun R.allows (R.gives runner.old) engine.new }
+    ensures begun { HasBegun (C.answers crew.now) engine.new }
     ensures keeps { OnOk result (Keeps engine.old engine.new (W.taken writer.old) (W.taken writer.new)) }
     ensures breaks { OnErr result (Breaks engine.old engine.new (W.taken writer.old) (W.taken writer.new)) }
-    ensures ran { OnOk result (RunsAlong R.ran engine.old engine.new runner.old runner.new) }
-    ensures lost { IfErr result (λ e. RunsOver R.ran engine.old engine.new runner.old runner.new e) }
+    ensures since { OnOk result (FitsSince (C.fits crew.now hand.new) engine.new) }
+    ensures went { OnOk result (GoesAlong C.went engine.old engine.new hand.old hand.new) }
+    ensures lost { IfErr result (λ e. GoesOver (C.answers crew.now) C.went engine.old engine.new hand.old hand.new e) }
     ensures more { result ≡ Ok true → LessWork engine.old engine.new }
     ensures over { result ≡ Ok false → HasEnded engine.new.plan engine.new.state }
     ensures quiet { OnOk result (W.failures writer.new ≡ W.failures writer.old) }
     ensures failed { IfErr result (λ e. e ≡ RunFault.Write → W.failures writer.new ≡ one_more (W.failures writer.old)) }
-    ensures lasting { (job : Job) (outcome : Form) → R.gives runner.new job outcome ↔ R.gives runner.old job outcome }
+    ensures opened { IfErr result (λ e. e ≢ RunFault.Closed) }
 {
-    if !advance(alloc, engine, runner, picker)? {
+    if !advance(alloc, engine, crew, hand, picker)? {
         return Ok(false);
     }
     emit(alloc, engine, writer)?;
@@ -249,36 +253,38 @@ fn count(engine: &Engine, told: &mut Told)
 }
 
 /// Gives the commands that are due, and takes one event, with its lines. It answers whether there was one to take.
-#[tactic(auto, using(crate::proofs::Commanding::begun_behind, crate::proofs::Commanding::same_behind, crate::proofs::Commanding::keeps_behind, crate::proofs::Commanding::breaks_behind, crate::proofs::Commanding::breaks_told, crate::proofs::Commanding::along_behind, crate::proofs::Commanding::over_behind, crate::proofs::Commanding::over_told, crate::proofs::Commanding::less_behind, crate::proofs::Obeying::along_own, crate::proofs::Obeying::along_as, crate::proofs::Obeying::own_counts, crate::proofs::Obeying::obeyed_to, crate::proofs::Obeying::obeyed_most, crate::proofs::Driving::gives_same))]
-fn turn<R: Runner, P: Picker, W: LineOut>(
+#[tactic(auto, using(crate::proofs::Commanding::begun_behind, crate::proofs::Commanding::same_behind, crate::proofs::Commanding::keeps_behind, crate::proofs::Commanding::breaks_behind, crate::proofs::Commanding::breaks_told, crate::proofs::Commanding::along_behind, crate::proofs::Commanding::over_behind, crate::proofs::Commanding::over_told, crate::proofs::Commanding::less_behind, crate::proofs::Crewing::since_told, crate::proofs::Obeying::along_own, crate::proofs::Obeying::along_as, crate::proofs::Obeying::own_counts, crate::proofs::Obeying::obeyed_to, crate::proofs::Obeying::obeyed_most))]
+fn turn<H, C: Crew<H>, P: Picker, W: LineOut>(
     alloc: Global,
     engine: &mut Engine,
-    runner: &mut R,
+    crew: &C,
+    hand: &mut H,
     picker: &mut P,
     commands: &[Given],
     told: &mut Told,
     writer: &mut W,
 ) -> Result<bool, RunFault>
-    requires sound { IsSound engine.old }
-    requires begun { HasBegun R.allows (R.gives runner.old) engine.old }
+    requires since { FitsSince (C.fits crew.now hand.old) engine.old }
+    requires begun { HasBegun (C.answers crew.now) engine.old }
     requires along { IsAlong commands.now told.old engine.old }
     ensures along { OnOk result (IsAlong commands.now told.new engine.new) }
     ensures obeyed { OnErr result (IsObeyedTo engine.new.plan engine.new.pool commands.now engine.new.trail) }
     ensures none { result ≡ Ok false → none_due told.new.reports (drop told.new.given commands.now) ≡ true }
     ensures same { IsSame engine.old engine.new }
-    ensures begun { HasBegun R.allows (R.gives runner.old) engine.new }
+    ensures begun { HasBegun (C.answers crew.now) engine.new }
     ensures keeps { OnOk result (Keeps engine.old engine.new (W.taken writer.old) (W.taken writer.new)) }
     ensures breaks { OnErr result (Breaks engine.old engine.new (W.taken writer.old) (W.taken writer.new)) }
-    ensures ran { OnOk result (RunsAlong R.ran engine.old engine.new runner.old runner.new) }
-    ensures lost { IfErr result (λ e. RunsOver R.ran engine.old engine.new runner.old runner.new e) }
+    ensures since { OnOk result (FitsSince (C.fits crew.now hand.new) engine.new) }
+    ensures went { OnOk result (GoesAlong C.went engine.old engine.new hand.old hand.new) }
+    ensures lost { IfErr result (λ e. GoesOver (C.answers crew.now) C.went engine.old engine.new hand.old hand.new e) }
     ensures more { result ≡ Ok true → LessWork engine.old engine.new }
     ensures over { result ≡ Ok false → HasEnded engine.new.plan engine.new.state }
     ensures quiet { OnOk result (W.failures writer.new ≡ W.failures writer.old) }
     ensures failed { IfErr result (λ e. e ≡ RunFault.Write → W.failures writer.new ≡ one_more (W.failures writer.old)) }
-    ensures lasting { (job : Job) (outcome : Form) → R.gives runner.new job outcome ↔ R.gives runner.old job outcome }
+    ensures opened { IfErr result (λ e. e ≢ RunFault.Closed) }
 {
     give_due(engine, commands, told)?;
-    let more = take_one(alloc, engine, runner, picker, writer)?;
+    let more = take_one(alloc, engine, crew, hand, picker, writer)?;
     if more {
         count(engine, told);
     }
@@ -297,6 +303,7 @@ fn emit_end<W: LineOut>(
     ensures part { OnErr result (IsPart (W.taken writer.old) (W.taken writer.new) (end_lines engine.now.plan recap.now)) }
     ensures quiet { OnOk result (W.failures writer.new ≡ W.failures writer.old) }
     ensures failed { IfErr result (λ e. e ≡ RunFault.Write → W.failures writer.new ≡ one_more (W.failures writer.old)) }
+    ensures opened { IfErr result (λ e. e ≢ RunFault.Closed) }
 {
     let mut text = recap.stats_line(alloc, engine.plan())?;
     let recap_text = recap.text(alloc, engine.plan())?;
@@ -306,33 +313,36 @@ fn emit_end<W: LineOut>(
 }
 
 /// Takes events, with their lines, and gives the commands where they are due, until nothing is possible.
-#[tactic(auto, using(crate::proofs::Driving::begun_as, crate::proofs::Driving::begun_back, crate::proofs::Driving::gives_same, crate::proofs::Driving::gives_more, crate::proofs::Runs::along_both, crate::proofs::Runs::over_both, crate::proofs::Runs::along_same, crate::proofs::Obeying::obeyed_end))]
-fn turn_all<R: Runner, P: Picker, W: LineOut>(
+#[tactic(auto, using(crate::proofs::Going::along_both, crate::proofs::Going::over_both, crate::proofs::Going::along_same, crate::proofs::Obeying::obeyed_end))]
+fn turn_all<H, C: Crew<H>, P: Picker, W: LineOut>(
     alloc: Global,
     engine: &mut Engine,
-    runner: &mut R,
+    crew: &C,
+    hand: &mut H,
     picker: &mut P,
     commands: &[Given],
     told: &mut Told,
     writer: &mut W,
 ) -> Result<(), RunFault>
-    requires sound { IsSound engine.old }
-    requires begun { HasBegun R.allows (R.gives runner.old) engine.old }
+    requires since { FitsSince (C.fits crew.now hand.old) engine.old }
+    requires begun { HasBegun (C.answers crew.now) engine.old }
     requires along { IsAlong commands.now told.old engine.old }
     ensures obeyed { OnOk result (IsObeyed engine.new.plan engine.new.pool commands.now engine.new.trail) }
     ensures front { OnErr result (IsObeyedTo engine.new.plan engine.new.pool commands.now engine.new.trail) }
     ensures same { IsSame engine.old engine.new }
-    ensures begun { HasBegun R.allows (R.gives runner.old) engine.new }
+    ensures begun { HasBegun (C.answers crew.now) engine.new }
     ensures keeps { OnOk result (Keeps engine.old engine.new (W.taken writer.old) (W.taken writer.new)) }
     ensures breaks { OnErr result (Breaks engine.old engine.new (W.taken writer.old) (W.taken writer.new)) }
-    ensures ran { OnOk result (RunsAlong R.ran engine.old engine.new runner.old runner.new) }
-    ensures lost { IfErr result (λ e. RunsOver R.ran engine.old engine.new runner.old runner.new e) }
+    ensures since { OnOk result (FitsSince (C.fits crew.now hand.new) engine.new) }
+    ensures went { OnOk result (GoesAlong C.went engine.old engine.new hand.old hand.new) }
+    ensures lost { IfErr result (λ e. GoesOver (C.answers crew.now) C.went engine.old engine.new hand.old hand.new e) }
     ensures over { OnOk result (HasEnded engine.new.plan engine.new.state) }
     ensures quiet { OnOk result (W.failures writer.new ≡ W.failures writer.old) }
     ensures failed { IfErr result (λ e. e ≡ RunFault.Write → W.failures writer.new ≡ one_more (W.failures writer.old)) }
+    ensures opened { IfErr result (λ e. e ≢ RunFault.Closed) }
 {
     'turns: loop {
-        let more = turn(alloc, engine, runner, picker, commands, told, writer)?;
+        let more = turn(alloc, engine, crew, hand, picker, commands, told, writer)?;
         if !more {
             break;
         }
@@ -341,26 +351,31 @@ fn turn_all<R: Runner, P: Picker, W: LineOut>(
 }
 
 /// Takes a fresh engine through its whole run, with its output.
-#[tactic(auto, using(crate::proofs::Driving::whole, crate::proofs::Driving::fresh_begun, crate::proofs::Driving::empty_begun, crate::proofs::Obeying::along_first, crate::proofs::Obeying::obeyed_fresh, crate::proofs::Obeying::obeyed_as, crate::proofs::Obeying::obeyed_front))]
-fn run_engine<R: Runner, P: Picker, W: LineOut>(
+#[tactic(auto, using(crate::proofs::Driving::whole, crate::proofs::Driving::fresh_begun, crate::proofs::Driving::empty_begun, crate::proofs::Crewing::since_now, crate::proofs::Crewing::fit_end, crate::proofs::Going::gone_along, crate::proofs::Going::gone_over, crate::proofs::Going::fresh_over, crate::proofs::Going::done_over, crate::proofs::Obeying::along_first, crate::proofs::Obeying::obeyed_fresh, crate::proofs::Obeying::obeyed_as, crate::proofs::Obeying::obeyed_front))]
+fn run_engine<H, C: Crew<H>, P: Picker, W: LineOut>(
     alloc: Global,
     engine: &mut Engine,
-    runner: &mut R,
+    crew: &C,
+    hand: &mut H,
     picker: &mut P,
     commands: &[Given],
     writer: &mut W,
 ) -> Result<Recap, RunFault>
     requires sound { IsSound engine.old }
     requires fresh { IsFresh engine.old }
-    ensures whole { OnOk result (IsWholeRun R.allows (R.gives runner.old) (λ jobs. R.ran runner.old jobs runner.new) engine.old.plan engine.old.pool commands.now engine.new.trail (W.taken writer.old) (W.taken writer.new)) }
+    requires fits { C.fits crew.now hand.old engine.old }
+    ensures whole { OnOk result (IsWhole (C.answers crew.now) engine.old.plan engine.old.pool commands.now engine.new.trail (W.taken writer.old) (W.taken writer.new)) }
     ensures recap { IfOk result (λ r. r ≡ recap engine.old.plan engine.old.pool engine.new.trail) }
+    ensures last { OnOk result (HasFitEnd (C.fits crew.now hand.new)) }
     ensures same { IsSame engine.old engine.new }
-    ensures begun { HasBegun R.allows (R.gives runner.old) engine.new }
+    ensures begun { HasBegun (C.answers crew.now) engine.new }
     ensures obeyed { OnErr result (IsObeyedTo engine.old.plan engine.old.pool commands.now engine.new.trail) }
     ensures cut { OnErr result (IsCut engine.old.plan engine.old.pool engine.new.trail (W.taken writer.old) (W.taken writer.new)) }
-    ensures ran { IfErr result (λ e. IsRanTo (λ jobs. R.ran runner.old jobs runner.new) engine.old.plan engine.old.pool engine.new.trail e) }
+    ensures went { OnOk result (C.went hand.old (mails_of engine.old.plan engine.old.pool engine.new.trail) hand.new) }
+    ensures lost { IfErr result (λ e. HasGoneTo (C.answers crew.now) (λ mails. C.went hand.old mails hand.new) engine.old.plan engine.old.pool engine.new.trail e) }
     ensures quiet { OnOk result (W.failures writer.new ≡ W.failures writer.old) }
     ensures failed { IfErr result (λ e. e ≡ RunFault.Write → W.failures writer.new ≡ one_more (W.failures writer.old)) }
+    ensures opened { IfErr result (λ e. e ≢ RunFault.Closed) }
 {
     let start = start_line(alloc, engine.plan().plays().len() as u32)?;
     put_all(writer, &start)?;
@@ -368,10 +383,56 @@ fn run_engine<R: Runner, P: Picker, W: LineOut>(
         given: 0,
         reports: 0,
     };
-    turn_all(alloc, engine, runner, picker, commands, &mut told, writer)?;
+    turn_all(
+        alloc, engine, crew, hand, picker, commands, &mut told, writer,
+    )?;
     let recap = Recap::of(alloc, engine.state())?;
     emit_end(alloc, engine, &recap, writer)?;
     Ok(recap)
+}
+
+/// Runs a plan to its end, with its output on the writer. The crew runs its jobs, and has room for so many at once. Else it is
+/// as `run_plain` says.
+#[tactic(auto, using(crate::proofs::Cutting::cut_none, crate::proofs::Driving::not_small))]
+pub(crate) fn run_crew<H, C: Crew<H>, P: Picker, W: LineOut>(
+    alloc: Global,
+    plan: Plan,
+    pool: u32,
+    crew: &C,
+    hand: &mut H,
+    picker: &mut P,
+    commands: &[Given],
+    writer: &mut W,
+) -> Result<Ended, (RunFault, Vec<Event>)>
+    requires pool { (pool ≤ 256) × (plan.forks ≤ pool) }
+    requires fits { (engine : EngineOf) → engine_of plan pool ≡ Ok engine → C.fits crew.now hand.old engine }
+    ensures run { IfOk result (λ ended. IsWhole (C.answers crew.now) plan pool commands.now ended.trail.items (W.taken writer.old) (W.taken writer.new)) }
+    ensures told { IfOk result (λ ended. IsTold plan pool ended.trail.items ended.recap ended.status) }
+    ensures went { IfOk result (λ ended. C.went hand.old (mails_of plan pool ended.trail.items) hand.new) }
+    ensures last { OnOk result (HasFitEnd (C.fits crew.now hand.new)) }
+    ensures begun { IfErr result (λ e. IsBegunBy (C.answers crew.now) plan pool commands.now e.1.items) }
+    ensures cut { IfErr result (λ e. IsCut plan pool e.1.items (W.taken writer.old) (W.taken writer.new)) }
+    ensures lost { IfErr result (λ e. HasGoneTo (C.answers crew.now) (λ mails. C.went hand.old mails hand.new) plan pool e.1.items e.0) }
+    ensures quiet { OnOk result (W.failures writer.new ≡ W.failures writer.old) }
+    ensures write { IfErr result (λ e. e.0 ≡ RunFault.Write → W.failures writer.new ≡ one_more (W.failures writer.old)) }
+    ensures opened { IfErr result (λ e. e.0 ≢ RunFault.Closed) }
+{
+    let mut engine = match Engine::new(alloc, plan, pool) {
+        Ok(engine) => engine,
+        Err(EngineFault::Memory) => return Err((RunFault::Memory, Vec::new(alloc))),
+        Err(EngineFault::PoolTooSmall) => unreachable!(),
+    };
+    match run_engine(alloc, &mut engine, crew, hand, picker, commands, writer) {
+        Ok(recap) => {
+            let status = recap.status();
+            Ok(Ended {
+                trail: engine.into_trail(),
+                recap,
+                status,
+            })
+        }
+        Err(fault) => Err((fault, engine.into_trail())),
+    }
 }
 
 /// Runs a plan to its end in this thread, with its output on the writer. The picker chooses among the hosts that have a
@@ -384,7 +445,7 @@ fn run_engine<R: Runner, P: Picker, W: LineOut>(
 /// the beginning of such a run. What was written is then a beginning of the output of these events, with the lines of all but
 /// the last whole. What was run is then the jobs of these events' reports, or these and the oldest one that is out, where memory
 /// was refused for its report.
-#[tactic(auto, using(crate::proofs::Cutting::cut_none))]
+#[tactic(auto, using(crate::proofs::RunsAlone::gives_self, crate::proofs::RunsAlone::whole_run, crate::proofs::RunsAlone::begun_run, crate::proofs::RunsAlone::ran_to))]
 pub fn run_plain<R: Runner, P: Picker, W: LineOut>(
     alloc: Global,
     plan: Plan,
@@ -400,21 +461,14 @@ pub fn run_plain<R: Runner, P: Picker, W: LineOut>(
     ensures ran { IfErr result (λ e. IsRanTo (λ jobs. R.ran runner.old jobs runner.new) plan 256 e.1.items e.0) }
     ensures quiet { OnOk result (W.failures writer.new ≡ W.failures writer.old) }
     ensures write { IfErr result (λ e. e.0 ≡ RunFault.Write → W.failures writer.new ≡ one_more (W.failures writer.old)) }
+    ensures opened { IfErr result (λ e. e.0 ≢ RunFault.Closed) }
 {
-    let mut engine = match Engine::new(alloc, plan, POOL) {
-        Ok(engine) => engine,
-        Err(EngineFault::Memory) => return Err((RunFault::Memory, Vec::new(alloc))),
-        Err(EngineFault::PoolTooSmall) => unreachable!(),
+    let _forks = plan.forks();
+    let crew = Alone {
+        first: Snapshot::of(&*runner),
     };
-    match run_engine(alloc, &mut engine, runner, picker, commands, writer) {
-        Ok(recap) => {
-            let status = recap.status();
-            Ok(Ended {
-                trail: engine.into_trail(),
-                recap,
-                status,
-            })
-        }
-        Err(fault) => Err((fault, engine.into_trail())),
+    match run_crew(alloc, plan, POOL, &crew, runner, picker, commands, writer) {
+        Ok(ended) => Ok(ended),
+        Err(stopped) => Err(stopped),
     }
 }

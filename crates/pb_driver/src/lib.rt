@@ -5,19 +5,28 @@
 //! writer took is that trail's output and nothing else, what the runner ran is exactly the jobs of that trail's reports, in their
 //! order, and the recap and the exit status are those of that trail. A run is told to stop, or to run another number of hosts at
 //! once, by commands that are given with the number of reports behind which each is due: they stand there in the trail, and nowhere else.
+//! `drive` says the same of a run whose jobs go to the forks of a pool, and `run_pool` of one with a thread for each runner: there each report answers
+//! a job that was out, which need not be the oldest, and what went to the runners and came from them is the trail's sends and reports, in its order.
 //! `LineOut` is where lines go.
 #![tactic(auto)]
 
 ghost use Rattle.pb_driver.specs.Obedient.{CommandsStandBehindReports};
 ghost use Rattle.pb_driver.specs.Written.{LinesStandBehindEvents};
 
+mod alone;
+mod crew;
 mod driver;
 mod given;
 mod line_out;
+mod pooled;
+mod threads;
+mod workers;
 
 pub use driver::{Ended, RunFault, run_plain};
 pub use given::Given;
 pub use line_out::{Failed, LineOut, Printed, put_all};
+pub use pooled::drive;
+pub use threads::run_pool;
 
 /// What holds of every whole run: the commands that stand in its trail are some of those that it was given, in their order, and each
 /// stands directly behind a report, behind another command, or at the beginning.

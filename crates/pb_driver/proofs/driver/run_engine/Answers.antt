@@ -3,7 +3,6 @@ use Rattle.pb_events.specs.Lines.{start_line}
 use Rattle.pb_driver.specs.Taken.{with_more}
 use Rattle.pb_driver.specs.Cut.{IsPart}
 use Rattle.pb_driver.proofs.Driving.{whole}
-use Rattle.pb_driver.proofs.Runs.{ran_along}
 use Rattle.pb_driver.proofs.Cutting.{part_as, cut_fresh, cut_turns, breaks_keeps, cut_end}
 use Rattle.pb_driver.proofs.driver.run_engine.Goals as goal
 
@@ -12,12 +11,9 @@ returns-clause-whole g c =
     let started : g.W.LineOut.taken c.put_all.new.writer ≡ with_more (g.W.LineOut.taken c.args.writer.now) (start_line (length c.args.engine.now.plan.plays)) = search rules in
     let ended = c.in_ok-emit_end.ensures.took in
     let new = c.turn_all.new.engine in
-    let none = g.met.R.Runner.ran_none c.args.runner.now in
-    let ran = ran_along g.R.Runner.ran c.args.engine.now new c.args.runner.now c.turn_all.new.runner c.requires.fresh none c.in_ok-turn_all.ensures.ran c.turn_all.ensures.same in
-    whole g.R.Allows.allows (g.R.Runner.gives c.args.runner.now) (λ jobs. g.R.Runner.ran c.args.runner.now jobs c.turn_all.new.runner) c.args.commands.now c.args.engine.now c.turn_all.new.engine (g.W.LineOut.taken c.args.writer.now) (g.W.LineOut.taken c.put_all.new.writer) (g.W.LineOut.taken c.turn_all.new.writer) (g.W.LineOut.taken c.emit_end.new.writer) c.in_ok-recap.recap
+    whole (g.C.Crew.answers c.args.crew.now) c.args.commands.now c.args.engine.now c.turn_all.new.engine (g.W.LineOut.taken c.args.writer.now) (g.W.LineOut.taken c.put_all.new.writer) (g.W.LineOut.taken c.turn_all.new.writer) (g.W.LineOut.taken c.emit_end.new.writer) c.in_ok-recap.recap
     c.requires.fresh started c.in_ok-turn_all.ensures.keeps c.turn_all.ensures.begun c.in_ok-turn_all.ensures.obeyed c.turn_all.ensures.same c.in_ok-turn_all.ensures.over ended
     (c.in_ok-recap.ensures.scratch new.plan new.pool new.trail (rw c.state.ensures.value c.state.ensures.run))
-    ran
 
 pub returns-in_err-put_all-clause-cut : goal.returns-in_err-put_all-clause-cut
 returns-in_err-put_all-clause-cut g c =

@@ -1,15 +1,14 @@
-use Rattle.pb_driver.proofs.Driving.{begun_of, empty_begun}
-use Rattle.pb_driver.proofs.Cutting.{cut_of}
+use Rattle.pb_driver.proofs.RunsAlone.{whole_run, begun_run, ran_to}
 use Rattle.pb_driver.proofs.driver.run_plain.Goals as goal
 
-pub returns-in-Err-clause-begun : goal.returns-in-Err-clause-begun
-returns-in-Err-clause-begun g c =
-    begun_of g.R.Allows.allows (g.R.Runner.gives c.args.runner.now) c.args.commands.now c.args.plan 256 c.in-Ok.engine c.run_engine.new.engine c.into_trail-in-Err.result.items c.in-Ok.ensures.value c.run_engine.ensures.same c.run_engine.ensures.begun c.in-Err.ensures.obeyed c.into_trail-in-Err.ensures.value
+pub returns-in-Ok-clause-run : goal.returns-in-Ok-clause-run
+returns-in-Ok-clause-run g c =
+    whole_run g.R.Allows.allows g.R.Runner.gives g.R.Runner.ran c.args.plan 256 c.args.commands.now c.in-Ok.ended.trail.items (g.W.LineOut.taken c.args.writer.now) (g.W.LineOut.taken c.run_crew.new.writer) c.of.result.value c.args.runner.now c.run_crew.new.hand
+    c.of.ensures c.in-Ok.ensures.run c.in-Ok.ensures.went
 
-pub returns-in-Err-Memory-clause-begun : goal.returns-in-Err-Memory-clause-begun
-returns-in-Err-Memory-clause-begun g c =
-    rw c.new-in-Err-Memory.ensures.items (empty_begun g.R.Allows.allows (g.R.Runner.gives c.args.runner.now) c.args.plan 256 c.args.commands.now)
+pub returns-clause-begun : goal.returns-clause-begun
+returns-clause-begun g c = begun_run g.R.Allows.allows g.R.Runner.gives c.args.plan 256 c.args.commands.now c.in-Err.stopped.1.items c.of.result.value c.args.runner.now c.of.ensures c.in-Err.ensures.begun
 
-pub returns-in-Err-clause-cut : goal.returns-in-Err-clause-cut
-returns-in-Err-clause-cut g c =
-    cut_of c.args.plan 256 c.in-Ok.engine c.run_engine.new.engine.trail c.into_trail-in-Err.result.items (g.W.LineOut.taken c.args.writer.now) (g.W.LineOut.taken c.run_engine.new.writer) c.in-Ok.ensures.value c.in-Err.ensures.cut c.into_trail-in-Err.ensures.value
+pub returns-clause-ran : goal.returns-clause-ran
+returns-clause-ran g c =
+    ran_to g.R.Allows.allows g.R.Runner.gives g.R.Runner.ran c.args.plan 256 c.in-Err.stopped.1.items c.in-Err.stopped.0 c.of.result.value c.args.runner.now c.run_crew.new.hand c.in-Err.ensures.lost

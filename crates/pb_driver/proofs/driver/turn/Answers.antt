@@ -1,5 +1,6 @@
 use Rattle.std.proofs.Common.{rules}
 use Rattle.pb_driver.proofs.Commanding.{begun_behind, keeps_behind, breaks_behind, along_behind, over_behind, over_told}
+use Rattle.pb_driver.proofs.Crewing.{since_told}
 use Rattle.pb_driver.proofs.Obeying.{along_own, along_as, obeyed_to, obeyed_most}
 use Rattle.pb_driver.proofs.driver.turn.Goals as goal
 
@@ -10,15 +11,15 @@ returns-in_err-give_due-clause-obeyed g c =
 
 pub returns-in_err-give_due-clause-begun : goal.returns-in_err-give_due-clause-begun
 returns-in_err-give_due-clause-begun g c =
-    begun_behind g.R.Allows.allows (g.R.Runner.gives c.args.runner.now) c.args.engine.now c.give_due.new.engine c.give_due.ensures.commanded c.requires.begun
+    begun_behind (g.C.Crew.answers c.args.crew.now) c.args.engine.now c.give_due.new.engine c.give_due.ensures.commanded c.requires.begun
 
 pub returns-in_err-give_due-clause-lost : goal.returns-in_err-give_due-clause-lost
 returns-in_err-give_due-clause-lost g c =
-    over_told g.R.Runner.ran c.args.engine.now c.give_due.new.engine c.args.runner.now c.from_residual.result c.give_due.ensures.commanded
+    over_told (g.C.Crew.answers c.args.crew.now) g.C.Crew.went c.args.engine.now c.give_due.new.engine c.args.hand.now c.from_residual.result c.give_due.ensures.commanded
 
 pub take_one-requires-clause-begun : goal.take_one-requires-clause-begun
 take_one-requires-clause-begun g c =
-    begun_behind g.R.Allows.allows (g.R.Runner.gives c.args.runner.now) c.args.engine.now c.give_due.new.engine c.give_due.ensures.commanded c.requires.begun
+    begun_behind (g.C.Crew.answers c.args.crew.now) c.args.engine.now c.give_due.new.engine c.give_due.ensures.commanded c.requires.begun
 
 pub returns-in_err-more-clause-obeyed : goal.returns-in_err-more-clause-obeyed
 returns-in_err-more-clause-obeyed g c =
@@ -32,7 +33,7 @@ returns-in_err-more-clause-breaks g c =
 
 pub returns-in_err-more-clause-lost : goal.returns-in_err-more-clause-lost
 returns-in_err-more-clause-lost g c =
-    let lost = over_behind g.R.Runner.ran c.args.engine.now c.give_due.new.engine c.take_one.new.engine c.args.runner.now c.take_one.new.runner _ c.give_due.ensures.commanded c.in_err-more.ensures.lost in
+    let lost = over_behind (g.C.Crew.answers c.args.crew.now) g.C.Crew.went c.args.engine.now c.give_due.new.engine c.take_one.new.engine c.args.hand.now c.take_one.new.hand _ c.give_due.ensures.commanded c.in_err-more.ensures.lost in
     search (rules, lost)
 
 pub returns-then-more-clause-along : goal.returns-then-more-clause-along
@@ -43,9 +44,9 @@ pub returns-then-more-clause-keeps : goal.returns-then-more-clause-keeps
 returns-then-more-clause-keeps g c =
     keeps_behind c.args.engine.now c.give_due.new.engine c.take_one.new.engine (g.W.LineOut.taken c.args.writer.now) (g.W.LineOut.taken c.take_one.new.writer) c.give_due.ensures.commanded c.in_ok-more.ensures.keeps
 
-pub returns-then-more-clause-ran : goal.returns-then-more-clause-ran
-returns-then-more-clause-ran g c =
-    along_behind g.R.Runner.ran c.args.engine.now c.give_due.new.engine c.take_one.new.engine c.args.runner.now c.take_one.new.runner c.give_due.ensures.commanded c.in_ok-more.ensures.ran
+pub returns-then-more-clause-went : goal.returns-then-more-clause-went
+returns-then-more-clause-went g c =
+    along_behind g.C.Crew.went c.args.engine.now c.give_due.new.engine c.take_one.new.engine c.args.hand.now c.take_one.new.hand c.give_due.ensures.commanded c.in_ok-more.ensures.went
 
 pub returns-else-more-clause-along : goal.returns-else-more-clause-along
 returns-else-more-clause-along g c =
@@ -55,6 +56,10 @@ pub returns-else-more-clause-keeps : goal.returns-else-more-clause-keeps
 returns-else-more-clause-keeps g c =
     keeps_behind c.args.engine.now c.give_due.new.engine c.take_one.new.engine (g.W.LineOut.taken c.args.writer.now) (g.W.LineOut.taken c.take_one.new.writer) c.give_due.ensures.commanded c.in_ok-more.ensures.keeps
 
-pub returns-else-more-clause-ran : goal.returns-else-more-clause-ran
-returns-else-more-clause-ran g c =
-    along_behind g.R.Runner.ran c.args.engine.now c.give_due.new.engine c.take_one.new.engine c.args.runner.now c.take_one.new.runner c.give_due.ensures.commanded c.in_ok-more.ensures.ran
+pub returns-else-more-clause-went : goal.returns-else-more-clause-went
+returns-else-more-clause-went g c =
+    along_behind g.C.Crew.went c.args.engine.now c.give_due.new.engine c.take_one.new.engine c.args.hand.now c.take_one.new.hand c.give_due.ensures.commanded c.in_ok-more.ensures.went
+
+pub take_one-requires-clause-since : goal.take_one-requires-clause-since
+take_one-requires-clause-since g c =
+    since_told (g.C.Crew.fits c.args.crew.now c.args.hand.now) c.args.engine.now c.give_due.new.engine c.give_due.ensures.commanded c.requires.since

@@ -1,0 +1,39 @@
+use Rattle.std.proofs.Common.{ℕ, subst}
+use Rattle.pb_forks.specs.Seats.{main_view, forks_of}
+use Rattle.pb_driver.specs.Crews.{HasPosted}
+use Rattle.pb_driver.specs.Driven.{IsBegunBy, IsWhole, IsWorkersAnswer}
+use Rattle.pb_driver.specs.Mails.{HasGoneTo, mails_of}
+use Rattle.pb_driver.proofs.Posting.{posted_all, gone_later, gone_same, none_out, fits_first, within_all}
+use Rattle.pb_driver.proofs.pooled.drive.Goals as goal
+
+pub run_crew-requires-clause-fits : goal.run_crew-requires-clause-fits
+run_crew-requires-clause-fits g c = λ engine made.
+    fits_first c.args.pool.now c.args.main.now c.args.plan c.forks-forks.result engine c.requires.seat c.requires.fresh.0 c.requires.fresh.1 c.requires.fresh.2 c.forks-forks.ensures.is c.requires.forks made
+
+pub returns-in-Ok-clause-run : goal.returns-in-Ok-clause-run
+returns-in-Ok-clause-run g c =
+    subst (λ (k : ℕ). IsWhole (IsWorkersAnswer g.N.Allows.allows) c.args.plan k c.args.commands.now c.in-Ok.ended.trail.items (g.W.LineOut.taken c.args.writer.now) (g.W.LineOut.taken c.run_crew.new.writer)) c.forks-forks.ensures.is c.in-Ok.ensures.run
+
+pub returns-in-Ok-clause-mails : goal.returns-in-Ok-clause-mails
+returns-in-Ok-clause-mails g c =
+    posted_all c.args.plan (forks_of c.args.pool.now) c.in-Ok.ended.trail.items c.args.main.now c.run_crew.new.hand (main_view c.settle.new.main).log
+    (subst (λ (k : ℕ). HasPosted c.args.main.now (mails_of c.args.plan k c.in-Ok.ended.trail.items) c.run_crew.new.hand) c.forks-forks.ensures.is c.in-Ok.ensures.went) c.requires.fresh.0
+    (c.settle.ensures.none (none_out c.args.pool.now c.run_crew.new.hand c.in-Ok.ensures.last))
+
+pub returns-in-Err-clause-begun : goal.returns-in-Err-clause-begun
+returns-in-Err-clause-begun g c =
+    subst (λ (k : ℕ). IsBegunBy (IsWorkersAnswer g.N.Allows.allows) c.args.plan k c.args.commands.now c.in-Err.stopped.1.items) c.forks-forks.ensures.is c.in-Err.ensures.begun
+
+pub returns-in-Err-clause-later : goal.returns-in-Err-clause-later
+returns-in-Err-clause-later g c =
+    gone_later (IsWorkersAnswer g.N.Allows.allows) c.args.plan (forks_of c.args.pool.now) c.in-Err.stopped.1.items c.in-Err.stopped.0 c.args.main.now c.run_crew.new.hand (main_view c.settle-in-Err.new.main).log
+    (subst (λ (k : ℕ). HasGoneTo (IsWorkersAnswer g.N.Allows.allows) (λ mails. HasPosted c.args.main.now mails c.run_crew.new.hand) c.args.plan k c.in-Err.stopped.1.items c.in-Err.stopped.0) c.forks-forks.ensures.is c.in-Err.ensures.lost) c.requires.fresh.0 c.settle-in-Err.ensures.drained
+
+pub returns-in-Ok-clause-within : goal.returns-in-Ok-clause-within
+returns-in-Ok-clause-within g c =
+    within_all c.args.pool.now c.args.main.now c.run_crew.new.hand c.settle.new.main c.requires.seat c.requires.fresh.0 c.in-Ok.ensures.went.3 c.settle.ensures.within
+
+pub returns-in-Err-clause-within : goal.returns-in-Err-clause-within
+returns-in-Err-clause-within g c =
+    within_all c.args.pool.now c.args.main.now c.run_crew.new.hand c.settle-in-Err.new.main c.requires.seat c.requires.fresh.0
+    (gone_same (IsWorkersAnswer g.N.Allows.allows) c.args.plan c.forks-forks.result c.in-Err.stopped.1.items c.in-Err.stopped.0 c.args.main.now c.run_crew.new.hand c.in-Err.ensures.lost).2 c.settle-in-Err.ensures.within
