@@ -1,0 +1,13 @@
+//! Tests alone: runs whose jobs are run by workers in threads of their own.
+#![tactic(auto)]
+
+#[cfg(test)]
+mod gates;
+#[cfg(test)]
+mod local;
+#[cfg(test)]
+mod made;
+#[cfg(test)]
+mod silent;
+#[cfg(test)]
+mod tests;
