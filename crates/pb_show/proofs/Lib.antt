@@ -1,0 +1,6 @@
+mod Fronts
+mod Going
+mod Joined
+mod Lines
+mod Rows
+mod Standing

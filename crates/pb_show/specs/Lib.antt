@@ -1,0 +1,11 @@
+pub mod Banners
+pub mod Closing
+pub mod Escaped
+pub mod Kinds
+pub mod Reading
+pub mod Results
+pub mod Showing
+pub mod Whole
+pub mod Words
+pub mod Laws
+pub mod Rows

@@ -1,0 +1,36 @@
+//! The program `pb-show`: its words and its streams, handed to the library.
+#![tactic(auto)]
+
+use pb_show::{Look, show};
+use std::env;
+use std::io::{BufReader, IsTerminal};
+use std::process::ExitCode;
+
+fn main(rt: HostRuntime) -> ExitCode {
+    let mut out = rt.stdout();
+    let mut err = rt.stderr();
+    let words = match env::args(&rt) {
+        Ok(args) => args.skip(1).collect(rt.alloc()),
+        Err(_) => return ExitCode::from(1),
+    };
+    let words: Vec<String> = match words {
+        Ok(words) => words,
+        Err(_) => return ExitCode::from(1),
+    };
+    let Ok(mut reader) = BufReader::new(rt.alloc(), rt.stdin()) else {
+        return ExitCode::from(1);
+    };
+    let look = Look {
+        color: out.is_terminal(),
+        starts: false,
+        progress: err.is_terminal(),
+    };
+    ExitCode::from(show(
+        rt.alloc(),
+        words.as_slice(),
+        look,
+        &mut reader,
+        &mut out,
+        &mut err,
+    ))
+}
