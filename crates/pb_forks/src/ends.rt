@@ -16,6 +16,7 @@ use atomic_table::{Closed, Table};
 use pb_outcome::job::Allows;
 use std::alloc::{AllocError, Global};
 use std::snapshot::Snapshot;
+use std::sync::atomic::AtomicU64;
 
 fn zeros(alloc: Global, count: usize) -> Result<Vec<u64>, AllocError>
     ensures { IfOk result (λ v. v.items ≡ replicate count 0) }
@@ -53,7 +54,8 @@ impl<A: Allows> Pool<A> {
         let words = zeros(alloc, count)?;
         let seen = zeros(alloc, count)?;
         let (table, seat) = Table::vacant(alloc, words.as_slice(), count, &forks)?;
-        Ok((Pool { table, forks }, MainSeat { seat, seen }))
+        let bell = AtomicU64::new(0);
+        Ok((Pool { table, forks, bell }, MainSeat { seat, seen }))
     }
 
     fn deal_all(&self, main: &mut MainSeat, seats: &mut Vec<ForkSeat>)

@@ -15,6 +15,7 @@ use crate::plays::{
 };
 use crate::seats::{ForkSeat, MainSeat, Pool};
 use pb_outcome::job::{Allows, Job, Report};
+use std::sync::atomic::Ordering;
 
 /// There was nothing to take: the word that the look found.
 #[derive(Drop)]
@@ -88,6 +89,8 @@ impl<A: Allows> Pool<A> {
         shared.load::<ForkGrabs>(&mut fork.seat, at);
         shared.exchange(&mut fork.seat, at, Some(Parcel::Done(report)));
         shared.swap::<ForkAnswers>(&mut fork.seat, at, new);
+        self.bell.fetch_add(1, Ordering::SeqCst);
+        self.bell.wake_one();
     }
 
     /// Looks once, and collects the report that a fork answered. It is for the job that was offered to it last.

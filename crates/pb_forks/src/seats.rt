@@ -8,11 +8,14 @@ use crate::views::View;
 use atomic_table::{Seat, Table};
 use pb_outcome::job::Allows;
 use std::alloc::Global;
+use std::sync::atomic::AtomicU64;
 
-/// A mailbox for each of 1 to 256 forks, for runners whose relation is `A`. Threads share it by reference.
+/// A mailbox for each of 1 to 256 forks, for runners whose relation is `A`. Threads share it by reference. Its bell is rung behind each
+/// answer, so that who waits for one may sleep.
 pub struct Pool<A: Allows> {
     pub(crate) table: Table<Option<Parcel>, View, u32, Mailboxes<A>, Global>,
     pub(crate) forks: u32,
+    pub(crate) bell: AtomicU64,
     pub ghost keyed: { table.shared.key ≡ forks },
     pub ghost sized: { (table.shared.table_id.words ≡ forks) × (table.shared.table_id.slots ≡ forks) },
     pub ghost some_fork: { 0 < forks },
@@ -77,7 +80,11 @@ impl ForkSeat {
 
 impl<A: Allows> Drop for Pool<A> {
     fn drop(self) {
-        let Self { table, forks: _ } = self;
+        let Self {
+            table,
+            forks: _,
+            bell: _,
+        } = self;
         drop(table);
     }
 }
@@ -86,7 +93,11 @@ impl<A: Allows> Pool<A> {
     pub(crate) fn into_table(self) -> Table<Option<Parcel>, View, u32, Mailboxes<A>, Global>
         ensures { result ≡ self.table }
     {
-        let Self { table, forks: _ } = self;
+        let Self {
+            table,
+            forks: _,
+            bell: _,
+        } = self;
         table
     }
 }

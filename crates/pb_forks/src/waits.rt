@@ -7,9 +7,11 @@ ghost use Rattle.pb_forks.specs.Seats.{main_view, fork_view, forks_of, IsMainOf,
 use crate::seats::{ForkSeat, MainSeat, Pool};
 use pb_outcome::job::{Allows, Job, Report};
 use std::sync::Wait;
+use std::sync::atomic::Ordering;
 use std::thread;
 
-/// A thread sleeps on the low 32 bits of a word. Words that differ in what a fork's seat may do differ there.
+/// A thread sleeps on the low 32 bits of a word. Words that differ in what a fork's seat may do differ there; and the bell isn't rung
+/// that often between two looks at it.
 const LOW: u64 = 0xffff_ffff;
 
 impl<A: Allows> Pool<A> {
@@ -36,7 +38,8 @@ impl<A: Allows> Pool<A> {
         unreachable!()
     }
 
-    /// Tries the forks whose jobs are out in turn, and yields after each round, until it collects a report. A job is out.
+    /// Tries the forks whose jobs are out in turn, until it collects a report. After each round it yields, and sleeps while no fork has
+    /// answered since that round began. A job is out.
     pub fn wait_any<R: Wait>(&self, rt: &R, main: &mut MainSeat) -> (u32, Report)
         requires seat { IsMainOf self.now main.old }
         requires out { 0 < jobs_out (main_view main.old) }
@@ -57,6 +60,7 @@ impl<A: Allows> Pool<A> {
         ensures collected { (result.0 < forks_of self.now) × CollectedLast A.allows result.0 (main_view main.old) result.1 (main_view main.new) }
     {
         for _ in rt.forever() {
+            let rung = self.bell.load(Ordering::SeqCst) & LOW;
             for j in 0..self.forks {
                 if main.seen[j as usize] % 4 == 0 {
                     continue;
@@ -66,6 +70,7 @@ impl<A: Allows> Pool<A> {
                 }
             }
             thread::yield_now();
+            self.bell.park(rt, rung as u32);
         }
         unreachable!()
     }
