@@ -1,4 +1,5 @@
 pub mod Listed
+pub mod Hiring
 pub mod Running
 pub mod RolePaths
 pub mod Trails

@@ -5,7 +5,6 @@ use Rattle.pb_audit.specs.declared.fault.TrailFault.{TrailFault}
 use Rattle.pb_audit.specs.declared.fault.TrailFault.TheVariants.{Memory as NoTrailMemory}
 use Rattle.pb_runner.specs.declared.fault.TableFault.{TableFault}
 use Rattle.pb_runner.specs.declared.fault.TableFault.TheVariants.{Memory}
-use Rattle.pb_runner.specs.Launch.{Launch}
 use Rattle.pb_value.specs.Limits.{max_bytes}
 use Rattle.pb_state.specs.declared.event.Event.{Event}
 use Rattle.pb_plan.specs.declared.bundle.Bundle.{Bundle}
@@ -23,7 +22,7 @@ use Rattle.pb_cli.specs.declared.playing.Played.{Played}
 use Rattle.pb_cli.specs.declared.playing.Wanted.{Wanted}
 use Rattle.pb_cli.specs.Audited.{IsBadTrail}
 use Rattle.pb_cli.specs.RoleFiles.{AreRolesIn}
-use Rattle.pb_cli.specs.Played.{IsBadTable, IsGiven, IsGivenTo}
+use Rattle.pb_cli.specs.Played.{IsBadTable, IsGiven, IsGivenTo, Starts}
 use Rattle.pb_cli.specs.Warned.{IsWarned}
 
 -- the bundle of a request: its forks, limit and extra variables, whether it names a facts program, and of each file's bytes no more than there is room for, and one byte that tells that there are more;
@@ -42,15 +41,16 @@ abbrev pub is_too_long : Option (List ℕ) → Bool
 is_too_long None = false
 is_too_long (Some bytes) = nat_lt max_bytes (length bytes)
 
--- what a request wants of its plan, with outcomes and a trail where it names files of them
+-- what a request wants of its plan, with its facts program, and with outcomes and a trail where it names files of them
 pub record IsWantedBy (request : Request) (wanted : Wanted) : Type 0 where
   pub purpose : wanted.purpose ≡ request.purpose
   pub stop_after : wanted.stop_after ≡ request.stop_after
+  pub facts : wanted.facts_program ≡ request.facts_program
   pub outcomes : is_some wanted.outcomes ≡ is_some request.outcomes
   pub audited : is_some wanted.audited ≡ is_some request.audit
 
 -- the outcomes of a file aren't looked into before a plan stands, its warnings are written, and it is to be run; nothing is started, and standard output is as it was
-pub record IsUntold (bundle : Bundle) (wanted : Wanted) (e : TableFault) (started started_after : Option (List Launch)) (out_before out_after err_before err_after : Option (List ℕ)) (failures failures_after : ℕ) : Type 0 where
+pub record IsUntold (bundle : Bundle) (wanted : Wanted) (e : TableFault) (started started_after : Starts) (out_before out_after err_before err_after : Option (List ℕ)) (failures failures_after : ℕ) : Type 0 where
   pub plan : PlanOf
   pub planned : IsPlanOf bundle plan
   pub runs : wanted.purpose ≡ Run
@@ -61,7 +61,7 @@ pub record IsUntold (bundle : Bundle) (wanted : Wanted) (e : TableFault) (starte
   pub fault : e ≢ Memory → IsBadTable wanted.outcomes e
 
 -- neither is a trail; outcomes aren't looked into then
-pub record IsUnread (bundle : Bundle) (wanted : Wanted) (e : TrailFault) (started started_after : Option (List Launch)) (out_before out_after err_before err_after : Option (List ℕ)) (failures failures_after : ℕ) : Type 0 where
+pub record IsUnread (bundle : Bundle) (wanted : Wanted) (e : TrailFault) (started started_after : Starts) (out_before out_after err_before err_after : Option (List ℕ)) (failures failures_after : ℕ) : Type 0 where
   pub plan : PlanOf
   pub planned : IsPlanOf bundle plan
   pub runs : wanted.purpose ≡ Run
@@ -71,71 +71,71 @@ pub record IsUnread (bundle : Bundle) (wanted : Wanted) (e : TrailFault) (starte
   pub fault : e ≢ NoTrailMemory → IsBadTrail wanted.audited e
 
 -- a bundle has a plan, its warnings were written, and it was run, audited, checked or listed
-abbrev pub IsShown : Bundle → Wanted → (facts_program : Option (List ℕ)) → (started started_after : Option (List Launch)) → Option (List ℕ) → Option (List ℕ) → Option (List ℕ) → Option (List ℕ) → ℕ → ℕ → Played → Type 0
-IsShown bundle wanted facts_program started started_after out_before out_after err_before err_after failures failures_after played =
-    (plan : PlanOf) × IsPlanOf bundle plan × IsGiven wanted plan facts_program started started_after out_before out_after played × IsWarned plan.warnings err_before err_after failures failures_after
+abbrev pub IsShown : Bundle → Wanted → (started started_after : Starts) → Option (List ℕ) → Option (List ℕ) → Option (List ℕ) → Option (List ℕ) → ℕ → ℕ → Played → Type 0
+IsShown bundle wanted started started_after out_before out_after err_before err_after failures failures_after played =
+    (plan : PlanOf) × IsPlanOf bundle plan × IsGiven wanted plan started started_after out_before out_after played × IsWarned plan.warnings err_before err_after failures failures_after
 
 -- the same, told by this exit status
-abbrev pub IsShownAs : (status : ℕ) → Bundle → Wanted → (facts_program : Option (List ℕ)) → (started started_after : Option (List Launch)) → Option (List ℕ) → Option (List ℕ) → Option (List ℕ) → Option (List ℕ) → ℕ → ℕ → Type 0
-IsShownAs status bundle wanted facts_program started started_after out_before out_after err_before err_after failures failures_after =
-    (played : Played) × IsShown bundle wanted facts_program started started_after out_before out_after err_before err_after failures failures_after played × (played.status ≡ status)
+abbrev pub IsShownAs : (status : ℕ) → Bundle → Wanted → (started started_after : Starts) → Option (List ℕ) → Option (List ℕ) → Option (List ℕ) → Option (List ℕ) → ℕ → ℕ → Type 0
+IsShownAs status bundle wanted started started_after out_before out_after err_before err_after failures failures_after =
+    (played : Played) × IsShown bundle wanted started started_after out_before out_after err_before err_after failures failures_after played × (played.status ≡ status)
 
 -- a bundle has a plan, and what it is made for couldn't go on: memory was refused before anything was started or written, or a beginning of it was done; the trail is that of the run, where one began
-abbrev pub IsStopped : Bundle → Wanted → (facts_program : Option (List ℕ)) → RunFault → (trail : Option (List Event)) → (started started_after : Option (List Launch)) → Option (List ℕ) → Option (List ℕ) → Type 0
-IsStopped bundle wanted facts_program fault trail started started_after out_before out_after =
-    (plan : PlanOf) × IsPlanOf bundle plan × IsGivenTo wanted plan facts_program started started_after fault trail out_before out_after
+abbrev pub IsStopped : Bundle → Wanted → RunFault → (trail : Option (List Event)) → (started started_after : Starts) → Option (List ℕ) → Option (List ℕ) → Type 0
+IsStopped bundle wanted fault trail started started_after out_before out_after =
+    (plan : PlanOf) × IsPlanOf bundle plan × IsGivenTo wanted plan started started_after fault trail out_before out_after
 
 -- of each bundle's run that is whole the trail that is handed out is legal under a plan of the bundle, and so is that of a run that couldn't go on
 abbrev pub TrailsAreLegal : Type 0
 TrailsAreLegal =
-    ((bundle : Bundle) (wanted : Wanted) (facts_program : Option (List ℕ)) (started started_after : Option (List Launch)) (out_before out_after err_before err_after : Option (List ℕ)) (failures failures_after : ℕ) (played : Played) (trail : List Event)
-    → IsShown bundle wanted facts_program started started_after out_before out_after err_before err_after failures failures_after played → played.trail ≡ Some trail
+    ((bundle : Bundle) (wanted : Wanted) (started started_after : Starts) (out_before out_after err_before err_after : Option (List ℕ)) (failures failures_after : ℕ) (played : Played) (trail : List Event)
+    → IsShown bundle wanted started started_after out_before out_after err_before err_after failures failures_after played → played.trail ≡ Some trail
     → (plan : PlanOf) × IsPlanOf bundle plan × (is_legal plan trail ≡ true))
-    × ((bundle : Bundle) (wanted : Wanted) (facts_program : Option (List ℕ)) (fault : RunFault) (started started_after : Option (List Launch)) (out_before out_after : Option (List ℕ)) (trail : List Event)
-    → IsStopped bundle wanted facts_program fault (Some trail) started started_after out_before out_after
+    × ((bundle : Bundle) (wanted : Wanted) (fault : RunFault) (started started_after : Starts) (out_before out_after : Option (List ℕ)) (trail : List Event)
+    → IsStopped bundle wanted fault (Some trail) started started_after out_before out_after
     → (plan : PlanOf) × IsPlanOf bundle plan × (is_legal plan trail ≡ true))
 
--- what a request asks for was done, with a bundle of it and with its facts program
-pub record IsDone (request : Request) (started started_after : Option (List Launch)) (out_before out_after err_before err_after : Option (List ℕ)) (failures failures_after : ℕ) (status : ℕ) : Type 0 where
+-- what a request asks for was done, with a bundle of it
+pub record IsDone (request : Request) (started started_after : Starts) (out_before out_after err_before err_after : Option (List ℕ)) (failures failures_after : ℕ) (status : ℕ) : Type 0 where
   pub bundle : Bundle
   pub wanted : Wanted
   pub asked : IsBundleOf request bundle
   pub wants : IsWantedBy request wanted
   pub short : is_too_long wanted.outcomes ≡ false
-  pub shown : IsShownAs status bundle wanted request.facts_program started started_after out_before out_after err_before err_after failures failures_after
+  pub shown : IsShownAs status bundle wanted started started_after out_before out_after err_before err_after failures failures_after
 
 -- nothing was started, and nothing written on standard output
-abbrev pub IsUntouched : (started started_after : Option (List Launch)) → (out_before out_after : Option (List ℕ)) → Type 0
+abbrev pub IsUntouched : (started started_after : Starts) → (out_before out_after : Option (List ℕ)) → Type 0
 IsUntouched started started_after out_before out_after = (started_after ≡ started) × (out_after ≡ out_before)
 
 -- what a bundle is for couldn't go on, where memory was refused, or standard output took no more
-abbrev pub IsCutShort : Bundle → Wanted → (facts_program : Option (List ℕ)) → (started started_after : Option (List Launch)) → (out_before out_after : Option (List ℕ)) → (out_failures out_failures_after : ℕ) → Type 0
-IsCutShort bundle wanted facts_program started started_after out_before out_after out_failures out_failures_after =
-    (fault : RunFault) × (trail : Option (List Event)) × IsStopped bundle wanted facts_program fault trail started started_after out_before out_after × (fault ≡ Write → out_failures_after ≡ one_more out_failures)
+abbrev pub IsCutShort : Bundle → Wanted → (started started_after : Starts) → (out_before out_after : Option (List ℕ)) → (out_failures out_failures_after : ℕ) → Type 0
+IsCutShort bundle wanted started started_after out_before out_after out_failures out_failures_after =
+    (fault : RunFault) × (trail : Option (List Event)) × IsStopped bundle wanted fault trail started started_after out_before out_after × (fault ≡ Write → out_failures_after ≡ one_more out_failures)
 
 -- what a bundle is for was done whole, and the trail of its run, for which a file is named, couldn't be written there
-pub record IsUnkept (bundle : Bundle) (wanted : Wanted) (facts_program path : Option (List ℕ)) (started started_after : Option (List Launch)) (out_before out_after err_before : Option (List ℕ)) (failures : ℕ) : Type 0 where
+pub record IsUnkept (bundle : Bundle) (wanted : Wanted) (path : Option (List ℕ)) (started started_after : Starts) (out_before out_after err_before : Option (List ℕ)) (failures : ℕ) : Type 0 where
   pub named : is_some path ≡ true
   pub played : Played
   pub run : is_some played.trail ≡ true
   pub err_warned : Option (List ℕ)
   pub failures_warned : ℕ
-  pub shown : IsShown bundle wanted facts_program started started_after out_before out_after err_before err_warned failures failures_warned played
+  pub shown : IsShown bundle wanted started started_after out_before out_after err_before err_warned failures failures_warned played
 
 -- it couldn't go on, or its trail couldn't be kept
-abbrev pub IsCutOrUnkept : Bundle → Wanted → (facts_program path : Option (List ℕ)) → (started started_after : Option (List Launch)) → (out_before out_after err_before : Option (List ℕ)) → (out_failures out_failures_after failures : ℕ) → Type 0
-IsCutOrUnkept bundle wanted facts_program path started started_after out_before out_after err_before out_failures out_failures_after failures =
-    IsCutShort bundle wanted facts_program started started_after out_before out_after out_failures out_failures_after
-    ⊎ IsUnkept bundle wanted facts_program path started started_after out_before out_after err_before failures
+abbrev pub IsCutOrUnkept : Bundle → Wanted → (path : Option (List ℕ)) → (started started_after : Starts) → (out_before out_after err_before : Option (List ℕ)) → (out_failures out_failures_after failures : ℕ) → Type 0
+IsCutOrUnkept bundle wanted path started started_after out_before out_after err_before out_failures out_failures_after failures =
+    IsCutShort bundle wanted started started_after out_before out_after out_failures out_failures_after
+    ⊎ IsUnkept bundle wanted path started started_after out_before out_after err_before failures
 
 -- the same of what a request asks for
-pub record IsBroken (request : Request) (started started_after : Option (List Launch)) (out_before out_after err_before : Option (List ℕ)) (out_failures out_failures_after failures : ℕ) : Type 0 where
+pub record IsBroken (request : Request) (started started_after : Starts) (out_before out_after err_before : Option (List ℕ)) (out_failures out_failures_after failures : ℕ) : Type 0 where
   pub bundle : Bundle
   pub wanted : Wanted
   pub asked : IsBundleOf request bundle
   pub wants : IsWantedBy request wanted
   pub short : is_too_long wanted.outcomes ≡ false
-  pub cut : IsCutOrUnkept bundle wanted request.facts_program request.trail started started_after out_before out_after err_before out_failures out_failures_after failures
+  pub cut : IsCutOrUnkept bundle wanted request.trail started started_after out_before out_after err_before out_failures out_failures_after failures
 
 -- a call for help is among what the words are refused for, and a text was put out; the clause doesn't say which text
 abbrev pub IsHelped : List (List ℕ) → Option (List ℕ) → Option (List ℕ) → ℕ → Type 0
@@ -146,12 +146,12 @@ abbrev pub IsHelpCut : List (List ℕ) → Option (List ℕ) → Option (List �
 IsHelpCut words before after out_failures out_failures_after = (text : List ℕ) × IsRefused words (Help text) × IsPart before after text × (out_failures_after ≡ one_more out_failures)
 
 -- the words ask for a play, and it was done
-abbrev pub IsAnswered : List (List ℕ) → (started started_after : Option (List Launch)) → Option (List ℕ) → Option (List ℕ) → Option (List ℕ) → Option (List ℕ) → ℕ → ℕ → ℕ → Type 0
+abbrev pub IsAnswered : List (List ℕ) → (started started_after : Starts) → Option (List ℕ) → Option (List ℕ) → Option (List ℕ) → Option (List ℕ) → ℕ → ℕ → ℕ → Type 0
 IsAnswered words started started_after out_before out_after err_before err_after failures failures_after status =
     (request : Request) × Asks words request × IsDone request started started_after out_before out_after err_before err_after failures failures_after status
 
 -- what the words ask for couldn't go on: the text of a call for help, or a play, or its trail couldn't be kept
-abbrev pub IsUnended : List (List ℕ) → (started started_after : Option (List Launch)) → (out_before out_after err_before : Option (List ℕ)) → (out_failures out_failures_after failures : ℕ) → Type 0
+abbrev pub IsUnended : List (List ℕ) → (started started_after : Starts) → (out_before out_after err_before : Option (List ℕ)) → (out_failures out_failures_after failures : ℕ) → Type 0
 IsUnended words started started_after out_before out_after err_before out_failures out_failures_after failures =
     IsHelpCut words out_before out_after out_failures out_failures_after
     ⊎ ((request : Request) × Asks words request × IsBroken request started started_after out_before out_after err_before out_failures out_failures_after failures)

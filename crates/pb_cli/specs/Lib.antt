@@ -2,6 +2,7 @@ pub mod Files
 pub mod Messages
 pub mod Listing
 pub mod Audited
+pub mod Hired
 pub mod Played
 pub mod Warned
 pub mod Done

@@ -20,3 +20,7 @@ part_name Run = codes "run"
 -- a fault of a part, with a line end
 abbrev pub message : Part → List ℕ → List ℕ
 message part fault = codes "pb-play: " ++ part_name part ++ codes ": " ++ fault ++ 10 ∷ []
+
+-- the fault of the file at this path, with what the system says of it
+abbrev pub file_message : (path said : List ℕ) → List ℕ
+file_message path said = message File (path ++ codes ": " ++ said)

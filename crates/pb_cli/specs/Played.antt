@@ -1,27 +1,30 @@
 -- What playing a bundle means.
-use Rattle.std.specs.Prelude.{◌≡◌, ◌⊎◌, ⊤, ℕ, List, [], ◌∷◌, Option, Some, None, Ok, Err, codes}
+use Rattle.std.specs.Prelude.{◌≡◌, ◌⊎◌, ⊤, ℕ, true, List, [], ◌∷◌, ◌++◌, length, Option, Some, None, Ok, Err, codes}
 use Rattle.pb_outcome.specs.declared.job.Job.{Job}
+use Rattle.pb_outcome.specs.declared.job.Report.{Report}
 use Rattle.pb_outcome.specs.declared.outcome.Form.{Form}
 use Rattle.pb_runner.specs.declared.fault.TableFault.{TableFault}
 use Rattle.pb_runner.specs.declared.table.Table.{Table}
 use Rattle.pb_runner.specs.Launch.{Launch}
-use Rattle.pb_runner.specs.Local.{LocalAllows, LocalGives}
+use Rattle.pb_runner.specs.Local.{LocalAllows}
 use Rattle.pb_runner.specs.LocalRan.{HasStarted}
 use Rattle.pb_runner.specs.Reading.{table_of}
 use Rattle.pb_runner.specs.Table.{TableGives, AllGiven}
 use Rattle.pb_state.specs.declared.event.Event.{Event}
 use Rattle.pb_plan.specs.Plan.{PlanOf}
+use Rattle.pb_audit.specs.Audit.{is_legal}
 use Rattle.pb_recap.specs.Recap.{recap}
 use Rattle.pb_recap.specs.Kinds.{status_of}
 use Rattle.pb_laws.specs.Kept.{KeepsLaws}
 use Rattle.pb_engine.specs.declared.command.Command.TheVariants.{Stop}
 use Rattle.pb_driver.specs.declared.driver.RunFault.{RunFault}
-use Rattle.pb_driver.specs.declared.driver.RunFault.TheVariants.{Memory}
+use Rattle.pb_driver.specs.declared.driver.RunFault.TheVariants.{Memory, Closed}
 use Rattle.pb_driver.specs.declared.given.Given.{Given}
 use Rattle.pb_driver.specs.Cut.{IsPart, IsCut}
-use Rattle.pb_driver.specs.Driven.{IsBegun, IsWholeRun}
-use Rattle.pb_driver.specs.Ran.{IsRanTo}
+use Rattle.pb_driver.specs.Driven.{Answers, IsAnswer, IsBegunBy, IsWhole, IsWorkersAnswer}
+use Rattle.pb_driver.specs.Ran.{IsRanTo, answers_of}
 use Rattle.pb_driver.specs.Taken.{with_more}
+use Rattle.pb_driver.specs.Workers.{IsSpread}
 use Rattle.pb_driver.specs.Written.{StandBehindEvents, StandBehindEventsTo}
 use Rattle.pb_command_line.specs.declared.words.Purpose.{Purpose}
 use Rattle.pb_command_line.specs.declared.words.Purpose.TheVariants.{Run, CheckSyntax, ListHosts}
@@ -39,55 +42,71 @@ abbrev pub commands_for : (stop_after : Option ℕ) → List Given
 commands_for None = []
 commands_for (Some reports) = record { after = reports; command = Stop } ∷ []
 
--- what was written is the output of this trail, which is one whole run of the plan, legal and eager, that was given these commands, in which each job that was out is answered with an
--- outcome that may come of it, exactly these jobs were run, and the status is that of its recap; it keeps the laws of runs, and each of its events has its lines
-pub record IsRunBy (allows gives : Job → Form → Type 0) (has_run : List (Job × Form) → Type 0) (plan : PlanOf) (commands : List Given) (trail : List Event) (before after : Option (List ℕ)) (status : ℕ) : Type 0 where
-  pub run : IsWholeRun allows gives has_run plan 256 commands trail before after
-  pub told : status ≡ status_of (recap plan 256 trail)
-  pub laws : KeepsLaws plan 256 trail
-  pub lines : StandBehindEvents plan 256 trail
+-- what was written is the output of this trail, which is one whole run of the plan with so many workers, legal and eager, that was given these commands and in which each report
+-- answers a job that was out; the status is that of its recap; it keeps the laws of runs, each of its events has its lines, and an audit finds it legal
+pub record IsRunBy (answers : Answers) (plan : PlanOf) (pool : ℕ) (commands : List Given) (trail : List Event) (before after : Option (List ℕ)) (status : ℕ) : Type 0 where
+  pub run : IsWhole answers plan pool commands trail before after
+  pub told : status ≡ status_of (recap plan pool trail)
+  pub laws : KeepsLaws plan pool trail
+  pub lines : StandBehindEvents plan pool trail
+  pub audited : is_legal plan trail ≡ true
 
--- what was written is a beginning of the output of this trail, whose run couldn't go on, and what was run is what its events say; it keeps the laws of runs, and
--- the lines of all its events but the last stand there
-pub record IsCutBy (allows gives : Job → Form → Type 0) (has_run : List (Job × Form) → Type 0) (plan : PlanOf) (commands : List Given) (trail : List Event) (fault : RunFault) (before after : Option (List ℕ)) : Type 0 where
-  pub begun : IsBegun allows gives plan 256 commands trail
-  pub ran : IsRanTo has_run plan 256 trail fault
-  pub cut : IsCut plan 256 trail before after
-  pub laws : KeepsLaws plan 256 trail
-  pub lines : StandBehindEventsTo plan 256 trail before after
+-- what was written is a beginning of the output of this trail, whose run couldn't go on; it keeps the laws of runs, the lines of all its events but the last stand there, and
+-- an audit finds it legal
+pub record IsCutBy (answers : Answers) (plan : PlanOf) (pool : ℕ) (commands : List Given) (trail : List Event) (before after : Option (List ℕ)) : Type 0 where
+  pub begun : IsBegunBy answers plan pool commands trail
+  pub cut : IsCut plan pool trail before after
+  pub laws : KeepsLaws plan pool trail
+  pub lines : StandBehindEventsTo plan pool trail before after
+  pub audited : is_legal plan trail ≡ true
 
--- what was started for a run's jobs, of which each may have one program
-abbrev pub started_for : Option (List ℕ) → Option (List Launch) → Option (List Launch) → List (Job × Form) → Type 0
-started_for facts_program started started_after jobs = HasStarted facts_program started jobs started_after
+-- what each launcher was to start so far, with what came of it, where it tells
+abbrev pub Starts : Type 0
+Starts = List (Option (List Launch))
 
--- the programs of a plan's jobs were started, by a runner with this facts program or none
-abbrev pub IsLocalRun : PlanOf → (stop_after : Option ℕ) → (facts_program : Option (List ℕ)) → (started started_after : Option (List Launch)) → (trail : List Event) → Option (List ℕ) → Option (List ℕ) → ℕ → Type 0
-IsLocalRun plan stop_after facts_program started started_after trail before after status =
-    IsRunBy LocalAllows (LocalGives facts_program) (started_for facts_program started started_after) plan (commands_for stop_after) trail before after status
+-- the first launchers, one for each fork of the plan, started the programs of exactly the trail's jobs, which are spread over them: each those of its own jobs, in their order, with what came of
+-- them in its reports; after the trail came these later reports. The other launchers started nothing
+pub record AreStartedFor (facts_program : Option (List ℕ)) (started started_after : Starts) (plan : PlanOf) (trail : List Event) (later : List Report) : Type 0 where
+  pub hired : Starts
+  pub hired_after : Starts
+  pub others : Starts
+  pub before : started ≡ hired ++ others
+  pub after : started_after ≡ hired_after ++ others
+  pub many : length hired ≡ plan.forks
+  pub spread : IsSpread (λ (old : Option (List Launch)) jobs new. HasStarted facts_program old jobs new) hired hired_after plan trail later
 
-abbrev pub IsLocalCut : PlanOf → (stop_after : Option ℕ) → (facts_program : Option (List ℕ)) → (started started_after : Option (List Launch)) → (trail : List Event) → RunFault → Option (List ℕ) → Option (List ℕ) → Type 0
-IsLocalCut plan stop_after facts_program started started_after trail fault before after =
-    IsCutBy LocalAllows (LocalGives facts_program) (started_for facts_program started started_after) plan (commands_for stop_after) trail fault before after
+-- the programs of a plan's jobs were started, by as many workers as it has forks, with this facts program or none
+pub record IsLocalRun (plan : PlanOf) (stop_after : Option ℕ) (facts_program : Option (List ℕ)) (started started_after : Starts) (trail : List Event) (before after : Option (List ℕ)) (status : ℕ) : Type 0 where
+  pub run : IsRunBy (IsWorkersAnswer LocalAllows) plan plan.forks (commands_for stop_after) trail before after status
+  pub programs : AreStartedFor facts_program started started_after plan trail []
 
--- the bytes of a file of outcomes have a table, and the run's reports have the table's outcomes
+-- the same of a run that couldn't go on: reports of jobs that were out were waited for; and where a worker's thread couldn't be made, nothing was done
+pub record IsLocalCut (plan : PlanOf) (stop_after : Option ℕ) (facts_program : Option (List ℕ)) (started started_after : Starts) (trail : List Event) (fault : RunFault) (before after : Option (List ℕ)) : Type 0 where
+  pub cut : IsCutBy (IsWorkersAnswer LocalAllows) plan plan.forks (commands_for stop_after) trail before after
+  pub programs : (later : List Report) × AreStartedFor facts_program started started_after plan trail later
+  pub closed : fault ≡ Closed → (trail ≡ []) × (started_after ≡ started) × (after ≡ before)
+
+-- the bytes of a file of outcomes have a table, and the run's reports, each for the oldest job that is out, have the table's outcomes
 pub record IsTabled (bytes : List ℕ) (plan : PlanOf) (stop_after : Option ℕ) (trail : List Event) (before after : Option (List ℕ)) (status : ℕ) : Type 0 where
   pub table : Table
   pub tabled : table_of bytes ≡ Ok table
-  pub run : IsRunBy allows_all (TableGives table) (AllGiven table) plan (commands_for stop_after) trail before after status
+  pub run : IsRunBy (IsAnswer allows_all (TableGives table)) plan 256 (commands_for stop_after) trail before after status
+  pub ran : AllGiven table (answers_of plan 256 trail)
 
 pub record IsTabledCut (bytes : List ℕ) (plan : PlanOf) (stop_after : Option ℕ) (trail : List Event) (fault : RunFault) (before after : Option (List ℕ)) : Type 0 where
   pub table : Table
   pub tabled : table_of bytes ≡ Ok table
-  pub cut : IsCutBy allows_all (TableGives table) (AllGiven table) plan (commands_for stop_after) trail fault before after
+  pub cut : IsCutBy (IsAnswer allows_all (TableGives table)) plan 256 (commands_for stop_after) trail before after
+  pub ran : IsRanTo (AllGiven table) plan 256 trail fault
 
--- a run of a plan with this trail, stopped behind so many reports where that is asked for: without a file of outcomes the programs of its jobs are started, by a runner with this facts program or none, and with one nothing is started
+-- a run of a plan with this trail, stopped behind so many reports where that is asked for: without a file of outcomes the programs of its jobs are started, with this facts program or none, and with one nothing is started
 -- but what the file says comes of each job
-abbrev pub IsPlayed : PlanOf → (stop_after : Option ℕ) → (facts_program outcomes : Option (List ℕ)) → (started started_after : Option (List Launch)) → (trail : List Event) → Option (List ℕ) → Option (List ℕ) → ℕ → Type 0
+abbrev pub IsPlayed : PlanOf → (stop_after : Option ℕ) → (facts_program outcomes : Option (List ℕ)) → (started started_after : Starts) → (trail : List Event) → Option (List ℕ) → Option (List ℕ) → ℕ → Type 0
 IsPlayed plan stop_after facts_program None started started_after trail before after status = IsLocalRun plan stop_after facts_program started started_after trail before after status
 IsPlayed plan stop_after facts_program (Some bytes) started started_after trail before after status = (started_after ≡ started) × IsTabled bytes plan stop_after trail before after status
 
 -- such a run that couldn't go on
-abbrev pub IsPlayedTo : PlanOf → (stop_after : Option ℕ) → (facts_program outcomes : Option (List ℕ)) → (started started_after : Option (List Launch)) → (trail : List Event) → RunFault → Option (List ℕ) → Option (List ℕ) → Type 0
+abbrev pub IsPlayedTo : PlanOf → (stop_after : Option ℕ) → (facts_program outcomes : Option (List ℕ)) → (started started_after : Starts) → (trail : List Event) → RunFault → Option (List ℕ) → Option (List ℕ) → Type 0
 IsPlayedTo plan stop_after facts_program None started started_after trail fault before after = IsLocalCut plan stop_after facts_program started started_after trail fault before after
 IsPlayedTo plan stop_after facts_program (Some bytes) started started_after trail fault before after = (started_after ≡ started) × IsTabledCut bytes plan stop_after trail fault before after
 
@@ -102,43 +121,43 @@ HasTrail None holds = ⊥
 HasTrail (Some trail) holds = holds trail
 
 -- a text was written and nothing else done, so that there is no trail
-abbrev pub IsSaid : List ℕ → (started started_after : Option (List Launch)) → Option (List ℕ) → Option (List ℕ) → Played → Type 0
+abbrev pub IsSaid : List ℕ → (started started_after : Starts) → Option (List ℕ) → Option (List ℕ) → Played → Type 0
 IsSaid text started started_after before after played = (started_after ≡ started) × (after ≡ with_more before text) × (played.status ≡ 0) × (played.trail ≡ None)
 
 -- a plan is run, and its trail handed out, or a trail is looked at in place of that
-abbrev pub IsRunOrAudited : (audited : Option (List ℕ)) → Wanted → PlanOf → (facts_program : Option (List ℕ)) → (started started_after : Option (List Launch)) → Option (List ℕ) → Option (List ℕ) → Played → Type 0
-IsRunOrAudited None wanted plan facts_program started started_after before after played =
-    HasTrail played.trail (λ trail. IsPlayed plan wanted.stop_after facts_program wanted.outcomes started started_after trail before after played.status)
-IsRunOrAudited (Some bytes) wanted plan facts_program started started_after before after played = (started_after ≡ started) × (played.trail ≡ None) × IsAudited bytes plan before after played.status
+abbrev pub IsRunOrAudited : (audited : Option (List ℕ)) → Wanted → PlanOf → (started started_after : Starts) → Option (List ℕ) → Option (List ℕ) → Played → Type 0
+IsRunOrAudited None wanted plan started started_after before after played =
+    HasTrail played.trail (λ trail. IsPlayed plan wanted.stop_after wanted.facts_program wanted.outcomes started started_after trail before after played.status)
+IsRunOrAudited (Some bytes) wanted plan started started_after before after played = (started_after ≡ started) × (played.trail ≡ None) × IsAudited bytes plan before after played.status
 
 -- what a plan is made for: its run or the audit of a trail, to tell that it can be made, or the list of its hosts; only a run starts programs and has a trail
-abbrev pub IsGivenFor : Purpose → Wanted → PlanOf → (facts_program : Option (List ℕ)) → (started started_after : Option (List Launch)) → Option (List ℕ) → Option (List ℕ) → Played → Type 0
-IsGivenFor Run wanted plan facts_program started started_after before after played = IsRunOrAudited wanted.audited wanted plan facts_program started started_after before after played
-IsGivenFor CheckSyntax wanted plan facts_program started started_after before after played = IsSaid (codes "ok\n") started started_after before after played
-IsGivenFor ListHosts wanted plan facts_program started started_after before after played = IsSaid (listing plan) started started_after before after played
+abbrev pub IsGivenFor : Purpose → Wanted → PlanOf → (started started_after : Starts) → Option (List ℕ) → Option (List ℕ) → Played → Type 0
+IsGivenFor Run wanted plan started started_after before after played = IsRunOrAudited wanted.audited wanted plan started started_after before after played
+IsGivenFor CheckSyntax wanted plan started started_after before after played = IsSaid (codes "ok\n") started started_after before after played
+IsGivenFor ListHosts wanted plan started started_after before after played = IsSaid (listing plan) started started_after before after played
 
-abbrev pub IsGiven : Wanted → PlanOf → (facts_program : Option (List ℕ)) → (started started_after : Option (List Launch)) → Option (List ℕ) → Option (List ℕ) → Played → Type 0
-IsGiven wanted plan facts_program started started_after before after played = IsGivenFor wanted.purpose wanted plan facts_program started started_after before after played
+abbrev pub IsGiven : Wanted → PlanOf → (started started_after : Starts) → Option (List ℕ) → Option (List ℕ) → Played → Type 0
+IsGiven wanted plan started started_after before after played = IsGivenFor wanted.purpose wanted plan started started_after before after played
 
 -- a beginning of a text was written, and nothing else done
-abbrev pub IsSaidTo : List ℕ → (started started_after : Option (List Launch)) → (trail : Option (List Event)) → Option (List ℕ) → Option (List ℕ) → Type 0
+abbrev pub IsSaidTo : List ℕ → (started started_after : Starts) → (trail : Option (List Event)) → Option (List ℕ) → Option (List ℕ) → Type 0
 IsSaidTo text started started_after trail before after = (started_after ≡ started) × (trail ≡ None) × IsPart before after text
 
-abbrev pub IsRunOrAuditedTo : (audited : Option (List ℕ)) → Wanted → PlanOf → (facts_program : Option (List ℕ)) → (started started_after : Option (List Launch)) → RunFault → (trail : Option (List Event)) → Option (List ℕ) → Option (List ℕ) → Type 0
-IsRunOrAuditedTo None wanted plan facts_program started started_after fault trail before after =
-    HasTrail trail (λ events. IsPlayedTo plan wanted.stop_after facts_program wanted.outcomes started started_after events fault before after)
-IsRunOrAuditedTo (Some bytes) wanted plan facts_program started started_after fault trail before after = (started_after ≡ started) × (trail ≡ None) × IsAuditCut bytes plan before after
+abbrev pub IsRunOrAuditedTo : (audited : Option (List ℕ)) → Wanted → PlanOf → (started started_after : Starts) → RunFault → (trail : Option (List Event)) → Option (List ℕ) → Option (List ℕ) → Type 0
+IsRunOrAuditedTo None wanted plan started started_after fault trail before after =
+    HasTrail trail (λ events. IsPlayedTo plan wanted.stop_after wanted.facts_program wanted.outcomes started started_after events fault before after)
+IsRunOrAuditedTo (Some bytes) wanted plan started started_after fault trail before after = (started_after ≡ started) × (trail ≡ None) × IsAuditCut bytes plan before after
 
-abbrev pub IsGivenToFor : Purpose → Wanted → PlanOf → (facts_program : Option (List ℕ)) → (started started_after : Option (List Launch)) → RunFault → (trail : Option (List Event)) → Option (List ℕ) → Option (List ℕ) → Type 0
-IsGivenToFor Run wanted plan facts_program started started_after fault trail before after = IsRunOrAuditedTo wanted.audited wanted plan facts_program started started_after fault trail before after
-IsGivenToFor CheckSyntax wanted plan facts_program started started_after fault trail before after = IsSaidTo (codes "ok\n") started started_after trail before after
-IsGivenToFor ListHosts wanted plan facts_program started started_after fault trail before after = IsSaidTo (listing plan) started started_after trail before after
+abbrev pub IsGivenToFor : Purpose → Wanted → PlanOf → (started started_after : Starts) → RunFault → (trail : Option (List Event)) → Option (List ℕ) → Option (List ℕ) → Type 0
+IsGivenToFor Run wanted plan started started_after fault trail before after = IsRunOrAuditedTo wanted.audited wanted plan started started_after fault trail before after
+IsGivenToFor CheckSyntax wanted plan started started_after fault trail before after = IsSaidTo (codes "ok\n") started started_after trail before after
+IsGivenToFor ListHosts wanted plan started started_after fault trail before after = IsSaidTo (listing plan) started started_after trail before after
 
 -- memory was refused before anything was started or written, and so before a run began
-abbrev pub IsUnbegun : (started started_after : Option (List Launch)) → RunFault → (trail : Option (List Event)) → Option (List ℕ) → Option (List ℕ) → Type 0
+abbrev pub IsUnbegun : (started started_after : Starts) → RunFault → (trail : Option (List Event)) → Option (List ℕ) → Option (List ℕ) → Type 0
 IsUnbegun started started_after fault trail before after = (fault ≡ Memory) × (started_after ≡ started) × (trail ≡ None) × (after ≡ before)
 
 -- what a plan is made for couldn't go on: it wasn't begun, or a beginning of it was done
-abbrev pub IsGivenTo : Wanted → PlanOf → (facts_program : Option (List ℕ)) → (started started_after : Option (List Launch)) → RunFault → (trail : Option (List Event)) → Option (List ℕ) → Option (List ℕ) → Type 0
-IsGivenTo wanted plan facts_program started started_after fault trail before after =
-    IsUnbegun started started_after fault trail before after ⊎ IsGivenToFor wanted.purpose wanted plan facts_program started started_after fault trail before after
+abbrev pub IsGivenTo : Wanted → PlanOf → (started started_after : Starts) → RunFault → (trail : Option (List Event)) → Option (List ℕ) → Option (List ℕ) → Type 0
+IsGivenTo wanted plan started started_after fault trail before after =
+    IsUnbegun started started_after fault trail before after ⊎ IsGivenToFor wanted.purpose wanted plan started started_after fault trail before after

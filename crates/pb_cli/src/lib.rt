@@ -1,8 +1,9 @@
 //! The program `pb-play`: its words, its files and its messages.
 //!
 //! For the program: `play` does what its words ask for, which pb_command_line reads; `play_bundle` does what is wanted of a bundle,
-//! without files: its run, whose events it hands out, the audit of a trail in place of that, or what else is told of its plan;
-//! `read_file` gives a file's bytes up to one byte over a limit; `message` is the text of a fault for standard error.
+//! without files: its run by as many workers as it has forks, whose events it hands out, the audit of a trail in place of that, or
+//! what else is told of its plan; `system_launchers` gives the workers their launchers; `read_file` gives a file's bytes up to one
+//! byte over a limit; `message` and `file_message` are the texts of faults for standard error.
 #![tactic(auto)]
 
 mod auditing;
@@ -12,5 +13,6 @@ pub mod messages;
 pub mod playing;
 pub mod program;
 pub mod role_files;
+pub mod workers;
 
 pub use pb_command_line::words;

@@ -1,6 +1,7 @@
-ghost use Rattle.std.specs.Prelude.{◌≡◌, IfOk, IfSome, Some, string_bytes};
-ghost use Rattle.pb_cli.specs.Messages.{message, part_name};
+ghost use Rattle.std.specs.Prelude.{◌≡◌, ℕ, List, IfOk, IfSome, Some, string_bytes};
+ghost use Rattle.pb_cli.specs.Messages.{message, file_message, part_name};
 
+use crate::files::FileFault;
 use std::alloc::{AllocError, Global};
 use std::fmt;
 use std::fmt::Display;
@@ -55,4 +56,19 @@ pub fn message<F: Display>(alloc: Global, part: Part, fault: &F) -> Result<Strin
     ensures { IfOk result (λ s. IfSome (F.output fault.now) (λ text. string_bytes s ≡ message part text)) }
 {
     format!(in alloc; "pb-play: {part}: {fault}\n")
+}
+
+/// The line for standard error that tells the fault of a file: with its path in front of what the system says.
+pub fn file_message(alloc: Global, fault: &FileFault) -> Result<String, AllocError>
+    ensures { IfOk result (λ line. IfSome fault.now.path (λ path. (said : List ℕ) × (string_bytes line ≡ file_message path said))) }
+{
+    let said = format!(in alloc; "{}", fault.error)?;
+    let mut line = String::from_str(alloc, "pb-play: file: ")?;
+    if let Some(path) = &fault.path {
+        line.push_str(path.as_str())?;
+        line.push_str(": ")?;
+    }
+    line.push_str(said.as_str())?;
+    line.push('\n')?;
+    Ok(line)
 }

@@ -1,33 +1,37 @@
 //! What is done with a bundle: its plan, its warnings, and then what the plan is made for.
 
-ghost use Rattle.std.specs.Prelude.{◌≡◌, ◌≢◌, ◌⊎◌, ◌++◌, ℕ, List, Option, None, Some, IfOk, IfErr, OnErr, Ok, Err, is_some, string_bytes};
+ghost use Rattle.std.specs.Prelude.{◌≡◌, ◌≢◌, ◌⊎◌, ◌≤◌, ◌++◌, ℕ, List, length, map, Option, None, Some, IfOk, IfErr, OnErr, Ok, Err, is_some, string_bytes};
 ghost use Rattle.pb_state.specs.declared.event.Event.{Event};
 ghost use Rattle.pb_plan.specs.Bundle.{IsBundleFault};
 ghost use Rattle.pb_driver.specs.Cut.{IsPart};
+ghost use Rattle.pb_driver.specs.Driven.{IsAnswer};
+ghost use Rattle.pb_driver.specs.Ran.{IsRanTo, answers_of};
 ghost use Rattle.pb_driver.specs.Taken.{with_more, one_more};
 ghost use Rattle.pb_audit.specs.Reading.{trail_in};
 ghost use Rattle.pb_runner.specs.Reading.{table_of};
 ghost use Rattle.pb_cli.specs.Audited.{IsVerdict, IsAudited, IsAuditCut, IsBadTrail};
 ghost use Rattle.pb_cli.specs.Listing.{listing};
-ghost use Rattle.pb_cli.specs.Played.{commands_for, IsBadTable, IsRunBy, IsCutBy, IsLocalRun, IsLocalCut, IsTabled, IsTabledCut, IsPlayed, IsPlayedTo, HasTrail, IsRunOrAudited, IsRunOrAuditedTo, IsUnbegun, IsGiven, IsGivenTo};
+ghost use Rattle.pb_cli.specs.Played.{commands_for, IsBadTable, IsRunBy, IsCutBy, IsTabled, IsTabledCut, IsPlayed, IsPlayedTo, HasTrail, IsRunOrAudited, IsRunOrAuditedTo, IsUnbegun, IsGiven, IsGivenTo};
 ghost use Rattle.pb_cli.specs.Warned.{ended, warning_text, IsWarned};
 ghost use Rattle.pb_cli.specs.Done.{IsUntold, IsUnread, IsShown, IsStopped, IsUntouched, TrailsAreLegal};
 
 use crate::auditing::verdict;
 use crate::listing::listing;
+use crate::workers::run_local;
 use pb_audit::{TrailFault, read_trail};
 use pb_command_line::words::Purpose;
 use pb_driver::{Ended, Given, LineOut, RunFault, put_all, run_plain};
 use pb_engine::{Command, Lowest};
 use pb_runner::fault::TableFault;
 use pb_runner::launcher::Launcher;
-use pb_runner::local::LocalRunner;
 use pb_runner::runner::Runner;
 use pb_runner::table::TableRunner;
 use pb_state::{Bundle, BundleFault, Event, Plan};
 use pb_value::items::Items;
 use pb_value::text::Text;
 use std::alloc::{AllocError, Global};
+use std::sync::Wait;
+use std::thread::Threads;
 
 /// What is to be done with the plan of a bundle.
 pub struct Wanted {
@@ -35,6 +39,8 @@ pub struct Wanted {
     pub purpose: Purpose,
     /// After how many reports the run is stopped, if it is to be.
     pub stop_after: Option<u32>,
+    /// The path of the program that gathers facts, if there is one.
+    pub facts_program: Option<Text>,
     /// The bytes of a file of outcomes, if there is one: it says what comes of each job, and nothing is started.
     pub outcomes: Option<Items<u8>>,
     /// The bytes of a trail, if there are some: they are looked at in place of a run.
@@ -47,9 +53,11 @@ impl Drop for Wanted {
         let Wanted {
             purpose: _,
             stop_after: _,
+            facts_program,
             outcomes,
             audited,
         } = self;
+        drop(facts_program);
         drop(outcomes);
         drop(audited);
     }
@@ -86,8 +94,10 @@ fn run_given<N: Runner, O: LineOut>(
     runner: &mut N,
     out: &mut O,
 ) -> Result<(u8, Items<Event>), (RunFault, Items<Event>)>
-    ensures run { IfOk result (λ ran. IsRunBy N.allows (N.gives runner.old) (λ jobs. N.ran runner.old jobs runner.new) plan commands.now ran.1 (O.taken out.old) (O.taken out.new) ran.0) }
-    ensures cut { IfErr result (λ cut. IsCutBy N.allows (N.gives runner.old) (λ jobs. N.ran runner.old jobs runner.new) plan commands.now cut.1 cut.0 (O.taken out.old) (O.taken out.new)) }
+    ensures run { IfOk result (λ ran. IsRunBy (IsAnswer N.allows (N.gives runner.old)) plan 256 commands.now ran.1 (O.taken out.old) (O.taken out.new) ran.0) }
+    ensures ran { IfOk result (λ ran. N.ran runner.old (answers_of plan 256 ran.1) runner.new) }
+    ensures cut { IfErr result (λ cut. IsCutBy (IsAnswer N.allows (N.gives runner.old)) plan 256 commands.now cut.1 (O.taken out.old) (O.taken out.new)) }
+    ensures over { IfErr result (λ cut. IsRanTo (λ jobs. N.ran runner.old jobs runner.new) plan 256 cut.1 cut.0) }
     ensures write { IfErr result (λ cut. cut.0 ≡ RunFault.Write → O.failures out.new ≡ one_more (O.failures out.old)) }
 {
     pb_laws::runs_keep_laws();
@@ -115,8 +125,10 @@ fn run_by<N: Runner, O: LineOut>(
     runner: &mut N,
     out: &mut O,
 ) -> Result<(u8, Items<Event>), (RunFault, Items<Event>)>
-    ensures run { IfOk result (λ ran. IsRunBy N.allows (N.gives runner.old) (λ jobs. N.ran runner.old jobs runner.new) plan (commands_for stop_after) ran.1 (O.taken out.old) (O.taken out.new) ran.0) }
-    ensures cut { IfErr result (λ cut. IsCutBy N.allows (N.gives runner.old) (λ jobs. N.ran runner.old jobs runner.new) plan (commands_for stop_after) cut.1 cut.0 (O.taken out.old) (O.taken out.new)) }
+    ensures run { IfOk result (λ ran. IsRunBy (IsAnswer N.allows (N.gives runner.old)) plan 256 (commands_for stop_after) ran.1 (O.taken out.old) (O.taken out.new) ran.0) }
+    ensures ran { IfOk result (λ ran. N.ran runner.old (answers_of plan 256 ran.1) runner.new) }
+    ensures cut { IfErr result (λ cut. IsCutBy (IsAnswer N.allows (N.gives runner.old)) plan 256 (commands_for stop_after) cut.1 (O.taken out.old) (O.taken out.new)) }
+    ensures over { IfErr result (λ cut. IsRanTo (λ jobs. N.ran runner.old jobs runner.new) plan 256 cut.1 cut.0) }
     ensures write { IfErr result (λ cut. cut.0 ≡ RunFault.Write → O.failures out.new ≡ one_more (O.failures out.old)) }
 {
     match stop_after {
@@ -126,21 +138,6 @@ fn run_by<N: Runner, O: LineOut>(
         }
         None => run_given(alloc, plan, &[], runner, out),
     }
-}
-
-/// Runs a plan, with its lines on a writer: the jobs' programs are started, the runner's facts program where facts are gathered.
-fn run_local<L: Launcher, O: LineOut>(
-    alloc: Global,
-    plan: Plan,
-    stop_after: Option<u32>,
-    runner: &mut LocalRunner<L>,
-    out: &mut O,
-) -> Result<(u8, Items<Event>), (RunFault, Items<Event>)>
-    ensures run { IfOk result (λ ran. IsLocalRun plan stop_after runner.old.facts (L.launched runner.old.launcher) (L.launched runner.new.launcher) ran.1 (O.taken out.old) (O.taken out.new) ran.0) }
-    ensures cut { IfErr result (λ cut. IsLocalCut plan stop_after runner.old.facts (L.launched runner.old.launcher) (L.launched runner.new.launcher) cut.1 cut.0 (O.taken out.old) (O.taken out.new)) }
-    ensures write { IfErr result (λ cut. cut.0 ≡ RunFault.Write → O.failures out.new ≡ one_more (O.failures out.old)) }
-{
-    run_by(alloc, plan, stop_after, runner, out)
 }
 
 /// Runs a plan, with its lines on a writer. Jobs have the outcomes of a file's bytes.
@@ -174,30 +171,30 @@ fn run_tabled<O: LineOut>(
 /// Runs a plan, with its lines on a writer: the jobs' programs are started, or none where there are bytes of a file of outcomes,
 /// which say what comes of each job.
 #[tactic(auto, unfolding(crate::specs::Played::IsBadTable))]
-fn run_plan<L: Launcher, O: LineOut>(
-    alloc: Global,
+fn run_plan<L: Launcher + Send + Drop, R: AllocGlobal + Threads + Wait + Sync, O: LineOut>(
+    rt: &R,
     plan: Plan,
-    stop_after: Option<u32>,
-    outcomes: &Option<Items<u8>>,
-    runner: &mut LocalRunner<L>,
+    wanted: &Wanted,
+    launchers: &mut Vec<L>,
     out: &mut O,
 ) -> Result<Played, PlayFault>
-    ensures played { IfOk result (λ played. HasTrail played.trail (λ trail. IsPlayed plan stop_after runner.old.facts outcomes.now (L.launched runner.old.launcher) (L.launched runner.new.launcher) trail (O.taken out.old) (O.taken out.new) played.status)) }
-    ensures stopped { (fault : RunFault) (trail : Option (List Event)) → result ≡ Err (PlayFault.Run fault trail) → HasTrail trail (λ events. IsPlayedTo plan stop_after runner.old.facts outcomes.now (L.launched runner.old.launcher) (L.launched runner.new.launcher) events fault (O.taken out.old) (O.taken out.new)) }
+    requires { 256 ≤ length launchers.old.items }
+    ensures played { IfOk result (λ played. HasTrail played.trail (λ trail. IsPlayed plan wanted.now.stop_after wanted.now.facts_program wanted.now.outcomes (map L.launched launchers.old.items) (map L.launched launchers.new.items) trail (O.taken out.old) (O.taken out.new) played.status)) }
+    ensures stopped { (fault : RunFault) (trail : Option (List Event)) → result ≡ Err (PlayFault.Run fault trail) → IsUnbegun (map L.launched launchers.old.items) (map L.launched launchers.new.items) fault trail (O.taken out.old) (O.taken out.new) ⊎ HasTrail trail (λ events. IsPlayedTo plan wanted.now.stop_after wanted.now.facts_program wanted.now.outcomes (map L.launched launchers.old.items) (map L.launched launchers.new.items) events fault (O.taken out.old) (O.taken out.new)) }
     ensures write { (trail : Option (List Event)) → result ≡ Err (PlayFault.Run RunFault.Write trail) → O.failures out.new ≡ one_more (O.failures out.old) }
     ensures planned { (e : BundleFault) → result ≢ Err (PlayFault.Bundle e) }
     ensures unaudited { (e : TrailFault) → result ≢ Err (PlayFault.Trail e) }
-    ensures untold { (e : TableFault) → result ≡ Err (PlayFault.Outcomes e) → IsUntouched (L.launched runner.old.launcher) (L.launched runner.new.launcher) (O.taken out.old) (O.taken out.new) × (e ≢ TableFault.Memory → IsBadTable outcomes.now e) }
+    ensures untold { (e : TableFault) → result ≡ Err (PlayFault.Outcomes e) → IsUntouched (map L.launched launchers.old.items) (map L.launched launchers.new.items) (O.taken out.old) (O.taken out.new) × (e ≢ TableFault.Memory → IsBadTable wanted.now.outcomes e) }
 {
-    if let Some(bytes) = outcomes {
-        return run_tabled(alloc, plan, stop_after, bytes.as_slice(), out);
+    if let Some(bytes) = &wanted.outcomes {
+        return run_tabled(rt.alloc(), plan, wanted.stop_after, bytes.as_slice(), out);
     }
-    match run_local(alloc, plan, stop_after, runner, out) {
+    match run_local(rt, plan, wanted, launchers, out) {
         Ok((status, trail)) => Ok(Played {
             status,
             trail: Some(trail),
         }),
-        Err((fault, trail)) => Err(PlayFault::Run(fault, Some(trail))),
+        Err((fault, trail)) => Err(PlayFault::Run(fault, trail)),
     }
 }
 
@@ -270,52 +267,47 @@ fn show_audit<O: LineOut>(
 
 /// Runs a plan, or looks at a trail in place of that.
 #[tactic(auto, unfolding(crate::specs::Audited::IsBadTrail))]
-fn run_or_audit<L: Launcher, O: LineOut>(
-    alloc: Global,
+fn run_or_audit<L: Launcher + Send + Drop, R: AllocGlobal + Threads + Wait + Sync, O: LineOut>(
+    rt: &R,
     plan: Plan,
     wanted: &Wanted,
-    runner: &mut LocalRunner<L>,
+    launchers: &mut Vec<L>,
     out: &mut O,
 ) -> Result<Played, PlayFault>
-    ensures given { IfOk result (IsRunOrAudited wanted.now.audited wanted.now plan runner.old.facts (L.launched runner.old.launcher) (L.launched runner.new.launcher) (O.taken out.old) (O.taken out.new)) }
-    ensures stopped { (fault : RunFault) (trail : Option (List Event)) → result ≡ Err (PlayFault.Run fault trail) → IsUnbegun (L.launched runner.old.launcher) (L.launched runner.new.launcher) fault trail (O.taken out.old) (O.taken out.new) ⊎ IsRunOrAuditedTo wanted.now.audited wanted.now plan runner.old.facts (L.launched runner.old.launcher) (L.launched runner.new.launcher) fault trail (O.taken out.old) (O.taken out.new) }
+    requires { 256 ≤ length launchers.old.items }
+    ensures given { IfOk result (IsRunOrAudited wanted.now.audited wanted.now plan (map L.launched launchers.old.items) (map L.launched launchers.new.items) (O.taken out.old) (O.taken out.new)) }
+    ensures stopped { (fault : RunFault) (trail : Option (List Event)) → result ≡ Err (PlayFault.Run fault trail) → IsUnbegun (map L.launched launchers.old.items) (map L.launched launchers.new.items) fault trail (O.taken out.old) (O.taken out.new) ⊎ IsRunOrAuditedTo wanted.now.audited wanted.now plan (map L.launched launchers.old.items) (map L.launched launchers.new.items) fault trail (O.taken out.old) (O.taken out.new) }
     ensures write { (trail : Option (List Event)) → result ≡ Err (PlayFault.Run RunFault.Write trail) → O.failures out.new ≡ one_more (O.failures out.old) }
     ensures planned { (e : BundleFault) → result ≢ Err (PlayFault.Bundle e) }
-    ensures untold { (e : TableFault) → result ≡ Err (PlayFault.Outcomes e) → (wanted.now.audited ≡ None) × IsUntouched (L.launched runner.old.launcher) (L.launched runner.new.launcher) (O.taken out.old) (O.taken out.new) × (e ≢ TableFault.Memory → IsBadTable wanted.now.outcomes e) }
-    ensures unread { (e : TrailFault) → result ≡ Err (PlayFault.Trail e) → IsUntouched (L.launched runner.old.launcher) (L.launched runner.new.launcher) (O.taken out.old) (O.taken out.new) × (e ≢ TrailFault.Memory → IsBadTrail wanted.now.audited e) }
+    ensures untold { (e : TableFault) → result ≡ Err (PlayFault.Outcomes e) → (wanted.now.audited ≡ None) × IsUntouched (map L.launched launchers.old.items) (map L.launched launchers.new.items) (O.taken out.old) (O.taken out.new) × (e ≢ TableFault.Memory → IsBadTable wanted.now.outcomes e) }
+    ensures unread { (e : TrailFault) → result ≡ Err (PlayFault.Trail e) → IsUntouched (map L.launched launchers.old.items) (map L.launched launchers.new.items) (O.taken out.old) (O.taken out.new) × (e ≢ TrailFault.Memory → IsBadTrail wanted.now.audited e) }
 {
     match &wanted.audited {
-        Some(bytes) => show_audit(alloc, &plan, bytes.as_slice(), out),
-        None => run_plan(
-            alloc,
-            plan,
-            wanted.stop_after,
-            &wanted.outcomes,
-            runner,
-            out,
-        ),
+        Some(bytes) => show_audit(rt.alloc(), &plan, bytes.as_slice(), out),
+        None => run_plan(rt, plan, wanted, launchers, out),
     }
 }
 
 /// Does with a plan what it is made for.
-fn give<L: Launcher, O: LineOut>(
-    alloc: Global,
+fn give<L: Launcher + Send + Drop, R: AllocGlobal + Threads + Wait + Sync, O: LineOut>(
+    rt: &R,
     plan: Plan,
     wanted: &Wanted,
-    runner: &mut LocalRunner<L>,
+    launchers: &mut Vec<L>,
     out: &mut O,
 ) -> Result<Played, PlayFault>
-    ensures given { IfOk result (IsGiven wanted.now plan runner.old.facts (L.launched runner.old.launcher) (L.launched runner.new.launcher) (O.taken out.old) (O.taken out.new)) }
-    ensures stopped { (fault : RunFault) (trail : Option (List Event)) → result ≡ Err (PlayFault.Run fault trail) → IsGivenTo wanted.now plan runner.old.facts (L.launched runner.old.launcher) (L.launched runner.new.launcher) fault trail (O.taken out.old) (O.taken out.new) }
+    requires { 256 ≤ length launchers.old.items }
+    ensures given { IfOk result (IsGiven wanted.now plan (map L.launched launchers.old.items) (map L.launched launchers.new.items) (O.taken out.old) (O.taken out.new)) }
+    ensures stopped { (fault : RunFault) (trail : Option (List Event)) → result ≡ Err (PlayFault.Run fault trail) → IsGivenTo wanted.now plan (map L.launched launchers.old.items) (map L.launched launchers.new.items) fault trail (O.taken out.old) (O.taken out.new) }
     ensures write { (trail : Option (List Event)) → result ≡ Err (PlayFault.Run RunFault.Write trail) → O.failures out.new ≡ one_more (O.failures out.old) }
     ensures planned { (e : BundleFault) → result ≢ Err (PlayFault.Bundle e) }
-    ensures untold { (e : TableFault) → result ≡ Err (PlayFault.Outcomes e) → (wanted.now.purpose ≡ Purpose.Run) × (wanted.now.audited ≡ None) × IsUntouched (L.launched runner.old.launcher) (L.launched runner.new.launcher) (O.taken out.old) (O.taken out.new) × (e ≢ TableFault.Memory → IsBadTable wanted.now.outcomes e) }
-    ensures unread { (e : TrailFault) → result ≡ Err (PlayFault.Trail e) → (wanted.now.purpose ≡ Purpose.Run) × IsUntouched (L.launched runner.old.launcher) (L.launched runner.new.launcher) (O.taken out.old) (O.taken out.new) × (e ≢ TrailFault.Memory → IsBadTrail wanted.now.audited e) }
+    ensures untold { (e : TableFault) → result ≡ Err (PlayFault.Outcomes e) → (wanted.now.purpose ≡ Purpose.Run) × (wanted.now.audited ≡ None) × IsUntouched (map L.launched launchers.old.items) (map L.launched launchers.new.items) (O.taken out.old) (O.taken out.new) × (e ≢ TableFault.Memory → IsBadTable wanted.now.outcomes e) }
+    ensures unread { (e : TrailFault) → result ≡ Err (PlayFault.Trail e) → (wanted.now.purpose ≡ Purpose.Run) × IsUntouched (map L.launched launchers.old.items) (map L.launched launchers.new.items) (O.taken out.old) (O.taken out.new) × (e ≢ TrailFault.Memory → IsBadTrail wanted.now.audited e) }
 {
     match wanted.purpose {
         Purpose::CheckSyntax => show(out, "ok\n", 0),
-        Purpose::ListHosts => show_hosts(alloc, &plan, out),
-        Purpose::Run => run_or_audit(alloc, plan, wanted, runner, out),
+        Purpose::ListHosts => show_hosts(rt.alloc(), &plan, out),
+        Purpose::Run => run_or_audit(rt, plan, wanted, launchers, out),
     }
 }
 
@@ -351,32 +343,41 @@ fn push_line(text: &mut String, line: &Text) -> Result<(), AllocError>
 /// stopped behind so many reports, if that is asked for; or a trail is looked at in place of that, and it is written whether this is
 /// a legal run of the plan; or its hosts are listed, or nothing but `ok` is written. Warnings of the plan are written before that, on
 /// a writer of their own. The events of a run are handed out, in their order.
-/// Without outcomes the runner has each job's program started, the oldest job first and one at a time, and its facts program where
-/// facts are gathered; with them nothing is started, and they say what comes of each job. That facts are gathered by a program at
-/// all is the bundle's to say, which says so exactly where the runner has such a program.
+/// Without outcomes each job's program is started, and the facts program where facts are gathered, by as many workers as the bundle
+/// has forks, each in a thread of its own and with one of the launchers, which come back in their order; with them nothing is
+/// started, and they say what comes of each job. That facts are gathered by a program at all is the bundle's to say, which says so
+/// exactly where there is such a program.
 ///
 /// # Errors
 /// `Bundle` with the bundle's first fault, where it has no plan: nothing is started, and nothing written on `out` then. `Outcomes`
 /// with the first fault of the outcomes, which are looked into only where there is a plan, its warnings are written, and it is to
 /// be run, and `Trail` with that of a trail, which is looked into only where it is to be looked at in place of a run: nothing is
 /// started, and nothing written on `out` then. `Run` where memory was refused or the writer failed: what was started and written
-/// then is the beginning of such a run, whose events so far are handed out.
-pub fn play_bundle<L: Launcher, O: LineOut, E: LineOut>(
-    alloc: Global,
+/// then is the beginning of such a run, whose events so far are handed out, and the reports of jobs that were out were waited for;
+/// and where a worker's thread couldn't be made, before anything was started or written.
+pub fn play_bundle<
+    L: Launcher + Send + Drop,
+    R: AllocGlobal + Threads + Wait + Sync,
+    O: LineOut,
+    E: LineOut,
+>(
+    rt: &R,
     bundle: &Bundle,
     wanted: &Wanted,
-    runner: &mut LocalRunner<L>,
+    launchers: &mut Vec<L>,
     out: &mut O,
     err: &mut E,
 ) -> Result<Played, PlayFault>
-    requires { bundle.now.has_facts_program ≡ is_some runner.old.facts }
-    ensures answered { IfOk result (IsShown bundle.now wanted.now runner.old.facts (L.launched runner.old.launcher) (L.launched runner.new.launcher) (O.taken out.old) (O.taken out.new) (E.taken err.old) (E.taken err.new) (E.failures err.old) (E.failures err.new)) }
-    ensures refused { (e : BundleFault) → result ≡ Err (PlayFault.Bundle e) → IsUntouched (L.launched runner.old.launcher) (L.launched runner.new.launcher) (O.taken out.old) (O.taken out.new) × (e ≢ BundleFault.Memory → IsBundleFault bundle.now e) }
-    ensures untold { (e : TableFault) → result ≡ Err (PlayFault.Outcomes e) → IsUntold bundle.now wanted.now e (L.launched runner.old.launcher) (L.launched runner.new.launcher) (O.taken out.old) (O.taken out.new) (E.taken err.old) (E.taken err.new) (E.failures err.old) (E.failures err.new) }
-    ensures unread { (e : TrailFault) → result ≡ Err (PlayFault.Trail e) → IsUnread bundle.now wanted.now e (L.launched runner.old.launcher) (L.launched runner.new.launcher) (O.taken out.old) (O.taken out.new) (E.taken err.old) (E.taken err.new) (E.failures err.old) (E.failures err.new) }
-    ensures stopped { (fault : RunFault) (trail : Option (List Event)) → result ≡ Err (PlayFault.Run fault trail) → IsStopped bundle.now wanted.now runner.old.facts fault trail (L.launched runner.old.launcher) (L.launched runner.new.launcher) (O.taken out.old) (O.taken out.new) }
+    requires facts { bundle.now.has_facts_program ≡ is_some wanted.now.facts_program }
+    requires launchers { 256 ≤ length launchers.old.items }
+    ensures answered { IfOk result (IsShown bundle.now wanted.now (map L.launched launchers.old.items) (map L.launched launchers.new.items) (O.taken out.old) (O.taken out.new) (E.taken err.old) (E.taken err.new) (E.failures err.old) (E.failures err.new)) }
+    ensures refused { (e : BundleFault) → result ≡ Err (PlayFault.Bundle e) → IsUntouched (map L.launched launchers.old.items) (map L.launched launchers.new.items) (O.taken out.old) (O.taken out.new) × (e ≢ BundleFault.Memory → IsBundleFault bundle.now e) }
+    ensures untold { (e : TableFault) → result ≡ Err (PlayFault.Outcomes e) → IsUntold bundle.now wanted.now e (map L.launched launchers.old.items) (map L.launched launchers.new.items) (O.taken out.old) (O.taken out.new) (E.taken err.old) (E.taken err.new) (E.failures err.old) (E.failures err.new) }
+    ensures unread { (e : TrailFault) → result ≡ Err (PlayFault.Trail e) → IsUnread bundle.now wanted.now e (map L.launched launchers.old.items) (map L.launched launchers.new.items) (O.taken out.old) (O.taken out.new) (E.taken err.old) (E.taken err.new) (E.failures err.old) (E.failures err.new) }
+    ensures stopped { (fault : RunFault) (trail : Option (List Event)) → result ≡ Err (PlayFault.Run fault trail) → IsStopped bundle.now wanted.now fault trail (map L.launched launchers.old.items) (map L.launched launchers.new.items) (O.taken out.old) (O.taken out.new) }
     ensures write { (trail : Option (List Event)) → result ≡ Err (PlayFault.Run RunFault.Write trail) → O.failures out.new ≡ one_more (O.failures out.old) }
 {
+    let alloc = rt.alloc();
     let plan = match Plan::of(alloc, bundle) {
         Ok(plan) => plan,
         Err(fault) => return Err(PlayFault::Bundle(fault)),
@@ -384,7 +385,7 @@ pub fn play_bundle<L: Launcher, O: LineOut, E: LineOut>(
     if warn(alloc, &plan, err).is_err() {
         return Err(PlayFault::Run(RunFault::Memory, None));
     }
-    give(alloc, plan, wanted, runner, out)
+    give(rt, plan, wanted, launchers, out)
 }
 
 /// What holds of each trail that `play_bundle` hands out, be it of a whole run or of one that couldn't go on: it is a legal run

@@ -1,12 +1,12 @@
 //! The program, but for its words' and its streams' making.
 
-ghost use Rattle.std.specs.Prelude.{◌≡◌, ◌≢◌, ◌⊎◌, ◌≤◌, ◌+◌, IfOk, IfSome, OnErr, is_some, length, map, true, string_bytes};
+ghost use Rattle.std.specs.Prelude.{◌≡◌, ◌≢◌, ◌⊎◌, ◌≤◌, ◌+◌, IfOk, IfErr, IfSome, OnErr, Some, is_some, length, map, true, string_bytes};
 ghost use Rattle.pb_value.specs.Limits.{max_bytes};
 ghost use Rattle.pb_cli.specs.Done.{IsBundleOf, IsWantedBy, is_too_long, IsShownAs, IsDone, IsUntouched, IsCutOrUnkept, IsBroken, IsHelped, IsAnswered, IsUnended};
 ghost use Rattle.pb_cli.specs.RoleFiles.{AreRolesIn};
 
-use crate::files::read_file;
-use crate::messages::{Part, message};
+use crate::files::{FileFault, read_named};
+use crate::messages::{Part, file_message, message};
 use crate::playing::{PlayFault, Wanted, play_bundle};
 use crate::role_files::read_role_files;
 use pb_audit::trail_text;
@@ -14,33 +14,37 @@ use pb_command_line::words::{Request, WordsFault, read_words};
 use pb_driver::{LineOut, RunFault, put_all};
 use pb_roles::RoleFiles;
 use pb_runner::launcher::Launcher;
-use pb_runner::local::LocalRunner;
 use pb_state::{Bundle, BundleFault, Event, MAX_BYTES};
 use pb_value::items::Items;
 use pb_value::text::Text;
 use std::alloc::{AllocError, Global};
 use std::fmt::Display;
+use std::fs;
 use std::fs::Files;
-use std::{fs, io};
+use std::sync::Wait;
+use std::thread::Threads;
 
-/// The program `pb-play`: what its words ask for, with its output on `out` and its faults on `err`. The runner has programs
-/// started; its facts program becomes the one that the words name. It answers the exit status: that of the run's recap, 0 where
+/// What is wrong with a file of outcomes that has more bytes than one may have.
+const TOO_LONG: &str = "the outcomes have more than 64 MiB";
+
+/// The program `pb-play`: what its words ask for, with its output on `out` and its faults on `err`. Each worker of a run has one of
+/// the launchers start its programs. It answers the exit status: that of the run's recap, 0 where
 /// help was asked for or nothing is run, and 1 at a fault, which is told on `err`.
-pub fn play<R: Files + AllocGlobal, L: Launcher, O: LineOut, E: LineOut>(
-    rt: &R,
-    words: &[String],
-    runner: &mut LocalRunner<L>,
-    out: &mut O,
-    err: &mut E,
-) -> u8
-    ensures done { result ≢ 1 → (IsHelped (map string_bytes words.now) (O.taken out.old) (O.taken out.new) result × (L.launched runner.new.launcher ≡ L.launched runner.old.launcher))
-        ⊎ IsAnswered (map string_bytes words.now) (L.launched runner.old.launcher) (L.launched runner.new.launcher) (O.taken out.old) (O.taken out.new) (E.taken err.old) (E.taken err.new) (E.failures err.old) (E.failures err.new) result }
-    ensures fault { result ≡ 1 → IsUntouched (L.launched runner.old.launcher) (L.launched runner.new.launcher) (O.taken out.old) (O.taken out.new)
-        ⊎ IsUnended (map string_bytes words.now) (L.launched runner.old.launcher) (L.launched runner.new.launcher) (O.taken out.old) (O.taken out.new) (E.taken err.old) (O.failures out.old) (O.failures out.new) (E.failures err.old) }
+pub fn play<
+    R: Files + AllocGlobal + Threads + Wait + Sync,
+    L: Launcher + Send + Drop,
+    O: LineOut,
+    E: LineOut,
+>(rt: &R, words: &[String], launchers: &mut Vec<L>, out: &mut O, err: &mut E) -> u8
+    requires { 256 ≤ length launchers.old.items }
+    ensures done { result ≢ 1 → (IsHelped (map string_bytes words.now) (O.taken out.old) (O.taken out.new) result × (map L.launched launchers.new.items ≡ map L.launched launchers.old.items))
+        ⊎ IsAnswered (map string_bytes words.now) (map L.launched launchers.old.items) (map L.launched launchers.new.items) (O.taken out.old) (O.taken out.new) (E.taken err.old) (E.taken err.new) (E.failures err.old) (E.failures err.new) result }
+    ensures fault { result ≡ 1 → IsUntouched (map L.launched launchers.old.items) (map L.launched launchers.new.items) (O.taken out.old) (O.taken out.new)
+        ⊎ IsUnended (map string_bytes words.now) (map L.launched launchers.old.items) (map L.launched launchers.new.items) (O.taken out.old) (O.taken out.new) (E.taken err.old) (O.failures out.old) (O.failures out.new) (E.failures err.old) }
 {
     let alloc = rt.alloc();
     match read_words(alloc, words) {
-        Ok(request) => play_request(rt, request, runner, out, err),
+        Ok(request) => play_request(rt, request, launchers, out, err),
         Err(WordsFault::Help { text }) => match put_all(out, text.as_str().as_bytes()) {
             Ok(()) => 0,
             Err(_) => told(alloc, err, Part::Run, &RunFault::Write),
@@ -60,7 +64,7 @@ pub fn play<R: Files + AllocGlobal, L: Launcher, O: LineOut, E: LineOut>(
 struct Asked {
     bundle: Bundle,
     wanted: Wanted,
-    facts_program: Option<Text>,
+    outcomes_path: Option<Text>,
     trail: Option<Text>,
 }
 
@@ -70,83 +74,58 @@ impl Drop for Asked {
         let Asked {
             bundle,
             wanted,
-            facts_program,
+            outcomes_path,
             trail,
         } = self;
         drop(bundle);
         drop(wanted);
-        drop(facts_program);
+        drop(outcomes_path);
         drop(trail);
     }
 }
 
 /// Reads the files that were asked for, and plays them.
-fn play_request<R: Files + AllocGlobal, L: Launcher, O: LineOut, E: LineOut>(
-    rt: &R,
-    request: Request,
-    runner: &mut LocalRunner<L>,
-    out: &mut O,
-    err: &mut E,
-) -> u8
-    ensures done { result ≢ 1 → IsDone request (L.launched runner.old.launcher) (L.launched runner.new.launcher) (O.taken out.old) (O.taken out.new) (E.taken err.old) (E.taken err.new) (E.failures err.old) (E.failures err.new) result }
-    ensures fault { result ≡ 1 → IsUntouched (L.launched runner.old.launcher) (L.launched runner.new.launcher) (O.taken out.old) (O.taken out.new)
-        ⊎ IsBroken request (L.launched runner.old.launcher) (L.launched runner.new.launcher) (O.taken out.old) (O.taken out.new) (E.taken err.old) (O.failures out.old) (O.failures out.new) (E.failures err.old) }
+fn play_request<
+    R: Files + AllocGlobal + Threads + Wait + Sync,
+    L: Launcher + Send + Drop,
+    O: LineOut,
+    E: LineOut,
+>(rt: &R, request: Request, launchers: &mut Vec<L>, out: &mut O, err: &mut E) -> u8
+    requires { 256 ≤ length launchers.old.items }
+    ensures done { result ≢ 1 → IsDone request (map L.launched launchers.old.items) (map L.launched launchers.new.items) (O.taken out.old) (O.taken out.new) (E.taken err.old) (E.taken err.new) (E.failures err.old) (E.failures err.new) result }
+    ensures fault { result ≡ 1 → IsUntouched (map L.launched launchers.old.items) (map L.launched launchers.new.items) (O.taken out.old) (O.taken out.new)
+        ⊎ IsBroken request (map L.launched launchers.old.items) (map L.launched launchers.new.items) (O.taken out.old) (O.taken out.new) (E.taken err.old) (O.failures out.old) (O.failures out.new) (E.failures err.old) }
 {
     let alloc = rt.alloc();
     let asked = match read_files(rt, request) {
         Ok(asked) => asked,
-        Err(error) => return told(alloc, err, Part::File, &error),
+        Err(fault) => return told_file(alloc, err, &fault),
     };
     if is_too_long(&asked.wanted.outcomes) {
-        return told(
-            alloc,
-            err,
-            Part::File,
-            &"the outcomes have more than 64 MiB",
-        );
+        return told_too_long(alloc, err, &asked.outcomes_path);
     }
-    play_asked(rt, &asked, runner, out, err)
-}
-
-/// Plays what was asked for with its facts program, keeps its trail, and tells a fault.
-fn play_asked<R: Files + AllocGlobal, L: Launcher, O: LineOut, E: LineOut>(
-    rt: &R,
-    asked: &Asked,
-    runner: &mut LocalRunner<L>,
-    out: &mut O,
-    err: &mut E,
-) -> u8
-    requires { asked.now.bundle.has_facts_program ≡ is_some asked.now.facts_program }
-    ensures done { result ≢ 1 → IsShownAs result asked.now.bundle asked.now.wanted asked.now.facts_program (L.launched runner.old.launcher) (L.launched runner.new.launcher) (O.taken out.old) (O.taken out.new) (E.taken err.old) (E.taken err.new) (E.failures err.old) (E.failures err.new) }
-    ensures fault { result ≡ 1 → IsUntouched (L.launched runner.old.launcher) (L.launched runner.new.launcher) (O.taken out.old) (O.taken out.new)
-        ⊎ IsCutOrUnkept asked.now.bundle asked.now.wanted asked.now.facts_program asked.now.trail (L.launched runner.old.launcher) (L.launched runner.new.launcher) (O.taken out.old) (O.taken out.new) (E.taken err.old) (O.failures out.old) (O.failures out.new) (E.failures err.old) }
-{
-    let Ok(path) = path_in(&asked.facts_program) else {
-        return told(rt.alloc(), err, Part::Run, &RunFault::Memory);
-    };
-    runner.facts = path;
-    play_by(rt, asked, runner, out, err)
+    play_asked(rt, &asked, launchers, out, err)
 }
 
 /// Plays what was asked for, keeps its trail, and tells a fault.
 #[tactic(auto, using(crate::proofs::Running::not_shown))]
-fn play_by<R: Files + AllocGlobal, L: Launcher, O: LineOut, E: LineOut>(
-    rt: &R,
-    asked: &Asked,
-    runner: &mut LocalRunner<L>,
-    out: &mut O,
-    err: &mut E,
-) -> u8
-    requires { asked.now.bundle.has_facts_program ≡ is_some runner.old.facts }
-    ensures done { result ≢ 1 → IsShownAs result asked.now.bundle asked.now.wanted runner.old.facts (L.launched runner.old.launcher) (L.launched runner.new.launcher) (O.taken out.old) (O.taken out.new) (E.taken err.old) (E.taken err.new) (E.failures err.old) (E.failures err.new) }
-    ensures fault { result ≡ 1 → IsUntouched (L.launched runner.old.launcher) (L.launched runner.new.launcher) (O.taken out.old) (O.taken out.new)
-        ⊎ IsCutOrUnkept asked.now.bundle asked.now.wanted runner.old.facts asked.now.trail (L.launched runner.old.launcher) (L.launched runner.new.launcher) (O.taken out.old) (O.taken out.new) (E.taken err.old) (O.failures out.old) (O.failures out.new) (E.failures err.old) }
+fn play_asked<
+    R: Files + AllocGlobal + Threads + Wait + Sync,
+    L: Launcher + Send + Drop,
+    O: LineOut,
+    E: LineOut,
+>(rt: &R, asked: &Asked, launchers: &mut Vec<L>, out: &mut O, err: &mut E) -> u8
+    requires facts { asked.now.bundle.has_facts_program ≡ is_some asked.now.wanted.facts_program }
+    requires launchers { 256 ≤ length launchers.old.items }
+    ensures done { result ≢ 1 → IsShownAs result asked.now.bundle asked.now.wanted (map L.launched launchers.old.items) (map L.launched launchers.new.items) (O.taken out.old) (O.taken out.new) (E.taken err.old) (E.taken err.new) (E.failures err.old) (E.failures err.new) }
+    ensures fault { result ≡ 1 → IsUntouched (map L.launched launchers.old.items) (map L.launched launchers.new.items) (O.taken out.old) (O.taken out.new)
+        ⊎ IsCutOrUnkept asked.now.bundle asked.now.wanted asked.now.trail (map L.launched launchers.old.items) (map L.launched launchers.new.items) (O.taken out.old) (O.taken out.new) (E.taken err.old) (O.failures out.old) (O.failures out.new) (E.failures err.old) }
 {
     let alloc = rt.alloc();
-    match play_bundle(alloc, &asked.bundle, &asked.wanted, runner, out, err) {
+    match play_bundle(rt, &asked.bundle, &asked.wanted, launchers, out, err) {
         Ok(played) => match keep(rt, &asked.trail, &played.trail) {
             Ok(()) => played.status,
-            Err(error) => told(alloc, err, Part::File, &error),
+            Err(fault) => told_file(alloc, err, &fault),
         },
         Err(PlayFault::Run(fault, trail)) => told_run(rt, &asked.trail, err, fault, &trail),
         Err(PlayFault::Outcomes(fault)) => told(alloc, err, Part::Outcomes, &fault),
@@ -169,7 +148,7 @@ fn told_run<R: Files + AllocGlobal, E: LineOut>(
     let status = told(alloc, err, Part::Run, &fault);
     match keep(rt, path, trail) {
         Ok(()) => status,
-        Err(error) => told(alloc, err, Part::File, &error),
+        Err(fault) => told_file(alloc, err, &fault),
     }
 }
 
@@ -178,40 +157,33 @@ fn keep<R: Files + AllocGlobal>(
     rt: &R,
     path: &Option<Text>,
     trail: &Option<Items<Event>>,
-) -> io::Result<()>
+) -> Result<(), FileFault>
     ensures named { OnErr result (is_some path.now ≡ true) }
     ensures run { OnErr result (is_some trail.now ≡ true) }
+    ensures fault { IfErr result (λ fault. IfSome fault.path (λ named. path.now ≡ Some named)) }
 {
     let (Some(path), Some(trail)) = (path, trail) else {
         return Ok(());
     };
     // (the text first, so that the file stays as it was where memory is refused)
     let text = trail_text(rt.alloc(), trail.as_slice())?;
-    fs::write(rt, path.as_str(), text.as_slice())
-}
-
-/// The path of a facts program, if there is one, as a text of its own.
-fn path_in(facts_program: &Option<Text>) -> Result<Option<Text>, AllocError>
-    ensures { IfOk result (λ path. path ≡ facts_program.now) }
-{
-    match facts_program {
-        Some(path) => Ok(Some(path.try_clone()?)),
-        None => Ok(None),
+    match fs::write(rt, path.as_str(), text.as_slice()) {
+        Ok(()) => Ok(()),
+        Err(error) => Err(FileFault::at(rt.alloc(), path.as_str(), error)),
     }
 }
 
 /// The files' bytes: of each as many as the bundle has room for, and one more where there are more.
-fn read_files<R: Files + AllocGlobal>(rt: &R, request: Request) -> io::Result<Asked>
+fn read_files<R: Files + AllocGlobal>(rt: &R, request: Request) -> Result<Asked, FileFault>
     ensures bundle { IfOk result (λ asked. IsBundleOf request asked.bundle) }
     ensures wanted { IfOk result (λ asked. IsWantedBy request asked.wanted) }
-    ensures facts { IfOk result (λ asked. asked.facts_program ≡ request.facts_program) }
     ensures trail { IfOk result (λ asked. asked.trail ≡ request.trail) }
 {
     let Request {
         inventory,
         playbook,
         forks,
-        outcomes,
+        outcomes: outcomes_path,
         limit,
         extra,
         roles,
@@ -221,12 +193,12 @@ fn read_files<R: Files + AllocGlobal>(rt: &R, request: Request) -> io::Result<As
         audit,
         purpose,
     } = request;
-    let inventory = read_file(rt, inventory.as_str(), MAX_BYTES)?;
+    let inventory = read_named(rt, inventory.as_str(), MAX_BYTES)?;
     let room = MAX_BYTES.saturating_sub(inventory.len());
-    let playbook = read_file(rt, playbook.as_str(), room)?;
+    let playbook = read_named(rt, playbook.as_str(), room)?;
     let room = room.saturating_sub(playbook.len());
     let roles = read_roles(rt, &roles, room)?;
-    let outcomes = read_outcomes(rt, &outcomes)?;
+    let outcomes = read_outcomes(rt, &outcomes_path)?;
     let audited = read_audited(rt, &audit)?;
     let bundle = Bundle {
         inventory: Items::from_vec(inventory),
@@ -240,13 +212,14 @@ fn read_files<R: Files + AllocGlobal>(rt: &R, request: Request) -> io::Result<As
     let wanted = Wanted {
         purpose,
         stop_after,
+        facts_program,
         outcomes,
         audited,
     };
     Ok(Asked {
         bundle,
         wanted,
-        facts_program,
+        outcomes_path,
         trail,
     })
 }
@@ -256,7 +229,7 @@ fn read_roles<R: Files + AllocGlobal>(
     rt: &R,
     dir: &Option<Text>,
     room: usize,
-) -> io::Result<RoleFiles>
+) -> Result<RoleFiles, FileFault>
     requires { room ≤ max_bytes }
     ensures { IfOk result (λ roles. AreRolesIn room dir.now roles.files) }
 {
@@ -272,13 +245,14 @@ fn read_roles<R: Files + AllocGlobal>(
 fn read_outcomes<R: Files + AllocGlobal>(
     rt: &R,
     path: &Option<Text>,
-) -> io::Result<Option<Items<u8>>>
+) -> Result<Option<Items<u8>>, FileFault>
     ensures named { IfOk result (λ bytes. is_some bytes ≡ is_some path.now) }
     ensures bound { IfOk result (λ bytes. IfSome bytes (λ bytes. length bytes ≤ max_bytes + 1)) }
+    ensures fault { IfErr result (λ fault. IfSome fault.path (λ named. path.now ≡ Some named)) }
 {
     match path {
         Some(path) => {
-            let bytes = read_file(rt, path.as_str(), MAX_BYTES)?;
+            let bytes = read_named(rt, path.as_str(), MAX_BYTES)?;
             Ok(Some(Items::from_vec(bytes)))
         }
         None => Ok(None),
@@ -289,11 +263,15 @@ fn read_outcomes<R: Files + AllocGlobal>(
 fn read_audited<R: Files + AllocGlobal>(
     rt: &R,
     path: &Option<Text>,
-) -> io::Result<Option<Items<u8>>>
-    ensures { IfOk result (λ bytes. is_some bytes ≡ is_some path.now) }
+) -> Result<Option<Items<u8>>, FileFault>
+    ensures named { IfOk result (λ bytes. is_some bytes ≡ is_some path.now) }
+    ensures fault { IfErr result (λ fault. IfSome fault.path (λ named. path.now ≡ Some named)) }
 {
     match path {
-        Some(path) => Ok(Some(Items::from_vec(fs::read(rt, path.as_str())?))),
+        Some(path) => match fs::read(rt, path.as_str()) {
+            Ok(bytes) => Ok(Some(Items::from_vec(bytes))),
+            Err(error) => Err(FileFault::at(rt.alloc(), path.as_str(), error)),
+        },
         None => Ok(None),
     }
 }
@@ -324,12 +302,39 @@ fn told_bundle<E: LineOut>(alloc: Global, err: &mut E, fault: &BundleFault) -> u
     }
 }
 
-/// Tells a fault of a part. That standard error fails changes nothing: the status is 1.
+/// Tells that the file of outcomes at a path is too long.
+fn told_too_long<E: LineOut>(alloc: Global, err: &mut E, path: &Option<Text>) -> u8
+    ensures { result ≡ 1 }
+{
+    let Some(path) = path else {
+        return told(alloc, err, Part::File, &TOO_LONG);
+    };
+    match format!(in alloc; "{path}: {TOO_LONG}") {
+        Ok(text) => told(alloc, err, Part::File, &text.as_str()),
+        Err(_) => told(alloc, err, Part::File, &TOO_LONG),
+    }
+}
+
+/// Tells the fault of a file, by its path.
+fn told_file<E: LineOut>(alloc: Global, err: &mut E, fault: &FileFault) -> u8
+    ensures { result ≡ 1 }
+{
+    told_line(err, file_message(alloc, fault))
+}
+
+/// Tells a fault of a part.
 fn told<E: LineOut, F: Display>(alloc: Global, err: &mut E, part: Part, fault: &F) -> u8
     ensures { result ≡ 1 }
 {
-    if let Ok(text) = message(alloc, part, fault) {
-        let _ = put_all(err, text.as_bytes());
+    told_line(err, message(alloc, part, fault))
+}
+
+/// Writes the line of a fault, if there is memory for it. That standard error fails changes nothing: the status is 1.
+fn told_line<E: LineOut>(err: &mut E, line: Result<String, AllocError>) -> u8
+    ensures { result ≡ 1 }
+{
+    if let Ok(line) = line {
+        let _ = put_all(err, line.as_bytes());
     }
     1
 }

@@ -1,17 +1,17 @@
 //! The files of the roles that stand in a folder.
 
-ghost use Rattle.std.specs.Prelude.{◌≡◌, ◌≤◌, ◌+◌, ◌-◌, ◌++◌, length, map, string_bytes, codes, IfOk};
+ghost use Rattle.std.specs.Prelude.{◌≡◌, ◌≤◌, ◌+◌, ◌-◌, ◌++◌, length, map, string_bytes, codes, IfOk, IfErr, IfSome};
 ghost use Rattle.pb_value.specs.Limits.{max_bytes};
 ghost use Rattle.pb_cli.specs.RoleFiles.{folder_name, role_path, AreRolePaths, FitIn, InOrder, AreRoleFiles};
 
-use crate::files::read_file;
+use crate::files::{FileFault, read_named};
 use pb_roles::{RoleFile, RoleFiles};
 use pb_value::items::Items;
 use pb_value::text::Text;
 use std::alloc::{AllocError, Global};
+use std::fs;
 use std::fs::Files;
 use std::io::ErrorKind;
-use std::{fs, io};
 
 /// A folder of a role, which has one file.
 #[derive(Clone, Copy, Debug, PartialEq, Eq)]
@@ -61,13 +61,13 @@ fn path_in(alloc: Global, dir: &str, path: &str) -> Result<String, AllocError>
 
 /// Whether something stands at the path in the folder. What can't be looked for is an error: a link that leads in a circle, or a
 /// folder that can't be searched.
-fn is_there<R: Files + AllocGlobal>(rt: &R, dir: &str, path: &str) -> io::Result<bool> {
+fn is_there<R: Files + AllocGlobal>(rt: &R, dir: &str, path: &str) -> Result<bool, FileFault> {
     let whole = path_in(rt.alloc(), dir, path)?;
     match fs::metadata(rt, whole.as_str()) {
         Ok(_) => Ok(true),
         Err(error) => match error.kind() {
             ErrorKind::NotFound | ErrorKind::NotADirectory => Ok(false),
-            _ => Err(error),
+            _ => Err(FileFault::at(rt.alloc(), whole.as_str(), error)),
         },
     }
 }
@@ -80,7 +80,7 @@ fn push_path<R: Files + AllocGlobal>(
     name: &str,
     folder: RoleFolder,
     paths: &mut Vec<String>,
-) -> io::Result<()>
+) -> Result<(), FileFault>
     ensures { AreRolePaths (map string_bytes paths.old.items) → IfOk result (λ _. AreRolePaths (map string_bytes paths.new.items)) }
 {
     let path = role_path(rt.alloc(), name, folder)?;
@@ -96,7 +96,7 @@ fn push_role<R: Files + AllocGlobal>(
     dir: &str,
     name: &str,
     paths: &mut Vec<String>,
-) -> io::Result<()>
+) -> Result<(), FileFault>
     ensures { AreRolePaths (map string_bytes paths.old.items) → IfOk result (λ _. AreRolePaths (map string_bytes paths.new.items)) }
 {
     push_path(rt, dir, name, RoleFolder::Defaults, paths)?;
@@ -109,12 +109,19 @@ fn push_role<R: Files + AllocGlobal>(
 
 /// The paths of the roles' files in a folder, as they come. An entry of it that isn't a folder, or is one without such files, has none.
 #[tactic(auto, using(crate::proofs::RolePaths::no_paths))]
-fn found_paths<R: Files + AllocGlobal>(rt: &R, dir: &str) -> io::Result<Vec<String>>
+fn found_paths<R: Files + AllocGlobal>(rt: &R, dir: &str) -> Result<Vec<String>, FileFault>
     ensures { IfOk result (λ paths. AreRolePaths (map string_bytes paths.items)) }
 {
     let mut paths = Vec::new(rt.alloc());
-    for entry in fs::read_dir(&(rt, rt.alloc()), dir)? {
-        let entry = entry?;
+    let entries = match fs::read_dir(&(rt, rt.alloc()), dir) {
+        Ok(entries) => entries,
+        Err(error) => return Err(FileFault::at(rt.alloc(), dir, error)),
+    };
+    for entry in entries {
+        let entry = match entry {
+            Ok(entry) => entry,
+            Err(error) => return Err(FileFault::at(rt.alloc(), dir, error)),
+        };
         push_role(rt, dir, entry.file_name(), &mut paths)?;
     }
     Ok(paths)
@@ -122,7 +129,7 @@ fn found_paths<R: Files + AllocGlobal>(rt: &R, dir: &str) -> io::Result<Vec<Stri
 
 /// The paths of the roles' files in a folder, in byte order.
 #[tactic(auto, using(crate::proofs::RolePaths::moved_paths, crate::proofs::RolePaths::in_order))]
-fn sorted_paths<R: Files + AllocGlobal>(rt: &R, dir: &str) -> io::Result<Vec<String>>
+fn sorted_paths<R: Files + AllocGlobal>(rt: &R, dir: &str) -> Result<Vec<String>, FileFault>
     ensures form { IfOk result (λ paths. AreRolePaths (map string_bytes paths.items)) }
     ensures order { IfOk result (λ paths. InOrder (map string_bytes paths.items)) }
 {
@@ -144,14 +151,15 @@ fn read_role_file<R: Files + AllocGlobal>(
     dir: &str,
     path: &str,
     room: usize,
-) -> io::Result<RoleFile>
+) -> Result<RoleFile, FileFault>
     requires { room ≤ max_bytes }
     ensures path { IfOk result (λ file. file.path ≡ path.now) }
     ensures bound { IfOk result (λ file. length file.bytes ≤ room - length path.now + 1) }
+    ensures fault { IfErr result (λ fault. IfSome fault.path (λ named. named ≡ dir.now ++ codes "/" ++ path.now)) }
 {
     let alloc = rt.alloc();
     let whole = path_in(alloc, dir, path)?;
-    let bytes = read_file(rt, whole.as_str(), room.saturating_sub(path.len()))?;
+    let bytes = read_named(rt, whole.as_str(), room.saturating_sub(path.len()))?;
     Ok(RoleFile {
         path: Text::from_str(alloc, path)?,
         bytes: Items::from_vec(bytes),
@@ -164,7 +172,7 @@ fn read_paths<R: Files + AllocGlobal>(
     dir: &str,
     paths: &[String],
     room: usize,
-) -> io::Result<Vec<RoleFile>>
+) -> Result<Vec<RoleFile>, FileFault>
     requires { room ≤ max_bytes }
     ensures paths { IfOk result (λ files. map (λ f. f.path) files.items ≡ map string_bytes paths.now) }
     ensures room { IfOk result (λ files. FitIn room files.items) }
@@ -190,7 +198,7 @@ pub fn read_role_files<R: Files + AllocGlobal>(
     rt: &R,
     dir: &str,
     room: usize,
-) -> io::Result<RoleFiles>
+) -> Result<RoleFiles, FileFault>
     requires { room ≤ max_bytes }
     ensures { IfOk result (λ roles. AreRoleFiles room roles.files) }
 {

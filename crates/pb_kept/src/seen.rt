@@ -2,11 +2,12 @@
 
 use crate::kept::Kept;
 use pb_cli::program::play;
-use pb_runner::local::LocalRunner;
-use pb_runner::system::SystemLauncher;
+use pb_cli::workers::system_launchers;
 use std::alloc::{AllocError, Global};
 use std::fs::Files;
 use std::process::{Processes, SystemProcess};
+use std::sync::Wait;
+use std::thread::Threads;
 
 /// What a play showed: its standard output, its standard error and its exit status.
 pub struct Seen {
@@ -28,22 +29,17 @@ impl Drop for Seen {
 }
 
 /// Plays these words, the first of which is the program's name, with this writer as standard output.
-pub fn play_words<R: Files + AllocGlobal + Processes<Started = SystemProcess>>(
-    rt: &R,
-    words: &[String],
-    mut out: Kept,
-) -> Seen {
+pub fn play_words<
+    R: Files + AllocGlobal + Processes<Started = SystemProcess> + Threads + Wait + Sync,
+>(rt: &R, words: &[String], mut out: Kept) -> Result<Seen, AllocError> {
     let mut err = Kept::new(rt.alloc());
-    let mut runner = LocalRunner {
-        launcher: SystemLauncher::new(rt),
-        facts: None,
-    };
-    let status = play(rt, words, &mut runner, &mut out, &mut err);
-    Seen {
+    let mut launchers = system_launchers(rt)?;
+    let status = play(rt, words, &mut launchers, &mut out, &mut err);
+    Ok(Seen {
         out: out.into_bytes(),
         err: err.into_bytes(),
         status,
-    }
+    })
 }
 
 /// The program's name and these texts.
@@ -57,11 +53,9 @@ fn words_of(alloc: Global, texts: &[&str]) -> Result<Vec<String>, AllocError> {
 }
 
 /// Plays the words behind the program's name, with this writer as standard output.
-pub fn play_texts<R: Files + AllocGlobal + Processes<Started = SystemProcess>>(
-    rt: &R,
-    texts: &[&str],
-    out: Kept,
-) -> Result<Seen, AllocError> {
+pub fn play_texts<
+    R: Files + AllocGlobal + Processes<Started = SystemProcess> + Threads + Wait + Sync,
+>(rt: &R, texts: &[&str], out: Kept) -> Result<Seen, AllocError> {
     let words = words_of(rt.alloc(), texts)?;
-    Ok(play_words(rt, words.as_slice(), out))
+    play_words(rt, words.as_slice(), out)
 }

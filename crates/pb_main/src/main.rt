@@ -2,18 +2,16 @@
 #![tactic(auto)]
 
 use pb_cli::program::play;
+use pb_cli::workers::system_launchers;
 use pb_driver::Printed;
-use pb_runner::local::LocalRunner;
-use pb_runner::system::SystemLauncher;
 use std::env;
 use std::process::ExitCode;
 
 fn main(rt: HostRuntime) -> ExitCode {
     let mut out = Printed::new(rt.stdout());
     let mut err = Printed::new(rt.stderr());
-    let mut runner = LocalRunner {
-        launcher: SystemLauncher::new(&rt),
-        facts: None,
+    let Ok(mut launchers) = system_launchers(&rt) else {
+        return ExitCode::from(1);
     };
     let words = match env::args(&rt) {
         Ok(args) => args.collect(rt.alloc()),
@@ -23,5 +21,5 @@ fn main(rt: HostRuntime) -> ExitCode {
         Ok(words) => words,
         Err(_) => return ExitCode::from(1),
     };
-    ExitCode::from(play(&rt, words.as_slice(), &mut runner, &mut out, &mut err))
+    ExitCode::from(play(&rt, words.as_slice(), &mut launchers, &mut out, &mut err))
 }

@@ -3,15 +3,26 @@
 use crate::made::{blocks, inventory, playbook};
 use pb_kept::{Kept, Seen, play_texts};
 use std::fs;
+use std::fs::Files;
+use std::process::{Processes, SystemProcess};
+use std::sync::Wait;
 use std::test::Fail;
+use std::thread::Threads;
 
-fn play(rt: &HostRuntime, inventory: &str, playbook: &str) -> Result<Seen, Fail> {
+fn play<R: Files + AllocGlobal + Processes<Started = SystemProcess> + Threads + Wait + Sync>(
+    rt: &R,
+    inventory: &str,
+    playbook: &str,
+) -> Result<Seen, Fail> {
     let words = ["-i", inventory, playbook];
     Ok(play_texts(rt, words.as_slice(), Kept::new(rt.alloc()))?)
 }
 
 /// Plays nothing on so many hosts.
-fn play_hosts(rt: &HostRuntime, hosts: u32) -> Result<Seen, Fail> {
+fn play_hosts<R: Files + AllocGlobal + Processes<Started = SystemProcess> + Threads + Wait + Sync>(
+    rt: &R,
+    hosts: u32,
+) -> Result<Seen, Fail> {
     let made = inventory(rt.alloc(), hosts)?;
     fs::write(rt, "hosts_inventory", made.as_str())?;
     fs::write(rt, "hosts_playbook", "[]")?;
@@ -19,7 +30,11 @@ fn play_hosts(rt: &HostRuntime, hosts: u32) -> Result<Seen, Fail> {
 }
 
 /// Plays one play of so many tasks on so many hosts.
-fn play_tasks(rt: &HostRuntime, hosts: u32, tasks: u32) -> Result<Seen, Fail> {
+fn play_tasks<R: Files + AllocGlobal + Processes<Started = SystemProcess> + Threads + Wait + Sync>(
+    rt: &R,
+    hosts: u32,
+    tasks: u32,
+) -> Result<Seen, Fail> {
     let made = inventory(rt.alloc(), hosts)?;
     fs::write(rt, "tasks_inventory", made.as_str())?;
     let made = playbook(rt.alloc(), tasks)?;

@@ -4,7 +4,11 @@ use crate::audits::{audit, is_legal};
 use crate::writers::{INVENTORY, OUT, PLAYBOOK, has_failed};
 use pb_kept::{Kept, Seen, play_texts};
 use std::fs;
+use std::fs::Files;
+use std::process::{Processes, SystemProcess};
+use std::sync::Wait;
 use std::test::Fail;
+use std::thread::Threads;
 
 /// The trail of the whole run.
 const TRAIL: &str = "{\"trail\":1}
@@ -16,8 +20,8 @@ const TRAIL: &str = "{\"trail\":1}
 ";
 
 /// Plays one task on two hosts under two forks, with this writer and with files of these names.
-fn play_hello(
-    rt: &HostRuntime,
+fn play_hello<R: Files + AllocGlobal + Processes<Started = SystemProcess> + Threads + Wait + Sync>(
+    rt: &R,
     inventory: &str,
     trail: &str,
     playbook: &str,
@@ -31,7 +35,10 @@ fn play_hello(
 
 /// Plays with a writer that fails at a call: how many bytes the trail has, if the writer failed. Be that so or not, the trail is legal
 /// and a beginning of the whole one.
-fn kept_at(rt: &HostRuntime, call: u64) -> Result<Option<usize>, Fail> {
+fn kept_at<R: Files + AllocGlobal + Processes<Started = SystemProcess> + Threads + Wait + Sync>(
+    rt: &R,
+    call: u64,
+) -> Result<Option<usize>, Fail> {
     let _ = fs::remove_file(rt, "kept_trail");
     let out = Kept::failing(rt.alloc(), call);
     let seen = play_hello(rt, "kept_inventory", "kept_trail", "kept_playbook", out)?;

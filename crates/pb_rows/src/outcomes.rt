@@ -4,7 +4,11 @@ use crate::made::inventory;
 use pb_kept::{Kept, Seen, play_texts};
 use std::alloc::{AllocError, Global};
 use std::fs;
+use std::fs::Files;
+use std::process::{Processes, SystemProcess};
+use std::sync::Wait;
 use std::test::Fail;
+use std::thread::Threads;
 
 /// How many hosts have outcomes.
 const HOSTS: u32 = 2_000;
@@ -34,7 +38,12 @@ fn output(alloc: Global, bytes: usize) -> Result<String, AllocError> {
 }
 
 /// Plays files of these names.
-fn play(rt: &HostRuntime, inventory: &str, outcomes: &str, playbook: &str) -> Result<Seen, Fail> {
+fn play<R: Files + AllocGlobal + Processes<Started = SystemProcess> + Threads + Wait + Sync>(
+    rt: &R,
+    inventory: &str,
+    outcomes: &str,
+    playbook: &str,
+) -> Result<Seen, Fail> {
     let words = [
         "-f",
         "256",
@@ -51,7 +60,10 @@ const COMMAND: &str =
     "[{\"hosts\":\"all\",\"gather_facts\":false,\"tasks\":[{\"command\":\"x\"}]}]";
 
 /// Plays a command on `HOSTS` hosts, with so many rows and one.
-fn play_rows(rt: &HostRuntime, count: u32) -> Result<Seen, Fail> {
+fn play_rows<R: Files + AllocGlobal + Processes<Started = SystemProcess> + Threads + Wait + Sync>(
+    rt: &R,
+    count: u32,
+) -> Result<Seen, Fail> {
     let made = inventory(rt.alloc(), HOSTS)?;
     fs::write(rt, "rows_inventory", made.as_str())?;
     let made = rows(rt.alloc(), count)?;
@@ -61,7 +73,10 @@ fn play_rows(rt: &HostRuntime, count: u32) -> Result<Seen, Fail> {
 }
 
 /// Plays a command on two hosts, with one output of so many bytes.
-fn play_output(rt: &HostRuntime, bytes: usize) -> Result<Seen, Fail> {
+fn play_output<R: Files + AllocGlobal + Processes<Started = SystemProcess> + Threads + Wait + Sync>(
+    rt: &R,
+    bytes: usize,
+) -> Result<Seen, Fail> {
     let made = output(rt.alloc(), bytes)?;
     fs::write(rt, "output_outcomes", made.as_str())?;
     fs::write(rt, "output_inventory", "{\"all\":[\"a\",\"b\"]}")?;

@@ -9,9 +9,13 @@ use pb_kept::{Kept, Seen, play_texts};
 use pb_roles::RoleFiles;
 use std::alloc::{AllocError, Global};
 use std::fs;
+use std::fs::Files;
 use std::io::ErrorKind;
 use std::os::unix::fs::symlink;
+use std::process::{Processes, SystemProcess};
+use std::sync::Wait;
 use std::test::Fail;
+use std::thread::Threads;
 
 /// More room than the files of these tests take.
 const ROOM: usize = 1_000;
@@ -49,7 +53,10 @@ fn read(rt: &HostRuntime, dir: &str, room: usize) -> Result<String, Fail>
 }
 
 /// Plays nothing, with this folder of roles.
-fn play(rt: &HostRuntime, dir: &str) -> Result<Seen, Fail> {
+fn play<R: Files + AllocGlobal + Processes<Started = SystemProcess> + Threads + Wait + Sync>(
+    rt: &R,
+    dir: &str,
+) -> Result<Seen, Fail> {
     fs::write(rt, "roles_inventory", "{}")?;
     fs::write(rt, "roles_playbook", "[]")?;
     let words = ["-i", "roles_inventory", "--roles", dir, "roles_playbook"];
@@ -57,7 +64,9 @@ fn play(rt: &HostRuntime, dir: &str) -> Result<Seen, Fail> {
 }
 
 /// Whether a fault of a file was told, and nothing shown.
-fn has_file_fault(rt: &HostRuntime, dir: &str) -> Result<bool, Fail> {
+fn has_file_fault<
+    R: Files + AllocGlobal + Processes<Started = SystemProcess> + Threads + Wait + Sync,
+>(rt: &R, dir: &str) -> Result<bool, Fail> {
     let seen = play(rt, dir)?;
     Ok(seen.status == 1 && seen.err.starts_with(b"pb-play: file: ") && seen.out.is_empty())
 }
@@ -159,7 +168,7 @@ fn a_file_that_vanishes(rt: HostRuntime) -> Result<(), Fail> {
     match read_role_files(&gone, dir, ROOM) {
         Ok(_) => Err(Fail::new("an error")),
         Err(error) => {
-            assert!(rt; error.kind() == ErrorKind::NotFound);
+            assert!(rt; error.error.kind() == ErrorKind::NotFound);
             Ok(())
         }
     }

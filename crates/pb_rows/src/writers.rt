@@ -2,7 +2,11 @@
 
 use pb_kept::{Kept, Seen, play_texts};
 use std::fs;
+use std::fs::Files;
+use std::process::{Processes, SystemProcess};
+use std::sync::Wait;
 use std::test::Fail;
+use std::thread::Threads;
 
 pub const INVENTORY: &str = "{\"all\":{\"hosts\":[\"a\",\"b\"]}}";
 
@@ -23,7 +27,10 @@ b : ok=1 changed=0 unreachable=0 failed=0 skipped=0 rescued=0 ignored=0
 ";
 
 /// Plays one task on two hosts, with this writer.
-fn play_hello(rt: &HostRuntime, out: Kept) -> Result<Seen, Fail> {
+fn play_hello<R: Files + AllocGlobal + Processes<Started = SystemProcess> + Threads + Wait + Sync>(
+    rt: &R,
+    out: Kept,
+) -> Result<Seen, Fail> {
     fs::write(rt, "writers_inventory", INVENTORY)?;
     fs::write(rt, "writers_playbook", PLAYBOOK)?;
     Ok(play_texts(
