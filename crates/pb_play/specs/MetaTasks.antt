@@ -49,18 +49,29 @@ what_is_said = do
 abbrev pub meta_task : Meta → Option (List ℕ) → Option (List Tree) → declared.Task
 meta_task m name conditions = record (plain_task (unwrap_or name (codes "meta")) [] (called.Meta m)) { conditions = unwrap_or conditions [] }
 
--- where the handlers run that are pending no condition is asked
-abbrev pub made_of : Said → Option (List ℕ) → Option (List Tree) → Reading Written LoadFault
-made_of (Does m) name conditions = Ok (Task (meta_task m name conditions) Nothing)
-made_of Flushes name (Some ts) = refused_key (codes "when")
-made_of Flushes name None = Ok (Flush Nothing)
+-- where the handlers run that are pending no condition is asked: whatever stands there is refused by its key
+abbrev pub no_conditions : List ℕ → json.Data → Reading Unit LoadFault
+no_conditions path d = refused_key (codes "when")
 
-abbrev pub rest_of_meta : Said → Part WithoutEffect LoadFault Written
-rest_of_meta said = do
+-- the name of such a node isn't kept
+abbrev pub rest_of_flush : Part WithoutEffect LoadFault Written
+rest_of_flush = do
+  _ ← key (codes "name") text
+  _ ← key (codes "when") no_conditions
+  _ ← others has_no_effect
+  rule (Ok (Flush Nothing))
+
+abbrev pub rest_of_meta_task : Meta → Part WithoutEffect LoadFault Written
+rest_of_meta_task m = do
   name ← key (codes "name") text
   conditions ← key (codes "when") conditions
   _ ← others has_no_effect
-  rule (made_of said name conditions)
+  rule (Ok (Task (meta_task m name conditions) Nothing))
+
+-- what is said at `meta` is known before the keys behind it are read
+abbrev pub rest_of_meta : Said → Part WithoutEffect LoadFault Written
+rest_of_meta (Does m) = rest_of_meta_task m
+rest_of_meta Flushes = rest_of_flush
 
 abbrev pub meta : List ℕ → json.Data → Reading Written LoadFault
 meta = object (record {}) do

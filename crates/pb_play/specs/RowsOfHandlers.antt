@@ -138,6 +138,7 @@ all_keys_of_handler : playbook_of (codes "[{\"gather_facts\":false,\"handlers\":
                 throttle = Some 0;
                 couplings = record { any_errors_fatal = Some false; delegate_facts = Some false; delegate_to = Some (codes "b"); run_once = Some true };
                 notify = codes "g" ∷ [];
+                retrying = None;
               };
               listens = codes "web" ∷ codes "db" ∷ [];
             } ∷ [];

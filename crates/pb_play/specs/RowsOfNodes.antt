@@ -245,18 +245,39 @@ key_before_meta : read (codes "[{\"become\":1,\"meta\":\"end_play\"}]") ≡ Some
 unfolding on_literals
 key_before_meta = refl
 
--- no condition is asked where handlers run; that is a rule over two keys, behind the keys
+-- no condition is asked where handlers run: `when` is refused at its place among the keys, whatever stands there
 condition_of_flush : read (codes "[{\"meta\":\"flush_handlers\",\"when\":true}]") ≡ Some (Err (Own (NotInProfile (codes "when"))))
 unfolding on_literals
 condition_of_flush = refl
 
-keys_before_rule : read (codes "[{\"meta\":\"flush_handlers\",\"when\":true,\"zzz\":1}]") ≡ Some (Err (Own (NotInProfile (codes "zzz"))))
+no_condition_of_flush : read (codes "[{\"meta\":\"flush_handlers\",\"when\":1}]") ≡ Some (Err (Own (NotInProfile (codes "when"))))
 unfolding on_literals
-keys_before_rule = refl
+no_condition_of_flush = refl
 
-no_condition_of_meta : read (codes "[{\"meta\":\"flush_handlers\",\"when\":1}]") ≡ Some (Err (WrongShape (codes "p/0/when")))
+no_expression_of_flush : read (codes "[{\"meta\":\"flush_handlers\",\"when\":\"1 +\"}]") ≡ Some (Err (Own (NotInProfile (codes "when"))))
+unfolding on_literals
+no_expression_of_flush = refl
+
+key_behind_condition : read (codes "[{\"meta\":\"flush_handlers\",\"when\":true,\"zzz\":1}]") ≡ Some (Err (Own (NotInProfile (codes "when"))))
+unfolding on_literals
+key_behind_condition = refl
+
+key_before_condition : read (codes "[{\"meta\":\"flush_handlers\",\"vars\":{},\"when\":true}]") ≡ Some (Err (Own (NotInProfile (codes "vars"))))
+unfolding on_literals
+key_before_condition = refl
+
+key_before_flush : read (codes "[{\"a\":1,\"meta\":\"flush_handlers\",\"when\":true}]") ≡ Some (Err (Own (NotInProfile (codes "a"))))
+unfolding on_literals
+key_before_flush = refl
+
+-- where another task is told, it is read
+no_condition_of_meta : read (codes "[{\"meta\":\"noop\",\"when\":1,\"zzz\":1}]") ≡ Some (Err (WrongShape (codes "p/0/when")))
 unfolding on_literals
 no_condition_of_meta = refl
+
+no_expression_of_meta : read (codes "[{\"meta\":\"end_host\",\"when\":\"1 +\"}]") ≡ Some (Err (Own BadExpression))
+unfolding on_literals
+no_expression_of_meta = refl
 
 no_name_of_meta : read (codes "[{\"meta\":\"noop\",\"name\":1}]") ≡ Some (Err (WrongShape (codes "p/0/name")))
 unfolding on_literals

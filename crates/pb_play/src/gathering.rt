@@ -27,6 +27,7 @@ fn gathering_task(alloc: Global) -> Result<Task, AllocError>
         throttle: None,
         couplings: Couplings::none(),
         notify: Items::new(alloc),
+        retrying: None,
     })
 }
 

@@ -39,6 +39,7 @@ mod other_keys;
 mod percentage;
 pub mod play;
 pub mod playbook;
+pub mod retrying;
 mod strategies;
 pub mod task;
 mod throttle;

@@ -4,7 +4,7 @@ ghost use Rattle.serde_json.specs.View.{view, members_view};
 ghost use Rattle.pb_reading.specs.Ahead.{ahead, Takes};
 ghost use Rattle.pb_reading.specs.Fields.{value_of};
 ghost use Rattle.pb_reading.specs.Reading.{Gives};
-ghost use Rattle.pb_play.specs.MetaTasks.{said_by, said, one_of, what_is_said, meta_task, made_of, rest_of_meta, meta};
+ghost use Rattle.pb_play.specs.MetaTasks.{said_by, said, one_of, what_is_said, meta_task, no_conditions, rest_of_flush, rest_of_meta_task, rest_of_meta, meta};
 ghost use Rattle.pb_play.specs.View.{IsRead};
 
 use crate::couplings::Couplings;
@@ -107,24 +107,57 @@ fn meta_task(
         throttle: None,
         couplings: Couplings::none(),
         notify: Items::new(alloc),
+        retrying: None,
     })
 }
 
-/// The node that says this.
-fn made_of(
+/// Reads no conditions: the key `when` is refused, whatever stands there.
+struct NoConditions;
+
+impl Reads<LoadFault> for NoConditions {
+    type Value = ();
+
+    ghost reads = { no_conditions };
+
+    fn read(alloc: Global, _path: &Text, _json: &Value) -> Result<(), Stop<LoadFault>> {
+        not_in_profile(alloc, "when")
+    }
+}
+
+/// A node at which the handlers run that are pending.
+fn read_flush(alloc: Global, mut keys: Keys<'_, WithoutEffect>) -> Result<Node, Stop<LoadFault>>
+    ensures { IsRead result (value_of (rest_of_flush (ahead keys.entry))) }
+{
+    keys.field::<PlainText>(alloc, "name")?;
+    keys.field::<NoConditions>(alloc, "when")?;
+    keys.others(alloc)?;
+    Ok(Node::Flush)
+}
+
+/// A task that does this.
+fn read_task(
     alloc: Global,
-    said: Said,
-    name: Option<Text>,
-    conditions: Option<Items<Expr>>,
+    mut keys: Keys<'_, WithoutEffect>,
+    meta: Meta,
 ) -> Result<Node, Stop<LoadFault>>
-    ensures { IsRead result (made_of said name conditions) }
+    ensures { IsRead result (value_of (rest_of_meta_task meta (ahead keys.entry))) }
+{
+    let name = keys.field::<PlainText>(alloc, "name")?;
+    let conditions = keys.field::<Conditions>(alloc, "when")?;
+    keys.others(alloc)?;
+    Ok(Node::Task(meta_task(alloc, meta, name, conditions)?))
+}
+
+fn read_rest(
+    alloc: Global,
+    keys: Keys<'_, WithoutEffect>,
+    said: Said,
+) -> Result<Node, Stop<LoadFault>>
+    ensures { IsRead result (value_of (rest_of_meta said (ahead keys.entry))) }
 {
     match said {
-        Said::Does(meta) => Ok(Node::Task(meta_task(alloc, meta, name, conditions)?)),
-        Said::Flushes => match conditions {
-            Some(_) => not_in_profile(alloc, "when"),
-            None => Ok(Node::Flush),
-        },
+        Said::Does(meta) => read_task(alloc, keys, meta),
+        Said::Flushes => read_flush(alloc, keys),
     }
 }
 
@@ -139,17 +172,4 @@ pub(crate) fn read_meta(
     let mut keys = Keys::of(path, members, WithoutEffect);
     let said = what_is_said(alloc, &mut keys)?;
     read_rest(alloc, keys, said)
-}
-
-fn read_rest(
-    alloc: Global,
-    mut keys: Keys<'_, WithoutEffect>,
-    said: Said,
-) -> Result<Node, Stop<LoadFault>>
-    ensures { IsRead result (value_of (rest_of_meta said (ahead keys.entry))) }
-{
-    let name = keys.field::<PlainText>(alloc, "name")?;
-    let conditions = keys.field::<Conditions>(alloc, "when")?;
-    keys.others(alloc)?;
-    made_of(alloc, said, name, conditions)
 }
