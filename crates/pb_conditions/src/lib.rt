@@ -2,8 +2,10 @@
 //!
 //! For the layer above: `holds` reads the conditions in order up to the first that doesn't hold, and gives whether all of them do,
 //! or the first fault that is met on the way (`specs/Conditions.antt`). `settle` makes an item's result what its task's
-//! `changed_when` and `failed_when` say (`specs/Settled.antt`). Only want of memory may come in place of the answer.
+//! `changed_when` and `failed_when` say (`specs/Settled.antt`). `attempted` says of an attempt at an item that may be tried more than
+//! once whether the item has its result or is tried again (`specs/Attempts.antt`). Only want of memory may come in place of the answer.
 #![tactic(auto)]
 
+pub mod attempt;
 pub mod holds;
 pub mod settled;

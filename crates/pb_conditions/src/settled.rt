@@ -44,7 +44,7 @@ fn holds_named(
 }
 
 /// Whether conditions hold where a result is seen.
-fn holds_seeing(
+pub(crate) fn holds_seeing(
     alloc: Global,
     conditions: &[Expr],
     sight: &Sight,
@@ -112,7 +112,11 @@ fn told_changed(alloc: Global, item: ItemResult, truth: bool) -> Result<ItemResu
     })
 }
 
-fn told_failed(alloc: Global, item: ItemResult, truth: bool) -> Result<ItemResult, AllocError>
+pub(crate) fn told_failed(
+    alloc: Global,
+    item: ItemResult,
+    truth: bool,
+) -> Result<ItemResult, AllocError>
     ensures { IfOk result (λ told. told ≡ told_failed item truth) }
 {
     let ItemResult {
@@ -179,7 +183,10 @@ fn told_by(
 }
 
 /// A fault of reading is the item's.
-fn or_faulty(alloc: Global, told: Result<ItemResult, EvalFault>) -> Result<ItemResult, AllocError>
+pub(crate) fn or_faulty(
+    alloc: Global,
+    told: Result<ItemResult, EvalFault>,
+) -> Result<ItemResult, AllocError>
     ensures { IfOk result (λ item. (told ≢ Err fault.Memory) × (item ≡ or_faulty told)) }
 {
     match told {
