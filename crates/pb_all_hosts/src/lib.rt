@@ -17,5 +17,7 @@ pub use due::{
     DueRows, begin_first, join_first, leave_all, report_row, send_row, stand_at, start_row,
     turn_rows,
 };
-pub use rows::{called_count, counts_of, first_play, item_in, least_place, none_into, some_in};
+pub use rows::{
+    attempt_in, called_count, counts_of, first_play, item_in, least_place, none_into, some_in,
+};
 pub use turned::is_settled;

@@ -9,7 +9,7 @@ ghost use Rattle.pb_all_hosts.specs.Batches.{called_count, joins, room_behind, j
 ghost use Rattle.pb_one_host.specs.Walking.{with_walk};
 ghost use Rattle.pb_all_hosts.specs.Joining.{walks_from, joined_from};
 ghost use Rattle.pb_one_host.specs.Standing.{standing};
-ghost use Rattle.pb_one_host.specs.Runs.{is_in, is_running, has_send, item_of};
+ghost use Rattle.pb_one_host.specs.Runs.{is_in, is_running, has_send, item_of, attempt_of};
 ghost use Rattle.pb_one_host.specs.Decides.{done_if, report_decides};
 ghost use Rattle.pb_all_hosts.specs.Hosts.{least_place, lesser, change, one_if, running_count, pending_in, has_hosts, first_play};
 ghost use Rattle.pb_all_hosts.specs.Giving.{given_to, gifts_at, report_gives, gives_now};
@@ -351,6 +351,16 @@ pub fn item_in(rows: &[Row], host: HostNo) -> Option<u32>
     match rows.get(host.0 as usize) {
         Some(row) => row.item(),
         None => None,
+    }
+}
+
+/// The attempt at that item that a host sends next, or whose job is out.
+pub fn attempt_in(rows: &[Row], host: HostNo) -> u32
+    ensures { result ≡ option_map_or attempt_of (slice_get rows.now host.0) 1 }
+{
+    match rows.get(host.0 as usize) {
+        Some(row) => row.attempt(),
+        None => 1,
     }
 }
 

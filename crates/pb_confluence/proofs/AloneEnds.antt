@@ -126,10 +126,10 @@ start_keeps plan f s h play apart numbered tracked o holds may =
     (start_found plan f s h place.0 play at.0 apart numbered tracked o holds at.1 idle place.1)
 
 -- ---- a send
-send_keeps : (plan : PlanOf) (f : Fixed) (s : State) (h item : ℕ) (ticket : Ticket) (play : PlayOf) → IsOfPlan plan s → open_play plan s ≡ Some play → Holds s → may_send_in s h item ticket play ≡ true → Keeps plan f s (sent_in s h ticket play)
-send_keeps plan f s h item ticket play tracked o holds may =
-    let at = found_in (may_send_item item) (slice_get s.rows h) (and_right (not s.stopped && (ticket.0 == s.sends)) (at_row (may_send_item item) s.rows h) may) in
-    let some = sends_some item at.0.running at.2 in
+send_keeps : (plan : PlanOf) (f : Fixed) (s : State) (h item attempt : ℕ) (ticket : Ticket) (play : PlayOf) → IsOfPlan plan s → open_play plan s ≡ Some play → Holds s → may_send_in s h item attempt ticket play ≡ true → Keeps plan f s (sent_in s h ticket play)
+send_keeps plan f s h item attempt ticket play tracked o holds may =
+    let at = found_in (may_send_item item attempt) (slice_get s.rows h) (and_right (not s.stopped && (ticket.0 == s.sends)) (at_row (may_send_item item attempt) s.rows h) may) in
+    let some = sends_some item attempt at.0.running at.2 in
     let right : RunsOnly at.0 (Some some.0) = subst (RunsOnly at.0) some.1 (every_at IsRight s.rows h at.0 holds.0 at.1).0 in
     changed_keeps plan f s play h (sent ticket) o holds (λ other. (refl, refl)) (λ other found. sent_right ticket other (every_at IsRight s.rows h other holds.0 found))
     (λ other found.
@@ -143,8 +143,8 @@ report_keeps : (plan : PlanOf) (f : Fixed) (s : State) (r : Report) (play : Play
     → r.outcome ≡ outcome_of f (job_of plan s r.host r.ticket) → Keeps plan f s (reported_in plan s r play)
 report_keeps plan f s r play apart numbered tracked o holds may fixed =
     let is = opened s.is_open (slice_get plan.plays s.play) play o in
-    let at = found_in (awaits r.ticket r.item) (slice_get s.rows r.host.0) may in
-    let some = awaits_some r.ticket r.item at.0.running at.2 in
+    let at = found_in (awaits r.ticket r.item r.attempt) (slice_get s.rows r.host.0) may in
+    let some = awaits_some r.ticket r.item r.attempt at.0.running at.2 in
     let right : RunsOnly at.0 (Some some.0) = subst (RunsOnly at.0) some.1 (every_at IsRight s.rows r.host.0 at.0 holds.0 at.1).0 in
     subst (KeepsRows plan f s) (sym (report_rows plan s r s.play play apart is.1))
     (changed_keeps plan f s play r.host.0 (reported plan play r.outcome) o holds (λ other. reported_wait plan play r.outcome other)
@@ -329,10 +329,10 @@ start_event : (plan : PlanOf) (f : Fixed) (s : State) (h : ℕ) (found : Option 
 start_event plan f s h None apart good o may = cc
 start_event plan f s h (Some play) apart good o may = start_keeps plan f s h play apart (good.1.numbered []) good.1.trees o good.0 may
 
-send_event : (plan : PlanOf) (f : Fixed) (s : State) (h item : ℕ) (ticket : Ticket) (found : Option PlayOf) → IsGood plan s → open_play plan s ≡ found → option_map_or (may_send_in s h item ticket) found false ≡ true
+send_event : (plan : PlanOf) (f : Fixed) (s : State) (h item attempt : ℕ) (ticket : Ticket) (found : Option PlayOf) → IsGood plan s → open_play plan s ≡ found → option_map_or (may_send_in s h item attempt ticket) found false ≡ true
     → Keeps plan f s (option_map_or (sent_in s h ticket) found s)
-send_event plan f s h item ticket None good o may = cc
-send_event plan f s h item ticket (Some play) good o may = send_keeps plan f s h item ticket play good.1.trees o good.0 may
+send_event plan f s h item attempt ticket None good o may = cc
+send_event plan f s h item attempt ticket (Some play) good o may = send_keeps plan f s h item attempt ticket play good.1.trees o good.0 may
 
 report_event : (plan : PlanOf) (f : Fixed) (s : State) (r : Report) (found : Option PlayOf) → AreApart plan → IsGood plan s → open_play plan s ≡ found → option_map_or (may_report_in s r) found false ≡ true
     → r.outcome ≡ outcome_of f (job_of plan s r.host r.ticket) → Keeps plan f s (option_map_or (reported_in plan s r) found s)
@@ -350,7 +350,7 @@ close_event plan f s (Some play) good o may = close_keeps plan f s play o good.0
 event_keeps : (plan : PlanOf) (f : Fixed) (s : State) (e : Event) → AreFree plan → AreApart plan → IsGood plan s → possible plan s e ≡ true → IsFixedAt plan f s e → Keeps plan f s (after plan s e)
 event_keeps plan f s Open free apart good may fixed = open_keeps plan f s good.0 may
 event_keeps plan f s (Start h) free apart good may fixed = start_event plan f s h.0 (open_play plan s) apart good refl may
-event_keeps plan f s (Send h item ticket) free apart good may fixed = send_event plan f s h.0 item ticket (open_play plan s) good refl may
+event_keeps plan f s (Send h item attempt ticket) free apart good may fixed = send_event plan f s h.0 item attempt ticket (open_play plan s) good refl may
 event_keeps plan f s (Reported r) free apart good may fixed = report_event plan f s r (open_play plan s) apart good refl may (told_fixed plan f s r good.1 may fixed)
 event_keeps plan f s Turn free apart good may fixed = turn_event plan f s (open_play plan s) free good refl may
 event_keeps plan f s Close free apart good may fixed = close_event plan f s (open_play plan s) good refl may

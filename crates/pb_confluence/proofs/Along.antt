@@ -59,8 +59,8 @@ along_first plan forks pool some =
 reports_runner : (s : State) (r : Report) (found : Option PlayOf) → option_map_or (may_report_in s r) found false ≡ true → at_row is_running s.rows r.host.0 ≡ true
 reports_runner s r None may = cc
 reports_runner s r (Some play) may =
-    let at = found_in (awaits r.ticket r.item) (slice_get s.rows r.host.0) may in
-    let some = awaits_some r.ticket r.item at.0.running at.2 in
+    let at = found_in (awaits r.ticket r.item r.attempt) (slice_get s.rows r.host.0) may in
+    let some = awaits_some r.ticket r.item r.attempt at.0.running at.2 in
     ap (λ (found : Option HostRow). option_map_or is_running found false) at.1 ∙ ap is_some some.1
 
 fixed_some : (f : Fixed) (o : Form) (job : Option Job) → is_some job ≡ true → IfSome job (λ (j : Job). o ≡ f (asked_of j)) → o ≡ outcome_of f job

@@ -11,8 +11,9 @@ use Rattle.pb_outcome.specs.Items.{next_item, is_over}
 use Rattle.pb_plan.specs.Plan.{PlayOf, PlanOf}
 use Rattle.pb_strategies.specs.MayStart.{is_linear, may_start, ready as starting}
 use Rattle.pb_one_host.specs.declared.row.Running.{Running}
+use Rattle.pb_one_host.specs.Attempts.{attempt_next}
 use Rattle.pb_one_host.specs.Row.{HostRow, first_rows, next_place}
-use Rattle.pb_one_host.specs.Runs.{is_running, is_out, is_next, sends_running, may_send_item}
+use Rattle.pb_one_host.specs.Runs.{is_running, is_out, is_item, is_next, sends_running, may_send_item}
 use Rattle.pb_one_host.proofs.InOrder.{goes_on_at}
 use Rattle.pb_all_hosts.specs.Batches.{has_later}
 use Rattle.pb_all_hosts.specs.Hosts.{at_row, has_hosts, first_play, lesser, least_place}
@@ -56,10 +57,10 @@ start_event plan f s h None linear apart good o may holds = cc
 start_event plan f s h (Some play) linear apart good o may holds =
     start_keeps plan f s h play apart (good.1.numbered []) o holds (is_start s h play (linear_of plan s play linear o) may)
 
-send_event : (plan : PlanOf) (f : Fixed) (s : State) (h item : ℕ) (ticket : Ticket) (found : Option PlayOf) → open_play plan s ≡ found → option_map_or (may_send_in s h item ticket) found false ≡ true → HoldsIn s.place s.rows found
+send_event : (plan : PlanOf) (f : Fixed) (s : State) (h item attempt : ℕ) (ticket : Ticket) (found : Option PlayOf) → open_play plan s ≡ found → option_map_or (may_send_in s h item attempt ticket) found false ≡ true → HoldsIn s.place s.rows found
     → Keeps plan f s (option_map_or (sent_in s h ticket) found s)
-send_event plan f s h item ticket None o may holds = cc
-send_event plan f s h item ticket (Some play) o may holds = send_keeps plan f s h item ticket play o may holds
+send_event plan f s h item attempt ticket None o may holds = cc
+send_event plan f s h item attempt ticket (Some play) o may holds = send_keeps plan f s h item attempt ticket play o may holds
 
 report_event : (plan : PlanOf) (f : Fixed) (s : State) (r : Report) (found : Option PlayOf) → AreApart plan → IsGood plan s → open_play plan s ≡ found → option_map_or (may_report_in s r) found false ≡ true
     → r.outcome ≡ outcome_of f (job_of plan s r.host r.ticket) → HoldsIn s.place s.rows found → Keeps plan f s (option_map_or (reported_in plan s r) found s)
@@ -78,7 +79,7 @@ close_event plan f s (Some play) o may = close_keeps plan f s play may o
 event_keeps : (plan : PlanOf) (f : Fixed) (s : State) (e : Event) → AreLinear plan → AreApart plan → IsGood plan s → possible plan s e ≡ true → IsFixedAt plan f s e → Keeps plan f s (after plan s e)
 event_keeps plan f s Open linear apart good may fixed = open_keeps plan f s linear may
 event_keeps plan f s (Start h) linear apart good may fixed = start_event plan f s h.0 (open_play plan s) linear apart good refl may good.0
-event_keeps plan f s (Send h item ticket) linear apart good may fixed = send_event plan f s h.0 item ticket (open_play plan s) refl may good.0
+event_keeps plan f s (Send h item attempt ticket) linear apart good may fixed = send_event plan f s h.0 item attempt ticket (open_play plan s) refl may good.0
 event_keeps plan f s (Reported r) linear apart good may fixed = report_event plan f s r (open_play plan s) apart good refl may (told_fixed plan f s r good.1 may fixed) good.0
 event_keeps plan f s Turn linear apart good may fixed = turn_event plan f s (open_play plan s) good refl may good.0
 event_keeps plan f s Close linear apart good may fixed = close_event plan f s (open_play plan s) refl may
@@ -114,11 +115,12 @@ none_running (row ∷ rows) none = by_first row.running refl (none_running rows 
     by_first (Some r) e more = absurd (none 0 row r refl e)
 
 send_may : (s : State) (h n : ℕ) (play : PlayOf) (row : HostRow) (r : Running) → s.stopped ≡ false → slice_get s.rows h ≡ Some row → row.running ≡ Some r → r.out ≡ None → next_item r.items ≡ Some n
-    → may_send_in s h n (record { 0 = s.sends }) play ≡ true
+    → may_send_in s h n (attempt_next r.items) (record { 0 = s.sends }) play ≡ true
 send_may s h n play row r st there runs free next =
-    both (not s.stopped && (s.sends == s.sends)) (at_row (may_send_item n) s.rows h) (both (not s.stopped) (s.sends == s.sends) (ap not st) (eq-eqb s.sends s.sends refl))
-    (ap (λ (found : Option HostRow). option_map_or (may_send_item n) found false) there ∙ ap (λ (x : Option Running). option_map_or (sends_running n) x false) runs
-    ∙ both (is_none r.out) (is_next n r) (ap is_none free) (ap (λ (item : Option ℕ). option_map_or (λ m. m == n) item false) next ∙ eq-eqb n n refl))
+    both (not s.stopped && (s.sends == s.sends)) (at_row (may_send_item n (attempt_next r.items)) s.rows h) (both (not s.stopped) (s.sends == s.sends) (ap not st) (eq-eqb s.sends s.sends refl))
+    (ap (λ (found : Option HostRow). option_map_or (may_send_item n (attempt_next r.items)) found false) there ∙ ap (λ (x : Option Running). option_map_or (sends_running n (attempt_next r.items)) x false) runs
+    ∙ both (is_none r.out) (is_next n (attempt_next r.items) r) (ap is_none free)
+    (both (is_item n r.items) (attempt_next r.items == attempt_next r.items) (ap (λ (item : Option ℕ). option_map_or (λ m. m == n) item false) next ∙ eq-eqb n n refl) (eq-eqb (attempt_next r.items) (attempt_next r.items) refl)))
 
 -- what a host runs that isn't over has an item to be sent, or to come back
 pub runs_out : (plan : PlanOf) (s : State) (play : PlayOf) → IsFinished plan s → open_play plan s ≡ Some play → s.stopped ≡ false
@@ -128,8 +130,8 @@ runs_out plan s play finished o st going = none_running s.rows (λ h row r there
     by_out : (h : ℕ) (row : HostRow) (r : Running) → slice_get s.rows h ≡ Some row → row.running ≡ Some r → is_over r.items ≡ false → (out : Option Ticket) → r.out ≡ out → ⊥
     by_out h row r there runs on None free =
         let next = goes_on_at r.items on in
-        both_ways (may_send_in s h next.0 (record { 0 = s.sends }) play) (send_may s h next.0 play row r st there runs free next.1)
-        (ap (λ (found : Option PlayOf). option_map_or (may_send_in s h next.0 (record { 0 = s.sends })) found false) (sym o) ∙ finished.over (Send (record { 0 = h }) next.0 (record { 0 = s.sends })) refl)
+        both_ways (may_send_in s h next.0 (attempt_next r.items) (record { 0 = s.sends }) play) (send_may s h next.0 play row r st there runs free next.1)
+        (ap (λ (found : Option PlayOf). option_map_or (may_send_in s h next.0 (attempt_next r.items) (record { 0 = s.sends })) found false) (sym o) ∙ finished.over (Send (record { 0 = h }) next.0 (attempt_next r.items) (record { 0 = s.sends })) refl)
     by_out h row r there runs on (Some ticket) is =
         both_ways (list_any is_out s.rows)
         (any_row is_out s.rows h row there (ap (λ (x : Option Running). option_map_or (λ (y : Running). is_some y.out) x false) runs ∙ ap is_some is)) finished.none_out

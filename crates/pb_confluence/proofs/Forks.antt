@@ -20,7 +20,7 @@ use Rattle.pb_confluence.proofs.Ends.{ends_together}
 possible_forks : (n : ℕ) (plan : PlanOf) (s : State) (e : Event) → possible (with_forks n plan) s e ≡ possible plan s e
 possible_forks n plan s Open = refl
 possible_forks n plan s (Start h) = refl
-possible_forks n plan s (Send h item ticket) = refl
+possible_forks n plan s (Send h item attempt ticket) = refl
 possible_forks n plan s (Reported r) = refl
 possible_forks n plan s Turn = refl
 possible_forks n plan s Close = refl
@@ -31,7 +31,7 @@ after_forks : (n : ℕ) (plan : PlanOf) (s : State) (e : Event) → after (with_
 unfolding items_at settled_at
 after_forks n plan s Open = refl
 after_forks n plan s (Start h) = refl
-after_forks n plan s (Send h item ticket) = refl
+after_forks n plan s (Send h item attempt ticket) = refl
 after_forks n plan s (Reported r) = refl
 after_forks n plan s Turn = refl
 after_forks n plan s Close = refl
@@ -41,7 +41,7 @@ after_forks n plan s (Forks m) = refl
 fixed_forks : (n : ℕ) (plan : PlanOf) (f : Fixed) (s : State) (e : Event) → IsFixedAt (with_forks n plan) f s e → IsFixedAt plan f s e
 fixed_forks n plan f s Open fixed = tt
 fixed_forks n plan f s (Start h) fixed = tt
-fixed_forks n plan f s (Send h item ticket) fixed = tt
+fixed_forks n plan f s (Send h item attempt ticket) fixed = tt
 fixed_forks n plan f s (Reported r) fixed = fixed
 fixed_forks n plan f s Turn fixed = tt
 fixed_forks n plan f s Close fixed = tt

@@ -189,7 +189,7 @@ items_found plan play h facts v none (Some place) un =
 
 items_same : (plan : PlanOf) (play : PlayOf) (h : ℕ) (facts : FactsOf) (p : ℕ) (v : Datum) → IsUnnamed plan play (place_for plan play h p) → items_at (with_hosts plan (hosts_magic v)) play h facts p ≡ items_at plan play h facts p
 unfolding items_at
-items_same plan play h facts p v un = items_found plan play h facts v (record { value = None; delegate = None; step = DecidedItem nothing } ∷ []) (place_for plan play h p) un
+items_same plan play h facts p v un = items_found plan play h facts v (record { value = None; delegate = None; tried = 0; step = DecidedItem nothing } ∷ []) (place_for plan play h p) un
 
 told_found : (plan : PlanOf) (play : PlayOf) (h : ℕ) (facts : FactsOf) (v : Datum) (value : Option Datum) (item : ItemResult) (found : Option PlaceOf) → IsUnnamed plan play found
     → option_map_or (settled_for (with_hosts plan (hosts_magic v)) play h facts value item) found item ≡ option_map_or (settled_for plan play h facts value item) found item

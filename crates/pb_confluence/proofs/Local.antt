@@ -34,7 +34,7 @@ local plan s play apart numbered o =
           λ h p next.
           ap (λ (found : Option PlayOf). (option_map_or (started_in plan s h.0) found s).rows) o ∙ ap (λ (place : Option ℕ). (option_map_or (start_at plan s h.0 play) place s).rows) next
           ∙ start_rows plan s h.0 s.play play p apart there numbered;
-      sends = λ h item ticket. ap (λ (found : Option PlayOf). (option_map_or (sent_in s h.0 ticket) found s).rows) o;
+      sends = λ h item attempt ticket. ap (λ (found : Option PlayOf). (option_map_or (sent_in s h.0 ticket) found s).rows) o;
       reports = λ r. ap (λ (found : Option PlayOf). (option_map_or (reported_in plan s r) found s).rows) o ∙ report_rows plan s r s.play play apart there;
       starts_by_any_forks = started_forks plan play;
       reports_by_any_forks = reported_forks plan play;

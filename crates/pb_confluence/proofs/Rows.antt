@@ -20,18 +20,19 @@ use Rattle.pb_outcome.specs.declared.item.Planned.{Planned}
 use Rattle.pb_outcome.specs.declared.item.Planned.TheVariants.{Decided, Sends}
 use Rattle.pb_outcome.specs.declared.job.Call.{Call}
 use Rattle.pb_outcome.specs.declared.outcome.Form.{Form}
-use Rattle.pb_outcome.specs.Items.{is_waiting, next_item, is_over, back_at, back_in}
+use Rattle.pb_outcome.specs.Items.{is_waiting, next_item, is_over}
 use Rattle.pb_plan.specs.Plan.{PlayOf, PlanOf}
 use Rattle.pb_sight.specs.Results.{items_at}
 use Rattle.pb_one_host.specs.declared.row.Finish.{Finish}
 use Rattle.pb_one_host.specs.declared.row.Running.{Running}
+use Rattle.pb_one_host.specs.Attempts.{back_at, back_in}
 use Rattle.pb_one_host.specs.Calls.{call_in, delegate_in}
 use Rattle.pb_one_host.specs.Ends.{answer_of}
 use Rattle.pb_one_host.specs.Handlers.{notified_by}
 use Rattle.pb_one_host.specs.Kept.{first_waiting}
 use Rattle.pb_one_host.specs.Row.{HostRow, place_of, next_place, is_at, answered, ended, task_at, came_back, items_after, progressed, sent, reported, reported_running}
 use Rattle.pb_one_host.proofs.InOrder.{next_is, goes_on_at}
-use Rattle.pb_state.specs.Jobs.{connector_for, job_with, named_job, placed_job, item_job, running_job, row_job}
+use Rattle.pb_state.specs.Jobs.{AttemptOf, next_attempt, connector_for, job_with, named_job, placed_job, item_job, running_job, row_job}
 use Rattle.pb_state.proofs.Walked.{not_halted, place_at}
 use Rattle.pb_confluence.specs.Fixed.{Fixed, outcome_of}
 use Rattle.pb_confluence.specs.Effect.{waiting_count, outcome_for, items_back, settled, started, whole, completed, complete}
@@ -252,18 +253,18 @@ pub reported_well : (plan : PlanOf) (play : PlayOf) (o : Form) (p : ℕ) (row : 
 reported_well plan play o p row h = reported_by plan play o p row row.running h
 
 -- ---- the outcome of a host's next job hangs on no ticket
-named_ticket : (plan : PlanOf) (f : Fixed) (number : ℕ) (host : HostNo) (one other : Ticket) (item : ℕ) (delegate : Option (List ℕ)) (call : Call) (path : List ℕ) (name : Option (List ℕ))
+named_ticket : (plan : PlanOf) (f : Fixed) (number : ℕ) (host : HostNo) (one other : Ticket) (item : AttemptOf) (delegate : Option (List ℕ)) (call : Call) (path : List ℕ) (name : Option (List ℕ))
     → outcome_of f (option_map (λ (n : List ℕ). job_with number host one item call n (unwrap_or delegate n) (connector_for plan.inventory host.0 delegate) path) name)
     ≡ outcome_of f (option_map (λ (n : List ℕ). job_with number host other item call n (unwrap_or delegate n) (connector_for plan.inventory host.0 delegate) path) name)
 named_ticket plan f number host one other item delegate call path None = refl
 named_ticket plan f number host one other item delegate call path (Some n) = refl
 
-placed_ticket : (plan : PlanOf) (f : Fixed) (number : ℕ) (host : HostNo) (one other : Ticket) (item : ℕ) (delegate : Option (List ℕ)) (call : Call) (path : Option (List ℕ))
+placed_ticket : (plan : PlanOf) (f : Fixed) (number : ℕ) (host : HostNo) (one other : Ticket) (item : AttemptOf) (delegate : Option (List ℕ)) (call : Call) (path : Option (List ℕ))
     → outcome_of f (option_map_or (named_job plan number host one item delegate call) path None) ≡ outcome_of f (option_map_or (named_job plan number host other item delegate call) path None)
 placed_ticket plan f number host one other item delegate call None = refl
 placed_ticket plan f number host one other item delegate call (Some path) = named_ticket plan f number host one other item delegate call path (slice_get plan.inventory.hosts host.0)
 
-called_ticket : (plan : PlanOf) (f : Fixed) (number : ℕ) (host : HostNo) (one other : Ticket) (play : PlayOf) (p item : ℕ) (delegate : Option (List ℕ)) (call : Option Call)
+called_ticket : (plan : PlanOf) (f : Fixed) (number : ℕ) (host : HostNo) (one other : Ticket) (play : PlayOf) (p : ℕ) (item : AttemptOf) (delegate : Option (List ℕ)) (call : Option Call)
     → outcome_of f (option_map_or (placed_job plan number host one play p item delegate) call None) ≡ outcome_of f (option_map_or (placed_job plan number host other play p item delegate) call None)
 called_ticket plan f number host one other play p item delegate None = refl
 called_ticket plan f number host one other play p item delegate (Some call) = placed_ticket plan f number host one other item delegate call (path_at play.tree p)
@@ -271,7 +272,7 @@ called_ticket plan f number host one other play p item delegate (Some call) = pl
 item_ticket : (plan : PlanOf) (f : Fixed) (number : ℕ) (host : HostNo) (one other : Ticket) (play : PlayOf) (r : Running) (next : Option ℕ)
     → outcome_of f (option_map_or (item_job plan number host one play r) next None) ≡ outcome_of f (option_map_or (item_job plan number host other play r) next None)
 item_ticket plan f number host one other play r None = refl
-item_ticket plan f number host one other play r (Some n) = called_ticket plan f number host one other play r.place n (delegate_in r.items n) (call_in r.items n)
+item_ticket plan f number host one other play r (Some n) = called_ticket plan f number host one other play r.place (next_attempt play r n) (delegate_in r.items n) (call_in r.items n)
 
 running_ticket : (plan : PlanOf) (f : Fixed) (number : ℕ) (host : HostNo) (one other : Ticket) (play : PlayOf) (x : Option Running)
     → outcome_of f (option_map_or (running_job plan number host one play) x None) ≡ outcome_of f (option_map_or (running_job plan number host other play) x None)

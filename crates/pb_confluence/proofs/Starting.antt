@@ -230,13 +230,13 @@ start_keeps plan f s h play apart numbered o holds is =
     (keeps_rows plan f s play (change s.rows h (started plan play is.place)) o moved.0 moved.1))
 
 -- ---- a send, a report: an event of a host that runs
-pub sends_some : (item : ℕ) (x : Option Running) → option_map_or (sends_running item) x false ≡ true → (r : Running) × (x ≡ Some r)
-sends_some item None e = cc
-sends_some item (Some r) e = (r, refl)
+pub sends_some : (item attempt : ℕ) (x : Option Running) → option_map_or (sends_running item attempt) x false ≡ true → (r : Running) × (x ≡ Some r)
+sends_some item attempt None e = cc
+sends_some item attempt (Some r) e = (r, refl)
 
-pub awaits_some : (ticket : Ticket) (item : ℕ) (x : Option Running) → option_map_or (awaits_running ticket item) x false ≡ true → (r : Running) × (x ≡ Some r)
-awaits_some ticket item None e = cc
-awaits_some ticket item (Some r) e = (r, refl)
+pub awaits_some : (ticket : Ticket) (item attempt : ℕ) (x : Option Running) → option_map_or (awaits_running ticket item attempt) x false ≡ true → (r : Running) × (x ≡ Some r)
+awaits_some ticket item attempt None e = cc
+awaits_some ticket item attempt (Some r) e = (r, refl)
 
 -- what such an event's change of the row has to give
 record Unseen (plan : PlanOf) (f : Fixed) (number p : ℕ) (play : PlayOf) (c : HostRow → HostRow) (row : HostRow) : Type 0 where
@@ -281,11 +281,11 @@ send_runs plan f s h ticket play row r o there runs holds =
       same = send_whole plan f s.play play r.place ticket other r (subst (λ (x : HostRow). x.running ≡ Some r) same runs) well.2;
     })
 
-pub send_keeps : (plan : PlanOf) (f : Fixed) (s : State) (h item : ℕ) (ticket : Ticket) (play : PlayOf) → open_play plan s ≡ Some play → may_send_in s h item ticket play ≡ true → Holds play s.place s.rows → Keeps plan f s (sent_in s h ticket play)
-send_keeps plan f s h item ticket play o may holds =
-    let sends = and_right (not s.stopped && (ticket.0 == s.sends)) (at_row (may_send_item item) s.rows h) may in
-    let at = found_in (may_send_item item) (slice_get s.rows h) sends in
-    let some = sends_some item at.0.running at.2 in
+pub send_keeps : (plan : PlanOf) (f : Fixed) (s : State) (h item attempt : ℕ) (ticket : Ticket) (play : PlayOf) → open_play plan s ≡ Some play → may_send_in s h item attempt ticket play ≡ true → Holds play s.place s.rows → Keeps plan f s (sent_in s h ticket play)
+send_keeps plan f s h item attempt ticket play o may holds =
+    let sends = and_right (not s.stopped && (ticket.0 == s.sends)) (at_row (may_send_item item attempt) s.rows h) may in
+    let at = found_in (may_send_item item attempt) (slice_get s.rows h) sends in
+    let some = sends_some item attempt at.0.running at.2 in
     send_runs plan f s h ticket play at.0 some.0 o at.1 some.1 holds
 
 -- ---- a report
@@ -342,6 +342,6 @@ report_runs plan f s r play row t apart numbered o there runs is holds =
 pub report_keeps : (plan : PlanOf) (f : Fixed) (s : State) (r : Report) (play : PlayOf) → AreApart plan → AreNumbered 0 s.rows → open_play plan s ≡ Some play → may_report_in s r play ≡ true
     → r.outcome ≡ outcome_of f (job_of plan s r.host r.ticket) → Holds play s.place s.rows → Keeps plan f s (reported_in plan s r play)
 report_keeps plan f s r play apart numbered o may is holds =
-    let at = found_in (awaits r.ticket r.item) (slice_get s.rows r.host.0) may in
-    let some = awaits_some r.ticket r.item at.0.running at.2 in
+    let at = found_in (awaits r.ticket r.item r.attempt) (slice_get s.rows r.host.0) may in
+    let some = awaits_some r.ticket r.item r.attempt at.0.running at.2 in
     report_runs plan f s r play at.0 some.0 apart numbered o at.1 some.1 is holds

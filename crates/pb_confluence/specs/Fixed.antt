@@ -19,12 +19,25 @@ pub record Asked : Type 0 where
   pub play : ℕ
   pub place : List ℕ
   pub item : ℕ
+  pub attempt : ℕ
+  pub delay : ℕ
   pub target : List ℕ
   pub connector : List (List ℕ)
   pub call : Call
 
 abbrev pub asked_of : Job → Asked
-asked_of job = record { host = job.host.0; play = job.play.0; place = job.place; item = job.item; target = job.target; connector = job.connector; call = job.call }
+asked_of job =
+    record {
+      host = job.host.0;
+      play = job.play.0;
+      place = job.place;
+      item = job.item;
+      attempt = job.attempt;
+      delay = job.delay;
+      target = job.target;
+      connector = job.connector;
+      call = job.call;
+    }
 
 -- what comes of each job
 abbrev pub Fixed : Type 0
@@ -39,7 +52,7 @@ abbrev pub IsFixedAt : PlanOf → Fixed → State → Event → Type 0
 IsFixedAt plan f s (Reported r) = IfSome (job_of plan s r.host r.ticket) (λ (job : Job). r.outcome ≡ f (asked_of job))
 IsFixedAt plan f s Open = Unit {0}
 IsFixedAt plan f s (Start h) = Unit {0}
-IsFixedAt plan f s (Send h item ticket) = Unit {0}
+IsFixedAt plan f s (Send h item attempt ticket) = Unit {0}
 IsFixedAt plan f s Turn = Unit {0}
 IsFixedAt plan f s Close = Unit {0}
 IsFixedAt plan f s Stop = Unit {0}

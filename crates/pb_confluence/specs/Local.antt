@@ -19,7 +19,7 @@ use Rattle.pb_confluence.specs.Independent.{is_independent}
 -- each event of a host in the play that is open changes its row alone
 pub record AreLocal (plan : PlanOf) (s : State) (play : PlayOf) : Type 0 where
   pub starts : (h : HostNo) (p : ℕ) → next_at s h.0 ≡ Some p → (after plan s (Start h)).rows ≡ change s.rows h.0 (started plan play p)
-  pub sends : (h : HostNo) (item : ℕ) (ticket : Ticket) → (after plan s (Send h item ticket)).rows ≡ change s.rows h.0 (sent ticket)
+  pub sends : (h : HostNo) (item attempt : ℕ) (ticket : Ticket) → (after plan s (Send h item attempt ticket)).rows ≡ change s.rows h.0 (sent ticket)
   pub reports : (r : Report) → (after plan s (Reported r)).rows ≡ change s.rows r.host.0 (reported plan play r.outcome)
   -- and the plan's forks are nothing to what becomes of a row
   pub starts_by_any_forks : (n p : ℕ) (row : HostRow) → started (with_forks n plan) play p row ≡ started plan play p row

@@ -21,7 +21,7 @@ use Rattle.pb_confluence.specs.Independent.{is_independent, are_linear}
 use Rattle.pb_confluence.specs.Together.{together}
 
 abbrev pub comes : ℕ → ℕ → Form → Event
-comes h ticket outcome = Reported (record { ticket = record { 0 = ticket }; host = record { 0 = h }; item = 0; outcome = outcome })
+comes h ticket outcome = Reported (record { ticket = record { 0 = ticket }; host = record { 0 = h }; item = 0; attempt = 1; outcome = outcome })
 
 abbrev pub counts : List HostRow → List Counts
 counts rows = map (λ (row : HostRow). row.counts) rows

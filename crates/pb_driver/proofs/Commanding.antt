@@ -36,7 +36,7 @@ is_for (ToForks n) = refl
 command_report : (e : Event) → is_command e ≡ true → is_report e ≡ false
 command_report Open c = refl
 command_report (Start h) c = refl
-command_report (Send h item ticket) c = refl
+command_report (Send h item attempt ticket) c = refl
 command_report (Reported r) c = cc
 command_report Turn c = refl
 command_report Close c = refl
@@ -46,7 +46,7 @@ command_report (Forks n) c = refl
 pub command_mail : (e : Event) → is_command e ≡ true → has_mail e ≡ false
 command_mail Open c = refl
 command_mail (Start h) c = refl
-command_mail (Send h item ticket) c = cc
+command_mail (Send h item attempt ticket) c = cc
 command_mail (Reported r) c = cc
 command_mail Turn c = refl
 command_mail Close c = refl
@@ -56,7 +56,7 @@ command_mail (Forks n) c = refl
 no_lines : (plan : PlanOf) (s : State) (e : Event) → is_command e ≡ true → lines_of plan s e ≡ []
 no_lines plan s Open c = cc
 no_lines plan s (Start h) c = cc
-no_lines plan s (Send h item ticket) c = cc
+no_lines plan s (Send h item attempt ticket) c = cc
 no_lines plan s (Reported r) c = cc
 no_lines plan s Turn c = cc
 no_lines plan s Close c = cc
@@ -66,7 +66,7 @@ no_lines plan s (Forks n) c = refl
 no_work : (plan : PlanOf) (s : State) (e : Event) → is_command e ≡ true → work plan (after plan s e) ≡ work plan s
 no_work plan s Open c = cc
 no_work plan s (Start h) c = cc
-no_work plan s (Send h item ticket) c = cc
+no_work plan s (Send h item attempt ticket) c = cc
 no_work plan s (Reported r) c = cc
 no_work plan s Turn c = cc
 no_work plan s Close c = cc

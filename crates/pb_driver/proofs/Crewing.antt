@@ -58,7 +58,7 @@ pub has_sent : {P : Type 0} (picks : P → List Bool → ℕ → P → Type 0) (
     → FitsSince fits old → HasSent fits new job
 has_sent picks old_picker new_picker fits old new job m since =
     let by = sent_by old.plan old.state m.0 job m.1.answer in
-    record { old = old; host = by.0; item = by.1; ticket = by.2; since = since; takes = subst (λ (e : Event). Takes old new e) by.3 m.1.takes; is = by.4 }
+    record { old = old; host = by.0; item = by.1; attempt = by.2; ticket = by.3; since = since; takes = subst (λ (e : Event). Takes old new e) by.4 m.1.takes; is = by.5 }
 
 -- a report was taken
 pub since_taken : (fits : EngineOf → Type 0) (old new : EngineOf) (r : Report) → ((next : EngineOf) → Takes old next (Reported r) → fits next) → Takes old new (Reported r) → IsSound new → FitsSince fits new

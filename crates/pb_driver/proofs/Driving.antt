@@ -14,7 +14,7 @@ use Rattle.pb_one_host.specs.declared.row.Counts.{Counts}
 use Rattle.pb_plan.specs.Plan.{PlanOf}
 use Rattle.pb_state.specs.State.{State}
 use Rattle.pb_one_host.specs.Runs.{is_out}
-use Rattle.pb_state.specs.Machine.{possible, after, first_state, item_at}
+use Rattle.pb_state.specs.Machine.{possible, after, first_state, attempt_at, item_at}
 use Rattle.pb_state.specs.Jobs.{job_of}
 use Rattle.pb_all_hosts.specs.Oldest.{oldest_out}
 use Rattle.pb_state.specs.Run.{IsEager, IsQuiet, state_from, is_report, is_command}
@@ -42,7 +42,7 @@ use Rattle.pb_driver.proofs.Pieces.{more_more}
 pub own_report : (plan : PlanOf) (s : State) (e : Event) (next : Next) → answer_of plan s e ≡ Some next → is_report e ≡ false
 own_report plan s Open next a = refl
 own_report plan s (Start h) next a = refl
-own_report plan s (Send h item ticket) next a = refl
+own_report plan s (Send h item attempt ticket) next a = refl
 own_report plan s (Reported r) next a = cc
 own_report plan s Turn next a = refl
 own_report plan s Close next a = refl
@@ -52,7 +52,7 @@ own_report plan s (Forks n) next a = refl
 own_command : (plan : PlanOf) (s : State) (e : Event) (next : Next) → answer_of plan s e ≡ Some next → is_command e ≡ false
 own_command plan s Open next a = refl
 own_command plan s (Start h) next a = refl
-own_command plan s (Send h item ticket) next a = refl
+own_command plan s (Send h item attempt ticket) next a = refl
 own_command plan s (Reported r) next a = refl
 own_command plan s Turn next a = refl
 own_command plan s Close next a = refl
@@ -62,7 +62,7 @@ own_command plan s (Forks n) next a = cc
 pub no_report : (answers : Answers) (plan : PlanOf) (s : State) (e : Event) → is_report e ≡ false → IsAnswerAt answers plan s e
 no_report answers plan s Open m = tt
 no_report answers plan s (Start h) m = tt
-no_report answers plan s (Send h item ticket) m = tt
+no_report answers plan s (Send h item attempt ticket) m = tt
 no_report answers plan s (Reported r) m = cc
 no_report answers plan s Turn m = tt
 no_report answers plan s Close m = tt
@@ -255,8 +255,8 @@ oldest_found s none out = let no = some_oldest s.rows none in cc
 pub job_found : (engine : EngineOf) (host : HostNo) (ticket : Ticket) → IsSound engine → oldest_out engine.state.rows ≡ Some (host, ticket) → job_of engine.plan engine.state host ticket ≡ None → ⊥
 job_found engine host ticket sound oldest none = job_in_run engine.plan engine.pool engine.trail engine.state (host, ticket) sound oldest none
 
-pub oldest_waits : (engine : EngineOf) (r : Report) → IsSound engine → oldest_out engine.state.rows ≡ Some (r.host, r.ticket) → item_at engine.state r.host.0 ≡ Some r.item → refusal_of engine.state r ≡ None
-oldest_waits engine r sound oldest next = oldest_in_run engine.plan engine.pool engine.trail engine.state r sound oldest next
+pub oldest_waits : (engine : EngineOf) (r : Report) → IsSound engine → oldest_out engine.state.rows ≡ Some (r.host, r.ticket) → item_at engine.state r.host.0 ≡ Some r.item → attempt_at engine.state r.host.0 ≡ r.attempt → refusal_of engine.state r ≡ None
+oldest_waits engine r sound oldest next attempt = oldest_in_run engine.plan engine.pool engine.trail engine.state r sound oldest next attempt
 
 -- the report that comes where `next` waits
 pub waits_took : {P : Type 0} (picks : P → List Bool → ℕ → P → Type 0) (old_picker new_picker : P) (answers : Answers) (old mid new : EngineOf) → NextIs picks old_picker new_picker old mid Waiting → TakesOne answers mid new → TakesOne answers old new

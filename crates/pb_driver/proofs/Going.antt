@@ -40,7 +40,7 @@ in_taken old e sound = rw (mails_more old.plan (first_state old.plan old.plan.fo
 pub no_mail : (plan : PlanOf) (s : State) (e : Event) → has_mail e ≡ false → mail_in plan s e ≡ []
 no_mail plan s Open m = refl
 no_mail plan s (Start h) m = refl
-no_mail plan s (Send h item ticket) m = cc
+no_mail plan s (Send h item attempt ticket) m = cc
 no_mail plan s (Reported r) m = cc
 no_mail plan s Turn m = refl
 no_mail plan s Close m = refl
@@ -63,7 +63,7 @@ moved_found (Some job) e = cc
 pub moved_mail : (plan : PlanOf) (s : State) (e : Event) → answer_of plan s e ≡ Some Moved → has_mail e ≡ false
 moved_mail plan s Open a = refl
 moved_mail plan s (Start h) a = refl
-moved_mail plan s (Send h item ticket) a = absurd (moved_found (job_of plan s h ticket) a)
+moved_mail plan s (Send h item attempt ticket) a = absurd (moved_found (job_of plan s h ticket) a)
 moved_mail plan s (Reported r) a = cc
 moved_mail plan s Turn a = refl
 moved_mail plan s Close a = refl
@@ -72,12 +72,12 @@ moved_mail plan s (Forks n) a = refl
 
 -- a job went out with this event
 abbrev pub SendsBy : PlanOf → State → Event → Job → Type 0
-SendsBy plan s e job = (h : HostNo) × (item : ℕ) × (ticket : Ticket) × (e ≡ Send h item ticket) × (job_of plan s h ticket ≡ Some job)
+SendsBy plan s e job = (h : HostNo) × (item : ℕ) × (attempt : ℕ) × (ticket : Ticket) × (e ≡ Send h item attempt ticket) × (job_of plan s h ticket ≡ Some job)
 
 pub sent_by : (plan : PlanOf) (s : State) (e : Event) (job : Job) → answer_of plan s e ≡ Some (ToSend job) → SendsBy plan s e job
 sent_by plan s Open job a = cc
 sent_by plan s (Start h) job a = cc
-sent_by plan s (Send h item ticket) job a = (h, item, ticket, refl, sent_found job (job_of plan s h ticket) a)
+sent_by plan s (Send h item attempt ticket) job a = (h, item, attempt, ticket, refl, sent_found job (job_of plan s h ticket) a)
 sent_by plan s (Reported r) job a = cc
 sent_by plan s Turn job a = cc
 sent_by plan s Close job a = cc
@@ -101,8 +101,8 @@ along_one {H} went old new before after e mail more sound is one gone = λ base 
     (ap (λ l. mails_in old ++ l) (sym one) ∙ sym (in_taken old e sound) ∙ ap mails_in (sym is))
     (more base before after (mails_in old) (mail ∷ []) was gone)
 
-mail_sent : (plan : PlanOf) (s : State) (h : HostNo) (item : ℕ) (ticket : Ticket) (job : Job) → job_of plan s h ticket ≡ Some job → mail_in plan s (Send h item ticket) ≡ Goes job ∷ []
-mail_sent plan s h item ticket job is = ap (λ (found : Option Job). option_map_or (λ (j : Job). Goes j ∷ []) found []) is
+mail_sent : (plan : PlanOf) (s : State) (h : HostNo) (item attempt : ℕ) (ticket : Ticket) (job : Job) → job_of plan s h ticket ≡ Some job → mail_in plan s (Send h item attempt ticket) ≡ Goes job ∷ []
+mail_sent plan s h item attempt ticket job is = ap (λ (found : Option Job). option_map_or (λ (j : Job). Goes j ∷ []) found []) is
 
 mail_came : (plan : PlanOf) (s : State) (r : Report) (job : Job) → job_of plan s r.host r.ticket ≡ Some job → mail_in plan s (Reported r) ≡ Comes job r.outcome ∷ []
 mail_came plan s r job is = ap (λ (found : Option Job). option_map_or (λ (j : Job). Comes j r.outcome ∷ []) found []) is
@@ -112,7 +112,7 @@ pub along_sent : {H P : Type 0} (went : H → List Mail → H → Type 0) (picks
 along_sent {H} {P} went picks old_picker new_picker old new before after job more sound m gone =
     let by = sent_by old.plan old.state m.0 job m.1.answer in
     along_one went old new before after m.0 (Goes job) more sound m.1.takes.1
-    (ap (mail_in old.plan old.state) by.3 ∙ mail_sent old.plan old.state by.0 by.1 by.2 job by.4) gone
+    (ap (mail_in old.plan old.state) by.4 ∙ mail_sent old.plan old.state by.0 by.1 by.2 by.3 job by.5) gone
 
 pub along_came : {H : Type 0} (went : H → List Mail → H → Type 0) (old new : EngineOf) (before after : H) (r : Report)
     → WentMore went → IsSound old → Takes old new (Reported r)

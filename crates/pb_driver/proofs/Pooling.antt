@@ -20,7 +20,7 @@ use Rattle.pb_forks.specs.declared.views.Entry.TheVariants.{Offered, Collected}
 use Rattle.pb_forks.specs.declared.views.MainView.{MainView}
 use Rattle.pb_forks.specs.Logs.{IsAbove, EndsIn, Fits, offers_of}
 use Rattle.pb_forks.specs.Seats.{main_view, forks_of, IsMainOf, IsSameMain}
-use Rattle.pb_forks.specs.Views.{CollectedLast, offered_to, idle_forks, jobs_out, is_out}
+use Rattle.pb_forks.specs.Views.{CollectedLast, offered_to, idle_forks, idle_words, jobs_out, is_out}
 use Rattle.pb_forks.proofs.Logs.{offers-other, offers-here, offers-collected}
 use Rattle.pb_runner.specs.Served.{report_of}
 use Rattle.pb_plan.specs.Plan.{PlayOf, PlanOf}
@@ -153,11 +153,11 @@ last_same : (xs ys : List Job) (x y : Job) → xs ++ x ∷ [] ≡ ys ++ y ∷ []
 last_same xs ys x y e = sym (last_at x xs x) ∙ ap (last_or x) e ∙ last_at x ys y
 
 -- a job that goes out
-sends_at : (s : State) (h item : ℕ) (t : Ticket) (found : Option PlayOf) → option_map_or (may_send_in s h item t) found false ≡ true → t.0 ≡ s.sends
-sends_at s h item t None e = cc
-sends_at s h item t (Some play) e = eqb-true t.0 s.sends (and_right (not s.stopped) _ (and_left (not s.stopped && (t.0 == s.sends)) _ e))
+sends_at : (s : State) (h item attempt : ℕ) (t : Ticket) (found : Option PlayOf) → option_map_or (may_send_in s h item attempt t) found false ≡ true → t.0 ≡ s.sends
+sends_at s h item attempt t None e = cc
+sends_at s h item attempt t (Some play) e = eqb-true t.0 s.sends (and_right (not s.stopped) _ (and_left (not s.stopped && (t.0 == s.sends)) _ e))
 
-module _ (k f : ℕ) (m n : MainView) (old new : EngineOf) (h : HostNo) (item : ℕ) (t : Ticket) (x : Job) (sound : IsSound old) (takes : Takes old new (Send h item t)) (is : job_of old.plan old.state h t ≡ Some x) (fit : FitsView k m old) (below : f < k) (idle : get_or m.seen f 0 ≡ 0) (out : jobs_out n ≡ jobs_out m + 1) (room : idle_forks n + 1 ≡ idle_forks m) (above : (u : ℕ) → x.ticket.0 < u → IsAbove n.log u) (offered : n ≡ offered_to f x m) where
+module _ (k f : ℕ) (m n : MainView) (old new : EngineOf) (h : HostNo) (item attempt : ℕ) (t : Ticket) (x : Job) (sound : IsSound old) (takes : Takes old new (Send h item attempt t)) (is : job_of old.plan old.state h t ≡ Some x) (fit : FitsView k m old) (below : f < k) (idle : get_or m.seen f 0 ≡ 0) (out : jobs_out n ≡ jobs_out m + 1) (room : idle_forks n + 1 ≡ idle_forks m) (above : (u : ℕ) → x.ticket.0 < u → IsAbove n.log u) (offered : n ≡ offered_to f x m) where
   sent_run : InRun old.plan k old.state
   sent_run = subst (λ (z : ℕ). InRun old.plan z old.state) fit.size (in_run old.plan old.pool old.trail old.state (subst (λ (z : ℕ). old.plan.forks ≤ z) (sym fit.size) fit.forks) sound)
 
@@ -173,23 +173,23 @@ module _ (k f : ℕ) (m n : MainView) (old new : EngineOf) (h : HostNo) (item : 
   seen_other : (j : ℕ) → j ≢ f → get_or n.seen j 0 ≡ get_or m.seen j 0
   seen_other j ne = ap (λ (ws : List ℕ). get_or ws j 0) seen_is ∙ get_or-set_other m.seen f j (4 * x.ticket.0 + 1) 0 ne
 
-  new_is : new ≡ taken old (Send h item t)
+  new_is : new ≡ taken old (Send h item attempt t)
   new_is = takes.1
 
   sends_are : t.0 ≡ old.state.sends
-  sends_are = sends_at old.state h.0 item t (open_play old.plan old.state) takes.0
+  sends_are = sends_at old.state h.0 item attempt t (open_play old.plan old.state) takes.0
 
-  stays_here : (y : Job) → IsOut old.plan old.state y → IsOut old.plan (after old.plan old.state (Send h item t)) y
-  stays_here y o = stays_out old.plan k old.state (Send h item t) y takes.0 sent_run ((send_says old.plan old.state (after old.plan old.state (Send h item t)) h item t takes.0).silent refl y.host.0) o
+  stays_here : (y : Job) → IsOut old.plan old.state y → IsOut old.plan (after old.plan old.state (Send h item attempt t)) y
+  stays_here y o = stays_out old.plan k old.state (Send h item attempt t) y takes.0 sent_run ((send_says old.plan old.state (after old.plan old.state (Send h item attempt t)) h item attempt t takes.0).silent refl y.host.0) o
 
-  out_here : IsOut old.plan (after old.plan old.state (Send h item t)) x
+  out_here : IsOut old.plan (after old.plan old.state (Send h item attempt t)) x
   out_here =
-      let at = sending old.plan old.state h item t (open_play old.plan old.state) refl takes.0 in
-      sent_out old.plan old.state h item t x at.0 (open_play old.plan old.state) refl (open_of_job old.plan old.state h t x is) at.1 is takes.0
+      let at = sending old.plan old.state h item attempt t (open_play old.plan old.state) refl takes.0 in
+      sent_out old.plan old.state h item attempt t x at.0 (open_play old.plan old.state) refl (open_of_job old.plan old.state h t x is) at.1 is takes.0
 
-  has_here : (j : ℕ) → is_out (get_or n.seen j 0) ≡ true → HasItsJob n (taken old (Send h item t)) j
+  has_here : (j : ℕ) → is_out (get_or n.seen j 0) ≡ true → HasItsJob n (taken old (Send h item attempt t)) j
   has_here j o = dite (ℕ_discrete j f)
-      (λ e. subst (HasItsJob n (taken old (Send h item t))) (sym e) (x, (offers_of f m.log, ap (offers_of f) log_is ∙ offers-here f x m.log), (let w = seen_here in omega arith), out_here))
+      (λ e. subst (HasItsJob n (taken old (Send h item attempt t))) (sym e) (x, (offers_of f m.log, ap (offers_of f) log_is ∙ offers-here f x m.log), (let w = seen_here in omega arith), out_here))
       (λ ne.
       let has = fit.each j (subst (λ (w : ℕ). is_out w ≡ true) (seen_other j ne) o) in
       (has.0, (has.1.0, ap (offers_of j) log_is ∙ offers-other j f x m.log ne ∙ has.1.1), ap (λ (w : ℕ). w / 4) (seen_other j ne) ∙ has.2, stays_here has.0 has.3))
@@ -215,9 +215,9 @@ module _ (k f : ℕ) (m n : MainView) (old new : EngineOf) (h : HostNo) (item : 
       (λ ej. absurd (let low = tickets_below i ni a in let w : get_or n.seen j 0 / 4 ≡ x.ticket.0 = ap (λ (z : ℕ). get_or n.seen z 0 / 4) ej ∙ here_ticket in omega (arith, low, w, same)))
       (λ nj. fit.apart i j (subst (λ (w : ℕ). is_out w ≡ true) (seen_other i ni) a) (subst (λ (w : ℕ). is_out w ≡ true) (seen_other j nj) b) (ap (λ (w : ℕ). w / 4) (sym (seen_other i ni)) ∙ same ∙ ap (λ (w : ℕ). w / 4) (seen_other j nj))))
 
-  sent_fits : FitsView k n (taken old (Send h item t))
+  sent_fits : FitsView k n (taken old (Send h item attempt t))
   sent_fits =
-      let counts = outs_sent old.plan k old.state h item t takes.0 sent_run in
+      let counts = outs_sent old.plan k old.state h item attempt t takes.0 sent_run in
       let named = (job_host old.plan old.state h t x is).1 in
       let same : x.ticket.0 ≡ old.state.sends = ap (λ (u : Ticket). u.0) named ∙ sends_are in
       record {
@@ -226,7 +226,7 @@ module _ (k f : ℕ) (m n : MainView) (old new : EngineOf) (h : HostNo) (item : 
         wide = ap length seen_is ∙ length-set m.seen f (4 * x.ticket.0 + 1) ∙ fit.wide;
         room = let r = fit.room in omega (arith, r, out, room);
         count = let c = fit.count in let more = counts.0 in omega (arith, c, out, more);
-        above = let more = counts.1 in above (after old.plan old.state (Send h item t)).sends (omega (arith, more, same));
+        above = let more = counts.1 in above (after old.plan old.state (Send h item attempt t)).sends (omega (arith, more, same));
         each = has_here;
         apart = apart_here;
       }
@@ -268,10 +268,10 @@ module _ (allows : Job → Form → Type 0) (k f : ℕ) (m n : MainView) (engine
   job_came = ap (λ (h : HostNo). job_of engine.plan engine.state h r.ticket) its.1 ∙ ap (λ (t : Ticket). job_of engine.plan engine.state x.host t) its.0 ∙ x_out.3
 
   pub workers_answer : IsWorkersAnswer allows engine.plan engine.state r
-  workers_answer = record { job = x; is_out = job_came; its = (its.0, its.1, its.2); allowed = its.3 }
+  workers_answer = record { job = x; is_out = job_came; its = (its.0, its.1, its.2, its.3); allowed = its.4 }
 
   pub report_waits : refusal_of engine.state r ≡ None
-  report_waits = out_awaited engine.plan engine.pool engine.trail engine.state x r sound x_out (its.0, its.1, its.2)
+  report_waits = out_awaited engine.plan engine.pool engine.trail engine.state x r sound x_out (its.0, its.1, its.2, its.3)
 
   seen_after : n.seen ≡ set (set came.0.seen f (4 * r.ticket.0 + 3)) f 0
   seen_after = ap (λ (v : MainView). v.seen) came.3
@@ -350,7 +350,7 @@ module _ (allows : Job → Form → Type 0) (k f : ℕ) (m n : MainView) (engine
   view_came new takes = subst (FitsView k n) (sym takes.1) (after_fits takes.0)
 
   pub report_is : r ≡ report_of (x, r.outcome)
-  report_is = λ i. record { ticket = its.0 i; host = its.1 i; item = its.2 i; outcome = r.outcome }
+  report_is = λ i. record { ticket = its.0 i; host = its.1 i; item = its.2 i; attempt = its.3 i; outcome = r.outcome }
 
 run_in : (k : ℕ) (m : MainView) (engine : EngineOf) → IsSound engine → FitsView k m engine → InRun engine.plan k engine.state
 run_in k m engine sound fit =
@@ -379,19 +379,19 @@ module _ {A : Type 0} where
       let fit = pool_now pool main old sent.since in
       let run = run_in (forks_of pool) (main_view main) old sent.since.run fit.1 in
       let may = sent.takes.0 in
-      let out = room_to_send old.plan (forks_of pool) old.state sent.host sent.item sent.ticket may run in
+      let out = room_to_send old.plan (forks_of pool) old.state sent.host sent.item sent.attempt sent.ticket may run in
       let named = job_host old.plan old.state sent.host sent.ticket job sent.is in
-      let same : job.ticket.0 ≡ old.state.sends = ap (λ (u : Ticket). u.0) named.1 ∙ sends_at old.state sent.host.0 sent.item sent.ticket (open_play old.plan old.state) may in
-      let more = (outs_sent old.plan (forks_of pool) old.state sent.host sent.item sent.ticket may run).1 in
-      let at = sending old.plan old.state sent.host sent.item sent.ticket (open_play old.plan old.state) refl may in
-      let there = sent_out old.plan old.state sent.host sent.item sent.ticket job at.0 (open_play old.plan old.state) refl (open_of_job old.plan old.state sent.host sent.ticket job sent.is) at.1 sent.is may in
+      let same : job.ticket.0 ≡ old.state.sends = ap (λ (u : Ticket). u.0) named.1 ∙ sends_at old.state sent.host.0 sent.item sent.attempt sent.ticket (open_play old.plan old.state) may in
+      let more = (outs_sent old.plan (forks_of pool) old.state sent.host sent.item sent.attempt sent.ticket may run).1 in
+      let at = sending old.plan old.state sent.host sent.item sent.attempt sent.ticket (open_play old.plan old.state) refl may in
+      let there = sent_out old.plan old.state sent.host sent.item sent.attempt sent.ticket job at.0 (open_play old.plan old.state) refl (open_of_job old.plan old.state sent.host sent.ticket job sent.is) at.1 sent.is may in
       let count = fit.1.count in
       let room = fit.1.room in (
         fit.0,
         omega (arith, out, count, room),
         subst (λ (n : ℕ). IsAbove (main_view main).log n) (sym same) fit.1.above,
         ap (λ (v : EngineOf). v.state.sends) sent.takes.1 ∙ more ∙ ap (λ (n : ℕ). n + 1) (sym same),
-        ap (λ (v : EngineOf). v.state.is_open) sent.takes.1 ∙ open_of_job old.plan (after old.plan old.state (Send sent.host sent.item sent.ticket)) job.host job.ticket job there.3,
+        ap (λ (v : EngineOf). v.state.is_open) sent.takes.1 ∙ open_of_job old.plan (after old.plan old.state (Send sent.host sent.item sent.attempt sent.ticket)) job.host job.ticket job there.3,
       )
 
   -- and behind that
@@ -401,7 +401,7 @@ module _ {A : Type 0} where
   sent_fits_pool pool main new engine job f sent below idle same room out above offered =
       let fit = pool_now pool main sent.old sent.since in (
         same ∙ fit.0,
-        view_sent (forks_of pool) f (main_view main) (main_view new) sent.old engine sent.host sent.item sent.ticket job sent.since.run sent.takes sent.is fit.1 below idle out room above offered,
+        view_sent (forks_of pool) f (main_view main) (main_view new) sent.old engine sent.host sent.item sent.attempt sent.ticket job sent.since.run sent.takes sent.is fit.1 below idle out room above offered,
       )
 
 within_one : (k f : ℕ) (log : List Entry) (e : Entry) → is_fork_below k e ≡ true → AreWithin k log → AreWithin k (log ++ e ∷ [])
@@ -435,7 +435,7 @@ pub posted_came : (allows : Job → Form → Type 0) (old new : MainSeat) (f : �
     → (came : CollectedLast allows f (main_view old) r (main_view new)) → HasPosted old (Comes came.4.1 r.outcome ∷ []) new
 posted_came allows old new f r below same room out came =
     let its = came.4.3 in
-    let is : r ≡ report_of (came.4.1, r.outcome) = λ i. record { ticket = its.0 i; host = its.1 i; item = its.2 i; outcome = r.outcome } in (
+    let is : r ≡ report_of (came.4.1, r.outcome) = λ i. record { ticket = its.0 i; host = its.1 i; item = its.2 i; attempt = its.3 i; outcome = r.outcome } in (
       same,
       omega (arith, room, out),
       ap (λ (v : MainView). map letter_at v.log) came.3 ∙ map-append letter_at came.0.log (Collected f r ∷ []) ∙ ap (λ l. map letter_at l ++ Came r ∷ []) came.1.0
@@ -481,14 +481,43 @@ came_all {A} allows pool main new engine f r since same below came out room abov
     )
 
 -- ---- before a run
+-- where each fork is idle no job is out
+one_idle : (b : Bool) (n m : ℕ) → n ≤ m → cond b 1 0 + n ≤ m + 1
+one_idle true n m le = omega (arith, le)
+one_idle false n m le = omega (arith, le)
+
+few_idle : (ws : List ℕ) → idle_words ws ≤ length ws
+few_idle [] = omega arith
+few_idle (w ∷ ws) = let more = one_idle (w == 0) (idle_words ws) (length ws) (few_idle ws) in omega (arith, more)
+
+idle_one : (w : ℕ) (ws : List ℕ) (b : Bool) → (w == 0) ≡ b → cond b 1 0 + idle_words ws ≡ length ws + 1 → (idle_words ws ≡ length ws → count_by is_out ws ≡ 0) → count_by is_out (w ∷ ws) ≡ 0
+idle_one w ws true is all rest =
+    let here : ◌≡◌ {A = ℕ} (cond (is_out w) 1 0) 0 = ap (λ (v : ℕ). cond (is_out v) 1 0) (eqb-true w 0 is) in
+    let none = rest (omega (arith, all)) in
+    omega (arith, here, none, sum_by-cons (λ (v : ℕ). cond (is_out v) 1 0) w ws)
+idle_one w ws false is all rest = let few = few_idle ws in absurd (omega (arith, all, few))
+
+none_if_idle : (ws : List ℕ) → idle_words ws ≡ length ws → count_by is_out ws ≡ 0
+none_if_idle [] all = refl
+none_if_idle (w ∷ ws) all = idle_one w ws (w == 0) refl (omega (arith, all)) (none_if_idle ws)
+
+all_in : {A : Type 0} (pool : Pool A) (main : MainSeat) → IsMainOf pool main → idle_forks (main_view main) ≡ forks_of pool → jobs_out (main_view main) ≡ 0
+all_in {A} pool main of idle = none_if_idle (main_view main).seen (idle ∙ sym (seat_wide pool main of))
+
 none_counted : (ws : List ℕ) (j : ℕ) → count_by is_out ws ≡ 0 → is_out (get_or ws j 0) ≡ true → ⊥
 none_counted [] j none o = cc
 none_counted (w ∷ ws) zero none o = let one : ◌≡◌ {A = ℕ} (cond (is_out w) 1 0) 1 = ap (λ (b : Bool). cond b 1 0) o in omega (arith, none, one, sum_by-cons (λ (v : ℕ). cond (is_out v) 1 0) w ws)
 none_counted (w ∷ ws) (suc j) none o = none_counted ws j (omega (arith, none, sum_by-cons (λ (v : ℕ). cond (is_out v) 1 0) w ws)) o
 
-pub fresh_fits : {A : Type 0} (pool : Pool A) (main : MainSeat) (plan : PlanOf) (engine : EngineOf) → IsMainOf pool main → (main_view main).log ≡ [] → idle_forks (main_view main) ≡ forks_of pool → jobs_out (main_view main) ≡ 0
+-- each fork is idle or has a job out, since each was idle at the beginning and none was shut
+pub room_kept : {A : Type 0} (pool : Pool A) (old new : MainSeat) → IsMainOf pool old → idle_forks (main_view old) ≡ forks_of pool
+    → idle_forks (main_view new) + jobs_out (main_view new) ≡ idle_forks (main_view old) + jobs_out (main_view old) → idle_forks (main_view new) + jobs_out (main_view new) ≡ forks_of pool
+room_kept {A} pool old new of idle same = let none = all_in pool old of idle in omega (arith, none, idle, same)
+
+pub fresh_fits : {A : Type 0} (pool : Pool A) (main : MainSeat) (plan : PlanOf) (engine : EngineOf) → IsMainOf pool main → (main_view main).log ≡ [] → idle_forks (main_view main) ≡ forks_of pool
     → plan.forks ≤ forks_of pool → engine ≡ record { plan = plan; pool = forks_of pool; state = first_state plan plan.forks (forks_of pool); trail = [] } → FitsPool pool main engine
-fresh_fits {A} pool main plan engine of log idle none forks is =
+fresh_fits {A} pool main plan engine of log idle forks is =
+    let none = all_in pool main of idle in
     subst (FitsPool pool main) (sym is) (
       of,
       record {

@@ -98,7 +98,7 @@ within_all {A} pool old mid new of none a b =
     ((stays_more (main_view old) (main_view mid) (main_view new) a b).1 (subst (AreWithin (length (main_view old).seen)) (sym none) refl))
 
 -- before a run
-pub fits_first : {A : Type 0} (pool : Pool A) (main : MainSeat) (plan : PlanOf) (k : ℕ) (engine : EngineOf) → IsMainOf pool main → (main_view main).log ≡ [] → idle_forks (main_view main) ≡ forks_of pool → jobs_out (main_view main) ≡ 0
+pub fits_first : {A : Type 0} (pool : Pool A) (main : MainSeat) (plan : PlanOf) (k : ℕ) (engine : EngineOf) → IsMainOf pool main → (main_view main).log ≡ [] → idle_forks (main_view main) ≡ forks_of pool
     → k ≡ forks_of pool → plan.forks ≤ forks_of pool → engine_of plan k ≡ Ok engine → FitsPool pool main engine
-fits_first {A} pool main plan k engine of log idle none is forks made =
-    fresh_fits pool main plan engine of log idle none forks (sym (made_is plan k engine made) ∙ ap (λ (n : ℕ). record { plan = plan; pool = n; state = first_state plan plan.forks n; trail = [] }) is)
+fits_first {A} pool main plan k engine of log idle is forks made =
+    fresh_fits pool main plan engine of log idle forks (sym (made_is plan k engine made) ∙ ap (λ (n : ℕ). record { plan = plan; pool = n; state = first_state plan plan.forks n; trail = [] }) is)

@@ -30,7 +30,7 @@ came_among outcome (Some job) = refl
 in_among : (plan : PlanOf) (s : State) (e : Event) → answers_among (mail_in plan s e) ≡ answer_in plan s e
 in_among plan s Open = refl
 in_among plan s (Start h) = refl
-in_among plan s (Send h item ticket) = sent_among (job_of plan s h ticket)
+in_among plan s (Send h item attempt ticket) = sent_among (job_of plan s h ticket)
 in_among plan s (Reported r) = came_among r.outcome (job_of plan s r.host r.ticket)
 in_among plan s Turn = refl
 in_among plan s Close = refl

@@ -17,7 +17,7 @@ pair = record (bare_plan (codes "a" ∷ codes "b" ∷ []) (bare_play (codes "all
 -- a host starts, its job is sent, and its program ends with status 0
 abbrev ran : ℕ → List Event
 ran h =
-    Start (record { 0 = h }) ∷ Send (record { 0 = h }) 0 (record { 0 = h }) ∷ Reported (record { ticket = record { 0 = h }; host = record { 0 = h }; item = 0; outcome = Ran (pos 0) [] [] }) ∷ []
+    Start (record { 0 = h }) ∷ Send (record { 0 = h }) 0 1 (record { 0 = h }) ∷ Reported (record { ticket = record { 0 = h }; host = record { 0 = h }; item = 0; attempt = 1; outcome = Ran (pos 0) [] [] }) ∷ []
 
 abbrev given : ℕ → Command → Given
 given reports command = record { after = reports; command = command }

@@ -46,9 +46,10 @@ pub record HasSent (fits : EngineOf → Type 0) (engine : EngineOf) (job : Job) 
   pub old : EngineOf
   pub host : HostNo
   pub item : ℕ
+  pub attempt : ℕ
   pub ticket : Ticket
   pub since : FitsSince fits old
-  pub takes : Takes old engine (Send host item ticket)
+  pub takes : Takes old engine (Send host item attempt ticket)
   pub is : job_of old.plan old.state host ticket ≡ Some job
 
 pub among_both : (first more : List Mail) → answers_among (first ++ more) ≡ answers_among first ++ answers_among more

@@ -33,11 +33,11 @@ pub record IsAnswer (allows gives : Job → Form → Type 0) (plan : PlanOf) (s 
   pub allowed : allows job r.outcome
   pub given : gives job r.outcome
 
--- of workers: a report answers a job that is out, of its host and its item, with an outcome that the workers' kind allows for this job
+-- of workers: a report answers a job that is out, of its host, its item and its attempt, with an outcome that the workers' kind allows for this job
 pub record IsWorkersAnswer (allows : Job → Form → Type 0) (plan : PlanOf) (s : State) (r : Report) : Type 0 where
   pub job : Job
   pub is_out : job_of plan s r.host r.ticket ≡ Some job
-  pub its : (r.ticket ≡ job.ticket) × (r.host ≡ job.host) × (r.item ≡ job.item)
+  pub its : (r.ticket ≡ job.ticket) × (r.host ≡ job.host) × (r.item ≡ job.item) × (r.attempt ≡ job.attempt)
   pub allowed : allows job r.outcome
 
 -- what is true of a report, in the state in which it is taken
@@ -47,7 +47,7 @@ Answers = PlanOf → State → Report → Type 0
 abbrev pub IsAnswerAt : Answers → PlanOf → State → Event → Type 0
 IsAnswerAt answers plan s Open = Unit {0}
 IsAnswerAt answers plan s (Start h) = Unit {0}
-IsAnswerAt answers plan s (Send h item ticket) = Unit {0}
+IsAnswerAt answers plan s (Send h item attempt ticket) = Unit {0}
 IsAnswerAt answers plan s (Reported r) = answers plan s r
 IsAnswerAt answers plan s Turn = Unit {0}
 IsAnswerAt answers plan s Close = Unit {0}

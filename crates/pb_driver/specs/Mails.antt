@@ -28,7 +28,7 @@ pub data Mail : Type 0 where
 abbrev pub mail_in : PlanOf → State → Event → List Mail
 mail_in plan s Open = []
 mail_in plan s (Start h) = []
-mail_in plan s (Send h item ticket) = option_map_or (λ (job : Job). Goes job ∷ []) (job_of plan s h ticket) []
+mail_in plan s (Send h item attempt ticket) = option_map_or (λ (job : Job). Goes job ∷ []) (job_of plan s h ticket) []
 mail_in plan s (Reported r) = option_map_or (λ (job : Job). Comes job r.outcome ∷ []) (job_of plan s r.host r.ticket) []
 mail_in plan s Turn = []
 mail_in plan s Close = []

@@ -20,7 +20,7 @@ use Rattle.pb_driver.specs.declared.driver.RunFault.TheVariants.{Memory}
 abbrev pub answer_in : PlanOf → State → Event → List (Job × Form)
 answer_in plan s Open = []
 answer_in plan s (Start h) = []
-answer_in plan s (Send h item ticket) = []
+answer_in plan s (Send h item attempt ticket) = []
 answer_in plan s (Reported r) = option_map_or (λ (job : Job). (job, r.outcome) ∷ []) (job_of plan s r.host r.ticket) []
 answer_in plan s Turn = []
 answer_in plan s Close = []

@@ -7,7 +7,7 @@ use Rattle.pb_forks.specs.declared.seats.Pool.{Pool}
 use Rattle.pb_forks.specs.declared.seats.ForkSeat.{ForkSeat}
 use Rattle.pb_forks.specs.declared.seats.MainSeat.{MainSeat}
 use Rattle.pb_forks.specs.Logs.{offers_of, collects_of}
-use Rattle.pb_forks.specs.Views.{idle_forks, jobs_out, upto, WasShut}
+use Rattle.pb_forks.specs.Views.{idle_forks, upto, WasShut}
 use Rattle.pb_forks.specs.Seats.{fork_view, main_view, last_seen, number, forks_of, IsForkOf, IsFreshOf, IsMainOf, IsSameFork, IsSameMain}
 use Rattle.pb_outcome.specs.declared.job.Job.{Job}
 use Rattle.pb_outcome.specs.declared.job.Report.{Report}
@@ -34,7 +34,7 @@ IsIdleMain pool main = IsMainOf pool main × (idle_forks (main_view main) ≡ fo
 
 -- a main seat that did nothing yet, of k forks
 abbrev pub IsUnused : ℕ → MainView → Type 0
-IsUnused k m = (m.log ≡ []) × (idle_forks m ≡ k) × (jobs_out m ≡ 0)
+IsUnused k m = (m.log ≡ []) × (idle_forks m ≡ k)
 
 -- each fork was shut, and nothing else was done
 abbrev pub AllShut : {N : Type 0} → Pool N → MainSeat → MainSeat → Type 0

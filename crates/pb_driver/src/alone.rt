@@ -50,6 +50,7 @@ fn run_oldest<R: Runner>(
         ticket,
         host,
         item: job.item,
+        attempt: job.attempt,
         outcome,
     })
 }

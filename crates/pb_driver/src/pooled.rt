@@ -130,7 +130,7 @@ pub fn drive<N: Runner, R: Wait, P: Picker, W: LineOut>(
     writer: &mut W,
 ) -> Result<Ended, (RunFault, Vec<Event>)>
     requires seat { IsMainOf pool.now main.old }
-    requires fresh { ((main_view main.old).log ≡ []) × (idle_forks (main_view main.old) ≡ forks_of pool.now) × (jobs_out (main_view main.old) ≡ 0) }
+    requires fresh { ((main_view main.old).log ≡ []) × (idle_forks (main_view main.old) ≡ forks_of pool.now) }
     requires forks { plan.forks ≤ forks_of pool.now }
     ensures run { IfOk result (λ ended. IsWhole (IsWorkersAnswer N.allows) plan (forks_of pool.now) commands.now ended.trail.items (W.taken writer.old) (W.taken writer.new)) }
     ensures told { IfOk result (λ ended. IsTold plan (forks_of pool.now) ended.trail.items ended.recap ended.status) }

@@ -221,7 +221,7 @@ pub fn run_pool<N: Runner + Send + Drop, R: Threads + Wait + Sync, P: Picker + D
     commands: &[Given],
     writer: &mut W,
 ) -> Result<Ended, (RunFault, Vec<Event>)>
-    requires { (plan.forks ≤ length runners.old.items) × (0 < length runners.old.items) × (length runners.old.items ≤ 256) }
+    requires { (plan.forks ≤ length runners.old.items) × (length runners.old.items ≤ 256) }
     ensures run { IfOk result (λ ended. IsWhole (IsWorkersAnswer N.allows) plan (length runners.old.items) commands.now ended.trail.items (W.taken writer.old) (W.taken writer.new)) }
     ensures told { IfOk result (λ ended. IsTold plan (length runners.old.items) ended.trail.items ended.recap ended.status) }
     ensures spread { IfOk result (λ ended. IsSpread N.ran runners.old.items runners.new.items plan ended.trail.items []) }
@@ -232,6 +232,8 @@ pub fn run_pool<N: Runner + Send + Drop, R: Threads + Wait + Sync, P: Picker + D
     ensures write { IfErr result (λ e. e.0 ≡ RunFault.Write → W.failures writer.new ≡ one_more (W.failures writer.old)) }
     ensures closed { IfErr result (λ e. e.0 ≡ RunFault.Closed → (e.1.items ≡ []) × (W.taken writer.new ≡ W.taken writer.old) × IsSpread N.ran runners.old.items runners.new.items plan [] []) }
 {
+    // (a plan has a fork, so there is a runner)
+    let _forks = plan.forks();
     let count = runners.len() as u32;
     let Ok((pool, main, mut seats)) = Pool::<N>::new(alloc, count) else {
         return Err((RunFault::Memory, no_events(alloc, runners, &plan)));

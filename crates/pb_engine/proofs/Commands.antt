@@ -11,9 +11,10 @@ use Rattle.pb_plan.specs.Plan.{PlayOf, PlanOf}
 use Rattle.pb_state.specs.declared.event.Event.{Event}
 use Rattle.pb_state.specs.declared.event.Event.TheVariants.{Open, Start, Send, Turn, Close}
 use Rattle.pb_one_host.specs.declared.row.Running.{Running}
+use Rattle.pb_one_host.specs.Attempts.{attempt_next}
 use Rattle.pb_one_host.specs.Row.{HostRow}
 use Rattle.pb_state.specs.State.{State}
-use Rattle.pb_one_host.specs.Runs.{has_send, is_next, sends_running, may_send_item, is_out}
+use Rattle.pb_one_host.specs.Runs.{has_send, is_item, is_next, sends_running, may_send_item, is_out}
 use Rattle.pb_all_hosts.specs.Hosts.{at_row}
 use Rattle.pb_state.specs.Machine.{possible, ready, ready_in, may_start_in, may_send_in, open_play}
 use Rattle.pb_state.specs.Run.{IsRun, IsFinished}
@@ -62,14 +63,16 @@ some_member [] e = cc
 some_member (true ∷ set) e = (0, refl)
 some_member (false ∷ set) e = let rest = some_member set e in (suc rest.0, rest.1)
 
--- a host that has a send has an item to send
-send_next : (running : Option Running) → IsUnfinished running → option_map_or (λ (r : Running). is_none r.out) running false ≡ true → (item : ℕ) × (option_map_or (sends_running item) running false ≡ true)
+-- a host that has a send has an attempt at an item to send
+send_next : (running : Option Running) → IsUnfinished running → option_map_or (λ (r : Running). is_none r.out) running false ≡ true → (item : ℕ) × (attempt : ℕ) × (option_map_or (sends_running item attempt) running false ≡ true)
 send_next None going e = cc
 send_next (Some r) going e =
     let next = goes_on_at r.items going in
-    (next.0, both (is_none r.out) (is_next next.0 r) e (ap (λ (n : Option ℕ). option_map_or (λ m. m == next.0) n false) next.1 ∙ eq-eqb next.0 next.0 refl))
+    let item : is_item next.0 r.items ≡ true = ap (λ (n : Option ℕ). option_map_or (λ m. m == next.0) n false) next.1 ∙ eq-eqb next.0 next.0 refl in
+    let attempt : (attempt_next r.items == attempt_next r.items) ≡ true = eq-eqb (attempt_next r.items) (attempt_next r.items) refl in
+    (next.0, attempt_next r.items, both (is_none r.out) (is_next next.0 (attempt_next r.items) r) e (both (is_item next.0 r.items) (attempt_next r.items == attempt_next r.items) item attempt))
 
-send_at : (rows : List HostRow) (h : ℕ) → AreUnfinished rows → at_row has_send rows h ≡ true → (item : ℕ) × (at_row (may_send_item item) rows h ≡ true)
+send_at : (rows : List HostRow) (h : ℕ) → AreUnfinished rows → at_row has_send rows h ≡ true → (item : ℕ) × (attempt : ℕ) × (at_row (may_send_item item attempt) rows h ≡ true)
 send_at [] h going e = cc
 send_at (row ∷ rows) zero going e = send_next row.running going.0 e
 send_at (row ∷ rows) (suc h) going e = send_at rows h going.1 e
@@ -92,8 +95,8 @@ ready_none plan s h (Some play) o going over e =
       | inr send ↦ (let host : HostNo = record { 0 = h } in
           let ticket : Ticket = record { 0 = s.sends } in
           let item = send_at s.rows h going.tasks send.1 in
-          let may : may_send_in s h item.0 ticket play ≡ true = both (not s.stopped && (s.sends == s.sends)) (at_row (may_send_item item.0) s.rows h) (both (not s.stopped) (s.sends == s.sends) (ap not send.0) (eq-eqb s.sends s.sends refl)) item.1 in
-          never (possible plan s (Send host item.0 ticket)) (ap (λ (found : Option PlayOf). option_map_or (may_send_in s h item.0 ticket) found false) o ∙ may) (over.over (Send host item.0 ticket) refl))
+          let may : may_send_in s h item.0 item.1 ticket play ≡ true = both (not s.stopped && (s.sends == s.sends)) (at_row (may_send_item item.0 item.1) s.rows h) (both (not s.stopped) (s.sends == s.sends) (ap not send.0) (eq-eqb s.sends s.sends refl)) item.2 in
+          never (possible plan s (Send host item.0 item.1 ticket)) (ap (λ (found : Option PlayOf). option_map_or (may_send_in s h item.0 item.1 ticket) found false) o ∙ may) (over.over (Send host item.0 item.1 ticket) refl))
     ]
 
 nobody_ready : (plan : PlanOf) (s : State) (b : Bool) → has_some (ready plan s) ≡ b → IsGoing s → IsFinished plan s → b ≡ false

@@ -174,9 +174,9 @@ sent_held : (size sends : ℕ) (ticket : Ticket) (running : Option Running) → 
 sent_held size sends ticket None below held = tt
 sent_held size sends ticket (Some r) below held = (held.0, below, held.2)
 
-sent_in_held : (plan : PlanOf) (s : State) (h item : ℕ) (ticket : Ticket) (found : Option PlayOf) → open_play plan s ≡ found → IsHeld plan s → option_map_or (may_send_in s h item ticket) found false ≡ true → IsHeld plan (option_map_or (sent_in s h ticket) found s)
-sent_in_held plan s h item ticket None o held e = held
-sent_in_held plan s h item ticket (Some play) o held e =
+sent_in_held : (plan : PlanOf) (s : State) (h item attempt : ℕ) (ticket : Ticket) (found : Option PlayOf) → open_play plan s ≡ found → IsHeld plan s → option_map_or (may_send_in s h item attempt ticket) found false ≡ true → IsHeld plan (option_map_or (sent_in s h ticket) found s)
+sent_in_held plan s h item attempt ticket None o held e = held
+sent_in_held plan s h item attempt ticket (Some play) o held e =
     let below = sent_below s.sends ticket (and_right _ _ (and_left _ _ e)) in
     record {
       hosts = length-change s.rows h (sent ticket) ∙ held.hosts;
@@ -236,7 +236,7 @@ turned_held plan s (Some play) held =
 pub step_held : (plan : PlanOf) (s : State) (e : Event) → possible plan s e ≡ true → IsOfPlan plan s → IsHeld plan s → IsHeld plan (after plan s e)
 step_held plan s Open may trees held = opened_held plan s held
 step_held plan s (Start h) may trees held = started_in_held plan s h.0 (open_play plan s) refl trees held may
-step_held plan s (Send h item ticket) may trees held = sent_in_held plan s h.0 item ticket (open_play plan s) refl held may
+step_held plan s (Send h item attempt ticket) may trees held = sent_in_held plan s h.0 item attempt ticket (open_play plan s) refl held may
 step_held plan s (Reported r) may trees held = reported_in_held plan s r (open_play plan s) refl held
 step_held plan s Turn may trees held = turned_held plan s (open_play plan s) held
 step_held plan s Close may trees held = record { hosts = length-map s.rows left ∙ held.hosts; tasks = none_run left (λ row. refl) _ s.sends s.rows }

@@ -14,11 +14,12 @@ use Rattle.pb_one_host.specs.declared.row.Running.{Running}
 use Rattle.pb_outcome.specs.declared.job.Report.{Report}
 use Rattle.pb_outcome.specs.Items.{next_item}
 use Rattle.pb_plan.specs.Plan.{PlayOf, PlanOf}
+use Rattle.pb_one_host.specs.Attempts.{attempt_next}
 use Rattle.pb_one_host.specs.Row.{HostRow}
 use Rattle.pb_state.specs.State.{State}
-use Rattle.pb_one_host.specs.Runs.{may_send_item, has_send, sends_running, is_ticket, is_next, is_out, awaits, awaits_running, item_of}
+use Rattle.pb_one_host.specs.Runs.{may_send_item, has_send, sends_running, is_ticket, is_next, is_out, awaits, awaits_running, item_of, attempt_of}
 use Rattle.pb_all_hosts.specs.Hosts.{at_row}
-use Rattle.pb_state.specs.Machine.{possible, ready, ready_in, may_open, may_start_in, may_send_in, may_report_in, may_turn_in, may_close_in, item_at, open_play}
+use Rattle.pb_state.specs.Machine.{possible, ready, ready_in, may_open, may_start_in, may_send_in, may_report_in, may_turn_in, may_close_in, item_at, attempt_at, open_play}
 use Rattle.pb_state.specs.Run.{is_command, IsQuiet, IsFinished}
 use Rattle.pb_one_host.proofs.InOrder.{goes_on_at}
 use Rattle.pb_state.proofs.Readies.{none_start, none_sends_at, ready_either, length_ready_in}
@@ -65,27 +66,27 @@ none_starts_in : (s : State) (h : ℕ) (found : Option PlayOf) → has_some (opt
 none_starts_in s h None e = refl
 none_starts_in s h (Some play) e = none_starts s play h (none_start s play e)
 
-unsent : (item : ℕ) (running : Option Running) → option_map_or (λ (r : Running). is_none r.out) running false ≡ false → option_map_or (sends_running item) running false ≡ false
-unsent item None e = refl
-unsent item (Some r) e = and_none (is_none r.out) (is_next item r) e
+unsent : (item attempt : ℕ) (running : Option Running) → option_map_or (λ (r : Running). is_none r.out) running false ≡ false → option_map_or (sends_running item attempt) running false ≡ false
+unsent item attempt None e = refl
+unsent item attempt (Some r) e = and_none (is_none r.out) (is_next item attempt r) e
 
-none_sends : (s : State) (play : PlayOf) (h item : ℕ) (stopped : Bool) → s.stopped ≡ stopped → has_some (ready_in s play) ≡ false → (not stopped && at_row (may_send_item item) s.rows h) ≡ false
-none_sends s play h item true st e = refl
-none_sends s play h item false st e = none_at (may_send_item item) has_send (λ row q. unsent item row.running q) s.rows h (none_sends_at s play h st e)
+none_sends : (s : State) (play : PlayOf) (h item attempt : ℕ) (stopped : Bool) → s.stopped ≡ stopped → has_some (ready_in s play) ≡ false → (not stopped && at_row (may_send_item item attempt) s.rows h) ≡ false
+none_sends s play h item attempt true st e = refl
+none_sends s play h item attempt false st e = none_at (may_send_item item attempt) has_send (λ row q. unsent item attempt row.running q) s.rows h (none_sends_at s play h st e)
 
 no_send : (a b c : Bool) → (a && c) ≡ false → (a && b && c) ≡ false
 no_send false b c e = refl
 no_send true true c e = e
 no_send true false c e = refl
 
-none_sends_in : (s : State) (h item : ℕ) (ticket : Ticket) (found : Option PlayOf) → has_some (option_map_or (ready_in s) found (replicate (length s.rows) false)) ≡ false → option_map_or (may_send_in s h item ticket) found false ≡ false
-none_sends_in s h item ticket None e = refl
-none_sends_in s h item ticket (Some play) e = no_send (not s.stopped) (ticket.0 == s.sends) (at_row (may_send_item item) s.rows h) (none_sends s play h item s.stopped refl e)
+none_sends_in : (s : State) (h item attempt : ℕ) (ticket : Ticket) (found : Option PlayOf) → has_some (option_map_or (ready_in s) found (replicate (length s.rows) false)) ≡ false → option_map_or (may_send_in s h item attempt ticket) found false ≡ false
+none_sends_in s h item attempt ticket None e = refl
+none_sends_in s h item attempt ticket (Some play) e = no_send (not s.stopped) (ticket.0 == s.sends) (at_row (may_send_item item attempt) s.rows h) (none_sends s play h item attempt s.stopped refl e)
 
 pub quiet : (plan : PlanOf) (s : State) → has_some (ready plan s) ≡ false → option_map_or (may_turn_in s) (open_play plan s) false ≡ false → option_map_or (may_close_in s) (open_play plan s) false ≡ false → may_open plan s ≡ false → IsQuiet plan s
 quiet plan s r t c o Open m = o
 quiet plan s r t c o (Start h) m = none_starts_in s h.0 (open_play plan s) r
-quiet plan s r t c o (Send h item ticket) m = none_sends_in s h.0 item ticket (open_play plan s) r
+quiet plan s r t c o (Send h item attempt ticket) m = none_sends_in s h.0 item attempt ticket (open_play plan s) r
 quiet plan s r t c o (Reported report) m = cc
 quiet plan s r t c o Turn m = t
 quiet plan s r t c o Close m = c
@@ -102,18 +103,18 @@ no_ticket : (ticket : Ticket) (out : Option Ticket) → is_some out ≡ false �
 no_ticket ticket None e = refl
 no_ticket ticket (Some t) e = cc
 
-none_awaits : (ticket : Ticket) (item : ℕ) (running : Option Running) → option_map_or (λ (r : Running). is_some r.out) running false ≡ false → option_map_or (awaits_running ticket item) running false ≡ false
-none_awaits ticket item None e = refl
-none_awaits ticket item (Some r) e = and_none (is_ticket ticket r.out) (is_next item r) (no_ticket ticket r.out e)
+none_awaits : (ticket : Ticket) (item attempt : ℕ) (running : Option Running) → option_map_or (λ (r : Running). is_some r.out) running false ≡ false → option_map_or (awaits_running ticket item attempt) running false ≡ false
+none_awaits ticket item attempt None e = refl
+none_awaits ticket item attempt (Some r) e = and_none (is_ticket ticket r.out) (is_next item attempt r) (no_ticket ticket r.out e)
 
 none_reports : (s : State) (r : Report) (found : Option PlayOf) → list_any is_out s.rows ≡ false → option_map_or (may_report_in s r) found false ≡ false
 none_reports s r None e = refl
-none_reports s r (Some play) e = any_none (awaits r.ticket r.item) is_out (λ row e. none_awaits r.ticket r.item row.running e) s.rows r.host.0 e
+none_reports s r (Some play) e = any_none (awaits r.ticket r.item r.attempt) is_out (λ row e. none_awaits r.ticket r.item r.attempt row.running e) s.rows r.host.0 e
 
 over_at : (plan : PlanOf) (s : State) → IsQuiet plan s → list_any is_out s.rows ≡ false → (e : Event) → is_command e ≡ false → possible plan s e ≡ false
 over_at plan s q out Open m = q Open refl
 over_at plan s q out (Start h) m = q (Start h) refl
-over_at plan s q out (Send h item ticket) m = q (Send h item ticket) refl
+over_at plan s q out (Send h item attempt ticket) m = q (Send h item attempt ticket) refl
 over_at plan s q out Turn m = q Turn refl
 over_at plan s q out Close m = q Close refl
 over_at plan s q out (Reported r) m = none_reports s r (open_play plan s) out
@@ -129,18 +130,19 @@ none_of zero h e = cc
 none_of (suc n) zero e = cc
 none_of (suc n) (suc h) e = none_of n h e
 
--- the next item is the one that is sent, or that is out
-pub next_alone : (test : Bool) (next : Option ℕ) (item : ℕ) → next ≡ Some item → (test && option_map_or (λ n. n == item) next false) ≡ test
-next_alone test None item e = cc
-next_alone test (Some n) item e = let same : n ≡ item = cc in rw (eq-eqb n item same) (and_true test)
+-- the next attempt at the next item is the one that is sent, or that is out
+pub next_alone : (test : Bool) (next : Option ℕ) (comes item attempt : ℕ) → next ≡ Some item → comes ≡ attempt → (test && (option_map_or (λ n. n == item) next false && (comes == attempt))) ≡ test
+next_alone test None comes item attempt e f = cc
+next_alone test (Some n) comes item attempt e f = let same : n ≡ item = cc in rw (eq-eqb n item same, eq-eqb comes attempt f) (and_true test)
 
-sends_its : (item : ℕ) (running : Option Running) → option_map_or (λ (r : Running). next_item r.items) running None ≡ Some item → option_map_or (sends_running item) running false ≡ option_map_or (λ (r : Running). is_none r.out) running false
-sends_its item None e = refl
-sends_its item (Some r) e = next_alone (is_none r.out) (next_item r.items) item e
+sends_its : (item attempt : ℕ) (running : Option Running) → option_map_or (λ (r : Running). next_item r.items) running None ≡ Some item → option_map_or (λ (r : Running). attempt_next r.items) running 1 ≡ attempt
+    → option_map_or (sends_running item attempt) running false ≡ option_map_or (λ (r : Running). is_none r.out) running false
+sends_its item attempt None e f = refl
+sends_its item attempt (Some r) e f = next_alone (is_none r.out) (next_item r.items) (attempt_next r.items) item attempt e f
 
-sends_at : (item : ℕ) (found : Option HostRow) → option_map_or item_of found None ≡ Some item → option_map_or (may_send_item item) found false ≡ option_map_or has_send found false
-sends_at item None e = refl
-sends_at item (Some row) e = sends_its item row.running e
+sends_at : (item attempt : ℕ) (found : Option HostRow) → option_map_or item_of found None ≡ Some item → option_map_or attempt_of found 1 ≡ attempt → option_map_or (may_send_item item attempt) found false ≡ option_map_or has_send found false
+sends_at item attempt None e f = refl
+sends_at item attempt (Some row) e f = sends_its item attempt row.running e f
 
 -- where there is none, no task runs
 no_item : (running : Option Running) → IsUnfinished running → option_map_or (λ (r : Running). next_item r.items) running None ≡ None → option_map_or (λ (r : Running). is_none r.out) running false ≡ false
@@ -152,15 +154,15 @@ no_item_at [] h going e = refl
 no_item_at (row ∷ rows) zero going e = no_item row.running going.0 e
 no_item_at (row ∷ rows) (suc h) going e = no_item_at rows h going.1 e
 
-sends_now : (s : State) (play : PlayOf) (h item : ℕ) (ticket : Ticket) → ticket.0 ≡ s.sends → item_at s h ≡ Some item → s.stopped ≡ false → at_row has_send s.rows h ≡ true → may_send_in s h item ticket play ≡ true
-sends_now s play h item ticket t is st e =
-    both (not s.stopped && (ticket.0 == s.sends)) (at_row (may_send_item item) s.rows h) (both (not s.stopped) (ticket.0 == s.sends) (ap not st) (eq-eqb ticket.0 s.sends t)) (sends_at item (slice_get s.rows h) is ∙ e)
+sends_now : (s : State) (play : PlayOf) (h item attempt : ℕ) (ticket : Ticket) → ticket.0 ≡ s.sends → item_at s h ≡ Some item → attempt_at s h ≡ attempt → s.stopped ≡ false → at_row has_send s.rows h ≡ true → may_send_in s h item attempt ticket play ≡ true
+sends_now s play h item attempt ticket t is next st e =
+    both (not s.stopped && (ticket.0 == s.sends)) (at_row (may_send_item item attempt) s.rows h) (both (not s.stopped) (ticket.0 == s.sends) (ap not st) (eq-eqb ticket.0 s.sends t)) (sends_at item attempt (slice_get s.rows h) is next ∙ e)
 
-start_in : (s : State) (play : PlayOf) (h item : ℕ) (ticket : Ticket) → ticket.0 ≡ s.sends → item_at s h ≡ Some item → slice_get (ready_in s play) h ≡ Some true → may_send_in s h item ticket play ≡ false → may_start_in s h play ≡ true
-start_in s play h item ticket t is e f =
+start_in : (s : State) (play : PlayOf) (h item attempt : ℕ) (ticket : Ticket) → ticket.0 ≡ s.sends → item_at s h ≡ Some item → attempt_at s h ≡ attempt → slice_get (ready_in s play) h ≡ Some true → may_send_in s h item attempt ticket play ≡ false → may_start_in s h play ≡ true
+start_in s play h item attempt ticket t is next e f =
     elim (ready_either s play h e) [
       | inl may ↦ may
-      | inr send ↦ absurd (let both_ways : true ≡ false = sym (sends_now s play h item ticket t is send.0 send.1) ∙ f in cc)
+      | inr send ↦ absurd (let both_ways : true ≡ false = sym (sends_now s play h item attempt ticket t is next send.0 send.1) ∙ f in cc)
     ]
 
 start_idle : (s : State) (play : PlayOf) (h : ℕ) → slice_get (ready_in s play) h ≡ Some true → at_row has_send s.rows h ≡ false → may_start_in s h play ≡ true
@@ -170,17 +172,17 @@ start_idle s play h e f =
       | inr send ↦ absurd (let both_ways : true ≡ false = sym send.1 ∙ f in cc)
     ]
 
-ready_there : (s : State) (h item : ℕ) (ticket : Ticket) (found : Option PlayOf) → ticket.0 ≡ s.sends → item_at s h ≡ Some item → slice_get (option_map_or (ready_in s) found (replicate (length s.rows) false)) h ≡ Some true → option_map_or (may_send_in s h item ticket) found false ≡ false → option_map_or (may_start_in s h) found false ≡ true
-ready_there s h item ticket None t is e f = none_of (length s.rows) h e
-ready_there s h item ticket (Some play) t is e f = start_in s play h item ticket t is e f
+ready_there : (s : State) (h item attempt : ℕ) (ticket : Ticket) (found : Option PlayOf) → ticket.0 ≡ s.sends → item_at s h ≡ Some item → attempt_at s h ≡ attempt → slice_get (option_map_or (ready_in s) found (replicate (length s.rows) false)) h ≡ Some true → option_map_or (may_send_in s h item attempt ticket) found false ≡ false → option_map_or (may_start_in s h) found false ≡ true
+ready_there s h item attempt ticket None t is next e f = none_of (length s.rows) h e
+ready_there s h item attempt ticket (Some play) t is next e f = start_in s play h item attempt ticket t is next e f
 
 idle_there : (s : State) (h : ℕ) (found : Option PlayOf) → IsGoing s → item_at s h ≡ None → slice_get (option_map_or (ready_in s) found (replicate (length s.rows) false)) h ≡ Some true → option_map_or (may_start_in s h) found false ≡ true
 idle_there s h None going is e = none_of (length s.rows) h e
 idle_there s h (Some play) going is e = start_idle s play h e (no_item_at s.rows h going.tasks is)
 
 -- a host that is ready and has no send may start
-pub ready_starts : (plan : PlanOf) (s : State) (h item : ℕ) (ticket : Ticket) → ticket.0 ≡ s.sends → item_at s h ≡ Some item → slice_get (ready plan s) h ≡ Some true → option_map_or (may_send_in s h item ticket) (open_play plan s) false ≡ false → option_map_or (may_start_in s h) (open_play plan s) false ≡ true
-ready_starts plan s h item ticket t is e f = ready_there s h item ticket (open_play plan s) t is e f
+pub ready_starts : (plan : PlanOf) (s : State) (h item attempt : ℕ) (ticket : Ticket) → ticket.0 ≡ s.sends → item_at s h ≡ Some item → attempt_at s h ≡ attempt → slice_get (ready plan s) h ≡ Some true → option_map_or (may_send_in s h item attempt ticket) (open_play plan s) false ≡ false → option_map_or (may_start_in s h) (open_play plan s) false ≡ true
+ready_starts plan s h item attempt ticket t is next e f = ready_there s h item attempt ticket (open_play plan s) t is next e f
 
 pub idle_starts : (plan : PlanOf) (s : State) (h : ℕ) → IsGoing s → item_at s h ≡ None → slice_get (ready plan s) h ≡ Some true → option_map_or (may_start_in s h) (open_play plan s) false ≡ true
 idle_starts plan s h going is e = idle_there s h (open_play plan s) going is e
@@ -196,7 +198,7 @@ length_ready plan s = length_of s (open_play plan s)
 pub picked : {P : Type 0} (plan : PlanOf) (s : State) (picks : P → List Bool → ℕ → P → Type 0) (old new : P) (host : HostNo) (e : Event) → slice_get (ready plan s) host.0 ≡ Some true → picks old (ready plan s) host.0 new → possible plan s e ≡ true → host_of e ≡ Some host → IsChoice plan s picks old new (Take e)
 picked plan s picks old new host Open here pick may is = cc
 picked plan s picks old new host (Start h) here pick may is = let same : h ≡ host = cc in (may, refl, (rw same here, rw same pick))
-picked plan s picks old new host (Send h item ticket) here pick may is = let same : h ≡ host = cc in (may, refl, (rw same here, rw same pick))
+picked plan s picks old new host (Send h item attempt ticket) here pick may is = let same : h ≡ host = cc in (may, refl, (rw same here, rw same pick))
 picked plan s picks old new host (Reported r) here pick may is = cc
 picked plan s picks old new host Turn here pick may is = cc
 picked plan s picks old new host Close here pick may is = cc

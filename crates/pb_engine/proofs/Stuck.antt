@@ -61,13 +61,13 @@ and_false : (a : Bool) → (a && false) ≡ false
 and_false true = refl
 and_false false = refl
 
-idle_sends : (item : ℕ) (running : Option Running) → is_some running ≡ false → option_map_or (sends_running item) running false ≡ false
-idle_sends item None e = refl
-idle_sends item (Some r) e = cc
+idle_sends : (item attempt : ℕ) (running : Option Running) → is_some running ≡ false → option_map_or (sends_running item attempt) running false ≡ false
+idle_sends item attempt None e = refl
+idle_sends item attempt (Some r) e = cc
 
-idle_awaits : (item : ℕ) (ticket : Ticket) (running : Option Running) → is_some running ≡ false → option_map_or (awaits_running ticket item) running false ≡ false
-idle_awaits item ticket None e = refl
-idle_awaits item ticket (Some r) e = cc
+idle_awaits : (item attempt : ℕ) (ticket : Ticket) (running : Option Running) → is_some running ≡ false → option_map_or (awaits_running ticket item attempt) running false ≡ false
+idle_awaits item attempt ticket None e = refl
+idle_awaits item attempt ticket (Some r) e = cc
 
 -- each event keeps it that an open batch has its play, and its least place where no host runs
 idle_joined : (tree : TreeOf) (room : ℕ) (rows : List HostRow) → list_any is_running (joined_first tree room rows) ≡ false
@@ -108,14 +108,14 @@ idle_linear : (linear : Bool) (s : State) → linear ≡ true → s.place ≡ No
 idle_linear true s l none placed = (placed none).1
 idle_linear false s l none placed = cc
 
-sent_placed : (plan : PlanOf) (s : State) (h item : ℕ) (ticket : Ticket) (found : Option PlayOf) → open_play plan s ≡ found → IsPlaced plan s → option_map_or (may_send_in s h item ticket) found false ≡ true → IsPlaced plan (option_map_or (sent_in s h ticket) found s)
-sent_placed plan s h item ticket None here placed may = placed
-sent_placed plan s h item ticket (Some play) here placed may =
+sent_placed : (plan : PlanOf) (s : State) (h item attempt : ℕ) (ticket : Ticket) (found : Option PlayOf) → open_play plan s ≡ found → IsPlaced plan s → option_map_or (may_send_in s h item attempt ticket) found false ≡ true → IsPlaced plan (option_map_or (sent_in s h ticket) found s)
+sent_placed plan s h item attempt ticket None here placed may = placed
+sent_placed plan s h item attempt ticket (Some play) here placed may =
     subst (λ (found : Option PlayOf). IsPlacedIn (sent_in s h ticket play) found) (sym here)
     (stays_placed (is_linear play.strategy) s (sent_in s h ticket play) refl
     (λ linear none.
     let idle = idle_linear (is_linear play.strategy) s linear none (in_play plan s play here placed) in
-    let wrong = no_more (not s.stopped) (ticket.0 == s.sends) (at_row (may_send_item item) s.rows h) may (none_runs (may_send_item item) (λ row e. idle_sends item row.running e) s.rows h idle) in
+    let wrong = no_more (not s.stopped) (ticket.0 == s.sends) (at_row (may_send_item item attempt) s.rows h) may (none_runs (may_send_item item attempt) (λ row e. idle_sends item attempt row.running e) s.rows h idle) in
     cc)
     (in_play plan s play here placed))
 
@@ -126,7 +126,7 @@ reported_placed plan s r (Some play) here placed may =
     (stays_placed (is_linear play.strategy) s (reported_in plan s r play) refl
     (λ linear none.
     let idle = idle_linear (is_linear play.strategy) s linear none (in_play plan s play here placed) in
-    let wrong = none_runs (awaits r.ticket r.item) (λ row e. idle_awaits r.item r.ticket row.running e) s.rows r.host.0 idle in
+    let wrong = none_runs (awaits r.ticket r.item r.attempt) (λ row e. idle_awaits r.item r.attempt r.ticket row.running e) s.rows r.host.0 idle in
     let both_ways : true ≡ false = sym may ∙ wrong in
     cc)
     (in_play plan s play here placed))
@@ -152,7 +152,7 @@ kept_placed s new (Some play) o p r placed = kept_by (is_linear play.strategy) s
 step_placed : (plan : PlanOf) (s : State) (e : Event) → possible plan s e ≡ true → IsPlaced plan s → IsPlaced plan (after plan s e)
 step_placed plan s Open may placed = opened_placed plan s placed
 step_placed plan s (Start h) may placed = started_placed plan s h.0 (open_play plan s) refl placed may
-step_placed plan s (Send h item ticket) may placed = sent_placed plan s h.0 item ticket (open_play plan s) refl placed may
+step_placed plan s (Send h item attempt ticket) may placed = sent_placed plan s h.0 item attempt ticket (open_play plan s) refl placed may
 step_placed plan s (Reported r) may placed = reported_placed plan s r (open_play plan s) refl placed may
 step_placed plan s Turn may placed = turned_placed plan s (open_play plan s) refl placed may
 step_placed plan s Close may placed = refl

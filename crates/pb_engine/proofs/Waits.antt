@@ -16,13 +16,14 @@ use Rattle.pb_state.specs.declared.event.Event.{Event}
 use Rattle.pb_state.specs.declared.event.Event.TheVariants.{Open, Start, Send, Report as Reported, Turn, Close, Stop, Forks}
 use Rattle.pb_one_host.specs.declared.row.Running.{Running}
 use Rattle.pb_plan.specs.Plan.{PlayOf, PlanOf}
+use Rattle.pb_one_host.specs.Attempts.{attempt_next}
 use Rattle.pb_one_host.specs.Row.{HostRow}
 use Rattle.pb_state.specs.State.{State}
-use Rattle.pb_one_host.specs.Runs.{awaits, awaits_running, has_ticket, is_ticket, is_running, item_of, may_send_item, sends_running}
+use Rattle.pb_one_host.specs.Runs.{awaits, awaits_running, has_ticket, is_ticket, is_running, item_of, attempt_of, may_send_item, sends_running}
 use Rattle.pb_all_hosts.specs.Hosts.{at_row}
-use Rattle.pb_state.specs.Machine.{possible, item_at, open_play, may_report_in, may_send_in}
+use Rattle.pb_state.specs.Machine.{possible, item_at, attempt_at, open_play, may_report_in, may_send_in}
 use Rattle.pb_one_host.specs.Calls.{call_in, delegate_in}
-use Rattle.pb_state.specs.Jobs.{job_of, job_in, row_job, running_job, item_job, placed_job, connector_for, job_with}
+use Rattle.pb_state.specs.Jobs.{AttemptOf, job_of, job_in, row_job, running_job, item_job, placed_job, connector_for, job_with, next_attempt as attempt_of_job}
 use Rattle.pb_all_hosts.specs.Oldest.{oldest_out}
 use Rattle.pb_state.specs.Run.{is_move, IsRun}
 use Rattle.pb_one_host.proofs.InOrder.{goes_on_at, has_call}
@@ -71,7 +72,7 @@ out_below size sends ticket (row ∷ rows) e held =
 pub waits_sent : (plan : PlanOf) (s : State) (ticket : Ticket) → IsHeld plan s → list_any (has_ticket ticket) s.rows ≡ true → ticket.0 < s.sends
 waits_sent plan s ticket held e = out_below (places_in (open_play plan s)) s.sends ticket s.rows e held.tasks
 
--- a report of a job that is out for another host or item is refused as such
+-- a report of a job that is out for another host, item or attempt is refused as such
 wrong_of : (sent waits fit : Bool) → sent ≡ true → waits ≡ true → fit ≡ false → (if not sent then Some UnknownTicket else if not waits then Some AlreadyReported else if not fit then Some WrongItem else None) ≡ Some WrongItem
 wrong_of true true false a b c = refl
 wrong_of true true true a b c = cc
@@ -98,7 +99,7 @@ at_runs test runs (row ∷ rows) zero e = runs row e
 at_runs test runs (row ∷ rows) (suc h) e = at_runs test runs rows h e
 
 fits_runs : (s : State) (r : Report) → fits s r ≡ true → at_row is_running s.rows r.host.0 ≡ true
-fits_runs s r e = at_runs (awaits r.ticket r.item) (λ row f. row_runs (awaits_running r.ticket r.item) row.running f) s.rows r.host.0 e
+fits_runs s r e = at_runs (awaits r.ticket r.item r.attempt) (λ row f. row_runs (awaits_running r.ticket r.item r.attempt) row.running f) s.rows r.host.0 e
 
 -- a task that runs is at a place
 placed_running : (size sends : ℕ) (running : Option Running) → is_some running ≡ true → IsHeldTask size sends running → 0 < size
@@ -128,7 +129,7 @@ row_within test [] h e = cc
 row_within test (row ∷ rows) zero e = omega arith
 row_within test (row ∷ rows) (suc h) e = let rest = row_within test rows h e in omega (arith, rest)
 
-named_some : (plan : PlanOf) (number : ℕ) (host : HostNo) (ticket : Ticket) (item : ℕ) (delegate : Option (List ℕ)) (call : Call) (path : Option (List ℕ)) (name : Option (List ℕ)) → is_some path ≡ true → is_some name ≡ true
+named_some : (plan : PlanOf) (number : ℕ) (host : HostNo) (ticket : Ticket) (item : AttemptOf) (delegate : Option (List ℕ)) (call : Call) (path : Option (List ℕ)) (name : Option (List ℕ)) → is_some path ≡ true → is_some name ≡ true
     → is_some (option_map_or (λ (p : List ℕ). option_map (λ (n : List ℕ). job_with number host ticket item call n (unwrap_or delegate n) (connector_for plan.inventory host.0 delegate) p) name) path None) ≡ true
 named_some plan number host ticket item delegate call None name e f = cc
 named_some plan number host ticket item delegate call (Some path) None e f = cc
@@ -138,10 +139,10 @@ path_some : (tree : TreeOf) (p : ℕ) → p < size_of tree → is_some (path_at 
 path_some tree p b = get_some (paths tree) p (rw (length_paths tree.handlers tree.nodes) b)
 
 -- the job of an item that has a call
-call_job : (plan : PlanOf) (number : ℕ) (host : HostNo) (ticket : Ticket) (play : PlayOf) (r : Running) (n : ℕ) (call : Call) (found : Option Call) → host.0 < length plan.inventory.hosts → r.place < size_of play.tree → found ≡ Some call → is_some (option_map_or (placed_job plan number host ticket play r.place n (delegate_in r.items n)) found None) ≡ true
+call_job : (plan : PlanOf) (number : ℕ) (host : HostNo) (ticket : Ticket) (play : PlayOf) (r : Running) (n : ℕ) (call : Call) (found : Option Call) → host.0 < length plan.inventory.hosts → r.place < size_of play.tree → found ≡ Some call → is_some (option_map_or (placed_job plan number host ticket play r.place (attempt_of_job play r n) (delegate_in r.items n)) found None) ≡ true
 call_job plan number host ticket play r n call None b below e = cc
 call_job plan number host ticket play r n call (Some c) b below e =
-    named_some plan number host ticket n (delegate_in r.items n) c (path_at play.tree r.place) (slice_get plan.inventory.hosts host.0) (path_some play.tree r.place below) (get_some plan.inventory.hosts host.0 b)
+    named_some plan number host ticket (attempt_of_job play r n) (delegate_in r.items n) c (path_at play.tree r.place) (slice_get plan.inventory.hosts host.0) (path_some play.tree r.place below) (get_some plan.inventory.hosts host.0 b)
 
 next_job : (plan : PlanOf) (number : ℕ) (host : HostNo) (ticket : Ticket) (play : PlayOf) (r : Running) (n : ℕ) (call : Call) (next : Option ℕ) → host.0 < length plan.inventory.hosts → r.place < size_of play.tree → next ≡ Some n → call_in r.items n ≡ Some call → is_some (option_map_or (item_job plan number host ticket play r) next None) ≡ true
 next_job plan number host ticket play r n call None b below e f = cc
@@ -170,13 +171,13 @@ runs_job plan s host ticket held e =
     let within = row_within is_running s.rows host.0 e in
     job_found plan s host ticket (open_play plan s) (omega (arith, within, held.hosts)) e held.tasks
 
-send_runs : (s : State) (h item : ℕ) (ticket : Ticket) (found : Option PlayOf) → option_map_or (may_send_in s h item ticket) found false ≡ true → at_row is_running s.rows h ≡ true
-send_runs s h item ticket None e = cc
-send_runs s h item ticket (Some play) e = at_runs (may_send_item item) (λ row f. row_runs (sends_running item) row.running f) s.rows h (and_right (not s.stopped && (ticket.0 == s.sends)) _ e)
+send_runs : (s : State) (h item attempt : ℕ) (ticket : Ticket) (found : Option PlayOf) → option_map_or (may_send_in s h item attempt ticket) found false ≡ true → at_row is_running s.rows h ≡ true
+send_runs s h item attempt ticket None e = cc
+send_runs s h item attempt ticket (Some play) e = at_runs (may_send_item item attempt) (λ row f. row_runs (sends_running item attempt) row.running f) s.rows h (and_right (not s.stopped && (ticket.0 == s.sends)) _ e)
 
 -- a job that can go out is there
-pub send_job : (plan : PlanOf) (s : State) (host : HostNo) (item : ℕ) (ticket : Ticket) → IsHeld plan s → option_map_or (may_send_in s host.0 item ticket) (open_play plan s) false ≡ true → is_some (job_of plan s host ticket) ≡ true
-send_job plan s host item ticket held e = runs_job plan s host ticket held (send_runs s host.0 item ticket (open_play plan s) e)
+pub send_job : (plan : PlanOf) (s : State) (host : HostNo) (item attempt : ℕ) (ticket : Ticket) → IsHeld plan s → option_map_or (may_send_in s host.0 item attempt ticket) (open_play plan s) false ≡ true → is_some (job_of plan s host ticket) ≡ true
+send_job plan s host item attempt ticket held e = runs_job plan s host ticket held (send_runs s host.0 item attempt ticket (open_play plan s) e)
 
 -- a test that holds of one row holds of some
 any_at : (test : HostRow → Bool) (rows : List HostRow) (h : ℕ) → at_row test rows h ≡ true → list_any test rows ≡ true
@@ -202,26 +203,27 @@ all_true true true false a b c = cc
 all_true true false fit a b c = cc
 all_true false waits fit a b c = cc
 
-awaits_its : (ticket : Ticket) (item : ℕ) (running : Option Running) → option_map_or (λ (r : Running). next_item r.items) running None ≡ Some item → option_map_or (awaits_running ticket item) running false ≡ option_map_or (λ (r : Running). is_ticket ticket r.out) running false
-awaits_its ticket item None e = refl
-awaits_its ticket item (Some r) e = next_alone (is_ticket ticket r.out) (next_item r.items) item e
+awaits_its : (ticket : Ticket) (item attempt : ℕ) (running : Option Running) → option_map_or (λ (r : Running). next_item r.items) running None ≡ Some item → option_map_or (λ (r : Running). attempt_next r.items) running 1 ≡ attempt
+    → option_map_or (awaits_running ticket item attempt) running false ≡ option_map_or (λ (r : Running). is_ticket ticket r.out) running false
+awaits_its ticket item attempt None e f = refl
+awaits_its ticket item attempt (Some r) e f = next_alone (is_ticket ticket r.out) (next_item r.items) (attempt_next r.items) item attempt e f
 
-awaits_at : (ticket : Ticket) (item : ℕ) (found : Option HostRow) → option_map_or item_of found None ≡ Some item → option_map_or (awaits ticket item) found false ≡ option_map_or (has_ticket ticket) found false
-awaits_at ticket item None e = refl
-awaits_at ticket item (Some row) e = awaits_its ticket item row.running e
+awaits_at : (ticket : Ticket) (item attempt : ℕ) (found : Option HostRow) → option_map_or item_of found None ≡ Some item → option_map_or attempt_of found 1 ≡ attempt → option_map_or (awaits ticket item attempt) found false ≡ option_map_or (has_ticket ticket) found false
+awaits_at ticket item attempt None e f = refl
+awaits_at ticket item attempt (Some row) e f = awaits_its ticket item attempt row.running e f
 
--- and whose report is taken, if it is of the host's next item
-pub oldest_taken : (plan : PlanOf) (s : State) (r : Report) → IsHeld plan s → oldest_out s.rows ≡ Some (r.host, r.ticket) → item_at s r.host.0 ≡ Some r.item → refusal_of s r ≡ None
-oldest_taken plan s r held e next =
+-- and whose report is taken, if it is of the host's next attempt at its next item
+pub oldest_taken : (plan : PlanOf) (s : State) (r : Report) → IsHeld plan s → oldest_out s.rows ≡ Some (r.host, r.ticket) → item_at s r.host.0 ≡ Some r.item → attempt_at s r.host.0 ≡ r.attempt → refusal_of s r ≡ None
+oldest_taken plan s r held e next tried =
     let out = oldest_is_out s.rows (r.host, r.ticket) e in
     let waits = any_at (has_ticket r.ticket) s.rows r.host.0 out in
-    all_true (is_sent s r) (is_waited_for s r) (fits s r) (lt-ltb r.ticket.0 s.sends (waits_sent plan s r.ticket held waits)) waits (awaits_at r.ticket r.item (slice_get s.rows r.host.0) next ∙ out)
+    all_true (is_sent s r) (is_waited_for s r) (fits s r) (lt-ltb r.ticket.0 s.sends (waits_sent plan s r.ticket held waits)) waits (awaits_at r.ticket r.item r.attempt (slice_get s.rows r.host.0) next tried ∙ out)
 
 -- any job that is out is waited for
-out_at : (plan : PlanOf) (s : State) (x : Job) (r : Report) → IsHeld plan s → (row : HostRow) → slice_get s.rows r.host.0 ≡ Some row → has_ticket r.ticket row ≡ true → awaits r.ticket r.item row ≡ true → refusal_of s r ≡ None
+out_at : (plan : PlanOf) (s : State) (x : Job) (r : Report) → IsHeld plan s → (row : HostRow) → slice_get s.rows r.host.0 ≡ Some row → has_ticket r.ticket row ≡ true → awaits r.ticket r.item r.attempt row ≡ true → refusal_of s r ≡ None
 out_at plan s x r held row there ticket awaited =
     let waits = any_at (has_ticket r.ticket) s.rows r.host.0 (at_found (has_ticket r.ticket) s.rows r.host.0 row there ticket) in
-    all_true (is_sent s r) (is_waited_for s r) (fits s r) (lt-ltb r.ticket.0 s.sends (waits_sent plan s r.ticket held waits)) waits (at_found (awaits r.ticket r.item) s.rows r.host.0 row there awaited)
+    all_true (is_sent s r) (is_waited_for s r) (fits s r) (lt-ltb r.ticket.0 s.sends (waits_sent plan s r.ticket held waits)) waits (at_found (awaits r.ticket r.item r.attempt) s.rows r.host.0 row there awaited)
 
 -- of a run
 pub out_awaited : (plan : PlanOf) (pool : ℕ) (trail : List Event) (s : State) (x : Job) (r : Report) → IsRun plan pool trail s → IsOut plan s x → IsReportOf x r → refusal_of s r ≡ None
@@ -242,7 +244,7 @@ sent_some (Some job) e = refl
 answered : (plan : PlanOf) (s : State) (e : Event) → IsHeld plan s → possible plan s e ≡ true → is_move e ≡ true → is_some (answer_of plan s e) ≡ true
 answered plan s Open held may m = refl
 answered plan s (Start h) held may m = refl
-answered plan s (Send h item ticket) held may m = sent_some (job_of plan s h ticket) (send_job plan s h item ticket held may)
+answered plan s (Send h item attempt ticket) held may m = sent_some (job_of plan s h ticket) (send_job plan s h item attempt ticket held may)
 answered plan s (Reported r) held may m = cc
 answered plan s Turn held may m = refl
 answered plan s Close held may m = refl
@@ -253,8 +255,8 @@ answered plan s (Forks n) held may m = cc
 pub answered_in_run : (plan : PlanOf) (pool : ℕ) (trail : List Event) (s : State) (e : Event) → IsRun plan pool trail s → possible plan s e ≡ true → is_move e ≡ true → answer_of plan s e ≡ None → ⊥
 answered_in_run plan pool trail s e run may m none = let some = answered plan s e (held_run plan pool trail s run) may m in let no : is_some (answer_of plan s e) ≡ false = ap is_some none in cc
 
-pub oldest_in_run : (plan : PlanOf) (pool : ℕ) (trail : List Event) (s : State) (r : Report) → IsRun plan pool trail s → oldest_out s.rows ≡ Some (r.host, r.ticket) → item_at s r.host.0 ≡ Some r.item → refusal_of s r ≡ None
-oldest_in_run plan pool trail s r run e next = oldest_taken plan s r (held_run plan pool trail s run) e next
+pub oldest_in_run : (plan : PlanOf) (pool : ℕ) (trail : List Event) (s : State) (r : Report) → IsRun plan pool trail s → oldest_out s.rows ≡ Some (r.host, r.ticket) → item_at s r.host.0 ≡ Some r.item → attempt_at s r.host.0 ≡ r.attempt → refusal_of s r ≡ None
+oldest_in_run plan pool trail s r run e next tried = oldest_taken plan s r (held_run plan pool trail s run) e next tried
 
 pub job_in_run : (plan : PlanOf) (pool : ℕ) (trail : List Event) (s : State) (p : HostNo × Ticket) → IsRun plan pool trail s → oldest_out s.rows ≡ Some p → job_of plan s p.0 p.1 ≡ None → ⊥
 job_in_run plan pool trail s p run e none = let some = oldest_job plan s p (held_run plan pool trail s run) e in let no : is_some (job_of plan s p.0 p.1) ≡ false = ap is_some none in cc

@@ -22,7 +22,7 @@ use Rattle.pb_engine.specs.Over.{IsOver}
 abbrev pub IsPicked : {P : Type 0} → (P → List Bool → ℕ → P → Type 0) → P → P → List Bool → Event → Type 0
 IsPicked picks old new set Open = (has_some set ≡ false) × (new ≡ old)
 IsPicked picks old new set (Start h) = (slice_get set h.0 ≡ Some true) × picks old set h.0 new
-IsPicked picks old new set (Send h item ticket) = (slice_get set h.0 ≡ Some true) × picks old set h.0 new
+IsPicked picks old new set (Send h item attempt ticket) = (slice_get set h.0 ≡ Some true) × picks old set h.0 new
 IsPicked picks old new set (Reported r) = (has_some set ≡ false) × (new ≡ old)
 IsPicked picks old new set Turn = (has_some set ≡ false) × (new ≡ old)
 IsPicked picks old new set Close = (has_some set ≡ false) × (new ≡ old)
@@ -33,7 +33,7 @@ IsPicked picks old new set (Forks n) = (has_some set ≡ false) × (new ≡ old)
 abbrev pub host_of : Event → Option HostNo
 host_of Open = None
 host_of (Start h) = Some h
-host_of (Send h item ticket) = Some h
+host_of (Send h item attempt ticket) = Some h
 host_of (Reported r) = None
 host_of Turn = None
 host_of Close = None
@@ -49,7 +49,7 @@ IsChoice plan s picks old new Nothing = IsFinished plan s × IsOver plan s × (n
 abbrev pub answer_of : PlanOf → State → Event → Option Next
 answer_of plan s Open = Some Moved
 answer_of plan s (Start h) = Some Moved
-answer_of plan s (Send h item ticket) = option_map Sent (job_of plan s h ticket)
+answer_of plan s (Send h item attempt ticket) = option_map Sent (job_of plan s h ticket)
 answer_of plan s (Reported r) = None
 answer_of plan s Turn = Some Moved
 answer_of plan s Close = Some Moved

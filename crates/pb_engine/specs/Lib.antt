@@ -6,4 +6,5 @@ pub mod Picking
 pub mod Choice
 pub mod Commands
 pub mod Refusals
+pub mod RefusalRows
 pub mod Awaited

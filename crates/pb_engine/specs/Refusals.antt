@@ -16,9 +16,9 @@ is_sent s r = nat_lt r.ticket.0 s.sends
 abbrev pub is_waited_for : State → Report → Bool
 is_waited_for s r = list_any (has_ticket r.ticket) s.rows
 
--- whether it is out for the report's host and item
+-- whether it is out for the report's host, item and attempt
 abbrev pub fits : State → Report → Bool
-fits s r = at_row (awaits r.ticket r.item) s.rows r.host.0
+fits s r = at_row (awaits r.ticket r.item r.attempt) s.rows r.host.0
 
 -- why a report is refused, if it is; want of memory is another matter
 abbrev pub refusal_of : State → Report → Option Refusal

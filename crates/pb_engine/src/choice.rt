@@ -69,8 +69,14 @@ fn event_of(plan: &Plan, state: &EngineState, host: HostNo) -> Event
     let ticket = Ticket(state.sends());
     match state.item(host) {
         Some(item) => {
-            if state.may_send(plan, host, item, ticket) {
-                Event::Send { host, item, ticket }
+            let attempt = state.attempt(host);
+            if state.may_send(plan, host, item, attempt, ticket) {
+                Event::Send {
+                    host,
+                    item,
+                    attempt,
+                    ticket,
+                }
             } else {
                 Event::Start(host)
             }

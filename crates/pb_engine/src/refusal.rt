@@ -16,7 +16,7 @@ pub enum Refusal {
     /// The job of its ticket was reported before.
     #[error("2 AlreadyReported")]
     AlreadyReported,
-    /// The job of its ticket is out for another host or item.
+    /// The job of its ticket is out for another host, item or attempt.
     #[error("3 WrongItem")]
     WrongItem,
     /// Memory was refused.
@@ -34,7 +34,7 @@ pub(crate) fn refusal_for(state: &EngineState, report: &Report) -> Option<Refusa
     if !state.is_ticket_out(report.ticket) {
         return Some(Refusal::AlreadyReported);
     }
-    if !state.awaits(report.host, report.item, report.ticket) {
+    if !state.awaits(report.host, report.item, report.attempt, report.ticket) {
         return Some(Refusal::WrongItem);
     }
     None

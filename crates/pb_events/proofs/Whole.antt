@@ -128,7 +128,7 @@ told_whole starts plan s h =
 event_whole : (plan : PlanOf) (s : State) (e : Event) → IsWhole (lines_of plan s e)
 event_whole plan s Open = of_some (slice_get plan.plays s.play) (opened_in plan s) (λ play. one _)
 event_whole plan s (Start h) = told_whole true plan s h.0
-event_whole plan s (Send h item ticket) = nothing
+event_whole plan s (Send h item attempt ticket) = nothing
 event_whole plan s (Reported r) = told_whole false plan s r.host.0
 event_whole plan s Turn = nothing
 event_whole plan s Close = nothing

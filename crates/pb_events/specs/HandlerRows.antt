@@ -33,7 +33,7 @@ abbrev went_well : Form
 went_well = Ran (pos 0) [] []
 
 abbrev report : ℕ → Form → Event
-report ticket outcome = Reported (record { ticket = record { 0 = ticket }; host = record { 0 = 0 }; item = 0; outcome = outcome })
+report ticket outcome = Reported (record { ticket = record { 0 = ticket }; host = record { 0 = 0 }; item = 0; attempt = 1; outcome = outcome })
 
 -- after the task's own end, in the order of definition
 abbrev ends_well : List ℕ → List ℕ

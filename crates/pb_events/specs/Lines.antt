@@ -114,7 +114,7 @@ opened_in plan s play = play_start s.play s.batch play.name (map text (batch_nam
 abbrev pub lines_of : PlanOf → State → Event → List ℕ
 lines_of plan s Open = option_map_or (opened_in plan s) (slice_get plan.plays s.play) []
 lines_of plan s (Start h) = told_of true plan s h.0
-lines_of plan s (Send h item ticket) = []
+lines_of plan s (Send h item attempt ticket) = []
 lines_of plan s (Reported r) = told_of false plan s r.host.0
 lines_of plan s Turn = []
 lines_of plan s Close = []

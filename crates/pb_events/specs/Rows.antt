@@ -89,10 +89,10 @@ abbrev commanded : PlanOf
 commanded = one_task (Shell (codes "true"))
 
 abbrev goes_out : Event
-goes_out = Send (record { 0 = 0 }) 0 (record { 0 = 0 })
+goes_out = Send (record { 0 = 0 }) 0 1 (record { 0 = 0 })
 
 abbrev comes : Form → Event
-comes outcome = Reported (record { ticket = record { 0 = 0 }; host = record { 0 = 0 }; item = 0; outcome = outcome })
+comes outcome = Reported (record { ticket = record { 0 = 0 }; host = record { 0 = 0 }; item = 0; attempt = 1; outcome = outcome })
 
 -- its start has no line of a result
 starts_and_waits : lines_of commanded (after_of commanded (Open ∷ first ∷ [])) first

@@ -16,7 +16,7 @@ x n = (codes "x", int (pos n)) ∷ []
 
 -- an item that gives these facts
 abbrev gives : Map → Item
-gives facts = record { value = None; delegate = None; step = Decided (facts_result (dict (members_of facts))) }
+gives facts = record { value = None; delegate = None; tried = 0; step = Decided (facts_result (dict (members_of facts))) }
 
 -- nothing was gathered: there is no `ansible_facts`
 before_setup : gathered_layer no_facts.gathered ≡ []
@@ -64,7 +64,7 @@ gathered_by_setup : learnt Gathers None (int (pos 9)) (gives (x 1) ∷ []) no_fa
 gathered_by_setup = refl
 
 -- a `setup` that fails gives no facts, and there is no `ansible_facts`
-failed_setup : learnt Gathers None (int (pos 9)) (record { value = None; delegate = None; step = Decided (debug_result (int (pos 1))) } ∷ []) no_facts ≡ no_facts
+failed_setup : learnt Gathers None (int (pos 9)) (record { value = None; delegate = None; tried = 0; step = Decided (debug_result (int (pos 1))) } ∷ []) no_facts ≡ no_facts
 failed_setup = refl
 
 -- of what is known of a host each map is over those before it

@@ -38,7 +38,7 @@ Rises low (Collected f r ∷ es) = Rises low es
 
 -- the report is for the job, and the runner's relation allows its outcome
 abbrev pub Fits : (Job → Form → Type 0) → Job → Report → Type 0
-Fits allows x r = (r.ticket ≡ x.ticket) × (r.host ≡ x.host) × (r.item ≡ x.item) × allows x r.outcome
+Fits allows x r = (r.ticket ≡ x.ticket) × (r.host ≡ x.host) × (r.item ≡ x.item) × (r.attempt ≡ x.attempt) × allows x r.outcome
 
 -- each job has its report, in order
 abbrev pub Answered : (Job → Form → Type 0) → List Job → List Report → Type 0

@@ -22,6 +22,8 @@ pub fn job(alloc: Global, ticket: u64, text: &str) -> Result<Job, AllocError>
         play: PlayNo(0),
         place: Place::new(alloc),
         item: 0,
+        attempt: 1,
+        delay: 0,
         target,
         connector: Items::new(alloc),
         call: Call::Shell { text },
@@ -30,12 +32,13 @@ pub fn job(alloc: Global, ticket: u64, text: &str) -> Result<Job, AllocError>
 
 /// The report of a job.
 pub fn report_of(job: &Job, outcome: Outcome) -> Report
-    ensures { result ≡ record { ticket = job.now.ticket; host = job.now.host; item = job.now.item; outcome = outcome } }
+    ensures { result ≡ record { ticket = job.now.ticket; host = job.now.host; item = job.now.item; attempt = job.now.attempt; outcome = outcome } }
 {
     Report {
         ticket: job.ticket,
         host: job.host,
         item: job.item,
+        attempt: job.attempt,
         outcome,
     }
 }

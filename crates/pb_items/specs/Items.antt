@@ -79,10 +79,10 @@ step_in start variable = and_then (evaluated (holds (seen_by start variable) sta
 
 -- an item of this value of the loop variable
 abbrev pub faulty_item : Option Datum → ItemFault → Item
-faulty_item value fault = record { value = value; delegate = None; step = Decided (faulty_result (said fault)) }
+faulty_item value fault = record { value = value; delegate = None; tried = 0; step = Decided (faulty_result (said fault)) }
 
 abbrev pub item_of : Option Datum → Result Step ItemFault → Item
-item_of value (Ok step) = record { value = value; delegate = step.1; step = step.0 }
+item_of value (Ok step) = record { value = value; delegate = step.1; tried = 0; step = step.0 }
 item_of value (Err fault) = faulty_item value fault
 
 unfoldable pub item_in : StartOf → Option Datum → Item

@@ -54,16 +54,16 @@ over v = Some (record { over = v; variable = codes "item" })
 
 -- an item that is decided, of no loop and of a loop
 abbrev alone : ItemResult → Item
-alone result = record { value = None; delegate = None; step = Decided result }
+alone result = record { value = None; delegate = None; tried = 0; step = Decided result }
 
 abbrev of_value : Datum → ItemResult → Item
-of_value v result = record { value = Some v; delegate = None; step = Decided result }
+of_value v result = record { value = Some v; delegate = None; tried = 0; step = Decided result }
 
 shown : task_items (starts (shows (codes "{{ x }}")) (tree.Name (codes "x") ∷ []) None ((codes "x", int (pos 1)) ∷ [])) ≡ alone (debug_result (int (pos 1))) ∷ []
 unfolding on_items
 shown = refl
 
-sent : task_items (starts (Shell (codes "ls {{ x }}")) [] None ((codes "x", int (pos 1)) ∷ [])) ≡ record { value = None; delegate = None; step = Sends (call.Shell (codes "ls 1")) } ∷ []
+sent : task_items (starts (Shell (codes "ls {{ x }}")) [] None ((codes "x", int (pos 1)) ∷ [])) ≡ record { value = None; delegate = None; tried = 0; step = Sends (call.Shell (codes "ls 1")) } ∷ []
 unfolding on_items
 sent = refl
 
@@ -147,7 +147,7 @@ named_variable = refl
 
 delegated :
     task_items (record (starts (Shell (codes "ls")) [] (over (list (items_of (text (codes "b") ∷ [])))) []) { delegate_to = Some (codes "{{ item }}1") })
-    ≡ record { value = Some (text (codes "b")); delegate = Some (codes "b1"); step = Sends (call.Shell (codes "ls")) } ∷ []
+    ≡ record { value = Some (text (codes "b")); delegate = Some (codes "b1"); tried = 0; step = Sends (call.Shell (codes "ls")) } ∷ []
 unfolding on_items
 delegated = refl
 
@@ -224,6 +224,6 @@ faulty_stays = refl
 
 sent_stays :
     task_items (says None (Some (tree.Truth true ∷ [])) (Some (tree.Truth true ∷ [])) (starts (Shell (codes "ls")) [] None []))
-    ≡ record { value = None; delegate = None; step = Sends (call.Shell (codes "ls")) } ∷ []
+    ≡ record { value = None; delegate = None; tried = 0; step = Sends (call.Shell (codes "ls")) } ∷ []
 unfolding on_items
 sent_stays = refl

@@ -123,6 +123,7 @@ fn faulty_item(alloc: Global, value: Option<Val>, fault: &ItemFault) -> Result<I
     Ok(Item {
         value,
         delegate: None,
+        tried: 0,
         step,
     })
 }
@@ -137,6 +138,7 @@ fn item_in(alloc: Global, start: &Start, value: Option<Val>) -> Result<Item, All
         Ok((step, delegate)) => Ok(Item {
             value,
             delegate,
+            tried: 0,
             step,
         }),
         Err(fault) => faulty_item(alloc, value, &fault),

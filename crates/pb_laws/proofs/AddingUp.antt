@@ -138,8 +138,8 @@ reported_count : (plan : PlanOf) (s : State) (r : Report) (k : ℕ) (past : List
     ≡ tasks_ended k past + five (λ (kind : CountKind). counted k kind (option_map_or (ended_by r.host.0) (option_map_or (reported_in plan s r) found s).decided None))
 reported_count plan s r k past None may = cc
 reported_count plan s r k past (Some play) may =
-    let at = row_at (awaits r.ticket r.item) s.rows r.host.0 may in
-    let is = awaits_is r.ticket r.item at.0.running at.2 in
+    let at = row_at (awaits r.ticket r.item r.attempt) s.rows r.host.0 may in
+    let is = awaits_is r.ticket r.item r.attempt at.0.running at.2 in
     reports_count plan s r k past play at.0 is.0 at.1 is.1
 
 sent_count : (k play host item ticket : ℕ) (past : List Happening) (place : Option ℕ) → tasks_ended k (so_far past (at_place play host place (λ task. Sends task item ticket ∷ []))) ≡ tasks_ended k past
@@ -150,7 +150,7 @@ event_count : (plan : PlanOf) (s : State) (e : Event) (k : ℕ) (past : List Hap
     → tasks_ended k (so_far past (told plan s e (after plan s e))) ≡ tasks_ended k past + five (λ (kind : CountKind). counted k kind (finishes plan s e))
 event_count plan s Open k past may = omega arith
 event_count plan s (Start h) k past may = started_count plan s h.0 k past (open_play plan s) may
-event_count plan s (Send h item ticket) k past may = nothing_more _ _ (sent_count k s.play h.0 item ticket.0 past (place_run_by s h))
+event_count plan s (Send h item attempt ticket) k past may = nothing_more _ _ (sent_count k s.play h.0 item ticket.0 past (place_run_by s h))
 event_count plan s (Reported r) k past may = reported_count plan s r k past (open_play plan s) may
 event_count plan s Turn k past may =
     nothing_more _ _

@@ -17,7 +17,8 @@ use Rattle.pb_state.specs.declared.event.Event.{Event}
 use Rattle.pb_state.specs.declared.event.Event.TheVariants.{Open, Start, Send, Report as Reported, Turn, Close, Stop, Forks}
 use Rattle.pb_one_host.specs.declared.row.Running.{Running}
 use Rattle.pb_all_hosts.specs.Batches.{room_behind, joined_first}
-use Rattle.pb_one_host.specs.Runs.{is_running, is_out as has_job_out, is_next, sends_running, may_send_item, awaits_running, awaits}
+use Rattle.pb_one_host.specs.Attempts.{attempt_next}
+use Rattle.pb_one_host.specs.Runs.{is_running, is_out as has_job_out, is_item, is_next, sends_running, may_send_item, awaits_running, awaits}
 use Rattle.pb_all_hosts.specs.Hosts.{at_row, least_place}
 use Rattle.pb_state.specs.Machine.{possible, after, may_start_in, may_send_in, may_report_in, may_turn_in, may_close_in, open_play, opened_by, after_open, started_in, next_at, start_at, sent_in, reported_in, batch_of, turned_in, stopped, with_forks, first_state}
 use Rattle.pb_one_host.specs.Row.{HostRow, first_rows}
@@ -156,13 +157,13 @@ none_runs test idle [] h e = refl
 none_runs test idle (row ∷ rows) zero e = idle row (or_left (is_running row) (list_any is_running rows) e)
 none_runs test idle (row ∷ rows) (suc h) e = none_runs test idle rows h (or_right (is_running row) (list_any is_running rows) e)
 
-idle_sends : (item : ℕ) (running : Option Running) → is_some running ≡ false → option_map_or (sends_running item) running false ≡ false
-idle_sends item None e = refl
-idle_sends item (Some r) e = cc
+idle_sends : (item attempt : ℕ) (running : Option Running) → is_some running ≡ false → option_map_or (sends_running item attempt) running false ≡ false
+idle_sends item attempt None e = refl
+idle_sends item attempt (Some r) e = cc
 
-idle_awaits : (item : ℕ) (ticket : Ticket) (running : Option Running) → is_some running ≡ false → option_map_or (awaits_running ticket item) running false ≡ false
-idle_awaits item ticket None e = refl
-idle_awaits item ticket (Some r) e = cc
+idle_awaits : (item attempt : ℕ) (ticket : Ticket) (running : Option Running) → is_some running ≡ false → option_map_or (awaits_running ticket item attempt) running false ≡ false
+idle_awaits item attempt ticket None e = refl
+idle_awaits item attempt ticket (Some r) e = cc
 
 idle_joined : (tree : TreeOf) (room : ℕ) (rows : List HostRow) → list_any is_running (joined_first tree room rows) ≡ false
 idle_joined tree room [] = refl
@@ -209,14 +210,14 @@ unfolding IsPlacedBy
 idle_linear true s l none placed = (placed none).1
 idle_linear false s l none placed = cc
 
-sent_placed : (plan : PlanOf) (s : State) (h item : ℕ) (ticket : Ticket) (found : Option PlayOf) → open_play plan s ≡ found → IsPlaced plan s → option_map_or (may_send_in s h item ticket) found false ≡ true → IsPlaced plan (option_map_or (sent_in s h ticket) found s)
-sent_placed plan s h item ticket None here placed may = placed
-sent_placed plan s h item ticket (Some play) here placed may =
+sent_placed : (plan : PlanOf) (s : State) (h item attempt : ℕ) (ticket : Ticket) (found : Option PlayOf) → open_play plan s ≡ found → IsPlaced plan s → option_map_or (may_send_in s h item attempt ticket) found false ≡ true → IsPlaced plan (option_map_or (sent_in s h ticket) found s)
+sent_placed plan s h item attempt ticket None here placed may = placed
+sent_placed plan s h item attempt ticket (Some play) here placed may =
     from_play plan s (sent_in s h ticket play) play here refl
     (stays_placed (is_linear play.strategy) s (sent_in s h ticket play) refl
     (λ linear none.
     let idle = idle_linear (is_linear play.strategy) s linear none (in_play plan s play here placed) in
-    true_false (at_row (may_send_item item) s.rows h) (and_right (not s.stopped && (ticket.0 == s.sends)) _ may) (none_runs (may_send_item item) (λ row e. idle_sends item row.running e) s.rows h idle))
+    true_false (at_row (may_send_item item attempt) s.rows h) (and_right (not s.stopped && (ticket.0 == s.sends)) _ may) (none_runs (may_send_item item attempt) (λ row e. idle_sends item attempt row.running e) s.rows h idle))
     (in_play plan s play here placed))
 
 reported_placed : (plan : PlanOf) (s : State) (r : Report) (found : Option PlayOf) → open_play plan s ≡ found → IsPlaced plan s → option_map_or (may_report_in s r) found false ≡ true → IsPlaced plan (option_map_or (reported_in plan s r) found s)
@@ -226,7 +227,7 @@ reported_placed plan s r (Some play) here placed may =
     (stays_placed (is_linear play.strategy) s (reported_in plan s r play) refl
     (λ linear none.
     let idle = idle_linear (is_linear play.strategy) s linear none (in_play plan s play here placed) in
-    true_false (at_row (awaits r.ticket r.item) s.rows r.host.0) may (none_runs (awaits r.ticket r.item) (λ row e. idle_awaits r.item r.ticket row.running e) s.rows r.host.0 idle))
+    true_false (at_row (awaits r.ticket r.item r.attempt) s.rows r.host.0) may (none_runs (awaits r.ticket r.item r.attempt) (λ row e. idle_awaits r.item r.attempt r.ticket row.running e) s.rows r.host.0 idle))
     (in_play plan s play here placed))
 
 turn_placed : (inventory : InventoryOf) (s : State) (play : PlayOf) (linear : Bool) → is_linear play.strategy ≡ linear → may_turn_in s play ≡ true → IsPlacedBy linear (turned_in inventory s play)
@@ -252,7 +253,7 @@ step_placed : (plan : PlanOf) (s : State) (e : Event) → possible plan s e ≡ 
 unfolding IsPlaced IsPlacedIn
 step_placed plan s Open may placed = opened_placed plan s placed
 step_placed plan s (Start h) may placed = started_placed plan s h.0 (open_play plan s) refl placed may
-step_placed plan s (Send h item ticket) may placed = sent_placed plan s h.0 item ticket (open_play plan s) refl placed may
+step_placed plan s (Send h item attempt ticket) may placed = sent_placed plan s h.0 item attempt ticket (open_play plan s) refl placed may
 step_placed plan s (Reported r) may placed = reported_placed plan s r (open_play plan s) refl placed may
 step_placed plan s Turn may placed = turned_placed plan s (open_play plan s) refl placed may
 step_placed plan s Close may placed = refl
@@ -289,12 +290,17 @@ none_running (row ∷ rows) none = by_first row.running refl (none_running rows 
     by_first None e rest = rest
     by_first (Some r) e rest = absurd (none 0 row r refl e)
 
+next_so : (n : ℕ) (r : Running) → next_item r.items ≡ Some n → is_next n (attempt_next r.items) r ≡ true
+next_so n r next =
+    both (is_item n r.items) (attempt_next r.items == attempt_next r.items) (ap (λ (item : Option ℕ). option_map_or (λ m. m == n) item false) next ∙ eq-eqb n n refl)
+    (eq-eqb (attempt_next r.items) (attempt_next r.items) refl)
+
 send_may : (s : State) (h n : ℕ) (play : PlayOf) (row : HostRow) (r : Running) → s.stopped ≡ false → slice_get s.rows h ≡ Some row → row.running ≡ Some r → r.out ≡ None → next_item r.items ≡ Some n
-    → may_send_in s h n (record { 0 = s.sends }) play ≡ true
+    → may_send_in s h n (attempt_next r.items) (record { 0 = s.sends }) play ≡ true
 send_may s h n play row r st there runs free next =
-    both (not s.stopped && (s.sends == s.sends)) (at_row (may_send_item n) s.rows h) (both (not s.stopped) (s.sends == s.sends) (ap not st) (eq-eqb s.sends s.sends refl))
-    (ap (λ (found : Option HostRow). option_map_or (may_send_item n) found false) there ∙ ap (λ (running : Option Running). option_map_or (sends_running n) running false) runs
-    ∙ both (is_none r.out) (is_next n r) (ap is_none free) (ap (λ (item : Option ℕ). option_map_or (λ m. m == n) item false) next ∙ eq-eqb n n refl))
+    both (not s.stopped && (s.sends == s.sends)) (at_row (may_send_item n (attempt_next r.items)) s.rows h) (both (not s.stopped) (s.sends == s.sends) (ap not st) (eq-eqb s.sends s.sends refl))
+    (ap (λ (found : Option HostRow). option_map_or (may_send_item n (attempt_next r.items)) found false) there ∙ ap (λ (running : Option Running). option_map_or (sends_running n (attempt_next r.items)) running false) runs
+    ∙ both (is_none r.out) (is_next n (attempt_next r.items) r) (ap is_none free) (next_so n r next))
 
 none_runs_at_end : (plan : PlanOf) (s : State) (play : PlayOf) → IsFinished plan s → open_play plan s ≡ Some play → s.stopped ≡ false
     → ((h : ℕ) (r : Running) → slice_get (tasks_of s.rows) h ≡ Some (Some r) → is_over r.items ≡ false) → list_any is_running s.rows ≡ false
@@ -304,8 +310,8 @@ none_runs_at_end plan s play finished o st going =
     by_out : (h : ℕ) (row : HostRow) (r : Running) → slice_get s.rows h ≡ Some row → row.running ≡ Some r → is_over r.items ≡ false → (out : Option Ticket) → r.out ≡ out → ⊥
     by_out h row r there runs on None free =
         let next = goes_on_at r.items on in
-        true_false (may_send_in s h next.0 (record { 0 = s.sends }) play) (send_may s h next.0 play row r st there runs free next.1)
-        (ap (λ (found : Option PlayOf). option_map_or (may_send_in s h next.0 (record { 0 = s.sends })) found false) (sym o) ∙ finished.over (Send (record { 0 = h }) next.0 (record { 0 = s.sends })) refl)
+        true_false (may_send_in s h next.0 (attempt_next r.items) (record { 0 = s.sends }) play) (send_may s h next.0 play row r st there runs free next.1)
+        (ap (λ (found : Option PlayOf). option_map_or (may_send_in s h next.0 (attempt_next r.items) (record { 0 = s.sends })) found false) (sym o) ∙ finished.over (Send (record { 0 = h }) next.0 (attempt_next r.items) (record { 0 = s.sends })) refl)
     by_out h row r there runs on (Some ticket) is =
         true_false (list_any has_job_out s.rows)
         (any_row has_job_out s.rows h row there (ap (λ (running : Option Running). option_map_or (λ (x : Running). is_some x.out) running false) runs ∙ ap is_some is)) finished.none_out

@@ -448,7 +448,7 @@ close_tells plan s may of =
 pub tells : (plan : PlanOf) (s : State) (e : Event) → possible plan s e ≡ true → AreNumbered 0 s.rows → IsOfPlan plan s → IsSound s → Tells plan (seen s) (told plan s e (after plan s e)) (seen (after plan s e))
 tells plan s Open may all of sound = open_tells plan s may all
 tells plan s (Start h) may all of sound = start_tells plan s h.0 (open_play plan s) refl may of
-tells plan s (Send h item ticket) may all of sound = send_tells plan s h item ticket (open_play plan s) refl may
+tells plan s (Send h item attempt ticket) may all of sound = send_tells plan s h item attempt ticket (open_play plan s) refl may
 tells plan s (Reported r) may all of sound = report_tells plan s r (open_play plan s) refl may of sound
 tells plan s Turn may all of sound = turn_tells plan s (open_play plan s) refl may of
 tells plan s Close may all of sound = close_tells plan s may of

@@ -85,7 +85,7 @@ start_forks n play h (Some p) found (Some end) = refl
 pub silent_says : (plan : PlanOf) (s new : State) (e : Event) → has_mail e ≡ false → Says 0 0 (told plan s e new)
 silent_says plan s new Open m = record { sends = refl; reports = refl; silent = λ none h. refl }
 silent_says plan s new (Start h) m = start_says s.play h.0 (next_at s h.0) (open_play plan s) (ended_in new.decided)
-silent_says plan s new (Send h item ticket) m = cc
+silent_says plan s new (Send h item attempt ticket) m = cc
 silent_says plan s new (Reported r) m = cc
 silent_says plan s new Turn m = given_says (given_in s.play 0 s.rows new.rows) (rows_given s.play 0 s.rows new.rows)
 silent_says plan s new Close m = record { sends = refl; reports = refl; silent = λ none h. refl }
@@ -98,17 +98,17 @@ sent_says play h item ticket None p e = cc
 sent_says play h item ticket (Some q) p e = record { sends = refl; reports = refl; silent = λ none h. refl }
 
 -- the host that sends runs a task, and has no job out
-pub sending : (plan : PlanOf) (s : State) (h : HostNo) (item : ℕ) (ticket : Ticket) (found : Option PlayOf) → open_play plan s ≡ found → option_map_or (may_send_in s h.0 item ticket) found false ≡ true
+pub sending : (plan : PlanOf) (s : State) (h : HostNo) (item attempt : ℕ) (ticket : Ticket) (found : Option PlayOf) → open_play plan s ≡ found → option_map_or (may_send_in s h.0 item attempt ticket) found false ≡ true
     → (r : Running) × (slice_get (tasks_of s.rows) h.0 ≡ Some (Some r)) × (r.out ≡ None) × (place_run_by s h ≡ Some r.place)
-sending plan s h item ticket None o may = cc
-sending plan s h item ticket (Some play) o may =
-    let at = row_at (may_send_item item) s.rows h.0 (and_right (not s.stopped && (ticket.0 == s.sends)) _ may) in
-    let is = sends_is item at.0.running at.2 in
+sending plan s h item attempt ticket None o may = cc
+sending plan s h item attempt ticket (Some play) o may =
+    let at = row_at (may_send_item item attempt) s.rows h.0 (and_right (not s.stopped && (ticket.0 == s.sends)) _ may) in
+    let is = sends_is item attempt at.0.running at.2 in
     (is.0, task_there s h.0 at.0 is.0 at.1 is.1, is.2, place_there s h at.0 is.0 at.1 is.1)
 
-pub send_says : (plan : PlanOf) (s new : State) (h : HostNo) (item : ℕ) (ticket : Ticket) → possible plan s (Send h item ticket) ≡ true → Says 1 0 (told plan s (Send h item ticket) new)
-send_says plan s new h item ticket may =
-    let at = sending plan s h item ticket (open_play plan s) refl may in
+pub send_says : (plan : PlanOf) (s new : State) (h : HostNo) (item attempt : ℕ) (ticket : Ticket) → possible plan s (Send h item attempt ticket) ≡ true → Says 1 0 (told plan s (Send h item attempt ticket) new)
+send_says plan s new h item attempt ticket may =
+    let at = sending plan s h item attempt ticket (open_play plan s) refl may in
     sent_says s.play h.0 item ticket.0 (place_run_by s h) at.0.place at.3
 
 -- and one whose report comes
@@ -299,8 +299,8 @@ forks_told plan s pool Open may same f = f
 forks_told plan s pool (Start h) may same f =
     let new = (after plan s (Start h)).decided in
     omega (arith, f, start_forks s.forks s.play h.0 (next_at s h.0) (open_play plan s) (ended_in new))
-forks_told plan s pool (Send h item ticket) may same f =
-    let at = sending plan s h item ticket (open_play plan s) refl may in
+forks_told plan s pool (Send h item attempt ticket) may same f =
+    let at = sending plan s h item attempt ticket (open_play plan s) refl may in
     subst (λ (place : Option ℕ). forks_in s.forks (at_place s.play h.0 place (λ task. Sends task item ticket.0 ∷ [])) ≤ pool) (sym at.3) f
 forks_told plan s pool (Reported r) may same f = by_end (place_run_by s r.host) (ended_in (after plan s (Reported r)).decided)
   where
@@ -375,12 +375,12 @@ outs_silent plan pool s e may run none =
       omega (arith, sends_next plan (seen s) (seen (after plan s e)) (told plan s e (after plan s e)) step, says.sends),
     )
 
-pub outs_sent : (plan : PlanOf) (pool : ℕ) (s : State) (h : HostNo) (item : ℕ) (ticket : Ticket) → possible plan s (Send h item ticket) ≡ true → InRun plan pool s
-    → (outs (tasks_of (after plan s (Send h item ticket)).rows) ≡ outs (tasks_of s.rows) + 1) × ((after plan s (Send h item ticket)).sends ≡ s.sends + 1)
-outs_sent plan pool s h item ticket may run =
-    let e = Send h item ticket in
+pub outs_sent : (plan : PlanOf) (pool : ℕ) (s : State) (h : HostNo) (item attempt : ℕ) (ticket : Ticket) → possible plan s (Send h item attempt ticket) ≡ true → InRun plan pool s
+    → (outs (tasks_of (after plan s (Send h item attempt ticket)).rows) ≡ outs (tasks_of s.rows) + 1) × ((after plan s (Send h item attempt ticket)).sends ≡ s.sends + 1)
+outs_sent plan pool s h item attempt ticket may run =
+    let e = Send h item attempt ticket in
     let step = step_tells plan pool s e may run in
-    let says = send_says plan s (after plan s e) h item ticket may in (
+    let says = send_says plan s (after plan s e) h item attempt ticket may in (
       omega (arith, outs_next plan (seen s) (seen (after plan s e)) (told plan s e (after plan s e)) step run.idle, says.sends, says.reports),
       omega (arith, sends_next plan (seen s) (seen (after plan s e)) (told plan s e (after plan s e)) step, says.sends),
     )
@@ -396,7 +396,7 @@ outs_reported plan pool s r may run =
     )
 
 -- where a job goes out there is room for it
-pub room_to_send : (plan : PlanOf) (pool : ℕ) (s : State) (h : HostNo) (item : ℕ) (ticket : Ticket) → possible plan s (Send h item ticket) ≡ true → InRun plan pool s → outs (tasks_of s.rows) < pool
-room_to_send plan pool s h item ticket may run =
-    let at = sending plan s h item ticket (open_play plan s) refl may in
+pub room_to_send : (plan : PlanOf) (pool : ℕ) (s : State) (h : HostNo) (item attempt : ℕ) (ticket : Ticket) → possible plan s (Send h item attempt ticket) ≡ true → InRun plan pool s → outs (tasks_of s.rows) < pool
+room_to_send plan pool s h item attempt ticket may run =
+    let at = sending plan s h item attempt ticket (open_play plan s) refl may in
     omega (arith, outs_less (tasks_of s.rows) h.0 at.0 at.1 at.2, run.most)

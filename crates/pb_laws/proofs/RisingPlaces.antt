@@ -123,9 +123,9 @@ module _ (plan : PlanOf) where
       let at = start_place plan s h.0 (open_play plan s) may in
       on_start s h es past (next_at s h.0) at.0 at.1 (on_from (after plan s (Start h)) es) (and_right (possible plan s (Start h)) _ l) rise all
   on_from s (Open ∷ es) past l rise all = on_free s Open es past (told plan s Open (after plan s Open)) refl (on_from (after plan s Open) es) (and_right (possible plan s Open) _ l) rise all
-  on_from s (Send h item ticket ∷ es) past l rise all =
-      on_free s (Send h item ticket) es past (told plan s (Send h item ticket) (after plan s (Send h item ticket))) (send_none s.play h.0 item ticket.0 (place_run_by s h)) (on_from (after plan s (Send h item ticket)) es)
-      (and_right (possible plan s (Send h item ticket)) _ l) rise all
+  on_from s (Send h item attempt ticket ∷ es) past l rise all =
+      on_free s (Send h item attempt ticket) es past (told plan s (Send h item attempt ticket) (after plan s (Send h item attempt ticket))) (send_none s.play h.0 item ticket.0 (place_run_by s h)) (on_from (after plan s (Send h item attempt ticket)) es)
+      (and_right (possible plan s (Send h item attempt ticket)) _ l) rise all
   on_from s (Reported r ∷ es) past l rise all =
       on_free s (Reported r) es past (told plan s (Reported r) (after plan s (Reported r)))
       (report_none r.host.0 r.item r.ticket.0 s.play (open_play plan s) (ended_in (after plan s (Reported r)).decided) (place_run_by s r.host)) (on_from (after plan s (Reported r)) es)

@@ -26,7 +26,7 @@ use Rattle.pb_one_host.specs.declared.decided.TaskEnd.{TaskEnd}
 use Rattle.pb_one_host.specs.declared.row.Running.{Running}
 use Rattle.pb_one_host.specs.Ends.{answer_of}
 use Rattle.pb_one_host.specs.Handlers.{notified_by}
-use Rattle.pb_one_host.specs.Runs.{is_running, may_send_item, sends_running, awaits, awaits_running, is_ticket}
+use Rattle.pb_one_host.specs.Runs.{is_running, is_item, may_send_item, sends_running, awaits, awaits_running, is_ticket}
 use Rattle.pb_one_host.specs.Decides.{report_decides, decided_by, done_at, done_if}
 use Rattle.pb_all_hosts.specs.Giving.{gifts_at, report_gives}
 use Rattle.pb_all_hosts.specs.Hosts.{at_row}
@@ -212,18 +212,18 @@ start_tells plan s h None o may of = cc
 start_tells plan s h (Some play) o may of = start_at_tells plan s h play (next_at s h) refl o may (start_stands s h play may) of
 
 -- ---- a job that goes out, and what came of it
-pub sends_is : (item : ℕ) (running : Option Running) → option_map_or (sends_running item) running false ≡ true → (r : Running) × (running ≡ Some r) × (r.out ≡ None) × (next_item r.items ≡ Some item)
-sends_is item None e = cc
-sends_is item (Some r) e = (r, refl, free r.out (and_left (is_none r.out) _ e), at_is item (next_item r.items) (and_right (is_none r.out) _ e))
+pub sends_is : (item attempt : ℕ) (running : Option Running) → option_map_or (sends_running item attempt) running false ≡ true → (r : Running) × (running ≡ Some r) × (r.out ≡ None) × (next_item r.items ≡ Some item)
+sends_is item attempt None e = cc
+sends_is item attempt (Some r) e = (r, refl, free r.out (and_left (is_none r.out) _ e), at_is item (next_item r.items) (and_left (is_item item r.items) _ (and_right (is_none r.out) _ e)))
   where
     free : (out : Option Ticket) → is_none out ≡ true → out ≡ None
     free None f = refl
     free (Some ticket) f = cc
 
-pub awaits_is : (ticket : Ticket) (item : ℕ) (running : Option Running) → option_map_or (awaits_running ticket item) running false ≡ true
+pub awaits_is : (ticket : Ticket) (item attempt : ℕ) (running : Option Running) → option_map_or (awaits_running ticket item attempt) running false ≡ true
     → (r : Running) × (running ≡ Some r) × (option_map (λ (t : Ticket). t.0) r.out ≡ Some ticket.0) × (next_item r.items ≡ Some item)
-awaits_is ticket item None e = cc
-awaits_is ticket item (Some r) e = (r, refl, under r.out (and_left (is_ticket ticket r.out) _ e), at_is item (next_item r.items) (and_right (is_ticket ticket r.out) _ e))
+awaits_is ticket item attempt None e = cc
+awaits_is ticket item attempt (Some r) e = (r, refl, under r.out (and_left (is_ticket ticket r.out) _ e), at_is item (next_item r.items) (and_left (is_item item r.items) _ (and_right (is_ticket ticket r.out) _ e)))
   where
     under : (out : Option Ticket) → is_ticket ticket out ≡ true → option_map (λ (t : Ticket). t.0) out ≡ Some ticket.0
     under None f = cc
@@ -235,30 +235,30 @@ task_there s h row r there runs = get_map (λ (x : HostRow). x.running) s.rows h
 pub place_there : (s : State) (h : HostNo) (row : HostRow) (r : Running) → slice_get s.rows h.0 ≡ Some row → row.running ≡ Some r → place_run_by s h ≡ Some r.place
 place_there s h row r there runs = ap (λ (found : Option HostRow). option_map_or running_place found None) there ∙ ap (option_map (λ (x : Running). x.place)) runs
 
-sent_tells : (plan : PlanOf) (s : State) (h : HostNo) (item : ℕ) (ticket : Ticket) (play : PlayOf) (row : HostRow) (r : Running) → open_play plan s ≡ Some play → may_send_in s h.0 item ticket play ≡ true
+sent_tells : (plan : PlanOf) (s : State) (h : HostNo) (item attempt : ℕ) (ticket : Ticket) (play : PlayOf) (row : HostRow) (r : Running) → open_play plan s ≡ Some play → may_send_in s h.0 item attempt ticket play ≡ true
     → slice_get s.rows h.0 ≡ Some row → row.running ≡ Some r → r.out ≡ None → next_item r.items ≡ Some item
     → Tells plan (seen s) (at_place s.play h.0 (place_run_by s h) (λ task. Sends task item ticket.0 ∷ [])) (seen (sent_in s h.0 ticket play))
-sent_tells plan s h item ticket play row r o may there runs free next =
+sent_tells plan s h item attempt ticket play row r o may there runs free next =
     subst (λ (told : List Happening). Tells plan (seen s) told (seen (sent_in s h.0 ticket play))) (sym (ap (λ (place : Option ℕ). at_place s.play h.0 place (λ task. Sends task item ticket.0 ∷ [])) (place_there s h row r there runs)))
     (subst (λ (new : Seen). Tells plan (seen s) (Sends (task_on (seen s) h.0 r.place) item ticket.0 ∷ []) new)
     (sym (ap (λ (v : Seen). record v { sends = s.sends + 1 })
     (changed_seen s [] h.0 (sent ticket) row (Some (sent_running ticket r)) (active_of s.rows) (walked_of s.rows) there (ap (option_map (sent_running ticket)) runs) (map_same (λ (x : HostRow). is_active x.status) (sent ticket) (λ x. refl) s.rows h.0) (map_same (λ (x : HostRow). x.answers) (sent ticket) (λ x. refl) s.rows h.0) (λ x. refl) (λ x. refl))))
     (Sending h.0 item ticket r
     (record {
-      opened = open_of plan s (may_send_in s h.0 item ticket) (Some play) o may;
+      opened = open_of plan s (may_send_in s h.0 item attempt ticket) (Some play) o may;
       there = task_there s h.0 row r there runs;
       free = free;
       next = next;
       number = eqb-true ticket.0 s.sends (and_right (not s.stopped) _ (and_left (not s.stopped && nat_eq ticket.0 s.sends) _ may));
     })))
 
-pub send_tells : (plan : PlanOf) (s : State) (h : HostNo) (item : ℕ) (ticket : Ticket) (found : Option PlayOf) → open_play plan s ≡ found → option_map_or (may_send_in s h.0 item ticket) found false ≡ true
+pub send_tells : (plan : PlanOf) (s : State) (h : HostNo) (item attempt : ℕ) (ticket : Ticket) (found : Option PlayOf) → open_play plan s ≡ found → option_map_or (may_send_in s h.0 item attempt ticket) found false ≡ true
     → Tells plan (seen s) (at_place s.play h.0 (place_run_by s h) (λ task. Sends task item ticket.0 ∷ [])) (seen (option_map_or (sent_in s h.0 ticket) found s))
-send_tells plan s h item ticket None o may = cc
-send_tells plan s h item ticket (Some play) o may =
-    let at = row_at (may_send_item item) s.rows h.0 (and_right (not s.stopped && nat_eq ticket.0 s.sends) _ may) in
-    let is = sends_is item at.0.running at.2 in
-    sent_tells plan s h item ticket play at.0 is.0 o may at.1 is.1 is.2 is.3
+send_tells plan s h item attempt ticket None o may = cc
+send_tells plan s h item attempt ticket (Some play) o may =
+    let at = row_at (may_send_item item attempt) s.rows h.0 (and_right (not s.stopped && nat_eq ticket.0 s.sends) _ may) in
+    let is = sends_is item attempt at.0.running at.2 in
+    sent_tells plan s h item attempt ticket play at.0 is.0 o may at.1 is.1 is.2 is.3
 
 -- a host that runs a task stands at its place, in the batch
 sound_at : (s : State) (h : ℕ) (row : HostRow) (q : Running) → s.is_open ≡ true → IsSound s → slice_get s.rows h ≡ Some row → row.running ≡ Some q → (reach row.tree row.answers ≡ At q.place) × (row.in_batch ≡ true)
@@ -352,6 +352,6 @@ pub report_tells : (plan : PlanOf) (s : State) (r : Report) (found : Option Play
     (seen (option_map_or (reported_in plan s r) found s))
 report_tells plan s r None o may of sound = cc
 report_tells plan s r (Some play) o may of sound =
-    let at = row_at (awaits r.ticket r.item) s.rows r.host.0 may in
-    let is = awaits_is r.ticket r.item at.0.running at.2 in
+    let at = row_at (awaits r.ticket r.item r.attempt) s.rows r.host.0 may in
+    let is = awaits_is r.ticket r.item r.attempt at.0.running at.2 in
     reported_tells plan s r play at.0 is.0 (items_after (plan_seen plan s) play at.0.host at.0.facts r.outcome is.0) refl o may at.1 is.1 is.2 is.3 of sound

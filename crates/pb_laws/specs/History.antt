@@ -81,7 +81,7 @@ batch_in rows = map (λ (row : HostRow). row.in_batch) rows
 abbrev pub told : PlanOf → State → Event → State → List Happening
 told plan s Open new = Opens new.play (batch_in new.rows) ∷ []
 told plan s (Start h) new = at_place s.play h.0 (next_at s h.0) (λ task. Starts task ∷ ends_if (open_play plan s) (ended_in new.decided) task)
-told plan s (Send h item ticket) new = at_place s.play h.0 (place_run_by s h) (λ task. Sends task item ticket.0 ∷ [])
+told plan s (Send h item attempt ticket) new = at_place s.play h.0 (place_run_by s h) (λ task. Sends task item ticket.0 ∷ [])
 told plan s (Reported r) new =
     Reports r.host.0 r.item r.ticket.0 ∷ at_place s.play r.host.0 (place_run_by s r.host) (λ task. ends_if (open_play plan s) (ended_in new.decided) task)
 told plan s Turn new = given_in s.play 0 s.rows new.rows

@@ -43,7 +43,7 @@ IsOut plan s x = (r : Running) × (slice_get (tasks s) x.host.0 ≡ Some (Some r
 abbrev pub has_mail : Event → Bool
 has_mail Open = false
 has_mail (Start h) = false
-has_mail (Send h item ticket) = true
+has_mail (Send h item attempt ticket) = true
 has_mail (Reported r) = true
 has_mail Turn = false
 has_mail Close = false
@@ -54,7 +54,7 @@ has_mail (Forks n) = false
 abbrev pub is_report_of : HostNo → Event → Bool
 is_report_of host Open = false
 is_report_of host (Start h) = false
-is_report_of host (Send h item ticket) = false
+is_report_of host (Send h item attempt ticket) = false
 is_report_of host (Reported r) = r.host.0 == host.0
 is_report_of host Turn = false
 is_report_of host Close = false
@@ -63,7 +63,7 @@ is_report_of host (Forks n) = false
 
 -- a report of this job
 abbrev pub IsReportOf : Job → Report → Type 0
-IsReportOf x r = (r.ticket ≡ x.ticket) × (r.host ≡ x.host) × (r.item ≡ x.item)
+IsReportOf x r = (r.ticket ≡ x.ticket) × (r.host ≡ x.host) × (r.item ≡ x.item) × (r.attempt ≡ x.attempt)
 
 pub record FitsWorkers (plan : PlanOf) (pool : ℕ) (s : State) : Type 0 where
   -- as many hosts may run as there are workers, or fewer; as many run as may, or fewer; and as many jobs are out as hosts run, or fewer
@@ -71,8 +71,8 @@ pub record FitsWorkers (plan : PlanOf) (pool : ℕ) (s : State) : Type 0 where
   pub running : runs (tasks s) ≤ pool
   pub out : outs (tasks s) ≤ runs (tasks s)
   -- where a job may go out, fewer are out than there are workers; and it is out then
-  pub room : (h : HostNo) (item : ℕ) (ticket : Ticket) → possible plan s (Send h item ticket) ≡ true → outs (tasks s) < pool
-  pub goes : (h : HostNo) (item : ℕ) (ticket : Ticket) (x : Job) → possible plan s (Send h item ticket) ≡ true → job_of plan s h ticket ≡ Some x → IsOut plan (after plan s (Send h item ticket)) x
+  pub room : (h : HostNo) (item attempt : ℕ) (ticket : Ticket) → possible plan s (Send h item attempt ticket) ≡ true → outs (tasks s) < pool
+  pub goes : (h : HostNo) (item attempt : ℕ) (ticket : Ticket) (x : Job) → possible plan s (Send h item attempt ticket) ≡ true → job_of plan s h ticket ≡ Some x → IsOut plan (after plan s (Send h item attempt ticket)) x
   -- a job that is out stays out, and stays what it is, until its host reports
   pub stays : (x : Job) (e : Event) → IsOut plan s x → possible plan s e ≡ true → is_report_of x.host e ≡ false → IsOut plan (after plan s e) x
   -- its report may come

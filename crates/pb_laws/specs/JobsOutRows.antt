@@ -14,11 +14,11 @@ two_run : (ticket : Ticket) → runs (None ∷ Some (record { place = 0; items =
 two_run ticket = refl
 
 -- a send is mail, and no report; a report is one of its own host alone
-sends_are_mail : (host : HostNo) (ticket : Ticket) → has_mail (Send host 0 ticket) ≡ true
+sends_are_mail : (host : HostNo) (ticket : Ticket) → has_mail (Send host 0 1 ticket) ≡ true
 sends_are_mail host ticket = refl
 
-own_report : (ticket : Ticket) (outcome : Form) → is_report_of (record { 0 = 3 }) (Reported (record { ticket = ticket; host = record { 0 = 3 }; item = 0; outcome = outcome })) ≡ true
+own_report : (ticket : Ticket) (outcome : Form) → is_report_of (record { 0 = 3 }) (Reported (record { ticket = ticket; host = record { 0 = 3 }; item = 0; attempt = 1; outcome = outcome })) ≡ true
 own_report ticket outcome = refl
 
-another_report : (ticket : Ticket) (outcome : Form) → is_report_of (record { 0 = 3 }) (Reported (record { ticket = ticket; host = record { 0 = 4 }; item = 0; outcome = outcome })) ≡ false
+another_report : (ticket : Ticket) (outcome : Form) → is_report_of (record { 0 = 3 }) (Reported (record { ticket = ticket; host = record { 0 = 4 }; item = 0; attempt = 1; outcome = outcome })) ≡ false
 another_report ticket outcome = refl

@@ -223,7 +223,7 @@ counts_it = refl
 
 -- a host is halted at each turn while too many have failed, also in an always part, which it goes through all the same
 abbrev fails : Event
-fails = Reported (record { ticket = record { 0 = 0 }; host = record { 0 = 0 }; item = 0; outcome = Ran (pos 1) [] [] })
+fails = Reported (record { ticket = record { 0 = 0 }; host = record { 0 = 0 }; item = 0; attempt = 1; outcome = Ran (pos 1) [] [] })
 
 abbrev halted_trail : List Event
 halted_trail = Open ∷ start 0 ∷ send 0 0 ∷ start 1 ∷ send 1 1 ∷ fails ∷ went 1 1 ∷ Turn ∷ start 0 ∷ start 1 ∷ Turn ∷ start 0 ∷ start 1 ∷ Turn ∷ Close ∷ []

@@ -10,10 +10,12 @@ use Rattle.pb_outcome.specs.declared.item.Planned.{Planned}
 use Rattle.pb_outcome.specs.declared.item.Planned.TheVariants.{Decided, Sends}
 use Rattle.pb_outcome.specs.declared.job.Call.{Call}
 use Rattle.pb_outcome.specs.Gathered.{is_unreachable, some_unreachable}
-use Rattle.pb_outcome.specs.Items.{is_waiting, waits, next_item, result_then, ended, is_over, back_at, back_in}
+use Rattle.pb_outcome.specs.Items.{is_waiting, waits, next_item, result_then, ended, is_over}
 use Rattle.pb_one_host.specs.declared.items.Before.{Before}
+use Rattle.pb_one_host.specs.Attempts.{back_at, back_in, tried_then, tried_next}
 use Rattle.pb_one_host.specs.Back.{undone_items}
-use Rattle.pb_one_host.specs.Calls.{call_of, call_in}
+use Rattle.pb_one_host.specs.Calls.{call_of, call_in, tried_of}
+use Rattle.pb_one_host.specs.Runs.{is_item}
 use Rattle.pb_one_host.specs.Kept.{first_waiting, with_step}
 
 -- the first item that waits is one of them, if there is one
@@ -39,8 +41,34 @@ none_is items e = by_order (nat_lt (first_waiting items) (length items)) refl e
     by_order true t f = cc
     by_order false t f = let least = ltb-false (first_waiting items) (length items) t in omega (arith, least, first_most items)
 
+-- how many attempts at the next item came back is said by that item
+tried_first : (items : List Item) → tried_next items ≡ tried_of items (first_waiting items)
+tried_first [] = refl
+tried_first (item ∷ items) = by_step item.step (tried_first items)
+  where
+    by_step : (step : Planned) → tried_next items ≡ tried_of items (first_waiting items)
+        → tried_then step item.tried (tried_next items) ≡ tried_of (item ∷ items) (cond (not (is_waiting step)) (1 + first_waiting items) 0)
+    by_step (Decided result) rest = rest ∙ ap (tried_of (item ∷ items)) (let one : suc (first_waiting items) ≡ 1 + first_waiting items = omega arith in one)
+    by_step (Sends call) rest = refl
+
+none_tried : (items : List Item) → first_waiting items ≡ length items → tried_next items ≡ 0
+none_tried [] e = refl
+none_tried (item ∷ items) e = by_step item.step (λ m. none_tried items m) e
+  where
+    by_step : (step : Planned) → (first_waiting items ≡ length items → tried_next items ≡ 0)
+        → cond (not (is_waiting step)) (1 + first_waiting items) 0 ≡ suc (length items) → tried_then step item.tried (tried_next items) ≡ 0
+    by_step (Decided result) rest m = rest (omega (arith, m))
+    by_step (Sends call) rest m = absurd (omega (arith, m))
+
+pub tried_there : (items : List Item) → tried_next items ≡ option_map_or (tried_of items) (next_item items) 0
+tried_there items = by_next (next_item items) refl
+  where
+    by_next : (next : Option ℕ) → next_item items ≡ next → tried_next items ≡ option_map_or (tried_of items) next 0
+    by_next None e = none_tried items (none_is items e)
+    by_next (Some n) e = tried_first items ∙ ap (tried_of items) (sym (next_is items n e).0)
+
 -- the item with this number is the next
-pub is_next_so : (item : ℕ) (items : List Item) → option_map_or (λ n. nat_eq n item) (next_item items) false ≡ true → (first_waiting items ≡ item) × (item < length items)
+pub is_next_so : (item : ℕ) (items : List Item) → is_item item items ≡ true → (first_waiting items ≡ item) × (item < length items)
 is_next_so item items e = by_next (next_item items) refl e
   where
     by_next : (next : Option ℕ) → next_item items ≡ next → option_map_or (λ n. nat_eq n item) next false ≡ true → (first_waiting items ≡ item) × (item < length items)

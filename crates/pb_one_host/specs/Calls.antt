@@ -14,6 +14,10 @@ call_of (Sends call) = Some call
 abbrev pub call_in : List Item → ℕ → Option Call
 call_in items n = option_map_or (λ (item : Item). call_of item.step) (slice_get items n) None
 
+-- how many attempts at it came back
+abbrev pub tried_of : List Item → ℕ → ℕ
+tried_of items n = option_map_or (λ (item : Item). item.tried) (slice_get items n) 0
+
 -- and the name of the host that it is delegated to, if it is
 abbrev pub delegate_in : List Item → ℕ → Option (List ℕ)
 delegate_in items n = option_map_or (λ (item : Item). item.delegate) (slice_get items n) None

@@ -24,7 +24,7 @@ done_if play p marks items = if is_over items then Some (done_at play p marks it
 
 -- what a step decided of the task at a place on a host with these marks: the items that ended in it, and how the task ended
 abbrev pub decided_with : PlayOf → ℕ → List Bool → Bool → List (ℕ × ItemResult) → List Item → Decided
-decided_with play p marks is_new told items = record { place = p; is_new = is_new; items = told; done = done_if play p marks items }
+decided_with play p marks is_new told items = record { place = p; is_new = is_new; items = told; retried = None; done = done_if play p marks items }
 
 -- the item that came back, with its number, where its task has a loop
 abbrev pub told_at : List Item → ℕ → List (ℕ × ItemResult)

@@ -50,7 +50,7 @@ abbrev next : PlayOf → HostRow → List Item
 next play row = items_at (on play) play 0 row.facts 1
 
 abbrev alone : ItemResult → List Item
-alone result = record { value = None; delegate = None; step = Decided result } ∷ []
+alone result = record { value = None; delegate = None; tried = 0; step = Decided result } ∷ []
 
 abbrev well : Form
 well = Ran (pos 0) [] []
@@ -141,7 +141,7 @@ abbrev loops : Task
 loops = record registers { looped = Some (record { over = list (items_of (text (codes "a") ∷ text (codes "b") ∷ [])); variable = codes "item" }) }
 
 abbrev ran_with : List ℕ → Item
-ran_with name = record { value = Some (text name); delegate = None; step = Decided (ran_result true (pos 0) [] []) }
+ran_with name = record { value = Some (text name); delegate = None; tried = 0; step = Decided (ran_result true (pos 0) [] []) }
 
 registers_nothing_yet : (ended (two loops asks) well).facts ≡ no_facts
 unfolding on_facts

@@ -27,7 +27,7 @@ abbrev plan : PlanOf
 plan = bare_plan (codes "h" ∷ []) (play ∷ [])
 
 abbrev item_with : List ℕ → Item
-item_with name = record { value = Some (text name); delegate = None; step = Sends (ShellCall (codes "ls")) }
+item_with name = record { value = Some (text name); delegate = None; tried = 0; step = Sends (ShellCall (codes "ls")) }
 
 abbrev two_items : List Item
 two_items = item_with (codes "a") ∷ item_with (codes "b") ∷ []
@@ -55,25 +55,34 @@ whole = reported plan play well (out half)
 first_is_next : item_of started ≡ Some 0
 first_is_next = refl
 
-second_waits : may_send_item 1 started ≡ false
+second_waits : may_send_item 1 1 started ≡ false
 second_waits = refl
 
+it_goes_at_its_first_attempt : may_send_item 0 1 started ≡ true
+it_goes_at_its_first_attempt = refl
+
+not_at_its_second : may_send_item 0 2 started ≡ false
+not_at_its_second = refl
+
 -- while its job is out nothing is sent, and only it is awaited
-none_beside_it : may_send_item 0 (out started) ≡ false
+none_beside_it : may_send_item 0 1 (out started) ≡ false
 none_beside_it = refl
 
-it_is_awaited : awaits (record { 0 = 7 }) 0 (out started) ≡ true
+it_is_awaited : awaits (record { 0 = 7 }) 0 1 (out started) ≡ true
 it_is_awaited = refl
 
-second_is_not_awaited : awaits (record { 0 = 7 }) 1 (out started) ≡ false
+second_is_not_awaited : awaits (record { 0 = 7 }) 1 1 (out started) ≡ false
 second_is_not_awaited = refl
+
+another_attempt_is_not_awaited : awaits (record { 0 = 7 }) 0 2 (out started) ≡ false
+another_attempt_is_not_awaited = refl
 
 -- then the second goes
 second_is_next : item_of half ≡ Some 1
 unfolding on_tasks
 second_is_next = refl
 
-second_may_go : may_send_item 1 half ≡ true
+second_may_go : may_send_item 1 1 half ≡ true
 unfolding on_tasks
 second_may_go = refl
 

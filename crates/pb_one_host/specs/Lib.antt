@@ -1,3 +1,5 @@
+pub mod Attempts
+pub mod AttemptRows
 pub mod Ends
 pub mod Handlers
 pub mod Row

@@ -16,7 +16,7 @@ use Rattle.pb_outcome.specs.declared.item.Item.{Item}
 use Rattle.pb_outcome.specs.declared.job.Call.{Call}
 use Rattle.pb_outcome.specs.declared.outcome.Form.{Form}
 use Rattle.pb_facts.specs.Facts.{FactsOf, no_facts}
-use Rattle.pb_outcome.specs.Items.{task_of, back_in, is_over, result_of}
+use Rattle.pb_outcome.specs.Items.{task_of, is_over, result_of}
 use Rattle.pb_outcome.specs.Results.{judged}
 use Rattle.pb_places.specs.Place.{PlaceOf}
 use Rattle.pb_play.specs.declared.modules.Meta.{Meta}
@@ -25,6 +25,7 @@ use Rattle.pb_play.specs.declared.modules.Module.TheVariants.{Meta as CalledMeta
 use Rattle.pb_plan.specs.Plan.{PlayOf, PlanOf, run_once_of}
 use Rattle.pb_sight.specs.Learning.{taught_by}
 use Rattle.pb_sight.specs.Results.{settled_at, variable_at}
+use Rattle.pb_one_host.specs.Attempts.{back_in}
 use Rattle.pb_one_host.specs.Ends.{kind_of, answer_of, breaks, counted}
 use Rattle.pb_one_host.specs.Handlers.{notified_by}
 use Rattle.pb_one_host.specs.declared.decided.TaskEnd.{TaskEnd}

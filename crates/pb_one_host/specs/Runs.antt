@@ -1,9 +1,11 @@
 -- What a host runs, which job of it goes out next, and what it waits for.
-use Rattle.std.specs.Prelude.{ℕ, ◌==◌, Bool, false, ◌&&◌, Option, None, is_some, is_none}
+use Rattle.std.specs.Prelude.{ℕ, ◌==◌, Bool, false, ◌&&◌, List, Option, None, is_some, is_none}
 use Rattle.std.specs.Option.{option_map_or}
 use Rattle.pb_ids.specs.declared.numbers.Ticket.{Ticket}
+use Rattle.pb_outcome.specs.declared.item.Item.{Item}
 use Rattle.pb_outcome.specs.Items.{next_item}
 use Rattle.pb_one_host.specs.declared.row.Running.{Running}
+use Rattle.pb_one_host.specs.Attempts.{attempt_next}
 use Rattle.pb_one_host.specs.Row.{HostRow, is_active}
 
 -- a host of the batch that is active
@@ -29,24 +31,32 @@ is_out row = option_map_or (λ (r : Running). is_some r.out) row.running false
 abbrev pub has_ticket : Ticket → HostRow → Bool
 has_ticket ticket row = option_map_or (λ (r : Running). is_ticket ticket r.out) row.running false
 
--- the item with this number is the next of a task that runs
-abbrev pub is_next : ℕ → Running → Bool
-is_next item r = option_map_or (λ n. n == item) (next_item r.items) false
+-- the item with this number is the next of a task
+abbrev pub is_item : ℕ → List Item → Bool
+is_item item items = option_map_or (λ n. n == item) (next_item items) false
 
--- a host that runs, with no job of it out, sends the next of its items
-abbrev pub sends_running : ℕ → Running → Bool
-sends_running item r = is_none r.out && is_next item r
+-- this attempt at that item is the next of a task that runs
+abbrev pub is_next : ℕ → ℕ → Running → Bool
+is_next item attempt r = is_item item r.items && (attempt_next r.items == attempt)
 
-abbrev pub may_send_item : ℕ → HostRow → Bool
-may_send_item item row = option_map_or (sends_running item) row.running false
+-- a host that runs, with no job of it out, sends the next attempt at the next of its items
+abbrev pub sends_running : ℕ → ℕ → Running → Bool
+sends_running item attempt r = is_none r.out && is_next item attempt r
 
--- a host whose job for this item is out under this ticket
-abbrev pub awaits_running : Ticket → ℕ → Running → Bool
-awaits_running ticket item r = is_ticket ticket r.out && is_next item r
+abbrev pub may_send_item : ℕ → ℕ → HostRow → Bool
+may_send_item item attempt row = option_map_or (sends_running item attempt) row.running false
 
-abbrev pub awaits : Ticket → ℕ → HostRow → Bool
-awaits ticket item row = option_map_or (awaits_running ticket item) row.running false
+-- a host whose job for this attempt at this item is out under this ticket
+abbrev pub awaits_running : Ticket → ℕ → ℕ → Running → Bool
+awaits_running ticket item attempt r = is_ticket ticket r.out && is_next item attempt r
+
+abbrev pub awaits : Ticket → ℕ → ℕ → HostRow → Bool
+awaits ticket item attempt row = option_map_or (awaits_running ticket item attempt) row.running false
 
 -- the number of the item that a host sends next, or whose job is out
 abbrev pub item_of : HostRow → Option ℕ
 item_of row = option_map_or (λ (r : Running). next_item r.items) row.running None
+
+-- the attempt at it that a host sends next, or whose job is out; it is the first where a host runs nothing
+abbrev pub attempt_of : HostRow → ℕ
+attempt_of row = option_map_or (λ (r : Running). attempt_next r.items) row.running 1

@@ -15,6 +15,8 @@ pub struct Decided {
     pub is_new: bool,
     /// The items of a loop that ended, with their numbers.
     pub items: Items<(u32, ItemResult)>,
+    /// The attempt that came back with a result behind which another attempt at its item comes.
+    pub retried: Option<Retried>,
     /// How the task ended, if it did.
     pub done: Option<Done>,
 }
@@ -25,10 +27,27 @@ impl Drop for Decided {
             place: _,
             is_new: _,
             items,
+            retried,
             done,
         } = self;
         drop(items);
+        drop(retried);
         drop(done);
+    }
+}
+
+/// An attempt at an item behind which another one comes. See Ansible's documentation, "Retrying a task until a condition is met".
+pub struct Retried {
+    /// Its number, from 1.
+    pub attempt: u32,
+    /// What came of it, as it is shown.
+    pub result: Val,
+}
+
+impl Drop for Retried {
+    fn drop(self) {
+        let Retried { attempt: _, result } = self;
+        drop(result);
     }
 }
 

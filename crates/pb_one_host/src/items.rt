@@ -2,10 +2,12 @@
 
 ghost use Rattle.std.specs.Prelude.{◌≡◌, ◌≤◌, ◌||◌, [], length, slice_get, IfOk, OnOk, OnErr, Some, option_map};
 ghost use Rattle.std.specs.Option.{option_copied};
-ghost use Rattle.pb_outcome.specs.Items.{next_item, is_over, back_in};
+ghost use Rattle.pb_outcome.specs.Items.{next_item, is_over};
 ghost use Rattle.pb_outcome.specs.declared.item.Planned.TheVariants.{Decided};
 ghost use Rattle.pb_one_host.specs.Kept.{first_waiting, with_step};
-ghost use Rattle.pb_one_host.specs.Calls.{call_in, delegate_in};
+ghost use Rattle.pb_one_host.specs.Attempts.{attempt_after, attempt_next, back_in, tried_next};
+ghost use Rattle.pb_one_host.specs.Calls.{call_in, delegate_in, tried_of};
+ghost use Rattle.pb_one_host.specs.Runs.{is_item};
 ghost use Rattle.pb_one_host.specs.Row.{came_back};
 ghost use Rattle.pb_one_host.specs.Back.{settled_in, undone_items};
 
@@ -162,6 +164,23 @@ fn delegate_in(items: &[Item], number: u32) -> Option<&Text>
     }
 }
 
+/// How many attempts at the item with this number came back without settling it.
+fn tried_of(items: &[Item], number: u32) -> u8
+    ensures { result ≡ tried_of items.now number }
+{
+    match items.get(number as usize) {
+        Some(item) => item.tried,
+        None => 0,
+    }
+}
+
+/// The attempt that comes behind this many.
+fn attempt_after(tried: u8) -> u32
+    ensures { result ≡ attempt_after tried }
+{
+    if tried < 100 { tried as u32 + 1 } else { 101 }
+}
+
 impl TaskItems {
     /// The items of a task.
     pub fn of(items: Items<Item>) -> TaskItems
@@ -198,6 +217,34 @@ impl TaskItems {
         ensures { result ≡ next_item self.now }
     {
         self.next
+    }
+
+    /// Whether the item with this number is that one.
+    pub(crate) fn is_next(&self, item: u32) -> bool
+        ensures { result ≡ is_item item self.now }
+    {
+        match self.next {
+            Some(number) => number == item,
+            None => false,
+        }
+    }
+
+    /// How many attempts at it came back without settling it.
+    #[tactic(auto, using(crate::proofs::InOrder::tried_there))]
+    fn tried(&self) -> u8
+        ensures { result ≡ tried_next self.now }
+    {
+        match self.next {
+            Some(number) => tried_of(&self.items, number),
+            None => 0,
+        }
+    }
+
+    /// The attempt at it that is sent next, or whose job is out: 1 to 101.
+    pub fn attempt(&self) -> u32
+        ensures { result ≡ attempt_next self.now }
+    {
+        attempt_after(self.tried())
     }
 
     /// Whether the task is over: nothing is left to be sent, or an item found its host out of reach.

@@ -554,6 +554,7 @@ impl Row {
                     place,
                     is_new: false,
                     items,
+                    retried: None,
                     done,
                 }))
             }
@@ -667,7 +668,7 @@ impl Row {
     ghost use Rattle.pb_one_host.specs.Row.{is_called, next_place, pending, is_at};
     ghost use Rattle.pb_one_host.specs.declared.row.Running.{Running as RunningOf};
     ghost use Rattle.pb_one_host.specs.Standing.{has_begun, standing};
-    ghost use Rattle.pb_one_host.specs.Runs.{is_in, is_running, has_send, has_ticket, is_ticket, is_next, may_send_item, awaits, item_of};
+    ghost use Rattle.pb_one_host.specs.Runs.{is_in, is_running, has_send, has_ticket, is_ticket, is_next, may_send_item, awaits, item_of, attempt_of};
 
     /// Whether the host is one of these and active.
     pub fn is_called(&self, hosts: &HostSet) -> bool
@@ -727,28 +728,38 @@ impl Row {
         }
     }
 
-    /// Whether the item with this number is the next of the task that the host runs.
-    fn is_next(&self, item: u32) -> bool
-        ensures { result ≡ option_map_or (is_next item) self.now.running false }
+    /// The attempt at that item that the host sends next, or whose job is out: 1 to 101, and 1 where it runs nothing.
+    pub fn attempt(&self) -> u32
+        ensures { result ≡ attempt_of self.now }
     {
-        match self.item() {
-            Some(number) => number == item,
+        match &self.running {
+            Some(running) => running.items.attempt(),
+            None => 1,
+        }
+    }
+
+    /// Whether this attempt at the item with this number is the next of the task that the host runs.
+    fn is_next(&self, item: u32, attempt: u32) -> bool
+        ensures { result ≡ option_map_or (is_next item attempt) self.now.running false }
+    {
+        match &self.running {
+            Some(running) => running.items.is_next(item) && running.items.attempt() == attempt,
             None => false,
         }
     }
 
-    /// Whether the host has a job of this item to send.
-    pub fn may_send_item(&self, item: u32) -> bool
-        ensures { result ≡ may_send_item item self.now }
+    /// Whether the host has a job of this attempt at the item to send.
+    pub fn may_send_item(&self, item: u32, attempt: u32) -> bool
+        ensures { result ≡ may_send_item item attempt self.now }
     {
-        self.has_send() && self.is_next(item)
+        self.has_send() && self.is_next(item, attempt)
     }
 
-    /// Whether the host waits for what comes of its item's job under a ticket.
-    pub fn awaits(&self, ticket: Ticket, item: u32) -> bool
-        ensures { result ≡ awaits ticket item self.now }
+    /// Whether the host waits for what comes of the job of this attempt at the item under a ticket.
+    pub fn awaits(&self, ticket: Ticket, item: u32, attempt: u32) -> bool
+        ensures { result ≡ awaits ticket item attempt self.now }
     {
-        self.has_ticket(ticket) && self.is_next(item)
+        self.has_ticket(ticket) && self.is_next(item, attempt)
     }
 
     /// The next place of a host of the batch. It walks no tree.

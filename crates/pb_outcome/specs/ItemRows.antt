@@ -2,22 +2,21 @@
 use Rattle.std.specs.Prelude.{◌≡◌, ℕ, pos, true, false, [], ◌∷◌, Some, None, codes, refl}
 use Rattle.pb_value.specs.Datum.{boolean, int, text, list, dict, items_of, members_of}
 use Rattle.pb_outcome.specs.Decided.{debug_result, fail_result, faulty_result}
-use Rattle.pb_outcome.specs.Results.{lost, judged}
-use Rattle.pb_outcome.specs.Items.{next_item, is_over, back_in, numbered, task_of, no_items_result, result_of}
+use Rattle.pb_outcome.specs.Results.{lost}
+use Rattle.pb_outcome.specs.Items.{next_item, is_over, numbered, task_of, no_items_result, result_of}
 use Rattle.pb_outcome.specs.declared.gather.Ending.TheVariants as ending
 use Rattle.pb_outcome.specs.declared.gather.ItemResult.{ItemResult}
 use Rattle.pb_outcome.specs.declared.item.Item.{Item}
 use Rattle.pb_outcome.specs.declared.item.Planned.{Planned}
 use Rattle.pb_outcome.specs.declared.item.Planned.TheVariants.{Decided, Sends}
-use Rattle.pb_outcome.specs.declared.job.Call.TheVariants.{Shell, Setup}
-use Rattle.pb_outcome.specs.declared.outcome.Form.TheVariants.{Module}
+use Rattle.pb_outcome.specs.declared.job.Call.TheVariants.{Shell}
 
 -- an item of a loop, and one of a task without a loop
 abbrev at : ℕ → Planned → Item
-at n step = record { value = Some (int (pos n)); delegate = None; step = step }
+at n step = record { value = Some (int (pos n)); delegate = None; tried = 0; step = step }
 
 abbrev alone : Planned → Item
-alone step = record { value = None; delegate = None; step = step }
+alone step = record { value = None; delegate = None; tried = 0; step = step }
 
 abbrev well : Planned
 well = Decided (debug_result (int (pos 7)))
@@ -46,11 +45,6 @@ unreachable_ends = refl
 
 nothing_is_over : is_over [] ≡ true
 nothing_is_over = refl
-
--- what comes back stands in the place of the first that waits, and the others stay
-comes_back : back_in (λ item call. debug_result (int (pos 9))) (at 0 failed ∷ at 1 sent ∷ at 2 sent ∷ [])
-    ≡ at 0 failed ∷ at 1 (Decided (debug_result (int (pos 9)))) ∷ at 2 sent ∷ []
-comes_back = refl
 
 lines_of_loop : numbered 0 (at 5 well ∷ at 6 sent ∷ at 7 failed ∷ []) ≡ (0, debug_result (int (pos 7))) ∷ (2, fail_result (text (codes "no"))) ∷ []
 lines_of_loop = refl
@@ -109,9 +103,3 @@ all_left_out = refl
 -- where an item found its host out of reach its result stands alone
 lost_alone : result_of (codes "item") (at 5 well ∷ at 6 gone ∷ at 7 sent ∷ []) ≡ (lost (codes "no route")).result
 lost_alone = refl
-
--- facts that come back in the place of their item
-facts_come_back :
-    back_in (λ item call. judged call (Module (dict (members_of ((codes "os", text (codes "Linux")) ∷ []))))) (alone (Sends Setup) ∷ [])
-    ≡ alone (Decided (judged Setup (Module (dict (members_of ((codes "os", text (codes "Linux")) ∷ [])))))) ∷ []
-facts_come_back = refl

@@ -8,7 +8,6 @@ use Rattle.pb_outcome.specs.declared.gather.TaskResult.{TaskResult}
 use Rattle.pb_outcome.specs.declared.item.Item.{Item}
 use Rattle.pb_outcome.specs.declared.item.Planned.{Planned}
 use Rattle.pb_outcome.specs.declared.item.Planned.TheVariants.{Decided, Sends}
-use Rattle.pb_outcome.specs.declared.job.Call.{Call}
 
 abbrev pub is_waiting : Planned → Bool
 is_waiting (Decided result) = false
@@ -33,15 +32,6 @@ ended (item ∷ items) = result_then item.step (ended items)
 -- a task is over once nothing is left to be sent, or an item found its host out of reach
 abbrev pub is_over : List Item → Bool
 is_over items = some_unreachable (ended items) || is_none (next_item items)
-
--- the call of the first item that waits came back with this; the other items stay as they are
-abbrev pub back_at : (Item → Call → ItemResult) → Item → List Item → List Item → Planned → List Item
-back_at judge item rest back (Decided result) = item ∷ back
-back_at judge item rest back (Sends call) = record item { step = Decided (judge item call) } ∷ rest
-
-abbrev pub back_in : (Item → Call → ItemResult) → List Item → List Item
-back_in judge [] = []
-back_in judge (item ∷ items) = back_at judge item items (back_in judge items) item.step
 
 -- the results of the items of a loop, from the one with number n on, with their numbers: each has a line
 abbrev pub numbered_then : ℕ → Option Datum → Planned → List (ℕ × ItemResult) → List (ℕ × ItemResult)

@@ -47,7 +47,7 @@ impl Call {
     }
 }
 
-/// One item of a task on one host.
+/// One attempt at one item of a task on one host.
 #[derive(Drop)]
 pub struct Job {
     pub ticket: Ticket,
@@ -58,6 +58,10 @@ pub struct Job {
     pub place: Place,
     /// The item's number in its loop, from 0; 0 where there is no loop.
     pub item: u32,
+    /// Which attempt at the item it is, from 1. See Ansible's documentation, "Retrying a task until a condition is met".
+    pub attempt: u32,
+    /// How many seconds to wait before it is run; 0 at the first attempt.
+    pub delay: u32,
     /// Where it is run: the host's name, or that of its delegate.
     pub target: Text,
     /// The words that connect to the target, empty where it has none.
@@ -71,6 +75,8 @@ pub struct Report {
     pub ticket: Ticket,
     pub host: HostNo,
     pub item: u32,
+    /// Which attempt at the item it was.
+    pub attempt: u32,
     pub outcome: Outcome,
 }
 

@@ -30,7 +30,7 @@ fn run<R: Processes<Started = SystemProcess> + Threads + Wait + Sync>(
         })?;
     }
     let plan = plan_of(alloc, hosts, TOGETHER, workers)?;
-    if runners.len() == 0 || runners.len() > 256 || plan.forks() as usize > runners.len() {
+    if runners.len() > 256 || plan.forks() as usize > runners.len() {
         return Err("runners")?;
     }
     match run_pool(rt, alloc, plan, &mut runners, Lowest, &[], &mut Silent) {

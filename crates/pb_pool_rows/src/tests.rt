@@ -49,7 +49,7 @@ fn held_with<R: Threads + Wait + Sync, W: LineOut>(
     let begun = AtomicU64::new(0);
     let mut runners = gates(alloc, workers, &begun, together)?;
     let plan = plan_of(alloc, hosts, playbook, workers)?;
-    if runners.len() == 0 || runners.len() > 256 || plan.forks() as usize > runners.len() {
+    if runners.len() > 256 || plan.forks() as usize > runners.len() {
         return Err("runners")?;
     }
     let ended = run_pool(rt, alloc, plan, &mut runners, Lowest, commands, writer);
@@ -94,6 +94,7 @@ fn sends(trail: &[Event], first: u32, last: u32) -> u64 {
         if let Event::Send {
             host,
             item: _,
+            attempt: _,
             ticket: _,
         } = event
         {

@@ -24,7 +24,7 @@ use Rattle.pb_state.specs.State.{State}
 use Rattle.pb_one_host.specs.Decides.{done_at, done_if, report_decides, decided_by}
 use Rattle.pb_all_hosts.specs.Hosts.{change, at_row}
 use Rattle.pb_all_hosts.specs.Giving.{takes, given_to, gifts_at, report_gives}
-use Rattle.pb_state.specs.Machine.{open_play, possible, after, first_state, opened_by, after_open, started_in, facts_at, plan_seen, start_at, start_with, sent_in, reported_in, pending_at, batch_of, turned_in, may_start_in, next_at, may_report_in, same_place}
+use Rattle.pb_state.specs.Machine.{open_play, possible, after, first_state, after_open, started_in, facts_at, plan_seen, start_at, start_with, sent_in, reported_in, pending_at, batch_of, turned_in, may_start_in, next_at, may_report_in, same_place}
 use Rattle.pb_state.specs.Run.{legal_from, state_from, IsRun}
 use Rattle.pb_all_hosts.proofs.Batching.{length-joined}
 use Rattle.pb_all_hosts.proofs.Giving.{length-given}
@@ -212,7 +212,7 @@ step_counts : (plan : PlanOf) (s : State) (e : Event) (k : ℕ) (kind : CountKin
     → row_count kind (after plan s e).rows k ≡ counted k kind (finishes plan s e) + row_count kind s.rows k
 step_counts plan s Open k kind b may = opened_counts kind plan s k ∙ none_more (row_count kind s.rows k)
 step_counts plan s (Start h) k kind b may = started_counts kind plan s h.0 k (open_play plan s) b may
-step_counts plan s (Send h item ticket) k kind b may = sent_counts kind s h.0 k ticket (open_play plan s) b
+step_counts plan s (Send h item attempt ticket) k kind b may = sent_counts kind s h.0 k ticket (open_play plan s) b
 step_counts plan s (Reported r) k kind b may = reported_counts kind plan s r k (open_play plan s) b may
 step_counts plan s Turn k kind b may = turned_counts kind plan.inventory s k (open_play plan s) ∙ none_more (row_count kind s.rows k)
 step_counts plan s Close k kind b may = left_keeps kind s.rows k ∙ none_more (row_count kind s.rows k)
@@ -261,7 +261,7 @@ turned_hosts inventory s (Some play) = length-turned inventory play (batch_of s)
 step_hosts : (plan : PlanOf) (s : State) (e : Event) → length (after plan s e).rows ≡ length s.rows
 step_hosts plan s Open = opened_hosts plan s
 step_hosts plan s (Start h) = started_hosts plan s h.0 (open_play plan s)
-step_hosts plan s (Send h item ticket) = sent_hosts s h.0 ticket (open_play plan s)
+step_hosts plan s (Send h item attempt ticket) = sent_hosts s h.0 ticket (open_play plan s)
 step_hosts plan s (Reported r) = reported_hosts plan s r (open_play plan s)
 step_hosts plan s Turn = turned_hosts plan.inventory s (open_play plan s)
 step_hosts plan s Close = length-map s.rows left

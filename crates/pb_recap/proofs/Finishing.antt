@@ -1,5 +1,5 @@
 -- Which task an event finishes.
-use Rattle.std.proofs.Common.{◌≡◌, ℕ, refl, ap}
+use Rattle.std.proofs.Common.{◌≡◌, ℕ, refl}
 use Rattle.std.specs.Prelude.{Option, Some, None, option_map}
 use Rattle.std.specs.Option.{option_map_or}
 use Rattle.pb_one_host.specs.declared.decided.Decided.{Decided}
@@ -9,7 +9,7 @@ use Rattle.pb_state.specs.declared.event.Event.{Event}
 use Rattle.pb_state.specs.declared.event.Event.TheVariants.{Open, Start, Send, Report as Reported, Turn, Close, Stop, Forks}
 use Rattle.pb_state.specs.State.{State}
 use Rattle.pb_recap.specs.Counting.{host_of, task_done, task_in}
-use Rattle.pb_recap.specs.Recap.{FinishedTask, by_host, ended_by, ended_in, finished_in}
+use Rattle.pb_recap.specs.Recap.{FinishedTask, by_host, ended_by, finished_in}
 
 by_done : (h : ℕ) (done : Option Done) → option_map (by_host h) done ≡ option_map (λ task. record { host = h; task = task }) (option_map (λ (d : Done). d.task) done)
 by_done h None = refl
@@ -26,7 +26,7 @@ finished_by (Some h) task = option_map (λ t. record { host = h; task = t }) tas
 pub finishes_at : (s : State) (e : Event) → finished_in s e ≡ finished_by (host_of e) (task_in s)
 finishes_at s Open = refl
 finishes_at s (Start h) = by_decided h.0 s.decided
-finishes_at s (Send h item ticket) = refl
+finishes_at s (Send h item attempt ticket) = refl
 finishes_at s (Reported r) = by_decided r.host.0 s.decided
 finishes_at s Turn = refl
 finishes_at s Close = refl

@@ -42,7 +42,7 @@ with_finished finished all = option_map_or (with_task_at all) finished all
 abbrev pub host_of : Event → Option ℕ
 host_of Open = None
 host_of (Start h) = Some h.0
-host_of (Send h item ticket) = None
+host_of (Send h item attempt ticket) = None
 host_of (Reported r) = Some r.host.0
 host_of Turn = None
 host_of Close = None

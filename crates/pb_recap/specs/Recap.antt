@@ -34,7 +34,7 @@ ended_in s h = option_map_or (ended_by h) s.decided None
 abbrev pub finished_in : State → Event → Option FinishedTask
 finished_in s Open = None
 finished_in s (Start h) = ended_in s h.0
-finished_in s (Send h item ticket) = None
+finished_in s (Send h item attempt ticket) = None
 finished_in s (Reported r) = ended_in s r.host.0
 finished_in s Turn = None
 finished_in s Close = None

@@ -95,12 +95,12 @@ commanded =
     (true ∷ true ∷ []) ∷ [])
 
 abbrev comes : ℕ → Form → Event
-comes h outcome = Reported (record { ticket = record { 0 = h }; host = record { 0 = h }; item = 0; outcome = outcome })
+comes h outcome = Reported (record { ticket = record { 0 = h }; host = record { 0 = h }; item = 0; attempt = 1; outcome = outcome })
 
 -- the first host's command goes well, and the second's so
 abbrev ends_so : Form → List Event
 ends_so outcome =
-    Open ∷ Start (record { 0 = 0 }) ∷ Send (record { 0 = 0 }) 0 (record { 0 = 0 }) ∷ Start (record { 0 = 1 }) ∷ Send (record { 0 = 1 }) 0 (record { 0 = 1 })
+    Open ∷ Start (record { 0 = 0 }) ∷ Send (record { 0 = 0 }) 0 1 (record { 0 = 0 }) ∷ Start (record { 0 = 1 }) ∷ Send (record { 0 = 1 }) 0 1 (record { 0 = 1 })
     ∷ comes 0 (Ran (pos 0) [] []) ∷ comes 1 outcome ∷ Turn ∷ Start (record { 0 = 0 }) ∷ Turn ∷ Close ∷ []
 
 may_end_so : legal_from commanded (first_state commanded 5 5) (ends_so (Ran (pos 1) [] [])) ≡ true
@@ -117,7 +117,7 @@ unfolding on_tasks
 with_a_loss = refl
 
 -- as long as a job is out its task counts nowhere
-still_out : recap commanded 5 (Open ∷ Start (record { 0 = 0 }) ∷ Send (record { 0 = 0 }) 0 (record { 0 = 0 }) ∷ []) ≡ none_counted ∷ none_counted ∷ []
+still_out : recap commanded 5 (Open ∷ Start (record { 0 = 0 }) ∷ Send (record { 0 = 0 }) 0 1 (record { 0 = 0 }) ∷ []) ≡ none_counted ∷ none_counted ∷ []
 unfolding on_tasks
 still_out = refl
 

@@ -10,7 +10,7 @@ abbrev pub job_run : Job × Form → Job
 job_run run = run.0
 
 abbrev pub report_of : Job × Form → Report
-report_of run = record { ticket = run.0.ticket; host = run.0.host; item = run.0.item; outcome = run.1 }
+report_of run = record { ticket = run.0.ticket; host = run.0.host; item = run.0.item; attempt = run.0.attempt; outcome = run.1 }
 
 -- the runner ran exactly the jobs that the seat took, in their order, and the seat answered each with what came of it
 abbrev pub HasServed : {R : Type 0} → (R → List (Job × Form) → R → Type 0) → R → R → ForkView → ForkView → Type 0

@@ -18,6 +18,7 @@ fn report_of(job: &Job, outcome: Outcome) -> Report
         ticket: job.ticket,
         host: job.host,
         item: job.item,
+        attempt: job.attempt,
         outcome,
     }
 }

@@ -11,7 +11,7 @@ use Rattle.pb_plan.specs.Plan.{PlayOf, PlanOf}
 use Rattle.pb_sight.specs.Results.{nothing, start_of, place_for, items_for, items_at}
 
 few_at : (plan : PlanOf) (play : PlayOf) (h : ℕ) (facts : FactsOf) (found : Option PlaceOf)
-    → length (option_map_or (items_for plan play h facts) found (record { value = None; delegate = None; step = Decided nothing } ∷ [])) ≤ max_items
+    → length (option_map_or (items_for plan play h facts) found (record { value = None; delegate = None; tried = 0; step = Decided nothing } ∷ [])) ≤ max_items
 few_at plan play h facts None = omega arith
 few_at plan play h facts (Some place) = few (start_of plan play h facts place)
 

@@ -53,7 +53,7 @@ pub items_unread : (plan : PlanOf) (play : PlayOf) (h : ℕ) (facts : FactsOf) (
     items_at (with_hosts plan (hosts_magic v)) play h facts p ≡ items_at (with_hosts plan (hosts_magic w)) play h facts p
 unfolding items_at
 items_unread plan play h facts p v w unread =
-    items_found plan play h facts v w (record { value = None; delegate = None; step = DecidedItem nothing } ∷ []) (place_for plan play h p) unread
+    items_found plan play h facts v w (record { value = None; delegate = None; tried = 0; step = DecidedItem nothing } ∷ []) (place_for plan play h p) unread
 
 told_found : (plan : PlanOf) (play : PlayOf) (h : ℕ) (facts : FactsOf) (v w : Datum) (value : Option Datum) (item : ItemResult) (found : Option PlaceOf) → ToldUnread plan play h facts found →
     option_map_or (settled_for (with_hosts plan (hosts_magic v)) play h facts value item) found item ≡ option_map_or (settled_for (with_hosts plan (hosts_magic w)) play h facts value item) found item

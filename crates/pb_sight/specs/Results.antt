@@ -72,7 +72,7 @@ items_for plan play host facts place = items_of (start_of plan play host facts p
 -- the items of the task at a place as it starts on a host that has learnt this
 unfoldable pub items_at : PlanOf → PlayOf → ℕ → FactsOf → ℕ → List Item
 items_at plan play host facts p =
-    option_map_or (items_for plan play host facts) (place_for plan play host p) (record { value = None; delegate = None; step = Decided nothing } ∷ [])
+    option_map_or (items_for plan play host facts) (place_for plan play host p) (record { value = None; delegate = None; tried = 0; step = Decided nothing } ∷ [])
 
 -- the result of an item with this value of the loop variable that came back, as its task says of it in the scope that the host has then
 abbrev pub settled_for : PlanOf → PlayOf → ℕ → FactsOf → Option Datum → ItemResult → PlaceOf → ItemResult

@@ -70,6 +70,7 @@ fn copy_of(alloc: Global, item: &Item) -> Result<Item, AllocError>
     Ok(Item {
         value,
         delegate,
+        tried: item.tried,
         step,
     })
 }

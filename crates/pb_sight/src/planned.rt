@@ -128,13 +128,14 @@ pub(crate) fn place_for<'a>(
 
 /// The one item of a place without a task, which has nothing to run.
 fn no_task(alloc: Global) -> Result<Items<Item>, AllocError>
-    ensures value { IfOk result (λ items. items ≡ record { value = None; delegate = None; step = Decided nothing } ∷ []) }
+    ensures value { IfOk result (λ items. items ≡ record { value = None; delegate = None; tried = 0; step = Decided nothing } ∷ []) }
     ensures few { IfOk result (λ items. length items ≤ max_items) }
 {
     let mut items = Items::new(alloc);
     items.push(Item {
         value: None,
         delegate: None,
+        tried: 0,
         step: Planned::Decided(ItemResult {
             ending: Ending::Skipped,
             result: Val { node: Node::Null },

@@ -20,13 +20,13 @@ and_right : (a b : Bool) → (a && b) ≡ true → b ≡ true
 and_right true b e = e
 and_right false b e = cc
 
-item_sends : (item : ℕ) (running : Option Running) → option_map_or (sends_running item) running false ≡ true → option_map_or (λ (r : Running). is_none r.out) running false ≡ true
-item_sends item None e = e
-item_sends item (Some r) e = and_left (is_none r.out) _ e
+item_sends : (item attempt : ℕ) (running : Option Running) → option_map_or (sends_running item attempt) running false ≡ true → option_map_or (λ (r : Running). is_none r.out) running false ≡ true
+item_sends item attempt None e = e
+item_sends item attempt (Some r) e = and_left (is_none r.out) _ e
 
-pub may_has_send : (s : State) (h item : ℕ) (ticket : Ticket) (play : PlayOf) → may_send_in s h item ticket play ≡ true → at_row has_send s.rows h ≡ true
-may_has_send s h item ticket play e = by_found (slice_get s.rows h) (and_right (not s.stopped && (ticket.0 == s.sends)) (at_row (may_send_item item) s.rows h) e)
+pub may_has_send : (s : State) (h item attempt : ℕ) (ticket : Ticket) (play : PlayOf) → may_send_in s h item attempt ticket play ≡ true → at_row has_send s.rows h ≡ true
+may_has_send s h item attempt ticket play e = by_found (slice_get s.rows h) (and_right (not s.stopped && (ticket.0 == s.sends)) (at_row (may_send_item item attempt) s.rows h) e)
   where
-    by_found : (found : Option HostRow) → option_map_or (may_send_item item) found false ≡ true → option_map_or has_send found false ≡ true
+    by_found : (found : Option HostRow) → option_map_or (may_send_item item attempt) found false ≡ true → option_map_or has_send found false ≡ true
     by_found None f = f
-    by_found (Some row) f = item_sends item row.running f
+    by_found (Some row) f = item_sends item attempt row.running f

@@ -35,7 +35,7 @@ use Rattle.pb_one_host.specs.Handlers.{notified_by}
 use Rattle.pb_state.specs.State.{State}
 use Rattle.pb_one_host.specs.Kept.{first_waiting}
 use Rattle.pb_sight.specs.declared.gifts.Gift.{Gift}
-use Rattle.pb_one_host.specs.Runs.{is_running, is_ticket, sends_running, may_send_item, awaits_running, awaits}
+use Rattle.pb_one_host.specs.Runs.{is_running, is_ticket, is_item, sends_running, may_send_item, awaits_running, awaits}
 use Rattle.pb_all_hosts.specs.Hosts.{change, at_row}
 use Rattle.pb_all_hosts.specs.Giving.{takes, given_to, gifts_at, report_gives}
 use Rattle.pb_state.specs.Machine.{possible, after, open_play, same_place, may_start_in, may_send_in, may_report_in, may_turn_in, may_close_in, opened_by, after_open, play_behind, closed, started_in, next_at, facts_at, plan_seen, start_at, sent_in, reported_in, batch_of, turned_in, first_state}
@@ -155,28 +155,28 @@ start_number n p row e w = by_running row.running (not_false (is_running row) (a
     by_running None none v = from_at (reach row.tree row.answers) (stands p row e) v
     by_running (Some r) none v = cc
 
-send_number : (n p item : ℕ) (row : HostRow) → may_send_item item row ≡ true → running_place row ≡ Some p → RowFrom n row → n ≤ 10002 * p + item + 1
-send_number n p item row e at w = by_running row.running e at w
+send_number : (n p item attempt : ℕ) (row : HostRow) → may_send_item item attempt row ≡ true → running_place row ≡ Some p → RowFrom n row → n ≤ 10002 * p + item + 1
+send_number n p item attempt row e at w = by_running row.running e at w
   where
     by_out : (number : ℕ) (out : Option Ticket) → is_none out ≡ true → n ≤ number + behind out → n ≤ number + 1
     by_out number None none l = l
     by_out number (Some ticket) none l = cc
 
-    by_running : (running : Option Running) → option_map_or (sends_running item) running false ≡ true → option_map (λ (r : Running). r.place) running ≡ Some p → RunsFrom n row running → n ≤ 10002 * p + item + 1
+    by_running : (running : Option Running) → option_map_or (sends_running item attempt) running false ≡ true → option_map (λ (r : Running). r.place) running ≡ Some p → RunsFrom n row running → n ≤ 10002 * p + item + 1
     by_running None s a v = cc
     by_running (Some r) s a v =
         let same : r.place ≡ p = cc in
-        let first = is_next_so item r.items (and_right (is_none r.out) _ s) in
+        let first = is_next_so item r.items (and_left (is_item item r.items) _ (and_right (is_none r.out) _ s)) in
         let most = by_out (10002 * r.place + first_waiting r.items) r.out (and_left (is_none r.out) _ s) v.1 in
         omega (arith, most, same, first.0)
 
-sent_from : (m n item : ℕ) (ticket : Ticket) (row : HostRow) → may_send_item item row ≡ true → ((p : ℕ) → running_place row ≡ Some p → n ≤ 10002 * p + item + 2) → RowFrom m row → RowFrom n (sent ticket row)
-sent_from m n item ticket row e most w = by_running row.running e most w
+sent_from : (m n item attempt : ℕ) (ticket : Ticket) (row : HostRow) → may_send_item item attempt row ≡ true → ((p : ℕ) → running_place row ≡ Some p → n ≤ 10002 * p + item + 2) → RowFrom m row → RowFrom n (sent ticket row)
+sent_from m n item attempt ticket row e most w = by_running row.running e most w
   where
-    by_running : (running : Option Running) → option_map_or (sends_running item) running false ≡ true → ((p : ℕ) → option_map (λ (r : Running). r.place) running ≡ Some p → n ≤ 10002 * p + item + 2) → RunsFrom m row running → RunsFrom n row (option_map (sent_running ticket) running)
+    by_running : (running : Option Running) → option_map_or (sends_running item attempt) running false ≡ true → ((p : ℕ) → option_map (λ (r : Running). r.place) running ≡ Some p → n ≤ 10002 * p + item + 2) → RunsFrom m row running → RunsFrom n row (option_map (sent_running ticket) running)
     by_running None s k v = cc
     by_running (Some r) s k v =
-        let first = is_next_so item r.items (and_right (is_none r.out) _ s) in
+        let first = is_next_so item r.items (and_left (is_item item r.items) _ (and_right (is_none r.out) _ s)) in
         let most : n ≤ 10002 * r.place + item + 2 = k r.place refl in
         (v.0, omega (arith, most, first.0), v.2, v.3)
 
@@ -185,13 +185,13 @@ behind_most None = omega arith
 behind_most (Some ticket) = omega arith
 
 -- the item that comes back is behind the host then
-reported_from : (n : ℕ) (plan : PlanOf) (play : PlayOf) (outcome : Form) (ticket : Ticket) (item : ℕ) (row : HostRow) → awaits ticket item row ≡ true → RowFrom n row → RowFrom n (reported plan play outcome row)
-reported_from n plan play outcome ticket item row e w = by_running row.running e w
+reported_from : (n : ℕ) (plan : PlanOf) (play : PlayOf) (outcome : Form) (ticket : Ticket) (item attempt : ℕ) (row : HostRow) → awaits ticket item attempt row ≡ true → RowFrom n row → RowFrom n (reported plan play outcome row)
+reported_from n plan play outcome ticket item attempt row e w = by_running row.running e w
   where
-    by_running : (running : Option Running) → option_map_or (awaits_running ticket item) running false ≡ true → RunsFrom n row running → RowFrom n (option_map_or (reported_running plan play outcome row) running row)
+    by_running : (running : Option Running) → option_map_or (awaits_running ticket item attempt) running false ≡ true → RunsFrom n row running → RowFrom n (option_map_or (reported_running plan play outcome row) running row)
     by_running None s v = cc
     by_running (Some r) s v =
-        let first = is_next_so item r.items (and_right (is_ticket ticket r.out) _ s) in
+        let first = is_next_so item r.items (and_left (is_item item r.items) _ (and_right (is_ticket ticket r.out) _ s)) in
         let later : first_waiting r.items + 1 ≤ first_waiting (items_after plan play row.host row.facts outcome r) =
         back_later (came_back plan play row.host row.facts r.place outcome) r.items (omega (arith, first.0, first.1)) in
         let same : length (items_after plan play row.host row.facts outcome r) ≡ length r.items = length_back (came_back plan play row.host row.facts r.place outcome) r.items in
@@ -479,13 +479,13 @@ start_moves : (plan : PlanOf) (s : State) (k : ℕ) (found : Option PlayOf) → 
 start_moves plan s k None o e = cc
 start_moves plan s k (Some play) o e = start_at_moves plan s k play (next_at s k) o (start_stands s k play e)
 
-send_moves : (plan : PlanOf) (s : State) (k item : ℕ) (ticket : Ticket) (found : Option PlayOf) → open_play plan s ≡ found → option_map_or (may_send_in s k item ticket) found false ≡ true → Moves s (option_map_or (sent_in s k ticket) found s)
-send_moves plan s k item ticket None o e = cc
-send_moves plan s k item ticket (Some play) o e =
+send_moves : (plan : PlanOf) (s : State) (k item attempt : ℕ) (ticket : Ticket) (found : Option PlayOf) → open_play plan s ≡ found → option_map_or (may_send_in s k item attempt ticket) found false ≡ true → Moves s (option_map_or (sent_in s k ticket) found s)
+send_moves plan s k item attempt ticket None o e = cc
+send_moves plan s k item attempt ticket (Some play) o e =
     stays_in s (sent_in s k ticket play) [] k (sent ticket) refl refl refl refl (λ row. refl) (λ row. refl)
     (λ h n w. change_keeps n (sent ticket) s.rows k h
-    (λ row is v. let at = found_test (may_send_item item) row (slice_get s.rows k) is (and_right (not s.stopped && nat_eq ticket.0 s.sends) _ e) in
-    sent_from n n item ticket row at (λ p here. let least = send_number n p item row at here v in omega (arith, least)) v)
+    (λ row is v. let at = found_test (may_send_item item attempt) row (slice_get s.rows k) is (and_right (not s.stopped && nat_eq ticket.0 s.sends) _ e) in
+    sent_from n n item attempt ticket row at (λ p here. let least = send_number n p item attempt row at here v in omega (arith, least)) v)
     w)
 
 report_moves : (plan : PlanOf) (s : State) (r : Report) (found : Option PlayOf) → open_play plan s ≡ found → option_map_or (may_report_in s r) found false ≡ true → Moves s (option_map_or (reported_in plan s r) found s)
@@ -494,8 +494,8 @@ report_moves plan s r (Some play) o e =
     stays_in s (reported_in plan s r play) (report_gives (plan_seen plan s) play r.outcome r.host.0 s.rows) r.host.0 (reported (plan_seen plan s) play r.outcome) refl refl refl refl
     (reported_inside (plan_seen plan s) play r.outcome) (reported_waits (plan_seen plan s) play r.outcome)
     (λ h n w. change_keeps n (reported (plan_seen plan s) play r.outcome) s.rows r.host.0 h
-    (λ row is v. let at = found_test (awaits r.ticket r.item) row (slice_get s.rows r.host.0) is e in
-    reported_from n (plan_seen plan s) play r.outcome r.ticket r.item row at v)
+    (λ row is v. let at = found_test (awaits r.ticket r.item r.attempt) row (slice_get s.rows r.host.0) is e in
+    reported_from n (plan_seen plan s) play r.outcome r.ticket r.item r.attempt row at v)
     w)
 
 turned_moves : (inventory : InventoryOf) (s : State) (play : PlayOf) → s.is_open ≡ true → list_any is_running s.rows ≡ false → Moves s (turned_in inventory s play)
@@ -541,7 +541,7 @@ may_open_closed stopped false ended more e = refl
 pub moves : (plan : PlanOf) (s : State) (e : Event) → possible plan s e ≡ true → Moves s (after plan s e)
 moves plan s Open p = open_moves plan s (may_open_closed s.stopped s.is_open s.ended _ p)
 moves plan s (Start host) p = start_moves plan s host.0 (open_play plan s) refl p
-moves plan s (Send host item ticket) p = send_moves plan s host.0 item ticket (open_play plan s) refl p
+moves plan s (Send host item attempt ticket) p = send_moves plan s host.0 item attempt ticket (open_play plan s) refl p
 moves plan s (Reported r) p = report_moves plan s r (open_play plan s) refl p
 moves plan s Turn p = turn_moves plan s (open_play plan s) refl p
 moves plan s Close p = close_moves plan s p
@@ -636,87 +636,87 @@ starts_once plan s (e ∷ es) w l =
 
 -- ---- sends
 -- a send is at a place
-found_send : (item : ℕ) (found : Option HostRow) → option_map_or (may_send_item item) found false ≡ true → (p : ℕ) × (option_map_or running_place found None ≡ Some p)
-found_send item None e = cc
-found_send item (Some row) e = by_running row.running e
+found_send : (item attempt : ℕ) (found : Option HostRow) → option_map_or (may_send_item item attempt) found false ≡ true → (p : ℕ) × (option_map_or running_place found None ≡ Some p)
+found_send item attempt None e = cc
+found_send item attempt (Some row) e = by_running row.running e
   where
-    by_running : (running : Option Running) → option_map_or (sends_running item) running false ≡ true → (p : ℕ) × (option_map (λ (r : Running). r.place) running ≡ Some p)
+    by_running : (running : Option Running) → option_map_or (sends_running item attempt) running false ≡ true → (p : ℕ) × (option_map (λ (r : Running). r.place) running ≡ Some p)
     by_running None e = cc
     by_running (Some r) e = (r.place, refl)
 
-send_test : (s : State) (k item : ℕ) (ticket : Ticket) (play : PlayOf) → may_send_in s k item ticket play ≡ true → at_row (may_send_item item) s.rows k ≡ true
-send_test s k item ticket play e = and_right (not s.stopped && nat_eq ticket.0 s.sends) _ e
+send_test : (s : State) (k item attempt : ℕ) (ticket : Ticket) (play : PlayOf) → may_send_in s k item attempt ticket play ≡ true → at_row (may_send_item item attempt) s.rows k ≡ true
+send_test s k item attempt ticket play e = and_right (not s.stopped && nat_eq ticket.0 s.sends) _ e
 
-send_place : (s : State) (k : HostNo) (item : ℕ) (ticket : Ticket) (found : Option PlayOf) → option_map_or (may_send_in s k.0 item ticket) found false ≡ true → (p : ℕ) × (place_run_by s k ≡ Some p)
-send_place s k item ticket None e = cc
-send_place s k item ticket (Some play) e = found_send item (slice_get s.rows k.0) (send_test s k.0 item ticket play e)
+send_place : (s : State) (k : HostNo) (item attempt : ℕ) (ticket : Ticket) (found : Option PlayOf) → option_map_or (may_send_in s k.0 item attempt ticket) found false ≡ true → (p : ℕ) × (place_run_by s k ≡ Some p)
+send_place s k item attempt ticket None e = cc
+send_place s k item attempt ticket (Some play) e = found_send item attempt (slice_get s.rows k.0) (send_test s k.0 item attempt ticket play e)
 
 found_place : (row : HostRow) (p : ℕ) (found : Option HostRow) → found ≡ Some row → option_map_or running_place found None ≡ Some p → running_place row ≡ Some p
 found_place row p None is e = cc
 found_place row p (Some r) is e = let same : r ≡ row = cc in rw (← same) e
 
 -- a host that sends is in the batch
-sends_inside : (n item : ℕ) (row : HostRow) → may_send_item item row ≡ true → RowFrom n row → row.in_batch ≡ true
-sends_inside n item row e w = by_running row.running e w
+sends_inside : (n item attempt : ℕ) (row : HostRow) → may_send_item item attempt row ≡ true → RowFrom n row → row.in_batch ≡ true
+sends_inside n item attempt row e w = by_running row.running e w
   where
-    by_running : (running : Option Running) → option_map_or (sends_running item) running false ≡ true → RunsFrom n row running → row.in_batch ≡ true
+    by_running : (running : Option Running) → option_map_or (sends_running item attempt) running false ≡ true → RunsFrom n row running → row.in_batch ≡ true
     by_running None s v = cc
     by_running (Some r) s v = v.3
 
 -- after a send the host is past it
-send_raises : (plan : PlanOf) (s : State) (k : HostNo) (item p : ℕ) (ticket : Ticket) (found : Option PlayOf) → IsSound s → open_play plan s ≡ found → place_run_by s k ≡ Some p → option_map_or (may_send_in s k.0 item ticket) found false ≡ true → IsPast (option_map_or (sent_in s k.0 ticket) found s) k.0 s.play (10002 * p + item + 2)
-send_raises plan s k item p ticket None w o f e = cc
-send_raises plan s k item p ticket (Some play) w o f e =
+send_raises : (plan : PlanOf) (s : State) (k : HostNo) (item attempt p : ℕ) (ticket : Ticket) (found : Option PlayOf) → IsSound s → open_play plan s ≡ found → place_run_by s k ≡ Some p → option_map_or (may_send_in s k.0 item attempt ticket) found false ≡ true → IsPast (option_map_or (sent_in s k.0 ticket) found s) k.0 s.play (10002 * p + item + 2)
+send_raises plan s k item attempt p ticket None w o f e = cc
+send_raises plan s k item attempt p ticket (Some play) w o f e =
     let opened = is_opened plan s s.is_open play refl o in
     inr (inl (
       refl,
       opened,
       change_raises 0 (10002 * p + item + 2) (sent ticket) s.rows k.0
-          (λ row here u. let at = found_test (may_send_item item) row (slice_get s.rows k.0) here (send_test s k.0 item ticket play e) in
+          (λ row here u. let at = found_test (may_send_item item attempt) row (slice_get s.rows k.0) here (send_test s k.0 item attempt ticket play e) in
           let runs : running_place row ≡ Some p = found_place row p (slice_get s.rows k.0) here f in
-          sent_from 0 (10002 * p + item + 2) item ticket row at (λ q there. let same : q ≡ p = cc in omega (arith, same)) u)
+          sent_from 0 (10002 * p + item + 2) item attempt ticket row at (λ q there. let same : q ≡ p = cc in omega (arith, same)) u)
           (w opened k.0),
-      begun_at 0 (sent ticket) s.rows k.0 (λ row here u. sends_inside 0 item row (found_test (may_send_item item) row (slice_get s.rows k.0) here (send_test s k.0 item ticket play e)) u) (w opened k.0),
+      begun_at 0 (sent ticket) s.rows k.0 (λ row here u. sends_inside 0 item attempt row (found_test (may_send_item item attempt) row (slice_get s.rows k.0) here (send_test s k.0 item attempt ticket play e)) u) (w opened k.0),
     ))
 
 -- a host that is past a send doesn't send there
-send_least_in : (n p item : ℕ) (found : Option HostRow) → option_map_or (may_send_item item) found false ≡ true → option_map_or running_place found None ≡ Some p → FoundFrom n found → n ≤ 10002 * p + item + 1
-send_least_in n p item None e f w = cc
-send_least_in n p item (Some row) e f w = send_number n p item row e f w
+send_least_in : (n p item attempt : ℕ) (found : Option HostRow) → option_map_or (may_send_item item attempt) found false ≡ true → option_map_or running_place found None ≡ Some p → FoundFrom n found → n ≤ 10002 * p + item + 1
+send_least_in n p item attempt None e f w = cc
+send_least_in n p item attempt (Some row) e f w = send_number n p item attempt row e f w
 
-send_least : (s : State) (k : HostNo) (item n p : ℕ) (ticket : Ticket) (found : Option PlayOf) → place_run_by s k ≡ Some p → option_map_or (may_send_in s k.0 item ticket) found false ≡ true → FoundFrom n (slice_get s.rows k.0) → n ≤ 10002 * p + item + 1
-send_least s k item n p ticket None f e w = cc
-send_least s k item n p ticket (Some play) f e w = send_least_in n p item (slice_get s.rows k.0) (send_test s k.0 item ticket play e) f w
+send_least : (s : State) (k : HostNo) (item attempt n p : ℕ) (ticket : Ticket) (found : Option PlayOf) → place_run_by s k ≡ Some p → option_map_or (may_send_in s k.0 item attempt ticket) found false ≡ true → FoundFrom n (slice_get s.rows k.0) → n ≤ 10002 * p + item + 1
+send_least s k item attempt n p ticket None f e w = cc
+send_least s k item attempt n p ticket (Some play) f e w = send_least_in n p item attempt (slice_get s.rows k.0) (send_test s k.0 item attempt ticket play e) f w
 
-send_again : (plan : PlanOf) (s : State) (h play p i item : ℕ) (k : HostNo) (ticket : Ticket) → h ≡ k.0 → play ≡ s.play → place_run_by s k ≡ Some p → i ≡ item → possible plan s (Send k item ticket) ≡ true → IsPast s h play (10002 * p + i + 2) → ⊥
-send_again plan s h play p i item k ticket same now here is e (inl l) = omega (arith, l, now)
-send_again plan s h play p i item k ticket same now here is e (inr (inr w)) = absurd (let opened = open_of plan s (may_send_in s k.0 item ticket) (open_play plan s) refl e in let shut = w.1 in cc)
-send_again plan s h play p i item k ticket same now here is e (inr (inl w)) =
-    let least = send_least s k item (10002 * p + i + 2) p ticket (open_play plan s) here e (subst (λ (j : ℕ). FoundFrom (10002 * p + i + 2) (slice_get s.rows j)) same w.2) in
+send_again : (plan : PlanOf) (s : State) (h play p i item attempt : ℕ) (k : HostNo) (ticket : Ticket) → h ≡ k.0 → play ≡ s.play → place_run_by s k ≡ Some p → i ≡ item → possible plan s (Send k item attempt ticket) ≡ true → IsPast s h play (10002 * p + i + 2) → ⊥
+send_again plan s h play p i item attempt k ticket same now here is e (inl l) = omega (arith, l, now)
+send_again plan s h play p i item attempt k ticket same now here is e (inr (inr w)) = absurd (let opened = open_of plan s (may_send_in s k.0 item attempt ticket) (open_play plan s) refl e in let shut = w.1 in cc)
+send_again plan s h play p i item attempt k ticket same now here is e (inr (inl w)) =
+    let least = send_least s k item attempt (10002 * p + i + 2) p ticket (open_play plan s) here e (subst (λ (j : ℕ). FoundFrom (10002 * p + i + 2) (slice_get s.rows j)) same w.2) in
     omega (arith, least, is)
 
-other_send : (plan : PlanOf) (s : State) (x : SendOf) (p item : ℕ) (k : HostNo) (ticket : Ticket) → x.place ≡ Some p → possible plan s (Send k item ticket) ≡ true → IsPast s x.host.0 x.play (10002 * p + x.item + 2) → x ≢ record { host = k; play = s.play; place = place_run_by s k; item = item }
-other_send plan s x p item k ticket at e w = λ same.
-    send_again plan s x.host.0 x.play p x.item item k ticket (ap (λ (y : SendOf). y.host.0) same) (ap (λ (y : SendOf). y.play) same) (sym (ap (λ (y : SendOf). y.place) same) ∙ at) (ap (λ (y : SendOf). y.item) same) e w
+other_send : (plan : PlanOf) (s : State) (x : SendOf) (p item attempt : ℕ) (k : HostNo) (ticket : Ticket) → x.place ≡ Some p → possible plan s (Send k item attempt ticket) ≡ true → IsPast s x.host.0 x.play (10002 * p + x.item + 2) → x ≢ record { host = k; play = s.play; place = place_run_by s k; item = item }
+other_send plan s x p item attempt k ticket at e w = λ same.
+    send_again plan s x.host.0 x.play p x.item item attempt k ticket (ap (λ (y : SendOf). y.host.0) same) (ap (λ (y : SendOf). y.play) same) (sym (ap (λ (y : SendOf). y.place) same) ∙ at) (ap (λ (y : SendOf). y.item) same) e w
 
 later_sends : (plan : PlanOf) (s : State) (x : SendOf) (p : ℕ) (es : List Event) → x.place ≡ Some p → legal_from plan s es ≡ true → IsPast s x.host.0 x.play (10002 * p + x.item + 2) → IsNotIn x (sends_from plan s es)
 later_sends plan s x p [] at l w = tt
-later_sends plan s x p (Send k item ticket ∷ es) at l w =
-    let now = and_left (possible plan s (Send k item ticket)) _ l in (
-      other_send plan s x p item k ticket at now w,
-      later_sends plan (after plan s (Send k item ticket)) x p es at (and_right (possible plan s (Send k item ticket)) _ l) (past_kept s (after plan s (Send k item ticket)) x.host.0 x.play (10002 * p + x.item + 2) (moves plan s (Send k item ticket) now) w),
+later_sends plan s x p (Send k item attempt ticket ∷ es) at l w =
+    let now = and_left (possible plan s (Send k item attempt ticket)) _ l in (
+      other_send plan s x p item attempt k ticket at now w,
+      later_sends plan (after plan s (Send k item attempt ticket)) x p es at (and_right (possible plan s (Send k item attempt ticket)) _ l) (past_kept s (after plan s (Send k item attempt ticket)) x.host.0 x.play (10002 * p + x.item + 2) (moves plan s (Send k item attempt ticket) now) w),
     )
 later_sends plan s x p (e ∷ es) at l w =
     later_sends plan (after plan s e) x p es at (and_right (possible plan s e) _ l) (past_kept s (after plan s e) x.host.0 x.play (10002 * p + x.item + 2) (moves plan s e (and_left (possible plan s e) _ l)) w)
 
 sends_once : (plan : PlanOf) (s : State) (es : List Event) → IsSound s → legal_from plan s es ≡ true → NoTwice (sends_from plan s es)
 sends_once plan s [] w l = tt
-sends_once plan s (Send k item ticket ∷ es) w l =
-    let now = and_left (possible plan s (Send k item ticket)) _ l in
-    let rest = and_right (possible plan s (Send k item ticket)) _ l in
-    let at = send_place s k item ticket (open_play plan s) now in (
-      later_sends plan (after plan s (Send k item ticket)) (record { host = k; play = s.play; place = place_run_by s k; item = item }) at.0 es at.1 rest (send_raises plan s k item at.0 ticket (open_play plan s) w refl at.1 now),
-      sends_once plan (after plan s (Send k item ticket)) es (sound_kept s (after plan s (Send k item ticket)) (moves plan s (Send k item ticket) now) w) rest,
+sends_once plan s (Send k item attempt ticket ∷ es) w l =
+    let now = and_left (possible plan s (Send k item attempt ticket)) _ l in
+    let rest = and_right (possible plan s (Send k item attempt ticket)) _ l in
+    let at = send_place s k item attempt ticket (open_play plan s) now in (
+      later_sends plan (after plan s (Send k item attempt ticket)) (record { host = k; play = s.play; place = place_run_by s k; item = item }) at.0 es at.1 rest (send_raises plan s k item attempt at.0 ticket (open_play plan s) w refl at.1 now),
+      sends_once plan (after plan s (Send k item attempt ticket)) es (sound_kept s (after plan s (Send k item attempt ticket)) (moves plan s (Send k item attempt ticket) now) w) rest,
     )
 sends_once plan s (e ∷ es) w l =
     sends_once plan (after plan s e) es (sound_kept s (after plan s e) (moves plan s e (and_left (possible plan s e) _ l)) w) (and_right (possible plan s e) _ l)

@@ -6,7 +6,7 @@ use Rattle.std.specs.Option.{option_map_or}
 use Rattle.std.proofs.lemmas.List.{map-append}
 use Rattle.pb_value.specs.Datum.{Datum}
 use Rattle.pb_facts.specs.Facts.{FactsOf}
-use Rattle.pb_outcome.specs.Items.{next_item, back_in}
+use Rattle.pb_outcome.specs.Items.{next_item}
 use Rattle.pb_outcome.specs.declared.gather.ItemResult.{ItemResult}
 use Rattle.pb_outcome.specs.declared.item.Item.{Item}
 use Rattle.pb_outcome.specs.declared.job.Call.{Call}
@@ -19,6 +19,7 @@ use Rattle.pb_variables.specs.Learnt.{facts_in}
 use Rattle.pb_sight.specs.Results.{settled_at}
 use Rattle.pb_one_host.specs.declared.decided.Decided.{Decided}
 use Rattle.pb_one_host.specs.declared.row.Running.{Running}
+use Rattle.pb_one_host.specs.Attempts.{back_in}
 use Rattle.pb_one_host.specs.Back.{SameTold}
 use Rattle.pb_sight.specs.declared.gifts.Gift.{Gift}
 use Rattle.pb_one_host.specs.Decides.{report_decides, decided_by, decided_with, told_in}

@@ -81,7 +81,7 @@ stopped_keeps s = same_sends s (stopped s) refl refl refl
 pub hosts_stay : (plan : PlanOf) (s : State) (e : Event) → length (after plan s e).rows ≡ length s.rows
 hosts_stay plan s Open = (open_keeps plan s).hosts
 hosts_stay plan s (Start h) = (started_keeps plan s h.0 (open_play plan s)).hosts
-hosts_stay plan s (Send h item ticket) = (sent_keeps s h.0 ticket (open_play plan s)).hosts
+hosts_stay plan s (Send h item attempt ticket) = (sent_keeps s h.0 ticket (open_play plan s)).hosts
 hosts_stay plan s (Reported r) = (reported_keeps plan s r (open_play plan s)).hosts
 hosts_stay plan s Turn = (turned_keeps plan.inventory s (open_play plan s)).hosts
 hosts_stay plan s Close = (closed_keeps s).hosts
@@ -102,7 +102,7 @@ forks_given s n e = omega (arith, leb-true 1 n (and_left (nat_le 1 n) _ e))
 pub forks_stay : (plan : PlanOf) (s : State) (e : Event) → possible plan s e ≡ true → 0 < s.forks → 0 < (after plan s e).forks
 forks_stay plan s Open p f = same_forks s.forks _ (open_keeps plan s).forks f
 forks_stay plan s (Start h) p f = same_forks s.forks _ (started_keeps plan s h.0 (open_play plan s)).forks f
-forks_stay plan s (Send h item ticket) p f = same_forks s.forks _ (sent_keeps s h.0 ticket (open_play plan s)).forks f
+forks_stay plan s (Send h item attempt ticket) p f = same_forks s.forks _ (sent_keeps s h.0 ticket (open_play plan s)).forks f
 forks_stay plan s (Reported r) p f = same_forks s.forks _ (reported_keeps plan s r (open_play plan s)).forks f
 forks_stay plan s Turn p f = same_forks s.forks _ (turned_keeps plan.inventory s (open_play plan s)).forks f
 forks_stay plan s Close p f = f
@@ -133,7 +133,7 @@ turned_pool inventory s (Some play) = refl
 pub pool_stays : (plan : PlanOf) (s : State) (e : Event) → (after plan s e).pool ≡ s.pool
 pool_stays plan s Open = open_case (λ (new : State). new.pool ≡ s.pool) plan s (λ none. refl) (λ n batch sizes rows play size is. refl)
 pool_stays plan s (Start h) = started_pool plan s h.0 (open_play plan s)
-pool_stays plan s (Send h item ticket) = sent_pool s h.0 ticket (open_play plan s)
+pool_stays plan s (Send h item attempt ticket) = sent_pool s h.0 ticket (open_play plan s)
 pool_stays plan s (Reported r) = reported_pool plan s r (open_play plan s)
 pool_stays plan s Turn = turned_pool plan.inventory s (open_play plan s)
 pool_stays plan s Close = refl
@@ -151,7 +151,7 @@ pool_run plan pool trail s run = ap (λ (t : State). t.pool) (sym run.ends) ∙ 
 pub sends_rise : (plan : PlanOf) (s : State) (e : Event) → (after plan s e).sends ≤ s.sends + 1
 sends_rise plan s Open = (open_keeps plan s).most
 sends_rise plan s (Start h) = (started_keeps plan s h.0 (open_play plan s)).most
-sends_rise plan s (Send h item ticket) = (sent_keeps s h.0 ticket (open_play plan s)).most
+sends_rise plan s (Send h item attempt ticket) = (sent_keeps s h.0 ticket (open_play plan s)).most
 sends_rise plan s (Reported r) = (reported_keeps plan s r (open_play plan s)).most
 sends_rise plan s Turn = (turned_keeps plan.inventory s (open_play plan s)).most
 sends_rise plan s Close = (closed_keeps s).most
@@ -162,7 +162,7 @@ sends_rise plan s (Forks n) = omega arith
 pub sends_stay : (plan : PlanOf) (s : State) (e : Event) → s.sends ≤ (after plan s e).sends
 sends_stay plan s Open = (open_keeps plan s).least
 sends_stay plan s (Start h) = (started_keeps plan s h.0 (open_play plan s)).least
-sends_stay plan s (Send h item ticket) = (sent_keeps s h.0 ticket (open_play plan s)).least
+sends_stay plan s (Send h item attempt ticket) = (sent_keeps s h.0 ticket (open_play plan s)).least
 sends_stay plan s (Reported r) = (reported_keeps plan s r (open_play plan s)).least
 sends_stay plan s Turn = (turned_keeps plan.inventory s (open_play plan s)).least
 sends_stay plan s Close = (closed_keeps s).least

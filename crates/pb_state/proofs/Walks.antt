@@ -134,7 +134,7 @@ opened_of plan s is =
 pub step_of : (plan : PlanOf) (s : State) (e : Event) → IsOfPlan plan s → IsOfPlan plan (after plan s e)
 step_of plan s Open is = opened_of plan s is
 step_of plan s (Start h) is = goes_on plan s _ (started_goes plan s h.0 (open_play plan s)) is
-step_of plan s (Send h item ticket) is = goes_on plan s _ (sent_goes plan s h.0 ticket (open_play plan s)) is
+step_of plan s (Send h item attempt ticket) is = goes_on plan s _ (sent_goes plan s h.0 ticket (open_play plan s)) is
 step_of plan s (Reported r) is = goes_on plan s _ (reported_goes plan s r (open_play plan s)) is
 step_of plan s Turn is = goes_on plan s _ (turned_goes plan s (open_play plan s)) is
 step_of plan s Close is = λ play o. cc
@@ -243,7 +243,7 @@ opened_numbers plan s all =
 step_numbers : (plan : PlanOf) (s : State) (e : Event) → KeepsNumbers s (after plan s e)
 step_numbers plan s Open = opened_numbers plan s
 step_numbers plan s (Start h) = started_numbers plan s h.0 (open_play plan s)
-step_numbers plan s (Send h item ticket) = sent_numbers s h.0 ticket (open_play plan s)
+step_numbers plan s (Send h item attempt ticket) = sent_numbers s h.0 ticket (open_play plan s)
 step_numbers plan s (Reported r) = reported_numbers plan s r (open_play plan s)
 step_numbers plan s Turn = turned_numbers plan.inventory s (open_play plan s)
 step_numbers plan s Close = λ all. number_map 0 left (λ row. refl) s.rows all

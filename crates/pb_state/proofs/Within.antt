@@ -28,7 +28,7 @@ use Rattle.pb_all_hosts.specs.Batches.{has_later, joins, room_behind, joined_fir
 use Rattle.pb_one_host.specs.Row.{HostRow, no_tree, none_counted, first_rows, place_of, next_place, answered, called, joined, left, finished, finish_at, ended, task_at, taught, came_back, items_after, progressed, sent, sent_running, reported, reported_running}
 use Rattle.pb_one_host.specs.Ends.{counted, counted_result, is_counted, more, IsAtMost, plain_answer}
 use Rattle.pb_sight.specs.declared.gifts.Gift.{Gift}
-use Rattle.pb_one_host.specs.Runs.{is_ticket, sends_running, awaits_running, awaits, may_send_item, is_running}
+use Rattle.pb_one_host.specs.Runs.{is_ticket, is_item, sends_running, awaits_running, awaits, may_send_item, is_running}
 use Rattle.pb_all_hosts.specs.Hosts.{change, at_row}
 use Rattle.pb_all_hosts.specs.Giving.{takes, given_to}
 use Rattle.pb_state.specs.Machine.{play_behind}
@@ -206,10 +206,10 @@ sent_items : (ticket : Ticket) (found : Option Running) → running_items (optio
 sent_items ticket None = refl
 sent_items ticket (Some r) = refl
 
-one_more_out : (item : ℕ) (ticket : Ticket) (found : Option Running) → option_map_or (sends_running item) found false ≡ true → running_jobs found + 1 ≤ running_jobs (option_map (sent_running ticket) found)
-one_more_out item ticket None e = cc
-one_more_out item ticket (Some r) e =
-    let first = is_next_so item r.items (and_right (is_none r.out) _ e) in
+one_more_out : (item attempt : ℕ) (ticket : Ticket) (found : Option Running) → option_map_or (sends_running item attempt) found false ≡ true → running_jobs found + 1 ≤ running_jobs (option_map (sent_running ticket) found)
+one_more_out item attempt ticket None e = cc
+one_more_out item attempt ticket (Some r) e =
+    let first = is_next_so item r.items (and_left (is_item item r.items) _ (and_right (is_none r.out) _ e)) in
     omega (arith, first.0, first.1, none_out r.out (and_left (is_none r.out) _ e))
   where
     none_out : (o : Option Ticket) → is_none o ≡ true → out_jobs o ≡ 0
@@ -220,11 +220,11 @@ sent_placed : (ticket : Ticket) (inside : Bool) (row : HostRow) → IsPlacedIn i
 sent_placed ticket true row w = w
 sent_placed ticket false row w = rw (sent_runs ticket row.running) w
 
-send_keeps : (goes_on : Bool) (play item : ℕ) (ticket : Ticket) → Keeps goes_on play (sent ticket) (may_send_item item) 1
-send_keeps goes_on play item ticket =
+send_keeps : (goes_on : Bool) (play item attempt : ℕ) (ticket : Ticket) → Keeps goes_on play (sent ticket) (may_send_item item attempt) 1
+send_keeps goes_on play item attempt ticket =
     record {
       within = λ row e w. (w.0, rw (sent_runs ticket row.running) w.1, w.2, rw (sent_items ticket row.running) w.3, sent_placed ticket row.in_batch row w.4);
-      jobs = λ row e w. let more = one_more_out item ticket row.running e in omega (arith, more);
+      jobs = λ row e w. let more = one_more_out item attempt ticket row.running e in omega (arith, more);
     }
 
 -- a host whose job is out runs
@@ -237,8 +237,8 @@ run_in : (inside : Bool) (row : HostRow) (r : Running) → row.running ≡ Some 
 run_in true row r f w = refl
 run_in false row r f w = absurd (let none = subst (λ (v : Option Running). length (one_halted row.answers) + run_places v ≡ 0) f w in omega (arith, none))
 
-report_keeps : (goes_on : Bool) (k item : ℕ) (plan : PlanOf) (play : PlayOf) (outcome : Form) (ticket : Ticket) → Keeps goes_on k (reported plan play outcome) (awaits ticket item) 0
-report_keeps goes_on k item plan play outcome ticket =
+report_keeps : (goes_on : Bool) (k item attempt : ℕ) (plan : PlanOf) (play : PlayOf) (outcome : Form) (ticket : Ticket) → Keeps goes_on k (reported plan play outcome) (awaits ticket item attempt) 0
+report_keeps goes_on k item attempt plan play outcome ticket =
     record {
       within = λ row e w. reported_within row row.running refl w;
       jobs = λ row e w. reported_jobs row row.running refl e w;
@@ -258,11 +258,11 @@ report_keeps goes_on k item plan play outcome ticket =
     by_over row r items true same later within most = finished_jobs goes_on k (running_jobs (Some r)) (finish_at play r.place items) (task_at play r.place items) (notified_by play r.place (task_at play r.place items)) (taught plan.inventory play r.place row.host items row.facts) row (omega (arith, most))
     by_over row r items false same later within most = omega (arith, same, later, within, at_most_one r.out)
 
-    reported_jobs : (row : HostRow) (found : Option Running) → row.running ≡ found → option_map_or (awaits_running ticket item) found false ≡ true → IsWithin true goes_on k row
+    reported_jobs : (row : HostRow) (found : Option Running) → row.running ≡ found → option_map_or (awaits_running ticket item attempt) found false ≡ true → IsWithin true goes_on k row
         → most_jobs true goes_on k row + 0 ≤ most_jobs true goes_on k (option_map_or (reported_running plan play outcome row) found row)
     reported_jobs row None f e w = cc
     reported_jobs row (Some r) f e w =
-        let first = is_next_so item r.items (and_right (is_ticket ticket r.out) _ e) in
+        let first = is_next_so item r.items (and_left (is_item item r.items) _ (and_right (is_ticket ticket r.out) _ e)) in
         let most = subst (λ (v : Option Running). running_items v ≤ max_items) f w.3 in
         rw f
         (by_over row r (items_after plan play row.host row.facts outcome r) (is_over (items_after plan play row.host row.facts outcome r))
@@ -328,16 +328,16 @@ start_there h place rows e = at_found rows h e
     at_found (row ∷ rows) zero e = omega arith
     at_found (row ∷ rows) (suc h) e = let rest = at_found rows h e in omega (arith, rest)
 
-pub send_bounded : (batch : ℕ) (later : List ℕ) (play sends h item : ℕ) (is_open may : Bool) (ticket : Ticket) (rows new : List HostRow) → IsBounded is_open batch later play sends rows → is_open ≡ true
-    → (may && at_row (may_send_item item) rows h) ≡ true → new ≡ change rows h (sent ticket) → IsBounded is_open batch later play (sends + 1) new
-send_bounded batch later play sends h item is_open may ticket rows new b o e n =
-    changed_so batch later play sends 1 h is_open (sent ticket) (may_send_item item) rows new (sends + 1) refl o (send_keeps (has_later later) play item ticket) (and_right may _ e) b n
+pub send_bounded : (batch : ℕ) (later : List ℕ) (play sends h item attempt : ℕ) (is_open may : Bool) (ticket : Ticket) (rows new : List HostRow) → IsBounded is_open batch later play sends rows → is_open ≡ true
+    → (may && at_row (may_send_item item attempt) rows h) ≡ true → new ≡ change rows h (sent ticket) → IsBounded is_open batch later play (sends + 1) new
+send_bounded batch later play sends h item attempt is_open may ticket rows new b o e n =
+    changed_so batch later play sends 1 h is_open (sent ticket) (may_send_item item attempt) rows new (sends + 1) refl o (send_keeps (has_later later) play item attempt ticket) (and_right may _ e) b n
 
-pub report_bounded : (batch : ℕ) (later : List ℕ) (k sends h item : ℕ) (is_open : Bool) (plan : PlanOf) (play : PlayOf) (ticket : Ticket) (outcome : Form) (gifts : List Gift) (rows new : List HostRow) → IsBounded is_open batch later k sends rows
-    → is_open ≡ true → at_row (awaits ticket item) rows h ≡ true → new ≡ given_to gifts (change rows h (reported plan play outcome)) → IsBounded is_open batch later k sends new
-report_bounded batch later k sends h item is_open plan play ticket outcome gifts rows new b o e n =
+pub report_bounded : (batch : ℕ) (later : List ℕ) (k sends h item attempt : ℕ) (is_open : Bool) (plan : PlanOf) (play : PlayOf) (ticket : Ticket) (outcome : Form) (gifts : List Gift) (rows new : List HostRow) → IsBounded is_open batch later k sends rows
+    → is_open ≡ true → at_row (awaits ticket item attempt) rows h ≡ true → new ≡ given_to gifts (change rows h (reported plan play outcome)) → IsBounded is_open batch later k sends new
+report_bounded batch later k sends h item attempt is_open plan play ticket outcome gifts rows new b o e n =
     given_so batch later k sends is_open gifts (change rows h (reported plan play outcome)) new o
-    (changed_so batch later k sends 0 h is_open (reported plan play outcome) (awaits ticket item) rows (change rows h (reported plan play outcome)) sends (omega arith) o (report_keeps (has_later later) k item plan play outcome ticket) e b refl) n
+    (changed_so batch later k sends 0 h is_open (reported plan play outcome) (awaits ticket item attempt) rows (change rows h (reported plan play outcome)) sends (omega arith) o (report_keeps (has_later later) k item attempt plan play outcome ticket) e b refl) n
 
 -- ---- a turn
 -- an answer more is one more that counts at most

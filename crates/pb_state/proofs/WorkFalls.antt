@@ -33,7 +33,7 @@ use Rattle.pb_all_hosts.specs.Batches.{has_later, called_count, joins, room_behi
 use Rattle.pb_one_host.specs.Row.{HostRow, no_tree, next_place, called, joined, left, answered, finished, finish_at, ended, task_at, taught, came_back, items_after, progressed, sent, sent_running, reported, reported_running, is_at}
 use Rattle.pb_state.specs.State.{State}
 use Rattle.pb_sight.specs.declared.gifts.Gift.{Gift}
-use Rattle.pb_one_host.specs.Runs.{is_running, is_ticket, sends_running, may_send_item, awaits_running, awaits}
+use Rattle.pb_one_host.specs.Runs.{is_running, is_ticket, is_item, sends_running, may_send_item, awaits_running, awaits}
 use Rattle.pb_all_hosts.specs.Giving.{takes, given_to, gifts_at, report_gives}
 use Rattle.pb_all_hosts.specs.Hosts.{change, at_row, least_place}
 use Rattle.pb_state.specs.Machine.{possible, after, open_play, same_place, may_open, is_left, may_start_in, may_turn_in, may_close_in, opened_by, after_open, started_in, next_at, facts_at, plan_seen, start_at, batch_of, turned_in, play_behind, closed, may_send_in, may_report_in, sent_in, reported_in}
@@ -108,14 +108,14 @@ none_out : (out : Option Ticket) → is_none out ≡ true → out_work out ≡ 0
 none_out None e = refl
 none_out (Some ticket) e = cc
 
-sending : (item : ℕ) (ticket : Ticket) (row : HostRow) (running : Option Running) → option_map_or (sends_running item) running false ≡ true → running_work (sent ticket row) (option_map (sent_running ticket) running) < running_work row running
-sending item ticket row None e = cc
-sending item ticket row (Some r) e =
-    let first = is_next_so item r.items (and_right (is_none r.out) _ e) in
+sending : (item attempt : ℕ) (ticket : Ticket) (row : HostRow) (running : Option Running) → option_map_or (sends_running item attempt) running false ≡ true → running_work (sent ticket row) (option_map (sent_running ticket) running) < running_work row running
+sending item attempt ticket row None e = cc
+sending item attempt ticket row (Some r) e =
+    let first = is_next_so item r.items (and_left (is_item item r.items) _ (and_right (is_none r.out) _ e)) in
     omega (arith, none_out r.out (and_left (is_none r.out) _ e), first.0, first.1)
 
-send_less : (item : ℕ) (ticket : Ticket) (row : HostRow) → may_send_item item row ≡ true → row_work (sent ticket row) < row_work row
-send_less item ticket row e = sending item ticket row row.running e
+send_less : (item attempt : ℕ) (ticket : Ticket) (row : HostRow) → may_send_item item attempt row ≡ true → row_work (sent ticket row) < row_work row
+send_less item attempt ticket row e = sending item attempt ticket row row.running e
 
 -- a report
 out_one : (ticket : Ticket) (out : Option Ticket) → is_ticket ticket out ≡ true → out_work out ≡ 1
@@ -125,10 +125,10 @@ out_one ticket (Some t) e = refl
 report_falls : (new old left n m out : ℕ) → new ≤ 2 * m + most_events * (left - 1) → old ≡ 2 * n - out + most_events * (left - 1) → out ≡ 1 → m < n → new < old
 report_falls new old left n m out a b c d = omega (arith, a, b, c, d)
 
-reporting : (plan : PlanOf) (play : PlayOf) (outcome : Form) (ticket : Ticket) (item : ℕ) (row : HostRow) (running : Option Running) → option_map_or (awaits_running ticket item) running false ≡ true → row_work (option_map_or (reported_running plan play outcome row) running row) < running_work row running
-reporting plan play outcome ticket item row None e = cc
-reporting plan play outcome ticket item row (Some r) e =
-    let first = is_next_so item r.items (and_right (is_ticket ticket r.out) _ e) in
+reporting : (plan : PlanOf) (play : PlayOf) (outcome : Form) (ticket : Ticket) (item attempt : ℕ) (row : HostRow) (running : Option Running) → option_map_or (awaits_running ticket item attempt) running false ≡ true → row_work (option_map_or (reported_running plan play outcome row) running row) < running_work row running
+reporting plan play outcome ticket item attempt row None e = cc
+reporting plan play outcome ticket item attempt row (Some r) e =
+    let first = is_next_so item r.items (and_left (is_item item r.items) _ (and_right (is_ticket ticket r.out) _ e)) in
     let same : length (items_after plan play row.host row.facts outcome r) ≡ length r.items = length_back (came_back plan play row.host row.facts r.place outcome) r.items in
     let later : first_waiting r.items + 1 ≤ first_waiting (items_after plan play row.host row.facts outcome r) =
     back_later (came_back plan play row.host row.facts r.place outcome) r.items (omega (arith, first.0, first.1)) in
@@ -137,8 +137,8 @@ reporting plan play outcome ticket item row (Some r) e =
     (progressed_less plan.inventory play r.place (items_after plan play row.host row.facts outcome r) row) refl
     (out_one ticket r.out (and_left (is_ticket ticket r.out) _ e)) (omega (arith, same, later, first.0, first.1))
 
-report_less : (plan : PlanOf) (play : PlayOf) (outcome : Form) (ticket : Ticket) (item : ℕ) (row : HostRow) → awaits ticket item row ≡ true → row_work (reported plan play outcome row) < row_work row
-report_less plan play outcome ticket item row e = reporting plan play outcome ticket item row row.running e
+report_less : (plan : PlanOf) (play : PlayOf) (outcome : Form) (ticket : Ticket) (item attempt : ℕ) (row : HostRow) → awaits ticket item attempt row ≡ true → row_work (reported plan play outcome row) < row_work row
+report_less plan play outcome ticket item attempt row e = reporting plan play outcome ticket item attempt row row.running e
 
 abbrev one_if : Bool → ℕ
 one_if b = if b then 1 else 0
@@ -218,15 +218,15 @@ start_in_less : (plan : PlanOf) (s : State) (h : ℕ) (found : Option PlayOf) �
 start_in_less plan s h None o e = cc
 start_in_less plan s h (Some play) o e = start_at_less plan s h play (next_at s h) o (start_stands s h play e)
 
-send_in_less : (plan : PlanOf) (s : State) (h item : ℕ) (ticket : Ticket) (found : Option PlayOf) → open_play plan s ≡ found → option_map_or (may_send_in s h item ticket) found false ≡ true → work plan (option_map_or (sent_in s h ticket) found s) < work plan s
-send_in_less plan s h item ticket None o e = cc
-send_in_less plan s h item ticket (Some play) o e =
-    row_event plan s play [] h (s.sends + 1) s.begun None (sent ticket) (may_send_item item) o (λ row may. send_less item ticket row may) (and_right (not s.stopped && (ticket.0 == s.sends)) _ e)
+send_in_less : (plan : PlanOf) (s : State) (h item attempt : ℕ) (ticket : Ticket) (found : Option PlayOf) → open_play plan s ≡ found → option_map_or (may_send_in s h item attempt ticket) found false ≡ true → work plan (option_map_or (sent_in s h ticket) found s) < work plan s
+send_in_less plan s h item attempt ticket None o e = cc
+send_in_less plan s h item attempt ticket (Some play) o e =
+    row_event plan s play [] h (s.sends + 1) s.begun None (sent ticket) (may_send_item item attempt) o (λ row may. send_less item attempt ticket row may) (and_right (not s.stopped && (ticket.0 == s.sends)) _ e)
 
 report_in_less : (plan : PlanOf) (s : State) (r : Report) (found : Option PlayOf) → open_play plan s ≡ found → option_map_or (may_report_in s r) found false ≡ true → work plan (option_map_or (reported_in plan s r) found s) < work plan s
 report_in_less plan s r None o e = cc
 report_in_less plan s r (Some play) o e =
-    row_event plan s play (report_gives (plan_seen plan s) play r.outcome r.host.0 s.rows) r.host.0 s.sends s.begun (reported_in plan s r play).decided (reported (plan_seen plan s) play r.outcome) (awaits r.ticket r.item) o (λ row may. report_less (plan_seen plan s) play r.outcome r.ticket r.item row may) e
+    row_event plan s play (report_gives (plan_seen plan s) play r.outcome r.host.0 s.rows) r.host.0 s.sends s.begun (reported_in plan s r play).decided (reported (plan_seen plan s) play r.outcome) (awaits r.ticket r.item r.attempt) o (λ row may. report_less (plan_seen plan s) play r.outcome r.ticket r.item r.attempt row may) e
 
 -- a turn
 is_place_some : (p q : Option ℕ) (r : ℕ) → p ≡ Some r → is_place p q ≡ true → q ≡ Some r
@@ -520,7 +520,7 @@ open_less plan s e =
 falls : (plan : PlanOf) (s : State) (e : Event) → 0 < s.forks → is_command e ≡ false → possible plan s e ≡ true → work plan (after plan s e) < work plan s
 falls plan s Open f m p = open_less plan s p
 falls plan s (Start h) f m p = start_in_less plan s h.0 (open_play plan s) refl p
-falls plan s (Send h item ticket) f m p = send_in_less plan s h.0 item ticket (open_play plan s) refl p
+falls plan s (Send h item attempt ticket) f m p = send_in_less plan s h.0 item attempt ticket (open_play plan s) refl p
 falls plan s (Reported r) f m p = report_in_less plan s r (open_play plan s) refl p
 falls plan s Turn f m p = turn_in_less plan s (open_play plan s) f refl p
 falls plan s Close f m p = close_in_less plan s (open_play plan s) refl p

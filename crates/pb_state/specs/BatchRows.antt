@@ -23,11 +23,11 @@ abbrev pub start : ℕ → Event
 start h = Start (record { 0 = h })
 
 abbrev pub send : ℕ → ℕ → Event
-send h ticket = Send (record { 0 = h }) 0 (record { 0 = ticket })
+send h ticket = Send (record { 0 = h }) 0 1 (record { 0 = ticket })
 
 -- a command's program ended with status 0
 abbrev pub went : ℕ → ℕ → Event
-went h ticket = Reported (record { ticket = record { 0 = ticket }; host = record { 0 = h }; item = 0; outcome = Ran (pos 0) [] [] })
+went h ticket = Reported (record { ticket = record { 0 = ticket }; host = record { 0 = h }; item = 0; attempt = 1; outcome = Ran (pos 0) [] [] })
 
 -- plays of three hosts, of which so many may run at once
 abbrev pub threes : ℕ → List PlayOf → PlanOf

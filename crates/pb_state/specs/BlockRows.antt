@@ -54,7 +54,7 @@ abbrev pub start : Event
 start = Start (record { 0 = 0 })
 
 abbrev pub comes : Form → Event
-comes outcome = Reported (record { ticket = record { 0 = 0 }; host = record { 0 = 0 }; item = 0; outcome = outcome })
+comes outcome = Reported (record { ticket = record { 0 = 0 }; host = record { 0 = 0 }; item = 0; attempt = 1; outcome = outcome })
 
 abbrev pub after_of : PlanOf → List Event → State
 after_of plan events = state_from plan (first_state plan 5 5) events
@@ -72,7 +72,7 @@ rescued_by rescue = alone (a_play (Block (Task (Task Nothing)) (Task Nothing) (T
 
 -- the command comes to this
 abbrev pub body_ends : Form → List Event
-body_ends outcome = Open ∷ start ∷ Turn ∷ start ∷ Send (record { 0 = 0 }) 0 (record { 0 = 0 }) ∷ comes outcome ∷ []
+body_ends outcome = Open ∷ start ∷ Turn ∷ start ∷ Send (record { 0 = 0 }) 0 1 (record { 0 = 0 }) ∷ comes outcome ∷ []
 
 -- and then comes the rest
 abbrev pub body_comes : Form → List Event → List Event

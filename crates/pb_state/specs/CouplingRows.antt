@@ -29,7 +29,7 @@ use Rattle.pb_one_host.specs.Row.{HostRow, none_counted}
 
 -- a job comes to this
 abbrev comes : ℕ → ℕ → Form → Event
-comes h ticket outcome = Reported (record { ticket = record { 0 = ticket }; host = record { 0 = h }; item = 0; outcome = outcome })
+comes h ticket outcome = Reported (record { ticket = record { 0 = ticket }; host = record { 0 = h }; item = 0; attempt = 1; outcome = outcome })
 
 abbrev badly : Form
 badly = Ran (pos 1) [] []

@@ -48,6 +48,8 @@ job target connector =
       play = record { 0 = 0 };
       place = 1 ∷ [];
       item = 0;
+      attempt = 1;
+      delay = 0;
       target = target;
       connector = connector;
       call = call.Shell (codes "run");

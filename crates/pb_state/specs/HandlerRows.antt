@@ -32,8 +32,8 @@ notifies handlers = record runs { notifies = handlers }
 
 abbrev pub command_to : ℕ → Form → List Event
 command_to ticket outcome =
-    start ∷ Send (record { 0 = 0 }) 0 (record { 0 = ticket })
-    ∷ Reported (record { ticket = record { 0 = ticket }; host = record { 0 = 0 }; item = 0; outcome = outcome }) ∷ []
+    start ∷ Send (record { 0 = 0 }) 0 1 (record { 0 = ticket })
+    ∷ Reported (record { ticket = record { 0 = ticket }; host = record { 0 = 0 }; item = 0; attempt = 1; outcome = outcome }) ∷ []
 
 abbrev pub command : ℕ → List Event
 command ticket = command_to ticket (Ran (pos 0) [] [])

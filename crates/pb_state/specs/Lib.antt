@@ -14,3 +14,4 @@ pub mod HandlerRows
 pub mod BatchRows
 pub mod DelegationRows
 pub mod CouplingRows
+pub mod AttemptRows

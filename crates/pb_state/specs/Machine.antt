@@ -25,7 +25,7 @@ use Rattle.pb_one_host.specs.Row.{HostRow, first_rows, next_place, sent, reporte
 use Rattle.pb_state.specs.State.{State}
 use Rattle.pb_state.specs.Strategies.{view_of}
 use Rattle.pb_all_hosts.specs.Turn.{BatchOf, turned_by}
-use Rattle.pb_one_host.specs.Runs.{is_in, is_running, has_send, may_send_item, awaits, item_of}
+use Rattle.pb_one_host.specs.Runs.{is_in, is_running, has_send, may_send_item, awaits, item_of, attempt_of}
 use Rattle.pb_one_host.specs.Decides.{decided_with, report_decides}
 use Rattle.pb_all_hosts.specs.Hosts.{at_row, least_place, first_play, change, pending_in}
 use Rattle.pb_all_hosts.specs.Giving.{given_to, gifts_at, report_gives}
@@ -42,6 +42,9 @@ same_place None q = false
 abbrev pub item_at : State → ℕ → Option ℕ
 item_at s h = option_map_or item_of (slice_get s.rows h) None
 
+abbrev pub attempt_at : State → ℕ → ℕ
+attempt_at s h = option_map_or attempt_of (slice_get s.rows h) 1
+
 -- the play that begins next: those without hosts are passed over
 -- (Ansible's documentation, "Patterns: targeting hosts and groups")
 abbrev pub next_play : PlanOf → State → Option ℕ
@@ -57,11 +60,11 @@ may_open plan s = not s.stopped && not s.is_open && not s.ended && is_left plan 
 abbrev pub may_start_in : State → ℕ → PlayOf → Bool
 may_start_in s h play = may_start (view_of s play) h
 
-abbrev pub may_send_in : State → ℕ → ℕ → Ticket → PlayOf → Bool
-may_send_in s h item ticket play = not s.stopped && (ticket.0 == s.sends) && at_row (may_send_item item) s.rows h
+abbrev pub may_send_in : State → ℕ → ℕ → ℕ → Ticket → PlayOf → Bool
+may_send_in s h item attempt ticket play = not s.stopped && (ticket.0 == s.sends) && at_row (may_send_item item attempt) s.rows h
 
 abbrev pub may_report_in : State → Report → PlayOf → Bool
-may_report_in s r play = at_row (awaits r.ticket r.item) s.rows r.host.0
+may_report_in s r play = at_row (awaits r.ticket r.item r.attempt) s.rows r.host.0
 
 abbrev pub may_turn_in : State → PlayOf → Bool
 may_turn_in s play = turn_ready (view_of s play)
@@ -73,7 +76,7 @@ may_close_in s play = not s.stopped && is_none s.place && not (list_any is_runni
 abbrev pub possible : PlanOf → State → Event → Bool
 possible plan s Open = may_open plan s
 possible plan s (Start h) = option_map_or (may_start_in s h.0) (open_play plan s) false
-possible plan s (Send h item ticket) = option_map_or (may_send_in s h.0 item ticket) (open_play plan s) false
+possible plan s (Send h item attempt ticket) = option_map_or (may_send_in s h.0 item attempt ticket) (open_play plan s) false
 possible plan s (Reported r) = option_map_or (may_report_in s r) (open_play plan s) false
 possible plan s Turn = option_map_or (may_turn_in s) (open_play plan s) false
 possible plan s Close = option_map_or (may_close_in s) (open_play plan s) false
@@ -219,7 +222,7 @@ with_forks s n = record s { forks = n; decided = None }
 abbrev pub after : PlanOf → State → Event → State
 after plan s Open = after_open plan s
 after plan s (Start h) = option_map_or (started_in plan s h.0) (open_play plan s) s
-after plan s (Send h item ticket) = option_map_or (sent_in s h.0 ticket) (open_play plan s) s
+after plan s (Send h item attempt ticket) = option_map_or (sent_in s h.0 ticket) (open_play plan s) s
 after plan s (Reported r) = option_map_or (reported_in plan s r) (open_play plan s) s
 after plan s Turn = option_map_or (turned_in plan.inventory s) (open_play plan s) s
 after plan s Close = closed s

@@ -39,7 +39,7 @@ starts_of s other = []
 
 -- what an event sends: at the place of the task that the host runs
 abbrev pub sends_of : State → Event → List SendOf
-sends_of s (Send host item ticket) = record { host = host; play = s.play; place = place_run_by s host; item = item } ∷ []
+sends_of s (Send host item attempt ticket) = record { host = host; play = s.play; place = place_run_by s host; item = item } ∷ []
 sends_of s other = []
 
 -- what the events start, and what they send, one after another

@@ -26,7 +26,7 @@ state_from plan s (e ∷ es) = state_from plan (after plan s e) es
 abbrev pub is_move : Event → Bool
 is_move Open = true
 is_move (Start h) = true
-is_move (Send h item ticket) = true
+is_move (Send h item attempt ticket) = true
 is_move (Reported r) = false
 is_move Turn = true
 is_move Close = true
@@ -37,7 +37,7 @@ is_move (Forks n) = false
 abbrev pub is_command : Event → Bool
 is_command Open = false
 is_command (Start h) = false
-is_command (Send h item ticket) = false
+is_command (Send h item attempt ticket) = false
 is_command (Reported r) = false
 is_command Turn = false
 is_command Close = false
@@ -48,7 +48,7 @@ is_command (Forks n) = true
 abbrev pub is_report : Event → Bool
 is_report Open = false
 is_report (Start h) = false
-is_report (Send h item ticket) = false
+is_report (Send h item attempt ticket) = false
 is_report (Reported r) = true
 is_report Turn = false
 is_report Close = false

@@ -10,11 +10,13 @@ pub enum Event {
     Open,
     /// A host starts the task at its next place.
     Start(HostNo),
-    /// A job of the task that a host runs goes out.
+    /// A job of the task that a host runs goes out: an attempt at one of its items.
     Send {
         host: HostNo,
         /// The item's number in the task's loop, from 0; 0 where there is no loop.
         item: u32,
+        /// Which attempt at the item it is, from 1.
+        attempt: u32,
         /// How many jobs were sent before.
         ticket: Ticket,
     },

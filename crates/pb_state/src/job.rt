@@ -2,15 +2,34 @@
 
 ghost use Rattle.std.specs.Prelude.{◌≡◌, ◌<◌, IfOk, slice_get, unwrap_or, length};
 ghost use Rattle.std.specs.Option.{option_copied, option_map_or};
-ghost use Rattle.pb_state.specs.Jobs.{connector_named, connector_for, row_job, job_with};
+ghost use Rattle.pb_state.specs.Jobs.{connector_named, connector_for, delay_at, row_job, job_with};
 
 use pb_ids::{HostNo, Place, PlayNo, Ticket};
 use pb_one_host::Row;
 use pb_outcome::job::{Call, Job};
 use pb_plan::{Plan, PlanPlay};
+use pb_play::retrying::delay_before;
 use pb_value::items::Items;
 use pb_value::text::Text;
 use std::alloc::{AllocError, Global};
+
+/// Which attempt at which item a job is, and how many seconds lie before it.
+#[derive(Clone, Copy)]
+pub(crate) struct Attempt {
+    item: u32,
+    attempt: u32,
+    delay: u32,
+}
+
+/// How many seconds lie before this attempt at an item of the task at a place.
+fn delay_at(play: &PlanPlay, place: usize, attempt: u32) -> u32
+    ensures { result ≡ delay_at play.now place attempt }
+{
+    match play.place(place) {
+        Some(place) => delay_before(&place.task().retrying, attempt),
+        None => 0,
+    }
+}
 
 /// The words that connect to a host of this name: a name that is no host's has none.
 fn connector_named(alloc: Global, plan: &Plan, name: &Text) -> Result<Items<Text>, AllocError>
@@ -80,6 +99,13 @@ pub(crate) fn job_in(
     let delegate = running.items.delegate(item);
     let target = target_of(alloc, delegate, name)?;
     let connector = connector_for(alloc, plan, host, delegate)?;
+    let attempt = running.items.attempt();
+    let delay = delay_at(play, running.place, attempt);
+    let item = Attempt {
+        item,
+        attempt,
+        delay,
+    };
     let job = job_with(
         alloc, number, host, ticket, item, call, name, target, connector, place,
     )?;
@@ -92,14 +118,14 @@ fn job_with(
     number: PlayNo,
     host: HostNo,
     ticket: Ticket,
-    item: u32,
+    item: Attempt,
     call: &Call,
     name: &str,
     target: Text,
     connector: Items<Text>,
     place: &Place,
 ) -> Result<Job, AllocError>
-    ensures { IfOk result (λ job. job ≡ job_with number.0 host ticket item call.now name.now target connector place.now) }
+    ensures { IfOk result (λ job. job ≡ job_with number.0 host ticket (record { item = item.item; attempt = item.attempt; delay = item.delay }) call.now name.now target connector place.now) }
 {
     Ok(Job {
         ticket,
@@ -107,7 +133,9 @@ fn job_with(
         name: Text::from_str(alloc, name)?,
         play: number,
         place: place.try_clone()?,
-        item,
+        item: item.item,
+        attempt: item.attempt,
+        delay: item.delay,
         target,
         connector,
         call: call.try_clone(alloc)?,

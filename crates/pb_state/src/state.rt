@@ -20,9 +20,9 @@ use crate::hosts::{hosts_at_report, hosts_at_start};
 use crate::job::job_in;
 use crate::later::{Later, first_of};
 use pb_all_hosts::{
-    DueRows, begin_first, called_count, counts_of, first_play, is_settled, item_in, join_first,
-    least_place, leave_all, none_into, report_row, send_row, some_in, stand_at, start_row,
-    turn_rows,
+    DueRows, attempt_in, begin_first, called_count, counts_of, first_play, is_settled, item_in,
+    join_first, least_place, leave_all, none_into, report_row, send_row, some_in, stand_at,
+    start_row, turn_rows,
 };
 use pb_batches::batches;
 use pb_facts::facts::Facts;
@@ -211,32 +211,41 @@ impl EngineState {
         }
     }
 
-    /// Whether a host has a job of this item to send.
-    fn may_send_item(&self, host: HostNo, item: u32) -> bool
-        ensures { result ≡ at_row (may_send_item item) self.now.rows host.0 }
+    /// Whether a host has a job of this attempt at the item to send.
+    fn may_send_item(&self, host: HostNo, item: u32, attempt: u32) -> bool
+        ensures { result ≡ at_row (may_send_item item attempt) self.now.rows host.0 }
     {
         match self.rows.as_slice().get(host.0 as usize) {
-            Some(row) => row.may_send_item(item),
+            Some(row) => row.may_send_item(item, attempt),
             None => false,
         }
     }
 
     /// Whether a host's job can go out under a ticket.
-    pub fn may_send(&self, plan: &Plan, host: HostNo, item: u32, ticket: Ticket) -> bool
-        ensures { result ≡ option_map_or (may_send_in self.now host.0 item ticket) (open_play plan.now self.now) false }
+    pub fn may_send(
+        &self,
+        plan: &Plan,
+        host: HostNo,
+        item: u32,
+        attempt: u32,
+        ticket: Ticket,
+    ) -> bool
+        ensures { result ≡ option_map_or (may_send_in self.now host.0 item attempt ticket) (open_play plan.now self.now) false }
     {
         match self.open_play(plan) {
-            Some(_) => !self.stopped && ticket.0 == self.sends && self.may_send_item(host, item),
+            Some(_) => {
+                !self.stopped && ticket.0 == self.sends && self.may_send_item(host, item, attempt)
+            }
             None => false,
         }
     }
 
-    /// Whether a host waits for what comes of its item's job under a ticket.
-    pub fn awaits(&self, host: HostNo, item: u32, ticket: Ticket) -> bool
-        ensures { result ≡ at_row (awaits ticket item) self.now.rows host.0 }
+    /// Whether a host waits for what comes of the job of this attempt at its item under a ticket.
+    pub fn awaits(&self, host: HostNo, item: u32, attempt: u32, ticket: Ticket) -> bool
+        ensures { result ≡ at_row (awaits ticket item attempt) self.now.rows host.0 }
     {
         match self.rows.as_slice().get(host.0 as usize) {
-            Some(row) => row.awaits(ticket, item),
+            Some(row) => row.awaits(ticket, item, attempt),
             None => false,
         }
     }
@@ -246,7 +255,7 @@ impl EngineState {
         ensures { result ≡ option_map_or (may_report_in self.now report.now) (open_play plan.now self.now) false }
     {
         match self.open_play(plan) {
-            Some(_) => self.awaits(report.host, report.item, report.ticket),
+            Some(_) => self.awaits(report.host, report.item, report.attempt, report.ticket),
             None => false,
         }
     }
@@ -290,7 +299,12 @@ impl EngineState {
         match event {
             Event::Open => self.may_open(plan),
             Event::Start(host) => self.may_start(plan, *host),
-            Event::Send { host, item, ticket } => self.may_send(plan, *host, *item, *ticket),
+            Event::Send {
+                host,
+                item,
+                attempt,
+                ticket,
+            } => self.may_send(plan, *host, *item, *attempt, *ticket),
             Event::Report(report) => self.may_report(plan, report),
             Event::Turn => self.may_turn(plan),
             Event::Close => self.may_close(plan),
@@ -340,7 +354,12 @@ impl EngineState {
         match event {
             Event::Open => self.open(plan),
             Event::Start(host) => self.start(plan, *host),
-            Event::Send { host, item, ticket } => self.send(plan, *host, *item, *ticket),
+            Event::Send {
+                host,
+                item,
+                attempt,
+                ticket,
+            } => self.send(plan, *host, *item, *attempt, *ticket),
             Event::Report(report) => self.report(plan, report),
             Event::Turn => self.turn(plan),
             Event::Close => {
@@ -668,6 +687,7 @@ impl EngineState {
                 place,
                 is_new,
                 items: told,
+                retried: None,
                 done,
             }),
         );
@@ -679,14 +699,15 @@ impl EngineState {
         plan: &Plan,
         host: HostNo,
         item: u32,
+        attempt: u32,
         ticket: Ticket,
     ) -> Result<(), AllocError>
-        requires { option_map_or (may_send_in self.old host.0 item ticket) (open_play plan.now self.old) false ≡ true }
-        ensures ok { OnOk result (self.new ≡ after plan.now self.old (Event.Send host item ticket)) }
+        requires { option_map_or (may_send_in self.old host.0 item attempt ticket) (open_play plan.now self.old) false ≡ true }
+        ensures ok { OnOk result (self.new ≡ after plan.now self.old (Event.Send host item attempt ticket)) }
         ensures err { OnErr result (self.new ≡ self.old) }
     {
         match self.open_play(plan) {
-            Some(play) => self.send_in(host, item, ticket, play),
+            Some(play) => self.send_in(host, item, attempt, ticket, play),
             None => Ok(()),
         }
     }
@@ -695,16 +716,18 @@ impl EngineState {
         &mut self,
         host: HostNo,
         item: u32,
+        attempt: u32,
         ticket: Ticket,
         play: &PlanPlay,
     ) -> Result<(), AllocError>
         requires open { self.old.is_open ≡ true }
-        requires may { may_send_in self.old host.0 item ticket play.now ≡ true }
+        requires may { may_send_in self.old host.0 item attempt ticket play.now ≡ true }
         ensures ok { OnOk result (self.new ≡ sent_in self.old host.0 ticket play.now) }
         ensures err { OnErr result (self.new ≡ self.old) }
     {
         // (what only the clauses speak of)
         let _item = item;
+        let _attempt = attempt;
         let _play = play;
         send_row(&mut self.rows, host, ticket)?;
         self.sends += 1;
@@ -816,7 +839,7 @@ impl EngineState {
 impl EngineState {
     ghost use Rattle.pb_one_host.specs.Runs.{is_out, has_ticket};
     ghost use Rattle.pb_all_hosts.specs.Hosts.{at_row};
-    ghost use Rattle.pb_state.specs.Machine.{ready, ready_in, open_play, item_at};
+    ghost use Rattle.pb_state.specs.Machine.{ready, ready_in, open_play, item_at, attempt_at};
     ghost use Rattle.pb_state.specs.Jobs.{job_of};
     ghost use Rattle.pb_ids.specs.declared.numbers.Ticket.{Ticket};
     ghost use Rattle.pb_all_hosts.specs.Oldest.{oldest_out};
@@ -914,6 +937,13 @@ impl EngineState {
         ensures { result ≡ item_at self.now host.0 }
     {
         item_in(self.rows.as_slice(), host)
+    }
+
+    /// The attempt at that item that a host sends next, or whose job is out.
+    pub fn attempt(&self, host: HostNo) -> u32
+        ensures { result ≡ attempt_at self.now host.0 }
+    {
+        attempt_in(self.rows.as_slice(), host)
     }
 
     /// The job of the next item of the task that a host runs, under a ticket.

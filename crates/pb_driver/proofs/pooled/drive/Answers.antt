@@ -4,11 +4,20 @@ use Rattle.pb_driver.specs.Crews.{HasPosted}
 use Rattle.pb_driver.specs.Driven.{IsBegunBy, IsWhole, IsWorkersAnswer}
 use Rattle.pb_driver.specs.Mails.{HasGoneTo, mails_of}
 use Rattle.pb_driver.proofs.Posting.{posted_all, gone_later, gone_same, none_out, fits_first, within_all}
+use Rattle.pb_driver.proofs.Pooling.{room_kept}
 use Rattle.pb_driver.proofs.pooled.drive.Goals as goal
 
 pub run_crew-requires-clause-fits : goal.run_crew-requires-clause-fits
 run_crew-requires-clause-fits g c = λ engine made.
-    fits_first c.args.pool.now c.args.main.now c.args.plan c.forks-forks.result engine c.requires.seat c.requires.fresh.0 c.requires.fresh.1 c.requires.fresh.2 c.forks-forks.ensures.is c.requires.forks made
+    fits_first c.args.pool.now c.args.main.now c.args.plan c.forks-forks.result engine c.requires.seat c.requires.fresh.0 c.requires.fresh.1 c.forks-forks.ensures.is c.requires.forks made
+
+pub settle-requires-clause-room : goal.settle-requires-clause-room
+settle-requires-clause-room g c = room_kept c.args.pool.now c.args.main.now c.run_crew.new.hand c.requires.seat c.requires.fresh.1 c.in-Ok.ensures.went.1
+
+pub settle-requires-in-Err-clause-room : goal.settle-requires-in-Err-clause-room
+settle-requires-in-Err-clause-room g c =
+    room_kept c.args.pool.now c.args.main.now c.run_crew.new.hand c.requires.seat c.requires.fresh.1
+    (gone_same (IsWorkersAnswer g.N.Allows.allows) c.args.plan c.forks-forks.result c.in-Err.stopped.1.items c.in-Err.stopped.0 c.args.main.now c.run_crew.new.hand c.in-Err.ensures.lost).1
 
 pub returns-in-Ok-clause-run : goal.returns-in-Ok-clause-run
 returns-in-Ok-clause-run g c =

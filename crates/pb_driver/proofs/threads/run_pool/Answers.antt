@@ -50,7 +50,7 @@ spread-ended-requires-clause-staff g c κs within =
     let long = c.len-2.ensures in
     let room = c.in-Ok-with_capacity-2.ensures.capacity in (
       pool.1,
-      (ap (λ v. v.log) pool.2, c.in-Ok.ensures.idle.0 ∙ sym same, c.in-Ok.ensures.idle.1),
+      (ap (λ v. v.log) pool.2, c.in-Ok.ensures.idle.0 ∙ sym same),
       paired_fresh c.in-Ok.pool c.len-count.result c.in-Ok.seats.items c.pair_all.new.workers.items same c.in-Ok.ensures.forks.0 c.in-Ok.ensures.forks.1 c.pair_all.ensures.seats.1,
       c.in-Ok-with_capacity-2.ensures.items,
       omega (arith, many, length_is, long, room),

@@ -11,7 +11,7 @@ report_row-requires c =
 
 pub invariant_of-self-2 : goal.invariant_of-self-2
 invariant_of-self-2 c =
-    report_bounded c.self.inside.batch c.self.inside.later c.self.inside.play c.self.inside.sends c.args.report.now.host.0 c.args.report.now.item c.self.inside.is_open c.args.plan.now c.args.play.now c.args.report.now.ticket c.args.report.now.outcome (report_gives c.args.plan.now c.args.play.now c.args.report.now.outcome c.args.report.now.host.0 c.self.inside.rows) c.self.inside.rows c.report_row.new.rows c.self.invariant
+    report_bounded c.self.inside.batch c.self.inside.later c.self.inside.play c.self.inside.sends c.args.report.now.host.0 c.args.report.now.item c.args.report.now.attempt c.self.inside.is_open c.args.plan.now c.args.play.now c.args.report.now.ticket c.args.report.now.outcome (report_gives c.args.plan.now c.args.play.now c.args.report.now.outcome c.args.report.now.host.0 c.self.inside.rows) c.self.inside.rows c.report_row.new.rows c.self.invariant
     (subst (λ (v : State). v.is_open ≡ true) (sym c.self.view_is) c.requires.open)
     (subst (λ (v : State). may_report_in v c.args.report.now c.args.play.now ≡ true) (sym c.self.view_is) c.requires.may)
     c.in_ok-decided.ensures.rows
