@@ -28,7 +28,8 @@ use Rattle.pb_audit.proofs.Cuts.{IsOnLine, cut_behind}
 use Rattle.pb_audit.proofs.Fronts.{with_next}
 use Rattle.pb_audit.proofs.NoNewline.{on_line}
 use Rattle.pb_audit.specs.Lines.{lines_of}
-use Rattle.pb_audit.specs.Reading.{event_in, event_at, event_then, events_in, is_header, trail_of, trail_in}
+use Rattle.pb_audit.specs.Reading.{event_in, event_at, event_then, events_in, version_at, trail_of, trail_in}
+use Rattle.pb_audit.specs.declared.version.Version.TheVariants.{Two}
 use Rattle.pb_audit.specs.Writing.{event_json, IsInRange, IsReadBack, AreReadBack, line, header, trail_text}
 
 -- a number of 32 bits
@@ -36,12 +37,12 @@ low : (n : ℕ) → n < 2 ^ 32 → nat_lt n (2 ^ 32) ≡ true
 low n h = grind (arith, nat_tests)
 
 -- an event's JSON is that event
-pub event_back : (e : Event) → IsInRange e → event_in (event_json e) ≡ Some e
+pub event_back : (e : Event) → IsInRange e → event_in Two (event_json e) ≡ Some e
 unfolding event_in
 event_back Open h = refl
 event_back (Start host) h = rw (low host.0 h) refl
-event_back (Send host i ticket) h = rw (low host.0 h.0, low i h.1) refl
-event_back (Reported r) h = rw (low r.host.0 h.0, low r.item h.1, reads_back [] r.outcome h.2 h.3) refl
+event_back (Send host i attempt ticket) h = rw (low attempt h.2, low host.0 h.0, low i h.1) refl
+event_back (Reported r) h = rw (low r.attempt h.2, low r.host.0 h.0, low r.item h.1, reads_back [] r.outcome h.3 h.4) refl
 event_back Turn h = refl
 event_back Close h = refl
 event_back Stop h = refl
@@ -58,7 +59,7 @@ outcome_whole (NotStarted cause) = refl
 pub event_whole : (e : Event) → has_float (event_json e) ≡ false
 event_whole Open = refl
 event_whole (Start host) = refl
-event_whole (Send host i ticket) = refl
+event_whole (Send host i attempt ticket) = refl
 event_whole (Reported r) = rw (outcome_whole r.outcome) refl
 event_whole Turn = refl
 event_whole Close = refl
@@ -92,8 +93,8 @@ outcome_depth (NotStarted cause) h = omega arith
 pub event_depth : (e : Event) → IsInRange e → json.depth (event_json e) ≤ 127
 event_depth Open h = omega arith
 event_depth (Start host) h = omega arith
-event_depth (Send host i ticket) h = omega arith
-event_depth (Reported r) h = omega (arith, outcome_depth r.outcome h.2)
+event_depth (Send host i attempt ticket) h = omega arith
+event_depth (Reported r) h = omega (arith, outcome_depth r.outcome h.3)
 event_depth Turn h = omega arith
 event_depth Close h = omega arith
 event_depth Stop h = omega arith
@@ -105,8 +106,8 @@ pub line_back : (e : Event) (d : json.Data) (bytes : List ℕ) → IsInRange e �
 unfolding event_at
 line_back e d bytes range is utf8 spelt reads =
     let same : bytes ≡ compact_text (event_json e) = spelt (rw is (event_whole e)) ∙ ap compact_text is in
-    ap event_at (sym same) ∙ ap (option_and_then event_in) (json_in-text bytes utf8 ∙ reads (rw is (event_depth e range)))
-    ∙ ap event_in is ∙ event_back e range
+    ap (event_at Two) (sym same) ∙ ap (option_and_then (event_in Two)) (json_in-text bytes utf8 ∙ reads (rw is (event_depth e range)))
+    ∙ ap (event_in Two) is ∙ event_back e range
 
 pub line_text : (e : Event) (d : json.Data) (bytes new : List ℕ) → d ≡ event_json e → (has_float d ≡ false → bytes ≡ compact_text d) → new ≡ bytes ++ 10 ∷ [] → new ≡ line e
 unfolding line
@@ -133,28 +134,28 @@ cut_line : (e : Event) (rest : List ℕ) → lines_of (line e ++ rest) ≡ compa
 unfolding line
 cut_line e rest = ap lines_of (append_assoc (compact_text (event_json e)) (10 ∷ []) rest) ∙ cut_behind (compact_text (event_json e)) rest (on_line (event_json e))
 
-events_back : (n : ℕ) (es : List Event) → AreReadBack es → events_in n (lines_of (flat_map line es)) ≡ Ok es
+events_back : (n : ℕ) (es : List Event) → AreReadBack es → events_in Two n (lines_of (flat_map line es)) ≡ Ok es
 events_back n [] h = refl
 events_back n (e ∷ es) h =
-    ap (events_in n) (cut_line e (flat_map line es))
-    ∙ ap (λ r. event_then n r (events_in (n + 1) (lines_of (flat_map line es)))) h.0
+    ap (events_in Two n) (cut_line e (flat_map line es))
+    ∙ ap (λ r. event_then n r (events_in Two (n + 1) (lines_of (flat_map line es)))) h.0
     ∙ ap (event_then n (Some e)) (events_back (n + 1) es h.1)
 
 first_on_line : IsOnLine header
 unfolding escape_byte digits
-first_on_line = on_line (json.object (json.member (116 ∷ 114 ∷ 97 ∷ 105 ∷ 108 ∷ []) (json.number (json.unsigned 1)) json.no_members))
+first_on_line = on_line (json.object (json.member (116 ∷ 114 ∷ 97 ∷ 105 ∷ 108 ∷ []) (json.number (json.unsigned 2)) json.no_members))
 
 first_is_text : IsUtf8 header
 unfolding is_utf8 chars lib.Utf8.encode
 first_is_text = IsUtf8-from_is_utf8 header refl
 
-first_is_header : is_header header ≡ true
-unfolding is_header serde_json_on_literals
-first_is_header = rw (json_in-text header first_is_text) refl
+first_is_two : version_at header ≡ Some Two
+unfolding version_at serde_json_on_literals
+first_is_two = rw (json_in-text header first_is_text) refl
 
 pub trail_back : (es : List Event) → AreReadBack es → trail_in (trail_text es) ≡ Ok es
 unfolding trail_in
-trail_back es h = ap trail_of (cut_behind header (flat_map line es) first_on_line) ∙ rw first_is_header (events_back 2 es h)
+trail_back es h = ap trail_of (cut_behind header (flat_map line es) first_on_line) ∙ rw first_is_two (events_back 2 es h)
 
 pub text_back : (bytes : List ℕ) (trail : List Event) (i : ℕ) → length trail ≤ i → bytes ≡ header ++ 10 ∷ flat_map line (take i trail) → AreReadBack (take i trail) → trail_in bytes ≡ Ok trail
 text_back bytes trail i h is each =

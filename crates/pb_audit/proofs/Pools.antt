@@ -68,7 +68,7 @@ turned_in_pool inventory n s (Some play) = refl
 after_in : (plan : PlanOf) (n : ℕ) (s : State) (e : Event) → after plan (in_pool n s) e ≡ in_pool n (after plan s e)
 after_in plan n s Open = open_in plan n s (has_later s.later)
 after_in plan n s (Start h) = started_in_pool plan n s h.0 (open_play plan s)
-after_in plan n s (Send h item t) = sent_in_pool n s h.0 t (open_play plan s)
+after_in plan n s (Send h item attempt t) = sent_in_pool n s h.0 t (open_play plan s)
 after_in plan n s (Reported r) = reported_in_pool plan n s r (open_play plan s)
 after_in plan n s Turn = turned_in_pool plan.inventory n s (open_play plan s)
 after_in plan n s Close = refl
@@ -78,7 +78,7 @@ after_in plan n s (Forks m) = refl
 possible_in : (plan : PlanOf) (n : ℕ) (s : State) (e : Event) → s.pool ≤ n → possible plan s e ≡ true → possible plan (in_pool n s) e ≡ true
 possible_in plan n s Open le may = may
 possible_in plan n s (Start h) le may = may
-possible_in plan n s (Send h item t) le may = may
+possible_in plan n s (Send h item attempt t) le may = may
 possible_in plan n s (Reported r) le may = may
 possible_in plan n s Turn le may = may
 possible_in plan n s Close le may = may

@@ -1,11 +1,12 @@
 -- Worked audits: the trail of one task on two hosts, with one event left out or doubled; and that of a throttle of one.
-use Rattle.std.specs.Prelude.{◌≡◌, [], ◌∷◌, true, codes, refl}
+use Rattle.std.specs.Prelude.{◌≡◌, ℕ, pos, [], ◌∷◌, true, codes, refl}
 use Rattle.pb_plan.specs.Plan.{PlanOf, bare_play, bare_plan, bare_tree}
 use Rattle.pb_state.specs.BatchRows.{start, send, went}
 use Rattle.pb_state.specs.BlockRows.{says, runs}
 use Rattle.pb_one_host.specs.FactRows.{on_facts}
 use Rattle.pb_state.specs.declared.event.Event.{Event}
-use Rattle.pb_state.specs.declared.event.Event.TheVariants.{Open, Turn, Close, Stop, Forks}
+use Rattle.pb_outcome.specs.declared.outcome.Form.TheVariants.{Ran}
+use Rattle.pb_state.specs.declared.event.Event.TheVariants.{Open, Send, Report as Reported, Turn, Close, Stop, Forks}
 use Rattle.pb_audit.specs.Audit.{is_legal, IsFirstIllegal}
 use Rattle.pb_audit.specs.declared.name.EventName.TheVariants as name
 
@@ -79,6 +80,29 @@ behind_its_report = refl
 in_front_of_its_report : IsFirstIllegal throttled (Open ∷ a ∷ send 0 0 ∷ b ∷ went 0 0 ∷ send 1 1 ∷ went 1 1 ∷ Turn ∷ Close ∷ []) 3 name.Start
 unfolding on_facts
 in_front_of_its_report = record { event = b; there = refl; before = refl; illegal = refl; called = refl }
+
+-- no attempt but the first goes out first, and a report is one of the attempt that is out
+abbrev send_of_attempt : ℕ → Event
+send_of_attempt attempt = Send (record { 0 = 0 }) 0 attempt (record { 0 = 0 })
+
+abbrev went_at_attempt : ℕ → Event
+went_at_attempt attempt = Reported (record { ticket = record { 0 = 0 }; host = record { 0 = 0 }; item = 0; attempt = attempt; outcome = Ran (pos 0) [] [] })
+
+second_attempt_first : IsFirstIllegal throttled (Open ∷ a ∷ send_of_attempt 2 ∷ []) 2 name.Send
+unfolding on_facts
+second_attempt_first = record { event = send_of_attempt 2; there = refl; before = refl; illegal = refl; called = refl }
+
+no_attempt_0 : IsFirstIllegal throttled (Open ∷ a ∷ send_of_attempt 0 ∷ []) 2 name.Send
+unfolding on_facts
+no_attempt_0 = record { event = send_of_attempt 0; there = refl; before = refl; illegal = refl; called = refl }
+
+report_of_its_attempt : is_legal throttled (Open ∷ a ∷ send_of_attempt 1 ∷ went_at_attempt 1 ∷ []) ≡ true
+unfolding on_facts
+report_of_its_attempt = refl
+
+report_of_another_attempt : IsFirstIllegal throttled (Open ∷ a ∷ send_of_attempt 1 ∷ went_at_attempt 2 ∷ []) 3 name.Report
+unfolding on_facts
+report_of_another_attempt = record { event = went_at_attempt 2; there = refl; before = refl; illegal = refl; called = refl }
 
 -- a stop, and other forks, are legal wherever they stand; the pool has 256 workers
 stopped_twice : is_legal hello (Open ∷ a ∷ b ∷ Turn ∷ Close ∷ Stop ∷ Stop ∷ Forks 1 ∷ []) ≡ true

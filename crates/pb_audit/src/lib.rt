@@ -13,6 +13,7 @@ mod fault;
 mod lines;
 mod name;
 mod reading;
+mod version;
 mod writing;
 
 pub use auditing::{audit, replay};

@@ -3,6 +3,7 @@
 ghost use Rattle.std.specs.Prelude.{◌≡◌};
 ghost use Rattle.pb_audit.specs.Names.{name_of, word_of, named, keys_of};
 
+use crate::version::Version;
 use pb_state::Event;
 
 /// The name of an event: which of the steps of a run it is. Each is that of the variant of `Event` which is called so.
@@ -51,15 +52,21 @@ impl EventName {
         }
     }
 
-    /// How many keys the line of such an event has.
-    pub(crate) fn keys(self) -> usize
-        ensures { result ≡ keys_of self }
+    /// How many keys the line of such an event has in this version.
+    pub(crate) fn keys(self, version: Version) -> usize
+        ensures { result ≡ keys_of version self }
     {
         match self {
             EventName::Open | EventName::Turn | EventName::Close | EventName::Stop => 1,
             EventName::Start | EventName::Forks => 2,
-            EventName::Send => 4,
-            EventName::Report => 5,
+            EventName::Send => match version {
+                Version::One => 4,
+                Version::Two => 5,
+            },
+            EventName::Report => match version {
+                Version::One => 5,
+                Version::Two => 6,
+            },
         }
     }
 

@@ -5,11 +5,12 @@ ghost use Rattle.serde_json.specs.Data.{object};
 ghost use Rattle.serde_json.specs.View.{view, members_view};
 ghost use Rattle.pb_value.specs.Bytes.{json_in};
 ghost use Rattle.pb_audit.specs.Lines.{lines_of};
-ghost use Rattle.pb_audit.specs.Reading.{key_count, small, whole_at, small_at, name_in, start_in, send_in, forks_in, outcome_at, report_in, event_named, event_in, event_at, is_header, events_in, trail_in};
+ghost use Rattle.pb_audit.specs.Reading.{key_count, small, whole_at, small_at, name_in, start_in, attempt_in, send_in, forks_in, outcome_at, report_in, event_named, event_in, event_at, version_in, version_at, events_in, trail_in};
 
 use crate::fault::TrailFault;
 use crate::lines::first_line;
 use crate::name::EventName;
+use crate::version::Version;
 use pb_ids::{HostNo, Ticket};
 use pb_outcome::fault::OutcomeFault;
 use pb_outcome::job::Report;
@@ -91,18 +92,30 @@ fn start_in(json: &Value) -> Option<Event>
     }
 }
 
+/// The attempt of a send or of a report: the first one, in the version that has no key for it.
+fn attempt_in(json: &Value, version: Version) -> Option<u32>
+    ensures { result ≡ attempt_in version (view json.now) }
+{
+    match version {
+        Version::One => Some(1),
+        Version::Two => small_at(json, "a"),
+    }
+}
+
 /// The send that an object tells by its keys but `e`.
-fn send_in(json: &Value) -> Option<Event>
-    ensures { result ≡ send_in (view json.now) }
+fn send_in(json: &Value, version: Version) -> Option<Event>
+    ensures { result ≡ send_in version (view json.now) }
 {
     match (
+        attempt_in(json, version),
         small_at(json, "h"),
         small_at(json, "i"),
         whole_at(json, "t"),
     ) {
-        (Some(host), Some(item), Some(ticket)) => Some(Event::Send {
+        (Some(attempt), Some(host), Some(item), Some(ticket)) => Some(Event::Send {
             host: HostNo(host),
             item,
+            attempt,
             ticket: Ticket(ticket),
         }),
         _ => None,
@@ -134,35 +147,44 @@ fn outcome_at(alloc: Global, json: &Value) -> Result<Option<Outcome>, AllocError
 }
 
 /// The report that an object tells by its keys but `e`.
-fn report_in(alloc: Global, json: &Value) -> Result<Option<Event>, AllocError>
-    ensures { IfOk result (λ e. e ≡ report_in (view json.now)) }
+fn report_in(alloc: Global, json: &Value, version: Version) -> Result<Option<Event>, AllocError>
+    ensures { IfOk result (λ e. e ≡ report_in version (view json.now)) }
 {
     let outcome = outcome_at(alloc, json)?;
     match (
+        attempt_in(json, version),
         small_at(json, "h"),
         small_at(json, "i"),
         outcome,
         whole_at(json, "t"),
     ) {
-        (Some(host), Some(item), Some(outcome), Some(ticket)) => Ok(Some(Event::Report(Report {
-            ticket: Ticket(ticket),
-            host: HostNo(host),
-            item,
-            outcome,
-        }))),
+        (Some(attempt), Some(host), Some(item), Some(outcome), Some(ticket)) => {
+            Ok(Some(Event::Report(Report {
+                ticket: Ticket(ticket),
+                host: HostNo(host),
+                item,
+                attempt,
+                outcome,
+            })))
+        }
         _ => Ok(None),
     }
 }
 
 /// The event of this name.
-fn event_named(alloc: Global, json: &Value, name: EventName) -> Result<Option<Event>, AllocError>
-    ensures { IfOk result (λ e. e ≡ event_named (view json.now) name) }
+fn event_named(
+    alloc: Global,
+    json: &Value,
+    version: Version,
+    name: EventName,
+) -> Result<Option<Event>, AllocError>
+    ensures { IfOk result (λ e. e ≡ event_named version (view json.now) name) }
 {
     match name {
         EventName::Open => Ok(Some(Event::Open)),
         EventName::Start => Ok(start_in(json)),
-        EventName::Send => Ok(send_in(json)),
-        EventName::Report => report_in(alloc, json),
+        EventName::Send => Ok(send_in(json, version)),
+        EventName::Report => report_in(alloc, json, version),
         EventName::Turn => Ok(Some(Event::Turn)),
         EventName::Close => Ok(Some(Event::Close)),
         EventName::Stop => Ok(Some(Event::Stop)),
@@ -172,11 +194,13 @@ fn event_named(alloc: Global, json: &Value, name: EventName) -> Result<Option<Ev
 
 /// The event that a value is: an object with exactly the keys of an event of its name.
 #[tactic(auto, unfolding(crate::specs::Reading::event_in))]
-fn event_in(alloc: Global, json: &Value) -> Result<Option<Event>, AllocError>
-    ensures { IfOk result (λ e. e ≡ event_in (view json.now)) }
+fn event_in(alloc: Global, json: &Value, version: Version) -> Result<Option<Event>, AllocError>
+    ensures { IfOk result (λ e. e ≡ event_in version (view json.now)) }
 {
     match name_in(json) {
-        Some(name) if key_count(json) == name.keys() => event_named(alloc, json, name),
+        Some(name) if key_count(json) == name.keys(version) => {
+            event_named(alloc, json, version, name)
+        }
         _ => Ok(None),
     }
 }
@@ -194,37 +218,52 @@ fn json_at(alloc: Global, line: &[u8]) -> Result<Option<Value>, AllocError>
 
 /// The event that a line is, if it is one.
 #[tactic(auto, unfolding(crate::specs::Reading::event_at))]
-fn event_at(alloc: Global, line: &[u8]) -> Result<Option<Event>, AllocError>
-    ensures { IfOk result (λ e. e ≡ event_at line.now) }
+fn event_at(alloc: Global, line: &[u8], version: Version) -> Result<Option<Event>, AllocError>
+    ensures { IfOk result (λ e. e ≡ event_at version line.now) }
 {
     match json_at(alloc, line)? {
-        Some(json) => event_in(alloc, &json),
+        Some(json) => event_in(alloc, &json, version),
         None => Ok(None),
     }
 }
 
-/// Whether a line is the first one of a trail.
-#[tactic(auto, unfolding(crate::specs::Reading::is_header))]
-fn is_header(alloc: Global, line: &[u8]) -> Result<bool, AllocError>
-    ensures { IfOk result (λ is. is ≡ is_header line.now) }
+/// The version that a value tells: an object whose one key has its number.
+fn version_in(json: &Value) -> Option<Version>
+    ensures { result ≡ version_in (view json.now) }
 {
-    match json_at(alloc, line)? {
-        Some(json) => Ok(key_count(&json) == 1 && whole_at(&json, "trail") == Some(1)),
-        None => Ok(false),
+    match whole_at(json, "trail") {
+        Some(number) if key_count(json) == 1 => Version::of_number(number),
+        _ => None,
     }
 }
 
-/// The events of lines; the first of them has this number.
-fn events_in(alloc: Global, bytes: &[u8], first: usize) -> Result<Trail, TrailFault>
+/// The version that the first line of a trail tells, if it is one.
+#[tactic(auto, unfolding(crate::specs::Reading::version_at))]
+fn version_at(alloc: Global, line: &[u8]) -> Result<Option<Version>, AllocError>
+    ensures { IfOk result (λ version. version ≡ version_at line.now) }
+{
+    match json_at(alloc, line)? {
+        Some(json) => Ok(version_in(&json)),
+        None => Ok(None),
+    }
+}
+
+/// The events of lines in this version; the first of the lines has this number.
+fn events_in(
+    alloc: Global,
+    bytes: &[u8],
+    version: Version,
+    first: usize,
+) -> Result<Trail, TrailFault>
     requires { first + length bytes.now < 2 ^ 64 }
-    ensures value { IfOk result (λ trail. events_in first (lines_of bytes.now) ≡ Ok trail.items) }
-    ensures fault { IfErr result (λ e. e ≢ TrailFault.Memory → events_in first (lines_of bytes.now) ≡ Err e) }
+    ensures value { IfOk result (λ trail. events_in version first (lines_of bytes.now) ≡ Ok trail.items) }
+    ensures fault { IfErr result (λ e. e ≢ TrailFault.Memory → events_in version first (lines_of bytes.now) ≡ Err e) }
 {
     let mut trail = Vec::new(alloc);
     let mut line_number = first;
     let mut rest = bytes;
     while let Some((line, after)) = first_line(rest) {
-        match event_at(alloc, line)? {
+        match event_at(alloc, line, version)? {
             Some(event) => trail.push(event)?,
             None => return Err(TrailFault::BadLine { line: line_number }),
         }
@@ -234,18 +273,20 @@ fn events_in(alloc: Global, bytes: &[u8], first: usize) -> Result<Trail, TrailFa
     Ok(trail)
 }
 
-/// The events that the text of a trail tells, in order. Its first line is `{"trail":1}`, and each further one is an event: an
-/// object with exactly the keys of its form, `e` being its name. The form is this program's own.
+/// The events that the text of a trail tells, in order. Its first line is `{"trail":1}` or `{"trail":2}`, which tells the version, and
+/// each further one is an event: an object with exactly the keys of its form, `e` being its name. The form is this program's own.
 ///
-/// | Line | Event |
-/// |---|---|
-/// | `{"e":"open"}`, `{"e":"turn"}`, `{"e":"close"}`, `{"e":"stop"}` | the one of that name |
-/// | `{"e":"start","h":H}` | the host H starts the task at its next place |
-/// | `{"e":"send","h":H,"i":I,"t":T}` | the job of its item I goes out under the ticket T |
-/// | `{"e":"report","h":H,"i":I,"o":O,"t":T}` | what came of that job; O is an outcome as `Outcome::read` reads it |
-/// | `{"e":"forks","n":N}` | from now on N hosts may run at once |
+/// | Line | Version | Event |
+/// |---|---|---|
+/// | `{"e":"open"}`, `{"e":"turn"}`, `{"e":"close"}`, `{"e":"stop"}` | 1, 2 | the one of that name |
+/// | `{"e":"start","h":H}` | 1, 2 | the host H starts the task at its next place |
+/// | `{"e":"send","h":H,"i":I,"t":T}` | 1 | the job of its item I goes out under the ticket T, as its first attempt |
+/// | `{"a":A,"e":"send","h":H,"i":I,"t":T}` | 2 | the same, as the attempt A |
+/// | `{"e":"report","h":H,"i":I,"o":O,"t":T}` | 1 | what came of such a job, which was the first attempt; O is an outcome as `Outcome::read` reads it |
+/// | `{"a":A,"e":"report","h":H,"i":I,"o":O,"t":T}` | 2 | the same, of the attempt A |
+/// | `{"e":"forks","n":N}` | 1, 2 | from now on N hosts may run at once |
 ///
-/// H, I and N are whole numbers below 2^32, and T is one below 2^64. Keys may stand in any order, with JSON's white space between;
+/// A, H, I and N are whole numbers below 2^32, and T is one below 2^64. Keys may stand in any order, with JSON's white space between;
 /// of a key that stands twice the last value counts. Each line ends at an LF, which the last one needn't have; an empty line is
 /// no event. Nothing is asked of the order of events: `audit` does that.
 ///
@@ -257,8 +298,11 @@ pub fn read_trail(alloc: Global, bytes: &[u8]) -> Result<Trail, TrailFault>
     ensures value { IfOk result (λ trail. trail_in bytes.now ≡ Ok trail.items) }
     ensures fault { IfErr result (λ e. e ≢ TrailFault.Memory → trail_in bytes.now ≡ Err e) }
 {
-    match first_line(bytes) {
-        Some((line, after)) if is_header(alloc, line)? => events_in(alloc, after, 2),
-        _ => Err(TrailFault::BadHeader),
+    let Some((line, after)) = first_line(bytes) else {
+        return Err(TrailFault::BadHeader);
+    };
+    match version_at(alloc, line)? {
+        Some(version) => events_in(alloc, after, version, 2),
+        None => Err(TrailFault::BadHeader),
     }
 }

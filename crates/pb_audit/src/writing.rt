@@ -37,6 +37,22 @@ fn named(alloc: Global, name: EventName) -> Result<Map<String, Value>, AllocErro
     Ok(members)
 }
 
+/// An object with an attempt and the name of an event alone. Its clause `range` is for an attempt that stands behind a reference.
+fn attempted(alloc: Global, attempt: u32, name: EventName) -> Result<Map<String, Value>, AllocError>
+    ensures members { IfOk result (λ m. members_view m.entries ≡ member (codes "a") (whole attempt) (member (codes "e") (string (word_of name)) no_members)) }
+    ensures range { attempt < 2 ^ 32 }
+{
+    let mut members = Map::new(alloc);
+    put(&mut members, alloc, "a", number(attempt))?;
+    put(
+        &mut members,
+        alloc,
+        "e",
+        Value::try_from_str(alloc, name.word())?,
+    )?;
+    Ok(members)
+}
+
 /// A start as JSON.
 fn start_json(alloc: Global, host: HostNo) -> Result<Value, AllocError>
     ensures json { IfOk result (λ j. view j ≡ event_json (Start host)) }
@@ -48,11 +64,17 @@ fn start_json(alloc: Global, host: HostNo) -> Result<Value, AllocError>
 }
 
 /// A send as JSON.
-fn send_json(alloc: Global, host: HostNo, item: u32, ticket: Ticket) -> Result<Value, AllocError>
-    ensures json { IfOk result (λ j. view j ≡ event_json (Send host item ticket)) }
-    ensures range { IfOk result (λ _. IsInRange (Send host item ticket)) }
+fn send_json(
+    alloc: Global,
+    host: HostNo,
+    item: u32,
+    attempt: u32,
+    ticket: Ticket,
+) -> Result<Value, AllocError>
+    ensures json { IfOk result (λ j. view j ≡ event_json (Send host item attempt ticket)) }
+    ensures range { IfOk result (λ _. IsInRange (Send host item attempt ticket)) }
 {
-    let mut members = named(alloc, EventName::Send)?;
+    let mut members = attempted(alloc, attempt, EventName::Send)?;
     put(&mut members, alloc, "h", number(host.0))?;
     put(&mut members, alloc, "i", number(item))?;
     put(&mut members, alloc, "t", Value::from(ticket.0))?;
@@ -66,7 +88,7 @@ fn report_json(alloc: Global, report: &Report) -> Result<Value, AllocError>
 {
     // Asked for its clauses alone: the texts of an outcome aren't long, and its value isn't deep.
     let _form = report.outcome.form();
-    let mut members = named(alloc, EventName::Report)?;
+    let mut members = attempted(alloc, report.attempt, EventName::Report)?;
     put(&mut members, alloc, "h", number(report.host.0))?;
     put(&mut members, alloc, "i", number(report.item))?;
     put(&mut members, alloc, "o", report.outcome.to_json(alloc)?)?;
@@ -91,7 +113,12 @@ fn event_json(alloc: Global, event: &Event) -> Result<Value, AllocError>
 {
     match event {
         Event::Start(host) => start_json(alloc, *host),
-        Event::Send { host, item, ticket } => send_json(alloc, *host, *item, *ticket),
+        Event::Send {
+            host,
+            item,
+            attempt,
+            ticket,
+        } => send_json(alloc, *host, *item, *attempt, *ticket),
         Event::Report(report) => report_json(alloc, report),
         Event::Forks(forks) => forks_json(alloc, *forks),
         Event::Open | Event::Turn | Event::Close | Event::Stop => {
@@ -112,7 +139,7 @@ fn line(alloc: Global, event: &Event) -> Result<Vec<u8>, AllocError>
     Ok(bytes)
 }
 
-/// The text of a trail, which `read_trail` reads as the same events: the line `{"trail":1}`, and a line for each event, in order.
+/// The text of a trail, which `read_trail` reads as the same events: the line `{"trail":2}`, and a line for each event, in order.
 /// Each is one compact JSON object with its keys in byte order, and ends in an LF. The form is this program's own; `read_trail`
 /// has the table of the lines.
 ///
@@ -122,7 +149,7 @@ pub fn trail_text(alloc: Global, trail: &[Event]) -> Result<Vec<u8>, AllocError>
     ensures text { IfOk result (λ text. text.items ≡ trail_text trail.now) }
     ensures reads_back { IfOk result (λ text. trail_in text.items ≡ Ok trail.now) }
 {
-    let mut text = Vec::from_slice(alloc, b"{\"trail\":1}\n")?;
+    let mut text = Vec::from_slice(alloc, b"{\"trail\":2}\n")?;
     for event in trail {
         text.extend_from_slice(line(alloc, event)?.as_slice())?;
     }

@@ -113,7 +113,7 @@ fn audit_event<R: Files + AllocGlobal + Processes<Started = SystemProcess> + Thr
     rt: &R,
     event: &str,
 ) -> Result<Seen, Fail> {
-    let text = format!(in rt.alloc(); "{{\"trail\":1}}\n{event}\n")?;
+    let text = format!(in rt.alloc(); "{{\"trail\":2}}\n{event}\n")?;
     fs::write(rt, "numbers_inventory", "{}")?;
     fs::write(rt, "numbers_playbook", "[]")?;
     fs::write(rt, "numbers_trail", text.as_str())?;
@@ -129,12 +129,16 @@ fn largest_numbers(rt: HostRuntime) -> Result<(), Fail> {
             "{\"e\":\"start\",\"h\":4294967296}",
         ),
         (
-            "{\"e\":\"send\",\"h\":4294967295,\"i\":0,\"t\":0}",
-            "{\"e\":\"send\",\"h\":18446744073709551616,\"i\":0,\"t\":0}",
+            "{\"a\":1,\"e\":\"send\",\"h\":4294967295,\"i\":0,\"t\":0}",
+            "{\"a\":1,\"e\":\"send\",\"h\":18446744073709551616,\"i\":0,\"t\":0}",
         ),
         (
-            "{\"e\":\"send\",\"h\":0,\"i\":0,\"t\":18446744073709551615}",
-            "{\"e\":\"send\",\"h\":0,\"i\":0,\"t\":18446744073709551616}",
+            "{\"a\":1,\"e\":\"send\",\"h\":0,\"i\":0,\"t\":18446744073709551615}",
+            "{\"a\":1,\"e\":\"send\",\"h\":0,\"i\":0,\"t\":18446744073709551616}",
+        ),
+        (
+            "{\"a\":4294967295,\"e\":\"send\",\"h\":0,\"i\":0,\"t\":0}",
+            "{\"a\":18446744073709551616,\"e\":\"send\",\"h\":0,\"i\":0,\"t\":0}",
         ),
     ];
     for (largest, larger) in events {

@@ -46,6 +46,7 @@ pub fn report(engine: &mut Engine, alloc: Global, ticket: u64, host: u32) -> Res
         ticket: Ticket(ticket),
         host: HostNo(host),
         item: 0,
+        attempt: 1,
         outcome,
     };
     match engine.absorb(report) {

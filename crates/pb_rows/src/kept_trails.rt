@@ -11,7 +11,7 @@ use std::test::Fail;
 use std::thread::Threads;
 
 /// The trail of the whole run.
-const TRAIL: &str = "{\"trail\":1}
+const TRAIL: &str = "{\"trail\":2}
 {\"e\":\"open\"}
 {\"e\":\"start\",\"h\":0}
 {\"e\":\"start\",\"h\":1}

@@ -29,12 +29,19 @@ fn sent(engine: &mut Engine) -> Option<(Ticket, bool)> {
     }
 }
 
-fn report_of(alloc: Global, ticket: u64, host: u32, item: u32) -> Result<Report, Fail> {
+fn report_of(
+    alloc: Global,
+    ticket: u64,
+    host: u32,
+    item: u32,
+    attempt: u32,
+) -> Result<Report, Fail> {
     match Outcome::ran(0, Text::new(alloc), Text::new(alloc)) {
         Ok(outcome) => Ok(Report {
             ticket: Ticket(ticket),
             host: HostNo(host),
             item,
+            attempt,
             outcome,
         }),
         Err(_) => Err(Fail::new("an outcome")),
@@ -65,18 +72,20 @@ fn reports_that_are_refused(rt: HostRuntime) -> Result<(), Fail> {
     }
     assert_eq!(rt; jobs, 1);
     let cases = [
-        (9, 0, 0, Some(Refusal::UnknownTicket)),
-        (0, 0, 1, Some(Refusal::WrongItem)),
-        (0, 1, 0, Some(Refusal::WrongItem)),
-        (0, 0, 0, None),
-        (0, 0, 0, Some(Refusal::AlreadyReported)),
-        (1, 1, 0, Some(Refusal::UnknownTicket)),
+        (9, 0, 0, 1, Some(Refusal::UnknownTicket)),
+        (0, 0, 1, 1, Some(Refusal::WrongItem)),
+        (0, 1, 0, 1, Some(Refusal::WrongItem)),
+        (0, 0, 0, 0, Some(Refusal::WrongItem)),
+        (0, 0, 0, 2, Some(Refusal::WrongItem)),
+        (0, 0, 0, 1, None),
+        (0, 0, 0, 1, Some(Refusal::AlreadyReported)),
+        (1, 1, 0, 1, Some(Refusal::UnknownTicket)),
     ];
-    for (ticket, host, item, want) in &cases {
-        let report = report_of(alloc, *ticket, *host, *item)?;
+    for (ticket, host, item, attempt, want) in &cases {
+        let report = report_of(alloc, *ticket, *host, *item, *attempt)?;
         assert!(rt;
             is_answered(&mut engine, *ticket, report, *want),
-            "{ticket} {host} {item}"
+            "{ticket} {host} {item} {attempt}"
         );
     }
     Ok(())
@@ -103,6 +112,7 @@ fn is_taken(engine: &mut Engine, alloc: Global, out: &str) -> Result<bool, Fail>
         ticket: Ticket(0),
         host: HostNo(0),
         item: 0,
+        attempt: 1,
         outcome,
     };
     Ok(engine.absorb(report).is_ok())

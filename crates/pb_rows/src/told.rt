@@ -11,7 +11,12 @@ fn put(text: &mut String, event: &Event) -> Result<(), AllocError> {
             let host = host.0;
             write!(text, "start {host}, ")
         }
-        Event::Send { host, item, ticket } => {
+        Event::Send {
+            host,
+            item,
+            attempt: _,
+            ticket,
+        } => {
             let host = host.0;
             let ticket = ticket.0;
             write!(text, "send {host} {item} as {ticket}, ")

@@ -81,11 +81,13 @@ fn word_of(event: &Event) -> &'static str {
         Event::Send {
             host: _,
             item: _,
+            attempt: _,
             ticket: Ticket(0),
         } => "send 0 ",
         Event::Send {
             host: _,
             item: _,
+            attempt: _,
             ticket: _,
         } => "send 1 ",
         Event::Report(report) => {
