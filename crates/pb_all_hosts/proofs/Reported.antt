@@ -7,8 +7,9 @@ use Rattle.pb_plan.specs.Plan.{PlayOf, PlanOf}
 use Rattle.pb_sight.specs.declared.gifts.Gift.{Gift}
 use Rattle.pb_outcome.specs.Items.{next_item}
 use Rattle.pb_one_host.specs.declared.decided.Decided.{Decided}
+use Rattle.pb_one_host.specs.declared.decided.Retried.{Retried}
 use Rattle.pb_one_host.specs.declared.row.Running.{Running}
-use Rattle.pb_one_host.specs.Back.{back_running, back_row, went_with, went_on, decided_back, decided_now}
+use Rattle.pb_one_host.specs.Back.{back_running, back_row, retried_running, retried_row, went_with, went_on, decided_back, decided_now}
 use Rattle.pb_all_hosts.specs.Giving.{gives_with, gives_on, gives_now, given_to, gifts_by, gifts_of, report_gives}
 use Rattle.pb_one_host.specs.Ends.{IsAtMost}
 use Rattle.pb_one_host.specs.Runs.{item_of}
@@ -47,11 +48,13 @@ gives_as plan play outcome h rows =
     by_found (Some row) = gives_back plan play outcome h row
 
 -- and decides the same
-pub decided_as : (plan : PlanOf) (play : PlayOf) (outcome : Form) (row : HostRow) → decided_now play (item_of row) (back_row plan play outcome row) ≡ report_decides plan play outcome row
+pub decided_as : (plan : PlanOf) (play : PlayOf) (outcome : Form) (row : HostRow)
+    → decided_now play (item_of row) (retried_row plan play outcome row) (back_row plan play outcome row) ≡ report_decides plan play outcome row
 decided_as plan play outcome row = by_running row.running
   where
     by_running : (running : Option Running)
-        → option_map (decided_back play (option_map_or (λ (r : Running). next_item r.items) running None) row) (back_running plan play row.host row.facts outcome running)
+        → option_map (decided_back play (option_map_or (λ (r : Running). next_item r.items) running None) (retried_running plan play row.host row.facts outcome running) row)
+        (back_running plan play row.host row.facts outcome running)
         ≡ option_map (decided_by plan play outcome row) running
     by_running None = refl
     by_running (Some r) = refl
@@ -66,17 +69,20 @@ reported_in plan play outcome h rows back new b n =
     ∙ ap (given_to (report_gives plan play outcome h rows))
     (twice rows h (back_row plan play outcome) (went_on plan.inventory play) ∙ same_change rows h (λ row. went_on plan.inventory play (back_row plan play outcome row)) (reported plan play outcome) (reported_as plan play outcome))
 
-pub decided_in : (plan : PlanOf) (play : PlayOf) (outcome : Form) (h : ℕ) (rows back : List HostRow) (number : Option ℕ) (decided : Option Decided) → back ≡ change rows h (back_row plan play outcome)
-    → number ≡ option_map_or item_of (slice_get rows h) None → decided ≡ option_map_or (decided_now play number) (slice_get back h) None
-    → decided ≡ option_map_or (report_decides plan play outcome) (slice_get rows h) None
-decided_in plan play outcome h rows back number decided b n d =
+pub decided_in : (plan : PlanOf) (play : PlayOf) (outcome : Form) (h : ℕ) (rows back : List HostRow) (number : Option ℕ) (retried : Option Retried) (decided : Option Decided)
+    → back ≡ change rows h (back_row plan play outcome) → number ≡ option_map_or item_of (slice_get rows h) None → retried ≡ option_map_or (retried_row plan play outcome) (slice_get rows h) None
+    → decided ≡ option_map_or (decided_now play number retried) (slice_get back h) None → decided ≡ option_map_or (report_decides plan play outcome) (slice_get rows h) None
+decided_in plan play outcome h rows back number retried decided b n r d =
     d
-    ∙ ap (λ (all : List HostRow). option_map_or (decided_now play number) (slice_get all h) None) b
-    ∙ ap (λ (found : Option HostRow). option_map_or (decided_now play number) found None) (get_changed rows h (back_row plan play outcome))
-    ∙ ap (λ (m : Option ℕ). option_map_or (decided_now play m) (option_map (back_row plan play outcome) (slice_get rows h)) None) n
+    ∙ ap (λ (all : List HostRow). option_map_or (decided_now play number retried) (slice_get all h) None) b
+    ∙ ap (λ (found : Option HostRow). option_map_or (decided_now play number retried) found None) (get_changed rows h (back_row plan play outcome))
+    ∙ ap (λ (m : Option ℕ). option_map_or (decided_now play m retried) (option_map (back_row plan play outcome) (slice_get rows h)) None) n
+    ∙ ap (λ (a : Option Retried). option_map_or (decided_now play (option_map_or item_of (slice_get rows h) None) a) (option_map (back_row plan play outcome) (slice_get rows h)) None) r
     ∙ by_found (slice_get rows h)
   where
-    by_found : (found : Option HostRow) → option_map_or (decided_now play (option_map_or item_of found None)) (option_map (back_row plan play outcome) found) None ≡ option_map_or (report_decides plan play outcome) found None
+    by_found : (found : Option HostRow)
+        → option_map_or (decided_now play (option_map_or item_of found None) (option_map_or (retried_row plan play outcome) found None)) (option_map (back_row plan play outcome) found) None
+        ≡ option_map_or (report_decides plan play outcome) found None
     by_found None = refl
     by_found (Some row) = decided_as plan play outcome row
 

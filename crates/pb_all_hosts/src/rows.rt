@@ -13,7 +13,7 @@ ghost use Rattle.pb_one_host.specs.Runs.{is_in, is_running, has_send, item_of, a
 ghost use Rattle.pb_one_host.specs.Decides.{done_if, report_decides};
 ghost use Rattle.pb_all_hosts.specs.Hosts.{least_place, lesser, change, one_if, running_count, pending_in, has_hosts, first_play};
 ghost use Rattle.pb_all_hosts.specs.Giving.{given_to, gifts_at, report_gives, gives_now};
-ghost use Rattle.pb_one_host.specs.Back.{back_row, undone, went_on, decided_now};
+ghost use Rattle.pb_one_host.specs.Back.{back_row, retried_row, undone, went_on, decided_now};
 ghost use Rattle.pb_all_hosts.specs.Prepared.{with_facts};
 ghost use Rattle.pb_one_host.specs.Turned.{turned_if};
 ghost use Rattle.pb_all_hosts.specs.TurnMade.{each_from, with_each};
@@ -22,7 +22,9 @@ use crate::gifts::{NewFacts, gifts_at, gives_now, with_gifts};
 use pb_cursors::{LaidTree, PlayWalk};
 use pb_ids::{HostNo, Ticket};
 use pb_inventory::inventory::Inventory;
-use pb_one_host::{Before, Counts, Decided, Done, Row, TaskItems, Turned, walk_if};
+use pb_one_host::{
+    Before, CameBack, Counts, Decided, Done, Retried, Row, TaskItems, Turned, walk_if,
+};
 use pb_outcome::outcome::Outcome;
 use pb_plan::PlanPlay;
 use pb_planes::HostSet;
@@ -135,7 +137,7 @@ fn some_called(rows: &[Row], hosts: &HostSet) -> bool
 
 /// How many hosts of a set are active.
 pub fn called_count(rows: &[Row], hosts: &HostSet) -> u32
-    requires { length rows.now ≤ 65536 }
+    requires { length rows.now ≤ 1048576 }
     ensures { result ≡ called_count hosts.now rows.now }
 {
     rows.iter().filter(|row| row.is_called(hosts)).count() as u32
@@ -257,7 +259,8 @@ pub fn send_row(rows: &mut HostRows, host: HostNo, ticket: Ticket)
     }
 }
 
-/// The job of a host that is out came to this: its item has its result. What the item was before is handed back. An `Err` changes nothing.
+/// The job of a host that is out came to this: its item has its result, or waits for its next attempt. What the item was before is handed back, and the
+/// attempt where another one comes behind it. An `Err` changes nothing.
 fn take_back(
     alloc: Global,
     rows: &mut HostRows,
@@ -265,20 +268,24 @@ fn take_back(
     plan: &Seen,
     play: &PlanPlay,
     outcome: &Outcome,
-) -> Result<Option<Before>, AllocError>
+) -> Result<CameBack, AllocError>
     ensures ok { OnOk result (rows.new ≡ change rows.old host.0 (back_row plan.now play.now outcome.now)) }
-    ensures undo { IfOk result (λ before. change rows.new host.0 (undone before) ≡ rows.old) }
+    ensures retried { IfOk result (λ came. came.retried ≡ option_map_or (retried_row plan.now play.now outcome.now) (slice_get rows.old host.0) None) }
+    ensures undo { IfOk result (λ came. change rows.new host.0 (undone came.before) ≡ rows.old) }
     ensures err { OnErr result (rows.new ≡ rows.old) }
 {
     match rows.rows.get_mut(host.0 as usize) {
         Some(row) => {
             let was = row.is_running();
-            let before = row.take_back(alloc, plan, play, outcome)?;
+            let came = row.take_back(alloc, plan, play, outcome)?;
             let runs = row.is_running();
             rows.running = recounted(rows.running, was, runs);
-            Ok(before)
+            Ok(came)
         }
-        None => Ok(None),
+        None => Ok(CameBack {
+            before: None,
+            retried: None,
+        }),
     }
 }
 
@@ -297,7 +304,7 @@ fn undo(rows: &mut HostRows, host: HostNo, before: Option<Before>)
     }
 }
 
-/// What is decided of the task that a host runs, of which the item with this number came back. An `Err` changes nothing.
+/// What is decided of the task that a host runs, of which the item with this number came back, or this attempt at it. An `Err` changes nothing.
 fn decide_one(
     alloc: Global,
     rows: &mut HostRows,
@@ -305,16 +312,17 @@ fn decide_one(
     inventory: &Inventory,
     play: &PlanPlay,
     number: Option<u32>,
+    retried: Option<Retried>,
 ) -> Result<Option<Decided>, AllocError>
     requires { IfSome (slice_get rows.old host.0) (λ row. IsAtMost row.counts (2 ^ 64 - 2)) }
     ensures rows { OnOk result (rows.new ≡ change rows.old host.0 (went_on inventory.now play.now)) }
-    ensures decides { IfOk result (λ decided. decided ≡ option_map_or (decided_now play.now number) (slice_get rows.old host.0) None) }
+    ensures decides { IfOk result (λ decided. decided ≡ option_map_or (decided_now play.now number retried) (slice_get rows.old host.0) None) }
     ensures err { OnErr result (rows.new ≡ rows.old) }
 {
     match rows.rows.get_mut(host.0 as usize) {
         Some(row) => {
             let was = row.is_running();
-            let decided = row.decide(alloc, inventory, play, number)?;
+            let decided = row.decide(alloc, inventory, play, number, retried)?;
             let goes_on = row.is_running();
             rows.running = recounted(rows.running, was, goes_on);
             Ok(decided)
@@ -331,15 +339,16 @@ fn decide_row(
     inventory: &Inventory,
     play: &PlanPlay,
     number: Option<u32>,
+    retried: Option<Retried>,
 ) -> Result<Option<Decided>, AllocError>
     requires { IfSome (slice_get rows.old host.0) (λ row. IsAtMost row.counts (2 ^ 64 - 2)) }
     ensures rows { OnOk result (rows.new ≡ given_to (gives_now inventory.now play.now host.0 rows.old) (change rows.old host.0 (went_on inventory.now play.now))) }
-    ensures decides { IfOk result (λ decided. decided ≡ option_map_or (decided_now play.now number) (slice_get rows.old host.0) None) }
+    ensures decides { IfOk result (λ decided. decided ≡ option_map_or (decided_now play.now number retried) (slice_get rows.old host.0) None) }
     ensures err { OnErr result (rows.new ≡ rows.old) }
 {
     let gifts = gives_now(alloc, inventory, play, rows.as_slice(), host)?;
     let known = with_gifts(alloc, rows.as_slice(), gifts.as_slice())?;
-    let decided = decide_one(alloc, rows, host, inventory, play, number)?;
+    let decided = decide_one(alloc, rows, host, inventory, play, number, retried)?;
     know_all(rows, known);
     Ok(decided)
 }
@@ -379,8 +388,9 @@ pub fn report_row(
     ensures err { OnErr result (rows.new ≡ rows.old) }
 {
     let number = item_in(rows.rows.as_slice(), host);
-    let before = take_back(alloc, rows, host, plan, play, outcome)?;
-    match decide_row(alloc, rows, host, plan.inventory(), play, number) {
+    let came = take_back(alloc, rows, host, plan, play, outcome)?;
+    let (before, retried) = came.parts();
+    match decide_row(alloc, rows, host, plan.inventory(), play, number, retried) {
         Ok(decided) => Ok(decided),
         Err(error) => {
             undo(rows, host, before);

@@ -22,7 +22,7 @@ use Rattle.pb_state.proofs.Walked.{in_if}
 use Rattle.pb_tree.specs.Walk.{reach}
 use Rattle.pb_confluence.specs.Fixed.{Fixed}
 use Rattle.pb_sight.specs.Results.{items_at}
-use Rattle.pb_confluence.specs.Effect.{waiting_count, outcome_for, item_back, items_back, settled, whole}
+use Rattle.pb_confluence.specs.Effect.{attempts_left, outcome_for, item_back, items_back, settled, whole}
 use Rattle.pb_confluence.specs.Alone.{goes_at, goes, walks, between, alone_from, couples, is_uncoupled}
 use Rattle.pb_confluence.proofs.Batches.{SameWait}
 use Rattle.pb_confluence.proofs.Lists.{and_left, and_right, or_false, none_false, Every}
@@ -199,14 +199,19 @@ module _ (plan : PlanOf) (f : Fixed) (n : ℕ) (play : PlayOf) (b : Bool) where
   report_waits o row None = refl
   report_waits o row (Some r) = began_waits r.place (items_after plan play row.host row.facts o r) row (is_over (items_after plan play row.host row.facts o r))
 
+  either_waits : (x : Option Running) (new other row : HostRow) → new ≡ with_waits b other → option_map_or (λ (r : Running). new) x (with_waits b row) ≡ with_waits b (option_map_or (λ (r : Running). other) x row)
+  either_waits None new other row same = refl
+  either_waits (Some r) new other row same = same
+
   items_waits : (k : ℕ) (row : HostRow) → items_back plan f n play k (with_waits b row) ≡ with_waits b (items_back plan f n play k row)
   items_waits zero row = refl
   items_waits (suc k) row =
-      ap (items_back plan f n play k) (report_waits (outcome_for plan f n play row) row row.running) ∙ items_waits k (item_back plan f n play row)
+      either_waits row.running (items_back plan f n play k (item_back plan f n play (with_waits b row))) (items_back plan f n play k (item_back plan f n play row)) row
+      (ap (items_back plan f n play k) (report_waits (outcome_for plan f n play row) row row.running) ∙ items_waits k (item_back plan f n play row))
 
   settled_waits : (x : Option Running) (row : HostRow) → settled plan f n play x (with_waits b row) ≡ with_waits b (settled plan f n play x row)
   settled_waits None row = refl
-  settled_waits (Some r) row = items_waits (waiting_count r.items) row
+  settled_waits (Some r) row = items_waits (attempts_left r.items) row
 
   begun_waits : (p : ℕ) (items : List Item) (row : HostRow) (over : Bool)
       → settled plan f n play (if over then ended plan.inventory play p items (with_waits b row) else running (Some (record { place = p; items = items; out = None })) (with_waits b row)).running
@@ -215,7 +220,7 @@ module _ (plan : PlanOf) (f : Fixed) (n : ℕ) (play : PlayOf) (b : Bool) where
       (settled plan f n play (if over then ended plan.inventory play p items row else running (Some (record { place = p; items = items; out = None })) row).running
       (if over then ended plan.inventory play p items row else running (Some (record { place = p; items = items; out = None })) row))
   begun_waits p items row true = refl
-  begun_waits p items row false = items_waits (waiting_count items) (running (Some (record { place = p; items = items; out = None })) row)
+  begun_waits p items row false = items_waits (attempts_left items) (running (Some (record { place = p; items = items; out = None })) row)
 
   whole_waits : (p : ℕ) (row : HostRow) → whole plan f n play p (with_waits b row) ≡ with_waits b (whole plan f n play p row)
   whole_waits p row = begun_waits p (items_at plan play row.host row.facts p) row (is_over (items_at plan play row.host row.facts p))

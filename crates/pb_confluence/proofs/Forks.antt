@@ -4,7 +4,7 @@ use Rattle.std.specs.Prelude.{slice_get}
 use Rattle.std.specs.Option.{option_map_or}
 use Rattle.pb_facts.specs.Facts.{no_facts}
 use Rattle.pb_plan.specs.Plan.{PlanOf}
-use Rattle.pb_sight.specs.Results.{items_at, settled_at}
+use Rattle.pb_sight.specs.Results.{items_at, came_at}
 use Rattle.pb_one_host.specs.Row.{HostRow}
 use Rattle.pb_recap.proofs.Counted.{recap_of_run}
 use Rattle.pb_state.specs.declared.event.Event.{Event}
@@ -28,7 +28,7 @@ possible_forks n plan s Stop = refl
 possible_forks n plan s (Forks m) = refl
 
 after_forks : (n : ℕ) (plan : PlanOf) (s : State) (e : Event) → after (with_forks n plan) s e ≡ after plan s e
-unfolding items_at settled_at
+unfolding items_at came_at
 after_forks n plan s Open = refl
 after_forks n plan s (Start h) = refl
 after_forks n plan s (Send h item attempt ticket) = refl

@@ -5,7 +5,7 @@ use Rattle.std.specs.Option.{option_map_or}
 use Rattle.pb_outcome.specs.declared.outcome.Form.{Form}
 use Rattle.pb_plan.specs.Plan.{PlayOf, PlanOf}
 use Rattle.pb_sight.specs.Learning.{taught_by}
-use Rattle.pb_sight.specs.Results.{items_at, settled_at}
+use Rattle.pb_sight.specs.Results.{items_at, came_at}
 use Rattle.pb_one_host.specs.Row.{HostRow, reported}
 use Rattle.pb_state.specs.Machine.{open_play, start_at, started_in, sent_in, reported_in}
 use Rattle.pb_state.specs.State.{State}
@@ -23,7 +23,7 @@ unfolding items_at taught_by
 started_forks plan play n p row = refl
 
 reported_forks : (plan : PlanOf) (play : PlayOf) (n : ℕ) (outcome : Form) (row : HostRow) → reported (with_forks n plan) play outcome row ≡ reported plan play outcome row
-unfolding settled_at taught_by
+unfolding came_at taught_by
 reported_forks plan play n outcome row = refl
 
 local : (plan : PlanOf) (s : State) (play : PlayOf) → AreApart plan → AreNumbered 0 s.rows → open_play plan s ≡ Some play → AreLocal plan s play

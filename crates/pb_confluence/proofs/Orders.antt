@@ -1,29 +1,32 @@
 -- What a host reaches alone hangs neither on strategies nor on the sizes of batches.
 use Rattle.std.proofs.Common.{◌≡◌, ℕ, zero, suc, ◌+◌, true, List, [], ◌∷◌, map, refl, sym, ◌∙◌, ap}
 use Rattle.std.specs.Prelude.{Option, Some, None, if◌then◌else◌}
+use Rattle.std.specs.Option.{option_map_or}
 use Rattle.pb_tree.specs.Tree.{size_of}
 use Rattle.pb_plan.specs.Plan.{PlayOf, PlanOf}
-use Rattle.pb_sight.specs.Results.{items_at, settled_at}
+use Rattle.pb_sight.specs.Results.{items_at, came_at}
 use Rattle.pb_sight.specs.Learning.{taught_by}
 use Rattle.pb_one_host.specs.declared.row.Running.{Running}
 use Rattle.pb_one_host.specs.Row.{HostRow, first_row, next_place, is_called, joined}
 use Rattle.pb_confluence.specs.Fixed.{Fixed}
-use Rattle.pb_confluence.specs.Effect.{waiting_count, item_back, items_back, settled, started, whole}
+use Rattle.pb_confluence.specs.Effect.{attempts_left, item_back, items_back, settled, started, whole}
 use Rattle.pb_confluence.specs.Alone.{goes_at, goes, walks, between, alone_in, alone_from, alone, without_order, without_orders, StrategiesAgree}
 use Rattle.pb_confluence.proofs.AloneEnds.{ends_alone}
 
 module _ (plan : PlanOf) (f : Fixed) (n : ℕ) (play : PlayOf) where
   item_same : (row : HostRow) → item_back plan f n play row ≡ item_back (without_orders plan) f n (without_order play) row
-  unfolding settled_at taught_by
+  unfolding came_at taught_by
   item_same row = refl
 
   items_same : (k : ℕ) (row : HostRow) → items_back plan f n play k row ≡ items_back (without_orders plan) f n (without_order play) k row
   items_same zero row = refl
-  items_same (suc k) row = ap (items_back plan f n play k) (item_same row) ∙ items_same k (item_back (without_orders plan) f n (without_order play) row)
+  items_same (suc k) row =
+      ap (λ (new : HostRow). option_map_or (λ (r : Running). new) row.running row)
+      (ap (items_back plan f n play k) (item_same row) ∙ items_same k (item_back (without_orders plan) f n (without_order play) row))
 
   settled_same : (x : Option Running) (row : HostRow) → settled plan f n play x row ≡ settled (without_orders plan) f n (without_order play) x row
   settled_same None row = refl
-  settled_same (Some r) row = items_same (waiting_count r.items) row
+  settled_same (Some r) row = items_same (attempts_left r.items) row
 
   started_same : (p : ℕ) (row : HostRow) → started plan play p row ≡ started (without_orders plan) (without_order play) p row
   unfolding items_at taught_by

@@ -6,7 +6,7 @@ use Rattle.pb_expr_syntax.specs.Tree.{Tree, trees_of}
 use Rattle.pb_layers.specs.Scope.{Map}
 use Rattle.pb_operators.specs.declared.fault.EvalFault.{EvalFault}
 use Rattle.pb_conditions.specs.Conditions.{holds}
-use Rattle.pb_conditions.specs.Settled.{sees, settled}
+use Rattle.pb_conditions.specs.Settled.{sees}
 use Rattle.pb_outcome.specs.declared.gather.ItemResult.{ItemResult}
 use Rattle.pb_outcome.specs.declared.item.Item.{Item}
 use Rattle.pb_outcome.specs.declared.item.Planned.{Planned}
@@ -19,7 +19,7 @@ use Rattle.pb_play.specs.declared.modules.Module.TheVariants.{Assert, Command, D
 use Rattle.pb_items.specs.Calls.{words_in, command_in}
 use Rattle.pb_items.specs.Facts.{facts_of}
 use Rattle.pb_items.specs.Faults.{evaluated}
-use Rattle.pb_items.specs.Items.{StartOf, Step, seen_by, delegate_in, settled_step, step_of, step_if, step_in, item_of, item_in, looped_items, items_by, items_of}
+use Rattle.pb_items.specs.Items.{StartOf, Step, seen_by, delegate_in, attempted_by, settled_step, step_of, step_if, step_in, item_of, item_in, looped_items, items_by, items_of}
 use Rattle.pb_items.specs.Loops.{loop_variable, values_of}
 use Rattle.pb_items.specs.Planning.{done_by}
 use Rattle.pb_items.specs.declared.fault.ItemFault.{ItemFault}
@@ -27,7 +27,8 @@ use Rattle.pb_reach.specs.Apart.{SameBut, AreApart}
 use Rattle.pb_reach.specs.Named.{in_tree, in_trees, in_value, in_items, in_members}
 use Rattle.pb_reach.specs.Reach.{conditions_name, with_magic}
 use Rattle.pb_reach.proofs.Alike.{then_alike, eval_alike, rendered_apart}
-use Rattle.pb_reach.proofs.OwnItems.{settled_own}
+use Rattle.pb_reach.specs.Told.{until_of}
+use Rattle.pb_reach.proofs.OwnItems.{settled_own, tried_own}
 use Rattle.pb_reach.proofs.Tests.{neither}
 use Rattle.pb_confluence.specs.Independent.{words_name, module_names, loop_names, delegate_names}
 use Rattle.pb_confluence.proofs.Scopes.{layers_name, scopes_apart}
@@ -85,6 +86,7 @@ pub record Unread (word : List ℕ) (start : StartOf) : Type 0 where
   pub looped : loop_names word start.task.looped ≡ false
   pub changed : conditions_name word start.task.changed_when ≡ false
   pub failed : conditions_name word start.task.failed_when ≡ false
+  pub until : conditions_name word (until_of start.task.retrying) ≡ false
   pub conditions : in_trees word (trees_of start.conditions) ≡ false
   pub delegate : delegate_names word start.delegate_to ≡ false
   pub layers : layers_name word start.layers ≡ false
@@ -165,10 +167,8 @@ pub items_own : (word : List ℕ) (start : StartOf) (magic : Map) → Unread wor
 unfolding items_of
 items_own word start magic own same = by_loop word start magic own same start.task.looped own.looped
 
--- and what it says of a result
-pub told_own : (word : List ℕ) (start : StartOf) (magic variable : Map) → Unread word start → SameBut word start.magic magic → (result : ItemResult) →
-    settled (sees start.layers start.magic variable) start.task.register start.task.changed_when start.task.failed_when result
-    ≡ settled (sees start.layers magic variable) start.task.register start.task.changed_when start.task.failed_when result
-told_own word start magic variable own same result =
-    settled_own word (sees start.layers start.magic variable) (sees start.layers magic variable) (λ seen. apart_seen word start magic variable seen own same) start.task.register
-    start.task.changed_when start.task.failed_when own.changed own.failed result
+-- and what it says of an attempt
+pub told_own : (word : List ℕ) (start : StartOf) (magic variable : Map) → Unread word start → SameBut word start.magic magic → (attempt : ℕ) (result : ItemResult) →
+    attempted_by start.task.retrying start variable attempt result ≡ attempted_by start.task.retrying (with_magic start magic) variable attempt result
+told_own word start magic variable own same attempt result =
+    tried_own word start magic variable (λ seen. apart_seen word start magic variable seen own same) own.changed own.failed own.until attempt result

@@ -1,7 +1,7 @@
 -- What a start, a send and a report leave of a host's whole effect at a place: all of it.
-use Rattle.std.proofs.Common.{◌≡◌, ℕ, zero, suc, ◌+◌, ◌<◌, ◌≤◌, Bool, true, false, ◌&&◌, not, List, [], ◌∷◌, ◌++◌, length, cond, refl, sym, ◌∙◌, ap, subst, arith}
-use Rattle.std.proofs.lemmas.Bool.{eqb-true, eq-eqb}
-use Rattle.std.specs.Prelude.{◌==◌, nat_eq, Option, Some, None, option_map, unwrap_or, slice_get, if◌then◌else◌}
+use Rattle.std.proofs.Common.{◌≡◌, ℕ, zero, suc, ◌+◌, ◌-◌, ◌*◌, ◌<◌, ◌≤◌, Bool, true, false, ◌&&◌, not, List, [], ◌∷◌, ◌++◌, length, cond, refl, sym, ◌∙◌, ap, subst, arith}
+use Rattle.std.proofs.lemmas.Bool.{ltb-true, eqb-true, eq-eqb}
+use Rattle.std.specs.Prelude.{◌==◌, nat_eq, nat_lt, Option, Some, None, option_map, unwrap_or, slice_get, if◌then◌else◌}
 use Rattle.std.specs.List.{list_any}
 use Rattle.std.specs.Option.{option_map_or}
 use Rattle.pb_ids.specs.declared.numbers.HostNo.{HostNo}
@@ -14,28 +14,26 @@ use Rattle.pb_tree.specs.Laws.{IsAbove}
 use Rattle.pb_tree.specs.Walk.{reach, is_halted}
 use Rattle.pb_tree.proofs.Rise.{places_rise}
 use Rattle.pb_inventory.specs.InventoryOf.{InventoryOf}
-use Rattle.pb_outcome.specs.declared.gather.ItemResult.{ItemResult}
+use Rattle.pb_conditions.specs.declared.attempt.Back.{Back}
 use Rattle.pb_outcome.specs.declared.item.Item.{Item}
-use Rattle.pb_outcome.specs.declared.item.Planned.{Planned}
-use Rattle.pb_outcome.specs.declared.item.Planned.TheVariants.{Decided, Sends}
 use Rattle.pb_outcome.specs.declared.job.Call.{Call}
 use Rattle.pb_outcome.specs.declared.outcome.Form.{Form}
-use Rattle.pb_outcome.specs.Items.{is_waiting, next_item, is_over}
+use Rattle.pb_outcome.specs.Items.{next_item, is_over}
 use Rattle.pb_plan.specs.Plan.{PlayOf, PlanOf}
 use Rattle.pb_sight.specs.Results.{items_at}
 use Rattle.pb_one_host.specs.declared.row.Finish.{Finish}
 use Rattle.pb_one_host.specs.declared.row.Running.{Running}
-use Rattle.pb_one_host.specs.Attempts.{back_at, back_in}
+use Rattle.pb_one_host.specs.Attempts.{back_in, tried_next, tried_most, rank}
 use Rattle.pb_one_host.specs.Calls.{call_in, delegate_in}
 use Rattle.pb_one_host.specs.Ends.{answer_of}
 use Rattle.pb_one_host.specs.Handlers.{notified_by}
 use Rattle.pb_one_host.specs.Kept.{first_waiting}
 use Rattle.pb_one_host.specs.Row.{HostRow, place_of, next_place, is_at, answered, ended, task_at, came_back, items_after, progressed, sent, reported, reported_running}
-use Rattle.pb_one_host.proofs.InOrder.{next_is, goes_on_at}
+use Rattle.pb_one_host.proofs.InOrder.{next_is, goes_on_at, length_back, back_ranks}
 use Rattle.pb_state.specs.Jobs.{AttemptOf, next_attempt, connector_for, job_with, named_job, placed_job, item_job, running_job, row_job}
 use Rattle.pb_state.proofs.Walked.{not_halted, place_at}
 use Rattle.pb_confluence.specs.Fixed.{Fixed, outcome_of}
-use Rattle.pb_confluence.specs.Effect.{waiting_count, outcome_for, items_back, settled, started, whole, completed, complete}
+use Rattle.pb_confluence.specs.Effect.{attempts_left, outcome_for, item_back, items_back, settled, started, whole, completed, complete}
 
 -- ---- places rise
 abbrev pub IsAfter : ℕ → Option ℕ → Type 0
@@ -120,43 +118,65 @@ IsWell place row = RunsAt place row row.running × KnownAt place row row.running
 abbrev pub running : Option Running → HostRow → HostRow
 running x row = record row { running = x }
 
--- ---- the items that wait
-waits_first : (items : List Item) → first_waiting items < length items → (m : ℕ) × (waiting_count items ≡ suc m)
-waits_first [] l = absurd (omega (arith, l))
-waits_first (item ∷ items) l = by_wait (is_waiting item.step) (λ m. waits_first items m) l
+-- ---- the attempts that are left
+most_tried : (tried : ℕ) → tried_most tried ≤ 100
+most_tried tried = by_order (nat_lt tried 100) refl
   where
-    by_wait : (b : Bool) → (first_waiting items < length items → (m : ℕ) × (waiting_count items ≡ suc m)) → cond (not b) (1 + first_waiting items) 0 < suc (length items)
-        → (m : ℕ) × ((if b then suc (waiting_count items) else waiting_count items) ≡ suc m)
-    by_wait true rest m = (waiting_count items, refl)
-    by_wait false rest m = rest (omega (arith, m))
+    by_order : (few : Bool) → nat_lt tried 100 ≡ few → cond few tried 100 ≤ 100
+    by_order true e = let less = ltb-true tried 100 e in omega (arith, less)
+    by_order false e = omega arith
+
+one_more : (n : ℕ) → 0 < n → (m : ℕ) × (n ≡ suc m)
+one_more zero l = absurd (omega (arith, l))
+one_more (suc m) l = (m, refl)
+
+some_left : (first count tried : ℕ) → first < count → tried ≤ 100 → 0 < 101 * count - (101 * first + tried)
+some_left first count tried l m = omega (arith, l, m)
 
 -- a task that isn't over has one
-pub waiting_some : (items : List Item) → is_over items ≡ false → (m : ℕ) × (waiting_count items ≡ suc m)
-waiting_some items e =
+pub attempts_some : (items : List Item) → is_over items ≡ false → (m : ℕ) × (attempts_left items ≡ suc m)
+attempts_some items e =
     let next = goes_on_at items e in
     let is = next_is items next.0 next.1 in
-    waits_first items (omega (arith, is.0, is.1))
+    one_more (attempts_left items) (some_left (first_waiting items) (length items) (tried_most (tried_next items)) (omega (arith, is.0, is.1)) (most_tried (tried_next items)))
 
--- and once it is back there is one less
-pub waiting_back : (judge : Item → Call → ItemResult) (items : List Item) (m : ℕ) → waiting_count items ≡ suc m → waiting_count (back_in judge items) ≡ m
-waiting_back judge [] m e = cc
-waiting_back judge (item ∷ items) m e = by_step item.step refl (λ f. waiting_back judge items m f) e
-  where
-    by_step : (step : Planned) → item.step ≡ step → (waiting_count items ≡ suc m → waiting_count (back_in judge items) ≡ m)
-        → (if is_waiting step then suc (waiting_count items) else waiting_count items) ≡ suc m → waiting_count (back_at judge item items (back_in judge items) step) ≡ m
-    by_step (Decided result) is rest f = rw is (rest f)
-    by_step (Sends call) is rest f = omega (arith, f)
+less_left : (count before after m : ℕ) → before + 1 ≤ after → 101 * count - before ≤ suc m → 101 * count - after ≤ m
+less_left count before after m more l = omega (arith, more, l)
+
+-- and once it is back there are fewer
+pub attempts_back : (judge : Item → Call → Back) (items : List Item) (m : ℕ) → is_over items ≡ false → attempts_left items ≤ suc m → attempts_left (back_in judge items) ≤ m
+attempts_back judge items m e l =
+    let next = goes_on_at items e in
+    let is = next_is items next.0 next.1 in
+    rw (length_back judge items) (less_left (length items) (rank items) (rank (back_in judge items)) m (back_ranks judge items (omega (arith, is.0, is.1))) l)
 
 -- ---- one host goes through the items of its task
 module _ (plan : PlanOf) (f : Fixed) (number : ℕ) (play : PlayOf) where
   -- where no task runs nothing comes back
-  idle_stays : (o : Form) (row : HostRow) → row.running ≡ None → reported plan play o row ≡ row
-  idle_stays o row e = ap (λ (x : Option Running). option_map_or (reported_running plan play o row) x row) e
-
   pub none_back : (n : ℕ) (row : HostRow) → row.running ≡ None → items_back plan f number play n row ≡ row
   none_back zero row e = refl
-  none_back (suc n) row e =
-      ap (items_back plan f number play n) (idle_stays (outcome_for plan f number play row) row e) ∙ none_back n row e
+  none_back (suc n) row e = ap (λ (x : Option Running). option_map_or (λ (r : Running). items_back plan f number play n (item_back plan f number play row)) x row) e
+
+  -- where as many attempts come back as are left, or more, the host comes to the same
+  done_same : (m n p : ℕ) (items : List Item) (row : HostRow) (over : Bool) → is_over items ≡ over
+      → (is_over items ≡ false
+      → items_back plan f number play m (running (Some (record { place = p; items = items; out = None })) row) ≡ items_back plan f number play n (running (Some (record { place = p; items = items; out = None })) row))
+      → items_back plan f number play m (if over then ended plan.inventory play p items row else running (Some (record { place = p; items = items; out = None })) row)
+      ≡ items_back plan f number play n (if over then ended plan.inventory play p items row else running (Some (record { place = p; items = items; out = None })) row)
+  done_same m n p items row true o on = none_back m (ended plan.inventory play p items row) refl ∙ sym (none_back n (ended plan.inventory play p items row) refl)
+  done_same m n p items row false o on = on o
+
+  pub enough_back : (m n : ℕ) (r : Running) (row : HostRow) → is_over r.items ≡ false → attempts_left r.items ≤ m → attempts_left r.items ≤ n
+      → items_back plan f number play m (running (Some r) row) ≡ items_back plan f number play n (running (Some r) row)
+  enough_back zero n r row over l k = let some = attempts_some r.items over in let left = some.1 in absurd (omega (arith, left, l))
+  enough_back (suc m) zero r row over l k = let some = attempts_some r.items over in let left = some.1 in absurd (omega (arith, left, k))
+  enough_back (suc m) (suc n) r row over l k =
+      done_same m n r.place (items_after plan play row.host row.facts (outcome_for plan f number play (running (Some r) row)) r) (running (Some r) row)
+      (is_over (items_after plan play row.host row.facts (outcome_for plan f number play (running (Some r) row)) r)) refl
+      (λ going.
+      enough_back m n (record { place = r.place; items = items_after plan play row.host row.facts (outcome_for plan f number play (running (Some r) row)) r; out = None }) row going
+      (attempts_back (came_back plan play row.host row.facts r.place (outcome_for plan f number play (running (Some r) row))) r.items m over l)
+      (attempts_back (came_back plan play row.host row.facts r.place (outcome_for plan f number play (running (Some r) row))) r.items n over k))
 
   -- a host that is behind a place, and runs nothing, is as it was
   pub passed : (p : ℕ) (row : HostRow) → row.running ≡ None → is_at p row ≡ false → complete plan f number play p row ≡ row
@@ -196,24 +216,25 @@ module _ (plan : PlanOf) (f : Fixed) (number : ℕ) (play : PlayOf) where
 
   pub send_whole : (p : ℕ) (ticket : Ticket) (row : HostRow) (r : Running) → row.running ≡ Some r → is_over r.items ≡ false → complete plan f number play p (sent ticket row) ≡ complete plan f number play p row
   send_whole p ticket row r runs over =
-      let some = waiting_some r.items over in
+      let some = attempts_some r.items over in
       subst (λ (x : Option Running). complete plan f number play p (sent ticket (running x row)) ≡ complete plan f number play p (running x row)) (sym runs)
       (ap (λ (n : ℕ). items_back plan f number play n (sent ticket (running (Some r) row))) some.1 ∙ sent_items some.0 ticket r row
       ∙ sym (ap (λ (n : ℕ). items_back plan f number play n (running (Some r) row)) some.1))
 
   -- ---- a report
-  came : (p m : ℕ) (items : List Item) (row : HostRow) (over : Bool) → next_place row ≡ Some p → waiting_count items ≡ m
+  came : (p m : ℕ) (items : List Item) (row : HostRow) (over : Bool) → is_over items ≡ over → next_place row ≡ Some p → attempts_left items ≤ m
       → complete plan f number play p (if over then ended plan.inventory play p items row else running (Some (record { place = p; items = items; out = None })) row)
       ≡ items_back plan f number play m (if over then ended plan.inventory play p items row else running (Some (record { place = p; items = items; out = None })) row)
-  came p m items row true at count = ended_stays p p items row at ∙ sym (none_back m (ended plan.inventory play p items row) refl)
-  came p m items row false at count = ap (λ (n : ℕ). items_back plan f number play n (running (Some (record { place = p; items = items; out = None })) row)) count
+  came p m items row true o at count = ended_stays p p items row at ∙ sym (none_back m (ended plan.inventory play p items row) refl)
+  came p m items row false o at count = enough_back (attempts_left items) m (record { place = p; items = items; out = None }) row o (omega arith) count
 
   reported_with : (o : Form) (r : Running) (row : HostRow) → next_place row ≡ Some r.place → is_over r.items ≡ false → o ≡ outcome_for plan f number play (running (Some r) row)
       → complete plan f number play r.place (reported plan play o (running (Some r) row)) ≡ complete plan f number play r.place (running (Some r) row)
   reported_with o r row at over is =
-      let some = waiting_some r.items over in
-      came r.place some.0 (items_after plan play row.host row.facts o r) (running (Some r) row) (is_over (items_after plan play row.host row.facts o r)) at
-      (waiting_back (came_back plan play row.host row.facts r.place o) r.items some.0 some.1)
+      let some = attempts_some r.items over in
+      let left = some.1 in
+      came r.place some.0 (items_after plan play row.host row.facts o r) (running (Some r) row) (is_over (items_after plan play row.host row.facts o r)) refl at
+      (attempts_back (came_back plan play row.host row.facts r.place o) r.items some.0 over (omega (arith, left)))
       ∙ ap (λ (v : Form). items_back plan f number play some.0 (reported plan play v (running (Some r) row))) is
       ∙ sym (ap (λ (n : ℕ). items_back plan f number play n (running (Some r) row)) some.1)
 

@@ -291,7 +291,7 @@ send_keeps plan f s h item attempt ticket play o may holds =
 -- ---- a report
 told_same : (plan : PlanOf) (s : State) (n : ℕ) (play : PlayOf) (row : HostRow) (x : Option Running) → AreApart plan → slice_get plan.plays n ≡ Some play → SameTold (plan_seen plan s) plan play row x
 told_same plan s n play row None apart there = tt
-told_same plan s n play row (Some r) apart there = λ value item. apart.tells n play there (learnt_by s.rows) row.host row.facts r.place value item
+told_same plan s n play row (Some r) apart there = λ value attempt item. apart.tells n play there (learnt_by s.rows) row.host row.facts r.place value attempt item
 
 told_found : (plan : PlanOf) (s : State) (n : ℕ) (play : PlayOf) (found : Option HostRow) → AreApart plan → slice_get plan.plays n ≡ Some play → IfSome found (λ row. SameTold (plan_seen plan s) plan play row row.running)
 told_found plan s n play None apart there = tt

@@ -13,10 +13,10 @@ use Rattle.pb_one_host.specs.declared.row.Running.{Running}
 use Rattle.pb_one_host.specs.Row.{HostRow, next_place, ended, came_back, items_after, sent, reported, reported_running}
 use Rattle.pb_state.proofs.Walks.{IsIn}
 use Rattle.pb_confluence.specs.Fixed.{Fixed}
-use Rattle.pb_confluence.specs.Effect.{waiting_count, outcome_for, item_back, items_back, settled, started, whole}
+use Rattle.pb_confluence.specs.Effect.{attempts_left, outcome_for, item_back, items_back, settled, started, whole}
 use Rattle.pb_confluence.specs.Alone.{goes_at, goes, walks}
 use Rattle.pb_confluence.proofs.Once.{IsIdle}
-use Rattle.pb_confluence.proofs.Rows.{IsAfter, ended_after, running, waiting_some, waiting_back, none_back, sent_items}
+use Rattle.pb_confluence.proofs.Rows.{IsAfter, ended_after, running, attempts_some, attempts_back, none_back, enough_back, sent_items}
 use Rattle.pb_confluence.proofs.Turns.{place_below}
 
 -- ---- a row stays in its batch, and in its tree
@@ -28,6 +28,10 @@ in_progress tree plan play p items row false is = is
 in_report : (tree : TreeOf) (plan : PlanOf) (play : PlayOf) (o : Form) (row : HostRow) (x : Option Running) → IsIn tree row → IsIn tree (option_map_or (reported_running plan play o row) x row)
 in_report tree plan play o row None is = is
 in_report tree plan play o row (Some r) is = in_progress tree plan play r.place (items_after plan play row.host row.facts o r) row (is_over (items_after plan play row.host row.facts o r)) is
+
+in_either : (tree : TreeOf) (x : Option Running) (new row : HostRow) → IsIn tree new → IsIn tree row → IsIn tree (option_map_or (λ (r : Running). new) x row)
+in_either tree None new row is was = was
+in_either tree (Some r) new row is was = is
 
 -- a task that a host ended: nothing runs then, and the host is behind the place
 abbrev Ends : ℕ → HostRow → Type 0
@@ -41,11 +45,13 @@ Enough size m (Some q) = size ≤ q + m
 module _ (plan : PlanOf) (f : Fixed) (number : ℕ) (play : PlayOf) where
   in_items : (tree : TreeOf) (n : ℕ) (row : HostRow) → IsIn tree row → IsIn tree (items_back plan f number play n row)
   in_items tree zero row is = is
-  in_items tree (suc n) row is = in_items tree n (item_back plan f number play row) (in_report tree plan play (outcome_for plan f number play row) row row.running is)
+  in_items tree (suc n) row is =
+      in_either tree row.running (items_back plan f number play n (item_back plan f number play row)) row
+      (in_items tree n (item_back plan f number play row) (in_report tree plan play (outcome_for plan f number play row) row row.running is)) is
 
   in_settled : (tree : TreeOf) (x : Option Running) (row : HostRow) → IsIn tree row → IsIn tree (settled plan f number play x row)
   in_settled tree None row is = is
-  in_settled tree (Some r) row is = in_items tree (waiting_count r.items) row is
+  in_settled tree (Some r) row is = in_items tree (attempts_left r.items) row is
 
   in_whole : (tree : TreeOf) (p : ℕ) (row : HostRow) → IsIn tree row → IsIn tree (whole plan f number play p row)
   in_whole tree p row is =
@@ -59,20 +65,20 @@ module _ (plan : PlanOf) (f : Fixed) (number : ℕ) (play : PlayOf) where
       subst (Ends p) (sym (none_back plan f number play m (ended plan.inventory play p items row) refl)) (refl, ended_after plan.inventory play p p items row at)
   by_over m p items row false o at on = on o
 
-  ends_in : (m : ℕ) (r : Running) (row : HostRow) → waiting_count r.items ≡ m → is_over r.items ≡ false → next_place row ≡ Some r.place → Ends r.place (items_back plan f number play m (running (Some r) row))
-  ends_in zero r row count over at = let some = waiting_some r.items over in absurd (let both : zero ≡ suc some.0 = sym count ∙ some.1 in omega (arith, both))
+  ends_in : (m : ℕ) (r : Running) (row : HostRow) → attempts_left r.items ≤ m → is_over r.items ≡ false → next_place row ≡ Some r.place → Ends r.place (items_back plan f number play m (running (Some r) row))
+  ends_in zero r row count over at = let some = attempts_some r.items over in let left = some.1 in absurd (omega (arith, left, count))
   ends_in (suc m) r row count over at =
       by_over m r.place (items_after plan play row.host row.facts (outcome_for plan f number play (running (Some r) row)) r) (running (Some r) row)
       (is_over (items_after plan play row.host row.facts (outcome_for plan f number play (running (Some r) row)) r)) refl at
       (λ going.
       ends_in m (record { place = r.place; items = items_after plan play row.host row.facts (outcome_for plan f number play (running (Some r) row)) r; out = None }) row
-      (waiting_back (came_back plan play row.host row.facts r.place (outcome_for plan f number play (running (Some r) row))) r.items m count) going at)
+      (attempts_back (came_back plan play row.host row.facts r.place (outcome_for plan f number play (running (Some r) row))) r.items m over count) going at)
 
   settled_by : (p : ℕ) (items : List Item) (row : HostRow) (over : Bool) → is_over items ≡ over → next_place row ≡ Some p
       → Ends p (settled plan f number play (if over then ended plan.inventory play p items row else running (Some (record { place = p; items = items; out = None })) row).running
       (if over then ended plan.inventory play p items row else running (Some (record { place = p; items = items; out = None })) row))
   settled_by p items row true o at = (refl, ended_after plan.inventory play p p items row at)
-  settled_by p items row false o at = ends_in (waiting_count items) (record { place = p; items = items; out = None }) row refl o at
+  settled_by p items row false o at = ends_in (attempts_left items) (record { place = p; items = items; out = None }) row (omega arith) o at
 
   whole_ends : (p : ℕ) (row : HostRow) → next_place row ≡ Some p → Ends p (whole plan f number play p row)
   whole_ends p row at = settled_by p (items_at plan play row.host row.facts p) row (is_over (items_at plan play row.host row.facts p)) refl at
@@ -125,7 +131,7 @@ module _ (plan : PlanOf) (f : Fixed) (number : ℕ) (play : PlayOf) where
       → walks plan f number play (size_of play.tree) (sent ticket row) ≡ walks plan f number play (size_of play.tree) row
   send_walks ticket row r runs over is at =
       let size = some_size (size_of play.tree) r.place (place_below play.tree r.place row is at) in
-      let some = waiting_some r.items over in
+      let some = attempts_some r.items over in
       ap (λ (n : ℕ). walks plan f number play n (sent ticket row)) size.1
       ∙ subst (λ (x : Option Running). walks plan f number play (suc size.0) (sent ticket (running x row)) ≡ walks plan f number play (suc size.0) (running x row)) (sym runs)
       (ap (walks plan f number play size.0)
@@ -134,22 +140,23 @@ module _ (plan : PlanOf) (f : Fixed) (number : ℕ) (play : PlayOf) where
       ∙ sym (ap (λ (n : ℕ). walks plan f number play n row) size.1)
 
   -- ---- a report
-  came : (m k p : ℕ) (items : List Item) (row : HostRow) (over : Bool) → size_of play.tree ≡ suc m → IsIn play.tree row → next_place row ≡ Some p → waiting_count items ≡ k
+  came : (m k p : ℕ) (items : List Item) (row : HostRow) (over : Bool) → is_over items ≡ over → size_of play.tree ≡ suc m → IsIn play.tree row → next_place row ≡ Some p → attempts_left items ≤ k
       → walks plan f number play (suc m) (if over then ended plan.inventory play p items row else running (Some (record { place = p; items = items; out = None })) row)
       ≡ walks plan f number play m (items_back plan f number play k (if over then ended plan.inventory play p items row else running (Some (record { place = p; items = items; out = None })) row))
-  came m k p items row true size is at count =
+  came m k p items row true o size is at count =
       walks_more m (ended plan.inventory play p items row) (next_place (ended plan.inventory play p items row)) refl is refl
       (more_room p m (next_place (ended plan.inventory play p items row)) (omega (arith, size)) (ended_after plan.inventory play p p items row at))
       ∙ sym (ap (walks plan f number play m) (none_back plan f number play k (ended plan.inventory play p items row) refl))
-  came m k p items row false size is at count =
-      ap (λ (n : ℕ). walks plan f number play m (items_back plan f number play n (running (Some (record { place = p; items = items; out = None })) row))) count
+  came m k p items row false o size is at count =
+      ap (walks plan f number play m) (enough_back plan f number play (attempts_left items) k (record { place = p; items = items; out = None }) row o (omega arith) count)
 
   reports : (m : ℕ) (o : Form) (r : Running) (row : HostRow) → size_of play.tree ≡ suc m → IsIn play.tree row → next_place row ≡ Some r.place → is_over r.items ≡ false → o ≡ outcome_for plan f number play (running (Some r) row)
       → walks plan f number play (suc m) (reported plan play o (running (Some r) row)) ≡ walks plan f number play (suc m) (running (Some r) row)
   reports m o r row size is at over fixed =
-      let some = waiting_some r.items over in
-      came m some.0 r.place (items_after plan play row.host row.facts o r) (running (Some r) row) (is_over (items_after plan play row.host row.facts o r)) size is at
-      (waiting_back (came_back plan play row.host row.facts r.place o) r.items some.0 some.1)
+      let some = attempts_some r.items over in
+      let left = some.1 in
+      came m some.0 r.place (items_after plan play row.host row.facts o r) (running (Some r) row) (is_over (items_after plan play row.host row.facts o r)) refl size is at
+      (attempts_back (came_back plan play row.host row.facts r.place o) r.items some.0 over (omega (arith, left)))
       ∙ ap (λ (v : Form). walks plan f number play m (items_back plan f number play some.0 (reported plan play v (running (Some r) row)))) fixed
       ∙ sym (ap (λ (n : ℕ). walks plan f number play m (items_back plan f number play n (running (Some r) row))) some.1)
 

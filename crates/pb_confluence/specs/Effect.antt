@@ -1,37 +1,37 @@
--- The whole effect of a task on one host, where what comes of its jobs is fixed: the host starts it, and each of its items comes back at once.
-use Rattle.std.specs.Prelude.{ℕ, zero, suc, List, [], ◌∷◌, Option, Some, None, if◌then◌else◌}
+-- The whole effect of a task on one host, where what comes of its jobs is fixed: the host starts it, and each attempt at its items comes back at once.
+use Rattle.std.specs.Prelude.{ℕ, zero, suc, ◌-◌, ◌*◌, List, length, Option, Some, None, if◌then◌else◌}
+use Rattle.std.specs.Option.{option_map_or}
 use Rattle.pb_outcome.specs.declared.item.Item.{Item}
 use Rattle.pb_outcome.specs.declared.outcome.Form.{Form}
-use Rattle.pb_outcome.specs.Items.{waits}
 use Rattle.pb_plan.specs.Plan.{PlayOf, PlanOf}
 use Rattle.pb_sight.specs.Results.{items_at}
+use Rattle.pb_one_host.specs.Attempts.{rank}
 use Rattle.pb_one_host.specs.declared.row.Running.{Running}
 use Rattle.pb_one_host.specs.Row.{HostRow, is_at, progressed, reported}
 use Rattle.pb_state.specs.Jobs.{row_job}
 use Rattle.pb_confluence.specs.Fixed.{Fixed, outcome_of}
 
--- how many items are still to come back
-abbrev pub waiting_count : List Item → ℕ
-waiting_count [] = zero
-waiting_count (item ∷ items) = if waits item then suc (waiting_count items) else waiting_count items
+-- how many attempts at most are still to come back: an item may be tried 101 times
+abbrev pub attempts_left : List Item → ℕ
+attempts_left items = 101 * length items - rank items
 
 -- what comes of the next job of a host; which ticket it has is nothing to it
 abbrev pub outcome_for : PlanOf → Fixed → ℕ → PlayOf → HostRow → Form
 outcome_for plan f number play row = outcome_of f (row_job plan number (record { 0 = row.host }) (record { 0 = zero }) play row)
 
--- the next item of the task that a host runs comes back
+-- the attempt that is next of the task that a host runs comes back: its item has its result then, or is tried again
 abbrev pub item_back : PlanOf → Fixed → ℕ → PlayOf → HostRow → HostRow
 item_back plan f number play row = reported plan play (outcome_for plan f number play row) row
 
 -- and so many of them, one after another; where the task has ended nothing comes back
 abbrev pub items_back : PlanOf → Fixed → ℕ → PlayOf → ℕ → HostRow → HostRow
 items_back plan f number play zero row = row
-items_back plan f number play (suc n) row = items_back plan f number play n (item_back plan f number play row)
+items_back plan f number play (suc n) row = option_map_or (λ (r : Running). items_back plan f number play n (item_back plan f number play row)) row.running row
 
 -- what a host runs comes to its end
 abbrev pub settled : PlanOf → Fixed → ℕ → PlayOf → Option Running → HostRow → HostRow
 settled plan f number play None row = row
-settled plan f number play (Some r) row = items_back plan f number play (waiting_count r.items) row
+settled plan f number play (Some r) row = items_back plan f number play (attempts_left r.items) row
 
 -- the task at a place as it starts on a host: what it sees is the plan and what the host has learnt
 abbrev pub started : PlanOf → PlayOf → ℕ → HostRow → HostRow

@@ -1,5 +1,5 @@
 -- Worked runs: whatever the forks, they end in what their hosts reach together; and which plans are independent.
-use Rattle.std.specs.Prelude.{◌≡◌, ℕ, pos, true, false, ◌==◌, List, [], ◌∷◌, map, codes, Some, refl, if◌then◌else◌}
+use Rattle.std.specs.Prelude.{◌≡◌, ℕ, pos, true, false, ◌==◌, List, [], ◌∷◌, map, codes, Some, None, refl, if◌then◌else◌}
 use Rattle.pb_batches.specs.declared.serial.Entry.TheVariants.{Number}
 use Rattle.pb_expr_syntax.specs.Tree as tree
 use Rattle.pb_outcome.specs.declared.outcome.Form.{Form}
@@ -12,7 +12,7 @@ use Rattle.pb_one_host.specs.declared.row.Counts.{Counts}
 use Rattle.pb_one_host.specs.FactRows.{on_facts}
 use Rattle.pb_one_host.specs.Row.{HostRow, none_counted}
 use Rattle.pb_state.specs.declared.event.Event.{Event}
-use Rattle.pb_state.specs.declared.event.Event.TheVariants.{Open, Report as Reported, Turn, Close, Forks}
+use Rattle.pb_state.specs.declared.event.Event.TheVariants.{Open, Send, Report as Reported, Turn, Close, Forks}
 use Rattle.pb_state.specs.Machine.{first_state}
 use Rattle.pb_state.specs.BatchRows.{start, send, went, threes, all_three, led_to, is_legal}
 use Rattle.pb_state.specs.BlockRows.{says, runs}
@@ -77,6 +77,39 @@ for_all_ends = (refl, refl, refl)
 for_all_fixed : IsFixed for_all out_of_reach (first_state for_all 5 256) (Open ∷ start 0 ∷ send 0 0 ∷ comes 0 0 (NoAnswer []) ∷ [])
 unfolding on_facts
 for_all_fixed = (tt, (tt, (tt, (refl, tt))))
+
+-- ---- a command that may be tried once more: what is fixed for its first attempt is another outcome than for its second
+abbrev second_time : Fixed
+second_time asked = if asked.attempt == 1 then Ran (pos 1) [] [] else Ran (pos 0) [] []
+
+abbrev tried : PlanOf
+tried = threes 5 (bare_play (codes "all") (bare_tree 0 1 0) (record runs { task = record runs.task { retrying = Some (record { until = None; retries = 1; delay = 0 }) } } ∷ []) all_three ∷ [])
+
+abbrev again : ℕ → ℕ → Event
+again h ticket = Send (record { 0 = h }) 0 2 (record { 0 = ticket })
+
+abbrev comes_then : ℕ → ℕ → Event
+comes_then h ticket = Reported (record { ticket = record { 0 = ticket }; host = record { 0 = h }; item = 0; attempt = 2; outcome = Ran (pos 0) [] [] })
+
+abbrev fails_first : ℕ → ℕ → Event
+fails_first h ticket = comes h ticket (Ran (pos 1) [] [])
+
+abbrev tried_run : List Event
+tried_run =
+    Open ∷ start 0 ∷ send 0 0 ∷ start 1 ∷ fails_first 0 0 ∷ send 1 1 ∷ again 0 2 ∷ fails_first 1 1 ∷ start 2 ∷ comes_then 0 2 ∷ again 1 3 ∷ comes_then 1 3
+    ∷ send 2 4 ∷ fails_first 2 4 ∷ again 2 5 ∷ comes_then 2 5 ∷ Turn ∷ Close ∷ []
+
+abbrev tried_counts : List Counts
+tried_counts = record none_counted { ok = 1; changed = 1 } ∷ record none_counted { ok = 1; changed = 1 } ∷ record none_counted { ok = 1; changed = 1 } ∷ []
+
+tried_ends : (is_legal tried tried_run ≡ true) × (counts (led_to tried tried_run).rows ≡ tried_counts) × (counts (together tried second_time) ≡ tried_counts)
+unfolding on_facts
+tried_ends = (refl, refl, refl)
+
+-- and it is a run under these outcomes
+tried_fixed : IsFixed tried second_time (first_state tried 5 256) (Open ∷ start 0 ∷ send 0 0 ∷ fails_first 0 0 ∷ again 0 1 ∷ comes_then 0 1 ∷ [])
+unfolding on_facts
+tried_fixed = (tt, (tt, (tt, (refl, (tt, (refl, tt))))))
 
 -- ---- which plans are independent, and linear
 abbrev names_hosts : PlaceOf

@@ -16,11 +16,12 @@ use Rattle.pb_plan.specs.Plan.{PlayOf, PlanOf}
 use Rattle.pb_tree.specs.Tree.{path_at}
 use Rattle.pb_one_host.specs.declared.decided.Decided.{Decided}
 use Rattle.pb_one_host.specs.declared.decided.Done.{Done}
+use Rattle.pb_one_host.specs.declared.decided.Retried.{Retried}
 use Rattle.pb_state.specs.declared.event.Event.{Event}
 use Rattle.pb_state.specs.declared.event.Event.TheVariants.{Open, Start, Send, Report as Reported, Turn, Close, Stop, Forks}
 use Rattle.pb_state.specs.State.{State}
 use Rattle.pb_events.specs.Line.{line}
-use Rattle.pb_events.specs.Lines.{start_event, task_start, host_start, start_text, result_line, done_text, task_text, meta_text, lines_on, of_place, for_host, in_play, told_in, told_of, opened_in, lines_of}
+use Rattle.pb_events.specs.Lines.{start_event, task_start, host_start, start_text, result_line, done_text, retried_text, task_text, meta_text, lines_on, of_place, for_host, in_play, told_in, told_of, opened_in, lines_of}
 use Rattle.pb_events.specs.Items.{item_line, item_lines}
 use Rattle.pb_events.specs.Notify.{handler_name, notify_line, notify_lines, notify_text}
 use Rattle.pb_events.specs.Whole.{lines_in, AreObjects, EventsHaveLines}
@@ -92,6 +93,10 @@ done_whole : (host place : List ℕ) (play : ℕ) (done : Option Done) → IsWho
 done_whole host place play None = nothing
 done_whole host place play (Some done) = result_whole host place play done
 
+retried_whole : (host place : List ℕ) (play : ℕ) (retried : Option Retried) → IsWhole (retried_text host place play retried)
+retried_whole host place play None = nothing
+retried_whole host place play (Some retried) = one _
+
 start_whole : (starts is_new : Bool) (event host name place : List ℕ) (play : ℕ) → IsWhole (start_text starts is_new event host name place play)
 start_whole true is_new event host name place play =
     both (cond is_new (task_start event name place play) []) (host_start host place play) (if_so is_new _ _ (one _) nothing) (one _)
@@ -106,8 +111,10 @@ task_whole : (starts : Bool) (play : PlayOf) (number : ℕ) (decided : Decided) 
 task_whole starts play number decided host at place =
     both _ (notify_text host play number decided.done)
     (both _ (done_text host place number decided.done)
+    (both _ (retried_text host place number decided.retried)
     (both (start_text starts decided.is_new (start_event at.handler) host at.task.name place number) (item_lines host place number decided.items)
     (start_whole starts decided.is_new (start_event at.handler) host at.task.name place number) (items_whole host place number decided.items))
+    (retried_whole host place number decided.retried))
     (done_whole host place number decided.done)) (notified_whole host play number decided.done)
 
 -- ---- the texts of events

@@ -10,6 +10,7 @@ use Rattle.pb_state.specs.declared.event.Event.{Event}
 use Rattle.pb_state.specs.declared.event.Event.TheVariants.{Open, Start, Send, Report as Reported, Turn, Close, Stop, Forks}
 use Rattle.pb_one_host.specs.declared.decided.Decided.{Decided}
 use Rattle.pb_one_host.specs.declared.decided.Done.{Done}
+use Rattle.pb_one_host.specs.declared.decided.Retried.{Retried}
 use Rattle.pb_plan.specs.Plan.{PlayOf, PlanOf}
 use Rattle.pb_state.specs.State.{State}
 use Rattle.pb_events.specs.Line.{line, at_host, at_end}
@@ -65,17 +66,28 @@ abbrev pub done_text : List ℕ → List ℕ → ℕ → Option Done → List �
 done_text host place play None = []
 done_text host place play (Some done) = result_line host place play done
 
+-- an attempt came back behind which another one comes
+abbrev pub retry_line : List ℕ → List ℕ → ℕ → Retried → List ℕ
+retry_line host place play retried =
+    line
+    ((codes "attempt", int (pos retried.attempt)) ∷ (codes "event", text (codes "runner_retry")) ∷ (codes "host", text host) ∷ (codes "place", text place)
+    ∷ (codes "play", int (pos play)) ∷ (codes "result", retried.result) ∷ [])
+
+abbrev pub retried_text : List ℕ → List ℕ → ℕ → Option Retried → List ℕ
+retried_text host place play None = []
+retried_text host place play (Some retried) = retry_line host place play retried
+
 -- what is told before the end: of a start the task, where the host is the first there, and the host; of a report nothing
 abbrev pub start_text : Bool → Bool → List ℕ → List ℕ → List ℕ → List ℕ → ℕ → List ℕ
 start_text true is_new event host name place play = (if is_new then task_start event name place play else []) ++ host_start host place play
 start_text false is_new event host name place play = []
 
--- of the task at a place, which the host started or which a report was for: the items of a loop come before the task's own end, and the handlers that it
--- notified behind it
+-- of the task at a place, which the host started or which a report was for: the items of a loop, or the attempt that came back, come before the task's
+-- own end, and the handlers that it notified behind it
 abbrev pub task_text : Bool → PlayOf → ℕ → Decided → List ℕ → PlaceOf → List ℕ → List ℕ
 task_text starts play number decided host at place =
     start_text starts decided.is_new (start_event at.handler) host at.task.name place number ++ item_lines host place number decided.items
-    ++ done_text host place number decided.done ++ notify_text host play number decided.done
+    ++ retried_text host place number decided.retried ++ done_text host place number decided.done ++ notify_text host play number decided.done
 
 -- a task of `meta` has no line but that of its failure: its conditions can't be read, which nothing ignores
 abbrev pub meta_text : List ℕ → List ℕ → ℕ → Option Done → List ℕ

@@ -1,5 +1,5 @@
 -- Worked runs: two hosts, and a play with one task.
-use Rattle.std.specs.Prelude.{◌≡◌, ⊤, ℕ, pos, Bool, true, false, List, [], ◌∷◌, ◌++◌, codes, None, refl}
+use Rattle.std.specs.Prelude.{◌≡◌, ⊤, ℕ, pos, Bool, true, false, List, [], ◌∷◌, ◌++◌, codes, Some, None, refl}
 use Rattle.std.specs.Fmt.{digits}
 use Rattle.serde_json.proofs.OnLiterals.{serde_json_on_literals}
 use Rattle.pb_value.specs.Datum.{text, null}
@@ -11,7 +11,8 @@ use Rattle.pb_play.specs.declared.modules.Module.TheVariants.{Debug, Fail, Shell
 use Rattle.pb_sight.specs.Results.{on_tasks}
 use Rattle.pb_state.specs.declared.event.Event.{Event}
 use Rattle.pb_state.specs.declared.event.Event.TheVariants.{Open, Start, Send, Report as Reported, Turn, Close, Stop, Forks}
-use Rattle.pb_places.specs.Place.{bare_place}
+use Rattle.pb_play.specs.declared.task.Task.{Task}
+use Rattle.pb_places.specs.Place.{bare_place, bare_task, place_of}
 use Rattle.pb_state.specs.Machine.{first_state}
 use Rattle.pb_plan.specs.Plan.{PlayOf, PlanOf, bare_play, bare_plan, bare_tree}
 use Rattle.pb_state.specs.Run.{state_from}
@@ -121,6 +122,31 @@ comes_lost : lines_of commanded (after_of commanded (Open ∷ first ∷ goes_out
     ≡ codes "{\"event\":\"runner_on_unreachable\",\"host\":\"a\",\"place\":\"1\",\"play\":0,\"result\":{\"changed\":false,\"failed\":false,\"msg\":\"no route\",\"unreachable\":true}}\n"
 unfolding on_literals
 comes_lost = refl
+
+-- a command that may be tried once more: of the first attempt there is a line, and the second ends the task
+abbrev tries : Task
+tries = record (bare_task (codes "hi") (Shell (codes "true"))) { retrying = Some (record { until = None; retries = 1; delay = 0 }) }
+
+abbrev tried : PlanOf
+tried = bare_plan (codes "a" ∷ codes "b" ∷ []) (bare_play (codes "all") (bare_tree 0 1 0) (place_of tries ∷ []) (true ∷ true ∷ []) ∷ [])
+
+abbrev failed_once : List Event
+failed_once = Open ∷ first ∷ goes_out ∷ comes (Ran (pos 1) [] []) ∷ []
+
+abbrev ends_well : Event
+ends_well = Reported (record { ticket = record { 0 = 1 }; host = record { 0 = 0 }; item = 0; attempt = 2; outcome = Ran (pos 0) [] [] })
+
+comes_again : lines_of tried (after_of tried failed_once) (comes (Ran (pos 1) [] []))
+    ≡ codes "{\"attempt\":1,\"event\":\"runner_retry\",\"host\":\"a\",\"place\":\"1\",\"play\":0,\"result\":{\"attempts\":1,\"changed\":true,\"failed\":true,"
+    ++ codes "\"msg\":\"non-zero return code\",\"rc\":1,\"stderr\":\"\",\"stderr_lines\":[],\"stdout\":\"\",\"stdout_lines\":[]}}\n"
+unfolding on_literals
+comes_again = refl
+
+ends_then : lines_of tried (after_of tried (failed_once ++ Send (record { 0 = 0 }) 0 2 (record { 0 = 1 }) ∷ ends_well ∷ [])) ends_well
+    ≡ codes "{\"event\":\"runner_on_ok\",\"host\":\"a\",\"place\":\"1\",\"play\":0,\"result\":{\"attempts\":2,\"changed\":true,\"failed\":false,\"msg\":\"\",\"rc\":0,"
+    ++ codes "\"stderr\":\"\",\"stderr_lines\":[],\"stdout\":\"\",\"stdout_lines\":[]}}\n"
+unfolding on_literals
+ends_then = refl
 
 stops : lines_of commanded (after_of commanded (Open ∷ first ∷ Stop ∷ [])) Stop ≡ []
 stops = refl

@@ -13,6 +13,7 @@ mod item;
 mod line;
 mod lines;
 mod notify;
+mod retry;
 
 pub use lines::{lines_of, start_line};
 

@@ -11,6 +11,7 @@ use crate::end::{done_text, meta_text};
 use crate::item::item_lines;
 use crate::line::{at_host, at_place, line, put_text};
 use crate::notify::notify_text;
+use crate::retry::retried_text;
 use pb_ids::HostNo;
 use pb_places::Place;
 use pb_play::modules::Module;
@@ -38,8 +39,8 @@ fn start_members(alloc: Global, plays: u32) -> Result<Dict, AllocError>
 
 /// The lines of an event that led to a state: where a batch opens, the play and the hosts; where a host starts a task, the
 /// task, if the host is the first to start there, the host's start, the items of a loop that ended at once, and the task's
-/// result, if it ended; where a report comes, the item of the loop that it ends, and the task's result, if that ended. Other
-/// events have none.
+/// result, if it ended; where a report comes, the item of the loop that it ends, or the attempt behind which another one
+/// comes, and the task's result, if that ended. Other events have none.
 pub fn lines_of(
     alloc: Global,
     plan: &Plan,
@@ -232,7 +233,8 @@ fn lines_at(
     }
 }
 
-/// The lines of a task: its start, if it starts, the items of a loop that ended, its end, if it ended, and the handlers that it notified then.
+/// The lines of a task: its start, if it starts, the items of a loop that ended, the attempt that came back, if another one comes behind it, its end, if
+/// it ended, and the handlers that it notified then.
 fn task_lines(
     alloc: Global,
     starts: bool,
@@ -259,6 +261,8 @@ fn task_lines(
     )?;
     let items = item_lines(alloc, host, place, number, decided.items.as_slice())?;
     lines.extend_from_slice(items.as_slice())?;
+    let again = retried_text(alloc, host, place, number, &decided.retried)?;
+    lines.extend_from_slice(again.as_slice())?;
     let end = done_text(alloc, host, place, number, &decided.done)?;
     lines.extend_from_slice(end.as_slice())?;
     let notified = notify_text(alloc, host, play, number, &decided.done)?;

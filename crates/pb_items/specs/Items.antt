@@ -1,20 +1,26 @@
 -- The items of a task as it starts on a host: one for each value of its loop, or a single one. Of each its conditions are read first, then
--- its module, then its delegate, in the scope that the host has then; nothing later changes what is sent for it.
--- See Ansible's documentation, "Loops", "Conditionals", "Error handling in playbooks" and "Controlling where tasks run".
-use Rattle.std.specs.Prelude.{ℕ, Bool, true, false, List, [], ◌∷◌, map, Option, Some, None, Result, Ok, Err}
+-- its module, then its delegate, in the scope that the host has then; nothing later changes what is sent for it. And what an attempt at an item comes
+-- to, once its job came back.
+-- See Ansible's documentation, "Loops", "Conditionals", "Error handling in playbooks", "Controlling where tasks run", and "Retrying a task until a
+-- condition is met".
+use Rattle.std.specs.Prelude.{ℕ, nat_lt, Bool, true, false, List, [], ◌∷◌, map, Option, Some, None, Result, Ok, Err}
 use Rattle.pb_value.specs.Datum.{Datum, text}
 use Rattle.pb_value.specs.Reading.{and_then, map_ok}
 use Rattle.pb_layers.specs.Scope.{Map, scope}
 use Rattle.pb_expr_syntax.specs.Tree.{Tree}
 use Rattle.pb_expr_eval.specs.Scoped.{rendered_of}
+use Rattle.pb_conditions.specs.Attempts.{attempted}
 use Rattle.pb_conditions.specs.Conditions.{holds}
 use Rattle.pb_conditions.specs.Settled.{sees, settled}
+use Rattle.pb_conditions.specs.declared.attempt.Back.{Back}
+use Rattle.pb_conditions.specs.declared.attempt.Back.TheVariants.{Ends}
 use Rattle.pb_outcome.specs.Decided.{faulty_result}
 use Rattle.pb_outcome.specs.declared.gather.ItemResult.{ItemResult}
 use Rattle.pb_outcome.specs.declared.item.Item.{Item}
 use Rattle.pb_outcome.specs.declared.item.Planned.{Planned}
 use Rattle.pb_outcome.specs.declared.item.Planned.TheVariants.{Decided, Sends}
 use Rattle.pb_play.specs.declared.loops.Loop.{Loop}
+use Rattle.pb_play.specs.declared.retrying.Retrying.{Retrying}
 use Rattle.pb_play.specs.declared.task.Task.{Task}
 use Rattle.pb_items.specs.declared.fault.ItemFault.{ItemFault}
 use Rattle.pb_items.specs.declared.fault.ItemFault.TheVariants.{BadDelegate}
@@ -52,9 +58,16 @@ delegate_in scope (Some template) = and_then (evaluated (rendered_of scope (text
 abbrev pub settled_of : StartOf → Map → ItemResult → ItemResult
 settled_of start variable item = settled (sees start.layers start.magic variable) start.task.register start.task.changed_when start.task.failed_when item
 
+-- What an attempt comes to whose job came back. They are numbered from 1. There is one alone unless the task is tried again; else the last one is that
+-- which as many attempts lie before as may follow the first.
+abbrev pub attempted_by : Option Retrying → StartOf → Map → ℕ → ItemResult → Back
+attempted_by None start variable attempt item = Ends (settled_of start variable item)
+attempted_by (Some retrying) start variable attempt item =
+    attempted (sees start.layers start.magic variable) start.task.register start.task.changed_when start.task.failed_when retrying.until attempt (nat_lt retrying.retries attempt) item
+
 -- of an item with this value of the loop variable
-abbrev pub settled_item : StartOf → Option Datum → ItemResult → ItemResult
-settled_item start value item = settled_of start (loop_variable start.task.looped value) item
+abbrev pub attempted_item : StartOf → Option Datum → ℕ → ItemResult → Back
+attempted_item start value attempt item = attempted_by start.task.retrying start (loop_variable start.task.looped value) attempt item
 
 abbrev pub settled_step : StartOf → Map → Planned → Planned
 settled_step start variable (Decided item) = Decided (settled_of start variable item)

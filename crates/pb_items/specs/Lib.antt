@@ -7,3 +7,4 @@ pub mod Loops
 pub mod Items
 pub mod Rows
 pub mod RowsItems
+pub mod AttemptRows

@@ -1,7 +1,7 @@
 //! The items of a task.
 ghost use Rattle.std.specs.Prelude.{◌≡◌, ◌≢◌, ◌≤◌, [], ◌∷◌, Some, IfOk, IfErr, Ok, Err, length, map};
 ghost use Rattle.std.specs.Option.{option_copied};
-ghost use Rattle.pb_items.specs.Items.{seen_by, delegate_in, settled_of, settled_item, settled_step, step_in, item_in, faulty_item, looped_items, items_of};
+ghost use Rattle.pb_items.specs.Items.{seen_by, delegate_in, settled_of, attempted_by, attempted_item, settled_step, step_in, item_in, faulty_item, looped_items, items_of};
 ghost use Rattle.pb_items.specs.Loops.{max_items, values_of};
 ghost use Rattle.pb_items.specs.declared.fault.ItemFault.TheVariants as item;
 
@@ -10,6 +10,7 @@ use crate::loops::{loop_variable, values_of};
 use crate::planning::{done_by, unread};
 use crate::results::skipped_result;
 use crate::start::Start;
+use pb_conditions::attempt::{Back, Terms};
 use pb_conditions::holds::holds;
 use pb_conditions::settled::{Sight, settle};
 use pb_expr_eval::eval::render_text;
@@ -17,6 +18,7 @@ use pb_layers::scope::Scope;
 use pb_outcome::gather::ItemResult;
 use pb_outcome::item::{Item, Planned};
 use pb_play::loops::Loop;
+use pb_play::retrying::Retrying;
 use pb_value::items::Items;
 use pb_value::text::Text;
 use pb_value::val::{Dict, Node, Val, ValList};
@@ -63,18 +65,50 @@ fn settled_of(
     settle(alloc, &sight, &task.changed_when, &task.failed_when, item)
 }
 
-/// The result of an item whose job came back, with its value of the loop variable: as the task says of it, in the scopes that its host has
-/// at that moment. The only error is want of memory. See Ansible's documentation, "Error handling in playbooks".
-pub fn settled(
+/// What an attempt at an item with this loop variable comes to, where the task may be tried again.
+fn retried(
+    alloc: Global,
+    start: &Start,
+    retrying: &Retrying,
+    variable: &Dict,
+    attempt: u32,
+    item: ItemResult,
+) -> Result<Back, AllocError>
+    ensures { IfOk result (λ back. back ≡ attempted_by (Some retrying.now) start.now variable.now attempt item) }
+{
+    let task = start.task;
+    let sight = Sight {
+        layers: start.layers,
+        magic: start.magic,
+        loop_variable: variable,
+        register: &task.register,
+    };
+    let terms = Terms {
+        changed_when: &task.changed_when,
+        failed_when: &task.failed_when,
+        until: &retrying.until,
+    };
+    let is_last = retrying.retries < attempt;
+    pb_conditions::attempt::attempted(alloc, &sight, &terms, attempt, is_last, item)
+}
+
+/// What an attempt at an item comes to whose job came back, with the item's value of the loop variable: as the task says of it, in the scopes
+/// that its host has at that moment. Attempts are numbered from 1. An item of a task without retries has its result. The only error is want of
+/// memory. See Ansible's documentation, "Error handling in playbooks" and "Retrying a task until a condition is met".
+pub fn attempted(
     alloc: Global,
     start: &Start,
     value: &Option<Val>,
+    attempt: u32,
     item: ItemResult,
-) -> Result<ItemResult, AllocError>
-    ensures { IfOk result (λ told. told ≡ settled_item start.now value.now item) }
+) -> Result<Back, AllocError>
+    ensures { IfOk result (λ back. back ≡ attempted_item start.now value.now attempt item) }
 {
     let variable = loop_variable(alloc, &start.task.looped, value)?;
-    settled_of(alloc, start, &variable, item)
+    match &start.task.retrying {
+        Some(retrying) => retried(alloc, start, retrying, &variable, attempt, item),
+        None => Ok(Back::Ends(settled_of(alloc, start, &variable, item)?)),
+    }
 }
 
 /// What is decided at once, as the task says of it.

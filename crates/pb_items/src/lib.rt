@@ -2,8 +2,8 @@
 //!
 //! For the layer above: `items` reads a task's loop, its conditions and what its module is given, in the scopes that its host has at that
 //! moment. Each item has its result at once, or its call is sent as a job, exactly as `items_of` of `specs/Items.antt` says. What can't
-//! be read fails the item, whose result says why. `settled` is what the task says of an item whose job came back (`settled_item`).
-//! Only want of memory may come in place of an answer.
+//! be read fails the item, whose result says why. `attempted` is what an attempt at an item comes to whose job came back
+//! (`attempted_item`): the item has its result, or is tried again. Only want of memory may come in place of an answer.
 #![tactic(auto)]
 
 mod calls;

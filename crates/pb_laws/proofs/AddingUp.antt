@@ -142,15 +142,15 @@ reported_count plan s r k past (Some play) may =
     let is = awaits_is r.ticket r.item r.attempt at.0.running at.2 in
     reports_count plan s r k past play at.0 is.0 at.1 is.1
 
-sent_count : (k play host item ticket : ℕ) (past : List Happening) (place : Option ℕ) → tasks_ended k (so_far past (at_place play host place (λ task. Sends task item ticket ∷ []))) ≡ tasks_ended k past
-sent_count k play host item ticket past None = refl
-sent_count k play host item ticket past (Some p) = refl
+sent_count : (k play host item attempt ticket : ℕ) (past : List Happening) (place : Option ℕ) → tasks_ended k (so_far past (at_place play host place (λ task. Sends task item attempt ticket ∷ []))) ≡ tasks_ended k past
+sent_count k play host item attempt ticket past None = refl
+sent_count k play host item attempt ticket past (Some p) = refl
 
 event_count : (plan : PlanOf) (s : State) (e : Event) (k : ℕ) (past : List Happening) → possible plan s e ≡ true
     → tasks_ended k (so_far past (told plan s e (after plan s e))) ≡ tasks_ended k past + five (λ (kind : CountKind). counted k kind (finishes plan s e))
 event_count plan s Open k past may = omega arith
 event_count plan s (Start h) k past may = started_count plan s h.0 k past (open_play plan s) may
-event_count plan s (Send h item attempt ticket) k past may = nothing_more _ _ (sent_count k s.play h.0 item ticket.0 past (place_run_by s h))
+event_count plan s (Send h item attempt ticket) k past may = nothing_more _ _ (sent_count k s.play h.0 item attempt ticket.0 past (place_run_by s h))
 event_count plan s (Reported r) k past may = reported_count plan s r k past (open_play plan s) may
 event_count plan s Turn k past may =
     nothing_more _ _

@@ -62,7 +62,7 @@ opened_next : (plan : PlanOf) (past : List Happening) (v new : Seen) (happens : 
 opened_next plan past v new happens (Opening n more tasks inside waiting is) e = refl
 opened_next plan past v new happens (Starting true host place items end notified is so) e = e
 opened_next plan past v new happens (Starting false host place items end notified is so) e = e
-opened_next plan past v new happens (Sending host item ticket r is) e = e
+opened_next plan past v new happens (Sending host item attempt ticket r is) e = e
 opened_next plan past v new happens (Reporting true host item ticket r items end notified is so) e = e
 opened_next plan past v new happens (Reporting false host item ticket r items end notified is so) e = e
 opened_next plan past v new happens (Turning more told opened given is) e = given_same is_open (λ before task how. refl) past happens given ∙ e
@@ -74,7 +74,7 @@ stop_next : (plan : PlanOf) (past : List Happening) (v new : Seen) (happens : Li
 stop_next plan past v new happens (Opening n more tasks inside waiting is) e = e
 stop_next plan past v new happens (Starting true host place items end notified is so) e = e
 stop_next plan past v new happens (Starting false host place items end notified is so) e = e
-stop_next plan past v new happens (Sending host item ticket r is) e = e
+stop_next plan past v new happens (Sending host item attempt ticket r is) e = e
 stop_next plan past v new happens (Reporting true host item ticket r items end notified is so) e = e
 stop_next plan past v new happens (Reporting false host item ticket r items end notified is so) e = e
 stop_next plan past v new happens (Turning more told opened given is) e = given_same was_stopped (λ before task how. refl) past happens given ∙ e
@@ -89,10 +89,10 @@ going_next plan v new happens (Starting true host place items end notified is so
     elim (put_get v.tasks host h None (Some r) e) [ inl w ↦ absurd (none_some r w.1) | inr w ↦ was h r w.1 ]
 going_next plan v new happens (Starting false host place items end notified is so) was h r e =
     elim (put_get v.tasks host h (Some (record { place = place; items = items; out = None })) (Some r) e) [
-      | inl w ↦ ap (λ (x : Running). is_over x.items) (sym (some_some (record { place = place; items = items; out = None }) r w.1)) ∙ so
+      | inl w ↦ ap (λ (x : Running). is_over x.items) (sym (some_some (record { place = place; items = items; out = None }) r w.1)) ∙ so.ends
       | inr w ↦ was h r w.1
     ]
-going_next plan v new happens (Sending host item ticket q is) was h r e =
+going_next plan v new happens (Sending host item attempt ticket q is) was h r e =
     elim (put_get v.tasks host h (Some (record q { out = Some ticket })) (Some r) e) [
       | inl w ↦ ap (λ (x : Running). is_over x.items) (sym (some_some (record q { out = Some ticket }) r w.1)) ∙ was host q is.there
       | inr w ↦ was h r w.1
@@ -101,7 +101,7 @@ going_next plan v new happens (Reporting true host item ticket q items end notif
     elim (put_get v.tasks host h None (Some r) e) [ inl w ↦ absurd (none_some r w.1) | inr w ↦ was h r w.1 ]
 going_next plan v new happens (Reporting false host item ticket q items end notified is so) was h r e =
     elim (put_get v.tasks host h (Some (record { place = q.place; items = items; out = None })) (Some r) e) [
-      | inl w ↦ ap (λ (x : Running). is_over x.items) (sym (some_some (record { place = q.place; items = items; out = None }) r w.1)) ∙ so
+      | inl w ↦ ap (λ (x : Running). is_over x.items) (sym (some_some (record { place = q.place; items = items; out = None }) r w.1)) ∙ so.ends
       | inr w ↦ was h r w.1
     ]
 going_next plan v new happens (Turning more told opened given is) was h r e = was h r e

@@ -133,7 +133,7 @@ answered_next plan past v new happens (Starting true host place items end notifi
     ]
 answered_next plan past v new happens (Starting false host place items end notified is so) was h xs e =
     elim (put_get v.walked host h is.answers xs e) [ inl w ↦ ap (λ (k : ℕ). answers k past) w.0 ∙ was host is.answers is.answered ∙ w.1 | inr w ↦ was h xs w.1 ]
-answered_next plan past v new happens (Sending host item ticket r is) was h xs e = was h xs e
+answered_next plan past v new happens (Sending host item attempt ticket r is) was h xs e = was h xs e
 answered_next plan past v new happens (Reporting true host item ticket r items end notified is so) was h xs e =
     elim (put_get v.walked host h (is.answers ++ answer_of end notified ∷ []) xs e) [
       | inl w ↦ ends_with (Reports host item ticket.0 ∷ past) host h v.play r.place end notified is.answers xs (was host is.answers is.answered) w
@@ -224,7 +224,7 @@ unfolding busy
 one_next plan past v new happens (Opening n more tasks inside waiting is) idle was h = was h ∙ idle_busy v.tasks h (idle is.shut) ∙ sym (idle_busy tasks h is.idle)
 one_next plan past v new happens (Starting true host place items end notified is so) idle was h = at_once past h (task_on v host place) end notified ∙ kept_on past v.tasks host h None None is.idle refl was
 one_next plan past v new happens (Starting false host place items end notified is so) idle was h = began past v.tasks host h v.play place None (record { place = place; items = items; out = None }) is.idle was
-one_next plan past v new happens (Sending host item ticket r is) idle was h = kept_on past v.tasks host h (Some r) (Some (record r { out = Some ticket })) is.there refl was
+one_next plan past v new happens (Sending host item attempt ticket r is) idle was h = kept_on past v.tasks host h (Some r) (Some (record r { out = Some ticket })) is.there refl was
 one_next plan past v new happens (Reporting true host item ticket r items end notified is so) idle was h = ended (Reports host item ticket.0 ∷ past) v.tasks host h v.play r.place end notified r is.there was
 one_next plan past v new happens (Reporting false host item ticket r items end notified is so) idle was h = kept_on past v.tasks host h (Some r) (Some (record { place = r.place; items = items; out = None })) is.there refl was
 one_next plan past v new happens (Turning more told opened given is) idle was h = given_same (running (is_of h)) (λ before done how. refl) past happens given ∙ was h
@@ -275,7 +275,7 @@ behind_next : (plan : PlanOf) (v new : Seen) (happens : List Happening) → Tell
 behind_next plan v new happens (Opening n more tasks inside waiting is) was o = is.behind
 behind_next plan v new happens (Starting true host place items end notified is so) was o = behind_more plan v host place is.answers end notified is.answered is.at (was o)
 behind_next plan v new happens (Starting false host place items end notified is so) was o = behind_same plan v host is.answers is.answered (was o)
-behind_next plan v new happens (Sending host item ticket r is) was o = was o
+behind_next plan v new happens (Sending host item attempt ticket r is) was o = was o
 behind_next plan v new happens (Reporting true host item ticket r items end notified is so) was o = behind_more plan v host r.place is.answers end notified is.answered is.at (was o)
 behind_next plan v new happens (Reporting false host item ticket r items end notified is so) was o = behind_same plan v host is.answers is.answered (was o)
 behind_next plan v new happens (Turning more told opened given is) was o = is.behind
@@ -329,7 +329,7 @@ order_holds plan past v new happens (Starting true host place items end notified
     (stands_there plan v.play host place past is.answers (walks.answered host is.answers is.answered) is.at)
     (or_first (is_same_task (task_on v host place) (task_on v host place)) (runs (task_on v host place) past) (task_self (task_on v host place)))) refl)
 order_holds plan past v new happens (Starting false host place items end notified is so) walks = both (in_order plan past (Starts (task_on v host place))) true (start_in_order plan past v host place is walks) refl
-order_holds plan past v new happens (Sending host item ticket r is) walks = refl
+order_holds plan past v new happens (Sending host item attempt ticket r is) walks = refl
 order_holds plan past v new happens (Reporting true host item ticket r items end notified is so) walks =
     both (in_order plan (Reports host item ticket.0 ∷ past) (Ends (task_on v host r.place) end notified)) true
     (both (stands_at plan (task_on v host r.place) past) (runs (task_on v host r.place) past) (stands_there plan v.play host r.place past is.answers (walks.answered host is.answers is.answered) is.at) (walks.run host r is.there)) refl
@@ -344,7 +344,7 @@ walked_holds : (plan : PlanOf) (past : List Happening) (v new : Seen) (happens :
 walked_holds plan past v new happens (Opening n more tasks inside waiting is) walks = refl
 walked_holds plan past v new happens (Starting true host place items end notified is so) walks = refl
 walked_holds plan past v new happens (Starting false host place items end notified is so) walks = refl
-walked_holds plan past v new happens (Sending host item ticket r is) walks = refl
+walked_holds plan past v new happens (Sending host item attempt ticket r is) walks = refl
 walked_holds plan past v new happens (Reporting true host item ticket r items end notified is so) walks = refl
 walked_holds plan past v new happens (Reporting false host item ticket r items end notified is so) walks = refl
 walked_holds plan past v new happens (Turning more told opened given is) walks = given_holds (have_walked plan) (λ before task how. refl) past happens given

@@ -89,7 +89,7 @@ apart_and true true c e = cc
 apart_and true false c e = refl
 apart_and false b c e = refl
 
-task_apart : (a b : HostTask) → a.host ≢ b.host → is_same_task a b ≡ false
+pub task_apart : (a b : HostTask) → a.host ≢ b.host → is_same_task a b ≡ false
 task_apart a b d = apart_and (a.play == b.play) (a.host == b.host) (a.place == b.place) (apart a.host b.host d)
 
 -- ---- whose job is out
@@ -104,7 +104,7 @@ under_else false x y e = refl
 -- a ticket is that of one host at most
 one_out : (past : List Happening) (ticket h i k j : ℕ) → is_out h i ticket past ≡ true → is_out k j ticket past ≡ true → h ≡ k
 one_out [] ticket h i k j e f = cc
-one_out (Sends task other under ∷ past) ticket h i k j e f = by_under (under == ticket) (λ p q. one_out past ticket h i k j p q) e f
+one_out (Sends task other attempt under ∷ past) ticket h i k j e f = by_under (under == ticket) (λ p q. one_out past ticket h i k j p q) e f
   where
     by_under : (b : Bool) → (is_out h i ticket past ≡ true → is_out k j ticket past ≡ true → h ≡ k) → (if b then (task.host == h) && (other == i) else is_out h i ticket past) ≡ true → (if b then (task.host == k) && (other == j) else is_out k j ticket past) ≡ true → h ≡ k
     by_under true before p q = sym (eqb-true task.host h (and_left (task.host == h) _ p)) ∙ eqb-true task.host k (and_left (task.host == k) _ q)
@@ -117,11 +117,11 @@ still_out : (past : List Happening) (h i ticket host item under : ℕ) → under
 still_out past h i ticket host item under d e = both (not (under == ticket)) (is_out h i ticket past) (ap not (apart under ticket d)) e
 
 -- ---- what jobs rest on
-out_number : Running → Option ℕ
+unfoldable pub out_number : Running → Option ℕ
 out_number r = option_map (λ (t : Ticket). t.0) r.out
 
 -- a job of a host is out under a ticket
-HasOut : Seen → ℕ → ℕ → Type 0
+unfoldable pub HasOut : Seen → ℕ → ℕ → Type 0
 HasOut v h ticket = (r : Running) × (slice_get v.tasks h ≡ Some (Some r)) × (out_number r ≡ Some ticket)
 
 record Jobs (plan : PlanOf) (past : List Happening) (v : Seen) : Type 0 where
@@ -137,7 +137,7 @@ sent_next : (plan : PlanOf) (past : List Happening) (v new : Seen) (happens : Li
 sent_next plan past v new happens (Opening n more tasks inside waiting is) e = e
 sent_next plan past v new happens (Starting true host place items end notified is so) e = e
 sent_next plan past v new happens (Starting false host place items end notified is so) e = e
-sent_next plan past v new happens (Sending host item ticket r is) e = ap (λ (n : ℕ). n + 1) e
+sent_next plan past v new happens (Sending host item attempt ticket r is) e = ap (λ (n : ℕ). n + 1) e
 sent_next plan past v new happens (Reporting true host item ticket r items end notified is so) e = e
 sent_next plan past v new happens (Reporting false host item ticket r items end notified is so) e = e
 sent_next plan past v new happens (Turning more told opened given is) e = given_same jobs_sent (λ before task how. refl) past happens given ∙ e
@@ -177,7 +177,7 @@ run_next plan past v new happens (Starting false host place items end notified i
           ∙ task_self (task_on v host place))
       | inr w ↦ run_started past (task_on v host place) (task_on v h r.place) (was h r w.1)
     ]
-run_next plan past v new happens (Sending host item ticket q is) was h r e =
+run_next plan past v new happens (Sending host item attempt ticket q is) was h r e =
     elim (put_get v.tasks host h (Some (record q { out = Some ticket })) (Some r) e) [
       | inl w ↦
           ap (λ (k : ℕ). runs (task_on v k r.place) past) w.0 ∙ ap (λ (x : Running). runs (task_on v host x.place) past) (sym (some_some (record q { out = Some ticket }) r w.1)) ∙ was host q is.there
@@ -200,7 +200,7 @@ run_next plan past v new happens Stopping was h r e = was h r e
 run_next plan past v new happens (Forking n) was h r e = was h r e
 
 -- ---- the jobs that are out
-none_out : (r : Running) (place ticket : ℕ) (items : List Item) → ◌≡◌ {A = Option Running} (Some (record { place = place; items = items; out = None })) (Some r) → out_number r ≡ Some ticket → ⊥
+pub none_out : (r : Running) (place ticket : ℕ) (items : List Item) → ◌≡◌ {A = Option Running} (Some (record { place = place; items = items; out = None })) (Some r) → out_number r ≡ Some ticket → ⊥
 unfolding out_number
 none_out r place ticket items e out =
     let same = some_some (record { place = place; items = items; out = None }) r e in
@@ -217,7 +217,7 @@ out_next plan past v new happens (Starting true host place items end notified is
     elim (put_get v.tasks host h None (Some r) e) [ inl w ↦ absurd (none_some r w.1) | inr w ↦ was h r t i w.1 o x ]
 out_next plan past v new happens (Starting false host place items end notified is so) was below h r t i e o x =
     elim (put_get v.tasks host h (Some (record { place = place; items = items; out = None })) (Some r) e) [ inl w ↦ absurd (none_out r place t items w.1 o) | inr w ↦ was h r t i w.1 o x ]
-out_next plan past v new happens (Sending host item ticket q is) was below h r t i e o x =
+out_next plan past v new happens (Sending host item attempt ticket q is) was below h r t i e o x =
     elim (put_get v.tasks host h (Some (record q { out = Some ticket })) (Some r) e) [
       | inl w ↦ sent_now w.0 (some_some (record q { out = Some ticket }) r w.1)
       | inr w ↦
@@ -258,7 +258,7 @@ below_next plan v new happens (Starting true host place items end notified is so
     elim (put_get v.tasks host h None (Some r) e) [ inl w ↦ absurd (none_some r w.1) | inr w ↦ was h r t w.1 o ]
 below_next plan v new happens (Starting false host place items end notified is so) was h r t e o =
     elim (put_get v.tasks host h (Some (record { place = place; items = items; out = None })) (Some r) e) [ inl w ↦ absurd (none_out r place t items w.1 o) | inr w ↦ was h r t w.1 o ]
-below_next plan v new happens (Sending host item ticket q is) was h r t e o =
+below_next plan v new happens (Sending host item attempt ticket q is) was h r t e o =
     elim (put_get v.tasks host h (Some (record q { out = Some ticket })) (Some r) e) [
       | inl w ↦
           let number : Some ticket.0 ≡ Some t = ap (λ (y : Running). option_map (λ (u : Ticket). u.0) y.out) (some_some (record q { out = Some ticket }) r w.1) ∙ o in
@@ -278,7 +278,7 @@ below_next plan v new happens (Forking n) was h r t e o = was h r t e o
 
 -- ---- the jobs that are answered
 -- a host whose entry changes had no job out, so that one that is out stays so
-other_out : (v : Seen) (host h t : ℕ) (old task : Option Running) → slice_get v.tasks host ≡ Some old → ((r : Running) → old ≡ Some r → out_number r ≡ Some t → ⊥) → HasOut v h t
+pub other_out : (v : Seen) (host h t : ℕ) (old task : Option Running) → slice_get v.tasks host ≡ Some old → ((r : Running) → old ≡ Some r → out_number r ≡ Some t → ⊥) → HasOut v h t
     → (r : Running) × (slice_get (put v.tasks host task) h ≡ Some (Some r)) × (out_number r ≡ Some t)
 unfolding HasOut
 other_out v host h t old task there none (r, here, out) =
@@ -294,7 +294,7 @@ answered_next plan past v new happens (Starting true host place items end notifi
     elim (was t l) [ inl a ↦ inl a | inr w ↦ inr (w.0, other_out v host w.0 t None None is.idle (λ r e. absurd (none_some r e)) w.1) ]
 answered_next plan past v new happens (Starting false host place items end notified is so) idle was t l =
     elim (was t l) [ inl a ↦ inl a | inr w ↦ inr (w.0, other_out v host w.0 t None (Some (record { place = place; items = items; out = None })) is.idle (λ r e. absurd (none_some r e)) w.1) ]
-answered_next plan past v new happens (Sending host item ticket q is) idle was t l = by_ticket (same_or_apart t v.sends)
+answered_next plan past v new happens (Sending host item attempt ticket q is) idle was t l = by_ticket (same_or_apart t v.sends)
   where
     free : (r : Running) → Some q ≡ Some r → option_map (λ (u : Ticket). u.0) r.out ≡ Some t → ⊥
     free r e out =
@@ -350,8 +350,8 @@ unfolding out_number
 jobs_hold plan past v new happens (Opening n more tasks inside waiting is) jobs = refl
 jobs_hold plan past v new happens (Starting true host place items end notified is so) jobs = refl
 jobs_hold plan past v new happens (Starting false host place items end notified is so) jobs = refl
-jobs_hold plan past v new happens (Sending host item ticket r is) jobs =
-    both (jobs_in_order plan past (Sends (task_on v host r.place) item ticket.0)) true
+jobs_hold plan past v new happens (Sending host item attempt ticket r is) jobs =
+    both (jobs_in_order plan past (Sends (task_on v host r.place) item attempt ticket.0)) true
     (both (ticket.0 == jobs_sent past) (runs (task_on v host r.place) past) (eq-eqb ticket.0 (jobs_sent past) (is.number ∙ sym jobs.sent)) (jobs.run host r is.there)) refl
 jobs_hold plan past v new happens (Reporting true host item ticket r items end notified is so) jobs = both (is_out host item ticket.0 past) true (jobs.out host r ticket.0 item is.there is.out is.next) refl
 jobs_hold plan past v new happens (Reporting false host item ticket r items end notified is so) jobs = both (is_out host item ticket.0 past) true (jobs.out host r ticket.0 item is.there is.out is.next) refl

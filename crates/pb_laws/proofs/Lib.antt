@@ -1,10 +1,12 @@
 pub mod Telling
+pub mod ItemTelling
 pub mod TaskTelling
 pub mod BatchTelling
 pub mod Holding
 pub mod WithinForks
 pub mod OwnHosts
 pub mod JobsInOrder
+pub mod AttemptsInOrder
 pub mod AddingUp
 pub mod InOrder
 pub mod RisingPlaces

@@ -35,7 +35,7 @@ use Rattle.pb_laws.specs.JobsOut.{has_mail, one_out, one_run, outs, runs}
 -- ---- what happens, as far as jobs are concerned
 abbrev pub sends_in : List Happening → ℕ
 sends_in [] = 0
-sends_in (Sends task item ticket ∷ rest) = 1 + sends_in rest
+sends_in (Sends task item attempt ticket ∷ rest) = 1 + sends_in rest
 sends_in (now ∷ rest) = sends_in rest
 
 abbrev pub reports_in : List Happening → ℕ
@@ -93,9 +93,9 @@ silent_says plan s new Stop m = record { sends = refl; reports = refl; silent = 
 silent_says plan s new (Forks n) m = record { sends = refl; reports = refl; silent = λ none h. refl }
 
 -- a job that goes out
-sent_says : (play h item ticket : ℕ) (place : Option ℕ) (p : ℕ) → place ≡ Some p → Says 1 0 (at_place play h place (λ task. Sends task item ticket ∷ []))
-sent_says play h item ticket None p e = cc
-sent_says play h item ticket (Some q) p e = record { sends = refl; reports = refl; silent = λ none h. refl }
+sent_says : (play h item attempt ticket : ℕ) (place : Option ℕ) (p : ℕ) → place ≡ Some p → Says 1 0 (at_place play h place (λ task. Sends task item attempt ticket ∷ []))
+sent_says play h item attempt ticket None p e = cc
+sent_says play h item attempt ticket (Some q) p e = record { sends = refl; reports = refl; silent = λ none h. refl }
 
 -- the host that sends runs a task, and has no job out
 pub sending : (plan : PlanOf) (s : State) (h : HostNo) (item attempt : ℕ) (ticket : Ticket) (found : Option PlayOf) → open_play plan s ≡ found → option_map_or (may_send_in s h.0 item attempt ticket) found false ≡ true
@@ -109,7 +109,7 @@ sending plan s h item attempt ticket (Some play) o may =
 pub send_says : (plan : PlanOf) (s new : State) (h : HostNo) (item attempt : ℕ) (ticket : Ticket) → possible plan s (Send h item attempt ticket) ≡ true → Says 1 0 (told plan s (Send h item attempt ticket) new)
 send_says plan s new h item attempt ticket may =
     let at = sending plan s h item attempt ticket (open_play plan s) refl may in
-    sent_says s.play h.0 item ticket.0 (place_run_by s h) at.0.place at.3
+    sent_says s.play h.0 item attempt ticket.0 (place_run_by s h) at.0.place at.3
 
 -- and one whose report comes
 end_says : (h item ticket play k : ℕ) (place : Option ℕ) (found : Option PlayOf) (end : Option TaskEnd) → Says 0 1 (Reports h item ticket ∷ at_place play k place (λ task. ends_if found end task))
@@ -161,7 +161,7 @@ outs_next : (plan : PlanOf) (v new : Seen) (now : List Happening) → Tells plan
 outs_next plan v new now (Opening n more tasks inside waiting is) idle = omega (arith, outs_idle tasks is.idle, outs_idle v.tasks (idle is.shut))
 outs_next plan v new now (Starting true host place items end notified is so) idle = omega (arith, outs_put v.tasks host None None is.idle)
 outs_next plan v new now (Starting false host place items end notified is so) idle = omega (arith, outs_put v.tasks host None (Some (record { place = place; items = items; out = None })) is.idle)
-outs_next plan v new now (Sending host item ticket r is) idle = omega (arith, outs_put v.tasks host (Some r) (Some (record r { out = Some ticket })) is.there, none_out r is.free)
+outs_next plan v new now (Sending host item attempt ticket r is) idle = omega (arith, outs_put v.tasks host (Some r) (Some (record r { out = Some ticket })) is.there, none_out r is.free)
 outs_next plan v new now (Reporting true host item ticket r items end notified is so) idle = omega (arith, outs_put v.tasks host (Some r) None is.there, some_out r ticket.0 is.out)
 outs_next plan v new now (Reporting false host item ticket r items end notified is so) idle =
     omega (arith, outs_put v.tasks host (Some r) (Some (record { place = r.place; items = items; out = None })) is.there, some_out r ticket.0 is.out)
@@ -174,7 +174,7 @@ sends_next : (plan : PlanOf) (v new : Seen) (now : List Happening) → Tells pla
 sends_next plan v new now (Opening n more tasks inside waiting is) = omega arith
 sends_next plan v new now (Starting true host place items end notified is so) = omega arith
 sends_next plan v new now (Starting false host place items end notified is so) = omega arith
-sends_next plan v new now (Sending host item ticket r is) = omega arith
+sends_next plan v new now (Sending host item attempt ticket r is) = omega arith
 sends_next plan v new now (Reporting true host item ticket r items end notified is so) = omega arith
 sends_next plan v new now (Reporting false host item ticket r items end notified is so) = omega arith
 sends_next plan v new now (Turning more happens opened given is) = let says = given_says happens given in omega (arith, says.sends)
@@ -186,7 +186,7 @@ forks_next : (plan : PlanOf) (v new : Seen) (now : List Happening) → Tells pla
 forks_next plan v new now (Opening n more tasks inside waiting is) = refl
 forks_next plan v new now (Starting true host place items end notified is so) = refl
 forks_next plan v new now (Starting false host place items end notified is so) = refl
-forks_next plan v new now (Sending host item ticket r is) = refl
+forks_next plan v new now (Sending host item attempt ticket r is) = refl
 forks_next plan v new now (Reporting true host item ticket r items end notified is so) = refl
 forks_next plan v new now (Reporting false host item ticket r items end notified is so) = refl
 forks_next plan v new now (Turning more happens opened given is) = sym (given_forks happens given v.forks)
@@ -219,7 +219,7 @@ runs_next plan v new now pool (Starting true host place items end notified is so
 runs_next plan v new now pool (Starting false host place items end notified is so) f r =
     let room = ltb-true (count_running (places v.tasks)) v.forks is.room in
     omega (arith, f, room, runs_are v.tasks, runs_put v.tasks host None (Some (record { place = place; items = items; out = None })) is.idle)
-runs_next plan v new now pool (Sending host item ticket q is) f r = omega (arith, r, runs_put v.tasks host (Some q) (Some (record q { out = Some ticket })) is.there)
+runs_next plan v new now pool (Sending host item attempt ticket q is) f r = omega (arith, r, runs_put v.tasks host (Some q) (Some (record q { out = Some ticket })) is.there)
 runs_next plan v new now pool (Reporting true host item ticket q items end notified is so) f r = omega (arith, r, runs_put v.tasks host (Some q) None is.there)
 runs_next plan v new now pool (Reporting false host item ticket q items end notified is so) f r =
     omega (arith, r, runs_put v.tasks host (Some q) (Some (record { place = q.place; items = items; out = None })) is.there)
@@ -269,7 +269,7 @@ stays_next plan v new now h r t (Starting over host place items end notified is 
   o,
   refl,
 )
-stays_next plan v new now h r t (Sending host item ticket q is) o there out none = (
+stays_next plan v new now h r t (Sending host item attempt ticket q is) o there out none = (
   put_other v.tasks host h _ (Some r) (λ same. some_out_of q r t (sym is.there ∙ ap (slice_get v.tasks) (sym same) ∙ there) is.free out) there,
   o,
   refl,
@@ -301,7 +301,7 @@ forks_told plan s pool (Start h) may same f =
     omega (arith, f, start_forks s.forks s.play h.0 (next_at s h.0) (open_play plan s) (ended_in new))
 forks_told plan s pool (Send h item attempt ticket) may same f =
     let at = sending plan s h item attempt ticket (open_play plan s) refl may in
-    subst (λ (place : Option ℕ). forks_in s.forks (at_place s.play h.0 place (λ task. Sends task item ticket.0 ∷ [])) ≤ pool) (sym at.3) f
+    subst (λ (place : Option ℕ). forks_in s.forks (at_place s.play h.0 place (λ task. Sends task item attempt ticket.0 ∷ [])) ≤ pool) (sym at.3) f
 forks_told plan s pool (Reported r) may same f = by_end (place_run_by s r.host) (ended_in (after plan s (Reported r)).decided)
   where
     by_end : (place : Option ℕ) (end : Option TaskEnd) → forks_in s.forks (Reports r.host.0 r.item r.ticket.0 ∷ at_place s.play r.host.0 place (λ task. ends_if (open_play plan s) end task)) ≤ pool

@@ -83,7 +83,7 @@ behind_next : (plan : PlanOf) (v new : Seen) (happens : List Happening) (play : 
 unfolding IsBehind OpensSo
 behind_next plan v new happens play hosts (Opening n more tasks inside waiting is) w = behind_opens plan v n more new play hosts is.shut is.how refl refl w
 behind_next plan v new happens play hosts (Starting over host place items end notified is so) w = w
-behind_next plan v new happens play hosts (Sending host item ticket r is) w = w
+behind_next plan v new happens play hosts (Sending host item attempt ticket r is) w = w
 behind_next plan v new happens play hosts (Reporting over host item ticket r items end notified is so) w = w
 behind_next plan v new happens play hosts (Turning more told opened given is) (inl l) = inl l
 behind_next plan v new happens play hosts (Turning more told opened given is) (inr w) = inr (w.0, λ s. absurd (opened_shut v opened s), w.2)
@@ -107,7 +107,7 @@ unfolding AreBehind IsBehind
 all_behind plan past v new happens (Opening n more tasks inside waiting is) w = (inr (refl, λ s. cc, λ h was waits. (refl, was)), w)
 all_behind plan past v new happens (Starting true host place items end notified is so) w = w
 all_behind plan past v new happens (Starting false host place items end notified is so) w = w
-all_behind plan past v new happens (Sending host item ticket r is) w = w
+all_behind plan past v new happens (Sending host item attempt ticket r is) w = w
 all_behind plan past v new happens (Reporting true host item ticket r items end notified is so) w = w
 all_behind plan past v new happens (Reporting false host item ticket r items end notified is so) w = w
 all_behind plan past v new happens (Turning more told opened given is) w = given_behind new past happens given w
@@ -159,7 +159,7 @@ pub batch_next : (plan : PlanOf) (past : List Happening) (v new : Seen) (happens
 batch_next plan past v new happens (Opening n more tasks inside waiting is) b o = ap (λ (same : Bool). if same then inside else []) (eq-eqb n n refl)
 batch_next plan past v new happens (Starting true host place items end notified is so) b o = b o
 batch_next plan past v new happens (Starting false host place items end notified is so) b o = b o
-batch_next plan past v new happens (Sending host item ticket r is) b o = b o
+batch_next plan past v new happens (Sending host item attempt ticket r is) b o = b o
 batch_next plan past v new happens (Reporting true host item ticket r items end notified is so) b o = b o
 batch_next plan past v new happens (Reporting false host item ticket r items end notified is so) b o = b o
 batch_next plan past v new happens (Turning more told opened given is) b o = given_same (batch_of v.play) (λ before task how. refl) past happens given ∙ b o
@@ -171,7 +171,7 @@ joined_next : (plan : PlanOf) (v new : Seen) (happens : List Happening) → Tell
     → new.is_open ≡ true → (h : ℕ) → is_member new.inside h ≡ true → is_member new.waiting h ≡ true
 joined_next plan v new happens (Opening n more tasks inside waiting is) j o = is.joins
 joined_next plan v new happens (Starting over host place items end notified is so) j o = j o
-joined_next plan v new happens (Sending host item ticket r is) j o = j o
+joined_next plan v new happens (Sending host item attempt ticket r is) j o = j o
 joined_next plan v new happens (Reporting over host item ticket r items end notified is so) j o = j o
 joined_next plan v new happens (Turning more told opened given is) j o = j o
 joined_next plan v new happens (Closing tasks inside waiting is) j o = absurd (let shut : false ≡ true = o in cc)
@@ -200,7 +200,7 @@ own_next : (plan : PlanOf) (v new : Seen) (happens : List Happening) → Tells p
 unfolding OpensSo
 own_next plan v new happens (Opening n more tasks inside waiting is) own o = own_opens plan v n waiting is.how own
 own_next plan v new happens (Starting over host place items end notified is so) own o = own o
-own_next plan v new happens (Sending host item ticket r is) own o = own o
+own_next plan v new happens (Sending host item attempt ticket r is) own o = own o
 own_next plan v new happens (Reporting over host item ticket r items end notified is so) own o = own o
 own_next plan v new happens (Turning more told opened given is) own o = own (or_first v.is_open v.has_more opened)
 own_next plan v new happens (Closing tasks inside waiting is) own o = own_closes plan v v.has_more waiting o is.opened is.still own
@@ -220,7 +220,7 @@ own_hold plan past v new happens (Opening n more tasks inside waiting is) own =
     both (own_hosts plan past (Opens n inside)) true (ap not (none_were plan v n inside waiting is.shut is.how is.joins past own.behind)) refl
 own_hold plan past v new happens (Starting true host place items end notified is so) own = both (own_hosts plan past (Starts (task_on v host place))) true (start_is_own plan past v host place is own) refl
 own_hold plan past v new happens (Starting false host place items end notified is so) own = both (own_hosts plan past (Starts (task_on v host place))) true (start_is_own plan past v host place is own) refl
-own_hold plan past v new happens (Sending host item ticket r is) own = refl
+own_hold plan past v new happens (Sending host item attempt ticket r is) own = refl
 own_hold plan past v new happens (Reporting true host item ticket r items end notified is so) own = refl
 own_hold plan past v new happens (Reporting false host item ticket r items end notified is so) own = refl
 own_hold plan past v new happens (Turning more told opened given is) own = given_holds (own_hosts plan) (λ before task how. refl) past happens given

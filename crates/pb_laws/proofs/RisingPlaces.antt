@@ -85,10 +85,10 @@ unfolding starts_none
 report_none host item ticket k play end None = refl
 report_none host item ticket k play end (Some p) = ends_none play end (record { play = k; host = host; place = p })
 
-send_none : (k host item ticket : ℕ) (place : Option ℕ) → starts_none (at_place k host place (λ task. Sends task item ticket ∷ [])) ≡ true
+send_none : (k host item attempt ticket : ℕ) (place : Option ℕ) → starts_none (at_place k host place (λ task. Sends task item attempt ticket ∷ [])) ≡ true
 unfolding starts_none
-send_none k host item ticket None = refl
-send_none k host item ticket (Some p) = refl
+send_none k host item attempt ticket None = refl
+send_none k host item attempt ticket (Some p) = refl
 
 -- ---- runs
 module _ (plan : PlanOf) where
@@ -124,7 +124,7 @@ module _ (plan : PlanOf) where
       on_start s h es past (next_at s h.0) at.0 at.1 (on_from (after plan s (Start h)) es) (and_right (possible plan s (Start h)) _ l) rise all
   on_from s (Open ∷ es) past l rise all = on_free s Open es past (told plan s Open (after plan s Open)) refl (on_from (after plan s Open) es) (and_right (possible plan s Open) _ l) rise all
   on_from s (Send h item attempt ticket ∷ es) past l rise all =
-      on_free s (Send h item attempt ticket) es past (told plan s (Send h item attempt ticket) (after plan s (Send h item attempt ticket))) (send_none s.play h.0 item ticket.0 (place_run_by s h)) (on_from (after plan s (Send h item attempt ticket)) es)
+      on_free s (Send h item attempt ticket) es past (told plan s (Send h item attempt ticket) (after plan s (Send h item attempt ticket))) (send_none s.play h.0 item attempt ticket.0 (place_run_by s h)) (on_from (after plan s (Send h item attempt ticket)) es)
       (and_right (possible plan s (Send h item attempt ticket)) _ l) rise all
   on_from s (Reported r ∷ es) past l rise all =
       on_free s (Reported r) es past (told plan s (Reported r) (after plan s (Reported r)))

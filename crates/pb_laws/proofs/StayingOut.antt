@@ -321,7 +321,7 @@ clear_next plan past v new happens (Starting true host place items end notified 
     ends_apart plan (task_on v host place) end notified (Starts (task_on v host place) ∷ past) h (λ e. d (sym e)) task same
     ∙ outs.clear h out (sym (put_apart v.active host h (is_active (status_now (tree_at plan v.play) (is.answers ++ answer_of end notified ∷ []))) d) ∙ act) task same
 clear_next plan past v new happens (Starting false host place items end notified is so) outs h out act task same = outs.clear h out act task same
-clear_next plan past v new happens (Sending host item ticket r is) outs h out act task same = outs.clear h out act task same
+clear_next plan past v new happens (Sending host item attempt ticket r is) outs h out act task same = outs.clear h out act task same
 clear_next plan past v new happens (Reporting true host item ticket r items end notified is so) outs h out act task same =
     let d = out_apart v.inside host h is.inside (out is.opened) in
     ends_apart plan (task_on v host r.place) end notified (Reports host item ticket.0 ∷ past) h (λ e. d (sym e)) task same
@@ -349,7 +349,7 @@ waits_next plan past v new happens (Opening n more tasks inside waiting is) outs
 waits_next plan past v new happens (Starting true host place items end notified is so) outs h out w =
     put_apart v.active host h (is_active (status_now (tree_at plan v.play) (is.answers ++ answer_of end notified ∷ []))) (out_apart v.inside host h is.inside (out is.opened)) ∙ outs.waits h out w
 waits_next plan past v new happens (Starting false host place items end notified is so) outs h out w = outs.waits h out w
-waits_next plan past v new happens (Sending host item ticket r is) outs h out w = outs.waits h out w
+waits_next plan past v new happens (Sending host item attempt ticket r is) outs h out w = outs.waits h out w
 waits_next plan past v new happens (Reporting true host item ticket r items end notified is so) outs h out w =
     put_apart v.active host h (is_active (status_now (tree_at plan v.play) (is.answers ++ answer_of end notified ∷ []))) (out_apart v.inside host h is.inside (out is.opened)) ∙ outs.waits h out w
 waits_next plan past v new happens (Reporting false host item ticket r items end notified is so) outs h out w = outs.waits h out w
@@ -394,7 +394,7 @@ held_next plan past v new happens (Starting true host place items end notified i
     (λ zs f. quiet_held plan v.play h past (Starts (task_on v host place)) zs (λ task. refl) (outs.held o h zs i f)) i e
 held_next plan past v new happens (Starting false host place items end notified is so) outs o h xs i e =
     put_held plan v host h (Starts (task_on v host place) ∷ past) is.answers xs is.answered (λ zs f. quiet_held plan v.play h past (Starts (task_on v host place)) zs (λ task. refl) (outs.held o h zs i f)) e
-held_next plan past v new happens (Sending host item ticket r is) outs o h xs i e = held_same plan v.play h past (so_far past happens) xs (λ task same. refl) (outs.held o h xs i e)
+held_next plan past v new happens (Sending host item attempt ticket r is) outs o h xs i e = held_same plan v.play h past (so_far past happens) xs (λ task same. refl) (outs.held o h xs i e)
 held_next plan past v new happens (Reporting true host item ticket r items end notified is so) outs o h xs i e =
     ended_held plan v host r.place h (Reports host item ticket.0 ∷ past) is.answers xs end notified is.at
     (λ b. quiet_held plan v.play host past (Reports host item ticket.0) is.answers (λ task. refl) (outs.held o host is.answers b is.answered))
@@ -438,7 +438,7 @@ stands_next : (plan : PlanOf) (past : List Happening) (v new : Seen) (happens : 
 stands_next plan past v new happens (Opening n more tasks inside waiting is) outs o h xs i e act = inl (is.fresh h xs e)
 stands_next plan past v new happens (Starting true host place items end notified is so) outs o h xs i e act = ended_stands plan v host h past is.answers xs (answer_of end notified) outs o i e act
 stands_next plan past v new happens (Starting false host place items end notified is so) outs o h xs i e act = put_stands plan v host h past is.answers xs outs o i is.answered e act
-stands_next plan past v new happens (Sending host item ticket r is) outs o h xs i e act = outs.stands o h xs i e act
+stands_next plan past v new happens (Sending host item attempt ticket r is) outs o h xs i e act = outs.stands o h xs i e act
 stands_next plan past v new happens (Reporting true host item ticket r items end notified is so) outs o h xs i e act = ended_stands plan v host h past is.answers xs (answer_of end notified) outs o i e act
 stands_next plan past v new happens (Reporting false host item ticket r items end notified is so) outs o h xs i e act = put_stands plan v host h past is.answers xs outs o i is.answered e act
 stands_next plan past v new happens (Turning more told opened given is) outs o h xs i e act = elim (is.shows h xs i act e) [ inl w ↦ outs.stands o h xs i w.0 w.1 | inr w ↦ inr w ]
@@ -455,7 +455,7 @@ none_starts_out : (plan : PlanOf) (past : List Happening) (v new : Seen) (happen
 none_starts_out plan past v new happens (Opening n more tasks inside waiting is) outs = refl
 none_starts_out plan past v new happens (Starting true host place items end notified is so) outs = both (out_is_out plan past (Starts (task_on v host place))) true (start_not_out plan past v host place is outs) refl
 none_starts_out plan past v new happens (Starting false host place items end notified is so) outs = both (out_is_out plan past (Starts (task_on v host place))) true (start_not_out plan past v host place is outs) refl
-none_starts_out plan past v new happens (Sending host item ticket r is) outs = refl
+none_starts_out plan past v new happens (Sending host item attempt ticket r is) outs = refl
 none_starts_out plan past v new happens (Reporting true host item ticket r items end notified is so) outs = refl
 none_starts_out plan past v new happens (Reporting false host item ticket r items end notified is so) outs = refl
 none_starts_out plan past v new happens (Turning more told opened given is) outs = given_holds (out_is_out plan) (λ before task how. refl) past happens given

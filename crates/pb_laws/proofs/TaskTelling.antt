@@ -24,6 +24,7 @@ use Rattle.pb_tree.specs.declared.tree.Reach.TheVariants.{At}
 use Rattle.pb_one_host.specs.declared.decided.Done.{Done}
 use Rattle.pb_one_host.specs.declared.decided.TaskEnd.{TaskEnd}
 use Rattle.pb_one_host.specs.declared.row.Running.{Running}
+use Rattle.pb_one_host.specs.Attempts.{attempt_next}
 use Rattle.pb_one_host.specs.Ends.{answer_of}
 use Rattle.pb_one_host.specs.Handlers.{notified_by}
 use Rattle.pb_one_host.specs.Runs.{is_running, is_item, may_send_item, sends_running, awaits, awaits_running, is_ticket}
@@ -32,7 +33,7 @@ use Rattle.pb_all_hosts.specs.Giving.{gifts_at, report_gives}
 use Rattle.pb_all_hosts.specs.Hosts.{at_row}
 use Rattle.pb_state.specs.Machine.{open_play, next_at, facts_at, plan_seen, start_at, started_in, sent_in, reported_in, pending_at, may_start_in, may_send_in, may_report_in}
 use Rattle.pb_state.specs.Once.{running_place, place_run_by}
-use Rattle.pb_one_host.specs.Row.{HostRow, place_of, next_place, is_active, ended, pending, task_at, items_after, progressed, sent, sent_running, reported, reported_running}
+use Rattle.pb_one_host.specs.Row.{HostRow, place_of, next_place, is_active, ended, pending, task_at, came_back, items_after, progressed, sent, sent_running, reported, reported_running}
 use Rattle.pb_state.specs.State.{State}
 use Rattle.pb_one_host.specs.Standing.{standing}
 use Rattle.pb_state.specs.Strategies.{view_of}
@@ -44,6 +45,7 @@ use Rattle.pb_state.proofs.Walked.{stands_in, same_is}
 use Rattle.pb_state.proofs.Walks.{IsOfPlan}
 use Rattle.pb_laws.specs.History.{HostTask, Happening, Starts, Sends, Reports, at_place, ended_in, ends_if}
 use Rattle.pb_laws.specs.Laws.{tree_at}
+use Rattle.pb_laws.proofs.ItemTelling.{begin_untried, back_allowed}
 use Rattle.pb_laws.proofs.Telling.{Seen, tasks_of, active_of, walked_of, leads, seen, put, task_on, ended_so, left_so, answered_so, active_so, IsStarting, Tells, get_map, put_change, put_same, runs_places, member_in, row_at, changed_seen, play_there, in_tree, tree_there, next_leads, answers_there, all_known, Starting, Sending, Reporting}
 
 -- ---- a task that has come to some items
@@ -171,7 +173,7 @@ unfolding start_needs
 started plan s h p play row items are o may there stands of =
     subst (λ (told : List Happening). Tells plan (seen s) told (seen (start_at plan s h play p))) (sym (tells are))
     (subst (λ (new : Seen). Tells plan (seen s) (Starts (task_on (seen s) h p) ∷ ended_so (is_over items) (task_on (seen s) h p) (task_at play p items) (notified_by play p (task_at play p items))) new) (sym (sees are))
-    (Starting (is_over items) h p items (task_at play p items) (notified_by play p (task_at play p items)) (start_needs plan s h p play row o may there stands of) refl))
+    (Starting (is_over items) h p items (task_at play p items) (notified_by play p (task_at play p items)) (start_needs plan s h p play row o may there stands of) (record { ends = refl; untried = begin_untried (plan_seen plan s) play h (facts_at s h) p items are })))
   where
     tells : items ≡ items_at (plan_seen plan s) play h (facts_at s h) p
         → Starts (task_on (seen s) h p) ∷ ends_if (open_play plan s) (ended_in (start_at plan s h play p).decided) (task_on (seen s) h p)
@@ -212,9 +214,15 @@ start_tells plan s h None o may of = cc
 start_tells plan s h (Some play) o may of = start_at_tells plan s h play (next_at s h) refl o may (start_stands s h play may) of
 
 -- ---- a job that goes out, and what came of it
-pub sends_is : (item attempt : ℕ) (running : Option Running) → option_map_or (sends_running item attempt) running false ≡ true → (r : Running) × (running ≡ Some r) × (r.out ≡ None) × (next_item r.items ≡ Some item)
+pub sends_is : (item attempt : ℕ) (running : Option Running) → option_map_or (sends_running item attempt) running false ≡ true → (r : Running) × (running ≡ Some r) × (r.out ≡ None) × (next_item r.items ≡ Some item) × (attempt_next r.items ≡ attempt)
 sends_is item attempt None e = cc
-sends_is item attempt (Some r) e = (r, refl, free r.out (and_left (is_none r.out) _ e), at_is item (next_item r.items) (and_left (is_item item r.items) _ (and_right (is_none r.out) _ e)))
+sends_is item attempt (Some r) e = (
+  r,
+  refl,
+  free r.out (and_left (is_none r.out) _ e),
+  at_is item (next_item r.items) (and_left (is_item item r.items) _ (and_right (is_none r.out) _ e)),
+  eqb-true (attempt_next r.items) attempt (and_right (is_item item r.items) _ (and_right (is_none r.out) _ e)),
+)
   where
     free : (out : Option Ticket) → is_none out ≡ true → out ≡ None
     free None f = refl
@@ -236,29 +244,30 @@ pub place_there : (s : State) (h : HostNo) (row : HostRow) (r : Running) → sli
 place_there s h row r there runs = ap (λ (found : Option HostRow). option_map_or running_place found None) there ∙ ap (option_map (λ (x : Running). x.place)) runs
 
 sent_tells : (plan : PlanOf) (s : State) (h : HostNo) (item attempt : ℕ) (ticket : Ticket) (play : PlayOf) (row : HostRow) (r : Running) → open_play plan s ≡ Some play → may_send_in s h.0 item attempt ticket play ≡ true
-    → slice_get s.rows h.0 ≡ Some row → row.running ≡ Some r → r.out ≡ None → next_item r.items ≡ Some item
-    → Tells plan (seen s) (at_place s.play h.0 (place_run_by s h) (λ task. Sends task item ticket.0 ∷ [])) (seen (sent_in s h.0 ticket play))
-sent_tells plan s h item attempt ticket play row r o may there runs free next =
-    subst (λ (told : List Happening). Tells plan (seen s) told (seen (sent_in s h.0 ticket play))) (sym (ap (λ (place : Option ℕ). at_place s.play h.0 place (λ task. Sends task item ticket.0 ∷ [])) (place_there s h row r there runs)))
-    (subst (λ (new : Seen). Tells plan (seen s) (Sends (task_on (seen s) h.0 r.place) item ticket.0 ∷ []) new)
+    → slice_get s.rows h.0 ≡ Some row → row.running ≡ Some r → r.out ≡ None → next_item r.items ≡ Some item → attempt_next r.items ≡ attempt
+    → Tells plan (seen s) (at_place s.play h.0 (place_run_by s h) (λ task. Sends task item attempt ticket.0 ∷ [])) (seen (sent_in s h.0 ticket play))
+sent_tells plan s h item attempt ticket play row r o may there runs free next which =
+    subst (λ (told : List Happening). Tells plan (seen s) told (seen (sent_in s h.0 ticket play))) (sym (ap (λ (place : Option ℕ). at_place s.play h.0 place (λ task. Sends task item attempt ticket.0 ∷ [])) (place_there s h row r there runs)))
+    (subst (λ (new : Seen). Tells plan (seen s) (Sends (task_on (seen s) h.0 r.place) item attempt ticket.0 ∷ []) new)
     (sym (ap (λ (v : Seen). record v { sends = s.sends + 1 })
     (changed_seen s [] h.0 (sent ticket) row (Some (sent_running ticket r)) (active_of s.rows) (walked_of s.rows) there (ap (option_map (sent_running ticket)) runs) (map_same (λ (x : HostRow). is_active x.status) (sent ticket) (λ x. refl) s.rows h.0) (map_same (λ (x : HostRow). x.answers) (sent ticket) (λ x. refl) s.rows h.0) (λ x. refl) (λ x. refl))))
-    (Sending h.0 item ticket r
+    (Sending h.0 item attempt ticket r
     (record {
       opened = open_of plan s (may_send_in s h.0 item attempt ticket) (Some play) o may;
       there = task_there s h.0 row r there runs;
       free = free;
       next = next;
+      attempt_is = which;
       number = eqb-true ticket.0 s.sends (and_right (not s.stopped) _ (and_left (not s.stopped && nat_eq ticket.0 s.sends) _ may));
     })))
 
 pub send_tells : (plan : PlanOf) (s : State) (h : HostNo) (item attempt : ℕ) (ticket : Ticket) (found : Option PlayOf) → open_play plan s ≡ found → option_map_or (may_send_in s h.0 item attempt ticket) found false ≡ true
-    → Tells plan (seen s) (at_place s.play h.0 (place_run_by s h) (λ task. Sends task item ticket.0 ∷ [])) (seen (option_map_or (sent_in s h.0 ticket) found s))
+    → Tells plan (seen s) (at_place s.play h.0 (place_run_by s h) (λ task. Sends task item attempt ticket.0 ∷ [])) (seen (option_map_or (sent_in s h.0 ticket) found s))
 send_tells plan s h item attempt ticket None o may = cc
 send_tells plan s h item attempt ticket (Some play) o may =
     let at = row_at (may_send_item item attempt) s.rows h.0 (and_right (not s.stopped && nat_eq ticket.0 s.sends) _ may) in
     let is = sends_is item attempt at.0.running at.2 in
-    sent_tells plan s h item attempt ticket play at.0 is.0 o may at.1 is.1 is.2 is.3
+    sent_tells plan s h item attempt ticket play at.0 is.0 o may at.1 is.1 is.2 is.3 is.4
 
 -- a host that runs a task stands at its place, in the batch
 sound_at : (s : State) (h : ℕ) (row : HostRow) (q : Running) → s.is_open ≡ true → IsSound s → slice_get s.rows h ≡ Some row → row.running ≡ Some q → (reach row.tree row.answers ≡ At q.place) × (row.in_batch ≡ true)
@@ -287,7 +296,13 @@ reported_tells plan s r play row q items are o may there runs out next of sound 
       answers = row.answers;
       answered = answers_there s.rows r.host.0 row there;
       at = leads_on (sound_at s r.host.0 row q (open_of plan s (may_report_in s r) (Some play) o may) sound there runs);
-    }) refl))
+    })
+    (record {
+      ends = refl;
+      judge = came_back (plan_seen plan s) play row.host row.facts q.place r.outcome;
+      back = are;
+      allowed = λ item call result again. back_allowed plan (plan_seen plan s) s.play play row.host row.facts q.place r.outcome item call result (play_there plan s play o) again;
+    })))
   where
     leads_on : (reach row.tree row.answers ≡ At q.place) × (row.in_batch ≡ true) → leads plan s.play row.answers ≡ Some q.place
     leads_on runs_at =

@@ -5,7 +5,11 @@ use Rattle.std.specs.List.{list_any}
 use Rattle.std.specs.Option.{option_map_or}
 use Rattle.pb_ids.specs.declared.numbers.Ticket.{Ticket}
 use Rattle.pb_limits.specs.Counts.{has_room_for, running as count_running, running_at as count_running_at}
+use Rattle.pb_conditions.specs.declared.attempt.Back.{Back}
+use Rattle.pb_conditions.specs.declared.attempt.Back.TheVariants.{Again}
+use Rattle.pb_outcome.specs.declared.gather.ItemResult.{ItemResult}
 use Rattle.pb_outcome.specs.declared.item.Item.{Item}
+use Rattle.pb_outcome.specs.declared.job.Call.{Call}
 use Rattle.pb_outcome.specs.Items.{next_item, is_over}
 use Rattle.pb_planes.specs.Set.{is_in as is_member}
 use Rattle.pb_plan.specs.Plan.{PlayOf, PlanOf, throttles_of}
@@ -19,6 +23,7 @@ use Rattle.pb_tree.specs.Walk.{reach, status_now}
 use Rattle.pb_one_host.specs.declared.decided.TaskEnd.{TaskEnd}
 use Rattle.pb_one_host.specs.declared.row.Running.{Running}
 use Rattle.pb_all_hosts.specs.Batches.{has_later}
+use Rattle.pb_one_host.specs.Attempts.{back_in, attempt_after, attempt_next}
 use Rattle.pb_one_host.specs.Ends.{answer_of, plain_answer}
 use Rattle.pb_one_host.specs.Runs.{is_running}
 use Rattle.pb_all_hosts.specs.Hosts.{change, at_row, lesser, least_place}
@@ -30,7 +35,7 @@ use Rattle.pb_one_host.specs.Standing.{standing}
 use Rattle.pb_all_hosts.proofs.Giving.{change_on, given_map, map_same}
 use Rattle.pb_state.proofs.Walks.{AllIn}
 use Rattle.pb_laws.specs.History.{HostTask, Happening, MayRun, Opens, Starts, Sends, Reports, Ends, Given, Closes, Stops, batch_in}
-use Rattle.pb_laws.specs.Laws.{selects, tree_at, is_linear_play}
+use Rattle.pb_laws.specs.Laws.{selects, tree_at, is_linear_play, attempts_at}
 
 -- ---- what is seen of a state
 pub record Seen : Type 0 where
@@ -146,6 +151,24 @@ AreInside inside [] = Unit {0}
 AreInside inside (Given task kind ∷ rest) = (is_member inside task.host ≡ true) × AreInside inside rest
 AreInside inside (now ∷ rest) = AreInside inside rest
 
+-- ---- the items of a task
+-- no attempt at one of them has come back
+abbrev pub AreUntried : List Item → Type 0
+AreUntried [] = Unit {0}
+AreUntried (item ∷ items) = (item.tried ≡ 0) × AreUntried items
+
+-- a task starts with these items
+pub record HasBegun (over : Bool) (items : List Item) : Type 0 where
+  pub ends : is_over items ≡ over
+  pub untried : AreUntried items
+
+-- an attempt came back, and made these items of the others; another one follows only where it is one of those that the task allows
+pub record HasComeBack (most : ℕ) (old : List Item) (over : Bool) (items : List Item) : Type 0 where
+  pub ends : is_over items ≡ over
+  pub judge : Item → Call → Back
+  pub back : items ≡ back_in judge old
+  pub allowed : (item : Item) (call : Call) (result : ItemResult) → judge item call ≡ Again result → attempt_after item.tried + 1 ≤ most
+
 -- ---- what the events need
 pub record IsOpening (plan : PlanOf) (v : Seen) (n : ℕ) (tasks : List (Option Running)) (inside waiting : List Bool) : Type 0 where
   pub shut : v.is_open ≡ false
@@ -173,11 +196,12 @@ pub record IsStarting (plan : PlanOf) (v : Seen) (host place : ℕ) : Type 0 whe
   pub known : AreKnown v.inside v.walked
   pub current : is_linear_play plan v.play ≡ true → v.place ≡ Some place
 
-pub record IsSending (v : Seen) (host item : ℕ) (ticket : Ticket) (r : Running) : Type 0 where
+pub record IsSending (v : Seen) (host item attempt : ℕ) (ticket : Ticket) (r : Running) : Type 0 where
   pub opened : v.is_open ≡ true
   pub there : slice_get v.tasks host ≡ Some (Some r)
   pub free : r.out ≡ None
   pub next : next_item r.items ≡ Some item
+  pub attempt_is : attempt_next r.items ≡ attempt
   pub number : ticket.0 ≡ v.sends
 
 pub record IsReporting (plan : PlanOf) (v : Seen) (host item : ℕ) (ticket : Ticket) (r : Running) : Type 0 where
@@ -217,12 +241,12 @@ pub data Tells (plan : PlanOf) (v : Seen) : List Happening → Seen → Type 0 w
   Opening : (n : ℕ) (more : Bool) (tasks : List (Option Running)) (inside waiting : List Bool) → (is : IsOpening plan v n tasks inside waiting)
       → Tells plan v (Opens n inside ∷ [])
       (record { play = n; is_open = true; has_more = more; forks = v.forks; sends = v.sends; stopped = v.stopped; tasks = tasks; inside = inside; waiting = waiting; active = v.active; walked = is.walked; place = is.place })
-  Starting : (over : Bool) (host place : ℕ) (items : List Item) (end : TaskEnd) (notified : List ℕ) → (is : IsStarting plan v host place) → is_over items ≡ over
+  Starting : (over : Bool) (host place : ℕ) (items : List Item) (end : TaskEnd) (notified : List ℕ) → (is : IsStarting plan v host place) → HasBegun over items
       → Tells plan v (Starts (task_on v host place) ∷ ended_so over (task_on v host place) end notified)
       (record v { tasks = put v.tasks host (left_so over place items); active = active_so over v.active host (tree_at plan v.play) is.answers (answer_of end notified); walked = put v.walked host (answered_so over is.answers (answer_of end notified)) })
-  Sending : (host item : ℕ) (ticket : Ticket) (r : Running) → IsSending v host item ticket r
-      → Tells plan v (Sends (task_on v host r.place) item ticket.0 ∷ []) (record v { tasks = put v.tasks host (Some (sent_running ticket r)); sends = v.sends + 1 })
-  Reporting : (over : Bool) (host item : ℕ) (ticket : Ticket) (r : Running) (items : List Item) (end : TaskEnd) (notified : List ℕ) → (is : IsReporting plan v host item ticket r) → is_over items ≡ over
+  Sending : (host item attempt : ℕ) (ticket : Ticket) (r : Running) → IsSending v host item attempt ticket r
+      → Tells plan v (Sends (task_on v host r.place) item attempt ticket.0 ∷ []) (record v { tasks = put v.tasks host (Some (sent_running ticket r)); sends = v.sends + 1 })
+  Reporting : (over : Bool) (host item : ℕ) (ticket : Ticket) (r : Running) (items : List Item) (end : TaskEnd) (notified : List ℕ) → (is : IsReporting plan v host item ticket r) → HasComeBack (attempts_at plan v.play r.place) r.items over items
       → Tells plan v (Reports host item ticket.0 ∷ ended_so over (task_on v host r.place) end notified)
       (record v { tasks = put v.tasks host (left_so over r.place items); active = active_so over v.active host (tree_at plan v.play) is.answers (answer_of end notified); walked = put v.walked host (answered_so over is.answers (answer_of end notified)) })
   Turning : (more : Bool) (told : List Happening) → v.is_open ≡ true → AreGiven told → (is : IsTurning plan v told) → Tells plan v told (record v { has_more = more; active = is.active; walked = is.walked; place = is.place })

@@ -71,7 +71,7 @@ module _ (kind : HostTask → Bool) (of : ℕ → Option ℕ → Bool) (same : (
         ap one_if (none v.play),
         ap one_if (same (task_on v host place)),
       )
-  counted plan past v new happens (Sending host item ticket r is) idle c = omega (arith, c, tally_put (of v.play) v.tasks host (Some r) (Some (record r { out = Some ticket })) is.there)
+  counted plan past v new happens (Sending host item attempt ticket r is) idle c = omega (arith, c, tally_put (of v.play) v.tasks host (Some r) (Some (record r { out = Some ticket })) is.there)
   counted plan past v new happens (Reporting true host item ticket r items end notified is so) idle c =
       omega (arith, c, tally_put (of v.play) v.tasks host (Some r) None is.there, ap one_if (none v.play), ap one_if (same (task_on v host r.place)))
   counted plan past v new happens (Reporting false host item ticket r items end notified is so) idle c =
@@ -100,7 +100,7 @@ pub forks_next : (plan : PlanOf) (past : List Happening) (v new : Seen) (happens
 forks_next plan past v new happens (Opening n more tasks inside waiting is) e = e
 forks_next plan past v new happens (Starting true host place items end notified is so) e = e
 forks_next plan past v new happens (Starting false host place items end notified is so) e = e
-forks_next plan past v new happens (Sending host item ticket r is) e = e
+forks_next plan past v new happens (Sending host item attempt ticket r is) e = e
 forks_next plan past v new happens (Reporting true host item ticket r items end notified is so) e = e
 forks_next plan past v new happens (Reporting false host item ticket r items end notified is so) e = e
 forks_next plan past v new happens (Turning more told opened given is) e = given_same may_run (λ before task how. refl) past happens given ∙ e
@@ -118,7 +118,7 @@ opened_shut v o s = let both_ways : true ≡ false = sym o ∙ s in cc
 pub idle_next : (plan : PlanOf) (v new : Seen) (happens : List Happening) → Tells plan v happens new → (v.is_open ≡ false → list_any is_some v.tasks ≡ false) → new.is_open ≡ false → list_any is_some new.tasks ≡ false
 idle_next plan v new happens (Opening n more tasks inside waiting is) idle s = cc
 idle_next plan v new happens (Starting over host place items end notified is so) idle s = absurd (opened_shut v is.opened s)
-idle_next plan v new happens (Sending host item ticket r is) idle s = absurd (opened_shut v is.opened s)
+idle_next plan v new happens (Sending host item attempt ticket r is) idle s = absurd (opened_shut v is.opened s)
 idle_next plan v new happens (Reporting over host item ticket r items end notified is so) idle s = absurd (opened_shut v is.opened s)
 idle_next plan v new happens (Turning more told opened given is) idle s = absurd (opened_shut v opened s)
 idle_next plan v new happens (Closing tasks inside waiting is) idle s = is.idle
@@ -147,7 +147,7 @@ forks_hold : (plan : PlanOf) (past : List Happening) (v new : Seen) (happens : L
 forks_hold plan past v new happens (Opening n more tasks inside waiting is) c = refl
 forks_hold plan past v new happens (Starting true host place items end notified is so) c = both (within_forks plan past (Starts (task_on v host place))) true (started_holds plan past v host place is c) refl
 forks_hold plan past v new happens (Starting false host place items end notified is so) c = both (within_forks plan past (Starts (task_on v host place))) true (started_holds plan past v host place is c) refl
-forks_hold plan past v new happens (Sending host item ticket r is) c = refl
+forks_hold plan past v new happens (Sending host item attempt ticket r is) c = refl
 forks_hold plan past v new happens (Reporting true host item ticket r items end notified is so) c = refl
 forks_hold plan past v new happens (Reporting false host item ticket r items end notified is so) c = refl
 forks_hold plan past v new happens (Turning more told opened given is) c = given_holds (within_forks plan) (λ before task how. refl) past happens given

@@ -31,8 +31,8 @@ pub data Happening : Type 0 where
   Opens : ℕ → List Bool → Happening
   -- a host starts a task
   Starts : HostTask → Happening
-  -- the job of this item of a host's task goes out under this ticket
-  Sends : HostTask → ℕ → ℕ → Happening
+  -- the job of this item of a host's task goes out, as this attempt at it, under this ticket
+  Sends : HostTask → ℕ → ℕ → ℕ → Happening
   -- what came of a job is told: of this host, for this item, under this ticket
   Reports : ℕ → ℕ → ℕ → Happening
   -- a host's task ends so, and notifies these handlers
@@ -81,7 +81,7 @@ batch_in rows = map (λ (row : HostRow). row.in_batch) rows
 abbrev pub told : PlanOf → State → Event → State → List Happening
 told plan s Open new = Opens new.play (batch_in new.rows) ∷ []
 told plan s (Start h) new = at_place s.play h.0 (next_at s h.0) (λ task. Starts task ∷ ends_if (open_play plan s) (ended_in new.decided) task)
-told plan s (Send h item attempt ticket) new = at_place s.play h.0 (place_run_by s h) (λ task. Sends task item ticket.0 ∷ [])
+told plan s (Send h item attempt ticket) new = at_place s.play h.0 (place_run_by s h) (λ task. Sends task item attempt ticket.0 ∷ [])
 told plan s (Reported r) new =
     Reports r.host.0 r.item r.ticket.0 ∷ at_place s.play r.host.0 (place_run_by s r.host) (λ task. ends_if (open_play plan s) (ended_in new.decided) task)
 told plan s Turn new = given_in s.play 0 s.rows new.rows

@@ -6,7 +6,7 @@ use Rattle.pb_state.specs.Machine.{first_state}
 use Rattle.pb_state.specs.Run.{IsFinished, legal_from, state_from}
 use Rattle.pb_recap.specs.Recap.{recap}
 use Rattle.pb_laws.specs.History.{Happening, history}
-use Rattle.pb_laws.specs.Laws.{holds_from, so_far, own_hosts, within_forks, in_order, places_rise, out_is_out, have_walked, all_closed, jobs_in_order, all_answered, add_up, status_tells}
+use Rattle.pb_laws.specs.Laws.{holds_from, so_far, own_hosts, within_forks, in_order, places_rise, out_is_out, have_walked, all_closed, jobs_in_order, all_answered, attempts_in_order, add_up, status_tells}
 
 -- each thing that happens in this run fits what happened before it
 abbrev pub Keeps : (PlanOf → List Happening → Happening → Bool) → PlanOf → ℕ → List Event → Type 0
@@ -33,6 +33,8 @@ pub record KeepsLaws (plan : PlanOf) (pool : ℕ) (trail : List Event) : Type 0 
   -- a report answers a job that is out, and none twice; and at the end all are answered
   pub jobs : Keeps jobs_in_order plan pool trail
   pub answered : KeepsAtTheEnd all_answered plan pool trail
+  -- the attempts at an item go out one behind the report of the other, and no more of them than its task allows
+  pub attempts : Keeps attempts_in_order plan pool trail
   -- the counts of the recap come to the tasks that ended, and the exit status tells whether one of them failed or a host was out of reach
   pub counts : add_up 0 (recap plan pool trail) (so_far [] (history plan plan.forks pool trail)) ≡ true
   pub status : status_tells (recap plan pool trail) ≡ true

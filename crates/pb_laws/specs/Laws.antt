@@ -1,10 +1,13 @@
 -- What an operator may rely on in every run. Each law says of all that happens whether it fits what happened before it; what happened before stands newest
 -- first.
-use Rattle.std.specs.Prelude.{◌≡◌, ℕ, zero, suc, ◌+◌, ◌-◌, ◌==◌, nat_lt, nat_le, Bool, true, false, ◌&&◌, ◌||◌, not, List, [], ◌∷◌, ◌++◌, Option, is_none, slice_get, slice_index_or, if◌then◌else◌}
+use Rattle.std.specs.Prelude.{◌≡◌, ℕ, zero, suc, ◌+◌, ◌-◌, ◌==◌, nat_lt, nat_le, Bool, true, false, ◌&&◌, ◌||◌, not, List, [], ◌∷◌, ◌++◌, Option, Some, None, is_none, slice_get, slice_index_or, if◌then◌else◌}
 use Rattle.std.specs.List.{list_any}
 use Rattle.std.specs.Option.{option_map_or}
 use Rattle.pb_limits.specs.Counts.{has_room_for}
 use Rattle.pb_places.specs.Caught.{caught_places}
+use Rattle.pb_places.specs.Place.{PlaceOf}
+use Rattle.pb_play.specs.declared.retrying.Retrying.{Retrying}
+use Rattle.pb_play.specs.declared.task.Task.{Task as PlayTask}
 use Rattle.pb_planes.specs.Set.{is_in as is_member}
 use Rattle.pb_plan.specs.Plan.{PlayOf, PlanOf, throttles_of}
 use Rattle.pb_strategies.specs.MayStart.{is_linear}
@@ -248,18 +251,18 @@ all_closed plan past = was_stopped past || (may_run past == 0) || not (is_open p
 -- and its item, so that none is answered twice
 abbrev pub jobs_sent : List Happening → ℕ
 jobs_sent [] = 0
-jobs_sent (Sends task item ticket ∷ past) = jobs_sent past + 1
+jobs_sent (Sends task item attempt ticket ∷ past) = jobs_sent past + 1
 jobs_sent (now ∷ past) = jobs_sent past
 
 -- a job of a host, for an item, is out under a ticket: it was sent so, and no report under that ticket has come since
 abbrev pub is_out : ℕ → ℕ → ℕ → List Happening → Bool
 is_out host item ticket [] = false
-is_out host item ticket (Sends task other under ∷ past) = if under == ticket then (task.host == host) && (other == item) else is_out host item ticket past
+is_out host item ticket (Sends task other attempt under ∷ past) = if under == ticket then (task.host == host) && (other == item) else is_out host item ticket past
 is_out host item ticket (Reports from other under ∷ past) = not (under == ticket) && is_out host item ticket past
 is_out host item ticket (now ∷ past) = is_out host item ticket past
 
 abbrev pub jobs_in_order : PlanOf → List Happening → Happening → Bool
-jobs_in_order plan past (Sends task item ticket) = (ticket == jobs_sent past) && runs task past
+jobs_in_order plan past (Sends task item attempt ticket) = (ticket == jobs_sent past) && runs task past
 jobs_in_order plan past (Reports host item ticket) = is_out host item ticket past
 jobs_in_order plan past now = true
 
@@ -276,6 +279,43 @@ answered_below (suc ticket) past = is_answered ticket past && answered_below tic
 
 abbrev pub all_answered : PlanOf → List Happening → Bool
 all_answered plan past = answered_below (jobs_sent past) past
+
+-- ---- attempts: those at an item are numbered from 1, and there are no more of them than its task allows; each goes out only once what came of the one before is
+-- told, and then none at an item before it follows; and a task ends only once what came of its last one is told
+-- one, and as many more as a task that may be tried again says
+abbrev pub most_attempts : PlayTask → ℕ
+most_attempts task = option_map_or (λ (r : Retrying). r.retries + 1) task.retrying 1
+
+abbrev pub attempts_in : ℕ → PlayOf → ℕ
+attempts_in place play = option_map_or (λ (at : PlaceOf). most_attempts at.task) (slice_get play.places place) 1
+
+abbrev pub attempts_at : PlanOf → ℕ → ℕ → ℕ
+attempts_at plan play place = option_map_or (attempts_in place) (slice_get plan.plays play) 1
+
+-- which attempt, at which item of a task, went out last since its host started it
+abbrev pub last_sent : HostTask → List Happening → Option (ℕ × ℕ)
+last_sent task [] = None
+last_sent task (Starts other ∷ past) = if is_same_task other task then None else last_sent task past
+last_sent task (Sends other item attempt ticket ∷ past) = if is_same_task other task then Some (item, attempt) else last_sent task past
+last_sent task (now ∷ past) = last_sent task past
+
+-- the next attempt at that item, or the first one at an item behind it
+abbrev pub follows_in_item : ℕ → ℕ → Option (ℕ × ℕ) → Bool
+follows_in_item item attempt None = attempt == 1
+follows_in_item item attempt (Some last) = ((item == last.0) && (attempt == last.1 + 1)) || (nat_lt last.0 item && (attempt == 1))
+
+-- whether what came of a job of a host is still to be told
+abbrev pub is_awaited : ℕ → List Happening → Bool
+is_awaited host [] = false
+is_awaited host (Sends task item attempt ticket ∷ past) = (task.host == host) || is_awaited host past
+is_awaited host (Reports from item ticket ∷ past) = not (from == host) && is_awaited host past
+is_awaited host (now ∷ past) = is_awaited host past
+
+abbrev pub attempts_in_order : PlanOf → List Happening → Happening → Bool
+attempts_in_order plan past (Sends task item attempt ticket) =
+    follows_in_item item attempt (last_sent task past) && nat_le attempt (attempts_at plan task.play task.place) && not (is_awaited task.host past)
+attempts_in_order plan past (Ends task end notified) = not (is_awaited task.host past)
+attempts_in_order plan past now = true
 
 -- ---- the recap adds up: of each host the tasks that count as ok, failed, rescued, skipped and unreachable are together those that ended on it; and the exit
 -- status is 0 exactly where no host has one that counts as failed or unreachable

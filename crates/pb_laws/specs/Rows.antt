@@ -1,5 +1,5 @@
 -- Worked histories: of each law one that keeps it and one that breaks it; and what the runs of two small plans tell.
-use Rattle.std.specs.Prelude.{◌≡◌, ℕ, pos, Bool, true, false, List, [], ◌∷◌, codes, None, refl}
+use Rattle.std.specs.Prelude.{◌≡◌, ℕ, pos, Bool, true, false, List, [], ◌∷◌, codes, Some, None, refl}
 use Rattle.pb_outcome.specs.declared.outcome.Form.TheVariants.{Ran}
 use Rattle.pb_outcome.specs.declared.gather.TaskResult.{TaskResult}
 use Rattle.pb_plan.specs.Plan.{PlanOf, PlayOf, bare_play, bare_plan, bare_tree}
@@ -9,12 +9,12 @@ use Rattle.pb_state.specs.BlockRows.{runs, refuses, says, last}
 use Rattle.pb_one_host.specs.FactRows.{on_facts}
 use Rattle.pb_one_host.specs.declared.decided.TaskEnd.{TaskEnd}
 use Rattle.pb_state.specs.declared.event.Event.{Event}
-use Rattle.pb_state.specs.declared.event.Event.TheVariants.{Open, Report as Reported, Turn, Close, Stop, Forks}
+use Rattle.pb_state.specs.declared.event.Event.TheVariants.{Open, Send, Report as Reported, Turn, Close, Stop, Forks}
 use Rattle.pb_one_host.specs.declared.row.Counts.{Counts}
 use Rattle.pb_tree.specs.declared.answer.Kind.TheVariants.{Halted}
 use Rattle.pb_tree.specs.Tree.{Nothing, Task, Block, Flush}
 use Rattle.pb_laws.specs.History.{HostTask, Happening, MayRun, Opens, Starts, Sends, Reports, Ends, Given, Closes, Stops, history}
-use Rattle.pb_laws.specs.Laws.{holds_from, so_far, own_hosts, within_forks, in_order, out_is_out, have_walked, all_closed, jobs_in_order, all_answered, add_up, status_tells}
+use Rattle.pb_laws.specs.Laws.{holds_from, so_far, own_hosts, within_forks, in_order, out_is_out, have_walked, all_closed, jobs_in_order, all_answered, attempts_in_order, add_up, status_tells}
 
 -- two hosts, of which the first alone is one of the first play's, and both are of the second; each play has one command, with a throttle of one
 abbrev one_task : List Bool → PlayOf
@@ -79,32 +79,72 @@ fewer_forks : holds_from (within_forks two_plays) [] (MayRun 2 ∷ Starts (on 0 
 fewer_forks = refl
 
 -- ---- jobs
-sent_and_back : holds_from (jobs_in_order two_plays) [] (Starts (on 1 0) ∷ Sends (on 1 0) 0 0 ∷ Reports 0 0 0 ∷ Sends (on 1 0) 1 1 ∷ Reports 0 1 1 ∷ []) ≡ true
+sent_and_back : holds_from (jobs_in_order two_plays) [] (Starts (on 1 0) ∷ Sends (on 1 0) 0 1 0 ∷ Reports 0 0 0 ∷ Sends (on 1 0) 1 1 1 ∷ Reports 0 1 1 ∷ []) ≡ true
 sent_and_back = refl
 
-ticket_left_out : holds_from (jobs_in_order two_plays) [] (Starts (on 1 0) ∷ Sends (on 1 0) 0 1 ∷ []) ≡ false
+ticket_left_out : holds_from (jobs_in_order two_plays) [] (Starts (on 1 0) ∷ Sends (on 1 0) 0 1 1 ∷ []) ≡ false
 ticket_left_out = refl
 
-sent_without_start : holds_from (jobs_in_order two_plays) [] (Starts (on 1 0) ∷ Sends (on 1 1) 0 0 ∷ []) ≡ false
+sent_without_start : holds_from (jobs_in_order two_plays) [] (Starts (on 1 0) ∷ Sends (on 1 1) 0 1 0 ∷ []) ≡ false
 sent_without_start = refl
 
-sent_behind_the_end : holds_from (jobs_in_order two_plays) [] (Starts (on 1 0) ∷ Ends (on 1 0) well [] ∷ Sends (on 1 0) 0 0 ∷ []) ≡ false
+sent_behind_the_end : holds_from (jobs_in_order two_plays) [] (Starts (on 1 0) ∷ Ends (on 1 0) well [] ∷ Sends (on 1 0) 0 1 0 ∷ []) ≡ false
 sent_behind_the_end = refl
 
-answered_twice : holds_from (jobs_in_order two_plays) [] (Starts (on 1 0) ∷ Sends (on 1 0) 0 0 ∷ Reports 0 0 0 ∷ Reports 0 0 0 ∷ []) ≡ false
+answered_twice : holds_from (jobs_in_order two_plays) [] (Starts (on 1 0) ∷ Sends (on 1 0) 0 1 0 ∷ Reports 0 0 0 ∷ Reports 0 0 0 ∷ []) ≡ false
 answered_twice = refl
 
-answered_for_another : holds_from (jobs_in_order two_plays) [] (Starts (on 1 0) ∷ Sends (on 1 0) 0 0 ∷ Reports 1 0 0 ∷ []) ≡ false
+answered_for_another : holds_from (jobs_in_order two_plays) [] (Starts (on 1 0) ∷ Sends (on 1 0) 0 1 0 ∷ Reports 1 0 0 ∷ []) ≡ false
 answered_for_another = refl
 
 answered_unsent : holds_from (jobs_in_order two_plays) [] (Starts (on 1 0) ∷ Reports 0 0 0 ∷ []) ≡ false
 answered_unsent = refl
 
-both_answered : all_answered two_plays (so_far [] (Sends (on 1 0) 0 0 ∷ Sends (on 1 1) 0 1 ∷ Reports 1 0 1 ∷ Reports 0 0 0 ∷ [])) ≡ true
+both_answered : all_answered two_plays (so_far [] (Sends (on 1 0) 0 1 0 ∷ Sends (on 1 1) 0 1 1 ∷ Reports 1 0 1 ∷ Reports 0 0 0 ∷ [])) ≡ true
 both_answered = refl
 
-one_unanswered : all_answered two_plays (so_far [] (Sends (on 1 0) 0 0 ∷ Sends (on 1 1) 0 1 ∷ Reports 1 0 1 ∷ [])) ≡ false
+one_unanswered : all_answered two_plays (so_far [] (Sends (on 1 0) 0 1 0 ∷ Sends (on 1 1) 0 1 1 ∷ Reports 1 0 1 ∷ [])) ≡ false
 one_unanswered = refl
+
+-- ---- attempts
+-- two hosts, and one command that may be tried once more
+abbrev tried : PlanOf
+tried =
+    bare_plan (codes "a" ∷ codes "b" ∷ [])
+    (bare_play (codes "p") (bare_tree 0 1 0) (record runs { task = record runs.task { retrying = Some (record { until = None; retries = 1; delay = 0 }) } } ∷ []) (true ∷ true ∷ []) ∷ [])
+
+abbrev fits_attempts : List Happening → Bool
+fits_attempts happens = holds_from (attempts_in_order tried) [] (Starts (on 0 0) ∷ happens)
+
+tried_once_more : fits_attempts (Sends (on 0 0) 0 1 0 ∷ Reports 0 0 0 ∷ Sends (on 0 0) 0 2 1 ∷ Reports 0 0 1 ∷ Sends (on 0 0) 1 1 2 ∷ Reports 0 1 2 ∷ Ends (on 0 0) well [] ∷ []) ≡ true
+tried_once_more = refl
+
+tried_too_often : fits_attempts (Sends (on 0 0) 0 1 0 ∷ Reports 0 0 0 ∷ Sends (on 0 0) 0 2 1 ∷ Reports 0 0 1 ∷ Sends (on 0 0) 0 3 2 ∷ []) ≡ false
+tried_too_often = refl
+
+tried_before_its_report : fits_attempts (Sends (on 0 0) 0 1 0 ∷ Sends (on 0 0) 0 2 1 ∷ []) ≡ false
+tried_before_its_report = refl
+
+second_comes_first : fits_attempts (Sends (on 0 0) 0 2 0 ∷ []) ≡ false
+second_comes_first = refl
+
+first_comes_twice : fits_attempts (Sends (on 0 0) 0 1 0 ∷ Reports 0 0 0 ∷ Sends (on 0 0) 0 1 1 ∷ []) ≡ false
+first_comes_twice = refl
+
+-- once another item has an attempt, the one before it has no more
+tried_later : fits_attempts (Sends (on 0 0) 0 1 0 ∷ Reports 0 0 0 ∷ Sends (on 0 0) 1 1 1 ∷ Reports 0 1 1 ∷ Sends (on 0 0) 0 2 2 ∷ []) ≡ false
+tried_later = refl
+
+ends_before_its_report : fits_attempts (Sends (on 0 0) 0 1 0 ∷ Ends (on 0 0) well [] ∷ []) ≡ false
+ends_before_its_report = refl
+
+-- hosts go on by themselves
+beside_another_host : fits_attempts (Sends (on 0 0) 0 1 0 ∷ Starts (on 0 1) ∷ Sends (on 0 1) 0 1 1 ∷ Reports 0 0 0 ∷ Sends (on 0 0) 0 2 2 ∷ Reports 1 0 1 ∷ Ends (on 0 1) well [] ∷ []) ≡ true
+beside_another_host = refl
+
+-- a task that doesn't speak of it is tried once
+tried_unasked : holds_from (attempts_in_order two_plays) [] (Starts (on 0 0) ∷ Sends (on 0 0) 0 1 0 ∷ Reports 0 0 0 ∷ Sends (on 0 0) 0 2 1 ∷ []) ≡ false
+tried_unasked = refl
 
 -- ---- the recap
 abbrev none_yet : Counts
@@ -212,7 +252,7 @@ abbrev trail : List Event
 trail = Open ∷ start 0 ∷ Turn ∷ Close ∷ Open ∷ start 1 ∷ send 1 0 ∷ Forks 2 ∷ went 1 0 ∷ Turn ∷ Close ∷ Stop ∷ []
 
 tells : history hello 5 256 trail
-    ≡ MayRun 5 ∷ Opens 0 (true ∷ false ∷ []) ∷ Starts (on 0 0) ∷ Ends (on 0 0) badly [] ∷ Closes 0 ∷ Opens 1 (false ∷ true ∷ []) ∷ Starts (on 1 1) ∷ Sends (on 1 1) 0 0 ∷ MayRun 2
+    ≡ MayRun 5 ∷ Opens 0 (true ∷ false ∷ []) ∷ Starts (on 0 0) ∷ Ends (on 0 0) badly [] ∷ Closes 0 ∷ Opens 1 (false ∷ true ∷ []) ∷ Starts (on 1 1) ∷ Sends (on 1 1) 0 1 0 ∷ MayRun 2
     ∷ Reports 1 0 0 ∷ Ends (on 1 1) well [] ∷ Closes 1 ∷ Stops ∷ []
 unfolding on_facts
 tells = refl
@@ -231,3 +271,15 @@ halted_trail = Open ∷ start 0 ∷ send 0 0 ∷ start 1 ∷ send 1 1 ∷ fails 
 halted_twice : (is_legal always_part halted_trail ≡ true) × (holds_from (out_is_out always_part) [] (history always_part 5 256 halted_trail) ≡ true)
 unfolding on_facts
 halted_twice = (refl, refl)
+
+-- a command that fails is tried once more, and goes well
+abbrev again : Event
+again = Send (record { 0 = 0 }) 0 2 (record { 0 = 1 })
+
+abbrev then_well : Event
+then_well = Reported (record { ticket = record { 0 = 1 }; host = record { 0 = 0 }; item = 0; attempt = 2; outcome = Ran (pos 0) [] [] })
+
+tells_attempts : history tried 5 256 (Open ∷ start 0 ∷ send 0 0 ∷ fails ∷ again ∷ then_well ∷ [])
+    ≡ MayRun 5 ∷ Opens 0 (true ∷ true ∷ []) ∷ Starts (on 0 0) ∷ Sends (on 0 0) 0 1 0 ∷ Reports 0 0 0 ∷ Sends (on 0 0) 0 2 1 ∷ Reports 0 0 1 ∷ Ends (on 0 0) well [] ∷ []
+unfolding on_facts
+tells_attempts = refl

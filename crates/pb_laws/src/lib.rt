@@ -1,12 +1,12 @@
 //! Laws of runs: what an operator may rely on in every run of every plan.
 //!
 //! For the layers above: each function here does nothing, and its contract is a law of all legal trails, in an operator's words: own
-//! hosts, forks, order, who is out, that everything was done, jobs, and that the recap adds up (docs/THEOREM.md has them on one page). They are said over what happens in
-//! a run (`history`), which is read off a plan and a trail. `runs_keep_laws` is all of them at once: a call that knows that its trail is legal cites it, and
+//! hosts, forks, order, who is out, that everything was done, jobs, their attempts, and that the recap adds up (docs/THEOREM.md has them on one page). They are said over what
+//! happens in a run (`history`), which is read off a plan and a trail. `runs_keep_laws` is all of them at once: a call that knows that its trail is legal cites it, and
 //! says in its own contract that this trail keeps them (`KeepsLaws`).
 #![tactic(auto)]
 
-ghost use Rattle.pb_laws.specs.Laws.{Always, AtTheEnd, own_hosts, within_forks, in_order, places_rise, out_is_out, have_walked, all_closed, jobs_in_order, all_answered, RecapAddsUp};
+ghost use Rattle.pb_laws.specs.Laws.{Always, AtTheEnd, own_hosts, within_forks, in_order, places_rise, out_is_out, have_walked, all_closed, jobs_in_order, all_answered, attempts_in_order, RecapAddsUp};
 ghost use Rattle.pb_laws.specs.JobsOut.{RunsFitWorkers};
 ghost use Rattle.pb_laws.specs.Kept.{RunsKeepLaws};
 
@@ -46,6 +46,12 @@ pub fn everything_is_done()
 pub fn jobs_are_answered_once()
     ensures in_order { Always jobs_in_order }
     ensures at_the_end { AtTheEnd all_answered }
+{}
+
+/// The attempts at an item are numbered from 1, and there are no more of them than its task allows: one, and as many more as it may be tried again. Each goes out only once
+/// what came of the one before is told; once an item behind it has one, an item has no more; and a task ends only once what came of its last attempt is told.
+pub fn attempts_follow_reports()
+    ensures { Always attempts_in_order }
 {}
 
 /// Of each host the recap's counts of ok, failed, rescued, skipped and unreachable tasks come to the number of the tasks that ended on it, where a

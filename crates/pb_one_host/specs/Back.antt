@@ -2,28 +2,33 @@
 use Rattle.std.specs.Prelude.{◌≡◌, ⊤, ℕ, Bool, false, ◌||◌, List, [], Option, Some, None, option_map, slice_get}
 use Rattle.std.specs.Option.{option_map_or}
 use Rattle.pb_value.specs.Datum.{Datum}
+use Rattle.pb_conditions.specs.declared.attempt.Back.{Back}
+use Rattle.pb_conditions.specs.declared.attempt.Back.TheVariants.{Ends}
 use Rattle.pb_inventory.specs.InventoryOf.{InventoryOf}
 use Rattle.pb_facts.specs.Facts.{FactsOf}
 use Rattle.pb_outcome.specs.declared.gather.ItemResult.{ItemResult}
 use Rattle.pb_outcome.specs.declared.item.Item.{Item}
+use Rattle.pb_outcome.specs.declared.item.Planned.{Planned}
 use Rattle.pb_outcome.specs.declared.outcome.Form.{Form}
 use Rattle.pb_plan.specs.Plan.{PlayOf, PlanOf}
-use Rattle.pb_sight.specs.Results.{settled_at}
+use Rattle.pb_sight.specs.Results.{came_at}
 use Rattle.pb_one_host.specs.declared.decided.Decided.{Decided}
 use Rattle.pb_one_host.specs.declared.decided.Done.{Done}
+use Rattle.pb_one_host.specs.declared.decided.Retried.{Retried}
 use Rattle.pb_one_host.specs.declared.decided.TaskEnd.{TaskEnd}
 use Rattle.pb_one_host.specs.declared.items.Before.{Before}
 use Rattle.pb_one_host.specs.declared.row.Finish.{Finish}
 use Rattle.pb_one_host.specs.declared.row.Running.{Running}
+use Rattle.pb_one_host.specs.Attempts.{attempt_after}
 use Rattle.pb_one_host.specs.Ends.{breaks, counted, kind_of}
-use Rattle.pb_one_host.specs.Kept.{with_step}
-use Rattle.pb_one_host.specs.Decides.{decided_with, done_if, told_in}
+use Rattle.pb_one_host.specs.Kept.{with_step, with_tried}
+use Rattle.pb_one_host.specs.Decides.{decided_with, done_if, retried_after, told_in, with_retried}
 use Rattle.pb_one_host.specs.Row.{HostRow, kept_items, pending, items_after, progressed, runs_once_at}
 
--- a result of the item with this number, as its task says of it
-abbrev pub settled_in : PlanOf → PlayOf → ℕ → FactsOf → ℕ → List Item → ℕ → ItemResult → ItemResult
-settled_in plan play host facts p items n result =
-    option_map_or (λ (item : Item). settled_at plan play host facts p item.value result) (slice_get items n) result
+-- what an attempt with this result at the item with this number comes to, as its task says of it
+abbrev pub came_in : PlanOf → PlayOf → ℕ → FactsOf → ℕ → List Item → ℕ → ItemResult → Back
+came_in plan play host facts p items n result =
+    option_map_or (λ (item : Item). came_at plan play host facts p item.value (attempt_after item.tried) result) (slice_get items n) (Ends result)
 
 -- the job that is out of a task came to this
 abbrev pub back_running : PlanOf → PlayOf → ℕ → FactsOf → Form → Option Running → Option Running
@@ -31,6 +36,13 @@ back_running plan play host facts outcome running = option_map (λ (r : Running)
 
 abbrev pub back_row : PlanOf → PlayOf → Form → HostRow → HostRow
 back_row plan play outcome row = record row { running = back_running plan play row.host row.facts outcome row.running }
+
+-- and that attempt, if another one comes behind it
+abbrev pub retried_running : PlanOf → PlayOf → ℕ → FactsOf → Form → Option Running → Option Retried
+retried_running plan play host facts outcome running = option_map_or (retried_after plan play host facts outcome) running None
+
+abbrev pub retried_row : PlanOf → PlayOf → Form → HostRow → Option Retried
+retried_row plan play outcome row = retried_running plan play row.host row.facts outcome row.running
 
 -- the end of the task that a host runs, in its parts
 abbrev pub with_running : Option Running → HostRow → HostRow
@@ -71,16 +83,21 @@ ended_with play row r = done_if play r.place (pending row) r.items
 abbrev pub ended_now : PlayOf → HostRow → Option Done
 ended_now play row = option_map_or (ended_with play row) row.running None
 
--- what is decided of it, where the item with this number came back
-abbrev pub decided_back : PlayOf → Option ℕ → HostRow → Running → Decided
-decided_back play number row r = decided_with play r.place (pending row) false (told_in r.items number) r.items
+-- what is decided of it, where the item with this number came back, or this attempt
+abbrev pub decided_back : PlayOf → Option ℕ → Option Retried → HostRow → Running → Decided
+decided_back play number retried row r = with_retried retried (decided_with play r.place (pending row) false (told_in r.items number) r.items)
 
-abbrev pub decided_now : PlayOf → Option ℕ → HostRow → Option Decided
-decided_now play number row = option_map (decided_back play number row) row.running
+abbrev pub decided_now : PlayOf → Option ℕ → Option Retried → HostRow → Option Decided
+decided_now play number retried row = option_map (decided_back play number retried row) row.running
 
--- an item as it was
+-- an item as it was: the step is there where it has another one now
+abbrev pub undone_by : Before → List Item → List Item
+undone_by before items =
+    option_map_or (λ (step : Planned). with_step before.number step (with_tried before.number before.tried items)) before.step
+    (with_tried before.number before.tried items)
+
 abbrev pub undone_items : Option Before → List Item → List Item
-undone_items before items = option_map_or (λ (b : Before). with_step b.number b.step items) before items
+undone_items before items = option_map_or (λ (b : Before). undone_by b items) before items
 
 abbrev pub undone_running : Option Before → Option Running → Option Running
 undone_running before running = option_map (λ (r : Running). record r { items = undone_items before r.items }) running
@@ -88,8 +105,9 @@ undone_running before running = option_map (λ (r : Running). record r { items =
 abbrev pub undone : Option Before → HostRow → HostRow
 undone before row = record row { running = undone_running before row.running }
 
--- two plans in which the task that a host runs is told the same of each result
+-- two plans in which the task that a host runs says the same of each attempt
 abbrev pub SameTold : PlanOf → PlanOf → PlayOf → HostRow → Option Running → Type 0
 SameTold one other play row None = ⊤
 SameTold one other play row (Some r) =
-    (value : Option Datum) (item : ItemResult) → settled_at one play row.host row.facts r.place value item ≡ settled_at other play row.host row.facts r.place value item
+    (value : Option Datum) (attempt : ℕ) (item : ItemResult) →
+    came_at one play row.host row.facts r.place value attempt item ≡ came_at other play row.host row.facts r.place value attempt item

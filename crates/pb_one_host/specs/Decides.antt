@@ -1,8 +1,14 @@
 -- What a step decides of the task that a host runs, and of the items of it that ended.
-use Rattle.std.specs.Prelude.{ℕ, Bool, false, List, [], Option, Some, None, option_map, slice_get, if◌then◌else◌}
+use Rattle.std.specs.Prelude.{ℕ, nat_lt, Bool, false, List, [], ◌∷◌, Option, Some, None, option_map, slice_get, if◌then◌else◌}
 use Rattle.std.specs.Option.{option_map_or}
+use Rattle.pb_conditions.specs.declared.attempt.Back.{Back}
+use Rattle.pb_conditions.specs.declared.attempt.Back.TheVariants.{Ends, Again}
+use Rattle.pb_facts.specs.Facts.{FactsOf}
 use Rattle.pb_outcome.specs.declared.gather.ItemResult.{ItemResult}
 use Rattle.pb_outcome.specs.declared.item.Item.{Item}
+use Rattle.pb_outcome.specs.declared.item.Planned.{Planned}
+use Rattle.pb_outcome.specs.declared.item.Planned.TheVariants.{Decided as HasResult, Sends}
+use Rattle.pb_outcome.specs.declared.job.Call.{Call}
 use Rattle.pb_outcome.specs.declared.outcome.Form.{Form}
 use Rattle.pb_outcome.specs.Items.{next_item, is_over, numbered_at, result_of}
 use Rattle.pb_sight.specs.Results.{variable_at}
@@ -10,7 +16,9 @@ use Rattle.pb_plan.specs.Plan.{PlayOf, PlanOf}
 use Rattle.pb_one_host.specs.declared.row.Running.{Running}
 use Rattle.pb_one_host.specs.declared.decided.Decided.{Decided}
 use Rattle.pb_one_host.specs.declared.decided.Done.{Done as DoneTask}
-use Rattle.pb_one_host.specs.Row.{HostRow, pending, task_at, items_after}
+use Rattle.pb_one_host.specs.declared.decided.Retried.{Retried}
+use Rattle.pb_one_host.specs.Attempts.{attempt_after}
+use Rattle.pb_one_host.specs.Row.{HostRow, pending, task_at, came_back, items_after}
 use Rattle.pb_one_host.specs.Handlers.{newly_at}
 
 -- how the task at a place ended, if these items end it, on a host with these marks, and what is shown of it: of the handlers that it notified those
@@ -33,11 +41,33 @@ told_at items n = numbered_at n (slice_get items n)
 abbrev pub told_in : List Item → Option ℕ → List (ℕ × ItemResult)
 told_in items number = option_map_or (told_at items) number []
 
+-- an attempt at an item that came to this, if another one comes behind it
+abbrev pub retried_by : Back → Item → Option Retried
+retried_by (Ends result) item = None
+retried_by (Again result) item = if nat_lt item.tried 100 then Some (record { attempt = attempt_after item.tried; result = result.result }) else None
+
+-- that at the first item that waits
+abbrev pub retried_then : (Item → Call → Back) → Item → Option Retried → Planned → Option Retried
+retried_then judge item rest (HasResult result) = rest
+retried_then judge item rest (Sends call) = retried_by (judge item call) item
+
+abbrev pub retried_in : (Item → Call → Back) → List Item → Option Retried
+retried_in judge [] = None
+retried_in judge (item ∷ items) = retried_then judge item (retried_in judge items) item.step
+
+abbrev pub retried_after : PlanOf → PlayOf → ℕ → FactsOf → Form → Running → Option Retried
+retried_after plan play host facts outcome r = retried_in (came_back plan play host facts r.place outcome) r.items
+
+-- what a step decided where this attempt came back in it
+abbrev pub with_retried : Option Retried → Decided → Decided
+with_retried retried decided = record decided { retried = retried }
+
 -- what a report decides of the task that waited for it
 abbrev pub decided_by : PlanOf → PlayOf → Form → HostRow → Running → Decided
 decided_by plan play outcome row r =
-    decided_with play r.place (pending row) false (told_in (items_after plan play row.host row.facts outcome r) (next_item r.items))
-    (items_after plan play row.host row.facts outcome r)
+    with_retried (retried_after plan play row.host row.facts outcome r)
+    (decided_with play r.place (pending row) false (told_in (items_after plan play row.host row.facts outcome r) (next_item r.items))
+    (items_after plan play row.host row.facts outcome r))
 
 abbrev pub report_decides : PlanOf → PlayOf → Form → HostRow → Option Decided
 report_decides plan play outcome row = option_map (decided_by plan play outcome row) row.running

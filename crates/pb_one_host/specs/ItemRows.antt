@@ -1,5 +1,5 @@
 -- Worked tasks of two items, which are sent one after another.
-use Rattle.std.specs.Prelude.{◌≡◌, ℕ, pos, true, false, List, [], ◌∷◌, codes, Some, None, refl}
+use Rattle.std.specs.Prelude.{◌≡◌, ℕ, pos, true, false, List, [], ◌∷◌, codes, Some, None, option_map, refl}
 use Rattle.std.specs.Option.{option_map_or}
 use Rattle.pb_value.specs.Datum.{text, list, items_of}
 use Rattle.pb_facts.specs.Facts.{no_facts}
@@ -19,6 +19,7 @@ use Rattle.pb_one_host.specs.Row.{HostRow, first_row, none_counted, joined, prog
 use Rattle.pb_one_host.specs.Runs.{is_running, is_out, item_of, may_send_item, awaits}
 use Rattle.pb_one_host.specs.Decides.{report_decides}
 use Rattle.pb_one_host.specs.declared.decided.Decided.{Decided}
+use Rattle.pb_one_host.specs.declared.decided.Retried.{Retried}
 
 abbrev play : PlayOf
 play = bare_play (codes "p") (bare_tree 0 1 0) (bare_place (codes "list") (Shell (codes "ls")) ∷ []) (true ∷ [])
@@ -143,3 +144,75 @@ one_host = bare_plan (codes "h" ∷ []) (looping ∷ [])
 loop_has_two : items_at one_host looping 0 no_facts 0 ≡ two_items
 unfolding on_tasks
 loop_has_two = refl
+
+-- a task that is tried twice more at most where it failed: its first attempt fails, and the second goes well
+abbrev tried_thrice : Task
+tried_thrice = record (bare_task (codes "list") (Shell (codes "ls"))) { retrying = Some (record { until = None; retries = 2; delay = 0 }) }
+
+abbrev trying : PlayOf
+trying = bare_play (codes "p") (bare_tree 0 1 0) (place_of tried_thrice ∷ []) (true ∷ [])
+
+abbrev badly : Form
+badly = Ran (pos 1) [] []
+
+abbrev begun : HostRow
+begun = progressed plan.inventory trying 0 two_items (joined trying.tree true (first_row 0))
+
+abbrev again : HostRow
+again = reported plan trying badly (out begun)
+
+abbrev last_time : HostRow
+last_time = reported plan trying badly (out again)
+
+-- then the same item goes at its second attempt, and no other
+it_waits_still : item_of again ≡ Some 0
+unfolding on_tasks
+it_waits_still = refl
+
+second_attempt_may_go : may_send_item 0 2 again ≡ true
+unfolding on_tasks
+second_attempt_may_go = refl
+
+first_attempt_is_behind_it : may_send_item 0 1 again ≡ false
+unfolding on_tasks
+first_attempt_is_behind_it = refl
+
+second_attempt_is_awaited : awaits (record { 0 = 7 }) 0 2 (out again) ≡ true
+unfolding on_tasks
+second_attempt_is_awaited = refl
+
+-- its report tells of the attempt alone, and ends nothing
+tells_of_the_attempt : option_map (λ (r : Retried). r.attempt) (option_map_or (λ (d : Decided). d.retried) (report_decides plan trying badly (out begun)) None) ≡ Some 1
+unfolding on_tasks
+tells_of_the_attempt = refl
+
+tells_of_no_item : option_map_or (λ (d : Decided). d.items) (report_decides plan trying badly (out begun)) [] ≡ []
+unfolding on_tasks
+tells_of_no_item = refl
+
+attempts_do_not_count : again.counts ≡ none_counted
+unfolding on_tasks
+attempts_do_not_count = refl
+
+-- the second goes well: the other item is next, at its first attempt
+other_item_is_next : may_send_item 1 1 (reported plan trying well (out again)) ≡ true
+unfolding on_tasks
+other_item_is_next = refl
+
+tells_of_no_attempt : option_map_or (λ (d : Decided). d.retried) (report_decides plan trying well (out again)) None ≡ None
+unfolding on_tasks
+tells_of_no_attempt = refl
+
+-- or fails too, and so does the third, which is the last
+third_attempt_may_go : may_send_item 0 3 last_time ≡ true
+unfolding on_tasks
+third_attempt_may_go = refl
+
+fails_for_good : may_send_item 1 1 (reported plan trying badly (out last_time)) ≡ true
+unfolding on_tasks
+fails_for_good = refl
+
+-- nor is it tried again where its host is out of reach
+is_tried_no_more : is_running (reported plan trying no_route (out again)) ≡ false
+unfolding on_tasks
+is_tried_no_more = refl

@@ -17,6 +17,14 @@ pub record IsKept (items : List Item) (next : Option ℕ) (lost : Bool) : Type 0
   pub lost_is : lost ≡ some_unreachable (ended items)
   pub most : length items ≤ 10000
 
--- the items with this step of the one with that number
+-- the items with another in the place of the one with this number
+abbrev pub with_item : ℕ → (Item → Item) → List Item → List Item
+with_item n change items = option_map_or (λ (item : Item). slice_set items n (change item)) (slice_get items n) items
+
+-- with this step of it
 abbrev pub with_step : ℕ → Planned → List Item → List Item
-with_step n step items = option_map_or (λ (item : Item). slice_set items n (record item { step = step })) (slice_get items n) items
+with_step n step items = with_item n (λ item. record item { step = step }) items
+
+-- and with so many attempts at it behind it
+abbrev pub with_tried : ℕ → ℕ → List Item → List Item
+with_tried n tried items = with_item n (λ item. record item { tried = tried }) items

@@ -4,6 +4,7 @@ use Rattle.std.specs.Option.{option_map_or}
 use Rattle.pb_ids.specs.declared.numbers.Ticket.{Ticket}
 use Rattle.pb_planes.specs.Set.{is_in as is_member}
 use Rattle.pb_inventory.specs.InventoryOf.{InventoryOf}
+use Rattle.pb_conditions.specs.declared.attempt.Back.{Back}
 use Rattle.pb_tree.specs.declared.tree.Status.{Status}
 use Rattle.pb_tree.specs.declared.tree.Status.TheVariants.{Active, Failed, Halted as Stopped, Gone as Lost}
 use Rattle.pb_tree.specs.declared.tree.Reach.{Reach}
@@ -11,7 +12,6 @@ use Rattle.pb_tree.specs.declared.tree.Reach.TheVariants.{At, Done}
 use Rattle.pb_tree.specs.Tree.{TreeOf, Nothing}
 use Rattle.pb_tree.specs.Answer.{AnswerOf}
 use Rattle.pb_tree.specs.Walk.{reach, status_now, marks_of}
-use Rattle.pb_outcome.specs.declared.gather.ItemResult.{ItemResult}
 use Rattle.pb_outcome.specs.declared.item.Item.{Item}
 use Rattle.pb_outcome.specs.declared.job.Call.{Call}
 use Rattle.pb_outcome.specs.declared.outcome.Form.{Form}
@@ -24,8 +24,8 @@ use Rattle.pb_play.specs.declared.modules.Module.{Module}
 use Rattle.pb_play.specs.declared.modules.Module.TheVariants.{Meta as CalledMeta}
 use Rattle.pb_plan.specs.Plan.{PlayOf, PlanOf, run_once_of}
 use Rattle.pb_sight.specs.Learning.{taught_by}
-use Rattle.pb_sight.specs.Results.{settled_at, variable_at}
-use Rattle.pb_one_host.specs.Attempts.{back_in}
+use Rattle.pb_sight.specs.Results.{came_at, variable_at}
+use Rattle.pb_one_host.specs.Attempts.{attempt_after, back_in}
 use Rattle.pb_one_host.specs.Ends.{kind_of, answer_of, breaks, counted}
 use Rattle.pb_one_host.specs.Handlers.{notified_by}
 use Rattle.pb_one_host.specs.declared.decided.TaskEnd.{TaskEnd}
@@ -159,10 +159,10 @@ sent_running ticket r = record r { out = Some ticket }
 abbrev pub sent : Ticket → HostRow → HostRow
 sent ticket row = record row { running = option_map (sent_running ticket) row.running }
 
--- An item of the task at a place once the job that is out came to this: it is judged, and then it is what the task says of it, in the scope that
--- the host has then (Ansible's documentation, "Error handling in playbooks").
-abbrev pub came_back : PlanOf → PlayOf → ℕ → FactsOf → ℕ → Form → Item → Call → ItemResult
-came_back plan play host facts p outcome item call = settled_at plan play host facts p item.value (judged call outcome)
+-- What an attempt at an item of the task at a place comes to, once its job that is out came to this: it is judged, and then it is what the task says of
+-- it, in the scope that the host has then (Ansible's documentation, "Error handling in playbooks" and "Retrying a task until a condition is met").
+abbrev pub came_back : PlanOf → PlayOf → ℕ → FactsOf → ℕ → Form → Item → Call → Back
+came_back plan play host facts p outcome item call = came_at plan play host facts p item.value (attempt_after item.tried) (judged call outcome)
 
 abbrev pub items_after : PlanOf → PlayOf → ℕ → FactsOf → Form → Running → List Item
 items_after plan play host facts outcome r = back_in (came_back plan play host facts r.place outcome) r.items

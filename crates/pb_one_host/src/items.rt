@@ -1,16 +1,19 @@
 //! The items of a task that a host runs.
 
-ghost use Rattle.std.specs.Prelude.{◌≡◌, ◌≤◌, ◌||◌, [], length, slice_get, IfOk, OnOk, OnErr, Some, option_map};
-ghost use Rattle.std.specs.Option.{option_copied};
+ghost use Rattle.std.specs.Prelude.{◌≡◌, ◌<◌, ◌≤◌, ◌+◌, ◌||◌, [], length, slice_get, IfOk, OnOk, OnErr, Some, None, option_map};
+ghost use Rattle.std.specs.Option.{option_copied, option_map_or};
 ghost use Rattle.pb_outcome.specs.Items.{next_item, is_over};
 ghost use Rattle.pb_outcome.specs.declared.item.Planned.TheVariants.{Decided};
-ghost use Rattle.pb_one_host.specs.Kept.{first_waiting, with_step};
-ghost use Rattle.pb_one_host.specs.Attempts.{attempt_after, attempt_next, back_in, tried_next};
+ghost use Rattle.pb_one_host.specs.Kept.{first_waiting, with_item, with_step, with_tried};
+ghost use Rattle.pb_one_host.specs.Attempts.{attempt_after, attempt_next, back_in, came, tried_next};
 ghost use Rattle.pb_one_host.specs.Calls.{call_in, delegate_in, tried_of};
 ghost use Rattle.pb_one_host.specs.Runs.{is_item};
 ghost use Rattle.pb_one_host.specs.Row.{came_back};
-ghost use Rattle.pb_one_host.specs.Back.{settled_in, undone_items};
+ghost use Rattle.pb_one_host.specs.Decides.{retried_by, retried_in};
+ghost use Rattle.pb_one_host.specs.Back.{came_in, undone_by, undone_items};
 
+use crate::decided::Retried;
+use pb_conditions::attempt::Back;
 use pb_facts::facts::Facts;
 use pb_ids::HostNo;
 use pb_outcome::gather::ItemResult;
@@ -21,7 +24,7 @@ use pb_outcome::judge::judge;
 use pb_outcome::outcome::Outcome;
 use pb_plan::PlanPlay;
 use pb_sight::seen::Seen;
-use pb_sight::settling::settled_at;
+use pb_sight::settling::came_at;
 use pb_value::items::Items;
 use pb_value::text::Text;
 use std::alloc::{AllocError, Global};
@@ -57,24 +60,60 @@ impl Model for TaskItems {
 pub struct Before {
     /// The item's number.
     pub number: u32,
-    /// The step that it had.
-    pub step: Planned,
+    /// The step that it had, where it has another one now.
+    pub step: Option<Planned>,
+    /// How many attempts at it had come back.
+    pub tried: u8,
 }
 
 impl Drop for Before {
     fn drop(self) {
-        let Before { number: _, step } = self;
+        let Before {
+            number: _,
+            step,
+            tried: _,
+        } = self;
         drop(step);
     }
 }
 
 impl Before {
-    /// The number and the step themselves.
-    fn parts(self) -> (u32, Planned)
-        ensures { result ≡ (self.number, self.step) }
+    /// The parts themselves.
+    fn parts(self) -> (u32, Option<Planned>, u8)
+        ensures { result ≡ (self.number, self.step, self.tried) }
     {
-        let Before { number, step } = self;
-        (number, step)
+        let Before {
+            number,
+            step,
+            tried,
+        } = self;
+        (number, step, tried)
+    }
+}
+
+/// What is handed back where the job of an item came back.
+pub struct CameBack {
+    /// What the item was before, if there is one.
+    pub before: Option<Before>,
+    /// The attempt, if another one at the item comes behind it.
+    pub retried: Option<Retried>,
+}
+
+impl Drop for CameBack {
+    fn drop(self) {
+        let CameBack { before, retried } = self;
+        drop(before);
+        drop(retried);
+    }
+}
+
+impl CameBack {
+    /// The parts themselves.
+    pub fn parts(self) -> (Option<Before>, Option<Retried>)
+        ensures { result ≡ (self.before, self.retried) }
+    {
+        let CameBack { before, retried } = self;
+        (before, retried)
     }
 }
 
@@ -105,8 +144,8 @@ fn call_in(items: &[Item], number: u32) -> Option<&Call>
     }
 }
 
-/// The result of the item with this number, as the task at a place says of it on a host that has learnt this.
-fn settled_in(
+/// What an attempt with this result at the item with this number comes to, as the task at a place says of it on a host that has learnt this.
+fn came_in(
     alloc: Global,
     plan: &Seen,
     play: &PlanPlay,
@@ -116,12 +155,25 @@ fn settled_in(
     items: &[Item],
     number: u32,
     judged: ItemResult,
-) -> Result<ItemResult, AllocError>
-    ensures { IfOk result (λ told. told ≡ settled_in plan.now play.now host.0 facts.now place items.now number judged) }
+) -> Result<Back, AllocError>
+    ensures { IfOk result (λ back. back ≡ came_in plan.now play.now host.0 facts.now place items.now number judged) }
 {
     match items.get(number as usize) {
-        Some(item) => settled_at(alloc, plan, play, host, facts, place, &item.value, judged),
-        None => Ok(judged),
+        Some(item) => {
+            let attempt = attempt_after(item.tried);
+            came_at(
+                alloc,
+                plan,
+                play,
+                host,
+                facts,
+                place,
+                &item.value,
+                attempt,
+                judged,
+            )
+        }
+        None => Ok(Back::Ends(judged)),
     }
 }
 
@@ -138,19 +190,54 @@ fn put_step(items: &mut Vec<Item>, number: u32, step: Planned) -> Option<Planned
     }
 }
 
+/// Puts down how many attempts at the item with this number came back.
+fn put_tried(items: &mut Vec<Item>, number: u32, tried: u8)
+    ensures { items.new.items ≡ with_tried number tried items.old.items }
+{
+    if let Some(item) = items.get_mut(number as usize) {
+        item.tried = tried;
+    }
+}
+
+/// Puts an item back as it was.
+fn put_before(items: &mut Vec<Item>, before: Before)
+    ensures { items.new.items ≡ undone_by before items.old.items }
+{
+    let (number, step, tried) = before.parts();
+    put_tried(items, number, tried);
+    if let Some(step) = step {
+        put_step(items, number, step);
+    }
+}
+
 fn either(a: bool, b: bool) -> bool
     ensures { result ≡ (a || b) }
 {
     a || b
 }
 
-/// What an item was before, if there is one.
-fn before_of(number: u32, step: Option<Planned>) -> Option<Before>
-    ensures { result ≡ option_map (λ step. record { number = number; step = step }) step }
+/// What an item was before that has another step now, if there is one.
+fn before_of(number: u32, tried: u8, step: Option<Planned>) -> Option<Before>
+    ensures { result ≡ option_map (λ step. record { number = number; step = Some step; tried = tried }) step }
 {
     match step {
-        Some(step) => Some(Before { number, step }),
+        Some(step) => Some(Before {
+            number,
+            step: Some(step),
+            tried,
+        }),
         None => None,
+    }
+}
+
+/// What is handed back where no item came back.
+pub(crate) fn none_back() -> CameBack
+    ensures before { result.before ≡ None }
+    ensures retried { result.retried ≡ None }
+{
+    CameBack {
+        before: None,
+        retried: None,
     }
 }
 
@@ -275,14 +362,57 @@ impl TaskItems {
         ensures undo { undone_items result self.new ≡ self.old }
     {
         let is_lost = item.ending.is_unreachable();
+        let tried = tried_of(&self.items, number);
         let step = put_step(&mut self.items, number, Planned::Decided(item));
         self.next = waiting_from(&self.items, number + 1);
         self.lost = either(self.lost, is_lost);
-        before_of(number, step)
+        before_of(number, tried, step)
     }
 
-    /// The result of the item with this number, as the task at a place says of it on a host that has learnt this.
-    fn settled(
+    /// One attempt more than this came back at the item with this number. What it was before is handed back.
+    fn try_again(&mut self, number: u32, tried: u8) -> Before
+        requires tried { tried ≡ tried_of self.old number }
+        requires few { tried < 100 }
+        ensures items { self.new ≡ with_tried number (tried + 1) self.old }
+        ensures undo { undone_by result self.new ≡ self.old }
+    {
+        put_tried(&mut self.items, number, tried + 1);
+        Before {
+            number,
+            step: None,
+            tried,
+        }
+    }
+
+    /// An attempt at the next item comes to this.
+    fn take(&mut self, number: u32, back: Back) -> CameBack
+        requires { next_item self.old ≡ Some number }
+        ensures items { self.new ≡ with_item number (came back) self.old }
+        ensures retried { result.retried ≡ option_map_or (retried_by back) (slice_get self.old number) None }
+        ensures undo { undone_items result.before self.new ≡ self.old }
+    {
+        let tried = tried_of(&self.items, number);
+        match back {
+            Back::Again(item) if tried < 100 => CameBack {
+                before: Some(self.try_again(number, tried)),
+                retried: Some(Retried {
+                    attempt: attempt_after(tried),
+                    result: item.result,
+                }),
+            },
+            Back::Again(item) => CameBack {
+                before: self.put(number, item),
+                retried: None,
+            },
+            Back::Ends(item) => CameBack {
+                before: self.put(number, item),
+                retried: None,
+            },
+        }
+    }
+
+    /// What an attempt with this result at the item with this number comes to, as the task at a place says of it on a host that has learnt this.
+    fn came(
         &self,
         alloc: Global,
         plan: &Seen,
@@ -292,10 +422,10 @@ impl TaskItems {
         place: usize,
         number: u32,
         judged: ItemResult,
-    ) -> Result<ItemResult, AllocError>
-        ensures { IfOk result (λ told. told ≡ settled_in plan.now play.now host.0 facts.now place self.now number judged) }
+    ) -> Result<Back, AllocError>
+        ensures { IfOk result (λ back. back ≡ came_in plan.now play.now host.0 facts.now place self.now number judged) }
     {
-        settled_in(
+        came_in(
             alloc,
             plan,
             play,
@@ -308,8 +438,8 @@ impl TaskItems {
         )
     }
 
-    /// The job of the next item came to this: it is judged, and then it is what the task at this place says of it on a host that has learnt this. What
-    /// the item was before is handed back. An `Err` changes nothing.
+    /// The job of the next item came to this: it is judged, and then the attempt comes to what the task at this place says of it on a host that has learnt
+    /// this. What the item was before is handed back, and the attempt where another one comes behind it. An `Err` changes nothing.
     pub(crate) fn back(
         &mut self,
         alloc: Global,
@@ -319,20 +449,21 @@ impl TaskItems {
         facts: &Facts,
         place: usize,
         outcome: &Outcome,
-    ) -> Result<Option<Before>, AllocError>
+    ) -> Result<CameBack, AllocError>
         ensures ok { OnOk result (self.new ≡ back_in (came_back plan.now play.now host.0 facts.now place outcome.now) self.old) }
-        ensures undo { IfOk result (λ before. undone_items before self.new ≡ self.old) }
+        ensures retried { IfOk result (λ came. came.retried ≡ retried_in (came_back plan.now play.now host.0 facts.now place outcome.now) self.old) }
+        ensures undo { IfOk result (λ came. undone_items came.before self.new ≡ self.old) }
         ensures err { OnErr result (self.new ≡ self.old) }
     {
         let Some(number) = self.next() else {
-            return Ok(None);
+            return Ok(none_back());
         };
         let Some(call) = self.call(number) else {
-            return Ok(None);
+            return Ok(none_back());
         };
         let judged = judge(alloc, call, outcome)?;
-        let item = self.settled(alloc, plan, play, host, facts, place, number, judged)?;
-        Ok(self.put(number, item))
+        let back = self.came(alloc, plan, play, host, facts, place, number, judged)?;
+        Ok(self.take(number, back))
     }
 
     /// Puts an item back as it was.
@@ -340,8 +471,7 @@ impl TaskItems {
         ensures { self.new ≡ undone_items before self.old }
     {
         if let Some(before) = before {
-            let (number, step) = before.parts();
-            put_step(&mut self.items, number, step);
+            put_before(&mut self.items, before);
             self.next = waiting_from(&self.items, 0);
             self.lost = has_unreachable(&self.items);
         }

@@ -10,10 +10,10 @@ ghost use Rattle.pb_facts.specs.News.{heard};
 ghost use Rattle.pb_sight.specs.Learning.{taught_by};
 ghost use Rattle.pb_one_host.specs.Walking.{walk_if};
 
-use crate::decided::{Decided, Done, TaskEnd};
+use crate::decided::{Decided, Done, Retried, TaskEnd};
 use crate::ends::{breaks, counted, kind_of};
 use crate::handlers::{marks_in, notified_by};
-use crate::items::{Before, TaskItems};
+use crate::items::{Before, CameBack, TaskItems, none_back};
 use crate::told::{done_at, runs_once_at, told_of};
 use crate::turned::Turned;
 use pb_cursors::{LaidTree, PlayWalk};
@@ -197,7 +197,7 @@ pub fn is_active(status: Status) -> bool
 
 ghost use Rattle.pb_one_host.specs.Row.{is_active, kept_items, place_of};
 ghost use Rattle.pb_one_host.specs.Handlers.{notified_by};
-ghost use Rattle.pb_one_host.specs.Back.{back_running, items_run, undone_running};
+ghost use Rattle.pb_one_host.specs.Back.{back_running, items_run, retried_running, undone_running};
 ghost use Rattle.pb_one_host.specs.Ends.{IsAtMost};
 
 /// The walk takes one answer more. An `Err` changes nothing.
@@ -268,7 +268,7 @@ fn run(slot: &mut Option<Running>, running: Option<Running>)
 }
 
 /// The job that is out of what a host runs came to this: its item is what the task says of it on a host that has learnt this. What the item was
-/// before is handed back. An `Err` changes nothing.
+/// before is handed back, and the attempt where another one comes behind it. An `Err` changes nothing.
 fn come_back(
     alloc: Global,
     slot: &mut Option<Running>,
@@ -277,20 +277,21 @@ fn come_back(
     host: HostNo,
     facts: &Facts,
     outcome: &Outcome,
-) -> Result<Option<Before>, AllocError>
+) -> Result<CameBack, AllocError>
     ensures ok { OnOk result (slot.new ≡ back_running plan.now play.now host.0 facts.now outcome.now slot.old) }
-    ensures undo { IfOk result (λ before. undone_running before slot.new ≡ slot.old) }
+    ensures retried { IfOk result (λ came. came.retried ≡ retried_running plan.now play.now host.0 facts.now outcome.now slot.old) }
+    ensures undo { IfOk result (λ came. undone_running came.before slot.new ≡ slot.old) }
     ensures err { OnErr result (slot.new ≡ slot.old) }
 {
     match slot {
         Some(running) => {
             let place = running.place;
-            let before = running
+            let came = running
                 .items
                 .back(alloc, plan, play, host, facts, place, outcome)?;
-            Ok(before)
+            Ok(came)
         }
-        None => Ok(None),
+        None => Ok(none_back()),
     }
 }
 
@@ -327,7 +328,7 @@ impl Row {
     ghost use Rattle.pb_facts.specs.News.{IsPast};
     ghost use Rattle.pb_one_host.specs.Walking.{with_walk};
     ghost use Rattle.pb_one_host.specs.Decides.{done_if};
-    ghost use Rattle.pb_one_host.specs.Back.{back_row, finish_run, settled_row, with_running, waiting, went_on, ended_now, decided_now, undone};
+    ghost use Rattle.pb_one_host.specs.Back.{back_row, retried_row, finish_run, settled_row, with_running, waiting, went_on, ended_now, decided_now, undone};
     ghost use Rattle.pb_one_host.specs.Turned.{IsOut, turned_if};
 
     /// A host before the run.
@@ -488,19 +489,21 @@ impl Row {
         }
     }
 
-    /// The job that is out came to this: its item has its result. What the item was before is handed back. An `Err` changes nothing.
+    /// The job that is out came to this: its item has its result, or waits for its next attempt. What the item was before is handed back, and the attempt
+    /// where another one comes behind it. An `Err` changes nothing.
     pub fn take_back(
         &mut self,
         alloc: Global,
         plan: &Seen,
         play: &PlanPlay,
         outcome: &Outcome,
-    ) -> Result<Option<Before>, AllocError>
+    ) -> Result<CameBack, AllocError>
         ensures ok { OnOk result (self.new ≡ back_row plan.now play.now outcome.now self.old) }
-        ensures undo { IfOk result (λ before. undone before self.new ≡ self.old) }
+        ensures retried { IfOk result (λ came. came.retried ≡ retried_row plan.now play.now outcome.now self.old) }
+        ensures undo { IfOk result (λ came. undone came.before self.new ≡ self.old) }
         ensures err { OnErr result (self.new ≡ self.old) }
     {
-        let before = come_back(
+        let came = come_back(
             alloc,
             &mut self.running,
             plan,
@@ -509,7 +512,7 @@ impl Row {
             &self.facts,
             outcome,
         )?;
-        Ok(before)
+        Ok(came)
     }
 
     /// Puts an item of the task that the host runs back as it was.
@@ -531,17 +534,18 @@ impl Row {
         }
     }
 
-    /// What is decided of the task that the host runs, of which the item with this number came back. An `Err` changes nothing.
+    /// What is decided of the task that the host runs, of which the item with this number came back, or this attempt at it. An `Err` changes nothing.
     pub fn decide(
         &mut self,
         alloc: Global,
         inventory: &Inventory,
         play: &PlanPlay,
         number: Option<u32>,
+        retried: Option<Retried>,
     ) -> Result<Option<Decided>, AllocError>
         requires { IsAtMost self.old.counts (2 ^ 64 - 2) }
         ensures row { OnOk result (self.new ≡ went_on inventory.now play.now self.old) }
-        ensures decides { IfOk result (λ decided. decided ≡ decided_now play.now number self.old) }
+        ensures decides { IfOk result (λ decided. decided ≡ decided_now play.now number retried self.old) }
         ensures err { OnErr result (self.new ≡ self.old) }
     {
         match &self.running {
@@ -554,7 +558,7 @@ impl Row {
                     place,
                     is_new: false,
                     items,
-                    retried: None,
+                    retried,
                     done,
                 }))
             }

@@ -1,6 +1,6 @@
--- A task has the same items, and each of them the same result, whatever stands under a name that it doesn't read.
+-- A task has the same items, and each attempt at them comes to the same, whatever stands under a name that it doesn't read.
 use Rattle.std.proofs.Common.{◌≡◌, ℕ, ◌<◌, Bool, true, false, ◌||◌, List, [], ◌∷◌, length, map, Option, Some, None, Result, Ok, Err, refl, ap, ◌∙◌, arith}
-use Rattle.std.specs.Prelude.{⊤}
+use Rattle.std.specs.Prelude.{⊤, nat_lt}
 use Rattle.std.specs.Str.{bytes_eq}
 use Rattle.pb_value.specs.Datum.{Datum, text, items_of as row_of, members_of}
 use Rattle.pb_value.specs.Reading.{and_then, map_ok}
@@ -8,8 +8,10 @@ use Rattle.pb_expr_syntax.specs.Tree.{Tree, trees_of}
 use Rattle.pb_layers.specs.Scope.{Map}
 use Rattle.pb_expr_eval.specs.Scoped.{rendered_of}
 use Rattle.pb_operators.specs.declared.fault.EvalFault.{EvalFault}
+use Rattle.pb_conditions.specs.Attempts.{counted, is_enough, told_enough, came_by, came, attempted}
 use Rattle.pb_conditions.specs.Conditions.{holds}
 use Rattle.pb_conditions.specs.Settled.{Sees, sees, seen_as, tell, told_changed, told_failed, told_by, or_faulty, settled_by, settled}
+use Rattle.pb_conditions.specs.declared.attempt.Back.TheVariants.{Ends}
 use Rattle.pb_outcome.specs.declared.gather.Ending.{Ending}
 use Rattle.pb_outcome.specs.declared.gather.Ending.TheVariants.{Skipped, Faulty, Unreachable, NotStarted, Ran}
 use Rattle.pb_outcome.specs.declared.gather.ItemResult.{ItemResult}
@@ -21,21 +23,23 @@ use Rattle.pb_play.specs.declared.commands.CommandWords.TheVariants.{Line, Argv}
 use Rattle.pb_play.specs.declared.loops.Loop.{Loop}
 use Rattle.pb_play.specs.declared.modules.Module.{Module}
 use Rattle.pb_play.specs.declared.modules.Module.TheVariants.{Assert, Command, Debug, DebugVar, Fail, Meta, SetFact, Setup, Shell}
+use Rattle.pb_play.specs.declared.retrying.Retrying.{Retrying}
 use Rattle.pb_play.specs.declared.task.Task.{Task}
 use Rattle.pb_items.specs.Calls.{words_in, command_in}
 use Rattle.pb_items.specs.Facts.{facts_of}
 use Rattle.pb_items.specs.Faults.{evaluated}
-use Rattle.pb_items.specs.Items.{StartOf, Step, seen_by, delegate_in, settled_step, step_of, step_if, step_in, item_of, item_in, looped_items, items_by, items_of}
+use Rattle.pb_items.specs.Items.{StartOf, Step, seen_by, delegate_in, attempted_by, settled_step, step_of, step_if, step_in, item_of, item_in, looped_items, items_by, items_of}
 use Rattle.pb_items.specs.Loops.{loop_variable, values_of}
 use Rattle.pb_items.specs.Planning.{done_by}
 use Rattle.pb_items.specs.declared.fault.ItemFault.{ItemFault}
 use Rattle.pb_reach.specs.Apart.{SameBut, AreApart}
 use Rattle.pb_reach.specs.Mentions.{mentions, items_mention, members_mention}
 use Rattle.pb_reach.specs.Named.{in_tree, in_trees}
-use Rattle.pb_reach.specs.Reach.{words_mention, module_mentions, loop_mentions, conditions_name, task_mentions, delegate_mentions, layers_mention, may_read, start_from, with_magic, start_reads}
+use Rattle.pb_reach.specs.Reach.{words_mention, module_mentions, loop_mentions, conditions_name, told_names, task_mentions, delegate_mentions, layers_mention, may_read, start_from, with_magic, start_reads}
+use Rattle.pb_reach.specs.Told.{until_of}
 use Rattle.pb_reach.proofs.Alike.{then_alike, eval_alike, rendered_apart}
 use Rattle.pb_reach.proofs.Stored.{scopes_apart}
-use Rattle.pb_reach.proofs.Tests.{neither}
+use Rattle.pb_reach.proofs.Tests.{neither, none_of}
 use Rattle.pb_reach.proofs.Unnamed.{value_unnamed}
 
 -- a value without the word
@@ -128,6 +132,50 @@ pub settled_own : (word : List ℕ) (sight other : Sees) → ((seen : Map) → A
 settled_own word sight other apart register changed failed e f result =
     settled_alike sight other register changed failed (alike_own word sight other apart changed e) (alike_own word sight other apart failed f) result
 
+-- what an attempt comes to, where it is tried again by conditions that hold alike too
+enough_alike : (sight other : Sees) (register : Option (List ℕ)) (until : Option (List Tree)) → HoldAlike sight other until → (result : ItemResult) →
+    is_enough sight register until result ≡ is_enough other register until result
+enough_alike sight other register None alike result = refl
+enough_alike sight other register (Some cs) alike result = alike (seen_as register result.result)
+
+came_alike : (sight other : Sees) (register : Option (List ℕ)) (until : Option (List Tree)) → HoldAlike sight other until → (is_last : Bool) (result : ItemResult) →
+    came sight register until is_last result ≡ came other register until is_last result
+came_alike sight other register until u is_last result = by_ending result.ending
+  where
+    by_ending : (ending : Ending) → came_by ending sight register until is_last result ≡ came_by ending other register until is_last result
+    by_ending (Ran changes fails) = ap (λ (r : Result Bool EvalFault). told_enough r is_last result) (enough_alike sight other register until u result)
+    by_ending Skipped = refl
+    by_ending Faulty = refl
+    by_ending Unreachable = refl
+    by_ending NotStarted = refl
+
+attempted_alike : (sight other : Sees) (register : Option (List ℕ)) (changed failed until : Option (List Tree)) → HoldAlike sight other changed → HoldAlike sight other failed → HoldAlike sight other until →
+    (attempt : ℕ) (is_last : Bool) (result : ItemResult) → attempted sight register changed failed until attempt is_last result ≡ attempted other register changed failed until attempt is_last result
+attempted_alike sight other register changed failed until c f u attempt is_last result =
+    came_alike sight other register until u is_last (settled sight register changed failed (counted attempt result))
+    ∙ ap (came other register until is_last) (settled_alike sight other register changed failed c f (counted attempt result))
+
+pub tried_alike : (retrying : Option Retrying) (start : StartOf) (magic variable : Map) → HoldAlike (sees start.layers start.magic variable) (sees start.layers magic variable) start.task.changed_when →
+    HoldAlike (sees start.layers start.magic variable) (sees start.layers magic variable) start.task.failed_when →
+    HoldAlike (sees start.layers start.magic variable) (sees start.layers magic variable) (until_of retrying) → (attempt : ℕ) (result : ItemResult) →
+    attempted_by retrying start variable attempt result ≡ attempted_by retrying (with_magic start magic) variable attempt result
+tried_alike None start magic variable c f u attempt result =
+    ap Ends
+    (settled_alike (sees start.layers start.magic variable) (sees start.layers magic variable) start.task.register start.task.changed_when start.task.failed_when c f result)
+tried_alike (Some retrying) start magic variable c f u attempt result =
+    attempted_alike (sees start.layers start.magic variable) (sees start.layers magic variable) start.task.register start.task.changed_when start.task.failed_when retrying.until c f u attempt
+    (nat_lt retrying.retries attempt) result
+
+pub tried_own : (word : List ℕ) (start : StartOf) (magic variable : Map) →
+    ((seen : Map) → AreApart word (sees start.layers start.magic variable seen) (sees start.layers magic variable seen)) → conditions_name word start.task.changed_when ≡ false →
+    conditions_name word start.task.failed_when ≡ false → conditions_name word (until_of start.task.retrying) ≡ false → (attempt : ℕ) (result : ItemResult) →
+    attempted_by start.task.retrying start variable attempt result ≡ attempted_by start.task.retrying (with_magic start magic) variable attempt result
+tried_own word start magic variable apart e f g attempt result =
+    let sight : Sees = sees start.layers start.magic variable in
+    let other : Sees = sees start.layers magic variable in
+    tried_alike start.task.retrying start magic variable (alike_own word sight other apart start.task.changed_when e) (alike_own word sight other apart start.task.failed_when f)
+    (alike_own word sight other apart (until_of start.task.retrying) g) attempt result
+
 -- what a start doesn't read, part by part
 pub record Unread (word : List ℕ) (start : StartOf) : Type 0 where
   pub called : module_mentions word start.task.module ≡ false
@@ -143,11 +191,9 @@ unread word start e =
     let all = neither (task_mentions word start.task || in_trees word (trees_of start.conditions)) (delegate_mentions word start.delegate_to || layers_mention word start.layers) e in
     let front = neither (task_mentions word start.task) (in_trees word (trees_of start.conditions)) all.0 in
     let behind = neither (delegate_mentions word start.delegate_to) (layers_mention word start.layers) all.1 in
-    let own = neither
-    (module_mentions word start.task.module || loop_mentions word start.task.looped)
-    (conditions_name word start.task.changed_when || conditions_name word start.task.failed_when) front.0 in
+    let own = neither (module_mentions word start.task.module || loop_mentions word start.task.looped) (told_names word start.task) front.0 in
     let done = neither (module_mentions word start.task.module) (loop_mentions word start.task.looped) own.0 in
-    let told = neither (conditions_name word start.task.changed_when) (conditions_name word start.task.failed_when) own.1 in
+    let told = none_of (conditions_name word start.task.changed_when) (conditions_name word start.task.failed_when) (conditions_name word (until_of start.task.retrying)) own.1 in
     record {
       called = done.0;
       looped = done.1;

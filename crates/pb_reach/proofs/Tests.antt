@@ -7,6 +7,9 @@ neither false false e = (refl, refl)
 neither false true e = (refl, e)
 neither true b e = absurd (true≢false e)
 
+pub none_of : (a b c : Bool) → (a || b || c) ≡ false → (a ≡ false) × (b ≡ false) × (c ≡ false)
+none_of a b c e = let front = neither (a || b) c e in let both = neither a b front.0 in (both.0, both.1, front.1)
+
 pub joined : (a b : Bool) → a ≡ false → b ≡ false → (a || b) ≡ false
 joined false b e f = f
 joined true b e f = absurd (true≢false e)

@@ -1,18 +1,24 @@
--- A task says the same of each result, whatever stands under a name that it doesn't read there; and where it says nothing, the result stays.
-use Rattle.std.proofs.Common.{◌≡◌, ℕ, ◌<◌, Bool, true, false, ◌&&◌, ◌||◌, List, length, Option, Some, None, refl, true≢false}
+-- Each attempt at an item comes to the same, whatever stands under a name that its task doesn't read there; and where the task says nothing, the result
+-- stays.
+use Rattle.std.proofs.Common.{◌≡◌, ℕ, ◌<◌, Bool, true, false, ◌&&◌, ◌||◌, List, length, Option, Some, None, refl, ap, true≢false}
 use Rattle.std.specs.Prelude.{is_some}
 use Rattle.pb_expr_syntax.specs.Tree.{Tree}
 use Rattle.pb_layers.specs.Scope.{Map}
-use Rattle.pb_conditions.specs.Settled.{Sees, sees, settled_by, settled}
+use Rattle.pb_conditions.specs.Settled.{Sees, sees, settled_by}
+use Rattle.pb_conditions.specs.declared.attempt.Back.TheVariants.{Ends}
 use Rattle.pb_outcome.specs.declared.gather.Ending.{Ending}
 use Rattle.pb_outcome.specs.declared.gather.Ending.TheVariants.{Skipped, Faulty, Unreachable, NotStarted, Ran}
 use Rattle.pb_outcome.specs.declared.gather.ItemResult.{ItemResult}
+use Rattle.pb_play.specs.declared.retrying.Retrying.{Retrying}
 use Rattle.pb_play.specs.declared.task.Task.{Task}
+use Rattle.pb_items.specs.Items.{StartOf, attempted_by}
+use Rattle.pb_items.specs.Loops.{loop_variable}
 use Rattle.pb_reach.specs.Apart.{SameBut}
-use Rattle.pb_reach.specs.Reach.{conditions_name, told_names, conditions_reach, told_reaches, layers_mention, may_read_of_result}
-use Rattle.pb_reach.proofs.OwnItems.{HoldAlike, settled_alike, settled_own, some_letter}
+use Rattle.pb_reach.specs.Reach.{conditions_name, told_names, conditions_reach, told_reaches, layers_mention, may_read_of_result, with_magic}
+use Rattle.pb_reach.specs.Told.{tells, until_of, LeavesResults}
+use Rattle.pb_reach.proofs.OwnItems.{HoldAlike, tried_alike, tried_own, some_letter}
 use Rattle.pb_reach.proofs.Stored.{scopes_apart}
-use Rattle.pb_reach.proofs.Tests.{neither}
+use Rattle.pb_reach.proofs.Tests.{neither, none_of}
 use Rattle.pb_reach.proofs.Unreached.{holds_unreached}
 
 -- without `changed_when` and `failed_when` a result stays, however it ended
@@ -23,11 +29,18 @@ untold_by Faulty sight register result = refl
 untold_by Unreachable sight register result = refl
 untold_by NotStarted sight register result = refl
 
-pub untold : (changed failed : Option (List Tree)) → (is_some changed || is_some failed) ≡ false → (sight : Sees) (register : Option (List ℕ)) (result : ItemResult) →
-    settled sight register changed failed result ≡ result
-untold None None e sight register result = untold_by result.ending sight register result
-untold None (Some conditions) e sight register result = absurd (true≢false e)
-untold (Some conditions) failed e sight register result = absurd (true≢false e)
+-- and without retries its item ends
+nothing_said : (changed failed : Option (List Tree)) (retrying : Option Retrying) → (is_some changed || is_some failed || is_some retrying) ≡ false → (start : StartOf) (variable : Map) (attempt : ℕ)
+    (result : ItemResult) → start.task.changed_when ≡ changed → start.task.failed_when ≡ failed → attempted_by retrying start variable attempt result ≡ Ends result
+nothing_said None None None e start variable attempt result c f =
+    rw (c, f) (ap Ends (untold_by result.ending (sees start.layers start.magic variable) start.task.register result))
+nothing_said None None (Some retrying) e start variable attempt result c f = absurd (true≢false e)
+nothing_said None (Some conditions) retrying e start variable attempt result c f = absurd (true≢false e)
+nothing_said (Some conditions) failed retrying e start variable attempt result c f = absurd (true≢false e)
+
+pub untold : (task : Task) → tells task ≡ false → LeavesResults task
+untold task silent = λ start value attempt result t.
+    nothing_said start.task.changed_when start.task.failed_when start.task.retrying (rw t silent) start (loop_variable start.task.looped value) attempt result refl refl
 
 -- conditions that don't have the word, and reach no template, hold alike
 unreached : (word : List ℕ) (layers : List Map) (magic other variable : Map) → SameBut word magic other → (conditions : Option (List Tree)) → conditions_name word conditions ≡ false →
@@ -35,23 +48,22 @@ unreached : (word : List ℕ) (layers : List Map) (magic other variable : Map) �
 unreached word layers magic other variable same None e g = tt
 unreached word layers magic other variable same (Some cs) e g = λ seen. holds_unreached word layers magic other variable seen same cs e g
 
--- what is said of a result in two scopes that differ in their magic variables alone
-pub told_same : (word : List ℕ) → 0 < length word → (task : Task) (layers : List Map) → may_read_of_result word task layers ≡ false →
-    (magic other variable : Map) (register : Option (List ℕ)) (result : ItemResult) → SameBut word magic other →
-    settled (sees layers magic variable) register task.changed_when task.failed_when result ≡ settled (sees layers other variable) register task.changed_when task.failed_when result
-told_same word lt task layers e magic other variable register result same = by_reach (told_reaches layers task) refl own.0 own.1
+-- an attempt in two scopes that differ in their magic variables alone
+pub told_same : (word : List ℕ) → 0 < length word → (start : StartOf) → may_read_of_result word start.task start.layers ≡ false → (other variable : Map) (attempt : ℕ) (result : ItemResult) →
+    SameBut word start.magic other → attempted_by start.task.retrying start variable attempt result ≡ attempted_by start.task.retrying (with_magic start other) variable attempt result
+told_same word lt start e other variable attempt result same = by_reach (told_reaches start.layers start.task) refl own.0 own.1
   where
-    own : (told_names word task ≡ false) × ((told_reaches layers task && layers_mention word layers) ≡ false)
-    own = neither (told_names word task) (told_reaches layers task && layers_mention word layers) e
+    own : (told_names word start.task ≡ false) × ((told_reaches start.layers start.task && layers_mention word start.layers) ≡ false)
+    own = neither (told_names word start.task) (told_reaches start.layers start.task && layers_mention word start.layers) e
 
-    by_reach : (r : Bool) → told_reaches layers task ≡ r → told_names word task ≡ false → (r && layers_mention word layers) ≡ false →
-        settled (sees layers magic variable) register task.changed_when task.failed_when result ≡ settled (sees layers other variable) register task.changed_when task.failed_when result
+    by_reach : (r : Bool) → told_reaches start.layers start.task ≡ r → told_names word start.task ≡ false → (r && layers_mention word start.layers) ≡ false →
+        attempted_by start.task.retrying start variable attempt result ≡ attempted_by start.task.retrying (with_magic start other) variable attempt result
     by_reach false is f g =
-        let named = neither (conditions_name word task.changed_when) (conditions_name word task.failed_when) f in
-        let reached = neither (conditions_reach layers task.changed_when) (conditions_reach layers task.failed_when) is in
-        settled_alike (sees layers magic variable) (sees layers other variable) register task.changed_when task.failed_when
-        (unreached word layers magic other variable same task.changed_when named.0 reached.0) (unreached word layers magic other variable same task.failed_when named.1 reached.1) result
+        let names = none_of (conditions_name word start.task.changed_when) (conditions_name word start.task.failed_when) (conditions_name word (until_of start.task.retrying)) f in
+        let reaches = none_of (conditions_reach start.layers start.task.changed_when) (conditions_reach start.layers start.task.failed_when) (conditions_reach start.layers (until_of start.task.retrying)) is in
+        let alike = unreached word start.layers start.magic other variable same in
+        tried_alike start.task.retrying start other variable (alike start.task.changed_when names.0 reaches.0) (alike start.task.failed_when names.1 reaches.1)
+        (alike (until_of start.task.retrying) names.2 reaches.2) attempt result
     by_reach true is f g =
-        let named = neither (conditions_name word task.changed_when) (conditions_name word task.failed_when) f in
-        settled_own word (sees layers magic variable) (sees layers other variable)
-        (λ seen. scopes_apart word (some_letter word lt) layers magic other variable seen g same) register task.changed_when task.failed_when named.0 named.1 result
+        let names = none_of (conditions_name word start.task.changed_when) (conditions_name word start.task.failed_when) (conditions_name word (until_of start.task.retrying)) f in
+        tried_own word start other variable (λ seen. scopes_apart word (some_letter word lt) start.layers start.magic other variable seen g same) names.0 names.1 names.2 attempt result

@@ -1,6 +1,6 @@
--- Whether a name can be looked up while the items of a task are read, or while the task says of a result whether it changed something or failed, by what
--- the task has and by the variables that it sees: a test that may say so of a name that is never looked up, but never says of one that is looked up that
--- it isn't.
+-- Whether a name can be looked up while the items of a task are read, or while the task says of a result whether it changed something or failed, and
+-- whether it is tried again, by what the task has and by the variables that it sees: a test that may say so of a name that is never looked up, but never
+-- says of one that is looked up that it isn't.
 use Rattle.std.specs.Prelude.{ℕ, ◌+◌, Bool, false, not, ◌&&◌, ◌||◌, nat_eq, List, [], ◌∷◌, Option, length}
 use Rattle.std.specs.Option.{option_map_or}
 use Rattle.pb_value.specs.Datum.{items_of, members_of}
@@ -16,6 +16,7 @@ use Rattle.pb_items.specs.Items.{StartOf}
 use Rattle.pb_reach.specs.Named.{in_tree, in_trees}
 use Rattle.pb_reach.specs.Mentions.{has_inside, mentions, items_mention, members_mention}
 use Rattle.pb_reach.specs.Reached.{some_name_in, layers_lead}
+use Rattle.pb_reach.specs.Told.{until_of}
 
 abbrev pub words_mention : List ℕ → CommandWords → Bool
 words_mention word (Line line) = has_inside word line
@@ -38,9 +39,9 @@ loop_mentions word looped = option_map_or (λ (l : Loop). mentions word l.over) 
 abbrev pub conditions_name : List ℕ → Option (List Tree) → Bool
 conditions_name word conditions = option_map_or (λ (cs : List Tree). in_trees word (trees_of cs)) conditions false
 
--- the conditions by which a task says of a result whether it changed something, and whether it failed
+-- the conditions by which a task says of a result whether it changed something, whether it failed, and whether the task is tried again
 abbrev pub told_names : List ℕ → Task → Bool
-told_names word task = conditions_name word task.changed_when || conditions_name word task.failed_when
+told_names word task = conditions_name word task.changed_when || conditions_name word task.failed_when || conditions_name word (until_of task.retrying)
 
 -- a task itself; its variables are a layer, and its conditions are among those of its place
 abbrev pub task_mentions : List ℕ → Task → Bool
@@ -67,10 +68,10 @@ abbrev pub conditions_reach : List Map → Option (List Tree) → Bool
 conditions_reach layers conditions = option_map_or (λ (cs : List Tree). some_name_in (layers_lead layers) (trees_of cs)) conditions false
 
 abbrev pub told_reaches : List Map → Task → Bool
-told_reaches layers task = conditions_reach layers task.changed_when || conditions_reach layers task.failed_when
+told_reaches layers task = conditions_reach layers task.changed_when || conditions_reach layers task.failed_when || conditions_reach layers (until_of task.retrying)
 
 -- Of a result neither the module nor the loop is read, nor the variables where these conditions reach no template among them: so nothing at all where
--- the task has neither condition.
+-- the task has none of the conditions.
 abbrev pub may_read_of_result : List ℕ → Task → List Map → Bool
 may_read_of_result word task layers = told_names word task || (told_reaches layers task && layers_mention word layers)
 

@@ -1,7 +1,7 @@
 -- Worked examples: each is proved by computing both sides.
-use Rattle.std.specs.Prelude.{◌≡◌, ℕ, true, false, List, [], ◌∷◌, Some, None, codes, refl}
+use Rattle.std.specs.Prelude.{◌≡◌, ℕ, true, false, List, [], ◌∷◌, Option, Some, None, codes, refl}
 use Rattle.pb_value.specs.Datum.{text, list, dict, items_of, members_of}
-use Rattle.pb_expr_syntax.specs.Tree.{Name, Member, Text}
+use Rattle.pb_expr_syntax.specs.Tree.{Tree, Name, Member, Text}
 use Rattle.pb_layers.specs.Scope.{layers}
 use Rattle.pb_play.specs.declared.modules.Module.TheVariants.{Debug}
 use Rattle.pb_play.specs.declared.task.Task.{Task}
@@ -9,6 +9,7 @@ use Rattle.pb_play.specs.Tasks.{plain_task}
 use Rattle.pb_reach.specs.Mentions.{has_inside, mentions}
 use Rattle.pb_reach.specs.Named.{in_tree}
 use Rattle.pb_reach.specs.Reach.{may_read, may_read_of_result}
+use Rattle.pb_reach.specs.Told.{tells}
 
 -- the bytes are searched, whatever they mean
 in_front : has_inside (codes "groups") (codes "groups.web") ≡ true
@@ -44,7 +45,7 @@ by_a_variable = refl
 by_a_fact : may_read (codes "x") (plain_task (codes "t") [] (Debug (text (codes "{{ y }}")))) [] None (layers [] [] [] [] [] [] [] [] ((codes "y", text (codes "{{ x }}")) ∷ []) [] []) ≡ false
 by_a_fact = refl
 
--- of a result a task may read what its own two conditions and its variables name, and not what its module does
+-- of a result a task may read what its own conditions of results and its variables name, and not what its module does
 abbrev shows_x : Task
 shows_x = plain_task (codes "t") [] (Debug (text (codes "{{ x }}")))
 
@@ -53,6 +54,12 @@ changed_by name = record shows_x { changed_when = Some (Name name ∷ []) }
 
 abbrev failed_by : List ℕ → Task
 failed_by name = record shows_x { failed_when = Some (Name name ∷ []) }
+
+abbrev tried_by : Option (List Tree) → Task
+tried_by until = record shows_x { retrying = Some (record { until = until; retries = 3; delay = 5 }) }
+
+abbrev until_names : List ℕ → Task
+until_names name = tried_by (Some (Name name ∷ []))
 
 by_its_module : may_read (codes "x") (changed_by (codes "r")) [] None (layers [] [] [] [] [] [] [] [] [] [] []) ≡ true
 by_its_module = refl
@@ -65,6 +72,15 @@ by_changed_when = refl
 
 by_failed_when : may_read_of_result (codes "x") (failed_by (codes "x")) (layers [] [] [] [] [] [] [] [] [] [] []) ≡ true
 by_failed_when = refl
+
+by_until : may_read_of_result (codes "x") (until_names (codes "x")) (layers [] [] [] [] [] [] [] [] [] [] []) ≡ true
+by_until = refl
+
+until_by_a_variable : may_read_of_result (codes "x") (until_names (codes "y")) (layers [] [] [] [] ((codes "y", text (codes "{{ x }}")) ∷ []) [] [] [] [] [] []) ≡ true
+until_by_a_variable = refl
+
+until_by_what_was_registered : may_read_of_result (codes "x") (until_names (codes "r")) (layers [] [] [] [] ((codes "y", text (codes "{{ x }}")) ∷ []) [] [] [] [] [] []) ≡ false
+until_by_what_was_registered = refl
 
 of_a_result_by_a_variable : may_read_of_result (codes "x") (changed_by (codes "y")) (layers [] [] [] [] ((codes "y", text (codes "{{ x }}")) ∷ []) [] [] [] [] [] []) ≡ true
 of_a_result_by_a_variable = refl
@@ -79,6 +95,16 @@ by_a_plain_variable = refl
 by_a_list_of_templates : may_read_of_result (codes "x") (changed_by (codes "y")) (layers [] [] [] [] ((codes "y", list (items_of (text (codes "{{ z }}") ∷ []))) ∷ (codes "z", text (codes "{{ x }}")) ∷ []) [] [] [] [] [] []) ≡ true
 by_a_list_of_templates = refl
 
--- a task that has neither says nothing of a result, and reads nothing, whatever its variables name
+-- a task that has none says nothing of a result, and reads nothing, whatever its variables name
 says_nothing : may_read_of_result (codes "x") shows_x (layers [] [] [] [] ((codes "y", text (codes "{{ x }}")) ∷ []) [] [] [] [] [] []) ≡ false
 says_nothing = refl
+
+is_silent : tells shows_x ≡ false
+is_silent = refl
+
+-- retries alone number the results, and read nothing
+retries_tell : tells (tried_by None) ≡ true
+retries_tell = refl
+
+retries_read_nothing : may_read_of_result (codes "x") (tried_by None) (layers [] [] [] [] ((codes "y", text (codes "{{ x }}")) ∷ []) [] [] [] [] [] []) ≡ false
+retries_read_nothing = refl

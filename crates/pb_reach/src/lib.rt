@@ -1,13 +1,13 @@
 //! Whether a name can be looked up while the items of a task are read, or while the task says of a result whether it changed something or
-//! failed: what tells that a magic variable needn't be made.
+//! failed, and whether it is tried again: what tells that a magic variable needn't be made.
 //!
 //! For the layer above: `may_read` looks for a name in a task, in its conditions and its delegate, and in all variables that it sees whose
 //! texts are templates. Where it answers false, whatever stands under that name among the magic variables has no part in the task's
-//! items. `may_read_of_result` looks for it in the task's `changed_when` and `failed_when`, and where one of their names stands for a template among
-//! those variables in these too, and in nothing else: where it answers false, what stands under the name has no part in what the task says of a result
-//! (`specs/Reach.antt`). `tells` answers whether the task has one of the two at all: one that has neither leaves each result as it came back
-//! (`specs/Told.antt`), and reads nothing. Both may answer true of a name that is never looked up: texts are searched for the bytes of the name, and
-//! aren't read as templates. They take no memory.
+//! items. `may_read_of_result` looks for it in the task's `changed_when`, `failed_when` and `until`, and where one of their names stands for a template
+//! among those variables in these too, and in nothing else: where it answers false, what stands under the name has no part in what the task says of a
+//! result (`specs/Reach.antt`). `tells` answers whether the task has one of the two, or may be tried again: any other task leaves each result as it
+//! came back (`specs/Told.antt`), and reads nothing. Both may answer true of a name that is never looked up: texts are searched for the bytes of the
+//! name, and aren't read as templates. They take no memory.
 #![tactic(auto)]
 
 mod exprs;

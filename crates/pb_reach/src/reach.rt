@@ -1,14 +1,14 @@
 //! What a task can look up.
-ghost use Rattle.std.specs.Prelude.{◌≡◌, ◌<◌, ◌≤◌, Bool, false, length};
+ghost use Rattle.std.specs.Prelude.{◌≡◌, ◌<◌, ◌≤◌, ℕ, Bool, false, length, Option};
 ghost use Rattle.std.specs.Option.{option_copied};
+ghost use Rattle.pb_value.specs.Datum.{Datum};
 ghost use Rattle.pb_layers.specs.Found.{maps_in};
 ghost use Rattle.pb_layers.specs.Scope.{Map};
-ghost use Rattle.pb_conditions.specs.Settled.{sees, settled};
 ghost use Rattle.pb_outcome.specs.declared.gather.ItemResult.{ItemResult};
-ghost use Rattle.pb_items.specs.Items.{items_of};
+ghost use Rattle.pb_items.specs.Items.{StartOf, attempted_item, items_of};
 ghost use Rattle.pb_reach.specs.Apart.{SameBut};
-ghost use Rattle.pb_reach.specs.Reach.{words_mention, module_mentions, loop_mentions, conditions_name, told_names, conditions_reach, told_reaches, task_mentions, delegate_mentions, each_mentions, layers_mention, may_read, may_read_of_result, start_from};
-ghost use Rattle.pb_reach.specs.Told.{tells, LeavesResults};
+ghost use Rattle.pb_reach.specs.Reach.{words_mention, module_mentions, loop_mentions, conditions_name, told_names, conditions_reach, told_reaches, task_mentions, delegate_mentions, each_mentions, layers_mention, may_read, may_read_of_result, start_from, with_magic};
+ghost use Rattle.pb_reach.specs.Told.{tells, until_of, LeavesResults};
 
 use crate::exprs::{has_name, some_names, some_reach};
 use crate::texts::has_inside;
@@ -18,6 +18,7 @@ use pb_layers::layers::Layers;
 use pb_play::commands::CommandWords;
 use pb_play::loops::Loop;
 use pb_play::modules::Module;
+use pb_play::retrying::Retrying;
 use pb_play::task::Task;
 use pb_value::items::Items;
 use pb_value::text::Text;
@@ -74,10 +75,21 @@ fn conditions_name(word: &str, conditions: &Option<Items<Expr>>) -> bool
     }
 }
 
+fn until_names(word: &str, retrying: &Option<Retrying>) -> bool
+    ensures { result ≡ conditions_name word.now (until_of retrying.now) }
+{
+    match retrying {
+        Some(retrying) => conditions_name(word, &retrying.until),
+        None => false,
+    }
+}
+
 fn told_names(word: &str, task: &Task) -> bool
     ensures { result ≡ told_names word.now task.now }
 {
-    conditions_name(word, &task.changed_when) || conditions_name(word, &task.failed_when)
+    conditions_name(word, &task.changed_when)
+        || conditions_name(word, &task.failed_when)
+        || until_names(word, &task.retrying)
 }
 
 fn conditions_reach(layers: &Layers, conditions: &Option<Items<Expr>>) -> bool
@@ -89,10 +101,21 @@ fn conditions_reach(layers: &Layers, conditions: &Option<Items<Expr>>) -> bool
     }
 }
 
+fn until_reaches(layers: &Layers, retrying: &Option<Retrying>) -> bool
+    ensures { result ≡ conditions_reach layers.now (until_of retrying.now) }
+{
+    match retrying {
+        Some(retrying) => conditions_reach(layers, &retrying.until),
+        None => false,
+    }
+}
+
 fn told_reaches(layers: &Layers, task: &Task) -> bool
     ensures { result ≡ told_reaches layers.now task.now }
 {
-    conditions_reach(layers, &task.changed_when) || conditions_reach(layers, &task.failed_when)
+    conditions_reach(layers, &task.changed_when)
+        || conditions_reach(layers, &task.failed_when)
+        || until_reaches(layers, &task.retrying)
 }
 
 fn task_mentions(word: &str, task: &Task) -> bool
@@ -176,35 +199,35 @@ fn reads(
         || (delegate_mentions(word, delegate_to) || layers_mention(word, layers))
 }
 
-/// Whether a task says itself of a result whether it changed something, or whether it failed. See Ansible's documentation, "Error handling in
-/// playbooks".
+/// Whether a task says itself of a result whether it changed something, whether it failed, or whether the task is tried again. See Ansible's
+/// documentation, "Error handling in playbooks" and "Retrying a task until a condition is met".
 pub fn tells(task: &Task) -> bool
     ensures value { result ≡ tells task.now }
 
     // A task that says nothing leaves each result as it came back, whatever it sees.
     ensures silent { result ≡ false → LeavesResults task.now }
 {
-    has_either(task)
+    has_any(task)
 }
 
-fn has_either(task: &Task) -> bool
+fn has_any(task: &Task) -> bool
     ensures { result ≡ tells task.now }
 {
-    task.changed_when.is_some() || task.failed_when.is_some()
+    task.changed_when.is_some() || task.failed_when.is_some() || task.retrying.is_some()
 }
 
-/// Whether a name can be looked up while a task says of a result whether it changed something or failed: its module and its loop aren't searched, nor
-/// are the variables where its conditions reach no template among them.
+/// Whether a name can be looked up while a task says of a result whether it changed something or failed, and whether it is tried again: its module
+/// and its loop aren't searched, nor are the variables where its conditions reach no template among them.
 ///
 /// It may be said of a name that is never looked up that it can be.
 pub fn may_read_of_result(word: &str, task: &Task, layers: &Layers) -> bool
     requires { 0 < length word.now }
     ensures value { result ≡ may_read_of_result word.now task.now layers.now }
 
-    // A task that doesn't read the name says the same of each result whatever stands under it.
-    ensures told { result ≡ false → (magic other variable : Map) (item : ItemResult) → SameBut word.now magic other →
-        settled (sees layers.now magic variable) task.now.register task.now.changed_when task.now.failed_when item
-        ≡ settled (sees layers.now other variable) task.now.register task.now.changed_when task.now.failed_when item }
+    // Each attempt at an item of a task that doesn't read the name comes to the same whatever stands under it.
+    ensures told { result ≡ false → (start : StartOf) (other : Map) (value : Option Datum) (attempt : ℕ) (item : ItemResult) →
+        start.task ≡ task.now → start.layers ≡ layers.now → SameBut word.now start.magic other →
+        attempted_item start value attempt item ≡ attempted_item (with_magic start other) value attempt item }
 {
     reads_of_result(word, task, layers)
 }

@@ -9,10 +9,9 @@ use Rattle.std.proofs.lemmas.Map.Text.{is_eq-slice_cmp}
 use Rattle.pb_value.specs.Datum.{Datum}
 use Rattle.pb_facts.specs.Facts.{FactsOf}
 use Rattle.pb_layers.specs.Scope.{Map}
-use Rattle.pb_conditions.specs.Settled.{sees, settled}
+use Rattle.pb_conditions.specs.declared.attempt.Back.TheVariants.{Ends}
 use Rattle.pb_expr_syntax.specs.Tree.{Tree}
-use Rattle.pb_items.specs.Items.{items_of, settled_item}
-use Rattle.pb_items.specs.Loops.{loop_variable}
+use Rattle.pb_items.specs.Items.{items_of, attempted_item}
 use Rattle.pb_play.specs.declared.task.Task.{Task}
 use Rattle.pb_reach.specs.Reach.{start_from}
 use Rattle.pb_outcome.specs.declared.gather.ItemResult.{ItemResult}
@@ -22,7 +21,7 @@ use Rattle.pb_places.specs.Place.{PlaceOf}
 use Rattle.pb_plan.specs.Plan.{PlayOf, PlanOf}
 use Rattle.pb_reach.specs.Apart.{SameBut}
 use Rattle.pb_variables.specs.Magic.{host_magic, hostvars, hosts_magic}
-use Rattle.pb_sight.specs.Results.{start_with, magic_of, nothing, place_for, items_for, items_at, settled_for, settled_at}
+use Rattle.pb_sight.specs.Results.{start_with, magic_of, nothing, place_for, items_for, items_at, came_for, came_at}
 use Rattle.pb_sight.specs.Seen.{with_hosts, seen_with}
 use Rattle.pb_sight.specs.Unread.{ItemsUnread, ToldUnread}
 
@@ -55,17 +54,17 @@ unfolding items_at
 items_unread plan play h facts p v w unread =
     items_found plan play h facts v w (record { value = None; delegate = None; tried = 0; step = DecidedItem nothing } ∷ []) (place_for plan play h p) unread
 
-told_found : (plan : PlanOf) (play : PlayOf) (h : ℕ) (facts : FactsOf) (v w : Datum) (value : Option Datum) (item : ItemResult) (found : Option PlaceOf) → ToldUnread plan play h facts found →
-    option_map_or (settled_for (with_hosts plan (hosts_magic v)) play h facts value item) found item ≡ option_map_or (settled_for (with_hosts plan (hosts_magic w)) play h facts value item) found item
-told_found plan play h facts v w value item None unread = refl
-told_found plan play h facts v w value item (Some place) unread =
-    unread (magic_of (with_hosts plan (hosts_magic v)) play h) (magic_of (with_hosts plan (hosts_magic w)) play h) value item
+told_found : (plan : PlanOf) (play : PlayOf) (h : ℕ) (facts : FactsOf) (v w : Datum) (value : Option Datum) (attempt : ℕ) (item : ItemResult) (found : Option PlaceOf) → ToldUnread plan play h facts found →
+    option_map_or (came_for (with_hosts plan (hosts_magic v)) play h facts value attempt item) found (Ends item) ≡ option_map_or (came_for (with_hosts plan (hosts_magic w)) play h facts value attempt item) found (Ends item)
+told_found plan play h facts v w value attempt item None unread = refl
+told_found plan play h facts v w value attempt item (Some place) unread =
+    unread (magic_of (with_hosts plan (hosts_magic v)) play h) (magic_of (with_hosts plan (hosts_magic w)) play h) value attempt item
     (same_but (host_magic plan.inventory h ++ play.magic) plan.magic v w)
 
-pub told_unread : (plan : PlanOf) (play : PlayOf) (h : ℕ) (facts : FactsOf) (p : ℕ) (v w : Datum) (value : Option Datum) (item : ItemResult) → ToldUnread plan play h facts (place_for plan play h p) →
-    settled_at (with_hosts plan (hosts_magic v)) play h facts p value item ≡ settled_at (with_hosts plan (hosts_magic w)) play h facts p value item
-unfolding settled_at
-told_unread plan play h facts p v w value item unread = told_found plan play h facts v w value item (place_for plan play h p) unread
+pub told_unread : (plan : PlanOf) (play : PlayOf) (h : ℕ) (facts : FactsOf) (p : ℕ) (v w : Datum) (value : Option Datum) (attempt : ℕ) (item : ItemResult) → ToldUnread plan play h facts (place_for plan play h p) →
+    came_at (with_hosts plan (hosts_magic v)) play h facts p value attempt item ≡ came_at (with_hosts plan (hosts_magic w)) play h facts p value attempt item
+unfolding came_at
+told_unread plan play h facts p v w value attempt item unread = told_found plan play h facts v w value attempt item (place_for plan play h p) unread
 
 -- a task by its parts
 pub items_of_place : (program : Bool) (place : PlaceOf) (seen : List Map) (task : Task) (conditions : List Tree) (delegate_to : Option (List ℕ)) (one other : Map) → task ≡ place.task → conditions ≡ place.conditions →
@@ -74,21 +73,21 @@ pub items_of_place : (program : Bool) (place : PlaceOf) (seen : List Map) (task 
 unfolding start_with
 items_of_place program place seen task conditions delegate_to one other t c d same = rw (sym t, sym c, sym d) same
 
-pub told_of_place : (program : Bool) (place : PlaceOf) (seen : List Map) (task : Task) (one other : Map) (value : Option Datum) (item : ItemResult) → task ≡ place.task →
-    settled (sees seen one (loop_variable task.looped value)) task.register task.changed_when task.failed_when item
-    ≡ settled (sees seen other (loop_variable task.looped value)) task.register task.changed_when task.failed_when item →
-    settled_item (start_with program place seen one) value item ≡ settled_item (start_with program place seen other) value item
+pub told_of_place : (program : Bool) (place : PlaceOf) (seen : List Map) (task : Task) (one other : Map) (value : Option Datum) (attempt : ℕ) (item : ItemResult) → task ≡ place.task →
+    attempted_item (start_from task place.conditions place.delegate_to program seen one) value attempt item
+    ≡ attempted_item (start_from task place.conditions place.delegate_to program seen other) value attempt item →
+    attempted_item (start_with program place seen one) value attempt item ≡ attempted_item (start_with program place seen other) value attempt item
 unfolding start_with
-told_of_place program place seen task one other value item t same = rw (sym t) same
+told_of_place program place seen task one other value attempt item t same = rw (sym t) same
 
 -- where the value is the same, so is the rest
 pub items_known : (plan : PlanOf) (play : PlayOf) (h : ℕ) (facts : FactsOf) (p : ℕ) (hosts others : Map) → hosts ≡ others →
     items_at (with_hosts plan hosts) play h facts p ≡ items_at (with_hosts plan others) play h facts p
 items_known plan play h facts p hosts others is = ap (λ (m : Map). items_at (with_hosts plan m) play h facts p) is
 
-pub told_known : (plan : PlanOf) (play : PlayOf) (h : ℕ) (facts : FactsOf) (p : ℕ) (hosts others : Map) (value : Option Datum) (item : ItemResult) → hosts ≡ others →
-    settled_at (with_hosts plan hosts) play h facts p value item ≡ settled_at (with_hosts plan others) play h facts p value item
-told_known plan play h facts p hosts others value item is = ap (λ (m : Map). settled_at (with_hosts plan m) play h facts p value item) is
+pub told_known : (plan : PlanOf) (play : PlayOf) (h : ℕ) (facts : FactsOf) (p : ℕ) (hosts others : Map) (value : Option Datum) (attempt : ℕ) (item : ItemResult) → hosts ≡ others →
+    came_at (with_hosts plan hosts) play h facts p value attempt item ≡ came_at (with_hosts plan others) play h facts p value attempt item
+told_known plan play h facts p hosts others value attempt item is = ap (λ (m : Map). came_at (with_hosts plan m) play h facts p value attempt item) is
 
 -- a plan whose `hostvars` has no value, to a task that doesn't look it up
 pub items_not_read : (plan seen : PlanOf) (play : PlayOf) (h : ℕ) (facts : FactsOf) (p : ℕ) (learnt : List FactsOf) (none hosts : Map) (reads : Bool) (value : Datum) → seen ≡ with_hosts plan none →
@@ -99,8 +98,8 @@ items_not_read plan seen play h facts p learnt none hosts reads value s not_read
     ∙ items_unread plan play h facts p value (hostvars plan.inventory plan.extra learnt) (subst (λ (q : PlanOf). ItemsUnread q play h facts (place_for q play h p)) s (unread not_read))
 
 pub told_not_read : (plan seen : PlanOf) (play : PlayOf) (h : ℕ) (facts : FactsOf) (p : ℕ) (learnt : List FactsOf) (none hosts : Map) (reads : Bool) (value : Datum) → seen ≡ with_hosts plan none →
-    reads ≡ false → (reads ≡ false → ToldUnread seen play h facts (place_for seen play h p)) → hosts ≡ hosts_magic value → (told : Option Datum) (item : ItemResult) →
-    settled_at (with_hosts plan hosts) play h facts p told item ≡ settled_at (seen_with plan learnt) play h facts p told item
-told_not_read plan seen play h facts p learnt none hosts reads value s not_read unread is told item =
-    told_known plan play h facts p hosts (hosts_magic value) told item is
-    ∙ told_unread plan play h facts p value (hostvars plan.inventory plan.extra learnt) told item (subst (λ (q : PlanOf). ToldUnread q play h facts (place_for q play h p)) s (unread not_read))
+    reads ≡ false → (reads ≡ false → ToldUnread seen play h facts (place_for seen play h p)) → hosts ≡ hosts_magic value → (told : Option Datum) (attempt : ℕ) (item : ItemResult) →
+    came_at (with_hosts plan hosts) play h facts p told attempt item ≡ came_at (seen_with plan learnt) play h facts p told attempt item
+told_not_read plan seen play h facts p learnt none hosts reads value s not_read unread is told attempt item =
+    told_known plan play h facts p hosts (hosts_magic value) told attempt item is
+    ∙ told_unread plan play h facts p value (hostvars plan.inventory plan.extra learnt) told attempt item (subst (λ (q : PlanOf). ToldUnread q play h facts (place_for q play h p)) s (unread not_read))

@@ -6,7 +6,9 @@ use Rattle.pb_facts.specs.Facts.{FactsOf, gathered_layer}
 use Rattle.pb_inventory.specs.Vars.{vars_from_groups, vars_of_host}
 use Rattle.pb_layers.specs.Scope.{Map, layers}
 use Rattle.pb_variables.specs.Magic.{host_magic}
-use Rattle.pb_items.specs.Items.{StartOf, item_in, items_of, settled_item}
+use Rattle.pb_conditions.specs.declared.attempt.Back.{Back}
+use Rattle.pb_conditions.specs.declared.attempt.Back.TheVariants.{Ends}
+use Rattle.pb_items.specs.Items.{StartOf, item_in, items_of, attempted_item}
 use Rattle.pb_items.specs.Loops.{values_of}
 use Rattle.pb_items.specs.Planning.{on_plain_texts}
 use Rattle.pb_outcome.specs.declared.gather.Ending.TheVariants.{Skipped}
@@ -74,12 +76,12 @@ unfoldable pub items_at : PlanOf → PlayOf → ℕ → FactsOf → ℕ → List
 items_at plan play host facts p =
     option_map_or (items_for plan play host facts) (place_for plan play host p) (record { value = None; delegate = None; tried = 0; step = Decided nothing } ∷ [])
 
--- the result of an item with this value of the loop variable that came back, as its task says of it in the scope that the host has then
-abbrev pub settled_for : PlanOf → PlayOf → ℕ → FactsOf → Option Datum → ItemResult → PlaceOf → ItemResult
-settled_for plan play host facts value item place = settled_item (start_of plan play host facts place) value item
+-- what an attempt, numbered from 1, at an item with this value of the loop variable comes to: as its task says in the scope that the host has then
+abbrev pub came_for : PlanOf → PlayOf → ℕ → FactsOf → Option Datum → ℕ → ItemResult → PlaceOf → Back
+came_for plan play host facts value attempt item place = attempted_item (start_of plan play host facts place) value attempt item
 
-unfoldable pub settled_at : PlanOf → PlayOf → ℕ → FactsOf → ℕ → Option Datum → ItemResult → ItemResult
-settled_at plan play host facts p value item = option_map_or (settled_for plan play host facts value item) (place_for plan play host p) item
+unfoldable pub came_at : PlanOf → PlayOf → ℕ → FactsOf → ℕ → Option Datum → ℕ → ItemResult → Back
+came_at plan play host facts p value attempt item = option_map_or (came_for plan play host facts value attempt item) (place_for plan play host p) (Ends item)
 
 -- the name of its loop variable, where it has a loop
 abbrev pub variable_of : Task → List ℕ
@@ -90,5 +92,5 @@ variable_at play p = option_map_or (λ (place : PlaceOf). variable_of place.task
 
 -- what computes a worked run, where no expression stands in its texts
 unfoldable pub on_tasks : ⊤
-unfolding items_at settled_at start_with taught_by given_by items_of item_in values_of on_plain_texts
+unfolding items_at came_at start_with taught_by given_by items_of item_in values_of on_plain_texts
 on_tasks = tt

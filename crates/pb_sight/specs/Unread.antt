@@ -2,7 +2,7 @@
 use Rattle.std.specs.Prelude.{◌≡◌, ⊤, ℕ, Option, Some, None, codes}
 use Rattle.pb_value.specs.Datum.{Datum}
 use Rattle.pb_facts.specs.Facts.{FactsOf}
-use Rattle.pb_items.specs.Items.{items_of, settled_item}
+use Rattle.pb_items.specs.Items.{items_of, attempted_item}
 use Rattle.pb_layers.specs.Scope.{Map}
 use Rattle.pb_outcome.specs.declared.gather.ItemResult.{ItemResult}
 use Rattle.pb_places.specs.Place.{PlaceOf}
@@ -18,10 +18,10 @@ ItemsUnread plan play h facts (Some place) =
     items_of (start_with plan.has_facts_program place (layers_within plan play h facts place.role place.block_vars place.task.vars) one)
     ≡ items_of (start_with plan.has_facts_program place (layers_within plan play h facts place.role place.block_vars place.task.vars) other)
 
--- and it says the same of each result
+-- and each attempt at an item of it comes to the same
 abbrev pub ToldUnread : PlanOf → PlayOf → ℕ → FactsOf → Option PlaceOf → Type 0
 ToldUnread plan play h facts None = ⊤
 ToldUnread plan play h facts (Some place) =
-    (one other : Map) (value : Option Datum) (item : ItemResult) → SameBut (codes "hostvars") one other →
-    settled_item (start_with plan.has_facts_program place (layers_within plan play h facts place.role place.block_vars place.task.vars) one) value item
-    ≡ settled_item (start_with plan.has_facts_program place (layers_within plan play h facts place.role place.block_vars place.task.vars) other) value item
+    (one other : Map) (value : Option Datum) (attempt : ℕ) (item : ItemResult) → SameBut (codes "hostvars") one other →
+    attempted_item (start_with plan.has_facts_program place (layers_within plan play h facts place.role place.block_vars place.task.vars) one) value attempt item
+    ≡ attempted_item (start_with plan.has_facts_program place (layers_within plan play h facts place.role place.block_vars place.task.vars) other) value attempt item

@@ -1,13 +1,13 @@
 //! What `hostvars` stands for where a task may look it up.
 
-ghost use Rattle.std.specs.Prelude.{◌≡◌, ◌<◌, Bool, false, codes, length, Option, Some, IfOk};
+ghost use Rattle.std.specs.Prelude.{◌≡◌, ◌<◌, ℕ, Bool, false, codes, length, Option, Some, IfOk};
 ghost use Rattle.pb_value.specs.Datum.{Datum};
 ghost use Rattle.pb_layers.specs.Scope.{Map};
 ghost use Rattle.pb_reach.specs.Apart.{SameBut};
 ghost use Rattle.pb_variables.specs.Learnt.{facts_in};
 ghost use Rattle.pb_variables.specs.Magic.{hostvars, hosts_magic};
 ghost use Rattle.pb_outcome.specs.declared.gather.ItemResult.{ItemResult};
-ghost use Rattle.pb_items.specs.Items.{items_of, settled_item};
+ghost use Rattle.pb_items.specs.Items.{items_of, attempted_item};
 ghost use Rattle.pb_sight.specs.Results.{start_with, place_for};
 ghost use Rattle.pb_sight.specs.Unread.{ItemsUnread, ToldUnread};
 
@@ -83,8 +83,8 @@ pub fn reads_at_start(
 
 /// Whether the task at a place that sees these layers may look `hostvars` up where it says something of a result.
 fn telling_reads(place: &Place, layers: &Layers) -> bool
-    ensures { result ≡ false → (program : Bool) (one other : Map) (value : Option Datum) (item : ItemResult) → SameBut (codes "hostvars") one other →
-        settled_item (start_with program place.now layers.now one) value item ≡ settled_item (start_with program place.now layers.now other) value item }
+    ensures { result ≡ false → (program : Bool) (one other : Map) (value : Option Datum) (attempt : ℕ) (item : ItemResult) → SameBut (codes "hostvars") one other →
+        attempted_item (start_with program place.now layers.now one) value attempt item ≡ attempted_item (start_with program place.now layers.now other) value attempt item }
 {
     may_read_of_result("hostvars", place.task(), layers)
 }
@@ -124,8 +124,9 @@ fn result_reads(
     told_reads(alloc, plan, play, host, facts, place)
 }
 
-/// Whether the task at the place with this number may look `hostvars` up as it says of a result whether it changed something or failed, on a host that
-/// has learnt this. Where it may not, it says the same whatever `hostvars` stands for. The only error is want of memory.
+/// Whether the task at the place with this number may look `hostvars` up as it says of a result whether it changed something or failed, and whether it
+/// is tried again, on a host that has learnt this. Where it may not, it says the same whatever `hostvars` stands for. The only error is want of
+/// memory.
 pub fn reads_of_result(
     alloc: Global,
     plan: &Seen,

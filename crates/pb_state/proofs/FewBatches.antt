@@ -18,7 +18,7 @@ few_from (suc most) n (suc left) entries =
 pub few_batches : (entries : List Entry) (n : ℕ) → length (batch_sizes entries n) ≤ n
 few_batches entries n = few_from n n n entries
 
-pub few_sizes : (sizes : List ℕ) (entries : List Entry) (hosts : List Bool) (rows : List HostRow) (n : ℕ) → sizes ≡ batch_sizes entries n → n ≡ called_count hosts rows → length rows ≤ 65536 → length sizes ≤ 65536
+pub few_sizes : (sizes : List ℕ) (entries : List Entry) (hosts : List Bool) (rows : List HostRow) (n : ℕ) → sizes ≡ batch_sizes entries n → n ≡ called_count hosts rows → length rows ≤ 1048576 → length sizes ≤ 1048576
 few_sizes sizes entries hosts rows n s c most =
     let same : length sizes ≡ length (batch_sizes entries n) = ap length s in
     omega (arith, same, few_batches entries n, c, few_called hosts rows, most)

@@ -7,6 +7,7 @@ pub mod FewBatches
 pub mod Opening
 pub mod Steps
 pub mod Walked
+pub mod NextAttempt
 pub mod WorkFalls
 pub mod Within
 pub mod Once

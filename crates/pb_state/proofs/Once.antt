@@ -33,7 +33,7 @@ use Rattle.pb_one_host.specs.Row.{HostRow, place_of, next_place, answered, joine
 use Rattle.pb_one_host.specs.Ends.{kind_of, answer_of, plain_answer}
 use Rattle.pb_one_host.specs.Handlers.{notified_by}
 use Rattle.pb_state.specs.State.{State}
-use Rattle.pb_one_host.specs.Kept.{first_waiting}
+use Rattle.pb_one_host.specs.Attempts.{rank}
 use Rattle.pb_sight.specs.declared.gifts.Gift.{Gift}
 use Rattle.pb_one_host.specs.Runs.{is_running, is_ticket, is_item, sends_running, may_send_item, awaits_running, awaits}
 use Rattle.pb_all_hosts.specs.Hosts.{change, at_row}
@@ -42,7 +42,8 @@ use Rattle.pb_state.specs.Machine.{possible, after, open_play, same_place, may_s
 use Rattle.pb_state.specs.Run.{legal_from, IsRun}
 use Rattle.pb_all_hosts.proofs.Giving.{given_keeps}
 use Rattle.pb_state.proofs.Idle.{turn_idle}
-use Rattle.pb_one_host.proofs.InOrder.{first_most, is_next_so, length_back, back_later}
+use Rattle.pb_one_host.proofs.InOrder.{rank_most, is_next_so, length_back, back_ranks}
+use Rattle.pb_state.proofs.NextAttempt.{next_number}
 use Rattle.pb_state.proofs.Opening.{GoesOn, Begins, open_case}
 use Rattle.pb_state.proofs.Stands.{stands_at, start_stands}
 use Rattle.pb_all_hosts.proofs.Turning.{Goes, turned_by_case, goes_inside, goes_waits, idle_map}
@@ -70,13 +71,13 @@ or_right true b e = cc
 or_right false b e = e
 
 -- ---- one host
--- The start at a place has the number 10002 times that place, and the send of the item with the number i there the number i + 1 more: a task has
--- 10,000 items at most. A host's next step has at least the number n.
+-- The start at a place has the number 1010002 times that place, and the send of the attempt a at the item with the number i there the number
+-- 101 * i + a more: a task has 10,000 items at most, and an item 101 attempts. A host's next step has at least the number n.
 abbrev pub IsFrom : ℕ → Reach → Type 0
-IsFrom n (At place) = n ≤ 10002 * place
+IsFrom n (At place) = n ≤ 1010002 * place
 IsFrom n (Done ending) = Unit {0}
 
--- the next item's send comes next, or what is behind it
+-- the next attempt's send comes next, or what is behind it
 abbrev pub behind : Option Ticket → ℕ
 behind None = 1
 behind (Some ticket) = 2
@@ -84,7 +85,7 @@ behind (Some ticket) = 2
 abbrev pub RunsFrom : ℕ → HostRow → Option Running → Type 0
 RunsFrom n row None = IsFrom n (reach row.tree row.answers)
 RunsFrom n row (Some r) =
-    (reach row.tree row.answers ≡ At r.place) × (n ≤ 10002 * r.place + first_waiting r.items + behind r.out) × (length r.items ≤ 10000) × (row.in_batch ≡ true)
+    (reach row.tree row.answers ≡ At r.place) × (n ≤ 1010002 * r.place + rank r.items + behind r.out) × (length r.items ≤ 10000) × (row.in_batch ≡ true)
 
 abbrev pub RowFrom : ℕ → HostRow → Type 0
 RowFrom n row = RunsFrom n row row.running
@@ -102,7 +103,7 @@ abbrev pub FoundOut : Option HostRow → Type 0
 FoundOut None = Unit {0}
 FoundOut (Some row) = row.waits ≡ false
 
-above_from : (n p : ℕ) (r : Reach) → IsAbove p r → n ≤ 10002 * p + 10002 → IsFrom n r
+above_from : (n p : ℕ) (r : Reach) → IsAbove p r → n ≤ 1010002 * p + 1010002 → IsFrom n r
 above_from n p (At place) a l = omega (arith, a, l)
 above_from n p (Done ending) a l = tt
 
@@ -114,17 +115,17 @@ all_count false halted e = refl
 answer_counts : (answers : List AnswerOf) (task : TaskEnd) (notified : List ℕ) → counts answers (answer_of task notified) ≡ true
 answer_counts answers task notified = all_count (list_any (λ (b : AnswerOf). is_halted b.kind) answers) (is_halted (kind_of task)) (not_halted task)
 
-finished_from : (n p : ℕ) (finish : Finish) (task : TaskEnd) (notified : List ℕ) (facts : FactsOf) (row : HostRow) → reach row.tree row.answers ≡ At p → n ≤ 10002 * p + 10002
+finished_from : (n p : ℕ) (finish : Finish) (task : TaskEnd) (notified : List ℕ) (facts : FactsOf) (row : HostRow) → reach row.tree row.answers ≡ At p → n ≤ 1010002 * p + 1010002
     → RowFrom n (finished finish task notified facts row)
 finished_from n p finish task notified facts row e l =
     above_from n p (reach row.tree (row.answers ++ answer_of task notified ∷ [])) (places_rise row.tree row.answers (answer_of task notified) p e (answer_counts row.answers task notified)) l
 
-progressed_from : (n p : ℕ) (inventory : InventoryOf) (play : PlayOf) (items : List Item) (row : HostRow) → reach row.tree row.answers ≡ At p → n ≤ 10002 * p + first_waiting items + 1 → length items ≤ 10000
+progressed_from : (n p : ℕ) (inventory : InventoryOf) (play : PlayOf) (items : List Item) (row : HostRow) → reach row.tree row.answers ≡ At p → n ≤ 1010002 * p + rank items + 1 → length items ≤ 10000
     → row.in_batch ≡ true → RowFrom n (progressed inventory play p items row)
 progressed_from n p inventory play items row e l few inside = by_over (is_over items)
   where
     by_over : (over : Bool) → RowFrom n (if over then ended inventory play p items row else record row { running = Some (record { place = p; items = items; out = None }) })
-    by_over true = let most = first_most items in finished_from n p (finish_at play p items) (task_at play p items) (notified_by play p (task_at play p items)) (taught inventory play p row.host items row.facts) row e (omega (arith, l, few, most))
+    by_over true = let most = rank_most items in finished_from n p (finish_at play p items) (task_at play p items) (notified_by play p (task_at play p items)) (taught inventory play p row.host items row.facts) row e (omega (arith, l, few, most))
     by_over false = (e, l, few, inside)
 
 same_is : (a b : Option ℕ) → same_place a b ≡ true → (p : ℕ) × (a ≡ Some p) × (b ≡ Some p)
@@ -144,47 +145,47 @@ stands p row e =
     place_at (reach row.tree row.answers) row.in_batch p here
 
 -- the number of a start, and of a send
-start_number : (n p : ℕ) (row : HostRow) → stands_at (Some p) row ≡ true → RowFrom n row → n ≤ 10002 * p
+start_number : (n p : ℕ) (row : HostRow) → stands_at (Some p) row ≡ true → RowFrom n row → n ≤ 1010002 * p
 start_number n p row e w = by_running row.running (not_false (is_running row) (and_left (not (is_running row)) _ e)) w
   where
-    from_at : (r : Reach) → r ≡ At p → IsFrom n r → n ≤ 10002 * p
+    from_at : (r : Reach) → r ≡ At p → IsFrom n r → n ≤ 1010002 * p
     from_at (At q) f v = let same : q ≡ p = cc in omega (arith, v, same)
     from_at (Done ending) f v = cc
 
-    by_running : (running : Option Running) → is_some running ≡ false → RunsFrom n row running → n ≤ 10002 * p
+    by_running : (running : Option Running) → is_some running ≡ false → RunsFrom n row running → n ≤ 1010002 * p
     by_running None none v = from_at (reach row.tree row.answers) (stands p row e) v
     by_running (Some r) none v = cc
 
-send_number : (n p item attempt : ℕ) (row : HostRow) → may_send_item item attempt row ≡ true → running_place row ≡ Some p → RowFrom n row → n ≤ 10002 * p + item + 1
+send_number : (n p item attempt : ℕ) (row : HostRow) → may_send_item item attempt row ≡ true → running_place row ≡ Some p → RowFrom n row → n ≤ 1010002 * p + 101 * item + attempt
 send_number n p item attempt row e at w = by_running row.running e at w
   where
     by_out : (number : ℕ) (out : Option Ticket) → is_none out ≡ true → n ≤ number + behind out → n ≤ number + 1
     by_out number None none l = l
     by_out number (Some ticket) none l = cc
 
-    by_running : (running : Option Running) → option_map_or (sends_running item attempt) running false ≡ true → option_map (λ (r : Running). r.place) running ≡ Some p → RunsFrom n row running → n ≤ 10002 * p + item + 1
+    by_running : (running : Option Running) → option_map_or (sends_running item attempt) running false ≡ true → option_map (λ (r : Running). r.place) running ≡ Some p → RunsFrom n row running → n ≤ 1010002 * p + 101 * item + attempt
     by_running None s a v = cc
     by_running (Some r) s a v =
         let same : r.place ≡ p = cc in
-        let first = is_next_so item r.items (and_left (is_item item r.items) _ (and_right (is_none r.out) _ s)) in
-        let most = by_out (10002 * r.place + first_waiting r.items) r.out (and_left (is_none r.out) _ s) v.1 in
-        omega (arith, most, same, first.0)
+        let next = next_number item attempt r (and_right (is_none r.out) _ s) in
+        let most = by_out (1010002 * r.place + rank r.items) r.out (and_left (is_none r.out) _ s) v.1 in
+        omega (arith, most, same, next.0)
 
-sent_from : (m n item attempt : ℕ) (ticket : Ticket) (row : HostRow) → may_send_item item attempt row ≡ true → ((p : ℕ) → running_place row ≡ Some p → n ≤ 10002 * p + item + 2) → RowFrom m row → RowFrom n (sent ticket row)
+sent_from : (m n item attempt : ℕ) (ticket : Ticket) (row : HostRow) → may_send_item item attempt row ≡ true → ((p : ℕ) → running_place row ≡ Some p → n ≤ 1010002 * p + 101 * item + attempt + 1) → RowFrom m row → RowFrom n (sent ticket row)
 sent_from m n item attempt ticket row e most w = by_running row.running e most w
   where
-    by_running : (running : Option Running) → option_map_or (sends_running item attempt) running false ≡ true → ((p : ℕ) → option_map (λ (r : Running). r.place) running ≡ Some p → n ≤ 10002 * p + item + 2) → RunsFrom m row running → RunsFrom n row (option_map (sent_running ticket) running)
+    by_running : (running : Option Running) → option_map_or (sends_running item attempt) running false ≡ true → ((p : ℕ) → option_map (λ (r : Running). r.place) running ≡ Some p → n ≤ 1010002 * p + 101 * item + attempt + 1) → RunsFrom m row running → RunsFrom n row (option_map (sent_running ticket) running)
     by_running None s k v = cc
     by_running (Some r) s k v =
-        let first = is_next_so item r.items (and_left (is_item item r.items) _ (and_right (is_none r.out) _ s)) in
-        let most : n ≤ 10002 * r.place + item + 2 = k r.place refl in
-        (v.0, omega (arith, most, first.0), v.2, v.3)
+        let next = next_number item attempt r (and_right (is_none r.out) _ s) in
+        let most : n ≤ 1010002 * r.place + 101 * item + attempt + 1 = k r.place refl in
+        (v.0, omega (arith, most, next.0), v.2, v.3)
 
 behind_most : (out : Option Ticket) → behind out ≤ 2
 behind_most None = omega arith
 behind_most (Some ticket) = omega arith
 
--- the item that comes back is behind the host then
+-- the attempt that comes back is behind the host then
 reported_from : (n : ℕ) (plan : PlanOf) (play : PlayOf) (outcome : Form) (ticket : Ticket) (item attempt : ℕ) (row : HostRow) → awaits ticket item attempt row ≡ true → RowFrom n row → RowFrom n (reported plan play outcome row)
 reported_from n plan play outcome ticket item attempt row e w = by_running row.running e w
   where
@@ -192,8 +193,8 @@ reported_from n plan play outcome ticket item attempt row e w = by_running row.r
     by_running None s v = cc
     by_running (Some r) s v =
         let first = is_next_so item r.items (and_left (is_item item r.items) _ (and_right (is_ticket ticket r.out) _ s)) in
-        let later : first_waiting r.items + 1 ≤ first_waiting (items_after plan play row.host row.facts outcome r) =
-        back_later (came_back plan play row.host row.facts r.place outcome) r.items (omega (arith, first.0, first.1)) in
+        let later : rank r.items + 1 ≤ rank (items_after plan play row.host row.facts outcome r) =
+        back_ranks (came_back plan play row.host row.facts r.place outcome) r.items (omega (arith, first.0, first.1)) in
         let same : length (items_after plan play row.host row.facts outcome r) ≡ length r.items = length_back (came_back plan play row.host row.facts r.place outcome) r.items in
         let most = behind_most r.out in
         progressed_from n r.place plan.inventory play (items_after plan play row.host row.facts outcome r) row v.0 (omega (arith, v.1, later, most)) (omega (arith, same, v.2)) v.3
@@ -332,7 +333,7 @@ given_out h gifts rows w = given_keeps (λ (all : List HostRow). FoundOut (slice
 -- an answer at the next place of a host leads it on, or is passed over
 reach_from : (n p : ℕ) (tree : TreeOf) (answers : List AnswerOf) (a : AnswerOf) (counting : Bool) → counts answers a ≡ counting → reach tree answers ≡ At p → IsFrom n (reach tree answers)
     → IsFrom n (reach tree (answers ++ a ∷ []))
-reach_from n p tree answers a true c e w = let least : n ≤ 10002 * p = subst (IsFrom n) e w in above_from n p (reach tree (answers ++ a ∷ [])) (places_rise tree answers a p e c) (omega (arith, least))
+reach_from n p tree answers a true c e w = let least : n ≤ 1010002 * p = subst (IsFrom n) e w in above_from n p (reach tree (answers ++ a ∷ [])) (places_rise tree answers a p e c) (omega (arith, least))
 reach_from n p tree answers a false c e w = subst (IsFrom n) (sym (second_passed tree answers a c)) w
 
 answered_from : (n p : ℕ) (kind : Kind) (broken : Bool) (facts : FactsOf) (row : HostRow) → next_place row ≡ Some p → is_running row ≡ false → RowFrom n row
@@ -567,7 +568,7 @@ start_place plan s k None e = cc
 start_place plan s k (Some play) e = start_place_in s k play (next_at s k) (start_stands s k play e)
 
 -- after a start the host is past it
-start_at_raises : (plan : PlanOf) (s : State) (k : ℕ) (play : PlayOf) (place : Option ℕ) (p : ℕ) → IsSound s → open_play plan s ≡ Some play → place ≡ Some p → at_row (stands_at place) s.rows k ≡ true → IsPast (option_map_or (start_at plan s k play) place s) k s.play (10002 * p + 1)
+start_at_raises : (plan : PlanOf) (s : State) (k : ℕ) (play : PlayOf) (place : Option ℕ) (p : ℕ) → IsSound s → open_play plan s ≡ Some play → place ≡ Some p → at_row (stands_at place) s.rows k ≡ true → IsPast (option_map_or (start_at plan s k play) place s) k s.play (1010002 * p + 1)
 start_at_raises plan s k play None p w o f e = cc
 start_at_raises plan s k play (Some q) p w o f e =
     let same : q ≡ p = cc in
@@ -575,10 +576,10 @@ start_at_raises plan s k play (Some q) p w o f e =
     inr (inl (
       refl,
       opened,
-      given_from (10002 * p + 1) k (gifts_at plan.inventory play q k (items_at (plan_seen plan s) play k (facts_at s k) q)) (change s.rows k (progressed plan.inventory play q (items_at (plan_seen plan s) play k (facts_at s k) q)))
-          (change_raises 0 (10002 * p + 1) (progressed plan.inventory play q (items_at (plan_seen plan s) play k (facts_at s k) q)) s.rows k
+      given_from (1010002 * p + 1) k (gifts_at plan.inventory play q k (items_at (plan_seen plan s) play k (facts_at s k) q)) (change s.rows k (progressed plan.inventory play q (items_at (plan_seen plan s) play k (facts_at s k) q)))
+          (change_raises 0 (1010002 * p + 1) (progressed plan.inventory play q (items_at (plan_seen plan s) play k (facts_at s k) q)) s.rows k
           (λ row here u. let at = found_test (stands_at (Some q)) row (slice_get s.rows k) here e in
-          progressed_from (10002 * p + 1) q plan.inventory play (items_at (plan_seen plan s) play k (facts_at s k) q) row (stands q row at) (omega (arith, same)) (few_items (plan_seen plan s) play k (facts_at s k) q) (stands_in (Some q) row at))
+          progressed_from (1010002 * p + 1) q plan.inventory play (items_at (plan_seen plan s) play k (facts_at s k) q) row (stands q row at) (omega (arith, same)) (few_items (plan_seen plan s) play k (facts_at s k) q) (stands_in (Some q) row at))
           (w opened k)),
       given_begun k (gifts_at plan.inventory play q k (items_at (plan_seen plan s) play k (facts_at s k) q)) (change s.rows k (progressed plan.inventory play q (items_at (plan_seen plan s) play k (facts_at s k) q)))
           (begun_at 0 (progressed plan.inventory play q (items_at (plan_seen plan s) play k (facts_at s k) q)) s.rows k
@@ -587,40 +588,40 @@ start_at_raises plan s k play (Some q) p w o f e =
           (w opened k)),
     ))
 
-pub start_raises : (plan : PlanOf) (s : State) (k p : ℕ) (found : Option PlayOf) → IsSound s → open_play plan s ≡ found → next_at s k ≡ Some p → option_map_or (may_start_in s k) found false ≡ true → IsPast (option_map_or (started_in plan s k) found s) k s.play (10002 * p + 1)
+pub start_raises : (plan : PlanOf) (s : State) (k p : ℕ) (found : Option PlayOf) → IsSound s → open_play plan s ≡ found → next_at s k ≡ Some p → option_map_or (may_start_in s k) found false ≡ true → IsPast (option_map_or (started_in plan s k) found s) k s.play (1010002 * p + 1)
 start_raises plan s k p None w o f e = cc
 start_raises plan s k p (Some play) w o f e = start_at_raises plan s k play (next_at s k) p w o f (start_stands s k play e)
 
 -- a host that is past a start doesn't start there
-found_start : (n p : ℕ) (found : Option HostRow) → option_map_or (stands_at (Some p)) found false ≡ true → FoundFrom n found → n ≤ 10002 * p
+found_start : (n p : ℕ) (found : Option HostRow) → option_map_or (stands_at (Some p)) found false ≡ true → FoundFrom n found → n ≤ 1010002 * p
 found_start n p None e w = cc
 found_start n p (Some row) e w = start_number n p row e w
 
-pub start_least : (s : State) (k n p : ℕ) (found : Option PlayOf) → next_at s k ≡ Some p → option_map_or (may_start_in s k) found false ≡ true → FoundFrom n (slice_get s.rows k) → n ≤ 10002 * p
+pub start_least : (s : State) (k n p : ℕ) (found : Option PlayOf) → next_at s k ≡ Some p → option_map_or (may_start_in s k) found false ≡ true → FoundFrom n (slice_get s.rows k) → n ≤ 1010002 * p
 start_least s k n p None f e w = cc
 start_least s k n p (Some play) f e w =
     found_start n p (slice_get s.rows k) (subst (λ (place : Option ℕ). at_row (stands_at place) s.rows k ≡ true) f (start_stands s k play e)) w
 
-start_again : (plan : PlanOf) (s : State) (h play p : ℕ) (k : HostNo) → h ≡ k.0 → play ≡ s.play → next_at s k.0 ≡ Some p → possible plan s (Start k) ≡ true → IsPast s h play (10002 * p + 1) → ⊥
+start_again : (plan : PlanOf) (s : State) (h play p : ℕ) (k : HostNo) → h ≡ k.0 → play ≡ s.play → next_at s k.0 ≡ Some p → possible plan s (Start k) ≡ true → IsPast s h play (1010002 * p + 1) → ⊥
 start_again plan s h play p k same now here e (inl l) = omega (arith, l, now)
 start_again plan s h play p k same now here e (inr (inr w)) = absurd (let opened = open_of plan s (may_start_in s k.0) (open_play plan s) refl e in let shut = w.1 in cc)
 start_again plan s h play p k same now here e (inr (inl w)) =
-    let least = start_least s k.0 (10002 * p + 1) p (open_play plan s) here e (subst (λ (j : ℕ). FoundFrom (10002 * p + 1) (slice_get s.rows j)) same w.2) in
+    let least = start_least s k.0 (1010002 * p + 1) p (open_play plan s) here e (subst (λ (j : ℕ). FoundFrom (1010002 * p + 1) (slice_get s.rows j)) same w.2) in
     omega (arith, least)
 
-other_start : (plan : PlanOf) (s : State) (x : StartOf) (p : ℕ) (k : HostNo) → x.place ≡ Some p → possible plan s (Start k) ≡ true → IsPast s x.host.0 x.play (10002 * p + 1) → x ≢ record { host = k; play = s.play; place = next_at s k.0 }
+other_start : (plan : PlanOf) (s : State) (x : StartOf) (p : ℕ) (k : HostNo) → x.place ≡ Some p → possible plan s (Start k) ≡ true → IsPast s x.host.0 x.play (1010002 * p + 1) → x ≢ record { host = k; play = s.play; place = next_at s k.0 }
 other_start plan s x p k at e w = λ same.
     start_again plan s x.host.0 x.play p k (ap (λ (y : StartOf). y.host.0) same) (ap (λ (y : StartOf). y.play) same) (sym (ap (λ (y : StartOf). y.place) same) ∙ at) e w
 
-later_starts : (plan : PlanOf) (s : State) (x : StartOf) (p : ℕ) (es : List Event) → x.place ≡ Some p → legal_from plan s es ≡ true → IsPast s x.host.0 x.play (10002 * p + 1) → IsNotIn x (starts_from plan s es)
+later_starts : (plan : PlanOf) (s : State) (x : StartOf) (p : ℕ) (es : List Event) → x.place ≡ Some p → legal_from plan s es ≡ true → IsPast s x.host.0 x.play (1010002 * p + 1) → IsNotIn x (starts_from plan s es)
 later_starts plan s x p [] at l w = tt
 later_starts plan s x p (Start k ∷ es) at l w =
     let now = and_left (possible plan s (Start k)) _ l in (
       other_start plan s x p k at now w,
-      later_starts plan (after plan s (Start k)) x p es at (and_right (possible plan s (Start k)) _ l) (past_kept s (after plan s (Start k)) x.host.0 x.play (10002 * p + 1) (moves plan s (Start k) now) w),
+      later_starts plan (after plan s (Start k)) x p es at (and_right (possible plan s (Start k)) _ l) (past_kept s (after plan s (Start k)) x.host.0 x.play (1010002 * p + 1) (moves plan s (Start k) now) w),
     )
 later_starts plan s x p (e ∷ es) at l w =
-    later_starts plan (after plan s e) x p es at (and_right (possible plan s e) _ l) (past_kept s (after plan s e) x.host.0 x.play (10002 * p + 1) (moves plan s e (and_left (possible plan s e) _ l)) w)
+    later_starts plan (after plan s e) x p es at (and_right (possible plan s e) _ l) (past_kept s (after plan s e) x.host.0 x.play (1010002 * p + 1) (moves plan s e (and_left (possible plan s e) _ l)) w)
 
 starts_once : (plan : PlanOf) (s : State) (es : List Event) → IsSound s → legal_from plan s es ≡ true → NoTwice (starts_from plan s es)
 starts_once plan s [] w l = tt
@@ -664,50 +665,50 @@ sends_inside n item attempt row e w = by_running row.running e w
     by_running (Some r) s v = v.3
 
 -- after a send the host is past it
-send_raises : (plan : PlanOf) (s : State) (k : HostNo) (item attempt p : ℕ) (ticket : Ticket) (found : Option PlayOf) → IsSound s → open_play plan s ≡ found → place_run_by s k ≡ Some p → option_map_or (may_send_in s k.0 item attempt ticket) found false ≡ true → IsPast (option_map_or (sent_in s k.0 ticket) found s) k.0 s.play (10002 * p + item + 2)
+send_raises : (plan : PlanOf) (s : State) (k : HostNo) (item attempt p : ℕ) (ticket : Ticket) (found : Option PlayOf) → IsSound s → open_play plan s ≡ found → place_run_by s k ≡ Some p → option_map_or (may_send_in s k.0 item attempt ticket) found false ≡ true → IsPast (option_map_or (sent_in s k.0 ticket) found s) k.0 s.play (1010002 * p + 101 * item + attempt + 1)
 send_raises plan s k item attempt p ticket None w o f e = cc
 send_raises plan s k item attempt p ticket (Some play) w o f e =
     let opened = is_opened plan s s.is_open play refl o in
     inr (inl (
       refl,
       opened,
-      change_raises 0 (10002 * p + item + 2) (sent ticket) s.rows k.0
+      change_raises 0 (1010002 * p + 101 * item + attempt + 1) (sent ticket) s.rows k.0
           (λ row here u. let at = found_test (may_send_item item attempt) row (slice_get s.rows k.0) here (send_test s k.0 item attempt ticket play e) in
           let runs : running_place row ≡ Some p = found_place row p (slice_get s.rows k.0) here f in
-          sent_from 0 (10002 * p + item + 2) item attempt ticket row at (λ q there. let same : q ≡ p = cc in omega (arith, same)) u)
+          sent_from 0 (1010002 * p + 101 * item + attempt + 1) item attempt ticket row at (λ q there. let same : q ≡ p = cc in omega (arith, same)) u)
           (w opened k.0),
       begun_at 0 (sent ticket) s.rows k.0 (λ row here u. sends_inside 0 item attempt row (found_test (may_send_item item attempt) row (slice_get s.rows k.0) here (send_test s k.0 item attempt ticket play e)) u) (w opened k.0),
     ))
 
 -- a host that is past a send doesn't send there
-send_least_in : (n p item attempt : ℕ) (found : Option HostRow) → option_map_or (may_send_item item attempt) found false ≡ true → option_map_or running_place found None ≡ Some p → FoundFrom n found → n ≤ 10002 * p + item + 1
+send_least_in : (n p item attempt : ℕ) (found : Option HostRow) → option_map_or (may_send_item item attempt) found false ≡ true → option_map_or running_place found None ≡ Some p → FoundFrom n found → n ≤ 1010002 * p + 101 * item + attempt
 send_least_in n p item attempt None e f w = cc
 send_least_in n p item attempt (Some row) e f w = send_number n p item attempt row e f w
 
-send_least : (s : State) (k : HostNo) (item attempt n p : ℕ) (ticket : Ticket) (found : Option PlayOf) → place_run_by s k ≡ Some p → option_map_or (may_send_in s k.0 item attempt ticket) found false ≡ true → FoundFrom n (slice_get s.rows k.0) → n ≤ 10002 * p + item + 1
+send_least : (s : State) (k : HostNo) (item attempt n p : ℕ) (ticket : Ticket) (found : Option PlayOf) → place_run_by s k ≡ Some p → option_map_or (may_send_in s k.0 item attempt ticket) found false ≡ true → FoundFrom n (slice_get s.rows k.0) → n ≤ 1010002 * p + 101 * item + attempt
 send_least s k item attempt n p ticket None f e w = cc
 send_least s k item attempt n p ticket (Some play) f e w = send_least_in n p item attempt (slice_get s.rows k.0) (send_test s k.0 item attempt ticket play e) f w
 
-send_again : (plan : PlanOf) (s : State) (h play p i item attempt : ℕ) (k : HostNo) (ticket : Ticket) → h ≡ k.0 → play ≡ s.play → place_run_by s k ≡ Some p → i ≡ item → possible plan s (Send k item attempt ticket) ≡ true → IsPast s h play (10002 * p + i + 2) → ⊥
-send_again plan s h play p i item attempt k ticket same now here is e (inl l) = omega (arith, l, now)
-send_again plan s h play p i item attempt k ticket same now here is e (inr (inr w)) = absurd (let opened = open_of plan s (may_send_in s k.0 item attempt ticket) (open_play plan s) refl e in let shut = w.1 in cc)
-send_again plan s h play p i item attempt k ticket same now here is e (inr (inl w)) =
-    let least = send_least s k item attempt (10002 * p + i + 2) p ticket (open_play plan s) here e (subst (λ (j : ℕ). FoundFrom (10002 * p + i + 2) (slice_get s.rows j)) same w.2) in
-    omega (arith, least, is)
+send_again : (plan : PlanOf) (s : State) (h play p i a item attempt : ℕ) (k : HostNo) (ticket : Ticket) → h ≡ k.0 → play ≡ s.play → place_run_by s k ≡ Some p → i ≡ item → a ≡ attempt → possible plan s (Send k item attempt ticket) ≡ true → IsPast s h play (1010002 * p + 101 * i + a + 1) → ⊥
+send_again plan s h play p i a item attempt k ticket same now here is tried e (inl l) = omega (arith, l, now)
+send_again plan s h play p i a item attempt k ticket same now here is tried e (inr (inr w)) = absurd (let opened = open_of plan s (may_send_in s k.0 item attempt ticket) (open_play plan s) refl e in let shut = w.1 in cc)
+send_again plan s h play p i a item attempt k ticket same now here is tried e (inr (inl w)) =
+    let least = send_least s k item attempt (1010002 * p + 101 * i + a + 1) p ticket (open_play plan s) here e (subst (λ (j : ℕ). FoundFrom (1010002 * p + 101 * i + a + 1) (slice_get s.rows j)) same w.2) in
+    omega (arith, least, is, tried)
 
-other_send : (plan : PlanOf) (s : State) (x : SendOf) (p item attempt : ℕ) (k : HostNo) (ticket : Ticket) → x.place ≡ Some p → possible plan s (Send k item attempt ticket) ≡ true → IsPast s x.host.0 x.play (10002 * p + x.item + 2) → x ≢ record { host = k; play = s.play; place = place_run_by s k; item = item }
+other_send : (plan : PlanOf) (s : State) (x : SendOf) (p item attempt : ℕ) (k : HostNo) (ticket : Ticket) → x.place ≡ Some p → possible plan s (Send k item attempt ticket) ≡ true → IsPast s x.host.0 x.play (1010002 * p + 101 * x.item + x.attempt + 1) → x ≢ record { host = k; play = s.play; place = place_run_by s k; item = item; attempt = attempt }
 other_send plan s x p item attempt k ticket at e w = λ same.
-    send_again plan s x.host.0 x.play p x.item item attempt k ticket (ap (λ (y : SendOf). y.host.0) same) (ap (λ (y : SendOf). y.play) same) (sym (ap (λ (y : SendOf). y.place) same) ∙ at) (ap (λ (y : SendOf). y.item) same) e w
+    send_again plan s x.host.0 x.play p x.item x.attempt item attempt k ticket (ap (λ (y : SendOf). y.host.0) same) (ap (λ (y : SendOf). y.play) same) (sym (ap (λ (y : SendOf). y.place) same) ∙ at) (ap (λ (y : SendOf). y.item) same) (ap (λ (y : SendOf). y.attempt) same) e w
 
-later_sends : (plan : PlanOf) (s : State) (x : SendOf) (p : ℕ) (es : List Event) → x.place ≡ Some p → legal_from plan s es ≡ true → IsPast s x.host.0 x.play (10002 * p + x.item + 2) → IsNotIn x (sends_from plan s es)
+later_sends : (plan : PlanOf) (s : State) (x : SendOf) (p : ℕ) (es : List Event) → x.place ≡ Some p → legal_from plan s es ≡ true → IsPast s x.host.0 x.play (1010002 * p + 101 * x.item + x.attempt + 1) → IsNotIn x (sends_from plan s es)
 later_sends plan s x p [] at l w = tt
 later_sends plan s x p (Send k item attempt ticket ∷ es) at l w =
     let now = and_left (possible plan s (Send k item attempt ticket)) _ l in (
       other_send plan s x p item attempt k ticket at now w,
-      later_sends plan (after plan s (Send k item attempt ticket)) x p es at (and_right (possible plan s (Send k item attempt ticket)) _ l) (past_kept s (after plan s (Send k item attempt ticket)) x.host.0 x.play (10002 * p + x.item + 2) (moves plan s (Send k item attempt ticket) now) w),
+      later_sends plan (after plan s (Send k item attempt ticket)) x p es at (and_right (possible plan s (Send k item attempt ticket)) _ l) (past_kept s (after plan s (Send k item attempt ticket)) x.host.0 x.play (1010002 * p + 101 * x.item + x.attempt + 1) (moves plan s (Send k item attempt ticket) now) w),
     )
 later_sends plan s x p (e ∷ es) at l w =
-    later_sends plan (after plan s e) x p es at (and_right (possible plan s e) _ l) (past_kept s (after plan s e) x.host.0 x.play (10002 * p + x.item + 2) (moves plan s e (and_left (possible plan s e) _ l)) w)
+    later_sends plan (after plan s e) x p es at (and_right (possible plan s e) _ l) (past_kept s (after plan s e) x.host.0 x.play (1010002 * p + 101 * x.item + x.attempt + 1) (moves plan s e (and_left (possible plan s e) _ l)) w)
 
 sends_once : (plan : PlanOf) (s : State) (es : List Event) → IsSound s → legal_from plan s es ≡ true → NoTwice (sends_from plan s es)
 sends_once plan s [] w l = tt
@@ -715,7 +716,7 @@ sends_once plan s (Send k item attempt ticket ∷ es) w l =
     let now = and_left (possible plan s (Send k item attempt ticket)) _ l in
     let rest = and_right (possible plan s (Send k item attempt ticket)) _ l in
     let at = send_place s k item attempt ticket (open_play plan s) now in (
-      later_sends plan (after plan s (Send k item attempt ticket)) (record { host = k; play = s.play; place = place_run_by s k; item = item }) at.0 es at.1 rest (send_raises plan s k item attempt at.0 ticket (open_play plan s) w refl at.1 now),
+      later_sends plan (after plan s (Send k item attempt ticket)) (record { host = k; play = s.play; place = place_run_by s k; item = item; attempt = attempt }) at.0 es at.1 rest (send_raises plan s k item attempt at.0 ticket (open_play plan s) w refl at.1 now),
       sends_once plan (after plan s (Send k item attempt ticket)) es (sound_kept s (after plan s (Send k item attempt ticket)) (moves plan s (Send k item attempt ticket) now) w) rest,
     )
 sends_once plan s (e ∷ es) w l =

@@ -6,6 +6,7 @@ use Rattle.std.specs.Option.{option_map_or}
 use Rattle.std.proofs.lemmas.List.{map-append}
 use Rattle.pb_value.specs.Datum.{Datum}
 use Rattle.pb_facts.specs.Facts.{FactsOf}
+use Rattle.pb_conditions.specs.declared.attempt.Back.{Back}
 use Rattle.pb_outcome.specs.Items.{next_item}
 use Rattle.pb_outcome.specs.declared.gather.ItemResult.{ItemResult}
 use Rattle.pb_outcome.specs.declared.item.Item.{Item}
@@ -16,17 +17,18 @@ use Rattle.pb_outcome.specs.Results.{judged}
 use Rattle.pb_inventory.specs.InventoryOf.{InventoryOf}
 use Rattle.pb_plan.specs.Plan.{PlayOf, PlanOf}
 use Rattle.pb_variables.specs.Learnt.{facts_in}
-use Rattle.pb_sight.specs.Results.{settled_at}
+use Rattle.pb_sight.specs.Results.{came_at}
 use Rattle.pb_one_host.specs.declared.decided.Decided.{Decided}
 use Rattle.pb_one_host.specs.declared.row.Running.{Running}
-use Rattle.pb_one_host.specs.Attempts.{back_in}
+use Rattle.pb_one_host.specs.Attempts.{attempt_after, back_in}
 use Rattle.pb_one_host.specs.Back.{SameTold}
 use Rattle.pb_sight.specs.declared.gifts.Gift.{Gift}
-use Rattle.pb_one_host.specs.Decides.{report_decides, decided_by, decided_with, told_in}
+use Rattle.pb_one_host.specs.declared.decided.Retried.{Retried}
+use Rattle.pb_one_host.specs.Decides.{report_decides, decided_by, decided_with, retried_in, retried_after, told_in, with_retried}
 use Rattle.pb_all_hosts.specs.Hosts.{change}
 use Rattle.pb_all_hosts.specs.Giving.{given_to, gifts_at, gifts_by, gifts_of, report_gives}
 use Rattle.pb_state.specs.Machine.{learnt_by, reported_seen}
-use Rattle.pb_one_host.specs.Row.{HostRow, pending, items_after, progressed, reported, reported_running}
+use Rattle.pb_one_host.specs.Row.{HostRow, pending, came_back, items_after, progressed, reported, reported_running}
 use Rattle.pb_state.specs.State.{State}
 
 -- what one host more has learnt
@@ -36,12 +38,22 @@ one_more learnt f row rest all is so =
     so ∙ ap (λ (x : FactsOf). facts_in learnt ++ x ∷ learnt_by rest) (sym is) ∙ sym (append_assoc (facts_in learnt) (f.now ∷ []) (learnt_by rest))
     ∙ ap (λ (xs : List FactsOf). xs ++ learnt_by rest) (sym (map-append _ learnt (f ∷ [])))
 
--- a report of a task whose results are told the same comes to the same
-after_same : (one other : PlanOf) (play : PlayOf) (h : ℕ) (facts : FactsOf) (outcome : Form) (r : Running) →
-    ((value : Option Datum) (item : ItemResult) → settled_at one play h facts r.place value item ≡ settled_at other play h facts r.place value item) →
-    items_after one play h facts outcome r ≡ items_after other play h facts outcome r
-after_same one other play h facts outcome r same =
-    ap (λ (judge : Item → Call → ItemResult). back_in judge r.items) (λ i item call. same item.value (judged call outcome) i)
+-- a report of a task that says the same of each attempt comes to the same
+abbrev ComesSame : PlanOf → PlanOf → PlayOf → ℕ → FactsOf → ℕ → Type 0
+ComesSame one other play h facts p =
+    (value : Option Datum) (attempt : ℕ) (item : ItemResult) → came_at one play h facts p value attempt item ≡ came_at other play h facts p value attempt item
+
+judge_same : (one other : PlanOf) (play : PlayOf) (h : ℕ) (facts : FactsOf) (p : ℕ) (outcome : Form) → ComesSame one other play h facts p
+    → came_back one play h facts p outcome ≡ came_back other play h facts p outcome
+judge_same one other play h facts p outcome same = λ i item call. same item.value (attempt_after item.tried) (judged call outcome) i
+
+after_same : (one other : PlanOf) (play : PlayOf) (h : ℕ) (facts : FactsOf) (outcome : Form) (r : Running) → ComesSame one other play h facts r.place
+    → items_after one play h facts outcome r ≡ items_after other play h facts outcome r
+after_same one other play h facts outcome r same = ap (λ (judge : Item → Call → Back). back_in judge r.items) (judge_same one other play h facts r.place outcome same)
+
+retried_same : (one other : PlanOf) (play : PlayOf) (h : ℕ) (facts : FactsOf) (outcome : Form) (r : Running) → ComesSame one other play h facts r.place
+    → retried_after one play h facts outcome r ≡ retried_after other play h facts outcome r
+retried_same one other play h facts outcome r same = ap (λ (judge : Item → Call → Back). retried_in judge r.items) (judge_same one other play h facts r.place outcome same)
 
 reported_same : (one other : PlanOf) → one.inventory ≡ other.inventory → (play : PlayOf) (outcome : Form) (row : HostRow) (running : Option Running) → SameTold one other play row running →
     option_map_or (reported_running one play outcome row) running row ≡ option_map_or (reported_running other play outcome row) running row
@@ -61,7 +73,9 @@ decided_same : (one other : PlanOf) (play : PlayOf) (outcome : Form) (row : Host
     option_map (decided_by one play outcome row) running ≡ option_map (decided_by other play outcome row) running
 decided_same one other play outcome row None same = refl
 decided_same one other play outcome row (Some r) same =
-    ap (λ (items : List Item). Some (decided_with play r.place (pending row) false (told_in items (next_item r.items)) items)) (after_same one other play row.host row.facts outcome r same)
+    ap (λ (items : List Item). Some (with_retried (retried_after one play row.host row.facts outcome r) (decided_with play r.place (pending row) false (told_in items (next_item r.items)) items)))
+    (after_same one other play row.host row.facts outcome r same)
+    ∙ ap (λ (retried : Option Retried). Some (with_retried retried (decided_by other play outcome row r))) (retried_same one other play row.host row.facts outcome r same)
 
 -- in all rows, of which this one alone changes
 change_same : (rows : List HostRow) (h : ℕ) (f g : HostRow → HostRow) (found : Option HostRow) → slice_get rows h ≡ found → IfSome found (λ row. f row ≡ g row) → change rows h f ≡ change rows h g

@@ -18,27 +18,27 @@ before (Some a) None p q e f l = cc
 before None b p q e f l = cc
 
 -- a host that is past a start starts behind it
-start_behind : (plan : PlanOf) (s : State) (h play p q : ℕ) (k : HostNo) → h ≡ k.0 → play ≡ s.play → next_at s k.0 ≡ Some q → possible plan s (Start k) ≡ true → IsPast s h play (10002 * p + 1) → p < q
+start_behind : (plan : PlanOf) (s : State) (h play p q : ℕ) (k : HostNo) → h ≡ k.0 → play ≡ s.play → next_at s k.0 ≡ Some q → possible plan s (Start k) ≡ true → IsPast s h play (1010002 * p + 1) → p < q
 start_behind plan s h play p q k same now here e (inl l) = absurd (omega (arith, l, now))
 start_behind plan s h play p q k same now here e (inr (inr w)) = absurd (let opened = open_of plan s (may_start_in s k.0) (open_play plan s) refl e in let shut = w.1 in cc)
 start_behind plan s h play p q k same now here e (inr (inl w)) =
-    let least = start_least s k.0 (10002 * p + 1) q (open_play plan s) here e (subst (λ (j : ℕ). FoundFrom (10002 * p + 1) (slice_get s.rows j)) same w.2) in
+    let least = start_least s k.0 (1010002 * p + 1) q (open_play plan s) here e (subst (λ (j : ℕ). FoundFrom (1010002 * p + 1) (slice_get s.rows j)) same w.2) in
     omega (arith, least)
 
-rises : (plan : PlanOf) (s : State) (x : StartOf) (p : ℕ) (k : HostNo) → x.place ≡ Some p → possible plan s (Start k) ≡ true → IsPast s x.host.0 x.play (10002 * p + 1) → IsRise x (record { host = k; play = s.play; place = next_at s k.0 })
+rises : (plan : PlanOf) (s : State) (x : StartOf) (p : ℕ) (k : HostNo) → x.place ≡ Some p → possible plan s (Start k) ≡ true → IsPast s x.host.0 x.play (1010002 * p + 1) → IsRise x (record { host = k; play = s.play; place = next_at s k.0 })
 rises plan s x p k at e w = λ same now.
     let here = start_place plan s k.0 (open_play plan s) e in
     before x.place (next_at s k.0) p here.0 at here.1 (start_behind plan s x.host.0 x.play p here.0 k (ap (λ (h : HostNo). h.0) same) now here.1 e w)
 
-later_rise : (plan : PlanOf) (s : State) (x : StartOf) (p : ℕ) (es : List Event) → x.place ≡ Some p → legal_from plan s es ≡ true → IsPast s x.host.0 x.play (10002 * p + 1) → IsBeforeAll x (starts_from plan s es)
+later_rise : (plan : PlanOf) (s : State) (x : StartOf) (p : ℕ) (es : List Event) → x.place ≡ Some p → legal_from plan s es ≡ true → IsPast s x.host.0 x.play (1010002 * p + 1) → IsBeforeAll x (starts_from plan s es)
 later_rise plan s x p [] at l w = tt
 later_rise plan s x p (Start k ∷ es) at l w =
     let now = and_left (possible plan s (Start k)) _ l in (
       rises plan s x p k at now w,
-      later_rise plan (after plan s (Start k)) x p es at (and_right (possible plan s (Start k)) _ l) (past_kept s (after plan s (Start k)) x.host.0 x.play (10002 * p + 1) (moves plan s (Start k) now) w),
+      later_rise plan (after plan s (Start k)) x p es at (and_right (possible plan s (Start k)) _ l) (past_kept s (after plan s (Start k)) x.host.0 x.play (1010002 * p + 1) (moves plan s (Start k) now) w),
     )
 later_rise plan s x p (e ∷ es) at l w =
-    later_rise plan (after plan s e) x p es at (and_right (possible plan s e) _ l) (past_kept s (after plan s e) x.host.0 x.play (10002 * p + 1) (moves plan s e (and_left (possible plan s e) _ l)) w)
+    later_rise plan (after plan s e) x p es at (and_right (possible plan s e) _ l) (past_kept s (after plan s e) x.host.0 x.play (1010002 * p + 1) (moves plan s e (and_left (possible plan s e) _ l)) w)
 
 rise_from : (plan : PlanOf) (s : State) (es : List Event) → IsSound s → legal_from plan s es ≡ true → DoRise (starts_from plan s es)
 rise_from plan s [] w l = tt

@@ -32,11 +32,12 @@ use Rattle.pb_one_host.specs.Runs.{is_ticket, is_item, sends_running, awaits_run
 use Rattle.pb_all_hosts.specs.Hosts.{change, at_row}
 use Rattle.pb_all_hosts.specs.Giving.{takes, given_to}
 use Rattle.pb_state.specs.Machine.{play_behind}
-use Rattle.pb_state.specs.Bounds.{run_places, out_jobs, running_jobs, running_items, plays_behind, IsPlacedIn, IsWithin, AllWithin, most_jobs, IsBounded}
-use Rattle.pb_one_host.specs.Kept.{first_waiting}
+use Rattle.pb_state.specs.Bounds.{run_places, out_jobs, running_jobs, running_items, plays_behind, IsPlacedIn, IsWithin, AllWithin, max_jobs, most_jobs, IsBounded}
+use Rattle.pb_one_host.specs.Attempts.{rank}
 use Rattle.pb_all_hosts.specs.Turn.{BatchOf, turned_by}
 use Rattle.pb_all_hosts.proofs.Giving.{given_keeps, given_sum, length-given}
-use Rattle.pb_one_host.proofs.InOrder.{first_most, is_next_so, length_back, back_later}
+use Rattle.pb_one_host.proofs.InOrder.{rank_most, is_next_so, length_back, back_ranks}
+use Rattle.pb_state.proofs.NextAttempt.{next_below}
 use Rattle.pb_all_hosts.proofs.Batching.{joins_waits, length-joined}
 use Rattle.pb_all_hosts.proofs.FirstRows.{length-first}
 use Rattle.pb_state.proofs.Stands.{stands_at}
@@ -181,8 +182,8 @@ progressed_within goes_on k p inventory play items row most b i w = by_over (is_
     )
 
 -- a task that ends leaves room for all that its items can have sent
-finished_jobs : (goes_on : Bool) (k n : ℕ) (finish : Finish) (task : TaskEnd) (notified : List ℕ) (facts : FactsOf) (row : HostRow) → n ≤ max_items
-    → (max_items * (16384 * plays_behind true k row + length (one_halted row.answers)) + n) + 0 ≤ most_jobs true goes_on k (finished finish task notified facts row)
+finished_jobs : (goes_on : Bool) (k n : ℕ) (finish : Finish) (task : TaskEnd) (notified : List ℕ) (facts : FactsOf) (row : HostRow) → n ≤ max_jobs
+    → (max_jobs * (16384 * plays_behind true k row + length (one_halted row.answers)) + n) + 0 ≤ most_jobs true goes_on k (finished finish task notified facts row)
 finished_jobs goes_on k n finish task notified facts row m = let more = one_halted_answer row.answers task notified in omega (arith, more, m)
 
 start_keeps : (goes_on : Bool) (k : ℕ) (place : Option ℕ) (inventory : InventoryOf) (play : PlayOf) (p : ℕ) (items : List Item) → length items ≤ max_items → Keeps goes_on k (progressed inventory play p items) (stands_at place) 0
@@ -193,7 +194,7 @@ start_keeps goes_on k place inventory play p items most =
     }
   where
     by_over : (row : HostRow) (over : Bool)
-        → (max_items * (16384 * plays_behind true k row + length (one_halted row.answers)) + 0) + 0 ≤ most_jobs true goes_on k (if over then ended inventory play p items row else record row { running = Some (record { place = p; items = items; out = None }) })
+        → (max_jobs * (16384 * plays_behind true k row + length (one_halted row.answers)) + 0) + 0 ≤ most_jobs true goes_on k (if over then ended inventory play p items row else record row { running = Some (record { place = p; items = items; out = None }) })
     by_over row true = finished_jobs goes_on k 0 (finish_at play p items) (task_at play p items) (notified_by play p (task_at play p items)) (taught inventory play p row.host items row.facts) row (omega arith)
     by_over row false = omega arith
 
@@ -209,8 +210,7 @@ sent_items ticket (Some r) = refl
 one_more_out : (item attempt : ℕ) (ticket : Ticket) (found : Option Running) → option_map_or (sends_running item attempt) found false ≡ true → running_jobs found + 1 ≤ running_jobs (option_map (sent_running ticket) found)
 one_more_out item attempt ticket None e = cc
 one_more_out item attempt ticket (Some r) e =
-    let first = is_next_so item r.items (and_left (is_item item r.items) _ (and_right (is_none r.out) _ e)) in
-    omega (arith, first.0, first.1, none_out r.out (and_left (is_none r.out) _ e))
+    omega (arith, next_below item attempt r (and_right (is_none r.out) _ e), none_out r.out (and_left (is_none r.out) _ e))
   where
     none_out : (o : Option Ticket) → is_none o ≡ true → out_jobs o ≡ 0
     none_out None e = refl
@@ -252,8 +252,8 @@ report_keeps goes_on k item attempt plan play outcome ticket =
         let same : length (items_after plan play row.host row.facts outcome r) ≡ length r.items = length_back (came_back plan play row.host row.facts r.place outcome) r.items in
         progressed_within goes_on k r.place plan.inventory play (items_after plan play row.host row.facts outcome r) row (omega (arith, same, most)) (omega (arith, bound)) (run_in row.in_batch row r f w.4) w
 
-    by_over : (row : HostRow) (r : Running) (items : List Item) (over : Bool) → length items ≡ length r.items → first_waiting r.items + 1 ≤ first_waiting items → first_waiting items ≤ length items → length r.items ≤ max_items
-        → (max_items * (16384 * plays_behind true k row + length (one_halted row.answers)) + running_jobs (Some r)) + 0
+    by_over : (row : HostRow) (r : Running) (items : List Item) (over : Bool) → length items ≡ length r.items → rank r.items + 1 ≤ rank items → rank items ≤ 101 * length items → length r.items ≤ max_items
+        → (max_jobs * (16384 * plays_behind true k row + length (one_halted row.answers)) + running_jobs (Some r)) + 0
         ≤ most_jobs true goes_on k (if over then ended plan.inventory play r.place items row else record row { running = Some (record { place = r.place; items = items; out = None }) })
     by_over row r items true same later within most = finished_jobs goes_on k (running_jobs (Some r)) (finish_at play r.place items) (task_at play r.place items) (notified_by play r.place (task_at play r.place items)) (taught plan.inventory play r.place row.host items row.facts) row (omega (arith, most))
     by_over row r items false same later within most = omega (arith, same, later, within, at_most_one r.out)
@@ -267,8 +267,8 @@ report_keeps goes_on k item attempt plan play outcome ticket =
         rw f
         (by_over row r (items_after plan play row.host row.facts outcome r) (is_over (items_after plan play row.host row.facts outcome r))
         (length_back (came_back plan play row.host row.facts r.place outcome) r.items)
-        (back_later (came_back plan play row.host row.facts r.place outcome) r.items (omega (arith, first.0, first.1)))
-        (first_most (items_after plan play row.host row.facts outcome r)) most)
+        (back_ranks (came_back plan play row.host row.facts r.place outcome) r.items (omega (arith, first.0, first.1)))
+        (rank_most (items_after plan play row.host row.facts outcome r)) most)
 
 -- the clauses of the steps
 changed_so : (batch : ℕ) (later : List ℕ) (play sends by h : ℕ) (is_open : Bool) (f : HostRow → HostRow) (test : HostRow → Bool) (rows new : List HostRow) (more : ℕ) → more ≡ sends + by → is_open ≡ true → Keeps (has_later later) play f test by
@@ -476,20 +476,20 @@ behind_waits true play row w = ap (λ (waits : Bool). if true && not waits then 
 behind_waits false play row w = refl
 
 -- the most that rows can have sent stays far below a number's end
-jobs_at_most : (found : Option Running) → running_items found ≤ max_items → running_jobs found ≤ max_items * run_places found
+jobs_at_most : (found : Option Running) → running_items found ≤ max_items → running_jobs found ≤ max_jobs * run_places found
 jobs_at_most None m = omega arith
 jobs_at_most (Some r) m = omega (arith, m)
 
-most_at_most : (goes_on : Bool) (play : ℕ) (rows : List HostRow) → play < 256 → AllWithin true goes_on play rows → sum_by (most_jobs true goes_on play) rows ≤ length rows * 42106880000
+most_at_most : (goes_on : Bool) (play : ℕ) (rows : List HostRow) → play < 256 → AllWithin true goes_on play rows → sum_by (most_jobs true goes_on play) rows ≤ length rows * 4252794880000
 most_at_most goes_on play [] b w = omega arith
 most_at_most goes_on play (row ∷ rows) b w =
     let one = jobs_at_most row.running w.0.3 in
-    omega (arith, w.0.1, b, one, behind_most true play row, most_at_most goes_on play rows b w.1, sum_by-cons (most_jobs true goes_on play) row rows, suc-mul (length rows) 42106880000)
+    omega (arith, w.0.1, b, one, behind_most true play row, most_at_most goes_on play rows b w.1, sum_by-cons (most_jobs true goes_on play) row rows, suc-mul (length rows) 4252794880000)
 
 pub sends_below : (batch : ℕ) (later : List ℕ) (play sends : ℕ) (is_open : Bool) (rows : List HostRow) → IsBounded is_open batch later play sends rows → is_open ≡ true → sends < 2 ^ 62
 sends_below batch later play sends true rows b o =
     let most = most_at_most (has_later later) play rows b.under_way b.counts in
-    let total : length rows * 42106880000 ≤ 65536 * 42106880000 = omega (arith, b.hosts) in
+    let total : length rows * 4252794880000 ≤ 1048576 * 4252794880000 = omega (arith, b.hosts) in
     omega (arith, b.jobs, most, total)
 sends_below batch later play sends false rows b o = cc
 
@@ -571,8 +571,8 @@ called_jobs play hosts (row ∷ rows) =
     let rest = called_jobs play hosts rows in
     omega (arith, rest, sum_by-cons (most_jobs false false play) row rows, sum_by-cons (most_jobs false false play) (called hosts row) (map (called hosts) rows))
 
-begun_bounded : (batch : ℕ) (later : List ℕ) (play n sends size : ℕ) (sizes : List ℕ) (tree : TreeOf) (hosts : List Bool) (rows : List HostRow) → length rows ≤ 65536 → AllWithin false false play rows
-    → sends ≤ sum_by (most_jobs false false play) rows → size_of tree ≤ 16384 → play ≤ n → n < 256 → length sizes ≤ 65536
+begun_bounded : (batch : ℕ) (later : List ℕ) (play n sends size : ℕ) (sizes : List ℕ) (tree : TreeOf) (hosts : List Bool) (rows : List HostRow) → length rows ≤ 1048576 → AllWithin false false play rows
+    → sends ≤ sum_by (most_jobs false false play) rows → size_of tree ≤ 16384 → play ≤ n → n < 256 → length sizes ≤ 1048576
     → IsBounded true 0 (drop 1 sizes) n sends (joined_first tree size (map (called hosts) rows))
 begun_bounded batch later play n sends size sizes tree hosts rows h w j s l p few =
     let most : (row : HostRow) → plays_behind false play row ≤ plays_behind true n row = λ row. (let least = behind_least true n row in omega (arith, least, l)) in
@@ -593,7 +593,7 @@ begun_bounded batch later play n sends size sizes tree hosts rows h w j s l p fe
     length-tail (first ∷ rest) = omega arith
 
 pub begin_bounded : (batch : ℕ) (later : List ℕ) (play n sends size : ℕ) (is_open goes_on : Bool) (sizes : List ℕ) (tree : TreeOf) (hosts : List Bool) (rows new : List HostRow) → IsBounded is_open batch later play sends rows
-    → size_of tree ≤ 16384 → is_open ≡ false → has_later later ≡ goes_on → goes_on ≡ false → play ≤ n → n < 256 → length sizes ≤ 65536 → new ≡ joined_first tree size (map (called hosts) rows)
+    → size_of tree ≤ 16384 → is_open ≡ false → has_later later ≡ goes_on → goes_on ≡ false → play ≤ n → n < 256 → length sizes ≤ 1048576 → new ≡ joined_first tree size (map (called hosts) rows)
     → IsBounded true 0 (drop 1 sizes) n sends new
 begin_bounded batch later play n sends size true goes_on sizes tree hosts rows new b s f k g l p few e = cc
 begin_bounded batch later play n sends size false true sizes tree hosts rows new b s f k g l p few e = cc
@@ -668,6 +668,6 @@ first_all : (h n : ℕ) → AllWithin false false 0 (first_rows h n)
 first_all h zero = tt
 first_all h (suc n) = (none_at_most 0, first_all (h + 1) n)
 
-pub first_bounded : (rows : List HostRow) (later : List ℕ) (n : ℕ) → n ≤ 65536 → rows ≡ first_rows 0 n → later ≡ [] → IsBounded false 0 later 0 0 rows
+pub first_bounded : (rows : List HostRow) (later : List ℕ) (n : ℕ) → n ≤ 1048576 → rows ≡ first_rows 0 n → later ≡ [] → IsBounded false 0 later 0 0 rows
 first_bounded rows later n m e l =
     rw (e, l) (record { counts = first_all 0 n; plays = omega arith; under_way = tt; hosts = rw (length-first 0 n) m; batches = omega arith; jobs = omega arith })

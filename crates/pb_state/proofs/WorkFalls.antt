@@ -38,13 +38,14 @@ use Rattle.pb_all_hosts.specs.Giving.{takes, given_to, gifts_at, report_gives}
 use Rattle.pb_all_hosts.specs.Hosts.{change, at_row, least_place}
 use Rattle.pb_state.specs.Machine.{possible, after, open_play, same_place, may_open, is_left, may_start_in, may_turn_in, may_close_in, opened_by, after_open, started_in, next_at, facts_at, plan_seen, start_at, batch_of, turned_in, play_behind, closed, may_send_in, may_report_in, sent_in, reported_in}
 use Rattle.pb_batches.specs.Sizes.{batch_sizes}
-use Rattle.pb_one_host.specs.Kept.{first_waiting}
+use Rattle.pb_one_host.specs.Attempts.{rank}
 use Rattle.pb_state.specs.Run.{is_command}
 use Rattle.pb_one_host.specs.Ends.{plain_answer, is_settling}
 use Rattle.pb_all_hosts.specs.Turn.{BatchOf, settles, source, copied, copied_if, with_copy, copies, is_halting, halted, turned, turned_by}
 use Rattle.pb_state.specs.Work.{most_events, places_left, place_work, out_work, running_work, row_work, batch_work, batches_work, later_work, rest_work, between_work, turn_work, is_place, work_in, work}
 use Rattle.pb_all_hosts.proofs.Giving.{given_sum, length-given}
-use Rattle.pb_one_host.proofs.InOrder.{is_next_so, length_back, back_later}
+use Rattle.pb_one_host.proofs.InOrder.{is_next_so, length_back, back_ranks}
+use Rattle.pb_state.proofs.NextAttempt.{next_below}
 use Rattle.pb_all_hosts.proofs.Batching.{few_called, length-joined}
 use Rattle.pb_state.proofs.FewBatches.{few_batches}
 use Rattle.pb_state.proofs.SizesLeft.{later_one}
@@ -79,13 +80,13 @@ finished_less row finish task notified facts = finished_at row finish task notif
 with_more : (a b c : ℕ) → a ≤ b → a ≤ c + b
 with_more a b c e = omega (arith, e)
 
-progressed_less : (inventory : InventoryOf) (play : PlayOf) (p : ℕ) (items : List Item) (row : HostRow) → row_work (progressed inventory play p items row) ≤ 2 * (length items - first_waiting items) + most_events * (places_left row - 1)
+progressed_less : (inventory : InventoryOf) (play : PlayOf) (p : ℕ) (items : List Item) (row : HostRow) → row_work (progressed inventory play p items row) ≤ 2 * (101 * length items - rank items) + most_events * (places_left row - 1)
 progressed_less inventory play p items row = by_over (is_over items)
   where
     by_over : (over : Bool) → row_work (if over then ended inventory play p items row else record row { running = Some (record { place = p; items = items; out = None }) })
-        ≤ 2 * (length items - first_waiting items) + most_events * (places_left row - 1)
+        ≤ 2 * (101 * length items - rank items) + most_events * (places_left row - 1)
     by_over true =
-        with_more (row_work (ended inventory play p items row)) (most_events * (places_left row - 1)) (2 * (length items - first_waiting items))
+        with_more (row_work (ended inventory play p items row)) (most_events * (places_left row - 1)) (2 * (101 * length items - rank items))
         (finished_less row (finish_at play p items) (task_at play p items) (notified_by play p (task_at play p items)) (taught inventory play p row.host items row.facts))
     by_over false = omega arith
 
@@ -93,7 +94,7 @@ not_running : (row : HostRow) (running : Option Running) → not (is_some runnin
 not_running row None e = refl
 not_running row (Some r) e = cc
 
-start_falls : (new old left n : ℕ) → new ≤ 2 * n + most_events * (left - 1) → old ≡ most_events * left → n ≤ max_items → 0 < left → new < old
+start_falls : (new old left n : ℕ) → new ≤ 2 * n + most_events * (left - 1) → old ≡ most_events * left → n ≤ 101 * max_items → 0 < left → new < old
 start_falls new old left n a b c d = omega (arith, a, b, c, d)
 
 start_less : (place : Option ℕ) (inventory : InventoryOf) (play : PlayOf) (p : ℕ) (items : List Item) (row : HostRow) → length items ≤ max_items → stands_at place row ≡ true → row_work (progressed inventory play p items row) < row_work row
@@ -101,7 +102,7 @@ start_less place inventory play p items row most e =
     let stood = same_is (next_place row) place (and_right (not (is_running row)) _ e) in
     let idle : row_work row ≡ place_work row (next_place row) = not_running row row.running (and_left (not (is_running row)) _ e) in
     let now : place_work row (next_place row) ≡ most_events * places_left row = ap (place_work row) stood.1 in
-    start_falls (row_work (progressed inventory play p items row)) (row_work row) (places_left row) (length items - first_waiting items) (progressed_less inventory play p items row) (idle ∙ now) (omega (arith, most)) (omega (arith, stands_below place row e))
+    start_falls (row_work (progressed inventory play p items row)) (row_work row) (places_left row) (101 * length items - rank items) (progressed_less inventory play p items row) (idle ∙ now) (omega (arith, most)) (omega (arith, stands_below place row e))
 
 -- a send
 none_out : (out : Option Ticket) → is_none out ≡ true → out_work out ≡ 0
@@ -111,8 +112,7 @@ none_out (Some ticket) e = cc
 sending : (item attempt : ℕ) (ticket : Ticket) (row : HostRow) (running : Option Running) → option_map_or (sends_running item attempt) running false ≡ true → running_work (sent ticket row) (option_map (sent_running ticket) running) < running_work row running
 sending item attempt ticket row None e = cc
 sending item attempt ticket row (Some r) e =
-    let first = is_next_so item r.items (and_left (is_item item r.items) _ (and_right (is_none r.out) _ e)) in
-    omega (arith, none_out r.out (and_left (is_none r.out) _ e), first.0, first.1)
+    omega (arith, none_out r.out (and_left (is_none r.out) _ e), next_below item attempt r (and_right (is_none r.out) _ e))
 
 send_less : (item attempt : ℕ) (ticket : Ticket) (row : HostRow) → may_send_item item attempt row ≡ true → row_work (sent ticket row) < row_work row
 send_less item attempt ticket row e = sending item attempt ticket row row.running e
@@ -130,12 +130,12 @@ reporting plan play outcome ticket item attempt row None e = cc
 reporting plan play outcome ticket item attempt row (Some r) e =
     let first = is_next_so item r.items (and_left (is_item item r.items) _ (and_right (is_ticket ticket r.out) _ e)) in
     let same : length (items_after plan play row.host row.facts outcome r) ≡ length r.items = length_back (came_back plan play row.host row.facts r.place outcome) r.items in
-    let later : first_waiting r.items + 1 ≤ first_waiting (items_after plan play row.host row.facts outcome r) =
-    back_later (came_back plan play row.host row.facts r.place outcome) r.items (omega (arith, first.0, first.1)) in
-    report_falls (row_work (progressed plan.inventory play r.place (items_after plan play row.host row.facts outcome r) row)) (running_work row (Some r)) (places_left row) (length r.items - first_waiting r.items)
-    (length (items_after plan play row.host row.facts outcome r) - first_waiting (items_after plan play row.host row.facts outcome r)) (out_work r.out)
+    let later : rank r.items + 1 ≤ rank (items_after plan play row.host row.facts outcome r) =
+    back_ranks (came_back plan play row.host row.facts r.place outcome) r.items (omega (arith, first.0, first.1)) in
+    report_falls (row_work (progressed plan.inventory play r.place (items_after plan play row.host row.facts outcome r) row)) (running_work row (Some r)) (places_left row) (101 * length r.items - rank r.items)
+    (101 * length (items_after plan play row.host row.facts outcome r) - rank (items_after plan play row.host row.facts outcome r)) (out_work r.out)
     (progressed_less plan.inventory play r.place (items_after plan play row.host row.facts outcome r) row) refl
-    (out_one ticket r.out (and_left (is_ticket ticket r.out) _ e)) (omega (arith, same, later, first.0, first.1))
+    (out_one ticket r.out (and_left (is_ticket ticket r.out) _ e)) (omega (arith, same, later, next_below item attempt r (and_right (is_ticket ticket r.out) _ e)))
 
 report_less : (plan : PlanOf) (play : PlayOf) (outcome : Form) (ticket : Ticket) (item attempt : ℕ) (row : HostRow) → awaits ticket item attempt row ≡ true → row_work (reported plan play outcome row) < row_work row
 report_less plan play outcome ticket item attempt row e = reporting plan play outcome ticket item attempt row row.running e

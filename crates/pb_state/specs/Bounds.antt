@@ -1,4 +1,4 @@
--- How far a state's numbers can have come: a host counts each place of a play once, and sends a job at most for each item of its task there.
+-- How far a state's numbers can have come: a host counts each place of a play once, and sends 101 jobs at most for each item of its task there.
 use Rattle.std.specs.Prelude.{◌≡◌, ℕ, ◌+◌, ◌*◌, ◌≤◌, ◌<◌, Bool, true, false, ◌&&◌, ◌||◌, not, List, [], ◌∷◌, length, min, sum_by, Option, Some, None, if◌then◌else◌}
 use Rattle.std.specs.Bool.{OnTrue}
 use Rattle.pb_tree.specs.Tree.{size_of}
@@ -6,7 +6,7 @@ use Rattle.pb_tree.specs.Walk.{one_halted}
 use Rattle.pb_ids.specs.declared.numbers.Ticket.{Ticket}
 use Rattle.pb_items.specs.Loops.{max_items}
 use Rattle.pb_one_host.specs.declared.row.Running.{Running}
-use Rattle.pb_one_host.specs.Kept.{first_waiting}
+use Rattle.pb_one_host.specs.Attempts.{rank}
 use Rattle.pb_all_hosts.specs.Batches.{has_later}
 use Rattle.pb_one_host.specs.Row.{HostRow}
 use Rattle.pb_one_host.specs.Ends.{IsAtMost}
@@ -20,10 +20,10 @@ abbrev pub out_jobs : Option Ticket → ℕ
 out_jobs None = 0
 out_jobs (Some ticket) = 1
 
--- of a task that runs, the items before the next one may have been sent, and the next one where a job is out
+-- of a task that runs, the attempts before the next one may have been sent, and the next one where a job is out
 abbrev pub running_jobs : Option Running → ℕ
 running_jobs None = 0
-running_jobs (Some r) = min (length r.items) (first_waiting r.items + out_jobs r.out)
+running_jobs (Some r) = min (101 * length r.items) (rank r.items + out_jobs r.out)
 
 abbrev pub running_items : Option Running → ℕ
 running_items None = 0
@@ -49,16 +49,20 @@ abbrev pub AllWithin : (is_open goes_on : Bool) → ℕ → List HostRow → Typ
 AllWithin is_open goes_on play [] = Unit {0}
 AllWithin is_open goes_on play (row ∷ rows) = IsWithin is_open goes_on play row × AllWithin is_open goes_on play rows
 
+-- the most jobs of one task that a host sends: 101 for each item
+abbrev pub max_jobs : ℕ
+max_jobs = 101 * max_items
+
 -- the most jobs that a host can have sent
 abbrev pub most_jobs : (is_open goes_on : Bool) → ℕ → HostRow → ℕ
-most_jobs true goes_on play row = max_items * (16384 * plays_behind true play row + length (one_halted row.answers)) + running_jobs row.running
-most_jobs false goes_on play row = max_items * (16384 * plays_behind goes_on play row)
+most_jobs true goes_on play row = max_jobs * (16384 * plays_behind true play row + length (one_halted row.answers)) + running_jobs row.running
+most_jobs false goes_on play row = max_jobs * (16384 * plays_behind goes_on play row)
 
 pub record IsBounded (is_open : Bool) (batch : ℕ) (later : List ℕ) (play sends : ℕ) (rows : List HostRow) : Type 0 where
   pub counts : AllWithin is_open (has_later later) play rows
   pub plays : play ≤ 256
   pub under_way : OnTrue (is_open || has_later later) (play < 256)
-  pub hosts : length rows ≤ 65536
+  pub hosts : length rows ≤ 1048576
   -- a play has as many batches as hosts at most
-  pub batches : batch + length later ≤ 65536
+  pub batches : batch + length later ≤ 1048576
   pub jobs : sends ≤ sum_by (most_jobs is_open (has_later later) play) rows

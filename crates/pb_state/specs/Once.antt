@@ -1,5 +1,5 @@
--- Nothing is run twice: each task starts once on each host of a play's batch, and each item of it is sent once
--- (Ansible's documentation, "Controlling playbook execution: strategies").
+-- Nothing is run twice: each task starts once on each host of a play's batch, and each attempt at an item of it is sent once. An item may be sent
+-- again, but then as another attempt (Ansible's documentation, "Controlling playbook execution: strategies", "Retrying a task until a condition is met").
 use Rattle.std.specs.Prelude.{◌≡◌, ◌≢◌, ℕ, true, List, [], ◌∷◌, ◌++◌, Option, None, option_map, slice_get}
 use Rattle.std.specs.Option.{option_map_or}
 use Rattle.pb_ids.specs.declared.numbers.HostNo.{HostNo}
@@ -18,12 +18,13 @@ pub record StartOf : Type 0 where
   pub play : ℕ
   pub place : Option ℕ
 
--- the job of an item of a host's task goes out
+-- the job of an attempt at an item of a host's task goes out
 pub record SendOf : Type 0 where
   pub host : HostNo
   pub play : ℕ
   pub place : Option ℕ
   pub item : ℕ
+  pub attempt : ℕ
 
 -- the place of the task that a host runs
 abbrev pub running_place : HostRow → Option ℕ
@@ -39,7 +40,7 @@ starts_of s other = []
 
 -- what an event sends: at the place of the task that the host runs
 abbrev pub sends_of : State → Event → List SendOf
-sends_of s (Send host item attempt ticket) = record { host = host; play = s.play; place = place_run_by s host; item = item } ∷ []
+sends_of s (Send host item attempt ticket) = record { host = host; play = s.play; place = place_run_by s host; item = item; attempt = attempt } ∷ []
 sends_of s other = []
 
 -- what the events start, and what they send, one after another
@@ -61,7 +62,7 @@ abbrev pub NoTwice : {A : Type 0} → List A → Type 0
 NoTwice [] = Unit {0}
 NoTwice (x ∷ xs) = IsNotIn x xs × NoTwice xs
 
--- no two starts of the events agree in host, play and place, and no two sends agree in host, play, place and item
+-- no two starts of the events agree in host, play and place, and no two sends agree in host, play, place, item and attempt
 pub record IsOnce (plan : PlanOf) (s : State) (trail : List Event) : Type 0 where
   pub starts : NoTwice (starts_from plan s trail)
   pub sends : NoTwice (sends_from plan s trail)

@@ -9,14 +9,14 @@ use Rattle.pb_one_host.specs.declared.row.Running.{Running}
 use Rattle.pb_plan.specs.Plan.{PlayOf, PlanOf}
 use Rattle.pb_all_hosts.specs.Batches.{has_later}
 use Rattle.pb_one_host.specs.Row.{HostRow, next_place}
-use Rattle.pb_one_host.specs.Kept.{first_waiting}
+use Rattle.pb_one_host.specs.Attempts.{rank}
 use Rattle.pb_state.specs.State.{State}
 use Rattle.pb_all_hosts.specs.Hosts.{least_place}
 use Rattle.pb_state.specs.Machine.{open_play, same_place}
 
--- a task is started, and each of its items is sent and comes back
+-- a task is started, and each of its items is sent and comes back, 101 times at most
 abbrev pub most_events : ℕ
-most_events = 2 * max_items + 1
+most_events = 2 * (101 * max_items) + 1
 
 -- of one host: an answer at most for each place of its tree
 abbrev pub places_left : HostRow → ℕ
@@ -26,13 +26,13 @@ abbrev pub place_work : HostRow → Option ℕ → ℕ
 place_work row None = 0
 place_work row (Some p) = most_events * places_left row
 
--- of a task that runs: the sends and the reports of its items from the next one on, and what is behind it
+-- of a task that runs: the sends and the reports of the attempts from the next one on, and what is behind it
 abbrev pub out_work : Option Ticket → ℕ
 out_work None = 0
 out_work (Some ticket) = 1
 
 abbrev pub items_work : Running → ℕ
-items_work r = 2 * (length r.items - first_waiting r.items) - out_work r.out
+items_work r = 2 * (101 * length r.items - rank r.items) - out_work r.out
 
 abbrev pub running_work : HostRow → Option Running → ℕ
 running_work row None = place_work row (next_place row)

@@ -1,11 +1,11 @@
 //! What `hostvars` stands for, with what the rows say that their hosts have learnt.
 
-ghost use Rattle.std.specs.Prelude.{◌≡◌, Option, IfOk};
+ghost use Rattle.std.specs.Prelude.{◌≡◌, ℕ, Option, IfOk};
 ghost use Rattle.pb_value.specs.Datum.{Datum};
 ghost use Rattle.pb_variables.specs.Learnt.{facts_in};
 ghost use Rattle.pb_variables.specs.Magic.{hostvars, hosts_magic};
 ghost use Rattle.pb_outcome.specs.declared.gather.ItemResult.{ItemResult};
-ghost use Rattle.pb_sight.specs.Results.{items_at, settled_at};
+ghost use Rattle.pb_sight.specs.Results.{items_at, came_at};
 ghost use Rattle.pb_sight.specs.Seen.{with_hosts, seen_with};
 ghost use Rattle.pb_state.specs.Machine.{learnt_by};
 
@@ -62,7 +62,7 @@ pub(crate) fn hosts_at_start(
     }
 }
 
-/// The same as a report comes in: where what the task says of a result doesn't look it up, it has no value, which is the same to what the task says.
+/// The same as a report comes in: where what the task says of an attempt doesn't look it up, it has no value, which is the same to what the task says.
 pub(crate) fn hosts_at_report(
     alloc: Global,
     plan: &Plan,
@@ -72,8 +72,8 @@ pub(crate) fn hosts_at_report(
     facts: &Facts,
     place: usize,
 ) -> Result<Dict, AllocError>
-    ensures { IfOk result (λ hosts. (value : Option Datum) (item : ItemResult) → settled_at (with_hosts plan.now hosts) play.now host.0 facts.now place value item
-        ≡ settled_at (seen_with plan.now (learnt_by rows.now)) play.now host.0 facts.now place value item) }
+    ensures { IfOk result (λ hosts. (value : Option Datum) (attempt : ℕ) (item : ItemResult) → came_at (with_hosts plan.now hosts) play.now host.0 facts.now place value attempt item
+        ≡ came_at (seen_with plan.now (learnt_by rows.now)) play.now host.0 facts.now place value attempt item) }
 {
     let none = Dict::new(alloc);
     let seen = Seen::new(plan, &none);

@@ -15,7 +15,7 @@ mod later;
 mod state;
 
 pub use event::{Event, Trail};
-pub use pb_one_host::{Counts, Decided, Done, TaskEnd};
+pub use pb_one_host::{Counts, Decided, Done, Retried, TaskEnd};
 pub use pb_plan::{Bundle, BundleFault, MAX_BYTES, Plan, PlanPlay, RoleFault};
 pub use state::{EngineState, StepFault};
 

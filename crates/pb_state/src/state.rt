@@ -481,7 +481,7 @@ impl EngineState {
         requires none { has_later self.old.later ≡ false }
         requires least { self.old.play ≤ number }
         requires below { number < 256 }
-        requires few { length sizes.items ≤ 65536 }
+        requires few { length sizes.items ≤ 1048576 }
         ensures ok { OnOk result (self.new ≡ opened_by self.old number 0 sizes.items (map (called play.now.hosts) self.old.rows) play.now size) }
         ensures err { OnErr result (self.new ≡ self.old) }
     {

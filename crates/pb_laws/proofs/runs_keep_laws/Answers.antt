@@ -1,5 +1,6 @@
 use Rattle.pb_laws.proofs.AddingUp.{recap_adds_up}
 use Rattle.pb_laws.proofs.AllClosed.{batches_all_close}
+use Rattle.pb_laws.proofs.AttemptsInOrder.{attempts_are_in_order}
 use Rattle.pb_laws.proofs.InOrder.{hosts_keep_order, batches_are_walked}
 use Rattle.pb_laws.proofs.JobsInOrder.{jobs_are_in_order, all_are_answered}
 use Rattle.pb_laws.proofs.OwnHosts.{hosts_are_own}
@@ -19,6 +20,7 @@ returns c = λ plan pool trail legal. record {
   closed = batches_all_close plan plan.forks pool trail legal;
   jobs = jobs_are_in_order plan plan.forks pool trail legal;
   answered = all_are_answered plan plan.forks pool trail legal;
+  attempts = attempts_are_in_order plan plan.forks pool trail legal;
   counts = (recap_adds_up plan pool trail legal).0;
   status = (recap_adds_up plan pool trail legal).1;
 }
