@@ -27,11 +27,11 @@ use Rattle.pb_all_hosts.proofs.Counting.{count_on}
 abbrev copy_on : PlayOf → ℕ → Finish → FactsOf → HostRow → HostRow
 copy_on play p finish facts row = record (answered (plain_answer finish.kind) row) { is_broken = row.is_broken || breaks (caught_at play p) finish.kind; facts = facts }
 
-pub copy_is : (inventory : InventoryOf) (play : PlayOf) (p from : ℕ) (finish : Finish) (t : Turned) (known : Option FactsOf) (row : HostRow) → with_turned t row ≡ row
-    → unwrap_or known row.facts ≡ taught inventory play p from finish.items row.facts → with_turned (turn_copied finish.kind (caught_at play p) known t) row ≡ copied inventory play p from finish row
-copy_is inventory play p from finish t known row same learnt =
+pub copy_is : (inventory : InventoryOf) (play : PlayOf) (p : ℕ) (finish : Finish) (t : Turned) (known : Option FactsOf) (row : HostRow) → with_turned t row ≡ row
+    → unwrap_or known row.facts ≡ taught inventory play p None finish.items row.facts → with_turned (turn_copied finish.kind (caught_at play p) known t) row ≡ copied inventory play p finish row
+copy_is inventory play p finish t known row same learnt =
     let made : with_turned (turn_copied finish.kind (caught_at play p) known t) row ≡ copy_on play p finish (unwrap_or known row.facts) (with_turned t row) = refl in
-    made ∙ ap (λ (facts : FactsOf). copy_on play p finish facts (with_turned t row)) learnt ∙ ap (copy_on play p finish (taught inventory play p from finish.items row.facts)) same
+    made ∙ ap (λ (facts : FactsOf). copy_on play p finish facts (with_turned t row)) learnt ∙ ap (copy_on play p finish (taught inventory play p None finish.items row.facts)) same
 
 -- a halt
 pub halt_is : (halts : Bool) (t : Turned) (row : HostRow) → with_turned (turn_halted halts t) row ≡ halted_if halts (with_turned t row)
@@ -59,9 +59,9 @@ not_there : (inventory : InventoryOf) (play : PlayOf) (p : ℕ) (from : Option H
 not_there inventory play p None row e = refl
 not_there inventory play p (Some from) row e = by_last from.last
   where
-    by_last : (last : Option Finish) → option_map_or (copied_if inventory play p from.host row) last row ≡ row
+    by_last : (last : Option Finish) → option_map_or (copied_if inventory play p row) last row ≡ row
     by_last None = refl
-    by_last (Some finish) = stays (is_at p row) (copied inventory play p from.host finish row) row e
+    by_last (Some finish) = stays (is_at p row) (copied inventory play p finish row) row e
 
 not_halted : (halts : Bool) (row : HostRow) → may_be_halted row ≡ false → halted_if halts row ≡ row
 not_halted true row e = stays (may_be_halted row) (answered (plain_answer Halted) row) row e
@@ -190,12 +190,12 @@ copy_inside : (inventory : InventoryOf) (play : PlayOf) (p : ℕ) (from : Option
 copy_inside inventory play p None row = (refl, refl)
 copy_inside inventory play p (Some from) row = by_last from.last
   where
-    by_at : (finish : Finish) (b : Bool) → ((if b then copied inventory play p from.host finish row else row).in_batch ≡ row.in_batch) × ((if b then copied inventory play p from.host finish row else row).last ≡ row.last)
+    by_at : (finish : Finish) (b : Bool) → ((if b then copied inventory play p finish row else row).in_batch ≡ row.in_batch) × ((if b then copied inventory play p finish row else row).last ≡ row.last)
     by_at finish true = (refl, refl)
     by_at finish false = (refl, refl)
 
     by_last : (last : Option Finish)
-        → ((option_map_or (copied_if inventory play p from.host row) last row).in_batch ≡ row.in_batch) × ((option_map_or (copied_if inventory play p from.host row) last row).last ≡ row.last)
+        → ((option_map_or (copied_if inventory play p row) last row).in_batch ≡ row.in_batch) × ((option_map_or (copied_if inventory play p row) last row).last ≡ row.last)
     by_last None = (refl, refl)
     by_last (Some finish) = by_at finish (is_at p row)
 

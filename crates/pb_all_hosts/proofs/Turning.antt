@@ -37,14 +37,14 @@ given_if true row new given = inr (given refl)
 given_if false row new given = inl refl
 
 -- the two parts of a turn
-copied_given : (inventory : InventoryOf) (play : PlayOf) (p from : ℕ) (finish : Finish) (row : HostRow) → is_at p row ≡ true → IsGiven row (copied inventory play p from finish row)
-copied_given inventory play p from finish row e =
+copied_given : (inventory : InventoryOf) (play : PlayOf) (p : ℕ) (finish : Finish) (row : HostRow) → is_at p row ≡ true → IsGiven row (copied inventory play p finish row)
+copied_given inventory play p finish row e =
     record {
       place = p;
       next = at_is p (next_place row) e;
       kind = finish.kind;
-      broken = (copied inventory play p from finish row).is_broken;
-      facts = (copied inventory play p from finish row).facts;
+      broken = (copied inventory play p finish row).is_broken;
+      facts = (copied inventory play p finish row).facts;
       is = refl;
     }
 
@@ -52,9 +52,9 @@ pub copy_goes : (inventory : InventoryOf) (play : PlayOf) (p : ℕ) (from : Opti
 copy_goes inventory play p None row = inl refl
 copy_goes inventory play p (Some from) row = by_last from.last
   where
-    by_last : (last : Option Finish) → (option_map_or (copied_if inventory play p from.host row) last row ≡ row) ⊎ IsGiven row (option_map_or (copied_if inventory play p from.host row) last row)
+    by_last : (last : Option Finish) → (option_map_or (copied_if inventory play p row) last row ≡ row) ⊎ IsGiven row (option_map_or (copied_if inventory play p row) last row)
     by_last None = inl refl
-    by_last (Some finish) = given_if (is_at p row) row (copied inventory play p from.host finish row) (λ e. copied_given inventory play p from.host finish row e)
+    by_last (Some finish) = given_if (is_at p row) row (copied inventory play p finish row) (λ e. copied_given inventory play p finish row e)
 
 and_left : (a b : Bool) → (a && b) ≡ true → a ≡ true
 and_left true b e = refl

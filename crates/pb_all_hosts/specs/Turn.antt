@@ -39,20 +39,20 @@ settler p (row ∷ rows) = if has_settled p row then Some row else settler p row
 abbrev pub source : PlayOf → ℕ → List HostRow → Option HostRow
 source play p rows = if runs_once_at play p then settler p rows else None
 
--- A host whose next place it is gets that host's answer, and learns what that one registered and learnt itself. No handler is notified, and nothing
--- counts.
-abbrev pub copied : InventoryOf → PlayOf → ℕ → ℕ → Finish → HostRow → HostRow
-copied inventory play p from finish row =
+-- A host whose next place it is gets that host's answer, and learns what that one registered and learnt itself, but for the facts of a delegated item
+-- where facts are delegated: these are the delegate's alone. No handler is notified, and nothing counts.
+abbrev pub copied : InventoryOf → PlayOf → ℕ → Finish → HostRow → HostRow
+copied inventory play p finish row =
     record (answered (plain_answer finish.kind) row) {
       is_broken = row.is_broken || breaks (caught_at play p) finish.kind;
-      facts = taught inventory play p from finish.items row.facts;
+      facts = taught inventory play p None finish.items row.facts;
     }
 
-abbrev pub copied_if : InventoryOf → PlayOf → ℕ → ℕ → HostRow → Finish → HostRow
-copied_if inventory play p from row finish = if is_at p row then copied inventory play p from finish row else row
+abbrev pub copied_if : InventoryOf → PlayOf → ℕ → HostRow → Finish → HostRow
+copied_if inventory play p row finish = if is_at p row then copied inventory play p finish row else row
 
 abbrev pub copied_from : InventoryOf → PlayOf → ℕ → HostRow → HostRow → HostRow
-copied_from inventory play p row from = option_map_or (copied_if inventory play p from.host row) from.last row
+copied_from inventory play p row from = option_map_or (copied_if inventory play p row) from.last row
 
 abbrev pub with_copy : InventoryOf → PlayOf → ℕ → Option HostRow → HostRow → HostRow
 with_copy inventory play p from row = option_map_or (copied_from inventory play p row) from row

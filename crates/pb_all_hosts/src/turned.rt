@@ -11,7 +11,6 @@ ghost use Rattle.pb_all_hosts.specs.TurnMade.{IsTurnOf, turned_row, with_each};
 
 use pb_facts::facts::Facts;
 use pb_facts::news::News;
-use pb_ids::HostNo;
 use pb_inventory::inventory::Inventory;
 use pb_one_host::{
     Finish, Row, TaskItems, Turned, breaks, caught_at, is_fatal, is_settling, runs_once_at,
@@ -36,18 +35,17 @@ fn known_with(alloc: Global, facts: &Facts, news: News) -> Result<Option<Facts>,
     Ok(Some(known))
 }
 
-/// What a host knows once it gets what the task at a place left with another host, which ended it with these items; nothing where that is no more than
-/// before.
+/// What a host knows once it gets what the task at a place left with another host, which ended it with these items, but for what that gave away; nothing
+/// where that is no more than before.
 fn known_from(
     alloc: Global,
     inventory: &Inventory,
     play: &PlanPlay,
     place: usize,
-    from: HostNo,
     items: &TaskItems,
     facts: &Facts,
 ) -> Result<Option<Facts>, AllocError>
-    ensures { IfOk result (λ known. unwrap_or known facts.now ≡ taught inventory.now play.now place from.0 items.now facts.now) }
+    ensures { IfOk result (λ known. unwrap_or known facts.now ≡ taught inventory.now play.now place None items.now facts.now) }
 {
     let ended = task_at(play, place, items).result;
     let shown = registered(alloc, variable_at(play, place), items.as_slice())?;
@@ -56,7 +54,7 @@ fn known_from(
         inventory,
         play,
         place,
-        from,
+        None,
         ended,
         &shown,
         items.as_slice(),
@@ -72,23 +70,14 @@ fn copy_from(
     inventory: &Inventory,
     play: &PlanPlay,
     place: usize,
-    from: HostNo,
     finish: &Finish,
     row: &Row,
     turned: &mut Turned,
 ) -> Result<(), AllocError>
     requires { with_turned turned.old row.now ≡ row.now }
-    ensures { OnOk result (with_turned turned.new row.now ≡ copied inventory.now play.now place from.0 finish.now row.now) }
+    ensures { OnOk result (with_turned turned.new row.now ≡ copied inventory.now play.now place finish.now row.now) }
 {
-    let known = known_from(
-        alloc,
-        inventory,
-        play,
-        place,
-        from,
-        &finish.items,
-        row.facts(),
-    )?;
+    let known = known_from(alloc, inventory, play, place, &finish.items, row.facts())?;
     turned.copy(alloc, finish.kind, caught_at(play, place), known)?;
     Ok(())
 }
@@ -99,16 +88,15 @@ fn copy_there(
     inventory: &Inventory,
     play: &PlanPlay,
     place: usize,
-    from: HostNo,
     finish: &Finish,
     row: &Row,
     turned: &mut Turned,
 ) -> Result<(), AllocError>
     requires { with_turned turned.old row.now ≡ row.now }
-    ensures { OnOk result (with_turned turned.new row.now ≡ copied_if inventory.now play.now place from.0 row.now finish.now) }
+    ensures { OnOk result (with_turned turned.new row.now ≡ copied_if inventory.now play.now place row.now finish.now) }
 {
     if row.is_at(place) {
-        copy_from(alloc, inventory, play, place, from, finish, row, turned)
+        copy_from(alloc, inventory, play, place, finish, row, turned)
     } else {
         Ok(())
     }
@@ -129,10 +117,7 @@ fn copy_if(
 {
     match from {
         Some(from) => match from.last() {
-            Some(finish) => {
-                let host = from.host();
-                copy_there(alloc, inventory, play, place, host, finish, row, turned)
-            }
+            Some(finish) => copy_there(alloc, inventory, play, place, finish, row, turned),
             None => Ok(()),
         },
         None => Ok(()),

@@ -78,18 +78,18 @@ settling_kind Halted e = cc
 settling_kind Gone e = refl
 settling_kind Ended e = refl
 
-copying : (inventory : InventoryOf) (play : PlayOf) (p from : ℕ) (finish : Finish) (row : HostRow) (b : Bool) → is_at p row ≡ b → settles p finish ≡ true → IsThere p row → IsTurned p (if b then copied inventory play p from finish row else row)
-copying inventory play p from finish row true e s h =
+copying : (inventory : InventoryOf) (play : PlayOf) (p : ℕ) (finish : Finish) (row : HostRow) (b : Bool) → is_at p row ≡ b → settles p finish ≡ true → IsThere p row → IsTurned p (if b then copied inventory play p finish row else row)
+copying inventory play p finish row true e s h =
     (h.0, answered_after p (plain_answer finish.kind) row (settling_kind finish.kind (and_right (finish.place == p) (is_settling finish.kind) s)) (at_is p (next_place row) e), h.2)
-copying inventory play p from finish row false e s h = there_turned p row h e
+copying inventory play p finish row false e s h = there_turned p row h e
 
-copied_last : (inventory : InventoryOf) (play : PlayOf) (p from : ℕ) (last : Option Finish) (row : HostRow) → option_map_or (settles p) last false ≡ true → IsThere p row → IsTurned p (option_map_or (copied_if inventory play p from row) last row)
-copied_last inventory play p from None row s h = cc
-copied_last inventory play p from (Some finish) row s h = copying inventory play p from finish row (is_at p row) refl s h
+copied_last : (inventory : InventoryOf) (play : PlayOf) (p : ℕ) (last : Option Finish) (row : HostRow) → option_map_or (settles p) last false ≡ true → IsThere p row → IsTurned p (option_map_or (copied_if inventory play p row) last row)
+copied_last inventory play p None row s h = cc
+copied_last inventory play p (Some finish) row s h = copying inventory play p finish row (is_at p row) refl s h
 
 -- of a host that settled the task for all
 pub copy_turned : (inventory : InventoryOf) (play : PlayOf) (p : ℕ) (from row : HostRow) → has_settled p from ≡ true → IsThere p row → IsTurned p (with_copy inventory play p (Some from) row)
-copy_turned inventory play p from row s h = copied_last inventory play p from.host from.last row s h
+copy_turned inventory play p from row s h = copied_last inventory play p from.last row s h
 
 -- where a host isn't there it gets none
 not_copied : (inventory : InventoryOf) (play : PlayOf) (p : ℕ) (from : Option HostRow) (row : HostRow) → is_at p row ≡ false → with_copy inventory play p from row ≡ row
@@ -100,9 +100,9 @@ not_copied inventory play p (Some from) row e = by_last from.last
     by_at true new f = cc
     by_at false new f = refl
 
-    by_last : (last : Option Finish) → option_map_or (copied_if inventory play p from.host row) last row ≡ row
+    by_last : (last : Option Finish) → option_map_or (copied_if inventory play p row) last row ≡ row
     by_last None = refl
-    by_last (Some finish) = by_at (is_at p row) (copied inventory play p from.host finish row) e
+    by_last (Some finish) = by_at (is_at p row) (copied inventory play p finish row) e
 
 -- ---- when a turn is possible: nobody is at the place any more, or one host settled the task there for all
 abbrev pub IsAway : ℕ → HostRow → Type 0

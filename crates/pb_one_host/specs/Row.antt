@@ -137,14 +137,14 @@ kept_items once items = if once then items else []
 abbrev pub finish_at : PlayOf → ℕ → List Item → Finish
 finish_at play p items = record { place = p; kind = kind_of (task_at play p items); items = kept_items (runs_once_at play p) items }
 
--- what a host knows once the task at a place has ended there with these items
-abbrev pub taught : InventoryOf → PlayOf → ℕ → ℕ → List Item → FactsOf → FactsOf
-taught inventory play p host items facts = taught_by inventory play p host (task_at play p items).result (result_of (variable_at play p) items) items facts
+-- what a host knows once the task at a place has ended with these items: the one that started it, or none, where another one gets what was done for all
+abbrev pub taught : InventoryOf → PlayOf → ℕ → (starter : Option ℕ) → List Item → FactsOf → FactsOf
+taught inventory play p starter items facts = taught_by inventory play p starter (task_at play p items).result (result_of (variable_at play p) items) items facts
 
 -- the task at a place ends with these items
 abbrev pub ended : InventoryOf → PlayOf → ℕ → List Item → HostRow → HostRow
 ended inventory play p items row =
-    finished (finish_at play p items) (task_at play p items) (notified_by play p (task_at play p items)) (taught inventory play p row.host items row.facts) row
+    finished (finish_at play p items) (task_at play p items) (notified_by play p (task_at play p items)) (taught inventory play p (Some row.host) items row.facts) row
 
 -- the task at a place has come to these items: it goes on, or ends
 abbrev pub progressed : InventoryOf → PlayOf → ℕ → List Item → HostRow → HostRow

@@ -306,7 +306,7 @@ fn news_after(
     items: &TaskItems,
     facts: &Facts,
 ) -> Result<News, AllocError>
-    ensures { IfOk result (λ news. heard news facts.now ≡ taught_by inventory.now play.now place host.0 done.now.task.result done.now.result items.now facts.now) }
+    ensures { IfOk result (λ news. heard news facts.now ≡ taught_by inventory.now play.now place (Some host.0) done.now.task.result done.now.result items.now facts.now) }
 {
     let ended = done.task.result;
     taught(
@@ -314,7 +314,7 @@ fn news_after(
         inventory,
         play,
         place,
-        host,
+        Some(host),
         ended,
         &done.result,
         items.as_slice(),

@@ -13,7 +13,7 @@ use Rattle.pb_sight.specs.Learning.{learns_at, taught_by}
 use Rattle.pb_sight.specs.Teaching.{OnlyGoodTasksTeach}
 
 -- what a task that didn't go well leaves at a place that is there, and at one that isn't
-at_place : (inventory : InventoryOf) (host : ℕ) (result : Datum) (items : List Item) (facts : FactsOf) (place : Option PlaceOf) →
+at_place : (inventory : InventoryOf) (host : Option ℕ) (result : Datum) (items : List Item) (facts : FactsOf) (place : Option PlaceOf) →
     option_map_or (learns_at inventory host result false items facts) place facts
     ≡ with_registered (option_map_or (λ (at : PlaceOf). at.task.register) place None) result facts
 at_place inventory host result items facts None = refl

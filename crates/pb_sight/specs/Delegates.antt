@@ -3,8 +3,12 @@
 use Rattle.std.specs.Prelude.{ℕ, ◌==◌, Bool, true, false, List, Option, Some, None, position, filter, option_and_then, if◌then◌else◌}
 use Rattle.std.specs.Option.{option_map_or}
 use Rattle.std.specs.Str.{bytes_eq}
+use Rattle.pb_ids.specs.declared.numbers.HostNo.{HostNo}
 use Rattle.pb_inventory.specs.InventoryOf.{InventoryOf}
 use Rattle.pb_outcome.specs.declared.item.Item.{Item}
+
+abbrev pub host_number : HostNo → ℕ
+host_number host = host.0
 
 -- a host by its name
 abbrev pub host_named : InventoryOf → List ℕ → Option ℕ
@@ -14,18 +18,20 @@ host_named inventory name = position (bytes_eq name) inventory.hosts
 abbrev pub delegate_of : InventoryOf → Item → Option ℕ
 delegate_of inventory item = option_and_then (host_named inventory) item.delegate
 
--- the facts of an item are those of the host that started it, unless it is delegated to another name than that host's
+-- The facts of an item are those of the host that started it, unless it is delegated to another name than that host's. They are no facts of a host that
+-- gets what another one did for all, wherever the item is delegated to.
 abbrev pub is_host : ℕ → Option ℕ → Bool
 is_host host (Some h) = h == host
 is_host host None = false
 
-abbrev pub is_own_name : InventoryOf → ℕ → List ℕ → Bool
-is_own_name inventory host name = is_host host (host_named inventory name)
+abbrev pub is_own_name : InventoryOf → (starter : Option ℕ) → List ℕ → Bool
+is_own_name inventory (Some host) name = is_host host (host_named inventory name)
+is_own_name inventory None name = false
 
-abbrev pub stays : InventoryOf → ℕ → Item → Bool
-stays inventory host item = option_map_or (is_own_name inventory host) item.delegate true
+abbrev pub stays : InventoryOf → Option ℕ → Item → Bool
+stays inventory starter item = option_map_or (is_own_name inventory starter) item.delegate true
 
--- the items whose facts stay with the host: all of them where facts aren't delegated
-abbrev pub kept : InventoryOf → ℕ → (delegates : Bool) → List Item → List Item
-kept inventory host true items = filter (stays inventory host) items
-kept inventory host false items = items
+-- the items whose facts stay with the host that started them, or go to one that gets what it did: all of them where facts aren't delegated
+abbrev pub kept : InventoryOf → Option ℕ → (delegates : Bool) → List Item → List Item
+kept inventory starter true items = filter (stays inventory starter) items
+kept inventory starter false items = items

@@ -1,7 +1,7 @@
 -- What a task that ended leaves with its host: its result under the name that it registers, and then, where it went well, the facts of its
 -- items, but for those that are delegated to another host where facts are, too. A task that failed, be that ignored or not, or that was left out gives no facts, and one that found its host out of reach leaves nothing
 -- (Ansible's documentation, "Using variables", "Registering variables", and "Discovering variables: facts and magic variables").
-use Rattle.std.specs.Prelude.{ℕ, Bool, true, false, List, slice_get, if◌then◌else◌}
+use Rattle.std.specs.Prelude.{ℕ, Bool, true, false, List, Option, slice_get, if◌then◌else◌}
 use Rattle.std.specs.Option.{option_map_or}
 use Rattle.pb_value.specs.Datum.{Datum}
 use Rattle.pb_inventory.specs.InventoryOf.{InventoryOf}
@@ -32,10 +32,10 @@ gives_if false called = Nothing
 abbrev pub learns : Datum → Bool → List Item → FactsOf → Task → FactsOf
 learns result went_well items facts task = learnt (gives_if went_well task.«module») task.register result items facts
 
-abbrev pub learns_at : InventoryOf → ℕ → Datum → Bool → List Item → FactsOf → PlaceOf → FactsOf
-learns_at inventory host result went_well items facts place = learns result went_well (kept inventory host place.delegate_facts items) facts place.task
+abbrev pub learns_at : InventoryOf → Option ℕ → Datum → Bool → List Item → FactsOf → PlaceOf → FactsOf
+learns_at inventory starter result went_well items facts place = learns result went_well (kept inventory starter place.delegate_facts items) facts place.task
 
--- what a host knows once the task at a place ended there so, with this result
-unfoldable pub taught_by : InventoryOf → PlayOf → ℕ → ℕ → TaskResult → Datum → List Item → FactsOf → FactsOf
-taught_by inventory play p host task result items facts =
-    if task.unreachable then facts else option_map_or (learns_at inventory host result (has_run task) items facts) (slice_get play.places p) facts
+-- what a host knows once the task at a place ended so, with this result: the host that started it, or none, where another one gets what was done for all
+unfoldable pub taught_by : InventoryOf → PlayOf → ℕ → (starter : Option ℕ) → TaskResult → Datum → List Item → FactsOf → FactsOf
+taught_by inventory play p starter task result items facts =
+    if task.unreachable then facts else option_map_or (learns_at inventory starter result (has_run task) items facts) (slice_get play.places p) facts

@@ -19,6 +19,6 @@ register_at play p = option_map_or (λ (place : PlaceOf). place.task.register) (
 -- whatever the task is and whatever its items came to, where it failed or was left out
 abbrev pub OnlyGoodTasksTeach : Type 0
 OnlyGoodTasksTeach =
-    (inventory : InventoryOf) (play : PlayOf) (p host : ℕ) (task : TaskResult) (result : Datum) (items : List Item) (facts : FactsOf) →
+    (inventory : InventoryOf) (play : PlayOf) (p : ℕ) (starter : Option ℕ) (task : TaskResult) (result : Datum) (items : List Item) (facts : FactsOf) →
     has_run task ≡ false →
-    taught_by inventory play p host task result items facts ≡ (if task.unreachable then facts else with_registered (register_at play p) result facts)
+    taught_by inventory play p starter task result items facts ≡ (if task.unreachable then facts else with_registered (register_at play p) result facts)

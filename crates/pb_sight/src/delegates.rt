@@ -1,7 +1,7 @@
 //! Whose the facts of delegated items are.
 
-ghost use Rattle.std.specs.Prelude.{◌≡◌, IfOk, filter};
-ghost use Rattle.pb_sight.specs.Delegates.{stays};
+ghost use Rattle.std.specs.Prelude.{◌≡◌, IfOk, filter, option_map};
+ghost use Rattle.pb_sight.specs.Delegates.{host_number, is_own_name, stays};
 
 use pb_ids::HostNo;
 use pb_inventory::inventory::Inventory;
@@ -11,15 +11,25 @@ use pb_value::text::Text;
 use pb_value::val::Val;
 use std::alloc::{AllocError, Global};
 
-/// Whether the facts of an item stay with the host that started it.
-fn stays(inventory: &Inventory, host: HostNo, item: &Item) -> bool
-    ensures { result ≡ stays inventory.now host.0 item.now }
+/// Whether the facts of an item that is delegated to this name are those of the host that started it.
+fn is_own_name(inventory: &Inventory, starter: Option<HostNo>, name: &str) -> bool
+    ensures { result ≡ is_own_name inventory.now (option_map host_number starter) name.now }
 {
-    match &item.delegate {
-        Some(name) => match inventory.number(name.as_str()) {
+    match starter {
+        Some(host) => match inventory.number(name) {
             Some(delegate) => delegate.0 == host.0,
             None => false,
         },
+        None => false,
+    }
+}
+
+/// Whether the facts of an item stay with the host that started it, or go to one that gets what it did.
+fn stays(inventory: &Inventory, starter: Option<HostNo>, item: &Item) -> bool
+    ensures { result ≡ stays inventory.now (option_map host_number starter) item.now }
+{
+    match &item.delegate {
+        Some(name) => is_own_name(inventory, starter, name.as_str()),
         None => true,
     }
 }
@@ -75,18 +85,18 @@ fn copy_of(alloc: Global, item: &Item) -> Result<Item, AllocError>
     })
 }
 
-/// The items whose facts stay with the host that started them.
+/// The items whose facts stay with the host that started them, or go to one that gets what it did.
 pub(crate) fn staying(
     alloc: Global,
     inventory: &Inventory,
-    host: HostNo,
+    starter: Option<HostNo>,
     items: &[Item],
 ) -> Result<Vec<Item>, AllocError>
-    ensures { IfOk result (λ all. all.items ≡ filter (stays inventory.now host.0) items.now) }
+    ensures { IfOk result (λ all. all.items ≡ filter (stays inventory.now (option_map host_number starter)) items.now) }
 {
     let mut all = Vec::new(alloc);
     for item in items {
-        if stays(inventory, host, item) {
+        if stays(inventory, starter, item) {
             all.push(copy_of(alloc, item)?)?;
         }
     }

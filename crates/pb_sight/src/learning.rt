@@ -1,7 +1,8 @@
 //! What a task that ended leaves with its host.
 
-ghost use Rattle.std.specs.Prelude.{◌≡◌, IfOk};
+ghost use Rattle.std.specs.Prelude.{◌≡◌, IfOk, option_map};
 ghost use Rattle.pb_facts.specs.News.{heard};
+ghost use Rattle.pb_sight.specs.Delegates.{host_number};
 ghost use Rattle.pb_sight.specs.Learning.{gives_of, gives_if, learns, learns_at, taught_by};
 
 use crate::delegates::staying;
@@ -72,21 +73,22 @@ fn learns(
     }
 }
 
-/// The same of the task at a place, which the host started: the facts of an item that is delegated to another host don't stay, where facts are delegated.
+/// The same of the task at a place, which this host started, or another one for all: where facts are delegated, those of an item that is delegated to
+/// another host don't stay, and what was done for all has no facts of a delegated item.
 fn learns_at(
     alloc: Global,
     inventory: &Inventory,
-    host: HostNo,
+    starter: Option<HostNo>,
     shown: &Val,
     went_well: bool,
     items: &[Item],
     facts: &Facts,
     place: &Place,
 ) -> Result<News, AllocError>
-    ensures { IfOk result (λ news. heard news facts.now ≡ learns_at inventory.now host.0 shown.now went_well items.now facts.now place.now) }
+    ensures { IfOk result (λ news. heard news facts.now ≡ learns_at inventory.now (option_map host_number starter) shown.now went_well items.now facts.now place.now) }
 {
     if place.delegate_facts() {
-        let stay = staying(alloc, inventory, host, items)?;
+        let stay = staying(alloc, inventory, starter, items)?;
         learns(
             alloc,
             shown,
@@ -101,20 +103,21 @@ fn learns_at(
 }
 
 /// What a host that knows this hears once the task at a place ended there with this result, which is shown so, and these items: what it knows then is
-/// what it learns. A host that is out of reach learns nothing, nor do the facts of an item stay that go to another host (`given_by`). The only error is want of memory.
+/// what it learns. It is the host that started the task; or there is none, and a host learns what another one did for all. A host that is out of reach learns nothing, nor do
+/// the facts of an item stay that go to another host (`given_by`). The only error is want of memory.
 #[tactic(auto, unfolding(crate::specs::Learning::taught_by))]
 pub fn taught(
     alloc: Global,
     inventory: &Inventory,
     play: &PlanPlay,
     place: usize,
-    host: HostNo,
+    starter: Option<HostNo>,
     ended: TaskResult,
     shown: &Val,
     items: &[Item],
     facts: &Facts,
 ) -> Result<News, AllocError>
-    ensures { IfOk result (λ news. heard news facts.now ≡ taught_by inventory.now play.now place host.0 ended shown.now items.now facts.now) }
+    ensures { IfOk result (λ news. heard news facts.now ≡ taught_by inventory.now play.now place (option_map host_number starter) ended shown.now items.now facts.now) }
 {
     if ended.unreachable {
         return Ok(News::Nothing);
@@ -123,7 +126,7 @@ pub fn taught(
         Some(place) => {
             let went_well = has_run(ended);
             learns_at(
-                alloc, inventory, host, shown, went_well, items, facts, place,
+                alloc, inventory, starter, shown, went_well, items, facts, place,
             )
         }
         None => Ok(News::Nothing),

@@ -125,7 +125,7 @@ progressed_from : (n p : ℕ) (inventory : InventoryOf) (play : PlayOf) (items :
 progressed_from n p inventory play items row e l few inside = by_over (is_over items)
   where
     by_over : (over : Bool) → RowFrom n (if over then ended inventory play p items row else record row { running = Some (record { place = p; items = items; out = None }) })
-    by_over true = let most = rank_most items in finished_from n p (finish_at play p items) (task_at play p items) (notified_by play p (task_at play p items)) (taught inventory play p row.host items row.facts) row e (omega (arith, l, few, most))
+    by_over true = let most = rank_most items in finished_from n p (finish_at play p items) (task_at play p items) (notified_by play p (task_at play p items)) (taught inventory play p (Some row.host) items row.facts) row e (omega (arith, l, few, most))
     by_over false = (e, l, few, inside)
 
 same_is : (a b : Option ℕ) → same_place a b ≡ true → (p : ℕ) × (a ≡ Some p) × (b ≡ Some p)

@@ -172,7 +172,7 @@ progressed_within : (goes_on : Bool) (k p : ℕ) (inventory : InventoryOf) (play
 progressed_within goes_on k p inventory play items row most b i w = by_over (is_over items)
   where
     by_over : (over : Bool) → IsWithin true goes_on k (if over then ended inventory play p items row else record row { running = Some (record { place = p; items = items; out = None }) })
-    by_over true = finished_within goes_on k (finish_at play p items) (task_at play p items) (notified_by play p (task_at play p items)) (taught inventory play p row.host items row.facts) row b i w
+    by_over true = finished_within goes_on k (finish_at play p items) (task_at play p items) (notified_by play p (task_at play p items)) (taught inventory play p (Some row.host) items row.facts) row b i w
     by_over false = (
       w.0,
       omega (arith, b),
@@ -195,7 +195,7 @@ start_keeps goes_on k place inventory play p items most =
   where
     by_over : (row : HostRow) (over : Bool)
         → (max_jobs * (16384 * plays_behind true k row + length (one_halted row.answers)) + 0) + 0 ≤ most_jobs true goes_on k (if over then ended inventory play p items row else record row { running = Some (record { place = p; items = items; out = None }) })
-    by_over row true = finished_jobs goes_on k 0 (finish_at play p items) (task_at play p items) (notified_by play p (task_at play p items)) (taught inventory play p row.host items row.facts) row (omega arith)
+    by_over row true = finished_jobs goes_on k 0 (finish_at play p items) (task_at play p items) (notified_by play p (task_at play p items)) (taught inventory play p (Some row.host) items row.facts) row (omega arith)
     by_over row false = omega arith
 
 -- a host that has a job to send runs, and no job of it is out
@@ -255,7 +255,7 @@ report_keeps goes_on k item attempt plan play outcome ticket =
     by_over : (row : HostRow) (r : Running) (items : List Item) (over : Bool) → length items ≡ length r.items → rank r.items + 1 ≤ rank items → rank items ≤ 101 * length items → length r.items ≤ max_items
         → (max_jobs * (16384 * plays_behind true k row + length (one_halted row.answers)) + running_jobs (Some r)) + 0
         ≤ most_jobs true goes_on k (if over then ended plan.inventory play r.place items row else record row { running = Some (record { place = r.place; items = items; out = None }) })
-    by_over row r items true same later within most = finished_jobs goes_on k (running_jobs (Some r)) (finish_at play r.place items) (task_at play r.place items) (notified_by play r.place (task_at play r.place items)) (taught plan.inventory play r.place row.host items row.facts) row (omega (arith, most))
+    by_over row r items true same later within most = finished_jobs goes_on k (running_jobs (Some r)) (finish_at play r.place items) (task_at play r.place items) (notified_by play r.place (task_at play r.place items)) (taught plan.inventory play r.place (Some row.host) items row.facts) row (omega (arith, most))
     by_over row r items false same later within most = omega (arith, same, later, within, at_most_one r.out)
 
     reported_jobs : (row : HostRow) (found : Option Running) → row.running ≡ found → option_map_or (awaits_running ticket item attempt) found false ≡ true → IsWithin true goes_on k row

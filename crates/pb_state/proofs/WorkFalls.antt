@@ -87,7 +87,7 @@ progressed_less inventory play p items row = by_over (is_over items)
         ≤ 2 * (101 * length items - rank items) + most_events * (places_left row - 1)
     by_over true =
         with_more (row_work (ended inventory play p items row)) (most_events * (places_left row - 1)) (2 * (101 * length items - rank items))
-        (finished_less row (finish_at play p items) (task_at play p items) (notified_by play p (task_at play p items)) (taught inventory play p row.host items row.facts))
+        (finished_less row (finish_at play p items) (task_at play p items) (notified_by play p (task_at play p items)) (taught inventory play p (Some row.host) items row.facts))
     by_over false = omega arith
 
 not_running : (row : HostRow) (running : Option Running) → not (is_some running) ≡ true → running_work row running ≡ place_work row (next_place row)
@@ -280,28 +280,28 @@ settled_last : (p : ℕ) (last : Option Finish) → option_map_or (settles p) la
 settled_last p (Some finish) e = (finish, refl, settling_counts finish.kind (and_right (finish.place == p) _ e))
 settled_last p None e = cc
 
-copied_place : (inventory : InventoryOf) (play : PlayOf) (p from : ℕ) (finish : Finish) (row : HostRow) (next : Option ℕ) → is_halted finish.kind ≡ false
-    → place_work (copied inventory play p from finish row) next ≤ most_events * (places_left row - 1)
-copied_place inventory play p from finish row None k = omega arith
-copied_place inventory play p from finish row (Some q) k = omega (arith, one_more row.answers (plain_answer finish.kind) k)
+copied_place : (inventory : InventoryOf) (play : PlayOf) (p : ℕ) (finish : Finish) (row : HostRow) (next : Option ℕ) → is_halted finish.kind ≡ false
+    → place_work (copied inventory play p finish row) next ≤ most_events * (places_left row - 1)
+copied_place inventory play p finish row None k = omega arith
+copied_place inventory play p finish row (Some q) k = omega (arith, one_more row.answers (plain_answer finish.kind) k)
 
-copied_running : (inventory : InventoryOf) (play : PlayOf) (p from : ℕ) (finish : Finish) (row : HostRow) (running : Option Running) → is_halted finish.kind ≡ false → next_place row ≡ Some p → is_some running ≡ false
-    → running_work (copied inventory play p from finish row) running < running_work row running
-copied_running inventory play p from finish row None k e idle =
+copied_running : (inventory : InventoryOf) (play : PlayOf) (p : ℕ) (finish : Finish) (row : HostRow) (running : Option Running) → is_halted finish.kind ≡ false → next_place row ≡ Some p → is_some running ≡ false
+    → running_work (copied inventory play p finish row) running < running_work row running
+copied_running inventory play p finish row None k e idle =
     let old : place_work row (next_place row) ≡ most_events * places_left row = ap (place_work row) e in
     let below = at_below row.tree row.answers p (place_at (reach row.tree row.answers) row.in_batch p e) in
-    omega (arith, old, below, copied_place inventory play p from finish row (next_place (copied inventory play p from finish row)) k)
-copied_running inventory play p from finish row (Some r) k e idle = cc
+    omega (arith, old, below, copied_place inventory play p finish row (next_place (copied inventory play p finish row)) k)
+copied_running inventory play p finish row (Some r) k e idle = cc
 
 with_copy_is : (inventory : InventoryOf) (play : PlayOf) (p : ℕ) (from : HostRow) (finish : Finish) (row : HostRow) → from.last ≡ Some finish → next_place row ≡ Some p
-    → with_copy inventory play p (Some from) row ≡ copied inventory play p from.host finish row
+    → with_copy inventory play p (Some from) row ≡ copied inventory play p finish row
 with_copy_is inventory play p from finish row l e =
     let here : is_at p row ≡ true = ap (λ (next : Option ℕ). option_map_or (λ q. q == p) next false) e ∙ eq-eqb p p refl in
-    ap (λ (last : Option Finish). option_map_or (copied_if inventory play p from.host row) last row) l ∙ ap (λ (b : Bool). if b then copied inventory play p from.host finish row else row) here
+    ap (λ (last : Option Finish). option_map_or (copied_if inventory play p row) last row) l ∙ ap (λ (b : Bool). if b then copied inventory play p finish row else row) here
 
 copy_less : (inventory : InventoryOf) (play : PlayOf) (p : ℕ) (from : HostRow) (finish : Finish) (row : HostRow) → from.last ≡ Some finish → is_halted finish.kind ≡ false → next_place row ≡ Some p → is_running row ≡ false
     → row_work (with_copy inventory play p (Some from) row) < row_work row
-copy_less inventory play p from finish row l k e idle = rw (with_copy_is inventory play p from finish row l e) (copied_running inventory play p from.host finish row row.running k e idle)
+copy_less inventory play p from finish row l k e idle = rw (with_copy_is inventory play p from finish row l e) (copied_running inventory play p finish row row.running k e idle)
 
 or_left : (a b : Bool) → (a || b) ≡ false → a ≡ false
 or_left true b e = e
