@@ -8,6 +8,7 @@ use std::fs::Files;
 use std::process::{Processes, SystemProcess};
 use std::sync::Wait;
 use std::thread::Threads;
+use std::time::Clock;
 
 /// What a play showed: its standard output, its standard error and its exit status.
 pub struct Seen {
@@ -30,7 +31,7 @@ impl Drop for Seen {
 
 /// Plays these words, the first of which is the program's name, with this writer as standard output.
 pub fn play_words<
-    R: Files + AllocGlobal + Processes<Started = SystemProcess> + Threads + Wait + Sync,
+    R: Files + AllocGlobal + Processes<Started = SystemProcess> + Clock + Threads + Wait + Sync,
 >(rt: &R, words: &[String], mut out: Kept) -> Result<Seen, AllocError> {
     let mut err = Kept::new(rt.alloc());
     let mut launchers = system_launchers(rt)?;
@@ -54,7 +55,7 @@ fn words_of(alloc: Global, texts: &[&str]) -> Result<Vec<String>, AllocError> {
 
 /// Plays the words behind the program's name, with this writer as standard output.
 pub fn play_texts<
-    R: Files + AllocGlobal + Processes<Started = SystemProcess> + Threads + Wait + Sync,
+    R: Files + AllocGlobal + Processes<Started = SystemProcess> + Clock + Threads + Wait + Sync,
 >(rt: &R, texts: &[&str], out: Kept) -> Result<Seen, AllocError> {
     let words = words_of(rt.alloc(), texts)?;
     play_words(rt, words.as_slice(), out)

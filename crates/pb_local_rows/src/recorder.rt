@@ -1,4 +1,4 @@
-//! A launcher that starts nothing, and keeps what it was to start.
+//! A launcher that starts nothing and waits for nothing, and keeps what it was to start and how long it was to wait.
 ghost use Rattle.std.specs.Prelude.{◌≡◌, Some};
 ghost use Rattle.pb_local_rows.specs.Recorded.{ended_well, recorded};
 
@@ -11,6 +11,8 @@ use std::alloc::{AllocError, Global};
 #[derive(Drop)]
 pub(crate) struct Recorder {
     pub(crate) past: Vec<Words>,
+    // all seconds, up to the most that 32 bits count
+    pub(crate) waited: u32,
 }
 
 fn ended_well(alloc: Global) -> Ending
@@ -30,5 +32,9 @@ impl Launcher for Recorder {
     fn launch(&mut self, alloc: Global, words: Words) -> Result<Ending, AllocError> {
         self.past.push(words)?;
         Ok(ended_well(alloc))
+    }
+
+    fn pause(&mut self, seconds: u32) {
+        self.waited = self.waited.saturating_add(seconds);
     }
 }

@@ -159,7 +159,7 @@ fn nothing_is_left_behind(rt: HostRuntime) -> Result<(), Fail> {
 
 // The words of each program that was to be started, each behind a slash.
 fn words_text(alloc: Global, recorder: Recorder) -> Result<String, AllocError> {
-    let Recorder { past } = recorder;
+    let Recorder { past, waited: _ } = recorder;
     let mut text = String::new(alloc);
     for words in past {
         if let Some(command) = words.into_command() {
@@ -179,6 +179,7 @@ fn one_launch_for_each_job(rt: HostRuntime) -> Result<(), Fail> {
     let alloc = rt.alloc();
     let launcher = Recorder {
         past: Vec::new(alloc),
+        waited: 0,
     };
     let mut runner = LocalRunner {
         launcher,
@@ -204,5 +205,27 @@ fn one_launch_for_each_job(rt: HostRuntime) -> Result<(), Fail> {
         words_text(alloc, launcher)?.as_str(),
         "to far x y/to far facts//bin/sh -c z/"
     );
+    Ok(())
+}
+
+#[test]
+fn waits_as_long_as_the_job_says(rt: HostRuntime) -> Result<(), Fail> {
+    let alloc = rt.alloc();
+    let launcher = Recorder {
+        past: Vec::new(alloc),
+        waited: 0,
+    };
+    let mut runner = LocalRunner {
+        launcher,
+        facts: None,
+    };
+    let words = texts(alloc, ["x"].as_slice())?;
+    let mut tried = job(alloc, [].as_slice(), Call::Command { words })?;
+    assert!(rt; is_ran(&runner.run(alloc, &tried), 0, "", ""));
+    assert_eq!(rt; runner.launcher.waited, 0);
+    tried.attempt = 2;
+    tried.delay = 3600;
+    assert!(rt; is_ran(&runner.run(alloc, &tried), 0, "", ""));
+    assert_eq!(rt; runner.launcher.waited, 3600);
     Ok(())
 }

@@ -11,12 +11,13 @@ use std::process::{Processes, SystemProcess};
 use std::sync::Wait;
 use std::test::Fail;
 use std::thread::Threads;
+use std::time::Clock;
 
 /// Each program waits until four of them have begun, for some ten seconds; then it says how many it saw. The file is this process's own.
 const TOGETHER: &str =
     "[{\"hosts\":\"all\",\"gather_facts\":false,\"tasks\":[{\"shell\":\"echo x >> /tmp/pb_pool_rows_$PPID; n=0; while [ $(wc -l < /tmp/pb_pool_rows_$PPID) -lt 4 ]; do n=$((n+1)); [ $n -lt 1000 ] || exit 1; sleep 0.01; done\"},{\"shell\":\"rm -f /tmp/pb_pool_rows_$PPID\"}]}]";
 
-fn run<R: Processes<Started = SystemProcess> + Threads + Wait + Sync>(
+fn run<R: Processes<Started = SystemProcess> + Clock + Threads + Wait + Sync>(
     rt: &R,
     alloc: Global,
     hosts: u32,

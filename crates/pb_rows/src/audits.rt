@@ -9,17 +9,15 @@ use std::process::{Processes, SystemProcess};
 use std::sync::Wait;
 use std::test::Fail;
 use std::thread::Threads;
+use std::time::Clock;
 
 const PLAYBOOK: &str =
     "[{\"hosts\":\"all\",\"gather_facts\":false,\"tasks\":[{\"command\":\"run it\"}]}]";
 
 /// Audits a trail under two forks, with files of these names.
-pub fn audit<R: Files + AllocGlobal + Processes<Started = SystemProcess> + Threads + Wait + Sync>(
-    rt: &R,
-    inventory: &str,
-    trail: &str,
-    playbook: &str,
-) -> Result<Seen, Fail> {
+pub fn audit<
+    R: Files + AllocGlobal + Processes<Started = SystemProcess> + Clock + Threads + Wait + Sync,
+>(rt: &R, inventory: &str, trail: &str, playbook: &str) -> Result<Seen, Fail> {
     let words = ["-f", "2", "-i", inventory, "--audit", trail, playbook];
     Ok(play_texts(rt, words.as_slice(), Kept::new(rt.alloc()))?)
 }
@@ -41,7 +39,7 @@ fn is_refused(seen: &Seen, told: &str) -> bool {
 
 /// Plays a command on two hosts under two forks. The bytes of its trail.
 fn trail_of_a_run<
-    R: Files + AllocGlobal + Processes<Started = SystemProcess> + Threads + Wait + Sync,
+    R: Files + AllocGlobal + Processes<Started = SystemProcess> + Clock + Threads + Wait + Sync,
 >(rt: &R) -> Result<Vec<u8>, Fail> {
     fs::write(rt, "audits_inventory", INVENTORY)?;
     fs::write(rt, "audits_outcomes", "{\"rows\":[]}")?;
@@ -79,11 +77,9 @@ fn fault_of(alloc: Global, first: &[u8], others: &[u8]) -> Result<String, AllocE
 }
 
 /// Audits the first bytes of a trail, behind which these others stand. Whether the answer is the right one.
-fn is_answered<R: Files + AllocGlobal + Processes<Started = SystemProcess> + Threads + Wait + Sync>(
-    rt: &R,
-    first: &[u8],
-    others: &[u8],
-) -> Result<bool, Fail> {
+fn is_answered<
+    R: Files + AllocGlobal + Processes<Started = SystemProcess> + Clock + Threads + Wait + Sync,
+>(rt: &R, first: &[u8], others: &[u8]) -> Result<bool, Fail> {
     fs::write(rt, "audits_trail", first)?;
     let seen = audit(rt, "audits_inventory", "audits_trail", "audits_playbook")?;
     let told = fault_of(rt.alloc(), first, others)?;
@@ -109,10 +105,9 @@ fn each_beginning_of_a_trail(rt: HostRuntime) -> Result<(), Fail> {
 }
 
 /// Audits a trail of this event alone, in a run of no plays.
-fn audit_event<R: Files + AllocGlobal + Processes<Started = SystemProcess> + Threads + Wait + Sync>(
-    rt: &R,
-    event: &str,
-) -> Result<Seen, Fail> {
+fn audit_event<
+    R: Files + AllocGlobal + Processes<Started = SystemProcess> + Clock + Threads + Wait + Sync,
+>(rt: &R, event: &str) -> Result<Seen, Fail> {
     let text = format!(in rt.alloc(); "{{\"trail\":2}}\n{event}\n")?;
     fs::write(rt, "numbers_inventory", "{}")?;
     fs::write(rt, "numbers_playbook", "[]")?;

@@ -8,21 +8,19 @@ use std::process::{Processes, SystemProcess};
 use std::sync::Wait;
 use std::test::Fail;
 use std::thread::Threads;
+use std::time::Clock;
 
-fn play<R: Files + AllocGlobal + Processes<Started = SystemProcess> + Threads + Wait + Sync>(
-    rt: &R,
-    inventory: &str,
-    playbook: &str,
-) -> Result<Seen, Fail> {
+fn play<
+    R: Files + AllocGlobal + Processes<Started = SystemProcess> + Clock + Threads + Wait + Sync,
+>(rt: &R, inventory: &str, playbook: &str) -> Result<Seen, Fail> {
     let words = ["-i", inventory, playbook];
     Ok(play_texts(rt, words.as_slice(), Kept::new(rt.alloc()))?)
 }
 
 /// Plays nothing on so many hosts.
-fn play_hosts<R: Files + AllocGlobal + Processes<Started = SystemProcess> + Threads + Wait + Sync>(
-    rt: &R,
-    hosts: u32,
-) -> Result<Seen, Fail> {
+fn play_hosts<
+    R: Files + AllocGlobal + Processes<Started = SystemProcess> + Clock + Threads + Wait + Sync,
+>(rt: &R, hosts: u32) -> Result<Seen, Fail> {
     let made = inventory(rt.alloc(), hosts)?;
     fs::write(rt, "hosts_inventory", made.as_str())?;
     fs::write(rt, "hosts_playbook", "[]")?;
@@ -30,11 +28,9 @@ fn play_hosts<R: Files + AllocGlobal + Processes<Started = SystemProcess> + Thre
 }
 
 /// Plays one play of so many tasks on so many hosts.
-fn play_tasks<R: Files + AllocGlobal + Processes<Started = SystemProcess> + Threads + Wait + Sync>(
-    rt: &R,
-    hosts: u32,
-    tasks: u32,
-) -> Result<Seen, Fail> {
+fn play_tasks<
+    R: Files + AllocGlobal + Processes<Started = SystemProcess> + Clock + Threads + Wait + Sync,
+>(rt: &R, hosts: u32, tasks: u32) -> Result<Seen, Fail> {
     let made = inventory(rt.alloc(), hosts)?;
     fs::write(rt, "tasks_inventory", made.as_str())?;
     let made = playbook(rt.alloc(), tasks)?;

@@ -7,14 +7,14 @@ use std::process::{Processes, SystemProcess};
 use std::sync::Wait;
 use std::test::Fail;
 use std::thread::Threads;
+use std::time::Clock;
 
 const WHOLE: &str = "{\"default\":{\"err\":\"\",\"out\":\"\",\"rc\":0},\"rows\":[]}";
 
 /// Plays with a file of these outcomes. Whether they are refused.
-fn is_refused<R: Files + AllocGlobal + Processes<Started = SystemProcess> + Threads + Wait + Sync>(
-    rt: &R,
-    outcomes: &[u8],
-) -> Result<bool, Fail> {
+fn is_refused<
+    R: Files + AllocGlobal + Processes<Started = SystemProcess> + Clock + Threads + Wait + Sync,
+>(rt: &R, outcomes: &[u8]) -> Result<bool, Fail> {
     fs::write(rt, "cut_outcomes", outcomes)?;
     let words = [
         "-i",

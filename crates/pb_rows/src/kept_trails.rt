@@ -9,6 +9,7 @@ use std::process::{Processes, SystemProcess};
 use std::sync::Wait;
 use std::test::Fail;
 use std::thread::Threads;
+use std::time::Clock;
 
 /// The trail of the whole run.
 const TRAIL: &str = "{\"trail\":2}
@@ -20,13 +21,9 @@ const TRAIL: &str = "{\"trail\":2}
 ";
 
 /// Plays one task on two hosts under two forks, with this writer and with files of these names.
-fn play_hello<R: Files + AllocGlobal + Processes<Started = SystemProcess> + Threads + Wait + Sync>(
-    rt: &R,
-    inventory: &str,
-    trail: &str,
-    playbook: &str,
-    out: Kept,
-) -> Result<Seen, Fail> {
+fn play_hello<
+    R: Files + AllocGlobal + Processes<Started = SystemProcess> + Clock + Threads + Wait + Sync,
+>(rt: &R, inventory: &str, trail: &str, playbook: &str, out: Kept) -> Result<Seen, Fail> {
     fs::write(rt, inventory, INVENTORY)?;
     fs::write(rt, playbook, PLAYBOOK)?;
     let words = ["-f", "2", "-i", inventory, "--trail", trail, playbook];
@@ -35,10 +32,9 @@ fn play_hello<R: Files + AllocGlobal + Processes<Started = SystemProcess> + Thre
 
 /// Plays with a writer that fails at a call: how many bytes the trail has, if the writer failed. Be that so or not, the trail is legal
 /// and a beginning of the whole one.
-fn kept_at<R: Files + AllocGlobal + Processes<Started = SystemProcess> + Threads + Wait + Sync>(
-    rt: &R,
-    call: u64,
-) -> Result<Option<usize>, Fail> {
+fn kept_at<
+    R: Files + AllocGlobal + Processes<Started = SystemProcess> + Clock + Threads + Wait + Sync,
+>(rt: &R, call: u64) -> Result<Option<usize>, Fail> {
     let _ = fs::remove_file(rt, "kept_trail");
     let out = Kept::failing(rt.alloc(), call);
     let seen = play_hello(rt, "kept_inventory", "kept_trail", "kept_playbook", out)?;

@@ -9,6 +9,7 @@ use std::process::{Processes, SystemProcess};
 use std::sync::Wait;
 use std::test::Fail;
 use std::thread::Threads;
+use std::time::Clock;
 
 /// How many hosts have outcomes.
 const HOSTS: u32 = 2_000;
@@ -38,12 +39,9 @@ fn output(alloc: Global, bytes: usize) -> Result<String, AllocError> {
 }
 
 /// Plays files of these names.
-fn play<R: Files + AllocGlobal + Processes<Started = SystemProcess> + Threads + Wait + Sync>(
-    rt: &R,
-    inventory: &str,
-    outcomes: &str,
-    playbook: &str,
-) -> Result<Seen, Fail> {
+fn play<
+    R: Files + AllocGlobal + Processes<Started = SystemProcess> + Clock + Threads + Wait + Sync,
+>(rt: &R, inventory: &str, outcomes: &str, playbook: &str) -> Result<Seen, Fail> {
     let words = [
         "-f",
         "256",
@@ -60,10 +58,9 @@ const COMMAND: &str =
     "[{\"hosts\":\"all\",\"gather_facts\":false,\"tasks\":[{\"command\":\"x\"}]}]";
 
 /// Plays a command on `HOSTS` hosts, with so many rows and one.
-fn play_rows<R: Files + AllocGlobal + Processes<Started = SystemProcess> + Threads + Wait + Sync>(
-    rt: &R,
-    count: u32,
-) -> Result<Seen, Fail> {
+fn play_rows<
+    R: Files + AllocGlobal + Processes<Started = SystemProcess> + Clock + Threads + Wait + Sync,
+>(rt: &R, count: u32) -> Result<Seen, Fail> {
     let made = inventory(rt.alloc(), HOSTS)?;
     fs::write(rt, "rows_inventory", made.as_str())?;
     let made = rows(rt.alloc(), count)?;
@@ -73,10 +70,9 @@ fn play_rows<R: Files + AllocGlobal + Processes<Started = SystemProcess> + Threa
 }
 
 /// Plays a command on two hosts, with one output of so many bytes.
-fn play_output<R: Files + AllocGlobal + Processes<Started = SystemProcess> + Threads + Wait + Sync>(
-    rt: &R,
-    bytes: usize,
-) -> Result<Seen, Fail> {
+fn play_output<
+    R: Files + AllocGlobal + Processes<Started = SystemProcess> + Clock + Threads + Wait + Sync,
+>(rt: &R, bytes: usize) -> Result<Seen, Fail> {
     let made = output(rt.alloc(), bytes)?;
     fs::write(rt, "output_outcomes", made.as_str())?;
     fs::write(rt, "output_inventory", "{\"all\":[\"a\",\"b\"]}")?;

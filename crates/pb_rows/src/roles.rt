@@ -16,6 +16,7 @@ use std::process::{Processes, SystemProcess};
 use std::sync::Wait;
 use std::test::Fail;
 use std::thread::Threads;
+use std::time::Clock;
 
 /// More room than the files of these tests take.
 const ROOM: usize = 1_000;
@@ -53,10 +54,9 @@ fn read(rt: &HostRuntime, dir: &str, room: usize) -> Result<String, Fail>
 }
 
 /// Plays nothing, with this folder of roles.
-fn play<R: Files + AllocGlobal + Processes<Started = SystemProcess> + Threads + Wait + Sync>(
-    rt: &R,
-    dir: &str,
-) -> Result<Seen, Fail> {
+fn play<
+    R: Files + AllocGlobal + Processes<Started = SystemProcess> + Clock + Threads + Wait + Sync,
+>(rt: &R, dir: &str) -> Result<Seen, Fail> {
     fs::write(rt, "roles_inventory", "{}")?;
     fs::write(rt, "roles_playbook", "[]")?;
     let words = ["-i", "roles_inventory", "--roles", dir, "roles_playbook"];
@@ -65,7 +65,7 @@ fn play<R: Files + AllocGlobal + Processes<Started = SystemProcess> + Threads + 
 
 /// Whether a fault of a file was told, and nothing shown.
 fn has_file_fault<
-    R: Files + AllocGlobal + Processes<Started = SystemProcess> + Threads + Wait + Sync,
+    R: Files + AllocGlobal + Processes<Started = SystemProcess> + Clock + Threads + Wait + Sync,
 >(rt: &R, dir: &str) -> Result<bool, Fail> {
     let seen = play(rt, dir)?;
     Ok(seen.status == 1 && seen.err.starts_with(b"pb-play: file: ") && seen.out.is_empty())

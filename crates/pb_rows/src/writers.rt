@@ -7,6 +7,7 @@ use std::process::{Processes, SystemProcess};
 use std::sync::Wait;
 use std::test::Fail;
 use std::thread::Threads;
+use std::time::Clock;
 
 pub const INVENTORY: &str = "{\"all\":{\"hosts\":[\"a\",\"b\"]}}";
 
@@ -27,10 +28,9 @@ b : ok=1 changed=0 unreachable=0 failed=0 skipped=0 rescued=0 ignored=0
 ";
 
 /// Plays one task on two hosts, with this writer.
-fn play_hello<R: Files + AllocGlobal + Processes<Started = SystemProcess> + Threads + Wait + Sync>(
-    rt: &R,
-    out: Kept,
-) -> Result<Seen, Fail> {
+fn play_hello<
+    R: Files + AllocGlobal + Processes<Started = SystemProcess> + Clock + Threads + Wait + Sync,
+>(rt: &R, out: Kept) -> Result<Seen, Fail> {
     fs::write(rt, "writers_inventory", INVENTORY)?;
     fs::write(rt, "writers_playbook", PLAYBOOK)?;
     Ok(play_texts(

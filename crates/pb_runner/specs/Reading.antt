@@ -43,6 +43,7 @@ key = field no_other
 
 unfoldable pub row : List ℕ → json.Data → Reading Row TableFault
 row path = object (record {}) (do
+  attempt ← key (codes "attempt") number
   host ← key (codes "host") text
   item ← key (codes "item") number
   outcome ← key (codes "outcome") outcome
@@ -50,7 +51,7 @@ row path = object (record {}) (do
   play ← key (codes "play") number
   _ ← others no_other
   o ← rule (required path outcome)
-  rule (Ok (record { host = host; item = item; place = place; play = play; outcome = o }))) path
+  rule (Ok (record { attempt = attempt; host = host; item = item; place = place; play = play; outcome = o }))) path
 
 -- the outcome of a program that ended well and wrote nothing
 abbrev pub success : Form

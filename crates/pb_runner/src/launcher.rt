@@ -35,4 +35,8 @@ pub trait Launcher {
     fn launch(&mut self, alloc: Global, words: Words) -> Result<Ending, AllocError>
         ensures told { IfOk result (λ ending. launched self.new ≡ with_more (launched self.old) (launch_of words ending ∷ [])) }
         ensures err { OnErr result (launched self.new ≡ launched self.old) };
+
+    /// Waits so many seconds, of which nothing is told.
+    fn pause(&mut self, seconds: u32)
+        ensures { launched self.new ≡ launched self.old };
 }

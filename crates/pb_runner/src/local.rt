@@ -15,7 +15,7 @@ use pb_outcome::outcome::Outcome;
 use pb_value::text::Text;
 use std::alloc::{AllocError, Global};
 
-/// A runner that has a launcher start each job's program, and waits for its end.
+/// A runner that has a launcher start each job's program, after the seconds that the job says, and waits for its end.
 #[derive(Drop)]
 pub struct LocalRunner<L> {
     pub launcher: L,
@@ -73,12 +73,13 @@ impl<L: Launcher> LocalRunner<L> {
         self.started(alloc, job)
     }
 
-    /// Starts a job's program and waits for its end.
+    /// Waits as many seconds as the job says, which are none at a first attempt, then starts its program and waits for its end.
     fn started(&mut self, alloc: Global, job: &Job) -> Outcome
         ensures allowed { LocalAllows job.now result }
         ensures facts { self.new.facts ≡ self.old.facts }
         ensures launched { (launches : List Launch) × (L.launched self.new.launcher ≡ with_more (L.launched self.old.launcher) launches) × IsStarted self.old.facts job.now result launches }
     {
+        self.launcher.pause(job.delay);
         let Ok(words) = self.words(alloc, job) else {
             return Outcome::not_started(Cause::OutOfMemory);
         };

@@ -6,9 +6,10 @@ use crate::command::Words;
 use crate::launcher::{Ending, Launcher};
 use crate::pipes::read_both;
 use std::alloc::{AllocError, Global};
-use std::io;
 use std::io::ErrorKind;
 use std::process::{Child, Command, Processes, Stdio, SystemProcess};
+use std::time::{Clock, Duration};
+use std::{io, thread};
 
 /// A launcher that has this machine start programs, which tells no contract what it started. A program isn't ended for what
 /// it writes: what comes behind the first 1,048,576 bytes of a stream is read and dropped.
@@ -58,7 +59,7 @@ fn finished(alloc: Global, mut child: Child) -> Ending {
     }
 }
 
-impl<R: Processes<Started = SystemProcess>> Launcher for SystemLauncher<R> {
+impl<R: Processes<Started = SystemProcess> + Clock> Launcher for SystemLauncher<R> {
     ghost launched = { λ _. None };
 
     fn launch(&mut self, alloc: Global, words: Words) -> Result<Ending, AllocError> {
@@ -69,6 +70,12 @@ impl<R: Processes<Started = SystemProcess>> Launcher for SystemLauncher<R> {
             Ok(child) => Ok(finished(alloc, child)),
             Err(error) if error.kind() == ErrorKind::OutOfMemory => Err(AllocError),
             Err(_) => Ok(Ending::Refused),
+        }
+    }
+
+    fn pause(&mut self, seconds: u32) {
+        if seconds > 0 {
+            thread::sleep(&self.rt, Duration::from_secs(seconds as u64));
         }
     }
 }
