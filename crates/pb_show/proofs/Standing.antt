@@ -9,12 +9,12 @@ use Rattle.pb_show.specs.Banners.{starred, batch_text, play_text, task_head, tas
 use Rattle.pb_show.specs.Escaped.{is_hidden, hex_digit, by_number, shown_char, shown_chars, escaped, stars}
 use Rattle.pb_show.specs.Laws.{Stands, EachStands, EndsLine, IsVisible, joined, is_start, TextsStand}
 use Rattle.pb_show.specs.Reading.{text_at, whole_at, ended_in, play_in, task_in, notice_in, totals_in}
-use Rattle.pb_show.specs.Results.{word_of, verdict_of, lead_of, paint, unpaint, item_text, message_text, code_text, error_line, error_lines, ignoring, who_of, said_of, head_of, ended_text}
+use Rattle.pb_show.specs.Results.{word_of, verdict_of, lead_of, paint, unpaint, counted_by, item_text, message_text, code_text, error_line, error_lines, ignoring, who_of, said_of, head_of, ended_text}
 use Rattle.pb_show.specs.Showing.{Shown, banner_for, or_passed, event_shown, event_at, shown}
 use Rattle.pb_show.specs.Whole.{with_byte, lines_in}
 use Rattle.pb_show.specs.declared.ended.Ended.{Ended}
 use Rattle.pb_show.specs.declared.ended.Ending.{Ending}
-use Rattle.pb_show.specs.declared.ended.Ending.TheVariants.{Well, Changed, Skipped, Failed, Ignored, Lost}
+use Rattle.pb_show.specs.declared.ended.Ending.TheVariants.{Well, Changed, Skipped, Failed, Ignored, Lost, Retried}
 use Rattle.pb_show.specs.declared.kind.Kind.{Kind}
 use Rattle.pb_show.specs.declared.kind.Kind.TheVariants.{Begun, Play as Plays, Task as Tasks, Handler, HostStart, Ended as Ends, Item, Notify, Totals}
 use Rattle.pb_show.specs.declared.look.Look.{Look}
@@ -53,7 +53,7 @@ host_stands : (look : Look) (e : Ended) → Stands (escaped e.host) (ended_text 
 unfolding ended_text head_of who_of
 host_stands look e =
     let part = escaped e.host in
-    let who = before part _ (verdict_of (is_some e.item) e.ending) (before part _ (item_text e.item) (before part _ (codes "]") (behind part (word_of (is_some e.item) e.ending ++ codes ": [") part (itself part)))) in
+    let who = before part _ (verdict_of (is_some e.item) e.ending) (before part _ (item_text (counted_by e.ending) e.item) (before part _ (codes "]") (behind part (word_of (is_some e.item) e.ending ++ codes ": [") part (itself part)))) in
     let head = before part _ (10 ∷ []) (before part _ (unpaint look) (before part _ (code_text e.code) (before part _ (said_of e) (behind part (paint look e.ending) (who_of e) who)))) in
     before part _ (ignoring e.ending) (before part _ (error_lines e.errors) head)
 
@@ -143,6 +143,7 @@ ignoring_ends a Skipped e = subst (λ (l : List ℕ). EndsLine l) (sym (append-n
 ignoring_ends a Failed e = subst (λ (l : List ℕ). EndsLine l) (sym (append-nil a)) e
 ignoring_ends a Ignored e = ends_behind a _ (codes "...ignoring", refl)
 ignoring_ends a Lost e = subst (λ (l : List ℕ). EndsLine l) (sym (append-nil a)) e
+ignoring_ends a Retried e = subst (λ (l : List ℕ). EndsLine l) (sym (append-nil a)) e
 
 ended_ends : (look : Look) (e : Ended) → EndsLine (ended_text look e)
 unfolding ended_text

@@ -25,6 +25,7 @@ ended_named word =
     else if bytes_eq word (codes "runner_item_on_ok") then Some (Item how.Ok)
     else if bytes_eq word (codes "runner_item_on_failed") then Some (Item how.Failed)
     else if bytes_eq word (codes "runner_item_on_skipped") then Some (Item how.Skipped)
+    else if bytes_eq word (codes "runner_retry") then Some (Item how.Again)
     else None
 
 abbrev pub or_else : {A : Type 0} → Option A → Option A → Option A

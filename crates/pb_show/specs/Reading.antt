@@ -10,7 +10,7 @@ use Rattle.pb_value.specs.declared.fault.ValFault.{ValFault}
 use Rattle.pb_show.specs.Kinds.{kind_named}
 use Rattle.pb_show.specs.declared.ended.Ended.{Ended}
 use Rattle.pb_show.specs.declared.ended.Ending.{Ending}
-use Rattle.pb_show.specs.declared.ended.Ending.TheVariants.{Well, Changed, Skipped, Failed, Ignored, Lost}
+use Rattle.pb_show.specs.declared.ended.Ending.TheVariants.{Well, Changed, Skipped, Failed, Ignored, Lost, Retried}
 use Rattle.pb_show.specs.declared.kind.How.{How}
 use Rattle.pb_show.specs.declared.kind.How.TheVariants as how
 use Rattle.pb_show.specs.declared.kind.Kind.{Kind}
@@ -64,6 +64,7 @@ code_in how.Ok d = None
 code_in how.Failed d = option_and_then integer (get (codes "rc") d)
 code_in how.Skipped d = None
 code_in how.Unreachable d = None
+code_in how.Again d = option_and_then integer (get (codes "rc") d)
 
 abbrev pub list_of : json.Items → List json.Data
 list_of json.no_items = []
@@ -91,24 +92,33 @@ errors_in how.Ok d = []
 errors_in how.Failed d = lines_at (codes "stderr_lines") d
 errors_in how.Skipped d = []
 errors_in how.Unreachable d = []
+errors_in how.Again d = []
 
 abbrev pub ending_of : How → Bool → Bool → Ending
 ending_of how.Ok is_changed is_ignored = if is_changed then Changed else Well
 ending_of how.Failed is_changed is_ignored = if is_ignored then Ignored else Failed
 ending_of how.Skipped is_changed is_ignored = Skipped
 ending_of how.Unreachable is_changed is_ignored = Lost
+ending_of how.Again is_changed is_ignored = Retried
 
--- the number of the item, which the event of an item has
-abbrev pub item_in : Bool → json.Data → Option (Option ℕ)
-item_in false d = Some None
-item_in true d = option_map Some (whole_at (codes "item") d)
+-- the number of the item, which the event of an item has, or of the attempt that another one follows
+abbrev pub counted_at : How → List ℕ
+counted_at how.Ok = codes "item"
+counted_at how.Failed = codes "item"
+counted_at how.Skipped = codes "item"
+counted_at how.Unreachable = codes "item"
+counted_at how.Again = codes "attempt"
+
+abbrev pub item_in : Bool → List ℕ → json.Data → Option (Option ℕ)
+item_in false k d = Some None
+item_in true k d = option_map Some (whole_at k d)
 
 abbrev pub where_of : Option (List ℕ) → Option (List ℕ) → Option (Option ℕ) → Option Where
 where_of (Some host) (Some place) (Some item) = Some (record { host = host; place = place; item = item })
 where_of host place item = None
 
-abbrev pub where_in : Bool → json.Data → Option Where
-where_in is_item d = where_of (text_at (codes "host") d) (text_at (codes "place") d) (item_in is_item d)
+abbrev pub where_in : Bool → List ℕ → json.Data → Option Where
+where_in is_item k d = where_of (text_at (codes "host") d) (text_at (codes "place") d) (item_in is_item k d)
 
 abbrev pub ended_with : How → Where → Bool → json.Data → Ended
 ended_with how spot is_ignored d = record {
@@ -127,7 +137,7 @@ ended_of how is_ignored spot d = None
 
 -- how a task, or an item of it, ended
 abbrev pub ended_in : How → Bool → json.Data → Option Ended
-ended_in how is_item d = ended_of how (is_true_at (codes "ignored") d) (where_in is_item d) (get (codes "result") d)
+ended_in how is_item d = ended_of how (is_true_at (codes "ignored") d) (where_in is_item (counted_at how) d) (get (codes "result") d)
 
 -- ---- starts
 -- how many values stand in the list at a key

@@ -4,7 +4,7 @@ use Rattle.std.specs.Fmt.{signed_decimal}
 use Rattle.pb_show.specs.Escaped.{escaped}
 use Rattle.pb_show.specs.declared.ended.Ended.{Ended}
 use Rattle.pb_show.specs.declared.ended.Ending.{Ending}
-use Rattle.pb_show.specs.declared.ended.Ending.TheVariants.{Well, Changed, Skipped, Failed, Ignored, Lost}
+use Rattle.pb_show.specs.declared.ended.Ending.TheVariants.{Well, Changed, Skipped, Failed, Ignored, Lost, Retried}
 use Rattle.pb_show.specs.declared.look.Look.{Look}
 
 -- a failure that isn't ignored
@@ -15,6 +15,7 @@ is_failure Skipped = false
 is_failure Failed = true
 is_failure Ignored = false
 is_failure Lost = false
+is_failure Retried = false
 
 -- the word of a failure of an item, and of a host
 abbrev pub failed_word : Bool → List ℕ
@@ -27,6 +28,7 @@ word_of is_item Skipped = codes "skipping"
 word_of is_item Failed = failed_word is_item
 word_of is_item Ignored = failed_word is_item
 word_of is_item Lost = failed_word is_item
+word_of is_item Retried = codes "retrying"
 
 -- behind the host's name, where its task didn't go well
 abbrev pub verdict_of : Bool → Ending → List ℕ
@@ -37,6 +39,7 @@ verdict_of false Skipped = []
 verdict_of false Failed = codes ": FAILED!"
 verdict_of false Ignored = codes ": FAILED!"
 verdict_of false Lost = codes ": UNREACHABLE!"
+verdict_of false Retried = []
 
 -- in front of a message
 abbrev pub lead_of : Bool → Ending → List ℕ
@@ -47,8 +50,9 @@ lead_of false Skipped = codes " => "
 lead_of false Failed = codes " "
 lead_of false Ignored = codes " "
 lead_of false Lost = codes " "
+lead_of false Retried = codes " => "
 
--- what turns a terminal to a colour: green, yellow, cyan, red, bright red
+-- what turns a terminal to a colour: green, yellow, cyan, red, bright red, magenta
 abbrev pub color_of : Ending → List ℕ
 color_of Well = 27 ∷ codes "[32m"
 color_of Changed = 27 ∷ codes "[33m"
@@ -56,6 +60,7 @@ color_of Skipped = 27 ∷ codes "[36m"
 color_of Failed = 27 ∷ codes "[31m"
 color_of Ignored = 27 ∷ codes "[31m"
 color_of Lost = 27 ∷ codes "[91m"
+color_of Retried = 27 ∷ codes "[35m"
 
 abbrev pub paint : Look → Ending → List ℕ
 paint look ending = if look.color then color_of ending else []
@@ -64,9 +69,19 @@ paint look ending = if look.color then color_of ending else []
 abbrev pub unpaint : Look → List ℕ
 unpaint look = if look.color then 27 ∷ codes "[0m" else []
 
-abbrev pub item_text : Option ℕ → List ℕ
-item_text None = []
-item_text (Some n) = codes " => (item=" ++ decimal n ++ codes ")"
+-- what a number counts
+abbrev pub counted_by : Ending → List ℕ
+counted_by Well = codes "item"
+counted_by Changed = codes "item"
+counted_by Skipped = codes "item"
+counted_by Failed = codes "item"
+counted_by Ignored = codes "item"
+counted_by Lost = codes "item"
+counted_by Retried = codes "attempt"
+
+abbrev pub item_text : List ℕ → Option ℕ → List ℕ
+item_text counted None = []
+item_text counted (Some n) = codes " => (" ++ counted ++ codes "=" ++ decimal n ++ codes ")"
 
 abbrev pub message_text : List ℕ → List ℕ → List ℕ
 message_text lead [] = []
@@ -90,11 +105,12 @@ ignoring Skipped = []
 ignoring Failed = []
 ignoring Ignored = codes "...ignoring\n"
 ignoring Lost = []
+ignoring Retried = []
 
 -- what happened to whom
 unfoldable pub who_of : Ended → List ℕ
 who_of e =
-    word_of (is_some e.item) e.ending ++ codes ": [" ++ escaped e.host ++ codes "]" ++ item_text e.item ++ verdict_of (is_some e.item) e.ending
+    word_of (is_some e.item) e.ending ++ codes ": [" ++ escaped e.host ++ codes "]" ++ item_text (counted_by e.ending) e.item ++ verdict_of (is_some e.item) e.ending
 
 -- what it says
 abbrev pub said_of : Ended → List ℕ

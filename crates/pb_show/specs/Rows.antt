@@ -13,7 +13,7 @@ use Rattle.pb_show.specs.Escaped.{escaped}
 use Rattle.pb_show.specs.Results.{error_line, who_of, head_of, ended_text}
 use Rattle.pb_show.specs.Showing.{start, event_at, text_of}
 use Rattle.pb_show.specs.Whole.{lines_in, all_shown}
-use Rattle.pb_show.specs.declared.ended.Ending.TheVariants.{Changed, Failed, Ignored, Lost}
+use Rattle.pb_show.specs.declared.ended.Ending.TheVariants.{Changed, Failed, Ignored, Lost, Retried}
 use Rattle.pb_show.specs.declared.look.Look.{Look}
 
 -- what computes the texts
@@ -62,6 +62,12 @@ lost : ended_text colored (record { ending = Lost; host = codes "a"; place = cod
     ≡ 27 ∷ codes "[91mfatal: [a]: UNREACHABLE! gone" ++ 27 ∷ codes "[0m\n"
 unfolding on_texts
 lost = refl
+
+-- an attempt that another one follows
+tried_again : ended_text plain (record { ending = Retried; host = codes "a"; place = codes "1"; item = Some 2; message = codes "non-zero return code"; code = Some (pos 1); errors = [] })
+    ≡ codes "retrying: [a] => (attempt=2) => non-zero return code (rc=1)\n"
+unfolding on_texts
+tried_again = refl
 
 -- a line of the program
 start_of_task : alone plain (codes "{\"event\":\"playbook_on_task_start\",\"name\":\"hi\",\"place\":\"1\",\"play\":0}\n")

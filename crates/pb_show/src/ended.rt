@@ -1,7 +1,7 @@
 //! How a task ended on a host, and its text.
 
 ghost use Rattle.std.specs.Prelude.{◌≡◌, ◌++◌, OnOk, is_some};
-ghost use Rattle.pb_show.specs.Results.{word_of, color_of, paint, unpaint, item_text, verdict_of, lead_of, message_text, code_text, error_line, error_lines, ignoring, who_of, said_of, head_of, is_failure, ended_text};
+ghost use Rattle.pb_show.specs.Results.{word_of, color_of, paint, unpaint, counted_by, item_text, verdict_of, lead_of, message_text, code_text, error_line, error_lines, ignoring, who_of, said_of, head_of, is_failure, ended_text};
 
 use crate::line::Line;
 use crate::look::Look;
@@ -22,6 +22,8 @@ pub enum Ending {
     Ignored,
     /// The host is out of reach.
     Lost,
+    /// It is tried again.
+    Retried,
 }
 
 /// How a task, or an item of it, ended on a host.
@@ -30,7 +32,7 @@ pub struct Ended {
     pub host: Text,
     /// The place of the task in its play.
     pub place: Text,
-    /// The number of the item, if it was one.
+    /// The number of the item, if it was one, or of the attempt that another one follows.
     pub item: Option<u64>,
     /// What the result says; empty where it says nothing.
     pub message: Text,
@@ -66,8 +68,12 @@ impl Ending {
     {
         match self {
             Ending::Failed => true,
-            Ending::Well | Ending::Changed | Ending::Skipped | Ending::Ignored | Ending::Lost =>
-                false,
+            Ending::Well
+            | Ending::Changed
+            | Ending::Skipped
+            | Ending::Ignored
+            | Ending::Lost
+            | Ending::Retried => false,
         }
     }
 
@@ -79,6 +85,7 @@ impl Ending {
             Ending::Well => "ok",
             Ending::Changed => "changed",
             Ending::Skipped => "skipping",
+            Ending::Retried => "retrying",
             Ending::Failed | Ending::Ignored | Ending::Lost => {
                 if is_item { "failed" } else { "fatal" }
             }
@@ -95,7 +102,7 @@ impl Ending {
         match self {
             Ending::Failed | Ending::Ignored => ": FAILED!",
             Ending::Lost => ": UNREACHABLE!",
-            Ending::Well | Ending::Changed | Ending::Skipped => "",
+            Ending::Well | Ending::Changed | Ending::Skipped | Ending::Retried => "",
         }
     }
 
@@ -108,7 +115,22 @@ impl Ending {
         }
         match self {
             Ending::Failed | Ending::Ignored | Ending::Lost => " ",
-            Ending::Well | Ending::Changed | Ending::Skipped => " => ",
+            Ending::Well | Ending::Changed | Ending::Skipped | Ending::Retried => " => ",
+        }
+    }
+
+    /// What a number counts.
+    fn counted(self) -> &'static str
+        ensures { result.now ≡ counted_by self }
+    {
+        match self {
+            Ending::Retried => "attempt",
+            Ending::Well
+            | Ending::Changed
+            | Ending::Skipped
+            | Ending::Failed
+            | Ending::Ignored
+            | Ending::Lost => "item",
         }
     }
 
@@ -122,6 +144,7 @@ impl Ending {
             Ending::Skipped => "\x1b[36m",
             Ending::Failed | Ending::Ignored => "\x1b[31m",
             Ending::Lost => "\x1b[91m",
+            Ending::Retried => "\x1b[35m",
         }
     }
 }
@@ -143,13 +166,20 @@ impl Look {
 }
 
 impl Line {
-    /// Writes the number of an item, if there is one.
-    fn put_item(&mut self, alloc: Global, item: Option<u64>) -> Result<(), AllocError>
-        ensures { OnOk result (self.new ≡ self.old ++ item_text item) }
+    /// Writes the number of an item, or of what else is counted, if there is one.
+    fn put_item(
+        &mut self,
+        alloc: Global,
+        counted: &str,
+        item: Option<u64>,
+    ) -> Result<(), AllocError>
+        ensures { OnOk result (self.new ≡ self.old ++ item_text counted.now item) }
     {
         match item {
             Some(number) => {
-                self.put(" => (item=")?;
+                self.put(" => (")?;
+                self.put(counted)?;
+                self.put("=")?;
                 self.put_number(alloc, number)?;
                 self.put(")")
             }
@@ -212,7 +242,7 @@ impl Line {
         self.put(": [")?;
         self.put_escaped(ended.host.as_str())?;
         self.put("]")?;
-        self.put_item(alloc, ended.item)?;
+        self.put_item(alloc, ended.ending.counted(), ended.item)?;
         self.put(ended.ending.verdict(is_item))
     }
 

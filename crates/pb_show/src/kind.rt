@@ -10,6 +10,8 @@ pub enum How {
     Failed,
     Skipped,
     Unreachable,
+    /// It is tried again.
+    Again,
 }
 
 /// What an event tells.
@@ -27,7 +29,7 @@ pub enum Kind {
     HostStart,
     /// A task ended on a host.
     Ended(How),
-    /// An item of a loop ended on a host.
+    /// An item of a loop, or an attempt, ended on a host.
     Item(How),
     /// A handler is notified.
     Notify,
@@ -76,6 +78,8 @@ fn ended_named(word: &str) -> Option<Kind>
         Some(Kind::Item(How::Failed))
     } else if word == "runner_item_on_skipped" {
         Some(Kind::Item(How::Skipped))
+    } else if word == "runner_retry" {
+        Some(Kind::Item(How::Again))
     } else {
         None
     }

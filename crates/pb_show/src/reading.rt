@@ -3,7 +3,7 @@
 ghost use Rattle.std.specs.Prelude.{◌≡◌, ◌-◌, length, map, drop, option_map, IfOk};
 ghost use Rattle.serde_json.specs.View.{view, items_view, members_view};
 ghost use Rattle.pb_value.specs.Bytes.{json_in};
-ghost use Rattle.pb_show.specs.Reading.{kind_in, text_at, whole_at, small, small_at, is_true_at, message_of, message_in, code_in, list_of, texts_of, last_texts, lines_at, errors_in, ending_of, item_in, where_in, ended_with, ended_in, len_at, play_in, task_in, notice_in, one_if, values_of, count_in, totals_of, totals_in};
+ghost use Rattle.pb_show.specs.Reading.{kind_in, text_at, whole_at, small, small_at, is_true_at, message_of, message_in, code_in, list_of, texts_of, last_texts, lines_at, errors_in, ending_of, counted_at, item_in, where_in, ended_with, ended_in, len_at, play_in, task_in, notice_in, one_if, values_of, count_in, totals_of, totals_in};
 
 use crate::ended::{Ended, Ending};
 use crate::kind::{How, Kind};
@@ -126,7 +126,7 @@ fn code_in(how: How, result_json: &Value) -> Option<i64>
     ensures { result ≡ code_in how (view result_json.now) }
 {
     match (how, result_json.get("rc")) {
-        (How::Failed, Some(value)) => value.as_i64(),
+        (How::Failed | How::Again, Some(value)) => value.as_i64(),
         _ => None,
     }
 }
@@ -177,7 +177,7 @@ fn errors_in(alloc: Global, how: How, result_json: &Value) -> Result<Items<Text>
 {
     match how {
         How::Failed => lines_at(alloc, result_json, "stderr_lines"),
-        How::Ok | How::Skipped | How::Unreachable => Ok(Items::new(alloc)),
+        How::Ok | How::Skipped | How::Unreachable | How::Again => Ok(Items::new(alloc)),
     }
 }
 
@@ -202,6 +202,7 @@ fn ending_of(how: How, is_changed: bool, is_ignored: bool) -> Ending
         }
         How::Skipped => Ending::Skipped,
         How::Unreachable => Ending::Lost,
+        How::Again => Ending::Retried,
     }
 }
 
@@ -213,26 +214,41 @@ struct Where {
     item: Option<u64>,
 }
 
-/// The number of the item, of an item's event.
-fn item_in(is_item: bool, json: &Value) -> Option<Option<u64>>
-    ensures { result ≡ item_in is_item (view json.now) }
+/// The key of the number that an item's event has, or an attempt's.
+fn counted_at(how: How) -> &'static str
+    ensures { result.now ≡ counted_at how }
+{
+    match how {
+        How::Ok | How::Failed | How::Skipped | How::Unreachable => "item",
+        How::Again => "attempt",
+    }
+}
+
+/// The number at this key, of an item's event, or of an attempt's.
+fn item_in(is_item: bool, key: &str, json: &Value) -> Option<Option<u64>>
+    ensures { result ≡ item_in is_item key.now (view json.now) }
 {
     if !is_item {
         return Some(None);
     }
-    match whole_at(json, "item") {
+    match whole_at(json, key) {
         Some(number) => Some(Some(number)),
         None => None,
     }
 }
 
 /// The host and the place of an event.
-fn where_in(alloc: Global, is_item: bool, json: &Value) -> Result<Option<Where>, AllocError>
-    ensures { IfOk result (λ spot. spot ≡ where_in is_item (view json.now)) }
+fn where_in(
+    alloc: Global,
+    is_item: bool,
+    key: &str,
+    json: &Value,
+) -> Result<Option<Where>, AllocError>
+    ensures { IfOk result (λ spot. spot ≡ where_in is_item key.now (view json.now)) }
 {
     let host = text_at(alloc, json, "host")?;
     let place = text_at(alloc, json, "place")?;
-    match (host, place, item_in(is_item, json)) {
+    match (host, place, item_in(is_item, key, json)) {
         (Some(host), Some(place), Some(item)) => Ok(Some(Where { host, place, item })),
         _ => Ok(None),
     }
@@ -274,7 +290,7 @@ pub(crate) fn ended_in(
     let Some(result_json) = json.get("result") else {
         return Ok(None);
     };
-    let Some(spot) = where_in(alloc, is_item, json)? else {
+    let Some(spot) = where_in(alloc, is_item, counted_at(how), json)? else {
         return Ok(None);
     };
     let is_ignored = is_true_at(json, "ignored");
