@@ -28,8 +28,8 @@ use Rattle.pb_command_line.specs.declared.words.Purpose.TheVariants.{Run, CheckS
 use Rattle.pb_cli.specs.declared.playing.Played.{Played}
 use Rattle.pb_cli.specs.declared.playing.Wanted.{Wanted}
 use Rattle.pb_cli.specs.Audited.{IsVerdict}
-use Rattle.pb_cli.specs.Played.{IsRunBy, IsCutBy, IsTabled, IsTabledCut, IsPlayed, IsPlayedTo, HasTrail, IsRunOrAudited, IsRunOrAuditedTo, IsGivenFor, IsUnbegun, Starts, allows_all, commands_for}
-use Rattle.pb_cli.specs.Done.{IsShown}
+use Rattle.pb_cli.specs.Played.{IsRunBy, IsCutBy, IsTabled, IsTabledCut, IsPlayed, IsPlayedTo, HasTrail, IsRunOrAudited, IsRunOrAuditedTo, IsGivenFor, IsGivenUnless, is_forbidden, IsUnbegun, Starts, allows_all, commands_for}
+use Rattle.pb_cli.specs.Done.{IsShown, IsUntouched}
 
 -- one runner's whole run is one
 whole_of : (allows gives : Job → Form → Type 0) (has_run : List (Job × Form) → Type 0) (plan : PlanOf) (pool : ℕ) (commands : List Given) (trail : List Event) (before after : Option (List ℕ))
@@ -161,7 +161,13 @@ not_given Run wanted plan started started_after before after played given one = 
 not_given CheckSyntax wanted plan started started_after before after played given one = let is : played.status ≡ 0 = given.2 in omega (arith, is, one)
 not_given ListHosts wanted plan started started_after before after played given one = let is : played.status ≡ 0 = given.2 in omega (arith, is, one)
 
-pub not_shown : (bundle : Bundle) (wanted : Wanted) (started started_after : Starts) (out_before out_after err_before err_after : Option (List ℕ)) (failures failures_after : ℕ) (played : Played)
-    → IsShown bundle wanted started started_after out_before out_after err_before err_after failures failures_after played → played.status ≡ 1 → ⊥
-not_shown bundle wanted started started_after out_before out_after err_before err_after failures failures_after played shown one =
-    not_given wanted.purpose wanted shown.0 started started_after out_before out_after played shown.2 one
+not_given_unless : (forbidden : Bool) (wanted : Wanted) (plan : PlanOf) (started started_after : Starts) (before after : Option (List ℕ)) (played : Played)
+    → IsGivenUnless forbidden wanted plan started started_after before after played → played.status ≡ 1 → IsUntouched started started_after before after
+not_given_unless true wanted plan started started_after before after played given one = (given.0, given.1)
+not_given_unless false wanted plan started started_after before after played given one = absurd (not_given wanted.purpose wanted plan started started_after before after played given one)
+
+-- status 1 tells that a warning is a fault: nothing was started or written
+pub untouched : (bundle : Bundle) (wanted : Wanted) (started started_after : Starts) (out_before out_after err_before err_after : Option (List ℕ)) (failures failures_after : ℕ) (played : Played)
+    → IsShown bundle wanted started started_after out_before out_after err_before err_after failures failures_after played → played.status ≡ 1 → IsUntouched started started_after out_before out_after
+untouched bundle wanted started started_after out_before out_after err_before err_after failures failures_after played shown one =
+    not_given_unless (is_forbidden wanted shown.0) wanted shown.0 started started_after out_before out_after played shown.2 one

@@ -1,5 +1,5 @@
 -- The trails that are handed out are legal.
-use Rattle.std.proofs.Common.{◌≡◌, ℕ, true, List, Option, Some, None, inl, inr, refl, subst}
+use Rattle.std.proofs.Common.{◌≡◌, ℕ, Bool, true, false, List, Option, Some, None, inl, inr, refl, subst}
 use Rattle.pb_plan.specs.Plan.{PlanOf}
 use Rattle.pb_state.specs.declared.event.Event.{Event}
 use Rattle.pb_driver.specs.declared.driver.RunFault.{RunFault}
@@ -8,7 +8,7 @@ use Rattle.pb_command_line.specs.declared.words.Purpose.{Purpose}
 use Rattle.pb_command_line.specs.declared.words.Purpose.TheVariants.{Run, CheckSyntax, ListHosts}
 use Rattle.pb_cli.specs.declared.playing.Played.{Played}
 use Rattle.pb_cli.specs.declared.playing.Wanted.{Wanted}
-use Rattle.pb_cli.specs.Played.{IsPlayed, IsPlayedTo, HasTrail, IsRunOrAudited, IsRunOrAuditedTo, IsGivenFor, IsGivenToFor, IsGivenTo, Starts}
+use Rattle.pb_cli.specs.Played.{IsPlayed, IsPlayedTo, HasTrail, IsRunOrAudited, IsRunOrAuditedTo, IsGivenFor, IsGivenToFor, IsGivenTo, IsGivenUnless, IsGivenToUnless, is_forbidden, Starts}
 use Rattle.pb_cli.specs.Done.{TrailsAreLegal}
 
 of_run : (plan : PlanOf) (stop_after : Option ℕ) (facts outcomes : Option (List ℕ)) (started started_after : Starts) (trail : List Event) (before after : Option (List ℕ)) (status : ℕ)
@@ -57,10 +57,20 @@ of_stopped : (wanted : Wanted) (plan : PlanOf) (started started_after : Starts) 
 of_stopped wanted plan started started_after fault trail before after (inl unbegun) = no_trail (Some trail) trail unbegun.2 refl
 of_stopped wanted plan started started_after fault trail before after (inr cut) = of_given_cut wanted.purpose wanted plan started started_after fault trail before after cut
 
+of_given_unless : (forbidden : Bool) (wanted : Wanted) (plan : PlanOf) (started started_after : Starts) (before after : Option (List ℕ)) (played : Played) (trail : List Event)
+    → IsGivenUnless forbidden wanted plan started started_after before after played → played.trail ≡ Some trail → is_legal plan trail ≡ true
+of_given_unless true wanted plan started started_after before after played trail given is = no_trail played.trail trail given.3 is
+of_given_unless false wanted plan started started_after before after played trail given is = of_given wanted.purpose wanted plan started started_after before after played trail given is
+
+of_stopped_unless : (forbidden : Bool) (wanted : Wanted) (plan : PlanOf) (started started_after : Starts) (fault : RunFault) (trail : List Event) (before after : Option (List ℕ))
+    → IsGivenToUnless forbidden wanted plan started started_after fault (Some trail) before after → is_legal plan trail ≡ true
+of_stopped_unless true wanted plan started started_after fault trail before after unbegun = no_trail (Some trail) trail unbegun.2 refl
+of_stopped_unless false wanted plan started started_after fault trail before after cut = of_stopped wanted plan started started_after fault trail before after cut
+
 pub trails_are_legal : TrailsAreLegal
 trails_are_legal = (
   λ bundle wanted started started_after out_before out_after err_before err_after failures failures_after played trail shown is.
-      (shown.0, shown.1, of_given wanted.purpose wanted shown.0 started started_after out_before out_after played trail shown.2 is),
+      (shown.0, shown.1, of_given_unless (is_forbidden wanted shown.0) wanted shown.0 started started_after out_before out_after played trail shown.2 is),
   λ bundle wanted fault started started_after out_before out_after trail stopped.
-      (stopped.0, stopped.1, of_stopped wanted stopped.0 started started_after fault trail out_before out_after stopped.2),
+      (stopped.0, stopped.1, of_stopped_unless (is_forbidden wanted stopped.0) wanted stopped.0 started started_after fault trail out_before out_after stopped.2),
 )

@@ -22,7 +22,7 @@ use Rattle.pb_cli.specs.declared.playing.Played.{Played}
 use Rattle.pb_cli.specs.declared.playing.Wanted.{Wanted}
 use Rattle.pb_cli.specs.Audited.{IsBadTrail}
 use Rattle.pb_cli.specs.RoleFiles.{AreRolesIn}
-use Rattle.pb_cli.specs.Played.{IsBadTable, IsGiven, IsGivenTo, Starts}
+use Rattle.pb_cli.specs.Played.{IsBadTable, is_forbidden, IsGivenUnless, IsGivenToUnless, Starts}
 use Rattle.pb_cli.specs.Warned.{IsWarned}
 
 -- the bundle of a request: its forks, limit and extra variables, whether it names a facts program, and of each file's bytes no more than there is room for, and one byte that tells that there are more;
@@ -44,6 +44,7 @@ is_too_long (Some bytes) = nat_lt max_bytes (length bytes)
 -- what a request wants of its plan, with its facts program, and with outcomes and a trail where it names files of them
 pub record IsWantedBy (request : Request) (wanted : Wanted) : Type 0 where
   pub purpose : wanted.purpose ≡ request.purpose
+  pub strict : wanted.strict ≡ request.strict
   pub stop_after : wanted.stop_after ≡ request.stop_after
   pub facts : wanted.facts_program ≡ request.facts_program
   pub outcomes : is_some wanted.outcomes ≡ is_some request.outcomes
@@ -53,6 +54,7 @@ pub record IsWantedBy (request : Request) (wanted : Wanted) : Type 0 where
 pub record IsUntold (bundle : Bundle) (wanted : Wanted) (e : TableFault) (started started_after : Starts) (out_before out_after err_before err_after : Option (List ℕ)) (failures failures_after : ℕ) : Type 0 where
   pub plan : PlanOf
   pub planned : IsPlanOf bundle plan
+  pub allowed : is_forbidden wanted plan ≡ false
   pub runs : wanted.purpose ≡ Run
   pub unaudited : wanted.audited ≡ None
   pub warned : IsWarned plan.warnings err_before err_after failures failures_after
@@ -64,26 +66,28 @@ pub record IsUntold (bundle : Bundle) (wanted : Wanted) (e : TableFault) (starte
 pub record IsUnread (bundle : Bundle) (wanted : Wanted) (e : TrailFault) (started started_after : Starts) (out_before out_after err_before err_after : Option (List ℕ)) (failures failures_after : ℕ) : Type 0 where
   pub plan : PlanOf
   pub planned : IsPlanOf bundle plan
+  pub allowed : is_forbidden wanted plan ≡ false
   pub runs : wanted.purpose ≡ Run
   pub warned : IsWarned plan.warnings err_before err_after failures failures_after
   pub unstarted : started_after ≡ started
   pub unwritten : out_after ≡ out_before
   pub fault : e ≢ NoTrailMemory → IsBadTrail wanted.audited e
 
--- a bundle has a plan, its warnings were written, and it was run, audited, checked or listed
+-- a bundle has a plan, its warnings were written, and it was run, audited, checked or listed; or nothing of this, where they are faults
 abbrev pub IsShown : Bundle → Wanted → (started started_after : Starts) → Option (List ℕ) → Option (List ℕ) → Option (List ℕ) → Option (List ℕ) → ℕ → ℕ → Played → Type 0
 IsShown bundle wanted started started_after out_before out_after err_before err_after failures failures_after played =
-    (plan : PlanOf) × IsPlanOf bundle plan × IsGiven wanted plan started started_after out_before out_after played × IsWarned plan.warnings err_before err_after failures failures_after
+    (plan : PlanOf) × IsPlanOf bundle plan × IsGivenUnless (is_forbidden wanted plan) wanted plan started started_after out_before out_after played × IsWarned plan.warnings err_before err_after failures failures_after
 
 -- the same, told by this exit status
 abbrev pub IsShownAs : (status : ℕ) → Bundle → Wanted → (started started_after : Starts) → Option (List ℕ) → Option (List ℕ) → Option (List ℕ) → Option (List ℕ) → ℕ → ℕ → Type 0
 IsShownAs status bundle wanted started started_after out_before out_after err_before err_after failures failures_after =
     (played : Played) × IsShown bundle wanted started started_after out_before out_after err_before err_after failures failures_after played × (played.status ≡ status)
 
--- a bundle has a plan, and what it is made for couldn't go on: memory was refused before anything was started or written, or a beginning of it was done; the trail is that of the run, where one began
+-- a bundle has a plan, and what it is made for couldn't go on: memory was refused before anything was started or written, or no warning is a fault and a beginning of it was done; the trail is that of the run, where one
+-- began
 abbrev pub IsStopped : Bundle → Wanted → RunFault → (trail : Option (List Event)) → (started started_after : Starts) → Option (List ℕ) → Option (List ℕ) → Type 0
 IsStopped bundle wanted fault trail started started_after out_before out_after =
-    (plan : PlanOf) × IsPlanOf bundle plan × IsGivenTo wanted plan started started_after fault trail out_before out_after
+    (plan : PlanOf) × IsPlanOf bundle plan × IsGivenToUnless (is_forbidden wanted plan) wanted plan started started_after fault trail out_before out_after
 
 -- of each bundle's run that is whole the trail that is handed out is legal under a plan of the bundle, and so is that of a run that couldn't go on
 abbrev pub TrailsAreLegal : Type 0

@@ -1,5 +1,5 @@
 -- What playing a bundle means.
-use Rattle.std.specs.Prelude.{◌≡◌, ◌⊎◌, ⊤, ℕ, true, List, [], ◌∷◌, ◌++◌, length, Option, Some, None, Ok, Err, codes}
+use Rattle.std.specs.Prelude.{◌≡◌, ◌⊎◌, ⊤, ℕ, Bool, true, false, ◌&&◌, List, [], ◌∷◌, ◌++◌, length, Option, Some, None, Ok, Err, codes}
 use Rattle.pb_outcome.specs.declared.job.Job.{Job}
 use Rattle.pb_outcome.specs.declared.job.Report.{Report}
 use Rattle.pb_outcome.specs.declared.outcome.Form.{Form}
@@ -161,3 +161,19 @@ IsUnbegun started started_after fault trail before after = (fault ≡ Memory) ×
 abbrev pub IsGivenTo : Wanted → PlanOf → (started started_after : Starts) → RunFault → (trail : Option (List Event)) → Option (List ℕ) → Option (List ℕ) → Type 0
 IsGivenTo wanted plan started started_after fault trail before after =
     IsUnbegun started started_after fault trail before after ⊎ IsGivenToFor wanted.purpose wanted plan started started_after fault trail before after
+
+-- warnings are faults, and there are some: nothing is started or written then
+abbrev pub has_some : List (List ℕ) → Bool
+has_some [] = false
+has_some (line ∷ lines) = true
+
+abbrev pub is_forbidden : Wanted → PlanOf → Bool
+is_forbidden wanted plan = wanted.strict && has_some plan.warnings
+
+abbrev pub IsGivenUnless : (forbidden : Bool) → Wanted → PlanOf → (started started_after : Starts) → Option (List ℕ) → Option (List ℕ) → Played → Type 0
+IsGivenUnless true wanted plan started started_after before after played = (started_after ≡ started) × (after ≡ before) × (played.status ≡ 1) × (played.trail ≡ None)
+IsGivenUnless false wanted plan started started_after before after played = IsGiven wanted plan started started_after before after played
+
+abbrev pub IsGivenToUnless : (forbidden : Bool) → Wanted → PlanOf → (started started_after : Starts) → RunFault → (trail : Option (List Event)) → Option (List ℕ) → Option (List ℕ) → Type 0
+IsGivenToUnless true wanted plan started started_after fault trail before after = IsUnbegun started started_after fault trail before after
+IsGivenToUnless false wanted plan started started_after fault trail before after = IsGivenTo wanted plan started started_after fault trail before after

@@ -11,7 +11,7 @@ ghost use Rattle.pb_audit.specs.Reading.{trail_in};
 ghost use Rattle.pb_runner.specs.Reading.{table_of};
 ghost use Rattle.pb_cli.specs.Audited.{IsVerdict, IsAudited, IsAuditCut, IsBadTrail};
 ghost use Rattle.pb_cli.specs.Listing.{listing};
-ghost use Rattle.pb_cli.specs.Played.{commands_for, IsBadTable, IsRunBy, IsCutBy, IsTabled, IsTabledCut, IsPlayed, IsPlayedTo, HasTrail, IsRunOrAudited, IsRunOrAuditedTo, IsUnbegun, IsGiven, IsGivenTo};
+ghost use Rattle.pb_cli.specs.Played.{commands_for, IsBadTable, IsRunBy, IsCutBy, IsTabled, IsTabledCut, IsPlayed, IsPlayedTo, HasTrail, IsRunOrAudited, IsRunOrAuditedTo, IsUnbegun, IsGiven, IsGivenTo, is_forbidden};
 ghost use Rattle.pb_cli.specs.Warned.{ended, warning_text, IsWarned};
 ghost use Rattle.pb_cli.specs.Done.{IsUntold, IsUnread, IsShown, IsStopped, IsUntouched, TrailsAreLegal};
 
@@ -37,6 +37,8 @@ use std::thread::Threads;
 pub struct Wanted {
     /// Whether it is run, or what is told of it in place of that.
     pub purpose: Purpose,
+    /// Whether a warning of the plan is a fault.
+    pub strict: bool,
     /// After how many reports the run is stopped, if it is to be.
     pub stop_after: Option<u32>,
     /// The path of the program that gathers facts, if there is one.
@@ -52,6 +54,7 @@ impl Drop for Wanted {
     fn drop(self) {
         let Wanted {
             purpose: _,
+            strict: _,
             stop_after: _,
             facts_program,
             outcomes,
@@ -339,10 +342,17 @@ fn push_line(text: &mut String, line: &Text) -> Result<(), AllocError>
     Ok(())
 }
 
+/// Whether there is a warning, and warnings are faults.
+fn is_forbidden(wanted: &Wanted, plan: &Plan) -> bool
+    ensures { result ≡ is_forbidden wanted.now plan.now }
+{
+    wanted.strict && !plan.warnings().is_empty()
+}
+
 /// Makes the plan of a bundle and does with it what is wanted, on a writer, and answers the exit status: it is run, and
 /// stopped behind so many reports, if that is asked for; or a trail is looked at in place of that, and it is written whether this is
 /// a legal run of the plan; or its hosts are listed, or nothing but `ok` is written. Warnings of the plan are written before that, on
-/// a writer of their own. The events of a run are handed out, in their order.
+/// a writer of their own; where they are faults and there is one, nothing else is done, and the status is 1. The events of a run are handed out, in their order.
 /// Without outcomes each job's program is started, and the facts program where facts are gathered, by as many workers as the bundle
 /// has forks, each in a thread of its own and with one of the launchers, which come back in their order; with them nothing is
 /// started, and they say what comes of each job. That facts are gathered by a program at all is the bundle's to say, which says so
@@ -384,6 +394,12 @@ pub fn play_bundle<
     };
     if warn(alloc, &plan, err).is_err() {
         return Err(PlayFault::Run(RunFault::Memory, None));
+    }
+    if is_forbidden(wanted, &plan) {
+        return Ok(Played {
+            status: 1,
+            trail: None,
+        });
     }
     give(rt, plan, wanted, launchers, out)
 }

@@ -29,7 +29,8 @@ const TOO_LONG: &str = "the outcomes have more than 64 MiB";
 
 /// The program `pb-play`: what its words ask for, with its output on `out` and its faults on `err`. Each worker of a run has one of
 /// the launchers start its programs. It answers the exit status: that of the run's recap, 0 where
-/// help was asked for or nothing is run, and 1 at a fault, which is told on `err`.
+/// help was asked for or nothing is run, and 1 at a fault, which is told on `err`, or where a warning is
+/// one.
 pub fn play<
     R: Files + AllocGlobal + Threads + Wait + Sync,
     L: Launcher + Send + Drop,
@@ -108,7 +109,7 @@ fn play_request<
 }
 
 /// Plays what was asked for, keeps its trail, and tells a fault.
-#[tactic(auto, using(crate::proofs::Running::not_shown))]
+#[tactic(auto, using(crate::proofs::Running::untouched))]
 fn play_asked<
     R: Files + AllocGlobal + Threads + Wait + Sync,
     L: Launcher + Send + Drop,
@@ -191,6 +192,7 @@ fn read_files<R: Files + AllocGlobal>(rt: &R, request: Request) -> Result<Asked,
         stop_after,
         trail,
         audit,
+        strict,
         purpose,
     } = request;
     let inventory = read_named(rt, inventory.as_str(), MAX_BYTES)?;
@@ -211,6 +213,7 @@ fn read_files<R: Files + AllocGlobal>(rt: &R, request: Request) -> Result<Asked,
     };
     let wanted = Wanted {
         purpose,
+        strict,
         stop_after,
         facts_program,
         outcomes,

@@ -47,8 +47,9 @@ request_met app m words request is none has asked =
         subst (λ (found : Option Text). IsStop found request.stop_after) (same (codes "stop_after")) asked.8,
         sym (same (codes "trail")) ∙ asked.9,
         sym (same (codes "audit")) ∙ asked.10,
+        subst (λ (found : Option Text). is_true found ≡ request.strict) (same (codes "strict")) asked.11,
         subst (λ (found : Option Text). purpose_of (is_true found) (is_true (value_in (codes "list_hosts") words)) ≡ request.purpose) (same (codes "syntax_check"))
-            (subst (λ (found : Option Text). purpose_of (is_true (first_value (found_of m) (codes "syntax_check"))) (is_true found) ≡ request.purpose) (same (codes "list_hosts")) asked.11),
+            (subst (λ (found : Option Text). purpose_of (is_true (first_value (found_of m) (codes "syntax_check"))) (is_true found) ≡ request.purpose) (same (codes "list_hosts")) asked.12),
       ),
     )
 

@@ -1,5 +1,5 @@
 -- What the words of the command line mean: `pb-play -i FILE [-f N] [-l PATTERN] [-e JSON] [--roles DIR] [--facts-program PATH] [--outcomes FILE] [--stop-after N] [--trail FILE] [--audit TRAIL]
--- [--syntax-check] [--list-hosts] PLAYBOOK`, and `--help`.
+-- [--syntax-check] [--list-hosts] [--strict] PLAYBOOK`, and `--help`.
 -- clap's own definitions say how words are read; the program's arguments are stated here. std's say how a number is read.
 use Rattle.std.specs.Prelude.{◌≡◌, ◌≢◌, ◌⊎◌, ◌≤◌, ℕ, Bool, true, false, List, [], Some, None, Option, codes}
 use Rattle.std.specs.Str.{bytes_eq}
@@ -66,6 +66,10 @@ syntax_check = record (new_rule (codes "syntax_check")) { long = Some (codes "sy
 abbrev pub list_hosts : Rule
 list_hosts = record (new_rule (codes "list_hosts")) { long = Some (codes "list-hosts"); action = Some SetTrue }
 
+-- `--strict`
+abbrev pub strict : Rule
+strict = record (new_rule (codes "strict")) { long = Some (codes "strict"); action = Some SetTrue }
+
 abbrev pub file_program : App
 file_program = with_rule (with_rule (new_app (codes "pb-play")) inventory) playbook
 
@@ -84,8 +88,11 @@ stopping_program = with_rule gathering_program stop_after
 abbrev pub recording_program : App
 recording_program = with_rule (with_rule stopping_program trail) audit
 
+abbrev pub choosing_program : App
+choosing_program = with_rule (with_rule recording_program syntax_check) list_hosts
+
 abbrev pub program : App
-program = with_rule (with_rule recording_program syntax_check) list_hosts
+program = with_rule choosing_program strict
 
 -- what the words, the first of which is the program's name, give an argument
 unfoldable pub value_in : Text → List Text → Option Text
@@ -148,13 +155,14 @@ IsBadNumber Missing = ⊥
 IsBadNumber Memory = Unit
 
 -- what the values of the arguments, each by its name, ask for: these files, so many forks, this limit, these extra variables, this folder of roles, this facts program,
--- this many reports until the run is stopped, this file for its trail, this trail to be looked at, and this purpose
+-- this many reports until the run is stopped, this file for its trail, this trail to be looked at, whether warnings are faults, and this purpose
 abbrev pub AskFor : (Text → Option Text) → Request → Type 0
 AskFor value request = (value (codes "inventory") ≡ Some request.inventory) × (value (codes "playbook") ≡ Some request.playbook)
     × AreForks (value (codes "forks")) request.forks × (value (codes "outcomes") ≡ request.outcomes)
     × (value (codes "limit") ≡ request.limit) × (value (codes "extra") ≡ request.extra) × (value (codes "roles") ≡ request.roles)
     × (value (codes "facts_program") ≡ request.facts_program) × IsStop (value (codes "stop_after")) request.stop_after
     × (value (codes "trail") ≡ request.trail) × (value (codes "audit") ≡ request.audit)
+    × (is_true (value (codes "strict")) ≡ request.strict)
     × (purpose_of (is_true (value (codes "syntax_check"))) (is_true (value (codes "list_hosts"))) ≡ request.purpose)
 
 -- why values ask for nothing to be played

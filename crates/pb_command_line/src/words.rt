@@ -1,7 +1,7 @@
 ghost use Rattle.pb_command_line.specs.declared.words.WordsFault.TheVariants.{Memory};
 ghost use Rattle.std.specs.Prelude.{◌≡◌, ◌⊎◌, IfOk, IfErr, map, codes, string_bytes};
 ghost use Rattle.clap.specs.Words.{app_of, kind_of, found_of, first_value};
-ghost use Rattle.pb_command_line.specs.CommandLine.{file_program, run_program, limited_program, gathering_program, stopping_program, recording_program, program, is_true, purpose_of, AskFor, AreRefused, Asks, IsCount, IsNoCount, AreForks, NoForks, IsStop, NoStop, IsReportCount, IsNoReportCount, IsBadNumber, IsRefused, TellsKind};
+ghost use Rattle.pb_command_line.specs.CommandLine.{file_program, run_program, limited_program, gathering_program, stopping_program, recording_program, choosing_program, program, is_true, purpose_of, AskFor, AreRefused, Asks, IsCount, IsNoCount, AreForks, NoForks, IsStop, NoStop, IsReportCount, IsNoReportCount, IsBadNumber, IsRefused, TellsKind};
 
 use clap::error::ErrorKind;
 use clap::{Arg, ArgAction, ArgMatches, Command, Error};
@@ -33,6 +33,8 @@ pub struct Request {
     pub trail: Option<Text>,
     /// The path of the trail that is looked at in place of a run, if one is given.
     pub audit: Option<Text>,
+    /// Whether a warning is a fault.
+    pub strict: bool,
     /// What is to be done with the plan.
     pub purpose: Purpose,
 }
@@ -159,8 +161,9 @@ fn recording_words<'a>(alloc: Global) -> Result<Command<'a>, AllocError>
     stopping_words(alloc)?.arg(trail)?.arg(audit)
 }
 
-fn command<'a>(alloc: Global) -> Result<Command<'a>, AllocError>
-    ensures { IfOk result (λ c. app_of c ≡ program) }
+/// The program with all its arguments but the last one.
+fn choosing_words<'a>(alloc: Global) -> Result<Command<'a>, AllocError>
+    ensures { IfOk result (λ c. app_of c ≡ choosing_program) }
 {
     let syntax_check = Arg::new(alloc, "syntax_check")
         .long("syntax-check")
@@ -171,6 +174,16 @@ fn command<'a>(alloc: Global) -> Result<Command<'a>, AllocError>
         .action(ArgAction::SetTrue)
         .help("Runs nothing: lists the hosts of each play");
     recording_words(alloc)?.arg(syntax_check)?.arg(list_hosts)
+}
+
+fn command<'a>(alloc: Global) -> Result<Command<'a>, AllocError>
+    ensures { IfOk result (λ c. app_of c ≡ program) }
+{
+    let strict = Arg::new(alloc, "strict")
+        .long("strict")
+        .action(ArgAction::SetTrue)
+        .help("Runs nothing where there is a warning");
+    choosing_words(alloc)?.arg(strict)
 }
 
 fn fault(alloc: Global, error: &Error) -> WordsFault
@@ -333,6 +346,7 @@ fn request_in(alloc: Global, matches: &ArgMatches<'_>) -> Result<Request, WordsF
         stop_after,
         trail,
         audit,
+        strict: is_given(matches, "strict"),
         purpose: purpose_in(matches),
     })
 }

@@ -7,6 +7,7 @@ returns-clause-untold g c e h =
     record {
       plan = c.in-Ok.plan;
       planned = search rules;
+      allowed = search rules;
       runs = untold.0;
       unaudited = untold.1;
       warned = search rules;
@@ -21,6 +22,7 @@ returns-clause-unread g c e h =
     record {
       plan = c.in-Ok.plan;
       planned = search rules;
+      allowed = search rules;
       runs = unread.0;
       warned = search rules;
       unstarted = unread.1.0;
