@@ -12,6 +12,7 @@ from from_yaml_lib.values import (
     switch_of,
     text_of,
     texts_of,
+    up_to,
     variables_of,
 )
 from from_yaml_lib.words import split
@@ -36,11 +37,16 @@ TASK_KEYS = {
     "loop_control": loop_control_of,
     "register": name_of,
     "notify": texts_of,
+    "until": conditions_of,
+    "retries": up_to(100),
+    "delay": up_to(3600),
 }
 HANDLER_KEYS = {**TASK_KEYS, "listen": texts_of}
 # Keys that are turned into another one.
 LOOPS = {"with_items": with_items_of, "with_list": with_list_of}
 ACTIONS = ("action", "local_action")
+# What may be tried more than once.
+PROGRAMS = ("command", "shell")
 
 
 def nodes_of(node, place):
@@ -138,7 +144,16 @@ class Task:
                 below.refuse(hint(entry.key))
         if self.module is None and not self.has_unknown:
             self.place.refuse("there is no module in the task")
+        if self.module is not None and self.module not in PROGRAMS:
+            self.refuse_retries()
         return self.found
+
+    def refuse_retries(self):
+        """Refuses the keys by which a task is tried more than once; a delay alone has no effect."""
+        for key in ("until", "retries"):
+            entry = self.node.get(key)
+            if entry is not None:
+                self.place.below(key, entry.line).refuse(hint(key))
 
     def put(self, key, value, place):
         """Puts what a key holds, unless another key was turned into the same one."""

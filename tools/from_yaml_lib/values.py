@@ -119,6 +119,18 @@ def count_of(node, place):
     return wrong(node, place, TEMPLATE if has_template(node) else "it has to be a whole number, 0 or more")
 
 
+def up_to(most):
+    """Returns the reader of a whole number from 0 to the most."""
+
+    def whole_up_to(node, place):
+        number = whole_of(node)
+        if number is not None and 0 <= number <= most:
+            return number
+        return wrong(node, place, TEMPLATE if has_template(node) else f"it has to be a whole number from 0 to {most}")
+
+    return whole_up_to
+
+
 def percentage_of(node, place):
     """Returns a whole number from 0 to 100, which may have been a text with a `%`."""
     bare = Scalar(node.value.strip().removesuffix("%"), node.line) if is_text(node) else node
