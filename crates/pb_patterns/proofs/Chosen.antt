@@ -12,8 +12,9 @@ use Rattle.pb_patterns.specs.declared.choice.Choice.{Choice}
 use Rattle.pb_patterns.specs.declared.element.Element.{Element}
 use Rattle.pb_patterns.specs.declared.element.Mark.{Mark}
 use Rattle.pb_patterns.specs.declared.element.Mark.TheVariants.{Unmarked, Met, Excluded}
-use Rattle.pb_patterns.specs.Sets.{IsSetOf, each_host}
-use Rattle.pb_patterns.specs.Selection.{Part, is_unmarked, is_met, is_excluded, in_some, in_each_met, has_unmarked, is_chosen, unmatched_of, IsPart, AreParts, IsSelection}
+use Rattle.pb_patterns.specs.declared.selected.Selected.{Selected}
+use Rattle.pb_patterns.specs.Sets.{element_set, each_host}
+use Rattle.pb_patterns.specs.Selection.{Part, is_unmarked, is_met, is_excluded, in_some, in_each_met, has_unmarked, is_chosen, unmatched_of, part_of, selected_by}
 use Rattle.pb_patterns.specs.Choosing.{IsBegun, IsAdded, chosen_by}
 use Rattle.pb_patterns.proofs.SetLaws.{set_is, each_host-at, each_host-same, length-each_host}
 
@@ -143,37 +144,35 @@ unmatched_more ps p old new is pushed =
     pushed ∙ unmatched_one p (has_some p.set) old refl ∙ ap (λ t. t ++ unmatched_of (p ∷ [])) is
     ∙ sym (ap (map (λ p. p.text)) (filter-append (λ p. not (has_some p.set)) ps (p ∷ [])) ∙ map-append (λ p. p.text) (filter (λ p. not (has_some p.set)) ps) (filter (λ p. not (has_some p.set)) (p ∷ [])))
 
-parts_push : (inventory : InventoryOf) (es : List Element) (ps : List Part) (e : Element) (p : Part) → AreParts inventory es ps → IsPart inventory e p → AreParts inventory (es ++ e ∷ []) (ps ++ p ∷ [])
-parts_push inventory [] [] e p are is = (is, tt)
-parts_push inventory [] (q ∷ ps) e p are is = absurd are
-parts_push inventory (d ∷ es) [] e p are is = absurd are
-parts_push inventory (d ∷ es) (q ∷ ps) e p are is = (are.0, parts_push inventory es ps e p are.1 is)
+abbrev selected_with : List Bool → List (List ℕ) → Selected
+selected_with hosts unmatched = record { hosts = hosts; unmatched = unmatched }
 
 -- what is known of the first elements
 abbrev pub Selecting : InventoryOf → List Element → Choice → List (List ℕ) → Type 0
-Selecting inventory es choice unmatched = (ps : List Part) × AreParts inventory es ps × IsChosen (length inventory.hosts) ps choice × (unmatched ≡ unmatched_of ps)
+Selecting inventory es choice unmatched = IsChosen (length inventory.hosts) (map (part_of inventory) es) choice × (unmatched ≡ unmatched_of (map (part_of inventory) es))
 
 pub selecting_begun : (inventory : InventoryOf) (n : ℕ) (choice : Choice) (unmatched : List (List ℕ)) → n ≡ length inventory.hosts → IsBegun n choice → unmatched ≡ [] → Selecting inventory [] choice unmatched
-selecting_begun inventory n choice unmatched size begun none = ([], tt, subst (λ n. IsChosen n [] choice) size (chosen_begun n choice begun), none)
+selecting_begun inventory n choice unmatched size begun none = (subst (λ n. IsChosen n [] choice) size (chosen_begun n choice begun), none)
 
 pub selecting_more : (inventory : InventoryOf) (elements : List Element) (i m : ℕ) (element : Element) (s : List Bool) (old new : Choice) (unmatched more : List (List ℕ)) → m ≡ i + 1 → i < length elements
-    → element ≡ get_or elements i element → length s ≡ length inventory.hosts → IsSetOf inventory element.what s → IsAdded element.mark s old new
+    → element ≡ get_or elements i element → length s ≡ length inventory.hosts → s ≡ element_set inventory element.what → IsAdded element.mark s old new
     → more ≡ (if has_some s then unmatched else unmatched ++ element.text ∷ []) → Selecting inventory (take i elements) old unmatched → Selecting inventory (take m elements) new more
 selecting_more inventory elements i m element s old new unmatched more next w read size is added pushed told =
     let p = one_part element.text element.mark s in
-    let cut : take m elements ≡ take i elements ++ element ∷ [] = ap (λ k. take k elements) next ∙ take_more elements i element w ∙ ap (λ e. take i elements ++ e ∷ []) (sym read) in (
-      told.0 ++ p ∷ [],
-      subst (λ es. AreParts inventory es (told.0 ++ p ∷ [])) (sym cut) (parts_push inventory (take i elements) told.0 element p told.1 (refl, refl, is)),
-      chosen_more (length inventory.hosts) told.0 element.text element.mark s old new size added told.2,
-      unmatched_more told.0 p unmatched more told.3 pushed,
+    let same : p ≡ part_of inventory element = ap (one_part element.text element.mark) is in
+    let cut : take m elements ≡ take i elements ++ element ∷ [] = ap (λ k. take k elements) next ∙ take_more elements i element w ∙ ap (λ e. take i elements ++ e ∷ []) (sym read) in
+    let parts : map (part_of inventory) (take m elements) ≡ map (part_of inventory) (take i elements) ++ p ∷ [] =
+    ap (map (part_of inventory)) cut ∙ map-append (part_of inventory) (take i elements) (element ∷ []) ∙ ap (λ (q : Part). map (part_of inventory) (take i elements) ++ q ∷ []) (sym same) in (
+      subst (λ (ps : List Part). IsChosen (length inventory.hosts) ps new) (sym parts)
+          (chosen_more (length inventory.hosts) (map (part_of inventory) (take i elements)) element.text element.mark s old new size added told.0),
+      unmatched_more (map (part_of inventory) (take i elements)) p unmatched more told.1 pushed ∙ ap unmatched_of (sym parts),
     )
 
 pub selecting_whole : (inventory : InventoryOf) (elements : List Element) (i n : ℕ) (choice : Choice) (hosts : List Bool) (unmatched : List (List ℕ)) → length elements ≤ i → n ≡ length inventory.hosts
-    → hosts ≡ chosen_by n choice → Selecting inventory (take i elements) choice unmatched → IsSelection inventory elements (record { hosts = hosts; unmatched = unmatched })
+    → hosts ≡ chosen_by n choice → Selecting inventory (take i elements) choice unmatched → record { hosts = hosts; unmatched = unmatched } ≡ selected_by inventory elements
 selecting_whole inventory elements i n choice hosts unmatched all size is told =
-    let are : hosts ≡ each_host (length inventory.hosts) (is_chosen told.0) =
-    is ∙ ap (λ n. chosen_by n choice) size ∙ chosen_whole (length inventory.hosts) told.0 choice told.2 in (
-      told.0,
-      subst (λ es. AreParts inventory es told.0) (take_all i elements all) told.1,
-      ap (λ h. record { hosts = h; unmatched = unmatched }) are ∙ ap (λ u. record { hosts = each_host (length inventory.hosts) (is_chosen told.0); unmatched = u }) told.3,
-    )
+    let ps = map (part_of inventory) (take i elements) in
+    let are : hosts ≡ each_host (length inventory.hosts) (is_chosen ps) =
+    is ∙ ap (λ n. chosen_by n choice) size ∙ chosen_whole (length inventory.hosts) ps choice told.0 in
+    ap (λ (h : List Bool). selected_with h unmatched) are ∙ ap (λ (u : List (List ℕ)). selected_with (each_host (length inventory.hosts) (is_chosen ps)) u) told.1
+    ∙ ap (λ (es : List Element). selected_by inventory es) (take_all i elements all)

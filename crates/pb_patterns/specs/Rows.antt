@@ -144,6 +144,6 @@ unfolding expressions_of
 met_first = refl
 
 -- `~b|c` means what begins with b or c, and not what has one of them further on
-pub begins : map (starts (alt (literal (codes "b")) (literal (codes "c")))) (codes "a" ∷ codes "b" ∷ codes "c1" ∷ codes "ab" ∷ []) ≡ false ∷ true ∷ true ∷ false ∷ []
+pub matched : map (starts (alt (literal (codes "b")) (literal (codes "c")))) (codes "a" ∷ codes "b" ∷ codes "c1" ∷ codes "ab" ∷ []) ≡ false ∷ true ∷ true ∷ false ∷ []
 unfolding find_str first_from is_boundary attempt has_bytes_at
-begins = refl
+matched = refl

@@ -8,7 +8,7 @@ use Rattle.pb_patterns.specs.declared.element.Element.{Element}
 use Rattle.pb_patterns.specs.declared.element.Mark.{Mark}
 use Rattle.pb_patterns.specs.declared.element.Mark.TheVariants.{Unmarked, Met, Excluded}
 use Rattle.pb_patterns.specs.declared.selected.Selected.{Selected}
-use Rattle.pb_patterns.specs.Sets.{IsSetOf, each_host}
+use Rattle.pb_patterns.specs.Sets.{element_set, each_host}
 
 -- an element's text and mark, and the hosts that it means
 pub record Part : Type 0 where
@@ -50,15 +50,12 @@ unmatched_of parts = map (λ p. p.text) (filter (λ p. not (has_some p.set)) par
 abbrev pub selection : ℕ → List Part → Selected
 selection hosts parts = record { hosts = each_host hosts (is_chosen parts); unmatched = unmatched_of parts }
 
-abbrev pub IsPart : InventoryOf → Element → Part → Type 0
-IsPart inventory element part = (part.text ≡ element.text) × (part.mark ≡ element.mark) × IsSetOf inventory element.what part.set
-
-abbrev pub AreParts : InventoryOf → List Element → List Part → Type 0
-AreParts inventory [] [] = Unit {0}
-AreParts inventory [] (p ∷ ps) = ⊥
-AreParts inventory (e ∷ es) [] = ⊥
-AreParts inventory (e ∷ es) (p ∷ ps) = IsPart inventory e p × AreParts inventory es ps
+abbrev pub part_of : InventoryOf → Element → Part
+part_of inventory element = record { text = element.text; mark = element.mark; set = element_set inventory element.what }
 
 -- what these elements select in an inventory
+abbrev pub selected_by : InventoryOf → List Element → Selected
+selected_by inventory elements = selection (length inventory.hosts) (map (part_of inventory) elements)
+
 abbrev pub IsSelection : InventoryOf → List Element → Selected → Type 0
-IsSelection inventory elements selected = (parts : List Part) × AreParts inventory elements parts × (selected ≡ selection (length inventory.hosts) parts)
+IsSelection inventory elements selected = selected ≡ selected_by inventory elements

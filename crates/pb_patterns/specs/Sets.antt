@@ -1,10 +1,11 @@
 -- The hosts that an element means in an inventory.
-use Rattle.std.specs.Prelude.{◌≡◌, ℕ, ◌+◌, ◌-◌, Bool, false, ◌&&◌, ◌||◌, ◌==◌, not, nat_le, List, [], ◌∷◌, ◌++◌, map, filter, take, drop, length, slice_index_or, Option, Some, None, position, codes, if◌then◌else◌}
+use Rattle.std.specs.Prelude.{◌≡◌, ℕ, ◌+◌, ◌-◌, Bool, false, ◌&&◌, ◌||◌, ◌==◌, not, nat_le, List, [], ◌∷◌, ◌++◌, map, filter, take, drop, length, slice_index_or, Option, Some, None, option_map, position, codes, if◌then◌else◌}
 use Rattle.std.specs.List.{list_any, range_with_len}
-use Rattle.std.specs.Str.{bytes_eq}
-use Rattle.regex.specs.Patterns.{Re, Match, find_str}
-use Rattle.regex.specs.Strings.{regex_pattern}
-use Rattle.regex.specs.declared.string.regex.Regex.{Regex}
+use Rattle.std.specs.Str.{bytes_eq, chars}
+use Rattle.std.specs.Option.{option_map_or}
+use Rattle.regex.specs.Patterns.{Re, Match, default_config, find_str}
+use Rattle.regex_syntax.specs.Brackets.{Nested}
+use Rattle.regex_syntax.specs.Grammar.{Names, read}
 use Rattle.pb_planes.specs.Set.{is_in}
 use Rattle.pb_groups.specs.declared.links.OwnHost.{OwnHost}
 use Rattle.pb_inventory.specs.InventoryOf.{InventoryOf}
@@ -13,7 +14,6 @@ use Rattle.pb_patterns.specs.declared.element.Subscript.{Subscript}
 use Rattle.pb_patterns.specs.declared.element.Subscript.TheVariants.{At, FromEnd, Between, From}
 use Rattle.pb_patterns.specs.declared.element.What.{What}
 use Rattle.pb_patterns.specs.declared.element.What.TheVariants as what
-use Rattle.pb_patterns.specs.Built.{IsRegexOf}
 use Rattle.pb_patterns.specs.Globs.{glob, is_wild}
 
 -- of each host whether f holds of its number
@@ -89,7 +89,15 @@ begins_at_first (Some m) = m.start == 0
 abbrev pub starts : Re → List ℕ → Bool
 starts pattern name = begins_at_first (find_str pattern name 0)
 
--- the hosts that an element means; for a regular expression they are told by the pattern that was built for it
-abbrev pub IsSetOf : InventoryOf → What → List Bool → Type 0
-IsSetOf inventory (what.Term term subscript) set = set ≡ set_of inventory term subscript
-IsSetOf inventory (what.Regex source) set = (regex : Regex) × IsRegexOf source regex × (set ≡ meant inventory (starts (regex_pattern regex)))
+-- the pattern as which the grammar of regular expressions reads a text, if it is one
+abbrev pub expression_read : List ℕ → Option Re
+expression_read source = option_map (λ (found : Nested Re × Names). found.0.value) (read default_config (chars source))
+
+-- whether a name begins with what the expression in a text matches
+unfoldable pub begins_as : List ℕ → List ℕ → Bool
+begins_as source name = option_map_or (λ (pattern : Re). starts pattern name) (expression_read source) false
+
+-- the hosts that an element means
+abbrev pub element_set : InventoryOf → What → List Bool
+element_set inventory (what.Term term subscript) = set_of inventory term subscript
+element_set inventory (what.Regex source) = meant inventory (begins_as source)

@@ -1,9 +1,11 @@
 ghost use Rattle.std.specs.Prelude.{◌≡◌, IfOk, map};
 ghost use Rattle.std.specs.Str.{chars};
 ghost use Rattle.regex.specs.Patterns.{find_str};
-ghost use Rattle.regex.specs.Strings.{regex_pattern, matcher_pattern};
+ghost use Rattle.regex.specs.Strings.{regex_pattern, regex_source, matcher_pattern};
+ghost use Rattle.regex.specs.declared.string.regex.Regex.{Regex};
 ghost use Rattle.pb_patterns.specs.Globs.{fits};
-ghost use Rattle.pb_patterns.specs.Sets.{starts};
+ghost use Rattle.pb_patterns.specs.Sets.{starts, begins_as};
+ghost use Rattle.pb_patterns.specs.Built.{IsRegexOf};
 
 use crate::glob::{chars_of, fits};
 use pb_ids::{GroupNo, HostNo};
@@ -54,18 +56,27 @@ fn starts(matcher: &mut Matcher<'_>, name: &str) -> bool
     }
 }
 
+/// Whether the name begins with what an expression matches, where the matcher is of the pattern that was built for it.
+fn begins(matcher: &mut Matcher<'_>, name: &str) -> bool
+    ensures read { (r : Regex) → IsRegexOf (regex_source r) r → matcher_pattern matcher.old ≡ regex_pattern r → result ≡ begins_as (regex_source r) name.now }
+    ensures same { matcher_pattern matcher.new ≡ matcher_pattern matcher.old }
+{
+    starts(matcher, name)
+}
+
 /// Of each host whether the expression matches from the first character of its name on.
 pub fn hosts_that_match(
     alloc: Global,
     inventory: &Inventory,
     regex: &Regex,
 ) -> Result<Vec<bool>, AllocError>
-    ensures { IfOk result (λ hits. hits.items ≡ map (starts (regex_pattern regex.now)) inventory.now.hosts) }
+    requires { IsRegexOf (regex_source regex.now) regex.now }
+    ensures { IfOk result (λ hits. hits.items ≡ map (begins_as (regex_source regex.now)) inventory.now.hosts) }
 {
     let mut matcher = regex.matcher(alloc)?;
     let mut hits = Vec::new(alloc);
     for host in 0..inventory.hosts() {
-        hits.push(starts(&mut matcher, inventory.name(HostNo(host))))?;
+        hits.push(begins(&mut matcher, inventory.name(HostNo(host))))?;
     }
     Ok(hits)
 }
@@ -76,12 +87,13 @@ pub fn groups_that_match(
     inventory: &Inventory,
     regex: &Regex,
 ) -> Result<Vec<bool>, AllocError>
-    ensures { IfOk result (λ hits. hits.items ≡ map (starts (regex_pattern regex.now)) inventory.now.groups) }
+    requires { IsRegexOf (regex_source regex.now) regex.now }
+    ensures { IfOk result (λ hits. hits.items ≡ map (begins_as (regex_source regex.now)) inventory.now.groups) }
 {
     let mut matcher = regex.matcher(alloc)?;
     let mut hits = Vec::new(alloc);
     for group in 0..inventory.groups() {
-        hits.push(starts(&mut matcher, inventory.group_name(GroupNo(group))))?;
+        hits.push(begins(&mut matcher, inventory.group_name(GroupNo(group))))?;
     }
     Ok(hits)
 }

@@ -1,5 +1,5 @@
 ghost use Rattle.std.specs.Prelude.{◌≡◌, ◌≢◌, length, IfOk, IfErr, OnOk, Ok, Err};
-ghost use Rattle.pb_patterns.specs.Sets.{IsSetOf};
+ghost use Rattle.pb_patterns.specs.Sets.{element_set};
 ghost use Rattle.pb_patterns.specs.Reading.{is_regex, what_of, expression_in};
 ghost use Rattle.pb_patterns.specs.Expressions.{IsTaken, IsRefused, AreTaken, IsFirstFault};
 ghost use Rattle.pb_patterns.specs.Subscripts.{term_of, closes_none, plain_term, bracket_term};
@@ -153,7 +153,7 @@ impl Meaning {
     /// The hosts that are meant in the inventory.
     pub fn set(&self, alloc: Global, inventory: &Inventory) -> Result<HostSet, AllocError>
         ensures width { IfOk result (λ set. length set ≡ length inventory.now.hosts) }
-        ensures set { IfOk result (λ set. IsSetOf inventory.now self.now set) }
+        ensures set { IfOk result (λ set. set ≡ element_set inventory.now self.now) }
     {
         match &self.what {
             What::Term { term, subscript } => match subscript {

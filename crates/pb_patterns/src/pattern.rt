@@ -1,6 +1,6 @@
 ghost use Rattle.std.specs.Prelude.{◌≡◌, ◌≢◌, [], ◌∷◌, ◌++◌, length, IfOk, IfErr, OnOk, Ok, Err, if◌then◌else◌};
 ghost use Rattle.pb_planes.specs.Set.{has_some};
-ghost use Rattle.pb_patterns.specs.Selection.{IsSelection};
+ghost use Rattle.pb_patterns.specs.Selection.{selected_by};
 ghost use Rattle.std.specs.List.{flat_map};
 ghost use Rattle.pb_patterns.specs.Spelling.{spelt};
 ghost use Rattle.pb_patterns.specs.Expressions.{AreTaken, IsFirstFault};
@@ -58,7 +58,7 @@ fn selected(
     elements: &[Element],
     inventory: &Inventory,
 ) -> Result<Selected, AllocError>
-    ensures selection { IfOk result (λ selected. IsSelection inventory.now elements.now selected) }
+    ensures selection { IfOk result (λ selected. selected ≡ selected_by inventory.now elements.now) }
     ensures width { IfOk result (λ selected. length selected.hosts ≡ length inventory.now.hosts) }
 {
     let mut choice = Choice::new(alloc, inventory.hosts())?;
@@ -103,7 +103,7 @@ impl Pattern {
     /// The hosts that the pattern means in an inventory, and the elements that mean none. The order of
     /// the elements says nothing.
     pub fn select(&self, alloc: Global, inventory: &Inventory) -> Result<Selected, AllocError>
-        ensures selection { IfOk result (λ selected. IsSelection inventory.now self.now selected) }
+        ensures selection { IfOk result (λ selected. selected ≡ selected_by inventory.now self.now) }
         ensures width { IfOk result (λ selected. length selected.hosts ≡ length inventory.now.hosts) }
     {
         selected(alloc, self.elements.as_slice(), inventory)

@@ -1,10 +1,11 @@
 ghost use Rattle.std.specs.Prelude.{◌≡◌, ◌<◌, ◌==◌, ◌||◌, ◌&&◌, ℕ, Bool, false, List, length, map, position, slice_index_or, option_map, IfOk, Option, Some, None};
 ghost use Rattle.std.specs.List.{list_any, range_with_len};
 ghost use Rattle.std.specs.Str.{bytes_eq};
-ghost use Rattle.regex.specs.Strings.{regex_pattern};
+ghost use Rattle.regex.specs.Strings.{regex_source};
 ghost use Rattle.pb_planes.specs.Set.{is_in};
 ghost use Rattle.pb_inventory.specs.MemberSets.{members_in};
-ghost use Rattle.pb_patterns.specs.Sets.{each_host, meant, one_host, named, term_set, listing, starts, contains};
+ghost use Rattle.pb_patterns.specs.Sets.{each_host, meant, one_host, named, term_set, listing, begins_as, contains};
+ghost use Rattle.pb_patterns.specs.Built.{IsRegexOf};
 ghost use Rattle.pb_patterns.specs.Globs.{glob};
 
 use crate::glob::{chars_of, is_wild};
@@ -59,8 +60,9 @@ fn meant(
 
 /// The hosts that a regular expression means.
 pub fn matched(alloc: Global, inventory: &Inventory, regex: &Regex) -> Result<HostSet, AllocError>
+    requires { IsRegexOf (regex_source regex.now) regex.now }
     ensures width { IfOk result (λ set. length set ≡ length inventory.now.hosts) }
-    ensures set { IfOk result (λ set. set ≡ meant inventory.now (starts (regex_pattern regex.now))) }
+    ensures set { IfOk result (λ set. set ≡ meant inventory.now (begins_as (regex_source regex.now))) }
 {
     let hosts = hosts_that_match(alloc, inventory, regex)?;
     let groups = groups_that_match(alloc, inventory, regex)?;

@@ -1,3 +1,4 @@
 mod Connected
 mod Fitting
 mod Plans
+pub mod OnePlan

@@ -189,3 +189,14 @@ abbrev pub IsBundleFault : Bundle → BundleFault → Type 0
 IsBundleFault bundle fault =
     IsFirstFault (expressions_in_plays bundle) (book_of bundle) (InPlaybook BadPattern) fault
     ⊎ (AreTaken (expressions_in_plays bundle) × IsFirstFault (expressions_in_limit bundle) (readings_of bundle) (Limit BadRegex) fault)
+
+-- a bundle has no more than one plan
+abbrev pub PlansAreOne : Type 0
+PlansAreOne = (bundle : Bundle) (one other : PlanOf) → IsPlanOf bundle one → IsPlanOf bundle other → one ≡ other
+
+-- and bundles that differ in forks alone have plans that do
+abbrev pub with_forks : ℕ → Bundle → Bundle
+with_forks forks bundle = record bundle { forks = forks }
+
+abbrev pub ForksAreApart : Type 0
+ForksAreApart = (bundle : Bundle) (forks : ℕ) (one other : PlanOf) → IsPlanOf bundle one → IsPlanOf (with_forks forks bundle) other → other ≡ record one { forks = forks }

@@ -9,13 +9,13 @@ loop-element-init c =
     selecting_begun c.args.inventory.now c.hosts.result c.in_ok-choice.choice c.new-unmatched.result c.hosts.ensures.count c.in_ok-choice.ensures c.new-unmatched.ensures
 
 pub add-requires-clause-joined : goal.add-requires-clause-joined
-add-requires-clause-joined c = ap length c.loop-element.invariant.2.0 ∙ length-each_host _ _ ∙ sym c.in_ok-set.ensures.width
+add-requires-clause-joined c = ap length c.loop-element.invariant.0.0 ∙ length-each_host _ _ ∙ sym c.in_ok-set.ensures.width
 
 pub add-requires-clause-met : goal.add-requires-clause-met
-add-requires-clause-met c = ap length c.loop-element.invariant.2.1 ∙ length-each_host _ _ ∙ sym c.in_ok-set.ensures.width
+add-requires-clause-met c = ap length c.loop-element.invariant.0.1 ∙ length-each_host _ _ ∙ sym c.in_ok-set.ensures.width
 
 pub add-requires-clause-excluded : goal.add-requires-clause-excluded
-add-requires-clause-excluded c = ap length c.loop-element.invariant.2.2 ∙ length-each_host _ _ ∙ sym c.in_ok-set.ensures.width
+add-requires-clause-excluded c = ap length c.loop-element.invariant.0.2 ∙ length-each_host _ _ ∙ sym c.in_ok-set.ensures.width
 
 pub loop-element-preserved : goal.loop-element-preserved
 loop-element-preserved c =
@@ -23,13 +23,13 @@ loop-element-preserved c =
     c.push_unmatched.new.unmatched refl c.loop-element-test.true c.element-item.is c.in_ok-set.ensures.width c.in_ok-set.ensures.set c.add.ensures c.in_ok-push_unmatched.ensures c.loop-element.invariant
 
 pub hosts-requires-3-clause-joined : goal.hosts-requires-3-clause-joined
-hosts-requires-3-clause-joined c = ap length c.loop-element.invariant.2.0 ∙ length-each_host _ _ ∙ sym c.hosts-2.ensures.count
+hosts-requires-3-clause-joined c = ap length c.loop-element.invariant.0.0 ∙ length-each_host _ _ ∙ sym c.hosts-2.ensures.count
 
 pub hosts-requires-3-clause-met : goal.hosts-requires-3-clause-met
-hosts-requires-3-clause-met c = ap length c.loop-element.invariant.2.1 ∙ length-each_host _ _ ∙ sym c.hosts-2.ensures.count
+hosts-requires-3-clause-met c = ap length c.loop-element.invariant.0.1 ∙ length-each_host _ _ ∙ sym c.hosts-2.ensures.count
 
 pub hosts-requires-3-clause-excluded : goal.hosts-requires-3-clause-excluded
-hosts-requires-3-clause-excluded c = ap length c.loop-element.invariant.2.2 ∙ length-each_host _ _ ∙ sym c.hosts-2.ensures.count
+hosts-requires-3-clause-excluded c = ap length c.loop-element.invariant.0.2 ∙ length-each_host _ _ ∙ sym c.hosts-2.ensures.count
 
 pub returns-clause-selection : goal.returns-clause-selection
 returns-clause-selection c =
@@ -41,4 +41,4 @@ returns-clause-width c =
     let whole =
     selecting_whole c.args.inventory.now c.args.elements.now c.loop-element.element-index c.hosts-2.result c.loop-element.choice c.in_ok-hosts.hosts c.loop-element.unmatched c.loop-element-test.false
     c.hosts-2.ensures.count c.in_ok-hosts.ensures c.loop-element.invariant in
-    ap (λ (s : Selected). length s.hosts) whole.2 ∙ length-each_host _ _
+    ap (λ (s : Selected). length s.hosts) whole ∙ length-each_host _ _
