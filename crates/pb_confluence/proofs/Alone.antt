@@ -25,7 +25,8 @@ use Rattle.pb_sight.specs.Results.{items_at}
 use Rattle.pb_confluence.specs.Effect.{attempts_left, outcome_for, item_back, items_back, settled, whole}
 use Rattle.pb_confluence.specs.Alone.{goes_at, goes, walks, between, alone_from, couples, is_uncoupled}
 use Rattle.pb_confluence.proofs.Batches.{SameWait}
-use Rattle.pb_confluence.proofs.Lists.{and_left, and_right, or_false, none_false, Every}
+use Rattle.pb_independence.proofs.Tests.{and_left, and_right, or_false, none_false}
+use Rattle.pb_confluence.proofs.Lists.{Every}
 use Rattle.pb_confluence.proofs.Rows.{running}
 
 -- ---- what a host reaches alone from here on

@@ -30,8 +30,8 @@ use Rattle.pb_state.proofs.Opening.{next_is}
 use Rattle.pb_state.proofs.Stands.{stands_at, start_stands}
 use Rattle.pb_state.proofs.Walked.{same_is}
 use Rattle.pb_state.proofs.Walks.{IsIn, AllIn, IsOfPlan}
-use Rattle.pb_engine.specs.Over.{IsPlacedBy, IsPlacedIn}
-use Rattle.pb_engine.proofs.Stuck.{placed_run}
+use Rattle.pb_state.specs.Over.{IsPlacedBy, IsPlacedIn}
+use Rattle.pb_state.proofs.Stuck.{placed_run}
 use Rattle.pb_confluence.specs.Fixed.{Fixed, outcome_of, IsFixedAt, IsFixed}
 use Rattle.pb_confluence.specs.Effect.{started}
 use Rattle.pb_confluence.specs.Alone.{walks, between, alone_in, alone_from, alone, is_uncoupled, EndsAlone}
@@ -39,14 +39,16 @@ use Rattle.pb_sight.specs.Results.{items_at}
 use Rattle.pb_all_hosts.specs.Turn.{BatchOf}
 use Rattle.pb_confluence.proofs.Alone.{later_alone, in_row, row_in, row_waits, row_value, values, RunsOnly, IsRight, inside_at, progressed_right, sent_right, reported_right, progressed_wait, reported_wait, row_same, IsFree, turned_same, joined_rows, joined_right}
 use Rattle.pb_confluence.proofs.Along.{IsAlong, along_next, along_first, told_fixed}
-use Rattle.pb_confluence.proofs.Apart.{AreApart}
+use Rattle.pb_independence.specs.Apart.{AreApart}
 use Rattle.pb_confluence.proofs.Batches.{total, waits_count, waiting, left_count, joined_count, called_waits, sizes_total, SameWait, waiting_changed, none_waits}
 use Rattle.pb_confluence.proofs.Ends.{closes, none_start_at_end, runs_out}
-use Rattle.pb_confluence.proofs.Independence.{apart_of}
-use Rattle.pb_confluence.proofs.Lists.{and_left, and_right, or_false, both_ways, Every, every_at, every_changed, map_changed, found_in}
+use Rattle.pb_independence.proofs.Independence.{apart_of}
+use Rattle.pb_independence.proofs.Tests.{and_left, and_right, or_false}
+use Rattle.pb_confluence.proofs.Lists.{both_ways, Every, every_at, every_changed, map_changed, found_in}
 use Rattle.pb_confluence.proofs.Moving.{drop_parts, sizes_some, left_some, none_is}
 use Rattle.pb_confluence.proofs.Once.{IsIdle, none_runs}
-use Rattle.pb_confluence.proofs.Starting.{opened, start_rows, report_rows, fixed_row, sends_some, awaits_some, same_row}
+use Rattle.pb_state.proofs.Local.{opened, report_rows}
+use Rattle.pb_confluence.proofs.Starting.{start_rows, fixed_row, sends_some, awaits_some, same_row}
 use Rattle.pb_confluence.proofs.Walking.{start_walks, send_walks, report_walks, end_walks}
 
 -- ---- what holds of a state

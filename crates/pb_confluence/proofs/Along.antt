@@ -18,8 +18,8 @@ use Rattle.pb_state.specs.State.{State}
 use Rattle.pb_state.specs.Walks.{AreNumbered}
 use Rattle.pb_state.proofs.Steps.{forks_stay}
 use Rattle.pb_state.proofs.Walks.{IsOfPlan, first_of, step_of, rows_stay}
-use Rattle.pb_engine.proofs.Held.{IsHeld, held_run, step_held}
-use Rattle.pb_engine.proofs.Waits.{runs_job}
+use Rattle.pb_state.proofs.Held.{IsHeld, held_run, step_held}
+use Rattle.pb_state.proofs.HasJob.{runs_job}
 use Rattle.pb_confluence.specs.Confluence.{with_forks}
 use Rattle.pb_confluence.specs.Fixed.{Fixed, asked_of, outcome_of, IsFixedAt}
 use Rattle.pb_confluence.proofs.Lists.{found_in}

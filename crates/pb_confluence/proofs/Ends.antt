@@ -30,14 +30,15 @@ use Rattle.pb_confluence.specs.Fixed.{Fixed, outcome_of, IsFixedAt, IsFixed}
 use Rattle.pb_confluence.proofs.Along.{IsAlong, along_next, along_first, told_fixed}
 use Rattle.pb_confluence.specs.Together.{at_plays, in_play, together}
 use Rattle.pb_confluence.specs.Confluence.{end_of, IsWhole, EndsTogether}
-use Rattle.pb_confluence.proofs.Apart.{AreApart}
-use Rattle.pb_confluence.proofs.Lists.{and_left, and_right, or_right_true, none_false, both_ways, Every, every_at}
+use Rattle.pb_independence.specs.Apart.{AreApart}
+use Rattle.pb_independence.proofs.Tests.{and_left, and_right, none_false}
+use Rattle.pb_confluence.proofs.Lists.{or_right_true, both_ways, Every, every_at}
 use Rattle.pb_confluence.proofs.Moving.{AreLinear, open_keeps, turn_keeps, close_keeps, well_idle}
 use Rattle.pb_confluence.proofs.Once.{IsIdle, none_runs}
 use Rattle.pb_confluence.proofs.Rows.{AtLeast, RunsAt, IsWell}
 use Rattle.pb_confluence.proofs.Starting.{Keeps, is_start, start_keeps, send_keeps, report_keeps}
 use Rattle.pb_confluence.proofs.Values.{batches_left, in_open, in_closed, rest, value, Holds, HoldsIn}
-use Rattle.pb_confluence.proofs.Independence.{apart_of}
+use Rattle.pb_independence.proofs.Independence.{apart_of}
 
 -- ---- what holds of a state of a run
 abbrev pub IsGood : PlanOf → State → Type 0

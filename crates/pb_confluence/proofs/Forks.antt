@@ -48,11 +48,11 @@ fixed_forks n plan f s Close fixed = tt
 fixed_forks n plan f s Stop fixed = tt
 fixed_forks n plan f s (Forks m) fixed = tt
 
-state_forks : (n : ℕ) (plan : PlanOf) (s : State) (trail : List Event) → state_from (with_forks n plan) s trail ≡ state_from plan s trail
+pub state_forks : (n : ℕ) (plan : PlanOf) (s : State) (trail : List Event) → state_from (with_forks n plan) s trail ≡ state_from plan s trail
 state_forks n plan s [] = refl
 state_forks n plan s (e ∷ es) = state_forks n plan (after (with_forks n plan) s e) es ∙ ap (λ (t : State). state_from plan t es) (after_forks n plan s e)
 
-legal_forks : (n : ℕ) (plan : PlanOf) (s : State) (trail : List Event) → legal_from (with_forks n plan) s trail ≡ legal_from plan s trail
+pub legal_forks : (n : ℕ) (plan : PlanOf) (s : State) (trail : List Event) → legal_from (with_forks n plan) s trail ≡ legal_from plan s trail
 legal_forks n plan s [] = refl
 legal_forks n plan s (e ∷ es) =
     ap (λ (b : Bool). b && legal_from (with_forks n plan) (after (with_forks n plan) s e) es) (possible_forks n plan s e)
@@ -67,7 +67,7 @@ finished_forks : (n : ℕ) (plan : PlanOf) (s : State) → IsFinished (with_fork
 finished_forks n plan s finished = record { over = λ e c. sym (possible_forks n plan s e) ∙ finished.over e c; none_out = finished.none_out }
 
 -- so a run of the plan with other forks is a run of the plan that begins with these
-whole_forks : (n : ℕ) (plan : PlanOf) (f : Fixed) (pool : ℕ) (trail : List Event) (s : State) → IsEnd (with_forks n plan) f pool trail s → (IsWhole plan f n pool trail) × (end_of plan n pool trail ≡ s)
+pub whole_forks : (n : ℕ) (plan : PlanOf) (f : Fixed) (pool : ℕ) (trail : List Event) (s : State) → IsEnd (with_forks n plan) f pool trail s → (IsWhole plan f n pool trail) × (end_of plan n pool trail ≡ s)
 whole_forks n plan f pool trail s run =
     let ends : end_of plan n pool trail ≡ s = sym (state_forks n plan (first_state plan n pool) trail) ∙ run.run.ends in (
       record {
@@ -80,19 +80,22 @@ whole_forks n plan f pool trail s run =
       ends,
     )
 
--- the recap of a run with the plan's own forks
-pub counts_together : CountsTogether
-counts_together plan f pool trail s linear independent run =
-    let whole : IsWhole plan f plan.forks pool trail = record {
+-- a run with the plan's own forks
+pub whole_of : (plan : PlanOf) (f : Fixed) (pool : ℕ) (trail : List Event) (s : State) → IsEnd plan f pool trail s → IsWhole plan f plan.forks pool trail
+whole_of plan f pool trail s run =
+    record {
       some = run.some;
       legal = run.run.legal;
       is_fixed = run.is_fixed;
       finished = subst (IsFinished plan) (sym run.run.ends) run.finished;
       unstopped = ap (λ (t : State). t.stopped) run.run.ends ∙ run.unstopped;
-    } in
+    }
+
+pub counts_together : CountsTogether
+counts_together plan f pool trail s linear independent run =
     sym (recap_of_run plan pool trail s run.run)
     ∙ ap (λ (t : State). map (λ (row : HostRow). row.counts) t.rows) (sym run.run.ends)
-    ∙ ap (λ (rows : List HostRow). map (λ (row : HostRow). row.counts) rows) (ends_together plan f plan.forks pool trail linear independent whole)
+    ∙ ap (λ (rows : List HostRow). map (λ (row : HostRow). row.counts) rows) (ends_together plan f plan.forks pool trail linear independent (whole_of plan f pool trail s run))
 
 pub end_alike : EndAlike
 end_alike plan f m n pool other_pool trail other s t linear independent run also =

@@ -27,12 +27,14 @@ use Rattle.pb_state.proofs.Walks.{AllIn}
 use Rattle.pb_confluence.specs.Fixed.{Fixed}
 use Rattle.pb_confluence.specs.Effect.{complete}
 use Rattle.pb_confluence.specs.Together.{by_each, at_place, at_places, in_batch, in_play, at_plays}
-use Rattle.pb_confluence.proofs.Lists.{and_left, and_right, or_false, Every, every_other, every_both, map_left}
+use Rattle.pb_independence.proofs.Tests.{and_left, and_right, or_false}
+use Rattle.pb_confluence.proofs.Lists.{Every, every_other, every_both, map_left}
 use Rattle.pb_confluence.proofs.Once.{IsIdle, Fresh, Solo, IfOnce, solo_fresh, none_runs, until_left, until_stays}
 use Rattle.pb_confluence.proofs.Rows.{IsAfter, AtLeast, RunsAt, LastIn, LastBefore, KnownAt, IsWell, passed, not_at}
 use Rattle.pb_confluence.proofs.Turns.{IsThere, IsTurned, IsAway, after_over, turn_turned, places_later, turned_fresh, least_below, least_after, least_is, jump}
 use Rattle.pb_confluence.proofs.Values.{later_plays, batches_left, closing, in_open, in_closed, rest, value, SoloAt, Holds, HoldsIn, batch_closes}
-use Rattle.pb_confluence.proofs.Starting.{Keeps, opened, open_value}
+use Rattle.pb_state.proofs.Local.{opened}
+use Rattle.pb_confluence.proofs.Starting.{Keeps, open_value}
 
 -- ---- a turn
 -- where some host is at the place, one has settled the task there for all

@@ -12,7 +12,8 @@ use Rattle.pb_all_hosts.specs.Hosts.{change}
 use Rattle.pb_all_hosts.specs.Turn.{has_settled}
 use Rattle.pb_all_hosts.proofs.Giving.{change_on}
 use Rattle.pb_confluence.specs.Together.{until_settled, by_each}
-use Rattle.pb_confluence.proofs.Lists.{Every, or_false, map_changed}
+use Rattle.pb_independence.proofs.Tests.{or_false}
+use Rattle.pb_confluence.proofs.Lists.{Every, map_changed}
 
 abbrev pub IsIdle : HostRow → Type 0
 IsIdle row = row.running ≡ None

@@ -2,18 +2,13 @@
 use Rattle.std.proofs.Common.{◌≡◌, ℕ, zero, suc, ◌+◌, Bool, true, false, ◌&&◌, ◌||◌, not, List, [], ◌∷◌, map, take, cond, refl, sym, ◌∙◌, ap, subst, arith}
 use Rattle.std.proofs.lemmas.Bool.{eqb-true, eq-eqb}
 use Rattle.std.proofs.lemmas.List.Sums.{sum_by-cons}
-use Rattle.std.specs.Prelude.{◌==◌, nat_eq, Option, Some, None, IfSome, option_map, is_some, slice_get, slice_set, if◌then◌else◌}
+use Rattle.std.specs.Prelude.{◌==◌, nat_eq, Option, Some, None, option_map, is_some, slice_get}
 use Rattle.std.specs.List.{list_any}
 use Rattle.std.specs.Option.{option_map_or}
 use Rattle.pb_limits.specs.Counts.{runs_at, running_at}
 use Rattle.pb_ids.specs.declared.numbers.Ticket.{Ticket}
-use Rattle.pb_inventory.specs.InventoryOf.{InventoryOf}
-use Rattle.pb_facts.specs.Facts.{FactsOf, no_facts}
-use Rattle.pb_outcome.specs.declared.item.Item.{Item}
 use Rattle.pb_outcome.specs.declared.job.Report.{Report}
-use Rattle.pb_outcome.specs.declared.outcome.Form.{Form}
 use Rattle.pb_plan.specs.Plan.{PlayOf, PlanOf}
-use Rattle.pb_sight.specs.declared.gifts.Gift.{Gift}
 use Rattle.pb_sight.specs.Results.{items_at}
 use Rattle.pb_strategies.specs.declared.standings.Standing.{Standing}
 use Rattle.pb_strategies.specs.declared.strategy.Strategy.{Strategy}
@@ -21,24 +16,24 @@ use Rattle.pb_strategies.specs.declared.strategy.Strategy.TheVariants.{Linear}
 use Rattle.pb_strategies.specs.Hosts.{is_running as standing_runs, is_next_at, runs_in, same_place}
 use Rattle.pb_strategies.specs.MayStart.{has_room, has_room_at, is_open_once, is_first_at, may_run_once, suits, may_start_at, may_start_from, is_linear}
 use Rattle.pb_one_host.specs.declared.row.Running.{Running}
-use Rattle.pb_one_host.specs.Back.{SameTold}
-use Rattle.pb_one_host.specs.Row.{HostRow, next_place, progressed, sent, reported, items_after, runs_once_at}
+use Rattle.pb_one_host.specs.Row.{HostRow, next_place, progressed, sent, reported, runs_once_at}
 use Rattle.pb_one_host.specs.Runs.{is_running, sends_running, may_send_item, awaits_running, awaits}
 use Rattle.pb_one_host.specs.Standing.{standing}
 use Rattle.pb_all_hosts.specs.Hosts.{at_row, change}
-use Rattle.pb_all_hosts.specs.Giving.{given_to, gifts_at, gifts_by, gifts_of}
 use Rattle.pb_all_hosts.specs.Turn.{has_settled, is_settled_at, is_settled}
-use Rattle.pb_state.specs.Machine.{open_play, learnt_by, facts_at, plan_seen, next_at, may_start_in, may_send_in, may_report_in, start_at, started_in, sent_in, reported_in}
+use Rattle.pb_state.specs.Machine.{open_play, next_at, may_start_in, may_send_in, may_report_in, start_at, started_in, sent_in, reported_in}
 use Rattle.pb_state.specs.Jobs.{row_job, job_in, job_of}
 use Rattle.pb_state.specs.State.{State}
 use Rattle.pb_state.specs.Strategies.{view_of}
 use Rattle.pb_state.specs.Walks.{AreNumbered}
-use Rattle.pb_state.proofs.ReadHosts.{rows_same}
+use Rattle.pb_state.specs.Local.{starts}
+use Rattle.pb_state.proofs.Local.{opened, change_at, start_local, report_rows}
 use Rattle.pb_state.proofs.Stands.{runs_same, linear_is}
 use Rattle.pb_confluence.specs.Fixed.{Fixed, outcome_of}
 use Rattle.pb_confluence.specs.Effect.{outcome_for, started, complete}
-use Rattle.pb_confluence.proofs.Apart.{AreApart}
-use Rattle.pb_confluence.proofs.Lists.{and_left, and_right, none_false, Every, every_at, every_changed, found_in, number_at}
+use Rattle.pb_independence.specs.Apart.{AreApart}
+use Rattle.pb_independence.proofs.Tests.{and_left, and_right, none_false}
+use Rattle.pb_confluence.proofs.Lists.{Every, every_at, every_changed, found_in, number_at}
 use Rattle.pb_confluence.proofs.Once.{Before, Fresh, Solo, IfOnce, on_once, running_first, solo_changed, solo_started, open_fresh, first_before}
 use Rattle.pb_confluence.proofs.Rows.{RunsAt, IsWell, start_whole, send_whole, report_whole, progressed_well, sent_well, reported_well, any_ticket}
 use Rattle.pb_confluence.proofs.Values.{in_open, rest, value, Holds, HoldsIn, row_changed}
@@ -50,10 +45,6 @@ KeepsRows plan f s new = HoldsIn s.place new (open_play plan s) × (rest plan f 
 -- and what any event does
 abbrev pub Keeps : PlanOf → Fixed → State → State → Type 0
 Keeps plan f s t = HoldsIn t.place t.rows (open_play plan t) × (value plan f t ≡ value plan f s)
-
-pub opened : (b : Bool) (found : Option PlayOf) (play : PlayOf) → (if b then found else None) ≡ Some play → (b ≡ true) × (found ≡ Some play)
-opened true found play e = (refl, e)
-opened false found play e = cc
 
 -- the value of a state whose batch is open
 pub open_value : (plan : PlanOf) (f : Fixed) (s : State) (play : PlayOf) (rows : List HostRow) → open_play plan s ≡ Some play
@@ -67,14 +58,6 @@ pub keeps_rows : (plan : PlanOf) (f : Fixed) (s : State) (play : PlayOf) (new : 
     → in_open plan f s.play s.place (record { rows = new; later = s.later }) play ≡ in_open plan f s.play s.place (record { rows = s.rows; later = s.later }) play → KeepsRows plan f s new
 keeps_rows plan f s play new o holds same =
     (subst (λ (found : Option PlayOf). HoldsIn s.place new found) (sym o) holds, open_value plan f s play new o ∙ same ∙ sym (open_value plan f s play s.rows o))
-
--- ---- changes of one row that are alike there
-pub change_at : (rows : List HostRow) (h : ℕ) (f g : HostRow → HostRow) → ((row : HostRow) → slice_get rows h ≡ Some row → f row ≡ g row) → change rows h f ≡ change rows h g
-change_at rows h f g on = by_found (slice_get rows h) refl
-  where
-    by_found : (found : Option HostRow) → slice_get rows h ≡ found → option_map_or (λ (row : HostRow). slice_set rows h (f row)) found rows ≡ option_map_or (λ (row : HostRow). slice_set rows h (g row)) found rows
-    by_found None e = refl
-    by_found (Some row) e = ap (slice_set rows h) (on row e)
 
 pub row_test : (test : HostRow → Bool) (rows : List HostRow) (h : ℕ) (row : HostRow) → at_row test rows h ≡ true → slice_get rows h ≡ Some row → test row ≡ true
 row_test test rows h row e found = sym (ap (λ (o : Option HostRow). option_map_or test o false) found) ∙ e
@@ -163,18 +146,11 @@ none_there p (row ∷ rows) all e =
     none_false (is_running row) (list_any is_running rows) (runs_there p row row.running all.0.0 (omega (arith, on, e))) (none_there p rows all.1 (omega (arith, on, e)))
 
 -- the rows once a host started
-start_facts : (s : State) (h : ℕ) (play : PlayOf) (row : HostRow) → slice_get s.rows h ≡ Some row → facts_at s h ≡ row.facts
-start_facts s h play row there = ap (λ (found : Option HostRow). option_map_or (λ (r : HostRow). r.facts) found no_facts) there
-
 pub start_rows : (plan : PlanOf) (s : State) (h n : ℕ) (play : PlayOf) (p : ℕ) → AreApart plan → slice_get plan.plays n ≡ Some play → AreNumbered 0 s.rows → (start_at plan s h play p).rows ≡ change s.rows h (started plan play p)
 start_rows plan s h n play p apart there numbered =
-    ap (λ (gifts : List Gift). given_to gifts (change s.rows h (progressed plan.inventory play p (items_at (plan_seen plan s) play h (facts_at s h) p)))) (apart.gives n play there p h (items_at (plan_seen plan s) play h (facts_at s h) p))
-    ∙ change_at s.rows h (progressed plan.inventory play p (items_at (plan_seen plan s) play h (facts_at s h) p)) (started plan play p)
-    (λ row found.
-    ap (λ (items : List Item). progressed plan.inventory play p items row)
-    (apart.starts n play there (learnt_by s.rows) h (facts_at s h) p
-    ∙ ap (λ (facts : FactsOf). items_at plan play h facts p) (start_facts s h play row found)
-    ∙ ap (λ (k : ℕ). items_at plan play k row.facts p) (sym (number_at 0 s.rows h row numbered found ∙ (let same : 0 + h ≡ h = omega arith in same)))))
+    start_local plan s h n play p apart there
+    ∙ change_at s.rows h (starts plan play h p) (started plan play p)
+    (λ row found. ap (λ (k : ℕ). progressed plan.inventory play p (items_at plan play k row.facts p) row) (sym (number_at 0 s.rows h row numbered found ∙ (let same : 0 + h ≡ h = omega arith in same))))
 
 -- what was open for all is fresh
 once_fresh : (s : State) (play : PlayOf) (p : ℕ) (rows : List HostRow) → s.place ≡ Some p → s.rows ≡ rows → Every (IsWell (Some p)) rows → runs_once_at play p ≡ true → is_open_once (view_of s play) p ≡ true → Every (Fresh p) rows
@@ -289,31 +265,6 @@ send_keeps plan f s h item attempt ticket play o may holds =
     send_runs plan f s h ticket play at.0 some.0 o at.1 some.1 holds
 
 -- ---- a report
-told_same : (plan : PlanOf) (s : State) (n : ℕ) (play : PlayOf) (row : HostRow) (x : Option Running) → AreApart plan → slice_get plan.plays n ≡ Some play → SameTold (plan_seen plan s) plan play row x
-told_same plan s n play row None apart there = tt
-told_same plan s n play row (Some r) apart there = λ value attempt item. apart.tells n play there (learnt_by s.rows) row.host row.facts r.place value attempt item
-
-told_found : (plan : PlanOf) (s : State) (n : ℕ) (play : PlayOf) (found : Option HostRow) → AreApart plan → slice_get plan.plays n ≡ Some play → IfSome found (λ row. SameTold (plan_seen plan s) plan play row row.running)
-told_found plan s n play None apart there = tt
-told_found plan s n play (Some row) apart there = told_same plan s n play row row.running apart there
-
-gives_run : (plan seen : PlanOf) (n : ℕ) (play : PlayOf) (outcome : Form) (h : ℕ) (row : HostRow) (x : Option Running) → AreApart plan → slice_get plan.plays n ≡ Some play → seen.inventory ≡ plan.inventory
-    → option_map_or (gifts_by seen play outcome h row) x [] ≡ []
-gives_run plan seen n play outcome h row None apart there is = refl
-gives_run plan seen n play outcome h row (Some r) apart there is =
-    ap (λ (inventory : InventoryOf). gifts_at inventory play r.place h (items_after seen play row.host row.facts outcome r)) is
-    ∙ apart.gives n play there r.place h (items_after seen play row.host row.facts outcome r)
-
-gives_none : (plan seen : PlanOf) (n : ℕ) (play : PlayOf) (outcome : Form) (h : ℕ) (found : Option HostRow) → AreApart plan → slice_get plan.plays n ≡ Some play → seen.inventory ≡ plan.inventory
-    → option_map_or (gifts_of seen play outcome h) found [] ≡ []
-gives_none plan seen n play outcome h None apart there is = refl
-gives_none plan seen n play outcome h (Some row) apart there is = gives_run plan seen n play outcome h row row.running apart there is
-
-pub report_rows : (plan : PlanOf) (s : State) (r : Report) (n : ℕ) (play : PlayOf) → AreApart plan → slice_get plan.plays n ≡ Some play → (reported_in plan s r play).rows ≡ change s.rows r.host.0 (reported plan play r.outcome)
-report_rows plan s r n play apart there =
-    ap (λ (gifts : List Gift). given_to gifts (change s.rows r.host.0 (reported (plan_seen plan s) play r.outcome))) (gives_none plan (plan_seen plan s) n play r.outcome r.host.0 (slice_get s.rows r.host.0) apart there refl)
-    ∙ rows_same (plan_seen plan s) plan refl play r.outcome s.rows r.host.0 (slice_get s.rows r.host.0) refl (told_found plan s n play (slice_get s.rows r.host.0) apart there)
-
 -- what is fixed for the job is what is fixed for the row's next job
 pub fixed_row : (plan : PlanOf) (f : Fixed) (s : State) (r : Report) (play : PlayOf) (row : HostRow) → open_play plan s ≡ Some play → slice_get s.rows r.host.0 ≡ Some row → AreNumbered 0 s.rows → r.outcome ≡ outcome_of f (job_of plan s r.host r.ticket)
     → r.outcome ≡ outcome_for plan f s.play play row

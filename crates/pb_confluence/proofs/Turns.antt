@@ -25,7 +25,8 @@ use Rattle.pb_state.proofs.Walked.{place_at, in_if}
 use Rattle.pb_state.proofs.Walks.{IsIn, AllIn}
 use Rattle.pb_confluence.specs.Fixed.{Fixed}
 use Rattle.pb_confluence.specs.Together.{visited, at_place, at_places}
-use Rattle.pb_confluence.proofs.Lists.{Every, every_map, every_other, and_right, or_right_true}
+use Rattle.pb_independence.proofs.Tests.{and_right}
+use Rattle.pb_confluence.proofs.Lists.{Every, every_map, every_other, or_right_true}
 use Rattle.pb_confluence.proofs.Once.{IsIdle, Fresh}
 use Rattle.pb_confluence.proofs.Rows.{IsAfter, AtLeast, LastIn, above_after, answered_after, not_at, is_here}
 

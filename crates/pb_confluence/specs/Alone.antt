@@ -13,7 +13,7 @@ use Rattle.pb_state.specs.Machine.{is_left}
 use Rattle.pb_state.specs.State.{State}
 use Rattle.pb_confluence.specs.Fixed.{Fixed}
 use Rattle.pb_confluence.specs.Effect.{settled, whole}
-use Rattle.pb_confluence.specs.Independent.{is_independent}
+use Rattle.pb_independence.specs.Independent.{is_independent}
 use Rattle.pb_confluence.specs.Confluence.{IsEnd}
 
 -- a host that runs a task ends it, and one that stands somewhere starts the task there and ends it; at its end a host does nothing

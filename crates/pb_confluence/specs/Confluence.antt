@@ -8,7 +8,7 @@ use Rattle.pb_state.specs.Machine.{facts_at, first_state}
 use Rattle.pb_state.specs.Run.{legal_from, state_from, IsFinished, IsRun}
 use Rattle.pb_state.specs.State.{State}
 use Rattle.pb_confluence.specs.Fixed.{Fixed, IsFixed}
-use Rattle.pb_confluence.specs.Independent.{is_independent, are_linear}
+use Rattle.pb_independence.specs.Independent.{is_independent, are_linear}
 use Rattle.pb_confluence.specs.Together.{together}
 
 -- where a trail leads that begins with so many forks

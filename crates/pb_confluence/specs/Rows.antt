@@ -1,13 +1,10 @@
--- Worked runs: whatever the forks, they end in what their hosts reach together; and which plans are independent.
-use Rattle.std.specs.Prelude.{◌≡◌, ℕ, pos, true, false, ◌==◌, List, [], ◌∷◌, map, codes, Some, None, refl, if◌then◌else◌}
+-- Worked runs: whatever the forks, they end in what their hosts reach together.
+use Rattle.std.specs.Prelude.{◌≡◌, ℕ, pos, true, ◌==◌, List, [], ◌∷◌, map, codes, Some, None, refl, if◌then◌else◌}
 use Rattle.pb_batches.specs.declared.serial.Entry.TheVariants.{Number}
-use Rattle.pb_expr_syntax.specs.Tree as tree
 use Rattle.pb_outcome.specs.declared.outcome.Form.{Form}
 use Rattle.pb_outcome.specs.declared.outcome.Form.TheVariants.{Ran, Unreachable as NoAnswer}
-use Rattle.pb_places.specs.Place.{PlaceOf, bare_place}
+use Rattle.pb_places.specs.Place.{PlaceOf}
 use Rattle.pb_plan.specs.Plan.{PlanOf, bare_play, bare_tree}
-use Rattle.pb_play.specs.declared.modules.Module.TheVariants.{DebugVar}
-use Rattle.pb_strategies.specs.declared.strategy.Strategy.TheVariants.{Free}
 use Rattle.pb_one_host.specs.declared.row.Counts.{Counts}
 use Rattle.pb_one_host.specs.FactRows.{on_facts}
 use Rattle.pb_one_host.specs.Row.{HostRow, none_counted}
@@ -17,7 +14,6 @@ use Rattle.pb_state.specs.Machine.{first_state}
 use Rattle.pb_state.specs.BatchRows.{start, send, went, threes, all_three, led_to, is_legal}
 use Rattle.pb_state.specs.BlockRows.{says, runs}
 use Rattle.pb_confluence.specs.Fixed.{Fixed, IsFixed}
-use Rattle.pb_confluence.specs.Independent.{is_independent, are_linear}
 use Rattle.pb_confluence.specs.Together.{together}
 
 abbrev pub comes : ℕ → ℕ → Form → Event
@@ -110,25 +106,3 @@ tried_ends = (refl, refl, refl)
 tried_fixed : IsFixed tried second_time (first_state tried 5 256) (Open ∷ start 0 ∷ send 0 0 ∷ fails_first 0 0 ∷ again 0 1 ∷ comes_then 0 1 ∷ [])
 unfolding on_facts
 tried_fixed = (tt, (tt, (tt, (refl, (tt, (refl, tt))))))
-
--- ---- which plans are independent, and linear
-abbrev names_hosts : PlaceOf
-names_hosts = bare_place (codes "debug") (DebugVar (codes "hostvars") (tree.Name (codes "hostvars")))
-
--- a key behind a dot is no name
-abbrev names_member : PlaceOf
-names_member = bare_place (codes "debug") (DebugVar (codes "x.hostvars") (tree.Member (tree.Name (codes "x")) (codes "hostvars")))
-
-abbrev one_task : PlaceOf → PlanOf
-one_task place = threes 5 (bare_play (codes "all") (bare_tree 0 1 0) (place ∷ []) all_three ∷ [])
-
-independent : (is_independent for_all ≡ true) × (is_independent (fatal 1) ≡ true) × (is_independent (one_task names_member) ≡ true) × (is_independent (one_task names_hosts) ≡ false)
-    × (is_independent (one_task (record says { delegate_facts = true })) ≡ false)
-unfolding on_facts
-independent = (refl, refl, refl, refl, refl)
-
-abbrev free : PlanOf
-free = threes 5 (record (bare_play (codes "all") (bare_tree 0 1 0) (says ∷ []) all_three) { strategy = Free } ∷ [])
-
-linear : (are_linear for_all ≡ true) × (are_linear free ≡ false)
-linear = (refl, refl)

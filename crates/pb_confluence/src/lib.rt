@@ -1,22 +1,16 @@
 //! However many hosts run at once, a run ends in the same.
 //!
 //! For the layers above: each function here does nothing, and its contract is a law of whole runs under fixed outcomes (`specs/Confluence.antt`). Where all
-//! plays are linear and no host knows of another (`specs/Independent.antt`), and what comes of each job is given by the job (`specs/Fixed.antt`), every
+//! plays are linear and no host knows of another (`is_independent`, pb_independence), and what comes of each job is given by the job (`specs/Fixed.antt`), every
 //! finished run that wasn't stopped ends in what the hosts reach together (`specs/Together.antt`), whatever its forks, its choices and its order of reports.
 //! A law has no body that could be wrong, but the definitions on which it rests could be. Each of these wrong ones (`wrong-bodies/`) is refused, by the
 //! law's proof or by a worked row: every host runs a task that runs once; a turn halts nobody; a turn comes where nobody stands; a run that was stopped counts as
-//! whole; a message may name `hostvars`; a failure that is fatal for all leaves hosts alone; a run that ended while a batch was left counts for hosts alone.
+//! whole; a failure that is fatal for all leaves hosts alone; a run that ended while a batch was left counts for hosts alone.
 #![tactic(auto)]
 
+ghost use Rattle.pb_confluence.specs.Ends.{RunsEndAsFixed};
 ghost use Rattle.pb_confluence.specs.Confluence.{EndsTogether, CountsTogether, EndAlike};
 ghost use Rattle.pb_confluence.specs.Alone.{EndsAlone, StrategiesAgree};
-ghost use Rattle.pb_confluence.specs.Local.{EventsAreLocal};
-
-/// In an independent plan a start, a send and a report of a host change this host's row alone, to what the plan, the play, the row and the event make of it.
-#[tactic(auto, using(crate::proofs::Local::events_are_local))]
-pub fn events_are_local()
-    ensures { EventsAreLocal }
-{}
 
 /// A finished run that wasn't stopped, of a linear and independent plan under fixed outcomes, ends in the rows that its hosts reach together.
 #[tactic(auto, using(crate::proofs::Ends::ends_together))]
@@ -46,4 +40,11 @@ pub fn ends_alone()
 #[tactic(auto, using(crate::proofs::Orders::strategies_agree))]
 pub fn strategies_agree()
     ensures { StrategiesAgree }
+{}
+
+/// All of this of one trail, with the plan's own forks: what its facts and its recap are, where what comes of its jobs is fixed. A call that hands out a trail, facts
+/// or a recap cites it, and says so in its own contract (`EndsAsFixed`).
+#[tactic(auto, using(crate::proofs::AsFixed::runs_end_as_fixed))]
+pub fn runs_end_as_fixed()
+    ensures { RunsEndAsFixed }
 {}

@@ -15,10 +15,11 @@ use Rattle.pb_all_hosts.specs.Oldest.{oldest_out}
 use Rattle.pb_state.specs.Run.{IsRun, IsEager, IsQuiet, IsFinished, legal_from, state_from, is_report, is_command}
 use Rattle.pb_state.specs.Once.{IsOnce}
 use Rattle.pb_engine.specs.EngineOf.{EngineOf, Takes}
-use Rattle.pb_engine.specs.Over.{IsOver}
+use Rattle.pb_state.specs.Over.{IsOver}
 use Rattle.pb_events.specs.Lines.{lines_of}
 use Rattle.pb_recap.specs.Recap.{recap}
 use Rattle.pb_recap.specs.Kinds.{status_of}
+use Rattle.pb_confluence.specs.Ends.{EndsAsFixed}
 use Rattle.pb_driver.specs.Taken.{with_more}
 use Rattle.pb_driver.specs.Output.{lines_from, output}
 use Rattle.pb_driver.specs.Ran.{answers_of}
@@ -102,9 +103,10 @@ pub record IsWholeRun (allows gives : Job → Form → Type 0) (has_run : List (
   pub ran : has_run (answers_of plan pool trail)
   pub written : after ≡ with_more before (output plan pool trail)
 
--- the recap and the exit status of a trail
+-- the recap and the exit status of a trail, and what its end is where what comes of its jobs is fixed
 abbrev pub IsTold : PlanOf → ℕ → List Event → List Counts → ℕ → Type 0
-IsTold plan pool trail counts status = (counts ≡ recap plan pool trail) × (status ≡ status_of (recap plan pool trail))
+IsTold plan pool trail counts status =
+    (counts ≡ recap plan pool trail) × (status ≡ status_of (recap plan pool trail)) × EndsAsFixed plan pool trail (state_from plan (first_state plan plan.forks pool) trail)
 
 -- the beginning of a run, as an engine has it, whatever commands were due
 pub record HasBegun (answers : Answers) (engine : EngineOf) : Type 0 where

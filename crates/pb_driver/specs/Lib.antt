@@ -13,3 +13,6 @@ pub mod Written
 pub mod WrittenRows
 pub mod Workers
 pub mod MailRows
+pub mod ByTable
+pub mod SameEnd
+pub mod SameEndRows

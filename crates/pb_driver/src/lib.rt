@@ -7,13 +7,17 @@
 //! once, by commands that are given with the number of reports behind which each is due: they stand there in the trail, and nowhere else.
 //! `drive` says the same of a run whose jobs go to the forks of a pool, and `run_pool` of one with a thread for each runner: there each report answers
 //! a job that was out, which need not be the oldest, and what went to the runners and came from them is the trail's sends and reports, in its order.
+//! Each says beside its recap what facts and counts its trail ends in where what comes of its jobs is fixed. `same_end` takes two trails, under any forks, and tells
+//! the first host that they leave with other facts or counts.
 //! `LineOut` is where lines go.
 #![tactic(auto)]
 
+ghost use Rattle.pb_driver.specs.ByTable.{TablesFixOutcomes};
 ghost use Rattle.pb_driver.specs.Obedient.{CommandsStandBehindReports};
 ghost use Rattle.pb_driver.specs.Written.{LinesStandBehindEvents};
 
 mod alone;
+mod comparing;
 mod crew;
 mod driver;
 mod given;
@@ -22,9 +26,10 @@ mod pooled;
 mod threads;
 mod workers;
 
+pub use comparing::same_end;
 pub use driver::{Ended, RunFault, run_plain};
 pub use given::Given;
-pub use line_out::{Failed, LineOut, Printed, put_all};
+pub use line_out::{Failed, LineOut, Printed, Silent, put_all};
 pub use pooled::drive;
 pub use threads::run_pool;
 
@@ -42,3 +47,10 @@ pub fn lines_stand_behind_events()
 {
     pb_events::events_have_lines();
 }
+
+/// What holds of every run by a table of outcomes: what comes of each job is fixed, by what the table gives for it, if no memory was refused for that. So what
+/// `EndsAsFixed` (pb_confluence) says of runs under fixed outcomes holds of it with no premise left but the plan's.
+#[tactic(auto, using(crate::proofs::ByTable::tables_fix_outcomes))]
+pub fn tables_fix_outcomes()
+    ensures { TablesFixOutcomes }
+{}

@@ -1,8 +1,6 @@
-pub mod Held
 pub mod Members
 pub mod Commands
 pub mod Noted
 pub mod Quiet
 pub mod Runs
-pub mod Stuck
 pub mod Waits

@@ -26,7 +26,7 @@ use Rattle.pb_state.proofs.Readies.{none_start, none_sends_at, ready_either, len
 use Rattle.pb_state.proofs.Stands.{both, none_starts}
 use Rattle.pb_engine.specs.declared.choice.Choice.TheVariants.{Take}
 use Rattle.pb_engine.specs.Choice.{IsChoice, host_of}
-use Rattle.pb_engine.specs.Over.{IsUnfinished, AreUnfinished, IsGoing}
+use Rattle.pb_state.specs.Over.{IsUnfinished, AreUnfinished, IsGoing}
 
 or_left : (a b : Bool) → (a || b) ≡ false → a ≡ false
 or_left true b e = e

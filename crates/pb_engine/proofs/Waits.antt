@@ -1,17 +1,14 @@
 -- Jobs that are out in a run.
-use Rattle.std.proofs.Common.{◌≡◌, ℕ, zero, suc, ◌<◌, Bool, true, false, ◌&&◌, ◌||◌, not, List, [], ◌∷◌, length, refl, ◌∙◌, ap, arith}
-use Rattle.std.specs.Prelude.{◌==◌, Option, Some, None, slice_get, is_some, option_map, unwrap_or, if◌then◌else◌}
+use Rattle.std.proofs.Common.{◌≡◌, ℕ, zero, suc, ◌<◌, Bool, true, false, ◌&&◌, ◌||◌, not, List, [], ◌∷◌, refl, ◌∙◌, ap, arith}
+use Rattle.std.specs.Prelude.{◌==◌, Option, Some, None, slice_get, is_some, option_map, if◌then◌else◌}
 use Rattle.std.specs.List.{list_any}
 use Rattle.std.specs.Option.{option_map_or}
 use Rattle.std.proofs.lemmas.Bool.{lt-ltb, eqb-true}
 use Rattle.pb_ids.specs.declared.numbers.HostNo.{HostNo}
 use Rattle.pb_ids.specs.declared.numbers.Ticket.{Ticket}
-use Rattle.pb_outcome.specs.declared.job.Call.{Call}
 use Rattle.pb_outcome.specs.declared.job.Job.{Job}
 use Rattle.pb_outcome.specs.declared.job.Report.{Report}
 use Rattle.pb_outcome.specs.Items.{next_item}
-use Rattle.pb_tree.specs.Tree.{TreeOf, paths, path_at, size_of}
-use Rattle.pb_tree.proofs.Paths.{length_paths}
 use Rattle.pb_state.specs.declared.event.Event.{Event}
 use Rattle.pb_state.specs.declared.event.Event.TheVariants.{Open, Start, Send, Report as Reported, Turn, Close, Stop, Forks}
 use Rattle.pb_one_host.specs.declared.row.Running.{Running}
@@ -22,15 +19,14 @@ use Rattle.pb_state.specs.State.{State}
 use Rattle.pb_one_host.specs.Runs.{awaits, awaits_running, has_ticket, is_ticket, is_running, item_of, attempt_of, may_send_item, sends_running}
 use Rattle.pb_all_hosts.specs.Hosts.{at_row}
 use Rattle.pb_state.specs.Machine.{possible, item_at, attempt_at, open_play, may_report_in, may_send_in}
-use Rattle.pb_one_host.specs.Calls.{call_in, delegate_in}
-use Rattle.pb_state.specs.Jobs.{AttemptOf, job_of, job_in, row_job, running_job, item_job, placed_job, connector_for, job_with, next_attempt as attempt_of_job}
+use Rattle.pb_state.specs.Jobs.{job_of}
 use Rattle.pb_all_hosts.specs.Oldest.{oldest_out}
 use Rattle.pb_state.specs.Run.{is_move, IsRun}
-use Rattle.pb_one_host.proofs.InOrder.{goes_on_at, has_call}
 use Rattle.pb_all_hosts.proofs.OldestOut.{oldest_is_out}
 use Rattle.pb_laws.specs.JobsOut.{IsOut, IsReportOf}
 use Rattle.pb_laws.proofs.JobsStay.{at_found, report_waits}
-use Rattle.pb_engine.proofs.Held.{IsHeld, IsHeldTask, IsOutBelow, AreHeld, places_in, held_run}
+use Rattle.pb_state.proofs.HasJob.{at_runs, placed_row, row_runs, runs_job}
+use Rattle.pb_state.proofs.Held.{IsHeld, IsHeldTask, IsOutBelow, AreHeld, places_in, held_run}
 use Rattle.pb_engine.proofs.Quiet.{next_alone}
 use Rattle.pb_engine.specs.declared.refusal.Refusal.TheVariants.{UnknownTicket, AlreadyReported, WrongItem}
 use Rattle.pb_engine.specs.declared.engine.Next.TheVariants.{Sent}
@@ -89,27 +85,8 @@ taken_of true true false e = cc
 taken_of true false fit e = cc
 taken_of false waits fit e = cc
 
-row_runs : (test : Running → Bool) (running : Option Running) → option_map_or test running false ≡ true → is_some running ≡ true
-row_runs test None e = cc
-row_runs test (Some r) e = refl
-
-at_runs : (test : HostRow → Bool) → ((row : HostRow) → test row ≡ true → is_running row ≡ true) → (rows : List HostRow) (h : ℕ) → at_row test rows h ≡ true → at_row is_running rows h ≡ true
-at_runs test runs [] h e = cc
-at_runs test runs (row ∷ rows) zero e = runs row e
-at_runs test runs (row ∷ rows) (suc h) e = at_runs test runs rows h e
-
 fits_runs : (s : State) (r : Report) → fits s r ≡ true → at_row is_running s.rows r.host.0 ≡ true
 fits_runs s r e = at_runs (awaits r.ticket r.item r.attempt) (λ row f. row_runs (awaits_running r.ticket r.item r.attempt) row.running f) s.rows r.host.0 e
-
--- a task that runs is at a place
-placed_running : (size sends : ℕ) (running : Option Running) → is_some running ≡ true → IsHeldTask size sends running → 0 < size
-placed_running size sends None e held = cc
-placed_running size sends (Some r) e held = omega (arith, held.0)
-
-placed_row : (size sends : ℕ) (rows : List HostRow) (h : ℕ) → at_row is_running rows h ≡ true → AreHeld size sends rows → 0 < size
-placed_row size sends [] h e held = cc
-placed_row size sends (row ∷ rows) zero e held = placed_running size sends row.running e held.0
-placed_row size sends (row ∷ rows) (suc h) e held = placed_row size sends rows h e held.1
 
 may_report : (s : State) (r : Report) (found : Option PlayOf) → AreHeld (places_in found) s.sends s.rows → fits s r ≡ true → option_map_or (may_report_in s r) found false ≡ true
 may_report s r None held e = absurd (let some = placed_row 0 s.sends s.rows r.host.0 (fits_runs s r e) held in omega (arith, some))
@@ -117,59 +94,6 @@ may_report s r (Some play) held e = e
 
 pub report_possible : (plan : PlanOf) (s : State) (r : Report) → IsHeld plan s → refusal_of s r ≡ None → option_map_or (may_report_in s r) (open_play plan s) false ≡ true
 report_possible plan s r held e = may_report s r (open_play plan s) held.tasks (taken_of (is_sent s r) (is_waited_for s r) (fits s r) e)
-
--- a host that runs has its job
-get_some : {X : Type 0} (xs : List X) (i : ℕ) → i < length xs → is_some (slice_get xs i) ≡ true
-get_some [] i b = absurd (omega (arith, b))
-get_some (x ∷ xs) zero b = refl
-get_some (x ∷ xs) (suc i) b = get_some xs i (omega (arith, b))
-
-row_within : (test : HostRow → Bool) (rows : List HostRow) (h : ℕ) → at_row test rows h ≡ true → h < length rows
-row_within test [] h e = cc
-row_within test (row ∷ rows) zero e = omega arith
-row_within test (row ∷ rows) (suc h) e = let rest = row_within test rows h e in omega (arith, rest)
-
-named_some : (plan : PlanOf) (number : ℕ) (host : HostNo) (ticket : Ticket) (item : AttemptOf) (delegate : Option (List ℕ)) (call : Call) (path : Option (List ℕ)) (name : Option (List ℕ)) → is_some path ≡ true → is_some name ≡ true
-    → is_some (option_map_or (λ (p : List ℕ). option_map (λ (n : List ℕ). job_with number host ticket item call n (unwrap_or delegate n) (connector_for plan.inventory host.0 delegate) p) name) path None) ≡ true
-named_some plan number host ticket item delegate call None name e f = cc
-named_some plan number host ticket item delegate call (Some path) None e f = cc
-named_some plan number host ticket item delegate call (Some path) (Some name) e f = refl
-
-path_some : (tree : TreeOf) (p : ℕ) → p < size_of tree → is_some (path_at tree p) ≡ true
-path_some tree p b = get_some (paths tree) p (rw (length_paths tree.handlers tree.nodes) b)
-
--- the job of an item that has a call
-call_job : (plan : PlanOf) (number : ℕ) (host : HostNo) (ticket : Ticket) (play : PlayOf) (r : Running) (n : ℕ) (call : Call) (found : Option Call) → host.0 < length plan.inventory.hosts → r.place < size_of play.tree → found ≡ Some call → is_some (option_map_or (placed_job plan number host ticket play r.place (attempt_of_job play r n) (delegate_in r.items n)) found None) ≡ true
-call_job plan number host ticket play r n call None b below e = cc
-call_job plan number host ticket play r n call (Some c) b below e =
-    named_some plan number host ticket (attempt_of_job play r n) (delegate_in r.items n) c (path_at play.tree r.place) (slice_get plan.inventory.hosts host.0) (path_some play.tree r.place below) (get_some plan.inventory.hosts host.0 b)
-
-next_job : (plan : PlanOf) (number : ℕ) (host : HostNo) (ticket : Ticket) (play : PlayOf) (r : Running) (n : ℕ) (call : Call) (next : Option ℕ) → host.0 < length plan.inventory.hosts → r.place < size_of play.tree → next ≡ Some n → call_in r.items n ≡ Some call → is_some (option_map_or (item_job plan number host ticket play r) next None) ≡ true
-next_job plan number host ticket play r n call None b below e f = cc
-next_job plan number host ticket play r n call (Some m) b below e f =
-    let same : m ≡ n = cc in
-    call_job plan number host ticket play r m call (call_in r.items m) b below (ap (call_in r.items) same ∙ f)
-
-task_job : (plan : PlanOf) (number sends : ℕ) (host : HostNo) (ticket : Ticket) (play : PlayOf) (running : Option Running) → host.0 < length plan.inventory.hosts → is_some running ≡ true → IsHeldTask (size_of play.tree) sends running → is_some (option_map_or (running_job plan number host ticket play) running None) ≡ true
-task_job plan number sends host ticket play None b e held = cc
-task_job plan number sends host ticket play (Some r) b e held =
-    let next = goes_on_at r.items held.2 in
-    let sent = has_call r.items next.0 next.1 in
-    next_job plan number host ticket play r next.0 sent.0 (next_item r.items) b held.0 next.1 sent.1
-
-row_has_job : (plan : PlanOf) (number sends : ℕ) (host : HostNo) (ticket : Ticket) (play : PlayOf) (rows : List HostRow) (h : ℕ) → host.0 < length plan.inventory.hosts → at_row is_running rows h ≡ true → AreHeld (size_of play.tree) sends rows → is_some (option_map_or (row_job plan number host ticket play) (slice_get rows h) None) ≡ true
-row_has_job plan number sends host ticket play [] h b e held = cc
-row_has_job plan number sends host ticket play (row ∷ rows) zero b e held = task_job plan number sends host ticket play row.running b e held.0
-row_has_job plan number sends host ticket play (row ∷ rows) (suc h) b e held = row_has_job plan number sends host ticket play rows h b e held.1
-
-job_found : (plan : PlanOf) (s : State) (host : HostNo) (ticket : Ticket) (found : Option PlayOf) → host.0 < length plan.inventory.hosts → at_row is_running s.rows host.0 ≡ true → AreHeld (places_in found) s.sends s.rows → is_some (option_map_or (job_in plan s host ticket) found None) ≡ true
-job_found plan s host ticket None b e held = absurd (let some = placed_row 0 s.sends s.rows host.0 e held in omega (arith, some))
-job_found plan s host ticket (Some play) b e held = row_has_job plan s.play s.sends host ticket play s.rows host.0 b e held
-
-pub runs_job : (plan : PlanOf) (s : State) (host : HostNo) (ticket : Ticket) → IsHeld plan s → at_row is_running s.rows host.0 ≡ true → is_some (job_of plan s host ticket) ≡ true
-runs_job plan s host ticket held e =
-    let within = row_within is_running s.rows host.0 e in
-    job_found plan s host ticket (open_play plan s) (omega (arith, within, held.hosts)) e held.tasks
 
 send_runs : (s : State) (h item attempt : ℕ) (ticket : Ticket) (found : Option PlayOf) → option_map_or (may_send_in s h item attempt ticket) found false ≡ true → at_row is_running s.rows h ≡ true
 send_runs s h item attempt ticket None e = cc

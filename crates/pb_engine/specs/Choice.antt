@@ -16,7 +16,7 @@ use Rattle.pb_engine.specs.declared.choice.Choice.TheVariants.{Take, Waiting as 
 use Rattle.pb_engine.specs.declared.engine.Next.{Next}
 use Rattle.pb_engine.specs.declared.engine.Next.TheVariants.{Sent, Moved, Waiting, Finished}
 use Rattle.pb_engine.specs.EngineOf.{EngineOf, Takes, LessWork}
-use Rattle.pb_engine.specs.Over.{IsOver}
+use Rattle.pb_state.specs.Over.{IsOver}
 
 -- a host that sends or starts is one of those that are ready, as the picker chose; for every other event no host is ready, and the picker isn't asked
 abbrev pub IsPicked : {P : Type 0} → (P → List Bool → ℕ → P → Type 0) → P → P → List Bool → Event → Type 0

@@ -3,7 +3,7 @@
 ghost use Rattle.std.specs.Prelude.{◌≡◌, ◌<◌, length, slice_get, Some, true};
 ghost use Rattle.pb_state.specs.Machine.{possible, ready};
 ghost use Rattle.pb_engine.specs.Choice.{IsChoice, host_of};
-ghost use Rattle.pb_engine.specs.Over.{IsPlaced, IsGoing};
+ghost use Rattle.pb_state.specs.Over.{IsPlaced, IsGoing};
 
 use crate::picker::Picker;
 use pb_ids::{HostNo, Ticket};
@@ -23,7 +23,7 @@ pub enum Choice {
 
 /// An event that the machine takes by itself, if there is one: a send or a start where a host is ready, else a turn, a
 /// close or an open. `ready` is a set of as many hosts as the state has, whose members don't matter.
-#[tactic(auto, using(crate::proofs::Quiet::quiet, crate::proofs::Quiet::finished_now, crate::proofs::Quiet::length_ready, crate::proofs::Quiet::picked, crate::proofs::Stuck::over_now))]
+#[tactic(auto, using(crate::proofs::Quiet::quiet, crate::proofs::Quiet::finished_now, crate::proofs::Quiet::length_ready, crate::proofs::Quiet::picked, pb_state::proofs::Stuck::over_now))]
 pub fn choose<P: Picker>(
     plan: &Plan,
     state: &EngineState,

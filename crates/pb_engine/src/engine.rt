@@ -8,6 +8,7 @@ ghost use Rattle.pb_state.specs.Once.{IsOnce};
 ghost use Rattle.pb_state.specs.Run.{IsRun, is_command, IsFinished};
 ghost use Rattle.pb_state.specs.Work.{work};
 ghost use Rattle.pb_recap.specs.Recap.{recap};
+ghost use Rattle.pb_confluence.specs.Ends.{EndsAsFixed};
 ghost use Rattle.pb_laws.specs.Kept.{KeepsLaws};
 ghost use Rattle.pb_engine.specs.EngineOf.{EngineOf, Takes, LessWork, IsSound, engine_of};
 ghost use Rattle.pb_engine.specs.Notes.{noted_at};
@@ -199,17 +200,21 @@ impl Engine {
     }
 
     /// What a host has learnt: the layers of variables of its facts, and of what was set and registered for it.
-    #[tactic(auto, using(crate::proofs::Held::host_has_row))]
+    #[tactic(auto, using(pb_state::proofs::Held::host_has_row))]
     pub fn facts(&self, host: HostNo) -> &Facts
         requires { host.0 < length self.now.plan.inventory.hosts }
-        ensures { result.now ≡ facts_at self.now.state host.0 }
+        ensures value { result.now ≡ facts_at self.now.state host.0 }
+
+        // At the end of a run whose outcomes are fixed these are what the hosts reach together, or alone.
+        ensures ends { EndsAsFixed self.now.plan self.now.pool self.now.trail self.now.state }
     {
+        pb_confluence::runs_end_as_fixed();
         self.state.facts(host)
     }
 
     /// The handlers that are pending on a host: of each handler of the open play, by its number, whether a task of the open batch notified it there, and
     /// it hasn't run since. Where the host is in no open batch there are none.
-    #[tactic(auto, using(crate::proofs::Held::host_has_row))]
+    #[tactic(auto, using(pb_state::proofs::Held::host_has_row))]
     pub fn pending(&self, host: HostNo) -> &[bool]
         requires { host.0 < length self.now.plan.inventory.hosts }
         ensures value { result.now ≡ pending_at self.now.state host.0 }
@@ -244,8 +249,12 @@ impl Engine {
     /// # Errors
     /// `AllocError` where memory was refused.
     pub fn recap(&self, alloc: Global) -> Result<Recap, AllocError>
-        ensures { IfOk result (λ r. r ≡ recap self.now.plan self.now.pool self.now.trail) }
+        ensures value { IfOk result (λ r. r ≡ recap self.now.plan self.now.pool self.now.trail) }
+
+        // At the end of a run whose outcomes are fixed it is what the hosts count together, or alone.
+        ensures ends { EndsAsFixed self.now.plan self.now.pool self.now.trail self.now.state }
     {
+        pb_confluence::runs_end_as_fixed();
         Recap::of(alloc, &self.state)
     }
 
@@ -266,7 +275,7 @@ impl Engine {
     ghost use Rattle.pb_state.specs.Run.{is_move};
 
     /// What to take next.
-    #[tactic(auto, using(crate::proofs::Stuck::placed_run, crate::proofs::Held::going_run))]
+    #[tactic(auto, using(pb_state::proofs::Stuck::placed_run, pb_state::proofs::Held::going_run))]
     fn choose<P: Picker>(&mut self, picker: &mut P) -> Choice
         ensures choice { IsChoice self.old.plan self.old.state P.picks picker.old picker.new result }
         ensures same { self.new ≡ self.old }

@@ -5,6 +5,7 @@ use Rattle.pb_state.specs.declared.event.Event.{Event}
 use Rattle.pb_state.specs.Machine.{first_state}
 use Rattle.pb_state.specs.Run.{IsFinished, legal_from, state_from}
 use Rattle.pb_recap.specs.Recap.{recap}
+use Rattle.pb_confluence.specs.Ends.{EndsAsFixed}
 use Rattle.pb_laws.specs.History.{Happening, history}
 use Rattle.pb_laws.specs.Laws.{holds_from, so_far, own_hosts, within_forks, in_order, places_rise, out_is_out, have_walked, all_closed, jobs_in_order, all_answered, attempts_in_order, add_up, status_tells}
 
@@ -38,6 +39,8 @@ pub record KeepsLaws (plan : PlanOf) (pool : ℕ) (trail : List Event) : Type 0 
   -- the counts of the recap come to the tasks that ended, and the exit status tells whether one of them failed or a host was out of reach
   pub counts : add_up 0 (recap plan pool trail) (so_far [] (history plan plan.forks pool trail)) ≡ true
   pub status : status_tells (recap plan pool trail) ≡ true
+  -- where what comes of each job is fixed, the facts and the recap at its end are told by plan and outcomes alone
+  pub fixed : EndsAsFixed plan pool trail (state_from plan (first_state plan plan.forks pool) trail)
 
 -- in every legal run of every plan, whether it goes on to its end or not
 abbrev pub RunsKeepLaws : Type 0

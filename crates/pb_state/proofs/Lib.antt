@@ -15,3 +15,7 @@ pub mod Rising
 pub mod Walks
 pub mod MaySend
 pub mod TurnedBatch
+pub mod Stuck
+pub mod Held
+pub mod HasJob
+pub mod Local

@@ -15,3 +15,5 @@ pub mod BatchRows
 pub mod DelegationRows
 pub mod CouplingRows
 pub mod AttemptRows
+pub mod Over
+pub mod Local

@@ -319,6 +319,7 @@ impl EngineState {
     ghost use Rattle.pb_all_hosts.specs.Hosts.{change};
     ghost use Rattle.pb_state.specs.Machine.{after, opened_by, goes_on, next_play, begins, begins_at, with_place, next_at, started_in, start_at, start_with, sent_in, reported_in, reported_seen, turned_in, moved, batch_of, with_batch, closed, stopped, with_forks, first_state, ready, possible, may_open, may_start_in, may_send_in, may_report_in, may_turn_in, open_play};
     ghost use Rattle.pb_all_hosts.specs.Turn.{turned};
+    ghost use Rattle.pb_state.specs.Local.{IsLocal, MovesByPlace};
     ghost use Rattle.pb_state.specs.Run.{is_command};
     ghost use Rattle.pb_state.specs.Work.{work};
 
@@ -326,13 +327,18 @@ impl EngineState {
     ///
     /// # Errors
     /// `Illegal` where the event isn't possible in this state, `Memory` where memory was refused.
-    #[tactic(auto, using(crate::proofs::Steps::hosts_stay, crate::proofs::Steps::forks_stay, crate::proofs::WorkFalls::falls_if))]
+    #[tactic(auto, using(crate::proofs::Steps::hosts_stay, crate::proofs::Steps::forks_stay, crate::proofs::WorkFalls::falls_if, crate::proofs::Local::is_local, crate::proofs::Local::moves_by_place))]
     pub fn step(&mut self, plan: &Plan, event: &Event) -> Result<(), StepFault>
         ensures ok { OnOk result ((possible plan.now self.old event.now ≡ true) × (self.new ≡ after plan.now self.old event.now)) }
         ensures illegal { result ≡ Err StepFault.Illegal → possible plan.now self.old event.now ≡ false }
         ensures err { OnErr result (self.new ≡ self.old) }
 
         ensures hosts { length self.new.rows ≡ length self.old.rows }
+
+        // In a plan whose hosts know nothing of each other an event of one host changes its row alone; and rows, play, batch and place say what an opening, a turn and a
+        // closing do. Forks are nothing to either.
+        ensures local { OnOk result (IsLocal plan.now self.old self.new event.now) }
+        ensures shared { OnOk result (MovesByPlace plan.now self.old self.new event.now) }
 
         // Each step but a command leaves less to do.
         ensures work { OnOk result (0 < self.old.forks → is_command event.now ≡ false → work plan.now self.new < work plan.now self.old) }

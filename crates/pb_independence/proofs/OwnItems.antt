@@ -30,8 +30,8 @@ use Rattle.pb_reach.proofs.Alike.{then_alike, eval_alike, rendered_apart}
 use Rattle.pb_reach.specs.Told.{until_of}
 use Rattle.pb_reach.proofs.OwnItems.{settled_own, tried_own}
 use Rattle.pb_reach.proofs.Tests.{neither}
-use Rattle.pb_confluence.specs.Independent.{words_name, module_names, loop_names, delegate_names}
-use Rattle.pb_confluence.proofs.Scopes.{layers_name, scopes_apart}
+use Rattle.pb_independence.specs.Independent.{words_name, module_names, loop_names, delegate_names}
+use Rattle.pb_independence.proofs.Scopes.{layers_name, scopes_apart}
 
 -- conditions, and what is read of a module
 holds_own : (word : List ℕ) (scope other : List Map) → AreApart word scope other → (cs : List Tree) → in_trees word (trees_of cs) ≡ false → holds scope cs ≡ holds other cs

@@ -26,7 +26,7 @@ use Rattle.pb_state.proofs.Opening.{open_case}
 use Rattle.pb_state.proofs.Readies.{none_start, none_sends}
 use Rattle.pb_state.proofs.Stands.{both, linear_place}
 use Rattle.pb_all_hosts.proofs.Turning.{turned_idle}
-use Rattle.pb_engine.specs.Over.{has_more, IsOver, IsPlaced, IsPlacedBy, IsPlacedIn}
+use Rattle.pb_state.specs.Over.{has_more, IsOver, IsPlaced, IsPlacedBy, IsPlacedIn}
 
 and_left : (a b : Bool) → (a && b) ≡ true → a ≡ true
 and_left true b e = refl

@@ -35,7 +35,7 @@ use Rattle.pb_state.proofs.Opening.{open_case, rows_case}
 use Rattle.pb_state.proofs.Stands.{stands_at, start_stands}
 use Rattle.pb_all_hosts.proofs.Turning.{Goes, goes_running, turned_by_case, turned_hosts}
 use Rattle.pb_state.proofs.Walks.{IsIn, AllIn, IsOfPlan, step_of, first_of}
-use Rattle.pb_engine.specs.Over.{IsUnfinished, AreUnfinished, IsGoing}
+use Rattle.pb_state.specs.Over.{IsUnfinished, AreUnfinished, IsGoing}
 
 and_left : (a b : Bool) → (a && b) ≡ true → a ≡ true
 and_left true b e = refl

@@ -42,11 +42,11 @@ use Rattle.pb_sight.specs.Seen.{with_hosts}
 use Rattle.pb_sight.proofs.ReadHosts.{items_of_place, told_of_place}
 use Rattle.pb_one_host.specs.Row.{task_at}
 use Rattle.pb_all_hosts.specs.Giving.{gifts_at}
-use Rattle.pb_confluence.specs.Independent.{module_names, loop_names, map_names, task_names, role_names, delegate_names, place_names, play_names, variable_names, group_names, host_names, inventory_names, plan_names, play_delegates, is_independent}
-use Rattle.pb_confluence.proofs.Apart.{AreApart}
-use Rattle.pb_confluence.proofs.Lists.{and_left, and_right, or_false, none_false}
-use Rattle.pb_confluence.proofs.OwnItems.{Unread, items_own, told_own}
-use Rattle.pb_confluence.proofs.Scopes.{layers_name}
+use Rattle.pb_independence.specs.Independent.{module_names, loop_names, map_names, task_names, role_names, delegate_names, place_names, play_names, variable_names, group_names, host_names, inventory_names, plan_names, play_delegates, is_independent}
+use Rattle.pb_independence.specs.Apart.{AreApart}
+use Rattle.pb_independence.proofs.Tests.{and_left, and_right, or_false, none_false}
+use Rattle.pb_independence.proofs.OwnItems.{Unread, items_own, told_own}
+use Rattle.pb_independence.proofs.Scopes.{layers_name}
 
 not_is : (b : Bool) → not b ≡ true → b ≡ false
 not_is true e = cc

@@ -1,0 +1,4 @@
+pub mod Tests
+pub mod Scopes
+pub mod OwnItems
+pub mod Independence

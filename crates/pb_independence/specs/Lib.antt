@@ -1,0 +1,3 @@
+pub mod Independent
+pub mod Apart
+pub mod Rows
