@@ -4,3 +4,5 @@ pub mod Running
 pub mod RolePaths
 pub mod Trails
 pub mod Ending
+pub mod Alike
+pub mod Compared

@@ -28,7 +28,8 @@ use Rattle.pb_command_line.specs.declared.words.Purpose.TheVariants.{Run, CheckS
 use Rattle.pb_cli.specs.declared.playing.Played.{Played}
 use Rattle.pb_cli.specs.declared.playing.Wanted.{Wanted}
 use Rattle.pb_cli.specs.Audited.{IsVerdict}
-use Rattle.pb_cli.specs.Played.{IsRunBy, IsCutBy, IsTabled, IsTabledCut, IsPlayed, IsPlayedTo, HasTrail, IsRunOrAudited, IsRunOrAuditedTo, IsGivenFor, IsGivenUnless, is_forbidden, IsUnbegun, Starts, allows_all, commands_for}
+use Rattle.pb_driver.specs.ByTable.{allows_all}
+use Rattle.pb_cli.specs.Played.{IsRunBy, IsCutBy, IsTabled, IsTabledCut, IsPlayed, IsPlayedTo, HasTrail, IsRunOrAudited, IsRunOrAuditedTo, IsGivenFor, IsGivenUnless, is_forbidden, IsUnbegun, Starts, commands_for}
 use Rattle.pb_cli.specs.Done.{IsShown, IsUntouched}
 
 -- one runner's whole run is one

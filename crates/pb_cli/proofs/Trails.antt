@@ -1,6 +1,9 @@
 -- The trails that are handed out are legal.
 use Rattle.std.proofs.Common.{◌≡◌, ℕ, Bool, true, false, List, Option, Some, None, inl, inr, refl, subst}
+use Rattle.pb_plan.specs.Bundle.{IsPlanOf}
 use Rattle.pb_plan.specs.Plan.{PlanOf}
+use Rattle.pb_plan.specs.declared.bundle.Bundle.{Bundle}
+use Rattle.pb_plan.proofs.OnePlan.{plans_are_one}
 use Rattle.pb_state.specs.declared.event.Event.{Event}
 use Rattle.pb_driver.specs.declared.driver.RunFault.{RunFault}
 use Rattle.pb_audit.specs.Audit.{is_legal}
@@ -67,10 +70,15 @@ of_stopped_unless : (forbidden : Bool) (wanted : Wanted) (plan : PlanOf) (starte
 of_stopped_unless true wanted plan started started_after fault trail before after unbegun = no_trail (Some trail) trail unbegun.2 refl
 of_stopped_unless false wanted plan started started_after fault trail before after cut = of_stopped wanted plan started started_after fault trail before after cut
 
+-- so it is under every plan of the bundle
+under_any : (bundle : Bundle) (one plan : PlanOf) (trail : List Event) → IsPlanOf bundle one → IsPlanOf bundle plan → is_legal one trail ≡ true → is_legal plan trail ≡ true
+under_any bundle one plan trail planned also legal = subst (λ (p : PlanOf). is_legal p trail ≡ true) (plans_are_one bundle one plan planned also) legal
+
 pub trails_are_legal : TrailsAreLegal
 trails_are_legal = (
-  λ bundle wanted started started_after out_before out_after err_before err_after failures failures_after played trail shown is.
-      (shown.0, shown.1, of_given_unless (is_forbidden wanted shown.0) wanted shown.0 started started_after out_before out_after played trail shown.2 is),
-  λ bundle wanted fault started started_after out_before out_after trail stopped.
-      (stopped.0, stopped.1, of_stopped_unless (is_forbidden wanted stopped.0) wanted stopped.0 started started_after fault trail out_before out_after stopped.2),
+  λ bundle wanted started started_after out_before out_after err_before err_after failures failures_after played trail shown is plan planned.
+      under_any bundle shown.0 plan trail shown.1 planned (of_given_unless (is_forbidden wanted shown.0) wanted shown.0 started started_after out_before out_after played trail shown.2 is),
+  λ bundle wanted fault started started_after out_before out_after trail stopped plan planned.
+      under_any bundle stopped.0 plan trail stopped.1 planned
+      (of_stopped_unless (is_forbidden wanted stopped.0) wanted stopped.0 started started_after fault trail out_before out_after stopped.2),
 )

@@ -20,6 +20,7 @@ use Rattle.pb_command_line.specs.declared.words.WordsFault.TheVariants.{Help}
 use Rattle.pb_command_line.specs.CommandLine.{Asks, IsRefused}
 use Rattle.pb_cli.specs.declared.playing.Played.{Played}
 use Rattle.pb_cli.specs.declared.playing.Wanted.{Wanted}
+use Rattle.pb_cli.specs.Again.{IsToldAgain}
 use Rattle.pb_cli.specs.Audited.{IsBadTrail}
 use Rattle.pb_cli.specs.RoleFiles.{AreRolesIn}
 use Rattle.pb_cli.specs.Played.{IsBadTable, is_forbidden, IsGivenUnless, IsGivenToUnless, Starts}
@@ -78,10 +79,14 @@ abbrev pub IsShown : Bundle → Wanted → (started started_after : Starts) → 
 IsShown bundle wanted started started_after out_before out_after err_before err_after failures failures_after played =
     (plan : PlanOf) × IsPlanOf bundle plan × IsGivenUnless (is_forbidden wanted plan) wanted plan started started_after out_before out_after played × IsWarned plan.warnings err_before err_after failures failures_after
 
--- the same, told by this exit status
-abbrev pub IsShownAs : (status : ℕ) → Bundle → Wanted → (started started_after : Starts) → Option (List ℕ) → Option (List ℕ) → Option (List ℕ) → Option (List ℕ) → ℕ → ℕ → Type 0
-IsShownAs status bundle wanted started started_after out_before out_after err_before err_after failures failures_after =
-    (played : Played) × IsShown bundle wanted started started_after out_before out_after err_before err_after failures failures_after played × (played.status ≡ status)
+-- the same, told by this exit status; and then it was told whether a run with other forks ends in the same, where that is asked for
+pub record IsShownAs (status : ℕ) (bundle : Bundle) (wanted : Wanted) (same_under : Option ℕ) (started started_after : Starts) (out_before out_after err_before err_after : Option (List ℕ)) (failures failures_after : ℕ) : Type 0 where
+  pub played : Played
+  pub err_shown : Option (List ℕ)
+  pub failures_shown : ℕ
+  pub shown : IsShown bundle wanted started started_after out_before out_after err_before err_shown failures failures_shown played
+  pub told : played.status ≡ status
+  pub again : IsToldAgain same_under played.trail bundle wanted err_shown err_after failures_shown failures_after
 
 -- a bundle has a plan, and what it is made for couldn't go on: memory was refused before anything was started or written, or no warning is a fault and a beginning of it was done; the trail is that of the run, where one
 -- began
@@ -89,15 +94,15 @@ abbrev pub IsStopped : Bundle → Wanted → RunFault → (trail : Option (List 
 IsStopped bundle wanted fault trail started started_after out_before out_after =
     (plan : PlanOf) × IsPlanOf bundle plan × IsGivenToUnless (is_forbidden wanted plan) wanted plan started started_after fault trail out_before out_after
 
--- of each bundle's run that is whole the trail that is handed out is legal under a plan of the bundle, and so is that of a run that couldn't go on
+-- of each bundle's run that is whole the trail that is handed out is legal under the bundle's plan, of which there is one, and so is that of a run that couldn't go on
 abbrev pub TrailsAreLegal : Type 0
 TrailsAreLegal =
     ((bundle : Bundle) (wanted : Wanted) (started started_after : Starts) (out_before out_after err_before err_after : Option (List ℕ)) (failures failures_after : ℕ) (played : Played) (trail : List Event)
     → IsShown bundle wanted started started_after out_before out_after err_before err_after failures failures_after played → played.trail ≡ Some trail
-    → (plan : PlanOf) × IsPlanOf bundle plan × (is_legal plan trail ≡ true))
+    → (plan : PlanOf) → IsPlanOf bundle plan → is_legal plan trail ≡ true)
     × ((bundle : Bundle) (wanted : Wanted) (fault : RunFault) (started started_after : Starts) (out_before out_after : Option (List ℕ)) (trail : List Event)
     → IsStopped bundle wanted fault (Some trail) started started_after out_before out_after
-    → (plan : PlanOf) × IsPlanOf bundle plan × (is_legal plan trail ≡ true))
+    → (plan : PlanOf) → IsPlanOf bundle plan → is_legal plan trail ≡ true)
 
 -- what a request asks for was done, with a bundle of it
 pub record IsDone (request : Request) (started started_after : Starts) (out_before out_after err_before err_after : Option (List ℕ)) (failures failures_after : ℕ) (status : ℕ) : Type 0 where
@@ -106,7 +111,7 @@ pub record IsDone (request : Request) (started started_after : Starts) (out_befo
   pub asked : IsBundleOf request bundle
   pub wants : IsWantedBy request wanted
   pub short : is_too_long wanted.outcomes ≡ false
-  pub shown : IsShownAs status bundle wanted started started_after out_before out_after err_before err_after failures failures_after
+  pub shown : IsShownAs status bundle wanted request.same_under started started_after out_before out_after err_before err_after failures failures_after
 
 -- nothing was started, and nothing written on standard output
 abbrev pub IsUntouched : (started started_after : Starts) → (out_before out_after : Option (List ℕ)) → Type 0
@@ -117,20 +122,20 @@ abbrev pub IsCutShort : Bundle → Wanted → (started started_after : Starts) �
 IsCutShort bundle wanted started started_after out_before out_after out_failures out_failures_after =
     (fault : RunFault) × (trail : Option (List Event)) × IsStopped bundle wanted fault trail started started_after out_before out_after × (fault ≡ Write → out_failures_after ≡ one_more out_failures)
 
--- what a bundle is for was done whole, and the trail of its run, for which a file is named, couldn't be written there
-pub record IsUnkept (bundle : Bundle) (wanted : Wanted) (path : Option (List ℕ)) (started started_after : Starts) (out_before out_after err_before : Option (List ℕ)) (failures : ℕ) : Type 0 where
-  pub named : is_some path ≡ true
+-- what a bundle is for was done whole, and the trail of its run, for which a file is named, couldn't be written there; or memory was refused for the run that was to be made once more
+pub record IsUnkept (bundle : Bundle) (wanted : Wanted) (path : Option (List ℕ)) (same_under : Option ℕ) (started started_after : Starts) (out_before out_after err_before : Option (List ℕ)) (failures : ℕ) : Type 0 where
+  pub asked : (is_some path ≡ true) ⊎ (is_some same_under ≡ true)
   pub played : Played
   pub run : is_some played.trail ≡ true
   pub err_warned : Option (List ℕ)
   pub failures_warned : ℕ
   pub shown : IsShown bundle wanted started started_after out_before out_after err_before err_warned failures failures_warned played
 
--- it couldn't go on, or its trail couldn't be kept
-abbrev pub IsCutOrUnkept : Bundle → Wanted → (path : Option (List ℕ)) → (started started_after : Starts) → (out_before out_after err_before : Option (List ℕ)) → (out_failures out_failures_after failures : ℕ) → Type 0
-IsCutOrUnkept bundle wanted path started started_after out_before out_after err_before out_failures out_failures_after failures =
+-- it couldn't go on, or its trail couldn't be kept, or another run not be made
+abbrev pub IsCutOrUnkept : Bundle → Wanted → (path : Option (List ℕ)) → (same_under : Option ℕ) → (started started_after : Starts) → (out_before out_after err_before : Option (List ℕ)) → (out_failures out_failures_after failures : ℕ) → Type 0
+IsCutOrUnkept bundle wanted path same_under started started_after out_before out_after err_before out_failures out_failures_after failures =
     IsCutShort bundle wanted started started_after out_before out_after out_failures out_failures_after
-    ⊎ IsUnkept bundle wanted path started started_after out_before out_after err_before failures
+    ⊎ IsUnkept bundle wanted path same_under started started_after out_before out_after err_before failures
 
 -- the same of what a request asks for
 pub record IsBroken (request : Request) (started started_after : Starts) (out_before out_after err_before : Option (List ℕ)) (out_failures out_failures_after failures : ℕ) : Type 0 where
@@ -139,7 +144,7 @@ pub record IsBroken (request : Request) (started started_after : Starts) (out_be
   pub asked : IsBundleOf request bundle
   pub wants : IsWantedBy request wanted
   pub short : is_too_long wanted.outcomes ≡ false
-  pub cut : IsCutOrUnkept bundle wanted request.trail started started_after out_before out_after err_before out_failures out_failures_after failures
+  pub cut : IsCutOrUnkept bundle wanted request.trail request.same_under started started_after out_before out_after err_before out_failures out_failures_after failures
 
 -- a call for help is among what the words are refused for, and a text was put out; the clause doesn't say which text
 abbrev pub IsHelped : List (List ℕ) → Option (List ℕ) → Option (List ℕ) → ℕ → Type 0

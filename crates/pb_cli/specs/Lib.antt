@@ -7,3 +7,4 @@ pub mod Played
 pub mod Warned
 pub mod Done
 pub mod RoleFiles
+pub mod Again

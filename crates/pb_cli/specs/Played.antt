@@ -1,8 +1,6 @@
 -- What playing a bundle means.
-use Rattle.std.specs.Prelude.{◌≡◌, ◌⊎◌, ⊤, ℕ, Bool, true, false, ◌&&◌, List, [], ◌∷◌, ◌++◌, length, Option, Some, None, Ok, Err, codes}
-use Rattle.pb_outcome.specs.declared.job.Job.{Job}
+use Rattle.std.specs.Prelude.{◌≡◌, ◌⊎◌, ℕ, Bool, true, false, ◌&&◌, List, [], ◌∷◌, ◌++◌, length, Option, Some, None, Ok, Err, codes}
 use Rattle.pb_outcome.specs.declared.job.Report.{Report}
-use Rattle.pb_outcome.specs.declared.outcome.Form.{Form}
 use Rattle.pb_runner.specs.declared.fault.TableFault.{TableFault}
 use Rattle.pb_runner.specs.declared.table.Table.{Table}
 use Rattle.pb_runner.specs.Launch.{Launch}
@@ -20,6 +18,7 @@ use Rattle.pb_engine.specs.declared.command.Command.TheVariants.{Stop}
 use Rattle.pb_driver.specs.declared.driver.RunFault.{RunFault}
 use Rattle.pb_driver.specs.declared.driver.RunFault.TheVariants.{Memory, Closed}
 use Rattle.pb_driver.specs.declared.given.Given.{Given}
+use Rattle.pb_driver.specs.ByTable.{allows_all}
 use Rattle.pb_driver.specs.Cut.{IsPart, IsCut}
 use Rattle.pb_driver.specs.Driven.{Answers, IsAnswer, IsBegunBy, IsWhole, IsWorkersAnswer}
 use Rattle.pb_driver.specs.Ran.{IsRanTo, answers_of}
@@ -32,10 +31,6 @@ use Rattle.pb_cli.specs.declared.playing.Played.{Played}
 use Rattle.pb_cli.specs.declared.playing.Wanted.{Wanted}
 use Rattle.pb_cli.specs.Audited.{IsAudited, IsAuditCut}
 use Rattle.pb_cli.specs.Listing.{listing}
-
--- a table may give every outcome
-abbrev pub allows_all : Job → Form → Type 0
-allows_all job outcome = ⊤
 
 -- what a run is told: to stop behind so many reports, or nothing
 abbrev pub commands_for : (stop_after : Option ℕ) → List Given

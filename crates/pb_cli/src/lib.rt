@@ -6,6 +6,7 @@
 //! byte over a limit; `message` and `file_message` are the texts of faults for standard error.
 #![tactic(auto)]
 
+pub mod again;
 mod auditing;
 pub mod files;
 pub mod listing;

@@ -21,7 +21,7 @@ use crate::workers::run_local;
 use pb_audit::{TrailFault, read_trail};
 use pb_command_line::words::Purpose;
 use pb_driver::{Ended, Given, LineOut, RunFault, put_all, run_plain};
-use pb_engine::{Command, Lowest};
+use pb_engine::{Command, Lowest, Picker};
 use pb_runner::fault::TableFault;
 use pb_runner::launcher::Launcher;
 use pb_runner::runner::Runner;
@@ -90,11 +90,12 @@ pub enum PlayFault {
 
 /// Runs a plan by this runner, with these commands, and with its lines on a writer. It answers the exit status and the events.
 #[tactic(auto, using(crate::proofs::Running::run_by))]
-fn run_given<N: Runner, O: LineOut>(
+fn run_given<N: Runner, P: Picker, O: LineOut>(
     alloc: Global,
     plan: Plan,
     commands: &[Given],
     runner: &mut N,
+    picker: &mut P,
     out: &mut O,
 ) -> Result<(u8, Items<Event>), (RunFault, Items<Event>)>
     ensures run { IfOk result (λ ran. IsRunBy (IsAnswer N.allows (N.gives runner.old)) plan 256 commands.now ran.1 (O.taken out.old) (O.taken out.new) ran.0) }
@@ -105,7 +106,7 @@ fn run_given<N: Runner, O: LineOut>(
 {
     pb_laws::runs_keep_laws();
     pb_driver::lines_stand_behind_events();
-    match run_plain(alloc, plan, runner, &mut Lowest, commands, out) {
+    match run_plain(alloc, plan, runner, picker, commands, out) {
         Ok(
             Ended {
                 trail,
@@ -121,11 +122,12 @@ fn run_given<N: Runner, O: LineOut>(
 }
 
 /// Runs a plan by this runner, with its lines on a writer, and stops it behind so many reports, if that is asked for.
-fn run_by<N: Runner, O: LineOut>(
+pub(crate) fn run_by<N: Runner, P: Picker, O: LineOut>(
     alloc: Global,
     plan: Plan,
     stop_after: Option<u32>,
     runner: &mut N,
+    picker: &mut P,
     out: &mut O,
 ) -> Result<(u8, Items<Event>), (RunFault, Items<Event>)>
     ensures run { IfOk result (λ ran. IsRunBy (IsAnswer N.allows (N.gives runner.old)) plan 256 (commands_for stop_after) ran.1 (O.taken out.old) (O.taken out.new) ran.0) }
@@ -137,9 +139,16 @@ fn run_by<N: Runner, O: LineOut>(
     match stop_after {
         Some(after) => {
             let command = Command::Stop;
-            run_given(alloc, plan, &[Given { after, command }], runner, out)
+            run_given(
+                alloc,
+                plan,
+                &[Given { after, command }],
+                runner,
+                picker,
+                out,
+            )
         }
-        None => run_given(alloc, plan, &[], runner, out),
+        None => run_given(alloc, plan, &[], runner, picker, out),
     }
 }
 
@@ -162,7 +171,7 @@ fn run_tabled<O: LineOut>(
         Ok(runner) => runner,
         Err(fault) => return Err(PlayFault::Outcomes(fault)),
     };
-    match run_by(alloc, plan, stop_after, &mut runner, out) {
+    match run_by(alloc, plan, stop_after, &mut runner, &mut Lowest, out) {
         Ok((status, trail)) => Ok(Played {
             status,
             trail: Some(trail),
@@ -405,8 +414,7 @@ pub fn play_bundle<
 }
 
 /// What holds of each trail that `play_bundle` hands out, be it of a whole run or of one that couldn't go on: it is a legal run
-/// of a plan of the bundle. An audit of its text with the same bundle asks this very thing of the plan that it makes; that a
-/// bundle has only one plan isn't proved.
+/// of the bundle's plan. An audit of its text with the same bundle asks this very thing of the plan that it makes, which is the same.
 #[tactic(auto, using(crate::proofs::Trails::trails_are_legal))]
 pub fn trails_are_legal()
     ensures { TrailsAreLegal }

@@ -1,13 +1,15 @@
 //! The program, but for its words' and its streams' making.
 
-ghost use Rattle.std.specs.Prelude.{◌≡◌, ◌≢◌, ◌⊎◌, ◌≤◌, ◌+◌, IfOk, IfErr, IfSome, OnErr, Some, is_some, length, map, true, string_bytes};
+ghost use Rattle.std.specs.Prelude.{◌≡◌, ◌≢◌, ◌⊎◌, ◌<◌, ◌≤◌, ◌+◌, IfOk, IfErr, IfSome, OnErr, Some, is_some, length, map, true, string_bytes};
 ghost use Rattle.pb_value.specs.Limits.{max_bytes};
+ghost use Rattle.pb_cli.specs.Again.{IsToldAgain};
 ghost use Rattle.pb_cli.specs.Done.{IsBundleOf, IsWantedBy, is_too_long, IsShownAs, IsDone, IsUntouched, IsCutOrUnkept, IsBroken, IsHelped, IsAnswered, IsUnended};
 ghost use Rattle.pb_cli.specs.RoleFiles.{AreRolesIn};
 
+use crate::again::tell_again;
 use crate::files::{FileFault, read_named};
 use crate::messages::{Part, file_message, message};
-use crate::playing::{PlayFault, Wanted, play_bundle};
+use crate::playing::{PlayFault, Played, Wanted, play_bundle};
 use crate::role_files::read_role_files;
 use pb_audit::trail_text;
 use pb_command_line::words::{Request, WordsFault, read_words};
@@ -31,6 +33,7 @@ const TOO_LONG: &str = "the outcomes have more than 64 MiB";
 /// the launchers start its programs. It answers the exit status: that of the run's recap, 0 where
 /// help was asked for or nothing is run, and 1 at a fault, which is told on `err`, or where a warning is
 /// one.
+#[tactic(auto, using(crate::proofs::Ending::under_asked))]
 pub fn play<
     R: Files + AllocGlobal + Threads + Wait + Sync,
     L: Launcher + Send + Drop,
@@ -67,6 +70,7 @@ struct Asked {
     wanted: Wanted,
     outcomes_path: Option<Text>,
     trail: Option<Text>,
+    same_under: Option<u32>,
 }
 
 // (by hand: it is then dropped by one call, and not part by part at each exit)
@@ -77,6 +81,7 @@ impl Drop for Asked {
             wanted,
             outcomes_path,
             trail,
+            same_under: _,
         } = self;
         drop(bundle);
         drop(wanted);
@@ -92,20 +97,21 @@ fn play_request<
     O: LineOut,
     E: LineOut,
 >(rt: &R, request: Request, launchers: &mut Vec<L>, out: &mut O, err: &mut E) -> u8
-    requires { 256 ≤ length launchers.old.items }
+    requires launchers { 256 ≤ length launchers.old.items }
+    requires under { IfSome request.same_under (λ n. (0 < n) × (n ≤ 256)) }
     ensures done { result ≢ 1 → IsDone request (map L.launched launchers.old.items) (map L.launched launchers.new.items) (O.taken out.old) (O.taken out.new) (E.taken err.old) (E.taken err.new) (E.failures err.old) (E.failures err.new) result }
     ensures fault { result ≡ 1 → IsUntouched (map L.launched launchers.old.items) (map L.launched launchers.new.items) (O.taken out.old) (O.taken out.new)
         ⊎ IsBroken request (map L.launched launchers.old.items) (map L.launched launchers.new.items) (O.taken out.old) (O.taken out.new) (E.taken err.old) (O.failures out.old) (O.failures out.new) (E.failures err.old) }
 {
     let alloc = rt.alloc();
-    let asked = match read_files(rt, request) {
+    let mut asked = match read_files(rt, request) {
         Ok(asked) => asked,
         Err(fault) => return told_file(alloc, err, &fault),
     };
     if is_too_long(&asked.wanted.outcomes) {
         return told_too_long(alloc, err, &asked.outcomes_path);
     }
-    play_asked(rt, &asked, launchers, out, err)
+    play_asked(rt, &mut asked, launchers, out, err)
 }
 
 /// Plays what was asked for, keeps its trail, and tells a fault.
@@ -115,23 +121,52 @@ fn play_asked<
     L: Launcher + Send + Drop,
     O: LineOut,
     E: LineOut,
->(rt: &R, asked: &Asked, launchers: &mut Vec<L>, out: &mut O, err: &mut E) -> u8
-    requires facts { asked.now.bundle.has_facts_program ≡ is_some asked.now.wanted.facts_program }
+>(rt: &R, asked: &mut Asked, launchers: &mut Vec<L>, out: &mut O, err: &mut E) -> u8
+    requires facts { asked.old.bundle.has_facts_program ≡ is_some asked.old.wanted.facts_program }
     requires launchers { 256 ≤ length launchers.old.items }
-    ensures done { result ≢ 1 → IsShownAs result asked.now.bundle asked.now.wanted (map L.launched launchers.old.items) (map L.launched launchers.new.items) (O.taken out.old) (O.taken out.new) (E.taken err.old) (E.taken err.new) (E.failures err.old) (E.failures err.new) }
+    requires under { IfSome asked.old.same_under (λ n. (0 < n) × (n ≤ 256)) }
+    ensures done { result ≢ 1 → IsShownAs result asked.old.bundle asked.old.wanted asked.old.same_under (map L.launched launchers.old.items) (map L.launched launchers.new.items) (O.taken out.old) (O.taken out.new) (E.taken err.old) (E.taken err.new) (E.failures err.old) (E.failures err.new) }
     ensures fault { result ≡ 1 → IsUntouched (map L.launched launchers.old.items) (map L.launched launchers.new.items) (O.taken out.old) (O.taken out.new)
-        ⊎ IsCutOrUnkept asked.now.bundle asked.now.wanted asked.now.trail (map L.launched launchers.old.items) (map L.launched launchers.new.items) (O.taken out.old) (O.taken out.new) (E.taken err.old) (O.failures out.old) (O.failures out.new) (E.failures err.old) }
+        ⊎ IsCutOrUnkept asked.old.bundle asked.old.wanted asked.old.trail asked.old.same_under (map L.launched launchers.old.items) (map L.launched launchers.new.items) (O.taken out.old) (O.taken out.new) (E.taken err.old) (O.failures out.old) (O.failures out.new) (E.failures err.old) }
 {
     let alloc = rt.alloc();
     match play_bundle(rt, &asked.bundle, &asked.wanted, launchers, out, err) {
-        Ok(played) => match keep(rt, &asked.trail, &played.trail) {
-            Ok(()) => played.status,
-            Err(fault) => told_file(alloc, err, &fault),
-        },
+        Ok(played) => end(rt, asked, &played, err),
         Err(PlayFault::Run(fault, trail)) => told_run(rt, &asked.trail, err, fault, &trail),
         Err(PlayFault::Outcomes(fault)) => told(alloc, err, Part::Outcomes, &fault),
         Err(PlayFault::Trail(fault)) => told(alloc, err, Part::Trail, &fault),
         Err(PlayFault::Bundle(fault)) => told_bundle(alloc, err, &fault),
+    }
+}
+
+/// Tells whether another run ends in the same, where that is asked for, and keeps the trail.
+fn end<R: Files + AllocGlobal, E: LineOut>(
+    rt: &R,
+    asked: &mut Asked,
+    played: &Played,
+    err: &mut E,
+) -> u8
+    requires { IfSome asked.old.same_under (λ n. (0 < n) × (n ≤ 256)) }
+    ensures done { result ≢ 1 → (played.now.status ≡ result) × IsToldAgain asked.old.same_under played.now.trail asked.old.bundle asked.old.wanted (E.taken err.old) (E.taken err.new) (E.failures err.old) (E.failures err.new) }
+    ensures fault { result ≡ 1 → (played.now.status ≡ 1) ⊎ (((is_some asked.old.trail ≡ true) ⊎ (is_some asked.old.same_under ≡ true)) × (is_some played.now.trail ≡ true)) }
+{
+    let alloc = rt.alloc();
+    let under = asked.same_under;
+    if tell_again(
+        alloc,
+        &mut asked.bundle,
+        &asked.wanted,
+        under,
+        &played.trail,
+        err,
+    )
+    .is_err()
+    {
+        return told_run(rt, &asked.trail, err, RunFault::Memory, &played.trail);
+    }
+    match keep(rt, &asked.trail, &played.trail) {
+        Ok(()) => played.status,
+        Err(fault) => told_file(alloc, err, &fault),
     }
 }
 
@@ -179,6 +214,7 @@ fn read_files<R: Files + AllocGlobal>(rt: &R, request: Request) -> Result<Asked,
     ensures bundle { IfOk result (λ asked. IsBundleOf request asked.bundle) }
     ensures wanted { IfOk result (λ asked. IsWantedBy request asked.wanted) }
     ensures trail { IfOk result (λ asked. asked.trail ≡ request.trail) }
+    ensures under { IfOk result (λ asked. asked.same_under ≡ request.same_under) }
 {
     let Request {
         inventory,
@@ -190,6 +226,7 @@ fn read_files<R: Files + AllocGlobal>(rt: &R, request: Request) -> Result<Asked,
         roles,
         facts_program,
         stop_after,
+        same_under,
         trail,
         audit,
         strict,
@@ -224,6 +261,7 @@ fn read_files<R: Files + AllocGlobal>(rt: &R, request: Request) -> Result<Asked,
         wanted,
         outcomes_path,
         trail,
+        same_under,
     })
 }
 

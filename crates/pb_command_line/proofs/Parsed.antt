@@ -6,7 +6,7 @@ use Rattle.clap.specs.declared.error.Error.{Error}
 use Rattle.clap.specs.declared.parser.matches.ArgMatches.{ArgMatches}
 use Rattle.clap.proofs.OnLiterals.{clap_on_literals}
 use Rattle.clap.proofs.WalkLemmas.{first_value-rows}
-use Rattle.pb_command_line.specs.CommandLine.{program, value_in, errors_in, AreForks, NoForks, IsStop, NoStop, AskFor, AreRefused, Asks, IsRefused, TellsKind, is_true, purpose_of}
+use Rattle.pb_command_line.specs.CommandLine.{program, value_in, errors_in, AreForks, NoForks, IsStop, NoStop, IsSameUnder, AskFor, AreRefused, Asks, IsRefused, TellsKind, is_true, purpose_of}
 use Rattle.pb_command_line.specs.declared.words.Request.{Request}
 use Rattle.pb_command_line.specs.declared.words.WordsFault.{WordsFault}
 use Rattle.pb_command_line.specs.declared.words.WordsFault.TheVariants.{Help, Wrong, Missing, Memory}
@@ -45,11 +45,12 @@ request_met app m words request is none has asked =
         sym (same (codes "roles")) ∙ asked.6,
         sym (same (codes "facts_program")) ∙ asked.7,
         subst (λ (found : Option Text). IsStop found request.stop_after) (same (codes "stop_after")) asked.8,
-        sym (same (codes "trail")) ∙ asked.9,
-        sym (same (codes "audit")) ∙ asked.10,
-        subst (λ (found : Option Text). is_true found ≡ request.strict) (same (codes "strict")) asked.11,
+        subst (λ (found : Option Text). IsSameUnder found request.same_under) (same (codes "same_under")) asked.9,
+        sym (same (codes "trail")) ∙ asked.10,
+        sym (same (codes "audit")) ∙ asked.11,
+        subst (λ (found : Option Text). is_true found ≡ request.strict) (same (codes "strict")) asked.12,
         subst (λ (found : Option Text). purpose_of (is_true found) (is_true (value_in (codes "list_hosts") words)) ≡ request.purpose) (same (codes "syntax_check"))
-            (subst (λ (found : Option Text). purpose_of (is_true (first_value (found_of m) (codes "syntax_check"))) (is_true found) ≡ request.purpose) (same (codes "list_hosts")) asked.12),
+            (subst (λ (found : Option Text). purpose_of (is_true (first_value (found_of m) (codes "syntax_check"))) (is_true found) ≡ request.purpose) (same (codes "list_hosts")) asked.13),
       ),
     )
 
@@ -62,7 +63,8 @@ value_answered app m words (Err w) is none has asked = tt
 values_refused : (app : App) (m : ArgMatches) (words : List Text) (w : WordsFault) → app ≡ program → HasMatchesOf app words m → AreRefused (first_value (found_of m)) w → IsRefused words w
 values_refused app m words (Help text) is has refused = absurd refused
 values_refused app m words (Wrong text) is has (inl refused) = inr (inl (subst NoForks (read app m words (codes "forks") is has) refused))
-values_refused app m words (Wrong text) is has (inr refused) = inr (inr (subst NoStop (read app m words (codes "stop_after") is has) refused))
+values_refused app m words (Wrong text) is has (inr (inl refused)) = inr (inr (inl (subst NoStop (read app m words (codes "stop_after") is has) refused)))
+values_refused app m words (Wrong text) is has (inr (inr refused)) = inr (inr (inr (subst NoForks (read app m words (codes "same_under") is has) refused)))
 values_refused app m words Missing is has (inl none) = inl (sym (read app m words (codes "inventory") is has) ∙ none)
 values_refused app m words Missing is has (inr none) = inr (sym (read app m words (codes "playbook") is has) ∙ none)
 values_refused app m words Memory is has refused = tt

@@ -1,5 +1,5 @@
--- What the words of the command line mean: `pb-play -i FILE [-f N] [-l PATTERN] [-e JSON] [--roles DIR] [--facts-program PATH] [--outcomes FILE] [--stop-after N] [--trail FILE] [--audit TRAIL]
--- [--syntax-check] [--list-hosts] [--strict] PLAYBOOK`, and `--help`.
+-- What the words of the command line mean: `pb-play -i FILE [-f N] [-l PATTERN] [-e JSON] [--roles DIR] [--facts-program PATH] [--outcomes FILE] [--stop-after N] [--same-under M] [--trail FILE]
+-- [--audit TRAIL] [--syntax-check] [--list-hosts] [--strict] PLAYBOOK`, and `--help`.
 -- clap's own definitions say how words are read; the program's arguments are stated here. std's say how a number is read.
 use Rattle.std.specs.Prelude.{◌≡◌, ◌≢◌, ◌⊎◌, ◌≤◌, ℕ, Bool, true, false, List, [], Some, None, Option, codes}
 use Rattle.std.specs.Str.{bytes_eq}
@@ -50,6 +50,10 @@ facts_program = record (new_rule (codes "facts_program")) { long = Some (codes "
 abbrev pub stop_after : Rule
 stop_after = record (new_rule (codes "stop_after")) { long = Some (codes "stop-after"); value_names = 1 }
 
+-- `--same-under M`
+abbrev pub same_under : Rule
+same_under = record (new_rule (codes "same_under")) { long = Some (codes "same-under"); value_names = 1 }
+
 -- `--trail FILE`
 abbrev pub trail : Rule
 trail = record (new_rule (codes "trail")) { long = Some (codes "trail"); value_names = 1 }
@@ -83,7 +87,7 @@ abbrev pub gathering_program : App
 gathering_program = with_rule (with_rule limited_program roles) facts_program
 
 abbrev pub stopping_program : App
-stopping_program = with_rule gathering_program stop_after
+stopping_program = with_rule (with_rule gathering_program stop_after) same_under
 
 abbrev pub recording_program : App
 recording_program = with_rule (with_rule stopping_program trail) audit
@@ -132,10 +136,17 @@ IsStop None stop = stop ≡ None
 IsStop (Some text) None = ⊥
 IsStop (Some text) (Some n) = IsReportCount text n
 
+-- with how many forks the run is done once more, if that is written
+abbrev pub IsSameUnder : Option Text → Option ℕ → Type 0
+IsSameUnder None under = under ≡ None
+IsSameUnder (Some text) None = ⊥
+IsSameUnder (Some text) (Some n) = IsCount text n
+
 -- what is written is no such number
 abbrev pub IsNoCount : Text → Type 0
 IsNoCount text = (n : ℕ) → IsCount text n → ⊥
 
+-- what is written as a number of forks, of the run or of the one more, is no such number
 abbrev pub NoForks : Option Text → Type 0
 NoForks None = ⊥
 NoForks (Some text) = IsNoCount text
@@ -155,12 +166,14 @@ IsBadNumber Missing = ⊥
 IsBadNumber Memory = Unit
 
 -- what the values of the arguments, each by its name, ask for: these files, so many forks, this limit, these extra variables, this folder of roles, this facts program,
--- this many reports until the run is stopped, this file for its trail, this trail to be looked at, whether warnings are faults, and this purpose
+-- this many reports until the run is stopped, so many forks with which it is done once more, this file for its trail, this trail to be looked at, whether warnings are faults,
+-- and this purpose
 abbrev pub AskFor : (Text → Option Text) → Request → Type 0
 AskFor value request = (value (codes "inventory") ≡ Some request.inventory) × (value (codes "playbook") ≡ Some request.playbook)
     × AreForks (value (codes "forks")) request.forks × (value (codes "outcomes") ≡ request.outcomes)
     × (value (codes "limit") ≡ request.limit) × (value (codes "extra") ≡ request.extra) × (value (codes "roles") ≡ request.roles)
     × (value (codes "facts_program") ≡ request.facts_program) × IsStop (value (codes "stop_after")) request.stop_after
+    × IsSameUnder (value (codes "same_under")) request.same_under
     × (value (codes "trail") ≡ request.trail) × (value (codes "audit") ≡ request.audit)
     × (is_true (value (codes "strict")) ≡ request.strict)
     × (purpose_of (is_true (value (codes "syntax_check"))) (is_true (value (codes "list_hosts"))) ≡ request.purpose)
@@ -168,7 +181,7 @@ AskFor value request = (value (codes "inventory") ≡ Some request.inventory) ×
 -- why values ask for nothing to be played
 abbrev pub AreRefused : (Text → Option Text) → WordsFault → Type 0
 AreRefused value (Help text) = ⊥
-AreRefused value (Wrong text) = NoForks (value (codes "forks")) ⊎ NoStop (value (codes "stop_after"))
+AreRefused value (Wrong text) = NoForks (value (codes "forks")) ⊎ NoStop (value (codes "stop_after")) ⊎ NoForks (value (codes "same_under"))
 AreRefused value Missing = (value (codes "inventory") ≡ None) ⊎ (value (codes "playbook") ≡ None)
 AreRefused value Memory = Unit
 

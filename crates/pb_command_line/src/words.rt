@@ -1,7 +1,7 @@
 ghost use Rattle.pb_command_line.specs.declared.words.WordsFault.TheVariants.{Memory};
 ghost use Rattle.std.specs.Prelude.{◌≡◌, ◌⊎◌, IfOk, IfErr, map, codes, string_bytes};
 ghost use Rattle.clap.specs.Words.{app_of, kind_of, found_of, first_value};
-ghost use Rattle.pb_command_line.specs.CommandLine.{file_program, run_program, limited_program, gathering_program, stopping_program, recording_program, choosing_program, program, is_true, purpose_of, AskFor, AreRefused, Asks, IsCount, IsNoCount, AreForks, NoForks, IsStop, NoStop, IsReportCount, IsNoReportCount, IsBadNumber, IsRefused, TellsKind};
+ghost use Rattle.pb_command_line.specs.CommandLine.{file_program, run_program, limited_program, gathering_program, stopping_program, recording_program, choosing_program, program, is_true, purpose_of, AskFor, AreRefused, Asks, IsCount, IsNoCount, AreForks, NoForks, IsStop, NoStop, IsSameUnder, IsReportCount, IsNoReportCount, IsBadNumber, IsRefused, TellsKind};
 
 use clap::error::ErrorKind;
 use clap::{Arg, ArgAction, ArgMatches, Command, Error};
@@ -29,6 +29,8 @@ pub struct Request {
     pub facts_program: Option<Text>,
     /// After how many reports the run is stopped, if it is to be.
     pub stop_after: Option<u32>,
+    /// With how many forks the run is done once more, if it is to be: 1 to 256.
+    pub same_under: Option<u32>,
     /// The path of the file that the run's trail is written to, if it is to be kept.
     pub trail: Option<Text>,
     /// The path of the trail that is looked at in place of a run, if one is given.
@@ -135,7 +137,7 @@ fn gathering_words<'a>(alloc: Global) -> Result<Command<'a>, AllocError>
     limited_words(alloc)?.arg(roles)?.arg(facts_program)
 }
 
-/// The program with what stands above, and after how many reports the run is stopped.
+/// The program with what stands above, after how many reports the run is stopped, and with how many forks it is done once more.
 fn stopping_words<'a>(alloc: Global) -> Result<Command<'a>, AllocError>
     ensures { IfOk result (λ c. app_of c ≡ stopping_program) }
 {
@@ -143,7 +145,11 @@ fn stopping_words<'a>(alloc: Global) -> Result<Command<'a>, AllocError>
         .long("stop-after")
         .value_name("N")
         .help("After how many reports of jobs the run is stopped");
-    gathering_words(alloc)?.arg(stop_after)
+    let same_under = Arg::new(alloc, "same_under")
+        .long("same-under")
+        .value_name("M")
+        .help("Run it once more with M forks, and tell whether that ends in the same");
+    gathering_words(alloc)?.arg(stop_after)?.arg(same_under)
 }
 
 /// The program with all its arguments that have a value.
@@ -216,14 +222,8 @@ fn bad_number(alloc: Global, written: &str, wanted: &str) -> WordsFault
     }
 }
 
-fn bad_forks(alloc: Global, written: &str) -> WordsFault
-    ensures { IsBadNumber result }
-{
-    bad_number(alloc, written, "from 1 to 256, as -f wants")
-}
-
-/// A number from 1 to 256.
-fn read_count(alloc: Global, text: &str) -> Result<u32, WordsFault>
+/// A number from 1 to 256; `wanted` is what one that isn't is told with.
+fn read_count(alloc: Global, text: &str, wanted: &str) -> Result<u32, WordsFault>
     ensures value { IfOk result (IsCount text.now) }
     ensures fault { IfErr result (λ e. IsBadNumber e × IsNoCount text.now) }
 {
@@ -232,10 +232,10 @@ fn read_count(alloc: Global, text: &str) -> Result<u32, WordsFault>
             if 1 <= count && count <= 256 {
                 Ok(count)
             } else {
-                Err(bad_forks(alloc, text))
+                Err(bad_number(alloc, text, wanted))
             }
         }
-        Err(_) => Err(bad_forks(alloc, text)),
+        Err(_) => Err(bad_number(alloc, text, wanted)),
     }
 }
 
@@ -246,7 +246,7 @@ fn forks_in(alloc: Global, matches: &ArgMatches<'_>) -> Result<u32, WordsFault>
 {
     match matches.get_str("forks") {
         None => Ok(FORKS),
-        Some(text) => read_count(alloc, text),
+        Some(text) => read_count(alloc, text, "from 1 to 256, as -f wants"),
     }
 }
 
@@ -271,6 +271,20 @@ fn stop_in(alloc: Global, matches: &ArgMatches<'_>) -> Result<Option<u32>, Words
     };
     match read_report_count(alloc, text) {
         Ok(count) => Ok(Some(count)),
+        Err(fault) => Err(fault),
+    }
+}
+
+/// With how many forks the run is done once more, if that is written: a number from 1 to 256.
+fn same_under_in(alloc: Global, matches: &ArgMatches<'_>) -> Result<Option<u32>, WordsFault>
+    ensures value { IfOk result (IsSameUnder (first_value (found_of matches.now) (codes "same_under"))) }
+    ensures fault { IfErr result (λ e. IsBadNumber e × NoForks (first_value (found_of matches.now) (codes "same_under"))) }
+{
+    let Some(text) = matches.get_str("same_under") else {
+        return Ok(None);
+    };
+    match read_count(alloc, text, "from 1 to 256, as --same-under wants") {
+        Ok(forks) => Ok(Some(forks)),
         Err(fault) => Err(fault),
     }
 }
@@ -319,14 +333,9 @@ fn request_in(alloc: Global, matches: &ArgMatches<'_>) -> Result<Request, WordsF
     let Some(playbook) = matches.get_str("playbook") else {
         return Err(WordsFault::Missing);
     };
-    let forks = match forks_in(alloc, matches) {
-        Ok(forks) => forks,
-        Err(fault) => return Err(fault),
-    };
-    let stop_after = match stop_in(alloc, matches) {
-        Ok(stop_after) => stop_after,
-        Err(fault) => return Err(fault),
-    };
+    let forks = forks_in(alloc, matches)?;
+    let stop_after = stop_in(alloc, matches)?;
+    let same_under = same_under_in(alloc, matches)?;
     let outcomes = text_in(alloc, matches, "outcomes")?;
     let limit = text_in(alloc, matches, "limit")?;
     let extra = text_in(alloc, matches, "extra")?;
@@ -344,6 +353,7 @@ fn request_in(alloc: Global, matches: &ArgMatches<'_>) -> Result<Request, WordsF
         roles,
         facts_program,
         stop_after,
+        same_under,
         trail,
         audit,
         strict: is_given(matches, "strict"),
