@@ -2,12 +2,12 @@
 #![tactic(auto)]
 
 #[cfg(test)]
+mod failing;
+#[cfg(test)]
 mod gates;
 #[cfg(test)]
 mod local;
 #[cfg(test)]
 mod made;
-#[cfg(test)]
-mod silent;
 #[cfg(test)]
 mod tests;

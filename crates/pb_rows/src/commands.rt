@@ -1,10 +1,9 @@
 //! Commands that are taken and refused, and runs that are given a list of them.
 
 use crate::engines::{engine_of, is_over, report};
-use crate::silent::Silent;
 use crate::told::told;
 use crate::trails::plan_on;
-use pb_driver::{Given, run_plain};
+use pb_driver::{Given, Silent, run_plain};
 use pb_engine::{Command, CommandFault, Engine, Lowest};
 use pb_runner::table::TableRunner;
 use std::alloc::Global;

@@ -1,9 +1,8 @@
 //! The jobs of a loop: which items are sent, and under which tickets.
 
-use crate::silent::Silent;
 use crate::told::told;
 use crate::trails::plan_of;
-use pb_driver::run_plain;
+use pb_driver::{Silent, run_plain};
 use pb_engine::Lowest;
 use pb_runner::table::TableRunner;
 use std::alloc::Global;

@@ -1,7 +1,6 @@
 //! The events of runs, in their order.
 
-use crate::silent::Silent;
-use pb_driver::{Ended, run_plain};
+use pb_driver::{Ended, Silent, run_plain};
 use pb_engine::Lowest;
 use pb_ids::{HostNo, Ticket};
 use pb_roles::RoleFiles;

@@ -1,25 +1,8 @@
-//! Writers that drop what they take.
+//! A writer that fails.
 
 ghost use Rattle.std.specs.Prelude.{None};
 
 use pb_driver::{Failed, LineOut};
-
-/// Takes all bytes and keeps none.
-#[derive(Drop)]
-pub struct Silent;
-
-impl LineOut for Silent {
-    ghost taken = { λ _. None };
-
-    ghost failures = { λ _. 0 };
-
-    fn put(&mut self, bytes: &[u8]) -> Result<usize, Failed> {
-        if bytes.is_empty() {
-            return Ok(0);
-        }
-        Ok(bytes.len())
-    }
-}
 
 /// Takes all bytes and keeps none, so many times; then it fails.
 #[derive(Drop)]
