@@ -1,7 +1,7 @@
 -- A bit that is set or cleared, and the words of a full set.
-use Rattle.std.proofs.Common.{◌≡◌, ◌≢◌, ◌⊎◌, ◌<◌, ◌≤◌, ◌∙◌, ◌+◌, ◌*◌, ◌/◌, ◌%◌, ◌-◌, ◌^◌, ℕ, List, Bool, true, false, length, slice_index, slice_index_or, slice_set, nat_lt, arith, rules, refl, sym, subst, inl, inr, w64, bit_and, bit_or}
+use Rattle.std.proofs.Common.{◌≡◌, ◌≢◌, ◌⊎◌, ◌<◌, ◌≤◌, ◌∙◌, ◌+◌, ◌*◌, ◌/◌, ◌%◌, ◌-◌, ◌^◌, ℕ, List, Bool, true, false, length, slice_index, slice_set, nat_lt, arith, refl, subst, inl, inr, w64, bit_and, bit_or}
 use Rattle.std.specs.Prelude.{◌==◌}
-use Rattle.std.specs.Int.{bit_at, bit_not}
+use Rattle.std.specs.Int.{bit_at}
 use Rattle.std.proofs.lemmas.Nat.Bits.{bit_at_set_same, bit_at_set_other, bit_at_clear_same, bit_at_clear_other, bit_at_ones, bit_at_ones_above, bit_at-zero, ones_shr}
 use Rattle.std.proofs.lemmas.List.{get_or-set_same, get_or-set_other}
 use Rattle.std.proofs.lemmas.Bool.{cases_lt, lt-ltb, le-ltb}
@@ -77,3 +77,13 @@ pub filled : (words : List ℕ) (width : ℕ) → ((k : ℕ) → k < length word
 filled words width each i lt =
     let e : i / 64 * 64 + i % 64 ≡ i = omega arith in
     subst (λ x. has_at words i ≡ nat_lt x width) e (each (i / 64) (omega arith) (i % 64) (omega arith))
+
+-- one word in place of another
+pub word_here : (words : List ℕ) (index word : ℕ) → index < length words → (j : ℕ) → j < 64 → has_at (slice_set words index word) (64 * index + j) ≡ (bit_at word j == 1)
+word_here words index word lt j below =
+    let there = shows (slice_set words index word) (64 * index + j) index j (omega arith) below in
+    let same = get_or-set_same words index word 0 lt in
+    there ∙ rw same refl
+
+pub word_elsewhere : (words : List ℕ) (index word : ℕ) (i : ℕ) → i / 64 ≢ index → has_at (slice_set words index word) i ≡ has_at words i
+word_elsewhere words index word i other = rw (get_or-set_other words index (i / 64) word 0 other) refl

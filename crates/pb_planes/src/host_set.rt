@@ -1,4 +1,5 @@
-ghost use Rattle.std.specs.Prelude.{◌≡◌, ℕ, ◌<◌, ◌≤◌, ◌+◌, ◌*◌, ◌/◌, ◌&&◌, ◌||◌, length, replicate, false, true, not, slice_get, slice_set, Some, IfOk, IfSome, IfNone, count_by, vec_len, nat_lt};
+ghost use Rattle.std.specs.Prelude.{◌≡◌, ◌≢◌, ℕ, ◌<◌, ◌≤◌, ◌+◌, ◌*◌, ◌/◌, ◌==◌, ◌&&◌, ◌||◌, length, replicate, false, true, not, slice_get, slice_set, Some, IfOk, IfSome, IfNone, count_by, vec_len, nat_lt};
+ghost use Rattle.std.specs.Int.{bit_at};
 ghost use Rattle.std.specs.Simd.Lanes.{zip2};
 ghost use Rattle.pb_planes.specs.Words.{bools, combined_bits, has_at};
 ghost use Rattle.pb_planes.specs.Set.{has_some, is_in, IsNextFrom, HasNoneFrom, IsMemberAfter};
@@ -123,6 +124,16 @@ impl HostSet {
         ensures { self.new ≡ slice_set self.old host.0 is_in }
     {
         words::put_bit(self.words.as_mut_slice(), host.0, is_in);
+    }
+
+    /// The 64 hosts from 64 times this number on, all of which lie below the width, are those whose bits are set in the word.
+    pub fn put_word(&mut self, index: u32, word: u64)
+        requires { 64 * index + 64 ≤ length self.old }
+        ensures width { length self.new ≡ length self.old }
+        ensures inside { (j : ℕ) → j < 64 → is_in self.new (64 * index + j) ≡ (bit_at word j == 1) }
+        ensures others { (i : ℕ) → i / 64 ≢ index → is_in self.new i ≡ is_in self.old i }
+    {
+        words::put_word(self.words.as_mut_slice(), index as usize, word);
     }
 
     /// Adds the hosts of the other set.

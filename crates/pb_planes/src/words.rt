@@ -1,6 +1,6 @@
 //! Words of 64 bits, eight at a time.
 
-ghost use Rattle.std.specs.Prelude.{◌≡◌, ℕ, ◌+◌, ◌*◌, ◌-◌, ◌<◌, ◌≤◌, ◌^◌, ◌==◌, length, slice_index, IfSome, IfNone, true, false, nat_lt, ◌≢◌};
+ghost use Rattle.std.specs.Prelude.{◌≡◌, ℕ, ◌+◌, ◌*◌, ◌/◌, ◌-◌, ◌<◌, ◌≤◌, ◌^◌, ◌==◌, length, slice_index, IfSome, IfNone, true, false, nat_lt, ◌≢◌};
 ghost use Rattle.std.specs.Int.{bit_at};
 ghost use Rattle.std.specs.Simd.Lanes.{zip2};
 ghost use Rattle.pb_planes.specs.declared.words.Combine.TheVariants.{Either, Both, Without};
@@ -165,6 +165,16 @@ pub(crate) fn put_bit(words: &mut [u64], i: u32, is_in: bool)
     } else {
         words[index] &= !bit;
     }
+}
+
+/// Puts one word in place of another.
+pub(crate) fn put_word(words: &mut [u64], index: usize, word: u64)
+    requires { index < length words.old }
+    ensures long { length words.new ≡ length words.old }
+    ensures inside { (j : ℕ) → j < 64 → has_at words.new (64 * index + j) ≡ (bit_at word j == 1) }
+    ensures others { (i : ℕ) → i / 64 ≢ index → has_at words.new i ≡ has_at words.old i }
+{
+    words[index] = word;
 }
 
 /// How many bits are set.

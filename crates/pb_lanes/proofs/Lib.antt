@@ -1,0 +1,4 @@
+mod Hits
+mod Counted
+mod Coded
+mod Summed

@@ -1,0 +1,21 @@
+//! The kinds under which tasks count.
+
+/// What a finished task counts as (Ansible's documentation, "Return Values" and "Error handling in playbooks"). The
+/// counts of pb_recap have the same seven kinds, in the same order.
+#[derive(Clone, Copy, Debug, PartialEq, Eq)]
+pub enum CountKind {
+    /// It went well.
+    Okay,
+    /// It changed something.
+    Changed,
+    /// Its host could not be reached.
+    Unreachable,
+    /// It failed, and nothing caught that.
+    Failed,
+    /// Its condition was false.
+    Skipped,
+    /// It failed, and a rescue caught that.
+    Rescued,
+    /// It failed, and was told to ignore that.
+    Ignored,
+}
