@@ -1,11 +1,12 @@
 -- A run goes on by an event that is possible, and is none from one on that isn't.
-use Rattle.std.proofs.Common.{◌≡◌, ◌<◌, ◌+◌, ◌∙◌, ℕ, zero, suc, Bool, true, false, ◌&&◌, List, [], ◌∷◌, ◌++◌, Some, length, take, get_or, refl, sym, ap, subst, arith}
+use Rattle.std.proofs.Common.{◌≡◌, ◌<◌, ◌+◌, ◌∙◌, ℕ, zero, suc, Bool, true, false, ◌&&◌, List, [], ◌∷◌, Some, length, take, get_or, refl, sym, ap, subst, arith}
 use Rattle.std.specs.Prelude.{slice_get}
 use Rattle.pb_plan.specs.Plan.{PlanOf}
 use Rattle.pb_state.specs.declared.event.Event.{Event}
 use Rattle.pb_state.specs.Machine.{possible, after}
 use Rattle.pb_state.specs.Run.{legal_from, state_from}
 use Rattle.pb_state.specs.State.{State}
+use Rattle.pb_state.proofs.Trails.{legal_more as with_possible, state_more as with_after}
 use Rattle.pb_audit.proofs.Fronts.{with_next}
 use Rattle.pb_audit.specs.Audit.{start_under, is_legal_under, end_under, IsFirstIllegalUnder}
 use Rattle.pb_audit.specs.Names.{name_of}
@@ -19,28 +20,18 @@ none_of : (a b : Bool) → b ≡ false → (a && b) ≡ false
 none_of true b h = h
 none_of false b h = refl
 
-legal_with : (plan : PlanOf) (s : State) (es : List Event) (e : Event) → legal_from plan s es ≡ true → possible plan (state_from plan s es) e ≡ true → legal_from plan s (es ++ e ∷ []) ≡ true
-legal_with plan s [] e legal can = rw can refl
-legal_with plan s (d ∷ es) e legal can =
-    let parts = both (possible plan s d) (legal_from plan (after plan s d) es) legal in
-    rw (parts.0, legal_with plan (after plan s d) es e parts.1 can) refl
-
-state_with : (plan : PlanOf) (s : State) (es : List Event) (e : Event) → state_from plan s (es ++ e ∷ []) ≡ after plan (state_from plan s es) e
-state_with plan s [] e = refl
-state_with plan s (d ∷ es) e = state_with plan (after plan s d) es e
-
 -- one event more
 pub legal_more : (plan : PlanOf) (s t : State) (trail : List Event) (i : ℕ) (e : Event) → i < length trail → e ≡ get_or trail i e → legal_from plan s (take i trail) ≡ true
     → t ≡ state_from plan s (take i trail) → possible plan t e ≡ true → legal_from plan s (take (i + 1) trail) ≡ true
 legal_more plan s t trail i e h is legal at can =
     ap (legal_from plan s) (with_next trail i e h is)
-    ∙ legal_with plan s (take i trail) e legal (subst (λ u. possible plan u e ≡ true) at can)
+    ∙ with_possible plan s (take i trail) e legal (subst (λ u. possible plan u e ≡ true) at can)
 
 pub state_more : (plan : PlanOf) (s t : State) (trail : List Event) (i : ℕ) (e : Event) → i < length trail → e ≡ get_or trail i e → t ≡ state_from plan s (take i trail)
     → after plan t e ≡ state_from plan s (take (i + 1) trail)
 state_more plan s t trail i e h is at =
     ap (λ u. after plan u e) at
-    ∙ sym (ap (state_from plan s) (with_next trail i e h is) ∙ state_with plan s (take i trail) e)
+    ∙ sym (ap (state_from plan s) (with_next trail i e h is) ∙ with_after plan s (take i trail) e)
 
 -- the element at a place of a list
 found : (trail : List Event) (i : ℕ) (e : Event) → i < length trail → e ≡ get_or trail i e → slice_get trail i ≡ Some e

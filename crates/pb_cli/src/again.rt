@@ -15,8 +15,7 @@ ghost use Rattle.pb_cli.specs.Played.{IsRunBy, commands_for};
 ghost use Rattle.std.specs.Prelude.{Option};
 
 use crate::playing::{Wanted, run_by};
-use pb_driver::{LineOut, Silent, put_all, same_end};
-use pb_engine::RoundRobin;
+use pb_driver::{LineOut, RoundRobin, Silent, put_all, same_end};
 use pb_ids::HostNo;
 use pb_runner::table::TableRunner;
 use pb_state::{Bundle, Event, Plan};

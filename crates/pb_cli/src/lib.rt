@@ -17,3 +17,4 @@ pub mod role_files;
 pub mod workers;
 
 pub use pb_command_line::words;
+pub use pb_driver::{Failed, LineOut, Printed};

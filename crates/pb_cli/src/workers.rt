@@ -9,8 +9,7 @@ ghost use Rattle.pb_cli.specs.Played.{commands_for, IsRunBy, IsCutBy, IsLocalRun
 ghost use Rattle.pb_cli.specs.Hired.{launcher_of, facts_of, HasRoomFor};
 
 use crate::playing::Wanted;
-use pb_driver::{Ended, Given, LineOut, RunFault, run_pool};
-use pb_engine::{Command, Lowest};
+use pb_driver::{Command, Ended, Given, LineOut, Lowest, RunFault, run_pool};
 use pb_runner::launcher::Launcher;
 use pb_runner::local::LocalRunner;
 use pb_runner::runner::Runner;

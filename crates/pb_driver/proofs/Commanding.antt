@@ -9,6 +9,7 @@ use Rattle.pb_state.specs.State.{State}
 use Rattle.pb_state.specs.Machine.{after, first_state}
 use Rattle.pb_state.specs.Run.{IsEager, state_from, is_report, is_command}
 use Rattle.pb_state.specs.Work.{work}
+use Rattle.pb_state.proofs.Trails.{state_both}
 use Rattle.pb_engine.specs.declared.command.Command.{Command}
 use Rattle.pb_engine.specs.declared.command.Command.TheVariants.{Stop as ToStop, Forks as ToForks}
 use Rattle.pb_engine.specs.Commands.{event_for}
@@ -73,11 +74,6 @@ no_work plan s Close c = cc
 no_work plan s Stop c = refl
 no_work plan s (Forks n) c = refl
 
--- commands behind other events
-states_behind : (plan : PlanOf) (s : State) (es cs : List Event) → state_from plan s (es ++ cs) ≡ state_from plan (state_from plan s es) cs
-states_behind plan s [] cs = refl
-states_behind plan s (e ∷ es) cs = states_behind plan (after plan s e) es cs
-
 work_behind : (plan : PlanOf) (s : State) (cs : List Event) → AreCommands cs → work plan (state_from plan s cs) ≡ work plan s
 work_behind plan s [] c = refl
 work_behind plan s (e ∷ es) c = work_behind plan (after plan s e) es c.1 ∙ no_work plan s e c.0
@@ -134,7 +130,7 @@ work_same : (old new : EngineOf) → IsSound old → TakesCommands old new → w
 work_same old new sound took =
     ap (λ (s : State). work new.plan s) (sym took.same.run.ends)
     ∙ rw (took.trail, took.same.plan, took.same.pool)
-    (ap (λ (s : State). work old.plan s) (states_behind old.plan (first_state old.plan old.plan.forks old.pool) old.trail took.events ∙ ap (λ (s : State). state_from old.plan s took.events) sound.ends)
+    (ap (λ (s : State). work old.plan s) (state_both old.plan (first_state old.plan old.plan.forks old.pool) old.trail took.events ∙ ap (λ (s : State). state_from old.plan s took.events) sound.ends)
     ∙ work_behind old.plan old.state took.events took.commands)
 
 -- one event more behind commands

@@ -19,13 +19,13 @@ use Rattle.pb_state.specs.Jobs.{job_of}
 use Rattle.pb_all_hosts.specs.Oldest.{oldest_out}
 use Rattle.pb_state.specs.Run.{IsEager, IsQuiet, state_from, is_report, is_command}
 use Rattle.pb_state.proofs.Once.{nothing_twice}
+use Rattle.pb_state.proofs.Trails.{legal_more}
 use Rattle.pb_engine.specs.EngineOf.{EngineOf, Takes, taken, IsSound, LessWork, engine_of}
 use Rattle.pb_engine.specs.declared.fault.EngineFault.{EngineFault}
 use Rattle.pb_engine.specs.declared.fault.EngineFault.TheVariants.{PoolTooSmall}
 use Rattle.pb_engine.specs.Choice.{NextIs, MovesBy, answer_of}
 use Rattle.pb_engine.specs.declared.engine.Next.{Next}
 use Rattle.pb_engine.specs.declared.engine.Next.TheVariants.{Sent, Moved, Waiting, Finished}
-use Rattle.pb_engine.proofs.Runs.{legal_more}
 use Rattle.pb_all_hosts.proofs.OldestOut.{some_oldest}
 use Rattle.pb_engine.proofs.Waits.{job_in_run, oldest_in_run}
 use Rattle.pb_engine.specs.Refusals.{refusal_of}

@@ -35,9 +35,9 @@ use Rattle.pb_state.specs.Run.{legal_from, state_from}
 use Rattle.pb_state.specs.State.{State}
 use Rattle.pb_state.proofs.Once.{and_left, and_right}
 use Rattle.pb_state.proofs.Stands.{both}
+use Rattle.pb_state.proofs.Trails.{run_more, legal_rest, state_both}
 use Rattle.pb_engine.specs.EngineOf.{EngineOf, Takes, taken, IsSound}
 use Rattle.pb_engine.specs.Refusals.{refusal_of}
-use Rattle.pb_engine.proofs.Runs.{run_more}
 use Rattle.pb_engine.proofs.Waits.{out_awaited}
 use Rattle.pb_laws.proofs.Telling.{tasks_of}
 use Rattle.pb_driver.specs.Crews.{AreSilent, FitsSince, HasSent, HasPosted, StaysWithin}
@@ -93,14 +93,6 @@ silent_all k m old (e ∷ es) sound silent legal fit =
     let may = and_left (possible old.plan old.state e) _ legal in
     silent_all k m (taken old e) es (run_more old.plan old.pool old.trail old.state e sound may) silent.1 (and_right (possible old.plan old.state e) _ legal) (silent_one k m old e sound may silent.0 fit)
 
-legal_behind : (plan : PlanOf) (s : State) (xs ys : List Event) → legal_from plan s (xs ++ ys) ≡ true → legal_from plan (state_from plan s xs) ys ≡ true
-legal_behind plan s [] ys legal = legal
-legal_behind plan s (x ∷ xs) ys legal = legal_behind plan (after plan s x) xs ys (and_right (possible plan s x) _ legal)
-
-states_behind : (plan : PlanOf) (s : State) (xs ys : List Event) → state_from plan s (xs ++ ys) ≡ state_from plan (state_from plan s xs) ys
-states_behind plan s [] ys = refl
-states_behind plan s (x ∷ xs) ys = states_behind plan (after plan s x) xs ys
-
 pub view_now : (k : ℕ) (m : MainView) (engine : EngineOf) → FitsSince (FitsView k m) engine → FitsView k m engine
 view_now k m engine since =
     let old = since.old in
@@ -109,9 +101,9 @@ view_now k m engine since =
     subst (λ (t : List Event). legal_from old.plan first t ≡ true) since.trail (subst (λ (n : ℕ). legal_from old.plan (first_state old.plan old.plan.forks n) engine.trail ≡ true) since.pool (subst (λ (p : PlanOf). legal_from p (first_state p p.forks engine.pool) engine.trail ≡ true) since.plan since.run.legal)) in
     let ends : state_from old.plan first (old.trail ++ since.events) ≡ engine.state =
     subst (λ (t : List Event). state_from old.plan first t ≡ engine.state) since.trail (subst (λ (n : ℕ). state_from old.plan (first_state old.plan old.plan.forks n) engine.trail ≡ engine.state) since.pool (subst (λ (p : PlanOf). state_from p (first_state p p.forks engine.pool) engine.trail ≡ engine.state) since.plan since.run.ends)) in
-    let on : legal_from old.plan old.state since.events ≡ true = subst (λ (t : State). legal_from old.plan t since.events ≡ true) since.sound.ends (legal_behind old.plan first old.trail since.events legal) in
+    let on : legal_from old.plan old.state since.events ≡ true = subst (λ (t : State). legal_from old.plan t since.events ≡ true) since.sound.ends (legal_rest old.plan first old.trail since.events legal) in
     let there : state_from old.plan old.state since.events ≡ engine.state =
-    ap (λ (t : State). state_from old.plan t since.events) (sym since.sound.ends) ∙ sym (states_behind old.plan first old.trail since.events) ∙ ends in
+    ap (λ (t : State). state_from old.plan t since.events) (sym since.sound.ends) ∙ sym (state_both old.plan first old.trail since.events) ∙ ends in
     let is : along old since.events ≡ engine =
     along_is old since.events ∙ (λ i. record { plan = sym since.plan i; pool = sym since.pool i; state = there i; trail = sym since.trail i }) in
     subst (FitsView k m) is (silent_all k m old since.events since.sound since.silent on since.was)

@@ -1,3 +1,4 @@
+pub mod Engine
 pub mod Taken
 pub mod Output
 pub mod Ran

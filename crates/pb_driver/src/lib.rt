@@ -30,6 +30,7 @@ pub use comparing::same_end;
 pub use driver::{Ended, RunFault, run_plain};
 pub use given::Given;
 pub use line_out::{Failed, LineOut, Printed, Silent, put_all};
+pub use pb_engine::{Command, Lowest, Picker, RoundRobin};
 pub use pooled::drive;
 pub use threads::run_pool;
 
@@ -49,7 +50,7 @@ pub fn lines_stand_behind_events()
 }
 
 /// What holds of every run by a table of outcomes: what comes of each job is fixed, by what the table gives for it, if no memory was refused for that. So what
-/// `EndsAsFixed` (pb_confluence) says of runs under fixed outcomes holds of it with no premise left but the plan's.
+/// `EndsAsFixed` (pb_laws) says of runs under fixed outcomes holds of it with no premise left but the plan's.
 #[tactic(auto, using(crate::proofs::ByTable::tables_fix_outcomes))]
 pub fn tables_fix_outcomes()
     ensures { TablesFixOutcomes }

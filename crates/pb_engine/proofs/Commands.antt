@@ -27,7 +27,7 @@ use Rattle.pb_engine.specs.declared.command.Command.TheVariants.{Stop as ToStop,
 use Rattle.pb_engine.specs.Commands.{event_for, is_in_range, is_finished}
 use Rattle.pb_state.specs.Over.{IsUnfinished, AreUnfinished, IsGoing}
 use Rattle.pb_state.proofs.Held.{going_run}
-use Rattle.pb_engine.proofs.Quiet.{finished_now}
+use Rattle.pb_state.proofs.Quiet.{finished_now}
 
 and_left : (a b : Bool) → (a && b) ≡ true → a ≡ true
 and_left true b e = refl

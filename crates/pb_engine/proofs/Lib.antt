@@ -1,6 +1,6 @@
 pub mod Members
 pub mod Commands
 pub mod Noted
-pub mod Quiet
+pub mod Picked
 pub mod Runs
 pub mod Waits

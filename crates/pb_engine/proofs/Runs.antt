@@ -1,36 +1,17 @@
 -- A run goes on by an event that is possible.
-use Rattle.std.proofs.Common.{◌≡◌, ℕ, Bool, true, false, ◌&&◌, List, [], ◌∷◌, ◌++◌, length, replicate, refl, sym, ◌∙◌, ap}
+use Rattle.std.proofs.Common.{◌≡◌, ℕ, Bool, true, false, List, [], ◌∷◌, ◌++◌, length, replicate, sym, ◌∙◌}
 use Rattle.std.specs.Prelude.{Result, Ok, Err, OnOk, OnErr}
 use Rattle.std.proofs.lemmas.List.{length-replicate}
 use Rattle.pb_state.specs.declared.event.Event.{Event}
 use Rattle.pb_plan.specs.Plan.{PlanOf}
 use Rattle.pb_state.specs.State.{State}
 use Rattle.pb_state.specs.Machine.{possible, after, first_state}
-use Rattle.pb_state.specs.Run.{legal_from, state_from, IsRun}
+use Rattle.pb_state.specs.Run.{IsRun}
 use Rattle.pb_state.specs.Once.{IsOnce}
 use Rattle.pb_state.proofs.Once.{run_once}
+use Rattle.pb_state.proofs.Trails.{run_more}
 use Rattle.pb_all_hosts.proofs.FirstRows.{length-first}
 use Rattle.pb_laws.specs.Kept.{KeepsLaws, RunsKeepLaws}
-
-pub legal_more : (plan : PlanOf) (s : State) (es : List Event) (e : Event) → legal_from plan s es ≡ true → possible plan (state_from plan s es) e ≡ true → legal_from plan s (es ++ e ∷ []) ≡ true
-legal_more plan s [] e l p = rw p refl
-legal_more plan s (d ∷ es) e l p =
-    let both = split (possible plan s d) (legal_from plan (after plan s d) es) l in
-    rw (both.0, legal_more plan (after plan s d) es e both.1 p) refl
-  where
-    split : (a b : Bool) → (a && b) ≡ true → (a ≡ true) × (b ≡ true)
-    split true b h = (refl, h)
-    split false b h = cc
-
-pub state_more : (plan : PlanOf) (s : State) (es : List Event) (e : Event) → state_from plan s (es ++ e ∷ []) ≡ after plan (state_from plan s es) e
-state_more plan s [] e = refl
-state_more plan s (d ∷ es) e = state_more plan (after plan s d) es e
-
-pub run_more : (plan : PlanOf) (pool : ℕ) (trail : List Event) (s : State) (e : Event) → IsRun plan pool trail s → possible plan s e ≡ true → IsRun plan pool (trail ++ e ∷ []) (after plan s e)
-run_more plan pool trail s e run p = record {
-  legal = legal_more plan (first_state plan plan.forks pool) trail e run.legal (rw run.ends p);
-  ends = state_more plan (first_state plan plan.forks pool) trail e ∙ ap (λ t. after plan t e) run.ends;
-}
 
 -- a call that takes the event or changes nothing leaves a run
 pub run_on : {X Y : Type 0} (r : Result X Y) (plan : PlanOf) (pool : ℕ) (trail new_trail : List Event) (s new_s : State) (e : Event) → IsRun plan pool trail s → possible plan s e ≡ true → OnOk r ((new_s ≡ after plan s e) × (new_trail ≡ trail ++ e ∷ [])) → OnErr r ((new_s ≡ s) × (new_trail ≡ trail)) → IsRun plan pool new_trail new_s

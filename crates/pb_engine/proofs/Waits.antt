@@ -27,7 +27,7 @@ use Rattle.pb_laws.specs.JobsOut.{IsOut, IsReportOf}
 use Rattle.pb_laws.proofs.JobsStay.{at_found, report_waits}
 use Rattle.pb_state.proofs.HasJob.{at_runs, placed_row, row_runs, runs_job}
 use Rattle.pb_state.proofs.Held.{IsHeld, IsHeldTask, IsOutBelow, AreHeld, places_in, held_run}
-use Rattle.pb_engine.proofs.Quiet.{next_alone}
+use Rattle.pb_state.proofs.Quiet.{next_alone}
 use Rattle.pb_engine.specs.declared.refusal.Refusal.TheVariants.{UnknownTicket, AlreadyReported, WrongItem}
 use Rattle.pb_engine.specs.declared.engine.Next.TheVariants.{Sent}
 use Rattle.pb_engine.specs.Refusals.{refusal_of, is_sent, is_waited_for, fits}

@@ -23,7 +23,7 @@ pub enum Choice {
 
 /// An event that the machine takes by itself, if there is one: a send or a start where a host is ready, else a turn, a
 /// close or an open. `ready` is a set of as many hosts as the state has, whose members don't matter.
-#[tactic(auto, using(crate::proofs::Quiet::quiet, crate::proofs::Quiet::finished_now, crate::proofs::Quiet::length_ready, crate::proofs::Quiet::picked, pb_state::proofs::Stuck::over_now))]
+#[tactic(auto, using(pb_state::proofs::Quiet::quiet, pb_state::proofs::Quiet::finished_now, pb_state::proofs::Quiet::length_ready, crate::proofs::Picked::picked, pb_state::proofs::Stuck::over_now))]
 pub fn choose<P: Picker>(
     plan: &Plan,
     state: &EngineState,
@@ -59,7 +59,7 @@ pub fn choose<P: Picker>(
 }
 
 /// What a host that is ready does: it sends the job of its next item if it has one to send, else it starts.
-#[tactic(auto, using(crate::proofs::Quiet::ready_starts, crate::proofs::Quiet::idle_starts))]
+#[tactic(auto, using(pb_state::proofs::Quiet::ready_starts, pb_state::proofs::Quiet::idle_starts))]
 fn event_of(plan: &Plan, state: &EngineState, host: HostNo) -> Event
     requires going { IsGoing state.now }
     requires ready { slice_get (ready plan.now state.now) host.0 ≡ Some true }

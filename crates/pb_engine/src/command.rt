@@ -63,7 +63,7 @@ pub(crate) fn is_in_range(pool: u32, command: Command) -> bool
 }
 
 /// Whether a run is at its end. `ready` is a set of as many hosts as the state has, whose members don't matter.
-#[tactic(auto, using(crate::proofs::Quiet::length_ready))]
+#[tactic(auto, using(pb_state::proofs::Quiet::length_ready))]
 pub(crate) fn is_finished(plan: &Plan, state: &EngineState, ready: &mut HostSet) -> bool
     requires { length ready.old ≡ length state.now.rows }
     ensures value { result ≡ is_finished plan.now state.now }

@@ -8,7 +8,7 @@ ghost use Rattle.pb_state.specs.Once.{IsOnce};
 ghost use Rattle.pb_state.specs.Run.{IsRun, is_command, IsFinished};
 ghost use Rattle.pb_state.specs.Work.{work};
 ghost use Rattle.pb_recap.specs.Recap.{recap};
-ghost use Rattle.pb_confluence.specs.Ends.{EndsAsFixed};
+ghost use Rattle.pb_laws.specs.Fixed.{EndsAsFixed};
 ghost use Rattle.pb_laws.specs.Kept.{KeepsLaws};
 ghost use Rattle.pb_engine.specs.EngineOf.{EngineOf, Takes, LessWork, IsSound, engine_of};
 ghost use Rattle.pb_engine.specs.Notes.{noted_at};
@@ -208,7 +208,7 @@ impl Engine {
         // At the end of a run whose outcomes are fixed these are what the hosts reach together, or alone.
         ensures ends { EndsAsFixed self.now.plan self.now.pool self.now.trail self.now.state }
     {
-        pb_confluence::runs_end_as_fixed();
+        pb_laws::runs_end_as_fixed();
         self.state.facts(host)
     }
 
@@ -254,7 +254,7 @@ impl Engine {
         // At the end of a run whose outcomes are fixed it is what the hosts count together, or alone.
         ensures ends { EndsAsFixed self.now.plan self.now.pool self.now.trail self.now.state }
     {
-        pb_confluence::runs_end_as_fixed();
+        pb_laws::runs_end_as_fixed();
         Recap::of(alloc, &self.state)
     }
 

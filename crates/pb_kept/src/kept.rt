@@ -2,7 +2,7 @@
 
 ghost use Rattle.std.specs.Prelude.{Some};
 
-use pb_driver::{Failed, LineOut};
+use pb_cli::{Failed, LineOut};
 use std::alloc::Global;
 
 /// Keeps its bytes. It takes at most so many at a call, and fails at the call with a given number, counted from 1.

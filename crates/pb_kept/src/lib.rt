@@ -8,4 +8,5 @@ mod kept;
 mod seen;
 
 pub use kept::Kept;
+pub use pb_cli::role_files::read_role_files;
 pub use seen::{Seen, play_texts, play_words};

@@ -1,23 +1,22 @@
 -- The attempts at an item go out one behind the report of the other, no more of them than its task allows, and then those at an item behind it.
-use Rattle.std.proofs.Common.{◌≡◌, ◌≢◌, ℕ, ◌+◌, ◌<◌, ◌≤◌, Bool, true, false, ◌&&◌, ◌||◌, not, List, [], ◌∷◌, length, refl, sym, ◌∙◌, ap, subst, arith, ◌⊎◌, inl, inr}
+use Rattle.std.proofs.Common.{◌≡◌, ◌≢◌, ℕ, ◌+◌, ◌≤◌, Bool, true, false, ◌&&◌, ◌||◌, not, List, ◌∷◌, length, refl, sym, ◌∙◌, ap, subst, arith, ◌⊎◌, inl, inr}
 use Rattle.std.specs.Prelude.{◌==◌, nat_lt, nat_le, Option, Some, None, option_map, is_some, slice_get, if◌then◌else◌}
 use Rattle.std.specs.List.{list_any}
-use Rattle.std.proofs.lemmas.Bool.{eq-eqb, eqb-true, lt-ltb, le-leb}
+use Rattle.std.proofs.lemmas.Bool.{eq-eqb, lt-ltb, le-leb}
 use Rattle.pb_ids.specs.declared.numbers.Ticket.{Ticket}
 use Rattle.pb_outcome.specs.declared.item.Item.{Item}
 use Rattle.pb_outcome.specs.Items.{next_item}
 use Rattle.pb_plan.specs.Plan.{PlanOf}
-use Rattle.pb_one_host.specs.declared.decided.TaskEnd.{TaskEnd}
 use Rattle.pb_one_host.specs.declared.row.Running.{Running}
-use Rattle.pb_one_host.specs.Attempts.{tried_next, attempt_after, attempt_next, back_in}
+use Rattle.pb_one_host.specs.Attempts.{tried_next, attempt_after, attempt_next}
 use Rattle.pb_one_host.specs.Kept.{first_waiting}
 use Rattle.pb_one_host.specs.Row.{first_rows}
 use Rattle.pb_one_host.proofs.InOrder.{next_is}
-use Rattle.pb_state.proofs.Once.{and_left, and_right}
+use Rattle.pb_state.proofs.Once.{and_right}
 use Rattle.pb_state.proofs.Stands.{both}
-use Rattle.pb_laws.specs.History.{HostTask, Happening, Starts, Sends, Reports, Ends}
+use Rattle.pb_laws.specs.History.{HostTask, Happening, Starts, Sends}
 use Rattle.pb_laws.specs.Laws.{Always, holds_from, so_far, is_same_task, attempts_at, last_sent, follows_in_item, is_awaited, attempts_in_order}
-use Rattle.pb_laws.proofs.Telling.{Seen, AreUntried, HasBegun, HasComeBack, Tells, Opening, Starting, Sending, Reporting, Turning, Closing, Stopping, Forking, put, tasks_of, task_on}
+use Rattle.pb_laws.proofs.Telling.{Seen, AreUntried, HasComeBack, Tells, Opening, Starting, Sending, Reporting, Turning, Closing, Stopping, Forking, put, tasks_of, task_on}
 use Rattle.pb_laws.proofs.ItemTelling.{AreWithin, GoesOn, untried_within, untried_next, within_next, back_within, goes_on_back, some_attempt}
 use Rattle.pb_laws.proofs.Holding.{Keeps, given_holds, given_same, always}
 use Rattle.pb_laws.proofs.WithinForks.{idle_next, first_idle}

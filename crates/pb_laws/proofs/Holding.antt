@@ -8,6 +8,7 @@ use Rattle.pb_state.specs.State.{State}
 use Rattle.pb_state.specs.Walks.{AreNumbered}
 use Rattle.pb_state.proofs.Once.{IsSound, first_sound, sound_kept, moves, and_left, and_right}
 use Rattle.pb_state.proofs.Stands.{both}
+use Rattle.pb_state.proofs.Trails.{state_both}
 use Rattle.pb_state.proofs.Walks.{IsOfPlan, step_of, rows_stay}
 use Rattle.pb_tree.specs.declared.answer.Kind.{Kind}
 use Rattle.pb_laws.specs.History.{HostTask, Happening, MayRun, Given, told, history_from, history}
@@ -43,11 +44,6 @@ pub record Keeps (law : PlanOf → List Happening → Happening → Bool) (Fits 
   pub next : (plan : PlanOf) (past : List Happening) (v new : Seen) (happens : List Happening) → Tells plan v happens new → Fits plan past v → Fits plan (so_far past happens) new
 
 -- the rows of a run are numbered, wherever it has come to
-state_both : (plan : PlanOf) (s : State) (xs ys : List Event) → state_from plan s (xs ++ ys) ≡ state_from plan (state_from plan s xs) ys
-state_both plan s [] ys = refl
-state_both plan s (x ∷ xs) ys = state_both plan (after plan s x) xs ys
-
--- of a state to which some events have led
 numbered_at : (plan : PlanOf) (forks pool : ℕ) (before : List Event) (s : State) → state_from plan (first_state plan forks pool) before ≡ s → AreNumbered 0 s.rows
 numbered_at plan forks pool before s e = subst (λ (t : State). AreNumbered 0 t.rows) e (rows_stay plan forks pool before)
 

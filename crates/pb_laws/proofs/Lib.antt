@@ -16,3 +16,9 @@ pub mod Ending
 pub mod StayingOut
 pub mod OutJobs
 pub mod JobsStay
+pub mod Acting
+pub mod ToTheEnd
+pub mod Fresh
+pub mod Statuses
+pub mod GoingOn
+pub mod Fixed

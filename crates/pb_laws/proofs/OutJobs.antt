@@ -23,6 +23,7 @@ use Rattle.pb_state.specs.State.{State}
 use Rattle.pb_state.specs.Walks.{AreNumbered}
 use Rattle.pb_state.proofs.Once.{IsSound, first_sound, sound_kept, moves, and_left, and_right}
 use Rattle.pb_state.proofs.Steps.{pool_stays}
+use Rattle.pb_state.proofs.Trails.{state_both}
 use Rattle.pb_state.proofs.Walks.{IsOfPlan, step_of, first_of, rows_stay}
 use Rattle.pb_laws.specs.History.{Happening, MayRun, Starts, Sends, Reports, told, at_place, ends_if, ended_in, given_in}
 use Rattle.pb_laws.proofs.BatchTelling.{tells, rows_given}
@@ -331,15 +332,11 @@ in_next plan pool s e may numbered run =
       most = runs_next plan (seen s) (seen (after plan s e)) (told plan s e (after plan s e)) pool step run.room run.most;
     }
 
-states_both : (plan : PlanOf) (s : State) (xs ys : List Event) → state_from plan s (xs ++ ys) ≡ state_from plan (state_from plan s xs) ys
-states_both plan s [] ys = refl
-states_both plan s (x ∷ xs) ys = states_both plan (after plan s x) xs ys
-
 in_from : (plan : PlanOf) (forks pool : ℕ) (before : List Event) (s : State) (es : List Event) → state_from plan (first_state plan forks pool) before ≡ s → legal_from plan s es ≡ true → InRun plan pool s
     → InRun plan pool (state_from plan s es)
 in_from plan forks pool before s [] led legal run = run
 in_from plan forks pool before s (e ∷ es) led legal run =
-    let next : state_from plan (first_state plan forks pool) (before ++ e ∷ []) ≡ after plan s e = states_both plan (first_state plan forks pool) before (e ∷ []) ∙ ap (λ (t : State). after plan t e) led in
+    let next : state_from plan (first_state plan forks pool) (before ++ e ∷ []) ≡ after plan s e = state_both plan (first_state plan forks pool) before (e ∷ []) ∙ ap (λ (t : State). after plan t e) led in
     let numbered = subst (λ (t : State). AreNumbered 0 t.rows) next (rows_stay plan forks pool (before ++ e ∷ [])) in
     in_from plan forks pool (before ++ e ∷ []) (after plan s e) es next (and_right (possible plan s e) _ legal) (in_next plan pool s e (and_left (possible plan s e) _ legal) numbered run)
 

@@ -7,6 +7,7 @@ use Rattle.pb_state.specs.Run.{IsFinished, legal_from, state_from}
 use Rattle.pb_recap.specs.Recap.{recap}
 use Rattle.pb_confluence.specs.Ends.{EndsAsFixed}
 use Rattle.pb_laws.specs.History.{Happening, history}
+use Rattle.pb_laws.specs.States.{GoesOn}
 use Rattle.pb_laws.specs.Laws.{holds_from, so_far, own_hosts, within_forks, in_order, places_rise, out_is_out, have_walked, all_closed, jobs_in_order, all_answered, attempts_in_order, add_up, status_tells}
 
 -- each thing that happens in this run fits what happened before it
@@ -41,6 +42,8 @@ pub record KeepsLaws (plan : PlanOf) (pool : ℕ) (trail : List Event) : Type 0 
   pub status : status_tells (recap plan pool trail) ≡ true
   -- where what comes of each job is fixed, the facts and the recap at its end are told by plan and outcomes alone
   pub fixed : EndsAsFixed plan pool trail (state_from plan (first_state plan plan.forks pool) trail)
+  -- wherever it has come to, the hosts that are seen as ready are those that may act, statuses follow answers, and there is a way to the end
+  pub goes_on : GoesOn plan (state_from plan (first_state plan plan.forks pool) trail)
 
 -- in every legal run of every plan, whether it goes on to its end or not
 abbrev pub RunsKeepLaws : Type 0

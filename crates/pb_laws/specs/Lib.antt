@@ -4,3 +4,5 @@ pub mod Kept
 pub mod Rows
 pub mod JobsOut
 pub mod JobsOutRows
+pub mod States
+pub mod Fixed

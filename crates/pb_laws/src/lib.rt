@@ -9,6 +9,9 @@
 ghost use Rattle.pb_laws.specs.Laws.{Always, AtTheEnd, own_hosts, within_forks, in_order, places_rise, out_is_out, have_walked, all_closed, jobs_in_order, all_answered, attempts_in_order, RecapAddsUp};
 ghost use Rattle.pb_laws.specs.JobsOut.{RunsFitWorkers};
 ghost use Rattle.pb_laws.specs.Kept.{RunsKeepLaws};
+ghost use Rattle.pb_laws.specs.States.{RunsGoOn};
+
+pub use pb_confluence::runs_end_as_fixed;
 
 /// A host starts a task of a play only if the play's pattern and the limit select it, and only in a batch that it is in; and no host is in
 /// two batches of a play.
@@ -58,6 +61,13 @@ pub fn attempts_follow_reports()
 /// task of `meta` is none unless it failed; and the exit status is 0 exactly where no host has a count of failed or unreachable tasks.
 pub fn recap_adds_up()
     ensures { RecapAddsUp }
+{}
+
+/// Wherever a run has come to, the hosts that are seen as ready are exactly those that may start a task or send a job; a host of a batch is active, failed,
+/// halted or out of reach as its answers say, and one that stands at a place is active, unless handlers are forced on it; where nothing can happen any more the
+/// run was stopped or ended early, or everything is done; and whatever comes of jobs, what was begun can be brought to its end.
+pub fn runs_go_on()
+    ensures { RunsGoOn }
 {}
 
 /// Every legal trail of a plan keeps all of these laws.

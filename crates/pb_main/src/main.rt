@@ -1,9 +1,9 @@
 //! The program `pb-play`: its words and its streams, handed to the library.
 #![tactic(auto)]
 
+use pb_cli::Printed;
 use pb_cli::program::play;
 use pb_cli::workers::system_launchers;
-use pb_driver::Printed;
 use std::env;
 use std::process::ExitCode;
 

@@ -681,6 +681,13 @@ impl Row {
         hosts.contains(self.host) && is_active(self.status)
     }
 
+    /// Whether the host is active: it neither failed, nor was halted, nor is out of reach.
+    pub fn is_active(&self) -> bool
+        ensures { result ≡ is_active self.now.status }
+    {
+        is_active(self.status)
+    }
+
     /// Whether the host is in the batch and active.
     pub fn is_in(&self) -> bool
         ensures { result ≡ is_in self.now }

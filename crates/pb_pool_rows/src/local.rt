@@ -1,8 +1,7 @@
 //! Programs that run at once.
 
 use crate::made::plan_of;
-use pb_driver::{Ended, Silent, run_pool};
-use pb_engine::Lowest;
+use pb_driver::{Ended, Lowest, Silent, run_pool};
 use pb_runner::local::LocalRunner;
 use pb_runner::system::SystemLauncher;
 use std::alloc::Global;

@@ -19,3 +19,5 @@ pub mod Stuck
 pub mod Held
 pub mod HasJob
 pub mod Local
+pub mod Quiet
+pub mod Trails

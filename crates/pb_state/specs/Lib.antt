@@ -17,3 +17,5 @@ pub mod CouplingRows
 pub mod AttemptRows
 pub mod Over
 pub mod Local
+pub mod Through
+pub mod ThroughRows

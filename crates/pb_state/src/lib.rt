@@ -13,6 +13,7 @@ mod hosts;
 mod job;
 mod later;
 mod state;
+mod through;
 
 pub use event::{Event, Trail};
 pub use pb_one_host::{Counts, Decided, Done, Retried, TaskEnd};

@@ -12,6 +12,7 @@ ghost use Rattle.pb_one_host.specs.Row.{HostRow, called, left};
 ghost use Rattle.pb_all_hosts.specs.Batches.{has_later};
 ghost use Rattle.pb_state.specs.Machine.{facts_at, pending_at, plan_seen, play_behind, first_by};
 ghost use Rattle.pb_state.specs.Strategies.{view_of};
+ghost use Rattle.pb_state.specs.Through.{got_through};
 ghost use Rattle.pb_one_host.specs.Back.{SameTold};
 ghost use Rattle.pb_state.specs.State.{State};
 
@@ -19,6 +20,7 @@ use crate::event::Event;
 use crate::hosts::{hosts_at_report, hosts_at_start};
 use crate::job::job_in;
 use crate::later::{Later, first_of};
+use crate::through::{is_done, is_selected};
 use pb_all_hosts::{
     DueRows, attempt_in, begin_first, called_count, counts_of, first_play, is_settled, item_in,
     join_first, least_place, leave_all, none_into, report_row, send_row, some_in, stand_at,
@@ -1009,6 +1011,23 @@ impl EngineState {
         match self.rows.as_slice().get(host.0 as usize) {
             Some(row) => Some(row.in_batch()),
             None => None,
+        }
+    }
+
+    /// Whether all that was to be done on a host was done: it is active, waits for nothing in the play that goes on, and no play that hasn't begun has it for
+    /// its own. No number beyond the last host got through.
+    pub fn got_through(&self, plan: &Plan, host: HostNo) -> bool
+        ensures { result ≡ got_through plan.now self.now host.0 }
+    {
+        let is_under_way = self.is_open || self.later.has_some();
+        let first_unbegun = if is_under_way {
+            self.play + 1
+        } else {
+            self.play
+        };
+        match self.rows.as_slice().get(host.0 as usize) {
+            Some(row) => is_done(row) && !is_selected(plan.plays(), first_unbegun, host),
+            None => false,
         }
     }
 

@@ -4,6 +4,7 @@ use Rattle.pb_confluence.proofs.AsFixed.{runs_end_as_fixed}
 use Rattle.pb_laws.proofs.AddingUp.{recap_adds_up}
 use Rattle.pb_laws.proofs.AllClosed.{batches_all_close}
 use Rattle.pb_laws.proofs.AttemptsInOrder.{attempts_are_in_order}
+use Rattle.pb_laws.proofs.GoingOn.{run_goes_on}
 use Rattle.pb_laws.proofs.InOrder.{hosts_keep_order, batches_are_walked}
 use Rattle.pb_laws.proofs.JobsInOrder.{jobs_are_in_order, all_are_answered}
 use Rattle.pb_laws.proofs.OwnHosts.{hosts_are_own}
@@ -27,4 +28,5 @@ returns c = λ plan pool trail legal. record {
   counts = (recap_adds_up plan pool trail legal).0;
   status = (recap_adds_up plan pool trail legal).1;
   fixed = runs_end_as_fixed plan pool trail (state_from plan (first_state plan plan.forks pool) trail);
+  goes_on = run_goes_on plan pool trail legal;
 }

@@ -5,7 +5,6 @@ use Rattle.std.specs.List.{list_any}
 use Rattle.std.specs.Option.{option_map_or}
 use Rattle.std.proofs.lemmas.List.{length-replicate}
 use Rattle.std.proofs.lemmas.Bool.{eq-eqb}
-use Rattle.pb_ids.specs.declared.numbers.HostNo.{HostNo}
 use Rattle.pb_ids.specs.declared.numbers.Ticket.{Ticket}
 use Rattle.pb_planes.specs.Set.{has_some}
 use Rattle.pb_state.specs.declared.event.Event.{Event}
@@ -24,8 +23,6 @@ use Rattle.pb_state.specs.Run.{is_command, IsQuiet, IsFinished}
 use Rattle.pb_one_host.proofs.InOrder.{goes_on_at}
 use Rattle.pb_state.proofs.Readies.{none_start, none_sends_at, ready_either, length_ready_in}
 use Rattle.pb_state.proofs.Stands.{both, none_starts}
-use Rattle.pb_engine.specs.declared.choice.Choice.TheVariants.{Take}
-use Rattle.pb_engine.specs.Choice.{IsChoice, host_of}
 use Rattle.pb_state.specs.Over.{IsUnfinished, AreUnfinished, IsGoing}
 
 or_left : (a b : Bool) → (a || b) ≡ false → a ≡ false
@@ -111,7 +108,7 @@ none_reports : (s : State) (r : Report) (found : Option PlayOf) → list_any is_
 none_reports s r None e = refl
 none_reports s r (Some play) e = any_none (awaits r.ticket r.item r.attempt) is_out (λ row e. none_awaits r.ticket r.item r.attempt row.running e) s.rows r.host.0 e
 
-over_at : (plan : PlanOf) (s : State) → IsQuiet plan s → list_any is_out s.rows ≡ false → (e : Event) → is_command e ≡ false → possible plan s e ≡ false
+pub over_at : (plan : PlanOf) (s : State) → IsQuiet plan s → list_any is_out s.rows ≡ false → (e : Event) → is_command e ≡ false → possible plan s e ≡ false
 over_at plan s q out Open m = q Open refl
 over_at plan s q out (Start h) m = q (Start h) refl
 over_at plan s q out (Send h item attempt ticket) m = q (Send h item attempt ticket) refl
@@ -149,12 +146,12 @@ no_item : (running : Option Running) → IsUnfinished running → option_map_or 
 no_item None going e = refl
 no_item (Some r) going e = let next = goes_on_at r.items going in absurd (let both : Some next.0 ≡ None = sym next.1 ∙ e in cc)
 
-no_item_at : (rows : List HostRow) (h : ℕ) → AreUnfinished rows → option_map_or item_of (slice_get rows h) None ≡ None → at_row has_send rows h ≡ false
+pub no_item_at : (rows : List HostRow) (h : ℕ) → AreUnfinished rows → option_map_or item_of (slice_get rows h) None ≡ None → at_row has_send rows h ≡ false
 no_item_at [] h going e = refl
 no_item_at (row ∷ rows) zero going e = no_item row.running going.0 e
 no_item_at (row ∷ rows) (suc h) going e = no_item_at rows h going.1 e
 
-sends_now : (s : State) (play : PlayOf) (h item attempt : ℕ) (ticket : Ticket) → ticket.0 ≡ s.sends → item_at s h ≡ Some item → attempt_at s h ≡ attempt → s.stopped ≡ false → at_row has_send s.rows h ≡ true → may_send_in s h item attempt ticket play ≡ true
+pub sends_now : (s : State) (play : PlayOf) (h item attempt : ℕ) (ticket : Ticket) → ticket.0 ≡ s.sends → item_at s h ≡ Some item → attempt_at s h ≡ attempt → s.stopped ≡ false → at_row has_send s.rows h ≡ true → may_send_in s h item attempt ticket play ≡ true
 sends_now s play h item attempt ticket t is next st e =
     both (not s.stopped && (ticket.0 == s.sends)) (at_row (may_send_item item attempt) s.rows h) (both (not s.stopped) (ticket.0 == s.sends) (ap not st) (eq-eqb ticket.0 s.sends t)) (sends_at item attempt (slice_get s.rows h) is next ∙ e)
 
@@ -193,14 +190,3 @@ length_of s (Some play) = length_ready_in s play
 
 pub length_ready : (plan : PlanOf) (s : State) → length (ready plan s) ≡ length s.rows
 length_ready plan s = length_of s (open_play plan s)
-
--- what a host that was picked does is chosen
-pub picked : {P : Type 0} (plan : PlanOf) (s : State) (picks : P → List Bool → ℕ → P → Type 0) (old new : P) (host : HostNo) (e : Event) → slice_get (ready plan s) host.0 ≡ Some true → picks old (ready plan s) host.0 new → possible plan s e ≡ true → host_of e ≡ Some host → IsChoice plan s picks old new (Take e)
-picked plan s picks old new host Open here pick may is = cc
-picked plan s picks old new host (Start h) here pick may is = let same : h ≡ host = cc in (may, refl, (rw same here, rw same pick))
-picked plan s picks old new host (Send h item attempt ticket) here pick may is = let same : h ≡ host = cc in (may, refl, (rw same here, rw same pick))
-picked plan s picks old new host (Reported r) here pick may is = cc
-picked plan s picks old new host Turn here pick may is = cc
-picked plan s picks old new host Close here pick may is = cc
-picked plan s picks old new host Stop here pick may is = cc
-picked plan s picks old new host (Forks n) here pick may is = cc
