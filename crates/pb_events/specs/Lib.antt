@@ -1,5 +1,6 @@
 pub mod Items
 pub mod Line
+pub mod Members
 pub mod Batch
 pub mod Notify
 pub mod Lines

@@ -1,13 +1,15 @@
 //! The lines of the items of a loop.
 
-ghost use Rattle.std.specs.Prelude.{◌≡◌, ◌∷◌, ◌++◌, [], IfOk, codes, pos};
-ghost use Rattle.pb_value.specs.Datum.{text, int};
+ghost use Rattle.std.specs.Prelude.{◌≡◌, ◌++◌, IfOk};
 ghost use Rattle.pb_events.specs.Items.{item_event, item_end, item_line, item_lines};
 
-use crate::line::{at_end, line};
+use crate::line::{begin, end, put_number, put_text, put_value};
 use pb_outcome::gather::{Ending, ItemResult};
-use pb_value::val::{Dict, Val};
+use pb_value::val::Val;
 use std::alloc::{AllocError, Global};
+
+/// Room for the line of most items.
+const ROOM: usize = 256;
 
 /// The name of the event of an item that ended in this way.
 fn item_event(ending: Ending) -> &'static str
@@ -22,58 +24,62 @@ fn item_event(ending: Ending) -> &'static str
     }
 }
 
-/// What the line of an item's end has.
-fn item_members(
-    alloc: Global,
+/// Adds the line of an item's end.
+fn item_end(
+    lines: Vec<u8>,
     event: &str,
     host: &str,
     place: &str,
     play: u32,
     number: u32,
-    end: &Val,
-) -> Result<Dict, AllocError>
-    ensures { IfOk result (λ members. members
-        ≡ (codes "event", text event.now) ∷ (codes "host", text host.now) ∷ (codes "item", int (pos number)) ∷ (codes "place", text place.now)
-        ∷ (codes "play", int (pos play)) ∷ (codes "result", end.now) ∷ []) }
+    shown: &Val,
+) -> Result<Vec<u8>, AllocError>
+    ensures { IfOk result (λ bytes. bytes.items ≡ lines.items ++ item_end event.now host.now place.now play number shown.now) }
 {
-    let mut members = at_end(alloc, event, host, place, play, end)?;
-    members.put(alloc, "item", Val::int(i64::from(number)))?;
-    Ok(members)
+    let mut out = begin(lines)?;
+    put_text(&mut out, "event", event)?;
+    put_text(&mut out, "host", host)?;
+    put_number(&mut out, "item", number)?;
+    put_text(&mut out, "place", place)?;
+    put_number(&mut out, "play", play)?;
+    put_value(&mut out, "result", shown)?;
+    end(out)
 }
 
-/// The line of an item of a loop; none of one that found its host out of reach.
+/// Adds the line of an item of a loop; none of one that found its host out of reach.
 fn item_line(
-    alloc: Global,
+    lines: Vec<u8>,
     host: &str,
     place: &str,
     play: u32,
     number: u32,
     item: &ItemResult,
 ) -> Result<Vec<u8>, AllocError>
-    ensures { IfOk result (λ bytes. bytes.items ≡ item_line host.now place.now play number item.now) }
+    ensures { IfOk result (λ bytes. bytes.items ≡ lines.items ++ item_line host.now place.now play number item.now) }
 {
     if item.ending.is_unreachable() {
-        return Ok(Vec::new(alloc));
+        return Ok(lines);
     }
     let event = item_event(item.ending);
-    let members = item_members(alloc, event, host, place, play, number, &item.result)?;
-    line(alloc, members)
+    item_end(lines, event, host, place, play, number, &item.result)
 }
 
-/// The lines of the items of a loop that ended, in order.
+/// Adds the lines of the items of a loop that ended, in order. Each is written by itself: a writer fills as much memory ahead as there is before it.
 pub fn item_lines(
     alloc: Global,
+    lines: Vec<u8>,
     host: &str,
     place: &str,
     play: u32,
     told: &[(u32, ItemResult)],
 ) -> Result<Vec<u8>, AllocError>
-    ensures { IfOk result (λ bytes. bytes.items ≡ item_lines host.now place.now play told.now) }
+    ensures { IfOk result (λ bytes. bytes.items ≡ lines.items ++ item_lines host.now place.now play told.now) }
 {
-    let mut lines = Vec::new(alloc);
+    let mut all = lines;
     for (number, item) in told {
-        let more = item_line(alloc, host, place, play, *number, item)?;
-        lines.extend_from_slice(more.as_slice())?;
+        let line = Vec::with_capacity(alloc, ROOM)?;
+        let more = item_line(line, host, place, play, *number, item)?;
+        all.extend_from_slice(more.as_slice())?;
     }
-    Ok(lines)
+    Ok(all)
 }

@@ -1,69 +1,71 @@
 //! One line, and what stands in it.
 
-ghost use Rattle.std.specs.Prelude.{◌≡◌, ◌++◌, ◌∷◌, [], IfOk, codes, pos, ◌<◌, ◌^◌};
-ghost use Rattle.pb_value.specs.Datum.{text, int, put};
-ghost use Rattle.pb_events.specs.Line.{line, at_place, at_host, at_end};
+ghost use Rattle.std.specs.Prelude.{◌≡◌, ◌++◌, ◌∷◌, [], ℕ, List, pos, IfOk, OnOk};
+ghost use Rattle.std.specs.Fmt.{signed_decimal};
+ghost use Rattle.json.specs.Token.{begin_object, key as key_token, string, number, boolean};
+ghost use Rattle.pb_value.specs.Datum.{Datum};
+ghost use Rattle.pb_compact.specs.Tokens.{tokens_of};
+ghost use Rattle.pb_events.specs.Line.{line};
+ghost use Rattle.pb_events.specs.Members.{tokens_in};
 
-use pb_value::text::Text;
-use pb_value::val::{Dict, Val};
-use std::alloc::{AllocError, Global};
+use json::Writer;
+use pb_compact::write;
+use pb_value::val::Val;
+use std::alloc::AllocError;
 
-/// The line of an object with these members.
-#[tactic(auto, unfolding(crate::specs::Line::line))]
-pub fn line(alloc: Global, members: Dict) -> Result<Vec<u8>, AllocError>
-    ensures { IfOk result (λ bytes. bytes.items ≡ line members) }
+/// Begins a line behind these lines.
+pub fn begin(lines: Vec<u8>) -> Result<Writer, AllocError>
+    ensures before { IfOk result (λ out. out.before ≡ lines.items) }
+    ensures tokens { IfOk result (λ out. out.tokens ≡ begin_object ∷ []) }
 {
-    let text = Val::dict(members).compact(alloc)?;
-    let mut bytes = Vec::from_slice(alloc, text.as_bytes())?;
+    let mut out = Writer::new(lines);
+    out.begin_object()?;
+    Ok(out)
+}
+
+/// Puts a text under a key, which is above those that were put.
+pub fn put_text(out: &mut Writer, key: &str, words: &str) -> Result<(), AllocError>
+    ensures tokens { OnOk result (out.new.tokens ≡ out.old.tokens ++ key_token key.now ∷ string words.now ∷ []) }
+    ensures before { out.new.before ≡ out.old.before }
+{
+    out.key(key)?;
+    out.string(words)
+}
+
+/// Puts a number under a key.
+pub fn put_number(out: &mut Writer, key: &str, value: u32) -> Result<(), AllocError>
+    ensures tokens { OnOk result (out.new.tokens ≡ out.old.tokens ++ key_token key.now ∷ number (signed_decimal (pos value)) ∷ []) }
+    ensures before { out.new.before ≡ out.old.before }
+{
+    out.key(key)?;
+    out.i64(i64::from(value))
+}
+
+/// Puts a Bool under a key.
+pub fn put_bool(out: &mut Writer, key: &str, value: bool) -> Result<(), AllocError>
+    ensures tokens { OnOk result (out.new.tokens ≡ out.old.tokens ++ key_token key.now ∷ boolean value ∷ []) }
+    ensures before { out.new.before ≡ out.old.before }
+{
+    out.key(key)?;
+    out.boolean(value)
+}
+
+/// Puts a value under a key.
+pub fn put_value(out: &mut Writer, key: &str, value: &Val) -> Result<(), AllocError>
+    ensures tokens { OnOk result (out.new.tokens ≡ out.old.tokens ++ key_token key.now ∷ tokens_of value.now) }
+    ensures before { out.new.before ≡ out.old.before }
+{
+    out.key(key)?;
+    write(value, out)
+}
+
+/// Ends a line: the lines before it, and the line of the members that were put.
+#[tactic(auto, unfolding(crate::specs::Line::line))]
+pub fn end(mut out: Writer) -> Result<Vec<u8>, AllocError>
+    ensures { IfOk result (λ bytes. (members : List (List ℕ × Datum)) → out.tokens ≡ begin_object ∷ tokens_in members → bytes.items ≡ out.before ++ line members) }
+{
+    out.end_object()?;
+    let mut bytes = out.into_inner();
     bytes.push(b'\n')?;
     Ok(bytes)
-}
-
-/// Puts a text under a key.
-pub fn put_text(alloc: Global, members: &mut Dict, key: &str, words: &str) -> Result<(), AllocError>
-    ensures { IfOk result (λ _. members.new ≡ put key.now (text words.now) members.old) }
-{
-    members.put(alloc, key, Val::text(Text::from_str(alloc, words)?))
-}
-
-/// The members of a line that tells of a place: the event's name, the place and the play's number.
-pub fn at_place(alloc: Global, event: &str, place: &str, play: u32) -> Result<Dict, AllocError>
-    ensures { IfOk result (λ members. members ≡ at_place event.now place.now play) }
-{
-    let mut members = Dict::new(alloc);
-    put_text(alloc, &mut members, "event", event)?;
-    put_text(alloc, &mut members, "place", place)?;
-    members.put(alloc, "play", Val::int(i64::from(play)))?;
-    Ok(members)
-}
-
-/// The members of a line that tells of a host at a place.
-pub fn at_host(
-    alloc: Global,
-    event: &str,
-    host: &str,
-    place: &str,
-    play: u32,
-) -> Result<Dict, AllocError>
-    ensures { IfOk result (λ members. members ≡ at_host event.now host.now place.now play) }
-{
-    let mut members = at_place(alloc, event, place, play)?;
-    put_text(alloc, &mut members, "host", host)?;
-    Ok(members)
-}
-
-/// The members of a line that tells how a host's task ended at a place, with its result as it is shown.
-pub fn at_end(
-    alloc: Global,
-    event: &str,
-    host: &str,
-    place: &str,
-    play: u32,
-    end: &Val,
-) -> Result<Dict, AllocError>
-    ensures { IfOk result (λ members. members ≡ at_end event.now host.now place.now play end.now) }
-{
-    let mut members = at_host(alloc, event, host, place, play)?;
-    members.put(alloc, "result", end.try_clone(alloc)?)?;
-    Ok(members)
 }

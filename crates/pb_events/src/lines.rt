@@ -1,40 +1,37 @@
 //! The lines of events.
 
-ghost use Rattle.std.specs.Prelude.{◌≡◌, ◌<◌, ◌^◌, ◌∷◌, ◌++◌, [], IfOk, IfSome, codes, pos, slice_get, true, false, if◌then◌else◌};
+ghost use Rattle.std.specs.Prelude.{◌≡◌, ◌<◌, ◌∷◌, ◌++◌, [], ℕ, List, IfOk, IfSome, codes, pos, slice_get, true, false, if◌then◌else◌};
 ghost use Rattle.std.specs.Option.{option_copied, option_map_or};
-ghost use Rattle.pb_value.specs.Datum.{text, int};
-ghost use Rattle.pb_ids.specs.Dotted.{dotted};
+ghost use Rattle.json.specs.Token.{begin_object};
+ghost use Rattle.pb_value.specs.Datum.{Datum, text, int};
+ghost use Rattle.pb_events.specs.Members.{tokens_in};
 ghost use Rattle.pb_events.specs.Lines.{start_line, play_start, start_event, task_start, host_start, start_text, task_text, lines_at, of_place, for_host, in_play, told_in, told_of, opened_in, lines_of};
 
 use crate::batch::batch_names;
 use crate::end::{done_text, meta_text};
 use crate::item::item_lines;
-use crate::line::{at_host, at_place, line, put_text};
+use crate::line::{begin, end, put_number, put_text, put_value};
 use crate::notify::notify_text;
 use crate::retry::retried_text;
+use json::Writer;
 use pb_ids::HostNo;
 use pb_places::Place;
 use pb_play::modules::Module;
 use pb_state::{Decided, EngineState, Event, Plan, PlanPlay};
-use pb_value::val::{Dict, Val, ValList};
+use pb_value::val::{Val, ValList};
 use std::alloc::{AllocError, Global};
+
+/// Room for the lines of most events.
+const ROOM: usize = 512;
 
 /// The line before all others, which tells how many plays there are.
 pub fn start_line(alloc: Global, plays: u32) -> Result<Vec<u8>, AllocError>
     ensures { IfOk result (λ bytes. bytes.items ≡ start_line plays) }
 {
-    let members = start_members(alloc, plays)?;
-    line(alloc, members)
-}
-
-/// What the first line has.
-fn start_members(alloc: Global, plays: u32) -> Result<Dict, AllocError>
-    ensures { IfOk result (λ members. members ≡ (codes "event", text (codes "playbook_on_start")) ∷ (codes "plays", int (pos plays)) ∷ []) }
-{
-    let mut members = Dict::new(alloc);
-    put_text(alloc, &mut members, "event", "playbook_on_start")?;
-    members.put(alloc, "plays", Val::int(i64::from(plays)))?;
-    Ok(members)
+    let mut out = begin(Vec::new(alloc))?;
+    put_text(&mut out, "event", "playbook_on_start")?;
+    put_number(&mut out, "plays", plays)?;
+    end(out)
 }
 
 /// The lines of an event that led to a state: where a batch opens, the play and the hosts; where a host starts a task, the
@@ -82,6 +79,19 @@ fn opened(alloc: Global, plan: &Plan, state: &EngineState) -> Result<Vec<u8>, Al
     }
 }
 
+/// What stands before the play's name in the line of a batch.
+fn play_front(alloc: Global, batch: u32, hosts: &Val) -> Result<Writer, AllocError>
+    ensures before { IfOk result (λ out. out.before ≡ []) }
+    ensures tokens { IfOk result (λ out. (ms : List (List ℕ × Datum)) → out.tokens ++ tokens_in ms
+        ≡ begin_object ∷ tokens_in ((codes "batch", int (pos batch)) ∷ (codes "event", text (codes "playbook_on_play_start")) ∷ (codes "hosts", hosts.now) ∷ ms)) }
+{
+    let mut out = begin(Vec::new(alloc))?;
+    put_number(&mut out, "batch", batch)?;
+    put_text(&mut out, "event", "playbook_on_play_start")?;
+    put_value(&mut out, "hosts", hosts)?;
+    Ok(out)
+}
+
 /// The line of a batch of a play.
 fn play_start(
     alloc: Global,
@@ -92,13 +102,10 @@ fn play_start(
 ) -> Result<Vec<u8>, AllocError>
     ensures { IfOk result (λ bytes. bytes.items ≡ play_start play batch name.now hosts) }
 {
-    let mut members = Dict::new(alloc);
-    members.put(alloc, "batch", Val::int(i64::from(batch)))?;
-    put_text(alloc, &mut members, "event", "playbook_on_play_start")?;
-    members.put(alloc, "hosts", Val::list(hosts))?;
-    put_text(alloc, &mut members, "name", name)?;
-    members.put(alloc, "play", Val::int(i64::from(play)))?;
-    line(alloc, members)
+    let mut out = play_front(alloc, batch, &Val::list(hosts))?;
+    put_text(&mut out, "name", name)?;
+    put_number(&mut out, "play", play)?;
+    end(out)
 }
 
 /// The lines of a host that started a task, or whose report came.
@@ -227,7 +234,7 @@ fn lines_at(
     ensures { IfOk result (λ bytes. bytes.items ≡ lines_at starts play.now number decided.now host.now at.now place.now) }
 {
     if at.task().module.is_meta() {
-        meta_text(alloc, host, place, number, &decided.done)
+        meta_text(Vec::new(alloc), host, place, number, &decided.done)
     } else {
         task_lines(alloc, starts, play, number, decided, host, at, place)
     }
@@ -249,8 +256,9 @@ fn task_lines(
 {
     let event = start_event(at.handler());
     let name = at.task().name.as_str();
-    let mut lines = start_text(
-        alloc,
+    let lines = Vec::with_capacity(alloc, ROOM)?;
+    let lines = start_text(
+        lines,
         starts,
         decided.is_new,
         event,
@@ -259,15 +267,10 @@ fn task_lines(
         place,
         number,
     )?;
-    let items = item_lines(alloc, host, place, number, decided.items.as_slice())?;
-    lines.extend_from_slice(items.as_slice())?;
-    let again = retried_text(alloc, host, place, number, &decided.retried)?;
-    lines.extend_from_slice(again.as_slice())?;
-    let end = done_text(alloc, host, place, number, &decided.done)?;
-    lines.extend_from_slice(end.as_slice())?;
-    let notified = notify_text(alloc, host, play, number, &decided.done)?;
-    lines.extend_from_slice(notified.as_slice())?;
-    Ok(lines)
+    let lines = item_lines(alloc, lines, host, place, number, decided.items.as_slice())?;
+    let lines = retried_text(lines, host, place, number, &decided.retried)?;
+    let lines = done_text(lines, host, place, number, &decided.done)?;
+    notify_text(lines, host, play, number, &decided.done)
 }
 
 /// The name of the event of a task's start, or of a handler's.
@@ -280,9 +283,9 @@ fn start_event(handler: Option<u32>) -> &'static str
     }
 }
 
-/// What is told of a start: the task, if the host is the first to start there, and the host. Of a report it is nothing.
+/// Adds what is told of a start: the task, if the host is the first to start there, and the host. Of a report it is nothing.
 fn start_text(
-    alloc: Global,
+    lines: Vec<u8>,
     starts: bool,
     is_new: bool,
     event: &str,
@@ -291,70 +294,59 @@ fn start_text(
     place: &str,
     play: u32,
 ) -> Result<Vec<u8>, AllocError>
-    ensures { IfOk result (λ bytes. bytes.items ≡ start_text starts is_new event.now host.now name.now place.now play) }
+    ensures { IfOk result (λ bytes. bytes.items ≡ lines.items ++ start_text starts is_new event.now host.now name.now place.now play) }
 {
     if !starts {
-        return Ok(Vec::new(alloc));
+        return Ok(lines);
     }
-    let mut lines = task_if_new(alloc, is_new, event, name, place, play)?;
-    let begin = host_start(alloc, host, place, play)?;
-    lines.extend_from_slice(begin.as_slice())?;
-    Ok(lines)
+    let lines = task_if_new(lines, is_new, event, name, place, play)?;
+    host_start(lines, host, place, play)
 }
 
-/// The line of a host that starts a task.
-fn host_start(alloc: Global, host: &str, place: &str, play: u32) -> Result<Vec<u8>, AllocError>
-    ensures { IfOk result (λ bytes. bytes.items ≡ host_start host.now place.now play) }
+/// Adds the line of a host that starts a task.
+fn host_start(lines: Vec<u8>, host: &str, place: &str, play: u32) -> Result<Vec<u8>, AllocError>
+    ensures { IfOk result (λ bytes. bytes.items ≡ lines.items ++ host_start host.now place.now play) }
 {
-    let members = at_host(alloc, "runner_on_start", host, place, play)?;
-    line(alloc, members)
+    let mut out = begin(lines)?;
+    put_text(&mut out, "event", "runner_on_start")?;
+    put_text(&mut out, "host", host)?;
+    put_text(&mut out, "place", place)?;
+    put_number(&mut out, "play", play)?;
+    end(out)
 }
 
-/// The line of a task that no host had started.
+/// Adds the line of a task that no host had started.
 fn task_if_new(
-    alloc: Global,
+    lines: Vec<u8>,
     is_new: bool,
     event: &str,
     name: &str,
     place: &str,
     play: u32,
 ) -> Result<Vec<u8>, AllocError>
-    ensures { IfOk result (λ bytes. bytes.items ≡ (if is_new then task_start event.now name.now place.now play else [])) }
+    ensures { IfOk result (λ bytes. bytes.items ≡ lines.items ++ (if is_new then task_start event.now name.now place.now play else [])) }
 {
     if is_new {
-        task_start(alloc, event, name, place, play)
+        task_start(lines, event, name, place, play)
     } else {
-        Ok(Vec::new(alloc))
+        Ok(lines)
     }
 }
 
-/// The line of a task.
+/// Adds the line of a task.
 fn task_start(
-    alloc: Global,
+    lines: Vec<u8>,
     event: &str,
     name: &str,
     place: &str,
     play: u32,
 ) -> Result<Vec<u8>, AllocError>
-    ensures { IfOk result (λ bytes. bytes.items ≡ task_start event.now name.now place.now play) }
+    ensures { IfOk result (λ bytes. bytes.items ≡ lines.items ++ task_start event.now name.now place.now play) }
 {
-    let members = task_members(alloc, event, name, place, play)?;
-    line(alloc, members)
-}
-
-/// What a task's line has.
-fn task_members(
-    alloc: Global,
-    event: &str,
-    name: &str,
-    place: &str,
-    play: u32,
-) -> Result<Dict, AllocError>
-    ensures { IfOk result (λ members. members
-        ≡ (codes "event", text event.now) ∷ (codes "name", text name.now) ∷ (codes "place", text place.now)
-        ∷ (codes "play", int (pos play)) ∷ []) }
-{
-    let mut members = at_place(alloc, event, place, play)?;
-    put_text(alloc, &mut members, "name", name)?;
-    Ok(members)
+    let mut out = begin(lines)?;
+    put_text(&mut out, "event", event)?;
+    put_text(&mut out, "name", name)?;
+    put_text(&mut out, "place", place)?;
+    put_number(&mut out, "play", play)?;
+    end(out)
 }
