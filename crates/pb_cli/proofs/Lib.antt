@@ -6,3 +6,4 @@ pub mod Trails
 pub mod Ending
 pub mod Alike
 pub mod Compared
+pub mod Left

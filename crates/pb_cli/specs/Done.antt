@@ -122,20 +122,21 @@ abbrev pub IsCutShort : Bundle → Wanted → (started started_after : Starts) �
 IsCutShort bundle wanted started started_after out_before out_after out_failures out_failures_after =
     (fault : RunFault) × (trail : Option (List Event)) × IsStopped bundle wanted fault trail started started_after out_before out_after × (fault ≡ Write → out_failures_after ≡ one_more out_failures)
 
--- what a bundle is for was done whole, and the trail of its run, for which a file is named, couldn't be written there; or memory was refused for the run that was to be made once more
-pub record IsUnkept (bundle : Bundle) (wanted : Wanted) (path : Option (List ℕ)) (same_under : Option ℕ) (started started_after : Starts) (out_before out_after err_before : Option (List ℕ)) (failures : ℕ) : Type 0 where
-  pub asked : (is_some path ≡ true) ⊎ (is_some same_under ≡ true)
+-- what a bundle is for was done whole, and the trail of its run, for which a file is named, couldn't be written there; or memory was refused for the run that was to be made once more;
+-- or the names of the hosts that didn't get through, for which a file is named, couldn't be written there
+pub record IsUnkept (bundle : Bundle) (wanted : Wanted) (path : Option (List ℕ)) (same_under : Option ℕ) (failed : Option (List ℕ)) (started started_after : Starts) (out_before out_after err_before : Option (List ℕ)) (failures : ℕ) : Type 0 where
+  pub asked : (is_some path ≡ true) ⊎ (is_some same_under ≡ true) ⊎ (is_some failed ≡ true)
   pub played : Played
   pub run : is_some played.trail ≡ true
   pub err_warned : Option (List ℕ)
   pub failures_warned : ℕ
   pub shown : IsShown bundle wanted started started_after out_before out_after err_before err_warned failures failures_warned played
 
--- it couldn't go on, or its trail couldn't be kept, or another run not be made
-abbrev pub IsCutOrUnkept : Bundle → Wanted → (path : Option (List ℕ)) → (same_under : Option ℕ) → (started started_after : Starts) → (out_before out_after err_before : Option (List ℕ)) → (out_failures out_failures_after failures : ℕ) → Type 0
-IsCutOrUnkept bundle wanted path same_under started started_after out_before out_after err_before out_failures out_failures_after failures =
+-- it couldn't go on, or its trail or the hosts that didn't get through couldn't be kept, or another run not be made
+abbrev pub IsCutOrUnkept : Bundle → Wanted → (path : Option (List ℕ)) → (same_under : Option ℕ) → (failed : Option (List ℕ)) → (started started_after : Starts) → (out_before out_after err_before : Option (List ℕ)) → (out_failures out_failures_after failures : ℕ) → Type 0
+IsCutOrUnkept bundle wanted path same_under failed started started_after out_before out_after err_before out_failures out_failures_after failures =
     IsCutShort bundle wanted started started_after out_before out_after out_failures out_failures_after
-    ⊎ IsUnkept bundle wanted path same_under started started_after out_before out_after err_before failures
+    ⊎ IsUnkept bundle wanted path same_under failed started started_after out_before out_after err_before failures
 
 -- the same of what a request asks for
 pub record IsBroken (request : Request) (started started_after : Starts) (out_before out_after err_before : Option (List ℕ)) (out_failures out_failures_after failures : ℕ) : Type 0 where
@@ -144,7 +145,7 @@ pub record IsBroken (request : Request) (started started_after : Starts) (out_be
   pub asked : IsBundleOf request bundle
   pub wants : IsWantedBy request wanted
   pub short : is_too_long wanted.outcomes ≡ false
-  pub cut : IsCutOrUnkept bundle wanted request.trail request.same_under started started_after out_before out_after err_before out_failures out_failures_after failures
+  pub cut : IsCutOrUnkept bundle wanted request.trail request.same_under request.failed started started_after out_before out_after err_before out_failures out_failures_after failures
 
 -- a call for help is among what the words are refused for, and a text was put out; the clause doesn't say which text
 abbrev pub IsHelped : List (List ℕ) → Option (List ℕ) → Option (List ℕ) → ℕ → Type 0
@@ -159,7 +160,7 @@ abbrev pub IsAnswered : List (List ℕ) → (started started_after : Starts) →
 IsAnswered words started started_after out_before out_after err_before err_after failures failures_after status =
     (request : Request) × Asks words request × IsDone request started started_after out_before out_after err_before err_after failures failures_after status
 
--- what the words ask for couldn't go on: the text of a call for help, or a play, or its trail couldn't be kept
+-- what the words ask for couldn't go on: the text of a call for help, or a play, or its trail or the hosts that didn't get through couldn't be kept
 abbrev pub IsUnended : List (List ℕ) → (started started_after : Starts) → (out_before out_after err_before : Option (List ℕ)) → (out_failures out_failures_after failures : ℕ) → Type 0
 IsUnended words started started_after out_before out_after err_before out_failures out_failures_after failures =
     IsHelpCut words out_before out_after out_failures out_failures_after

@@ -8,3 +8,5 @@ pub mod Warned
 pub mod Done
 pub mod RoleFiles
 pub mod Again
+pub mod Failed
+pub mod Rows

@@ -40,7 +40,7 @@ fn same_text(alloc: Global, plan: &Plan, found: Option<HostNo>) -> Result<String
 }
 
 /// The plan of a bundle that had one before, so that only memory may be wanting.
-fn plan_again(alloc: Global, bundle: &Bundle) -> Result<Plan, AllocError>
+pub(crate) fn plan_again(alloc: Global, bundle: &Bundle) -> Result<Plan, AllocError>
     ensures { IfOk result (λ plan. IsPlanOf bundle.now plan) }
 {
     match Plan::of(alloc, bundle) {

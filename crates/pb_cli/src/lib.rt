@@ -8,6 +8,7 @@
 
 pub mod again;
 mod auditing;
+mod failed;
 pub mod files;
 pub mod listing;
 pub mod messages;

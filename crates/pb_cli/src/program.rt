@@ -7,6 +7,7 @@ ghost use Rattle.pb_cli.specs.Done.{IsBundleOf, IsWantedBy, is_too_long, IsShown
 ghost use Rattle.pb_cli.specs.RoleFiles.{AreRolesIn};
 
 use crate::again::tell_again;
+use crate::failed::keep_failed;
 use crate::files::{FileFault, read_named};
 use crate::messages::{Part, file_message, message};
 use crate::playing::{PlayFault, Played, Wanted, play_bundle};
@@ -69,6 +70,7 @@ struct Asked {
     bundle: Bundle,
     wanted: Wanted,
     outcomes_path: Option<Text>,
+    failed: Option<Text>,
     trail: Option<Text>,
     same_under: Option<u32>,
 }
@@ -80,12 +82,14 @@ impl Drop for Asked {
             bundle,
             wanted,
             outcomes_path,
+            failed,
             trail,
             same_under: _,
         } = self;
         drop(bundle);
         drop(wanted);
         drop(outcomes_path);
+        drop(failed);
         drop(trail);
     }
 }
@@ -114,7 +118,7 @@ fn play_request<
     play_asked(rt, &mut asked, launchers, out, err)
 }
 
-/// Plays what was asked for, keeps its trail, and tells a fault.
+/// Plays what was asked for, keeps the hosts that didn't get through and its trail, and tells a fault.
 #[tactic(auto, using(crate::proofs::Running::untouched))]
 fn play_asked<
     R: Files + AllocGlobal + Threads + Wait + Sync,
@@ -127,19 +131,20 @@ fn play_asked<
     requires under { IfSome asked.old.same_under (λ n. (0 < n) × (n ≤ 256)) }
     ensures done { result ≢ 1 → IsShownAs result asked.old.bundle asked.old.wanted asked.old.same_under (map L.launched launchers.old.items) (map L.launched launchers.new.items) (O.taken out.old) (O.taken out.new) (E.taken err.old) (E.taken err.new) (E.failures err.old) (E.failures err.new) }
     ensures fault { result ≡ 1 → IsUntouched (map L.launched launchers.old.items) (map L.launched launchers.new.items) (O.taken out.old) (O.taken out.new)
-        ⊎ IsCutOrUnkept asked.old.bundle asked.old.wanted asked.old.trail asked.old.same_under (map L.launched launchers.old.items) (map L.launched launchers.new.items) (O.taken out.old) (O.taken out.new) (E.taken err.old) (O.failures out.old) (O.failures out.new) (E.failures err.old) }
+        ⊎ IsCutOrUnkept asked.old.bundle asked.old.wanted asked.old.trail asked.old.same_under asked.old.failed (map L.launched launchers.old.items) (map L.launched launchers.new.items) (O.taken out.old) (O.taken out.new) (E.taken err.old) (O.failures out.old) (O.failures out.new) (E.failures err.old) }
 {
     let alloc = rt.alloc();
     match play_bundle(rt, &asked.bundle, &asked.wanted, launchers, out, err) {
         Ok(played) => end(rt, asked, &played, err),
-        Err(PlayFault::Run(fault, trail)) => told_run(rt, &asked.trail, err, fault, &trail),
+        Err(PlayFault::Run(fault, trail)) => told_run(rt, asked, err, fault, &trail),
         Err(PlayFault::Outcomes(fault)) => told(alloc, err, Part::Outcomes, &fault),
         Err(PlayFault::Trail(fault)) => told(alloc, err, Part::Trail, &fault),
         Err(PlayFault::Bundle(fault)) => told_bundle(alloc, err, &fault),
     }
 }
 
-/// Tells whether another run ends in the same, where that is asked for, and keeps the trail.
+/// Tells whether another run ends in the same, where that is asked for, and keeps the hosts that didn't get through and the trail.
+#[tactic(auto, using(crate::proofs::Ending::told_before, crate::proofs::Ending::unkept))]
 fn end<R: Files + AllocGlobal, E: LineOut>(
     rt: &R,
     asked: &mut Asked,
@@ -148,7 +153,7 @@ fn end<R: Files + AllocGlobal, E: LineOut>(
 ) -> u8
     requires { IfSome asked.old.same_under (λ n. (0 < n) × (n ≤ 256)) }
     ensures done { result ≢ 1 → (played.now.status ≡ result) × IsToldAgain asked.old.same_under played.now.trail asked.old.bundle asked.old.wanted (E.taken err.old) (E.taken err.new) (E.failures err.old) (E.failures err.new) }
-    ensures fault { result ≡ 1 → (played.now.status ≡ 1) ⊎ (((is_some asked.old.trail ≡ true) ⊎ (is_some asked.old.same_under ≡ true)) × (is_some played.now.trail ≡ true)) }
+    ensures fault { result ≡ 1 → (played.now.status ≡ 1) ⊎ (((is_some asked.old.trail ≡ true) ⊎ (is_some asked.old.same_under ≡ true) ⊎ (is_some asked.old.failed ≡ true)) × (is_some played.now.trail ≡ true)) }
 {
     let alloc = rt.alloc();
     let under = asked.same_under;
@@ -162,29 +167,60 @@ fn end<R: Files + AllocGlobal, E: LineOut>(
     )
     .is_err()
     {
-        return told_run(rt, &asked.trail, err, RunFault::Memory, &played.trail);
+        return told_run(rt, asked, err, RunFault::Memory, &played.trail);
     }
-    match keep(rt, &asked.trail, &played.trail) {
-        Ok(()) => played.status,
-        Err(fault) => told_file(alloc, err, &fault),
-    }
+    keep_all(rt, asked, &played.trail, played.status, err)
 }
 
-/// Tells why a run stopped early, and then keeps its trail, if it began.
+/// Tells why a run stopped early, and then keeps the hosts that didn't get through and its trail, if it began.
 fn told_run<R: Files + AllocGlobal, E: LineOut>(
     rt: &R,
-    path: &Option<Text>,
+    asked: &Asked,
     err: &mut E,
     fault: RunFault,
     trail: &Option<Items<Event>>,
 ) -> u8
     ensures { result ≡ 1 }
 {
-    let alloc = rt.alloc();
-    let status = told(alloc, err, Part::Run, &fault);
+    let status = told(rt.alloc(), err, Part::Run, &fault);
+    keep_all(rt, asked, trail, status, err)
+}
+
+/// Keeps the hosts that didn't get through, and the trail also where that can't be done. It answers this status, or that of a fault, which is told.
+#[tactic(auto, using(crate::proofs::Ending::trail_unkept))]
+fn keep_all<R: Files + AllocGlobal, E: LineOut>(
+    rt: &R,
+    asked: &Asked,
+    trail: &Option<Items<Event>>,
+    status: u8,
+    err: &mut E,
+) -> u8
+    ensures kept { result ≢ 1 → (status ≡ result) × (E.taken err.new ≡ E.taken err.old) × (E.failures err.new ≡ E.failures err.old) }
+    ensures fault { result ≡ 1 → (status ≡ 1) ⊎ (((is_some asked.now.trail ≡ true) ⊎ (is_some asked.now.failed ≡ true)) × (is_some trail.now ≡ true)) }
+{
+    match keep_failed(rt, &asked.bundle, &asked.failed, trail) {
+        Ok(()) => keep_told(rt, &asked.trail, trail, status, err),
+        Err(fault) => {
+            let status = told_file(rt.alloc(), err, &fault);
+            keep_told(rt, &asked.trail, trail, status, err)
+        }
+    }
+}
+
+/// Keeps the trail. It answers this status, or that of a fault, which is told.
+fn keep_told<R: Files + AllocGlobal, E: LineOut>(
+    rt: &R,
+    path: &Option<Text>,
+    trail: &Option<Items<Event>>,
+    status: u8,
+    err: &mut E,
+) -> u8
+    ensures kept { result ≢ 1 → (status ≡ result) × (E.taken err.new ≡ E.taken err.old) × (E.failures err.new ≡ E.failures err.old) }
+    ensures fault { result ≡ 1 → (status ≡ 1) ⊎ ((is_some path.now ≡ true) × (is_some trail.now ≡ true)) }
+{
     match keep(rt, path, trail) {
         Ok(()) => status,
-        Err(fault) => told_file(alloc, err, &fault),
+        Err(fault) => told_file(rt.alloc(), err, &fault),
     }
 }
 
@@ -215,6 +251,7 @@ fn read_files<R: Files + AllocGlobal>(rt: &R, request: Request) -> Result<Asked,
     ensures wanted { IfOk result (λ asked. IsWantedBy request asked.wanted) }
     ensures trail { IfOk result (λ asked. asked.trail ≡ request.trail) }
     ensures under { IfOk result (λ asked. asked.same_under ≡ request.same_under) }
+    ensures failed { IfOk result (λ asked. asked.failed ≡ request.failed) }
 {
     let Request {
         inventory,
@@ -227,6 +264,7 @@ fn read_files<R: Files + AllocGlobal>(rt: &R, request: Request) -> Result<Asked,
         facts_program,
         stop_after,
         same_under,
+        failed,
         trail,
         audit,
         strict,
@@ -260,6 +298,7 @@ fn read_files<R: Files + AllocGlobal>(rt: &R, request: Request) -> Result<Asked,
         bundle,
         wanted,
         outcomes_path,
+        failed,
         trail,
         same_under,
     })

@@ -46,11 +46,12 @@ request_met app m words request is none has asked =
         sym (same (codes "facts_program")) ∙ asked.7,
         subst (λ (found : Option Text). IsStop found request.stop_after) (same (codes "stop_after")) asked.8,
         subst (λ (found : Option Text). IsSameUnder found request.same_under) (same (codes "same_under")) asked.9,
-        sym (same (codes "trail")) ∙ asked.10,
-        sym (same (codes "audit")) ∙ asked.11,
-        subst (λ (found : Option Text). is_true found ≡ request.strict) (same (codes "strict")) asked.12,
+        sym (same (codes "failed")) ∙ asked.10,
+        sym (same (codes "trail")) ∙ asked.11,
+        sym (same (codes "audit")) ∙ asked.12,
+        subst (λ (found : Option Text). is_true found ≡ request.strict) (same (codes "strict")) asked.13,
         subst (λ (found : Option Text). purpose_of (is_true found) (is_true (value_in (codes "list_hosts") words)) ≡ request.purpose) (same (codes "syntax_check"))
-            (subst (λ (found : Option Text). purpose_of (is_true (first_value (found_of m) (codes "syntax_check"))) (is_true found) ≡ request.purpose) (same (codes "list_hosts")) asked.13),
+            (subst (λ (found : Option Text). purpose_of (is_true (first_value (found_of m) (codes "syntax_check"))) (is_true found) ≡ request.purpose) (same (codes "list_hosts")) asked.14),
       ),
     )
 

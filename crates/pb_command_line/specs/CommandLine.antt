@@ -1,4 +1,4 @@
--- What the words of the command line mean: `pb-play -i FILE [-f N] [-l PATTERN] [-e JSON] [--roles DIR] [--facts-program PATH] [--outcomes FILE] [--stop-after N] [--same-under M] [--trail FILE]
+-- What the words of the command line mean: `pb-play -i FILE [-f N] [-l PATTERN] [-e JSON] [--roles DIR] [--facts-program PATH] [--outcomes FILE] [--stop-after N] [--same-under M] [--failed FILE] [--trail FILE]
 -- [--audit TRAIL] [--syntax-check] [--list-hosts] [--strict] PLAYBOOK`, and `--help`.
 -- clap's own definitions say how words are read; the program's arguments are stated here. std's say how a number is read.
 use Rattle.std.specs.Prelude.{◌≡◌, ◌≢◌, ◌⊎◌, ◌≤◌, ℕ, Bool, true, false, List, [], Some, None, Option, codes}
@@ -54,6 +54,10 @@ stop_after = record (new_rule (codes "stop_after")) { long = Some (codes "stop-a
 abbrev pub same_under : Rule
 same_under = record (new_rule (codes "same_under")) { long = Some (codes "same-under"); value_names = 1 }
 
+-- `--failed FILE`
+abbrev pub failed : Rule
+failed = record (new_rule (codes "failed")) { long = Some (codes "failed"); value_names = 1 }
+
 -- `--trail FILE`
 abbrev pub trail : Rule
 trail = record (new_rule (codes "trail")) { long = Some (codes "trail"); value_names = 1 }
@@ -90,13 +94,13 @@ abbrev pub stopping_program : App
 stopping_program = with_rule (with_rule gathering_program stop_after) same_under
 
 abbrev pub recording_program : App
-recording_program = with_rule (with_rule stopping_program trail) audit
+recording_program = with_rule (with_rule stopping_program failed) trail
 
 abbrev pub choosing_program : App
-choosing_program = with_rule (with_rule recording_program syntax_check) list_hosts
+choosing_program = with_rule (with_rule recording_program audit) syntax_check
 
 abbrev pub program : App
-program = with_rule choosing_program strict
+program = with_rule (with_rule choosing_program list_hosts) strict
 
 -- what the words, the first of which is the program's name, give an argument
 unfoldable pub value_in : Text → List Text → Option Text
@@ -166,7 +170,7 @@ IsBadNumber Missing = ⊥
 IsBadNumber Memory = Unit
 
 -- what the values of the arguments, each by its name, ask for: these files, so many forks, this limit, these extra variables, this folder of roles, this facts program,
--- this many reports until the run is stopped, so many forks with which it is done once more, this file for its trail, this trail to be looked at, whether warnings are faults,
+-- this many reports until the run is stopped, so many forks with which it is done once more, this file for the hosts that didn't get through, this file for its trail, this trail to be looked at, whether warnings are faults,
 -- and this purpose
 abbrev pub AskFor : (Text → Option Text) → Request → Type 0
 AskFor value request = (value (codes "inventory") ≡ Some request.inventory) × (value (codes "playbook") ≡ Some request.playbook)
@@ -174,7 +178,7 @@ AskFor value request = (value (codes "inventory") ≡ Some request.inventory) ×
     × (value (codes "limit") ≡ request.limit) × (value (codes "extra") ≡ request.extra) × (value (codes "roles") ≡ request.roles)
     × (value (codes "facts_program") ≡ request.facts_program) × IsStop (value (codes "stop_after")) request.stop_after
     × IsSameUnder (value (codes "same_under")) request.same_under
-    × (value (codes "trail") ≡ request.trail) × (value (codes "audit") ≡ request.audit)
+    × (value (codes "failed") ≡ request.failed) × (value (codes "trail") ≡ request.trail) × (value (codes "audit") ≡ request.audit)
     × (is_true (value (codes "strict")) ≡ request.strict)
     × (purpose_of (is_true (value (codes "syntax_check"))) (is_true (value (codes "list_hosts"))) ≡ request.purpose)
 

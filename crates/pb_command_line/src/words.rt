@@ -31,6 +31,8 @@ pub struct Request {
     pub stop_after: Option<u32>,
     /// With how many forks the run is done once more, if it is to be: 1 to 256.
     pub same_under: Option<u32>,
+    /// The path of the file that the names of the hosts that the run didn't bring through are written to, if they are to be kept.
+    pub failed: Option<Text>,
     /// The path of the file that the run's trail is written to, if it is to be kept.
     pub trail: Option<Text>,
     /// The path of the trail that is looked at in place of a run, if one is given.
@@ -152,44 +154,48 @@ fn stopping_words<'a>(alloc: Global) -> Result<Command<'a>, AllocError>
     gathering_words(alloc)?.arg(stop_after)?.arg(same_under)
 }
 
-/// The program with all its arguments that have a value.
+/// The program with what stands above, and the files that are written once a run is over.
 fn recording_words<'a>(alloc: Global) -> Result<Command<'a>, AllocError>
     ensures { IfOk result (λ c. app_of c ≡ recording_program) }
 {
+    let failed = Arg::new(alloc, "failed")
+        .long("failed")
+        .value_name("FILE")
+        .help("The file that the hosts that didn't get through are written to, as -l takes them");
     let trail = Arg::new(alloc, "trail")
         .long("trail")
         .value_name("FILE")
         .help("The file that the run's events are written to, a line each");
+    stopping_words(alloc)?.arg(failed)?.arg(trail)
+}
+
+/// The program with all its arguments but the last two.
+fn choosing_words<'a>(alloc: Global) -> Result<Command<'a>, AllocError>
+    ensures { IfOk result (λ c. app_of c ≡ choosing_program) }
+{
     let audit = Arg::new(alloc, "audit")
         .long("audit")
         .value_name("TRAIL")
         .help("Runs nothing: tells whether the events in this file are a legal run");
-    stopping_words(alloc)?.arg(trail)?.arg(audit)
-}
-
-/// The program with all its arguments but the last one.
-fn choosing_words<'a>(alloc: Global) -> Result<Command<'a>, AllocError>
-    ensures { IfOk result (λ c. app_of c ≡ choosing_program) }
-{
     let syntax_check = Arg::new(alloc, "syntax_check")
         .long("syntax-check")
         .action(ArgAction::SetTrue)
         .help("Runs nothing: tells whether the files are a plan");
-    let list_hosts = Arg::new(alloc, "list_hosts")
-        .long("list-hosts")
-        .action(ArgAction::SetTrue)
-        .help("Runs nothing: lists the hosts of each play");
-    recording_words(alloc)?.arg(syntax_check)?.arg(list_hosts)
+    recording_words(alloc)?.arg(audit)?.arg(syntax_check)
 }
 
 fn command<'a>(alloc: Global) -> Result<Command<'a>, AllocError>
     ensures { IfOk result (λ c. app_of c ≡ program) }
 {
+    let list_hosts = Arg::new(alloc, "list_hosts")
+        .long("list-hosts")
+        .action(ArgAction::SetTrue)
+        .help("Runs nothing: lists the hosts of each play");
     let strict = Arg::new(alloc, "strict")
         .long("strict")
         .action(ArgAction::SetTrue)
         .help("Runs nothing where there is a warning");
-    choosing_words(alloc)?.arg(strict)
+    choosing_words(alloc)?.arg(list_hosts)?.arg(strict)
 }
 
 fn fault(alloc: Global, error: &Error) -> WordsFault
@@ -341,6 +347,7 @@ fn request_in(alloc: Global, matches: &ArgMatches<'_>) -> Result<Request, WordsF
     let extra = text_in(alloc, matches, "extra")?;
     let roles = text_in(alloc, matches, "roles")?;
     let facts_program = text_in(alloc, matches, "facts_program")?;
+    let failed = text_in(alloc, matches, "failed")?;
     let trail = text_in(alloc, matches, "trail")?;
     let audit = text_in(alloc, matches, "audit")?;
     Ok(Request {
@@ -354,6 +361,7 @@ fn request_in(alloc: Global, matches: &ArgMatches<'_>) -> Result<Request, WordsF
         facts_program,
         stop_after,
         same_under,
+        failed,
         trail,
         audit,
         strict: is_given(matches, "strict"),

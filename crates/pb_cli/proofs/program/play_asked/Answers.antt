@@ -9,4 +9,4 @@ pub returns-in-Err-Trail-clause-fault : goal.returns-in-Err-Trail-clause-fault
 returns-in-Err-Trail-clause-fault g c = λ one. let unread = c.play_bundle.ensures.unread c.in-Err-Trail.fault (search rules) in inl (unread.unstarted, unread.unwritten)
 
 pub returns-in-Ok-clause-fault : goal.returns-in-Ok-clause-fault
-returns-in-Ok-clause-fault g c = λ one. done_badly _ _ _ _ _ _ _ _ _ _ _ _ _ _ c.in-Ok.played c.in-Ok.ensures.answered (c.end.ensures.fault one)
+returns-in-Ok-clause-fault g c = λ one. done_badly _ _ _ _ _ _ _ _ _ _ _ _ _ _ _ c.in-Ok.played c.in-Ok.ensures.answered (c.end.ensures.fault one)
