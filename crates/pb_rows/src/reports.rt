@@ -1,7 +1,7 @@
 //! Reports that are refused and handed back.
 
 use crate::trails::plan_of;
-use pb_engine::{Engine, Lowest, Next, Refusal};
+use pb_engine::{Command, Engine, Lowest, Next, Refusal};
 use pb_ids::{HostNo, Ticket};
 use pb_outcome::job::Report;
 use pb_outcome::outcome::Outcome;
@@ -132,5 +132,62 @@ fn facts_as_after_one(rt: HostRuntime) -> Result<(), Fail> {
     assert!(rt; once.as_str().contains("\"stdout\":\"one\""));
     assert!(rt; !is_taken(&mut engine, alloc, "two")?);
     assert_eq!(rt; learnt(alloc, &engine)?.as_str(), once.as_str());
+    Ok(())
+}
+
+/// Goes on until nothing more happens by itself. Whether the run is at its end then.
+fn goes_to_the_end(engine: &mut Engine) -> bool {
+    for _ in 0..100 {
+        if let Ok(Next::Finished) = engine.next(&mut Lowest) {
+            return true;
+        }
+    }
+    false
+}
+
+/// A job that is out as the run is told to stop is answered once, and its ticket is an old one ever after.
+#[test]
+fn reports_behind_a_stop(rt: HostRuntime) -> Result<(), Fail> {
+    let alloc = rt.alloc();
+    let mut engine = engine_of(alloc)?;
+    for _ in 0..10 {
+        let _ = sent(&mut engine);
+    }
+    assert!(rt; engine.command(Command::Stop).is_ok());
+    let first = report_of(alloc, 0, 0, 0, 1)?;
+    assert!(rt; is_answered(&mut engine, 0, first, None));
+    let second = report_of(alloc, 0, 0, 0, 1)?;
+    assert!(rt; is_answered(&mut engine, 0, second, Some(Refusal::AlreadyReported)));
+    assert!(rt; goes_to_the_end(&mut engine));
+    let third = report_of(alloc, 0, 0, 0, 1)?;
+    assert!(rt; is_answered(&mut engine, 0, third, Some(Refusal::AlreadyReported)));
+    Ok(())
+}
+
+/// In a finished state each ticket of the run is an old one, and its report is handed back.
+#[test]
+fn old_tickets_at_the_end(rt: HostRuntime) -> Result<(), Fail> {
+    let alloc = rt.alloc();
+    let mut engine = engine_of(alloc)?;
+    for host in 0..2 {
+        for _ in 0..10 {
+            let _ = sent(&mut engine);
+        }
+        let report = report_of(alloc, u64::from(host), host, 0, 1)?;
+        assert!(rt; is_answered(&mut engine, u64::from(host), report, None));
+    }
+    assert!(rt; goes_to_the_end(&mut engine));
+    for host in 0..2 {
+        let report = report_of(alloc, u64::from(host), host, 0, 1)?;
+        assert!(rt;
+            is_answered(
+                &mut engine,
+                u64::from(host),
+                report,
+                Some(Refusal::AlreadyReported)
+            ),
+            "{host}"
+        );
+    }
     Ok(())
 }
