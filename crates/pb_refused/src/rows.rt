@@ -1,0 +1,98 @@
+//! The rows that are played.
+
+/// What one run is made of, as texts.
+#[derive(Clone, Copy)]
+pub struct Row {
+    pub inventory: &'static str,
+    pub playbook: &'static str,
+    pub outcomes: &'static str,
+    /// The tasks of the role `site`.
+    pub role: Option<&'static str>,
+    pub limit: Option<&'static str>,
+    pub extra: Option<&'static str>,
+}
+
+const ONE_HOST: &str = "{\"all\":{\"hosts\":[\"a\"]}}";
+
+const THREE_HOSTS: &str = "{\"all\":{\"hosts\":[\"a\",\"b\",\"c\"]}}";
+
+const FIVE_HOSTS: &str = "{\"all\":{\"hosts\":[\"a\",\"b\",\"c\",\"d\",\"e\"]}}";
+
+const GROUPS: &str =
+    "{\"web\":{\"hosts\":[\"a\",\"b\"],\"vars\":{\"port\":80,\"at\":\"{{ port }}\"}},\"db\":{\"hosts\":[\"c\",\"b\"],\"vars\":{\"port\":5432}},\"_meta\":{\"hostvars\":{\"a\":{\"port\":8080}}}}";
+
+const ALL_WELL: &str = "{\"rows\":[]}";
+
+/// Two handlers, one of which listens, and two commands that notify them.
+const HANDLERS: &str =
+    "[{\"hosts\":\"all\",\"gather_facts\":false,\"handlers\":[{\"name\":\"h1\",\"debug\":{\"msg\":\"one\"},\"listen\":\"web\"},{\"name\":\"h2\",\"debug\":{\"msg\":\"two\"}}],\"tasks\":[{\"command\":\"first one\",\"notify\":[\"h2\",\"h1\"]},{\"command\":\"second one\",\"notify\":[\"h2\",\"web\"]}]}]";
+
+/// A loop of which one item is skipped and one fails, and a task that reads what it left.
+const LOOP: &str =
+    "[{\"hosts\":\"all\",\"gather_facts\":false,\"vars\":{\"words\":[\"x\",\"y\",\"z z\"]},\"tasks\":[{\"command\":\"run {{ item }}\",\"loop\":\"{{ words }}\",\"when\":\"item != 'y'\",\"ignore_errors\":true,\"register\":\"r\"},{\"debug\":{\"msg\":\"{{ r.results }} of {{ inventory_hostname }}\"}}]}]";
+
+const LAST_ITEM_FAILS: &str =
+    "{\"rows\":[{\"item\":2,\"outcome\":{\"rc\":1,\"out\":\"half\\nof it\",\"err\":\"broken\"}}]}";
+
+/// Batches of two hosts, of which the second fails as a whole.
+const BATCHES: &str =
+    "[{\"hosts\":\"all\",\"gather_facts\":false,\"serial\":2,\"max_fail_percentage\":30,\"tasks\":[{\"command\":\"run it\"},{\"debug\":{\"var\":\"ansible_play_hosts_all\"}}]},{\"hosts\":\"a:c:e\",\"gather_facts\":false,\"tasks\":[{\"debug\":{\"msg\":\"again\"}}]}]";
+
+const HOST_C_FAILS: &str =
+    "{\"rows\":[{\"host\":\"c\",\"outcome\":{\"rc\":3,\"out\":\"\",\"err\":\"no\"}}]}";
+
+/// A fact that one host sets for all, and a play in which hosts needn't wait for one another.
+const ONCE: &str =
+    "[{\"hosts\":\"all\",\"gather_facts\":false,\"tasks\":[{\"set_fact\":{\"x\":\"of {{ inventory_hostname }}\"},\"run_once\":true,\"register\":\"r\"},{\"debug\":{\"var\":\"x\"}}]},{\"hosts\":\"all\",\"gather_facts\":false,\"strategy\":\"free\",\"tasks\":[{\"command\":\"run {{ x }}\",\"when\":\"inventory_hostname != 'b'\"},{\"set_fact\":{\"y\":\"{{ inventory_hostname }}\"}},{\"debug\":{\"msg\":\"{{ x }} and {{ y }}\"}}]}]";
+
+/// A task that is tried until it goes well.
+const ATTEMPTS: &str =
+    "[{\"hosts\":\"all\",\"gather_facts\":false,\"tasks\":[{\"shell\":\"run for {{ inventory_hostname }}\",\"register\":\"r\",\"until\":\"r.rc == 0 and 'done' in r.stdout\",\"retries\":3,\"delay\":0,\"changed_when\":\"r.attempts > 1\"},{\"debug\":{\"msg\":\"{{ r.attempts }} of {{ r.stdout_lines }}\"}}]}]";
+
+const SECOND_IS_DONE: &str =
+    "{\"rows\":[{\"attempt\":1,\"outcome\":{\"rc\":1,\"out\":\"\",\"err\":\"wait\"}},{\"outcome\":{\"rc\":0,\"out\":\"all\\ndone\",\"err\":\"\"}}]}";
+
+/// Facts, a role, a limit, extra variables, layers that hide one another, a block with a rescue, a delegate and a host that is out of reach.
+const ROLE: &str =
+    "[{\"hosts\":\"web:db\",\"gather_facts\":true,\"roles\":[{\"role\":\"site\",\"say\":\"it is {{ greeting }}\"}],\"tasks\":[{\"block\":[{\"command\":\"break it\",\"delegate_to\":\"c\"}],\"rescue\":[{\"debug\":{\"msg\":\"{{ port }} {{ hostvars['a'].port }}\"}}],\"always\":[{\"assert\":{\"that\":[\"port > 79\",\"'a' in groups['web']\"]}}]}]}]";
+
+const SITE: &str =
+    "[{\"debug\":{\"msg\":\"{{ say }} {{ system }}\"},\"loop\":[1,true,null]},{\"meta\":\"flush_handlers\"}]";
+
+const FACTS_AND_FAULTS: &str =
+    "{\"rows\":[{\"host\":\"a\",\"place\":\"0\",\"outcome\":{\"facts\":{\"system\":\"Linux\"}}},{\"host\":\"b\",\"place\":\"0\",\"outcome\":{\"facts\":{\"system\":\"BSD\"}}},{\"host\":\"b\",\"outcome\":{\"unreachable\":\"no answer\"}},{\"outcome\":{\"rc\":1,\"out\":\"\",\"err\":\"broken\"}}]}";
+
+/// The row of a run with nothing but these.
+fn plain(inventory: &'static str, playbook: &'static str, outcomes: &'static str) -> Row {
+    Row {
+        inventory,
+        playbook,
+        outcomes,
+        role: None,
+        limit: None,
+        extra: None,
+    }
+}
+
+/// How many rows there are.
+pub const ROWS: u32 = 6;
+
+/// The row of a number, from 1 on.
+pub fn row_of(number: u32) -> Option<Row> {
+    match number {
+        1 => Some(plain(ONE_HOST, HANDLERS, ALL_WELL)),
+        2 => Some(plain(ONE_HOST, LOOP, LAST_ITEM_FAILS)),
+        3 => Some(plain(FIVE_HOSTS, BATCHES, HOST_C_FAILS)),
+        4 => Some(plain(THREE_HOSTS, ONCE, ALL_WELL)),
+        5 => Some(plain(THREE_HOSTS, ATTEMPTS, SECOND_IS_DONE)),
+        6 => Some(Row {
+            inventory: GROUPS,
+            playbook: ROLE,
+            outcomes: FACTS_AND_FAULTS,
+            role: Some(SITE),
+            limit: Some("web:!c"),
+            extra: Some("{\"greeting\":\"hello\"}"),
+        }),
+        _ => None,
+    }
+}
