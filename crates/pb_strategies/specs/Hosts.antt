@@ -1,5 +1,5 @@
 -- Where hosts stand.
-use Rattle.std.specs.Prelude.{ℕ, nat_eq, Bool, false, ◌&&◌, not, List, map, Option, Some, None, is_some}
+use Rattle.std.specs.Prelude.{ℕ, nat_eq, Bool, false, ◌&&◌, ◌||◌, not, List, map, Option, Some, None, is_some}
 use Rattle.pb_strategies.specs.declared.standings.Standing.{Standing}
 
 -- a host outside of the batch
@@ -21,6 +21,10 @@ has_begun host = host.has_begun
 -- a host that has a next place: it is in the batch, and not at its end
 abbrev pub is_unended : Standing → Bool
 is_unended host = is_some host.next
+
+-- a host that stands anywhere but outside of the batch, as far as one sees: it has a next place, or has begun, or runs
+abbrev pub is_somewhere : Standing → Bool
+is_somewhere host = (is_unended host || has_begun host) || is_running host
 
 abbrev pub is_next_at : Option ℕ → Standing → Bool
 is_next_at place host = same_place host.next place

@@ -1,10 +1,11 @@
 //! Where each host stands.
 
-ghost use Rattle.std.specs.Prelude.{◌≡◌, ◌<◌, ◌&&◌, ◌^◌, ℕ, List, Option, Some, None, IfOk, false, length, map, not, count_by, replicate, slice_get, slice_set};
+ghost use Rattle.std.specs.Prelude.{◌≡◌, ◌<◌, ◌+◌, ◌&&◌, ◌||◌, ◌^◌, ℕ, List, Option, Some, None, IfOk, OnOk, OnErr, true, false, length, map, not, count_by, replicate, slice_get, slice_set};
 ghost use Rattle.std.specs.List.{list_any};
 ghost use Rattle.std.specs.Simd.Lanes.{zip2};
 ghost use Rattle.pb_limits.specs.Counts.{limits_of, running, running_at};
-ghost use Rattle.pb_strategies.specs.Hosts.{nowhere, same_place, is_running, is_next_at, is_waiting, is_under_way, has_begun, runs_in};
+ghost use Rattle.pb_planes.specs.Set.{is_in};
+ghost use Rattle.pb_strategies.specs.Hosts.{nowhere, same_place, is_running, is_unended, is_somewhere, is_next_at, is_waiting, is_under_way, has_begun, runs_in};
 
 use pb_ids::HostNo;
 use pb_limits::Limits;
@@ -113,6 +114,18 @@ fn copy_into(from: &HostSet, set: &mut HostSet)
     set.or_with(from);
 }
 
+/// Makes a set the union of three others.
+fn unite_into(first: &HostSet, second: &HostSet, third: &HostSet, set: &mut HostSet)
+    requires second { length second.now ≡ length first.now }
+    requires third { length third.now ≡ length first.now }
+    requires width { length set.old ≡ length first.now }
+    ensures { set.new ≡ zip2 (λ a b. a || b) (zip2 (λ a b. a || b) first.now second.now) third.now }
+{
+    copy_into(first, set);
+    set.or_with(second);
+    set.or_with(third);
+}
+
 /// Takes all hosts out of a set that is as wide as another.
 fn empty_by(other: &HostSet, set: &mut HostSet)
     requires { length set.old ≡ length other.now }
@@ -122,15 +135,60 @@ fn empty_by(other: &HostSet, set: &mut HostSet)
     set.minus_with(other);
 }
 
-/// Puts the hosts whose next place is this one into a set.
-fn next_at_into(hosts: &[Standing], place: Option<usize>, set: &mut HostSet)
-    requires { length set.old ≡ length hosts.now }
+/// The number behind that of a host of a set.
+#[tactic(auto, using(crate::proofs::Members::member_below))]
+fn behind(set: &HostSet, host: HostNo) -> u32
+    requires { is_in set.now host.0 ≡ true }
+    ensures { result ≡ host.0 + 1 }
+{
+    // (a set's width is a host number too)
+    let _width = set.width();
+    host.0 + 1
+}
+
+/// Puts the hosts whose next place is this one into a set without hosts: of those that have a next place each is asked.
+fn put_next(hosts: &[Standing], place: Option<usize>, unended: &HostSet, set: &mut HostSet)
+    requires unended { unended.now ≡ map is_unended hosts.now }
+    requires none { set.old ≡ replicate (length hosts.now) false }
     ensures { set.new ≡ map (is_next_at place) hosts.now }
 {
-    let width = set.width();
-    for i in 0..width {
-        let is_in = same_place(hosts[i as usize].next, place);
-        set.put(HostNo(i), is_in);
+    let mut from = 0;
+    while let Some(host) = unended.next_at(from) {
+        let is_next = same_place(hosts[host.0 as usize].next, place);
+        set.put(host, is_next);
+        from = behind(unended, host);
+    }
+}
+
+/// Puts the hosts whose next place is this one into a set.
+fn next_at_into(hosts: &[Standing], place: Option<usize>, unended: &HostSet, set: &mut HostSet)
+    requires unended { unended.now ≡ map is_unended hosts.now }
+    requires width { length set.old ≡ length hosts.now }
+    ensures { set.new ≡ map (is_next_at place) hosts.now }
+{
+    empty_by(unended, set);
+    put_next(hosts, place, unended, set);
+}
+
+/// Puts a host outside of the batch. One past the end changes nothing.
+fn forget_one(hosts: &mut Vec<Standing>, host: HostNo)
+    ensures { hosts.new.items ≡ slice_set hosts.old.items host.0 nowhere }
+{
+    let at = host.0 as usize;
+    if at < hosts.len() {
+        hosts[at] = Standing::nowhere();
+    }
+}
+
+/// Puts those hosts outside of the batch that are in this set: the others are there already.
+fn forget_each(hosts: &mut Vec<Standing>, somewhere: &HostSet)
+    requires { somewhere.now ≡ map is_somewhere hosts.old.items }
+    ensures { hosts.new.items ≡ replicate (length hosts.old.items) nowhere }
+{
+    let mut from = 0;
+    while let Some(host) = somewhere.next_at(from) {
+        forget_one(hosts, host);
+        from = behind(somewhere, host);
     }
 }
 
@@ -182,6 +240,24 @@ impl Standings {
         })
     }
 
+    /// Puts all hosts outside of the batch; the play whose batch opens next has so many places. Only hosts that stood somewhere are looked at. The only
+    /// error is want of memory, which changes nothing.
+    pub fn clear(&mut self, alloc: Global, places: usize) -> Result<(), AllocError>
+        ensures ok { OnOk result (self.new ≡ replicate (length self.old) nowhere) }
+        ensures err { OnErr result (self.new ≡ self.old) }
+    {
+        let limits = Limits::new(alloc, places)?;
+        unite_into(&self.unended, &self.begun, &self.running, &mut self.here);
+        forget_each(&mut self.hosts, &self.here);
+        empty_by(&self.unended, &mut self.here);
+        empty_by(&self.here, &mut self.unended);
+        empty_by(&self.here, &mut self.begun);
+        empty_by(&self.here, &mut self.running);
+        self.limits = limits;
+        self.place = None;
+        Ok(())
+    }
+
     /// Where each host stands, in the order of hosts.
     pub fn as_slice(&self) -> &[Standing]
         ensures { result.now ≡ self.now }
@@ -209,7 +285,7 @@ impl Standings {
     pub fn stand_at(&mut self, place: Option<usize>)
         ensures { self.new ≡ self.old }
     {
-        next_at_into(self.hosts.as_slice(), place, &mut self.here);
+        next_at_into(self.hosts.as_slice(), place, &self.unended, &mut self.here);
         self.place = place;
     }
 
@@ -282,7 +358,7 @@ impl Standings {
         if same_place(self.place, Some(place)) {
             copy_into(&self.here, set);
         } else {
-            next_at_into(self.hosts.as_slice(), Some(place), set);
+            next_at_into(self.hosts.as_slice(), Some(place), &self.unended, set);
         }
     }
 

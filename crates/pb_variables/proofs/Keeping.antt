@@ -7,7 +7,6 @@ use Rattle.std.proofs.lemmas.Slice.Eq.{bytes_eq-Decides}
 use Rattle.indexmap.specs.IndexMap.{insert_entry}
 use Rattle.pb_ids.specs.declared.numbers.GroupNo.{GroupNo}
 use Rattle.pb_groups.specs.Merging.{group_no}
-use Rattle.pb_value.specs.Datum.{Datum}
 use Rattle.pb_inventory.specs.InventoryOf.{InventoryOf}
 use Rattle.pb_inventory.specs.Vars.{groups_of_host, vars_from_groups, names_of_groups, put_groups}
 use Rattle.pb_variables.specs.declared.shared.OfGroups.{OfGroups}
