@@ -1,21 +1,27 @@
 -- What is kept beside the rows: it stays right as rows change.
-use Rattle.std.proofs.Common.{◌≡◌, ℕ, zero, suc, ◌+◌, ◌≤◌, Bool, true, false, List, [], ◌∷◌, length, map, refl, sym, ◌∙◌, ap, arith}
+use Rattle.std.proofs.Common.{◌≡◌, ℕ, zero, suc, ◌+◌, ◌≤◌, Bool, true, false, ◌&&◌, not, List, [], ◌∷◌, length, map, refl, sym, ◌∙◌, ap, subst, arith}
 use Rattle.std.specs.Prelude.{Option, Some, None, option_map, slice_get, slice_set, replicate}
 use Rattle.std.specs.Option.{option_map_or}
+use Rattle.std.specs.Simd.Lanes.{zip2}
 use Rattle.std.proofs.lemmas.List.{length-map}
 use Rattle.pb_ids.specs.declared.numbers.HostNo.{HostNo}
 use Rattle.pb_ids.specs.declared.numbers.Ticket.{Ticket}
 use Rattle.pb_strategies.specs.declared.standings.Standing.{Standing}
 use Rattle.pb_strategies.specs.Hosts.{nowhere}
-use Rattle.pb_one_host.specs.Row.{HostRow, first_rows, sent}
+use Rattle.pb_one_host.specs.declared.turned.Turned.{Turned}
+use Rattle.pb_one_host.specs.Row.{HostRow, first_row, first_rows, is_called, is_waiting, called, left, sent}
+use Rattle.pb_one_host.specs.Turned.{turned_if}
 use Rattle.pb_sight.specs.declared.gifts.Gift.{Gift}
 use Rattle.pb_one_host.specs.Runs.{has_send}
 use Rattle.pb_all_hosts.specs.Hosts.{at_row, change}
 use Rattle.pb_all_hosts.specs.Giving.{takes, given_to}
 use Rattle.pb_one_host.specs.Standing.{standing}
-use Rattle.pb_all_hosts.specs.Due.{asked_at, IsDue}
+use Rattle.pb_all_hosts.specs.Due.{asked_at, is_inside, IsOutside, AreOutside, IsDue}
 use Rattle.pb_all_hosts.specs.Oldest.{all_out, ticket_of, with_job, without_job}
-use Rattle.pb_all_hosts.proofs.Giving.{given_map}
+use Rattle.pb_all_hosts.specs.TurnMade.{with_each}
+use Rattle.pb_all_hosts.proofs.Batching.{waiting_called}
+use Rattle.pb_all_hosts.proofs.Giving.{map_same, given_map}
+use Rattle.pb_all_hosts.proofs.Outside.{out_changed, sent_out, given_told, given_out, out_first}
 use Rattle.pb_all_hosts.proofs.TicketOrder.{first_order, quiet_order, sent_order}
 
 -- a list that says something of each host is as long as the rows
@@ -42,7 +48,7 @@ changed_on row rows h f = by_found (slice_get rows h)
     by_found None = refl
     by_found (Some r) = refl
 
-asked_on : {A : Type 0} (of : HostRow → A) (row : HostRow) (rows : List HostRow) (h : ℕ) (b : A) (told : List A) → asked_at of (row ∷ rows) (suc h) (b ∷ told) ≡ b ∷ asked_at of rows h told
+pub asked_on : {A : Type 0} (of : HostRow → A) (row : HostRow) (rows : List HostRow) (h : ℕ) (b : A) (told : List A) → asked_at of (row ∷ rows) (suc h) (b ∷ told) ≡ b ∷ asked_at of rows h told
 asked_on {A} of row rows h b told = by_found (slice_get rows h)
   where
     by_found : (found : Option HostRow) → option_map_or (λ (r : HostRow). slice_set (b ∷ told) (suc h) (of r)) found (b ∷ told) ≡ b ∷ option_map_or (λ (r : HostRow). slice_set told h (of r)) found told
@@ -65,13 +71,16 @@ one_asked of f h told new_told rows new e n t =
     ∙ asked_changed of f rows h
     ∙ ap (map of) (sym n)
 
-pub sent_due : (ticket : Ticket) (host : HostNo) (sends told_sends : List Bool) (standings told_standings : List Standing) (jobs told_jobs : List (HostNo × Ticket)) (rows new : List HostRow) → at_row has_send rows host.0 ≡ true
-    → IsDue sends standings jobs rows → new ≡ change rows host.0 (sent ticket) → told_sends ≡ asked_at has_send new host.0 sends → told_standings ≡ asked_at standing new host.0 standings → told_jobs ≡ with_job (host, ticket) jobs
-    → IsDue told_sends told_standings told_jobs new
-sent_due ticket host sends told_sends standings told_standings jobs told_jobs rows new w due n s t o =
+pub sent_due : (ticket : Ticket) (host : HostNo) (sends told_sends : List Bool) (standings told_standings : List Standing) (batch waits : List Bool) (jobs told_jobs : List (HostNo × Ticket)) (rows new : List HostRow) → at_row has_send rows host.0 ≡ true
+    → IsDue sends standings batch waits jobs rows → new ≡ change rows host.0 (sent ticket) → told_sends ≡ asked_at has_send new host.0 sends → told_standings ≡ asked_at standing new host.0 standings → told_jobs ≡ with_job (host, ticket) jobs
+    → IsDue told_sends told_standings batch waits told_jobs new
+sent_due ticket host sends told_sends standings told_standings batch waits jobs told_jobs rows new w due n s t o =
     record {
       sending = one_asked has_send (sent ticket) host.0 sends told_sends rows new due.sending n s;
       stands = one_asked standing (sent ticket) host.0 standings told_standings rows new due.stands n t;
+      insiders = due.insiders ∙ sym (ap (map is_inside) n ∙ map_same is_inside (sent ticket) (λ row. refl) rows host.0);
+      waiting = due.waiting ∙ sym (ap (map is_waiting) n ∙ map_same is_waiting (sent ticket) (λ row. refl) rows host.0);
+      outsiders = subst AreOutside (sym n) (out_changed (sent ticket) host.0 rows (λ row at out. sent_out ticket row out) due.outsiders);
       in_order = sent_order ticket host jobs told_jobs rows new w due.in_order n o;
     }
 
@@ -109,30 +118,72 @@ one_given of same gifts f h told new_told rows new e n t =
     ∙ ap (map of) (sym n)
 
 -- and a host whose task started or went on has no job that is out
-pub given_due : (gifts : List Gift) (f : HostRow → HostRow) → ((row : HostRow) → ticket_of (f row) ≡ None) → (h : ℕ) (sends told_sends : List Bool) (standings told_standings : List Standing) (jobs told_jobs : List (HostNo × Ticket))
-    (rows new : List HostRow) → IsDue sends standings jobs rows → new ≡ given_to gifts (change rows h f) → told_sends ≡ asked_at has_send new h sends → told_standings ≡ asked_at standing new h standings → told_jobs ≡ without_job h jobs
-    → IsDue told_sends told_standings told_jobs new
-given_due gifts f none h sends told_sends standings told_standings jobs told_jobs rows new due n s t o =
+pub given_due : (gifts : List Gift) (f : HostRow → HostRow) → ((row : HostRow) → ticket_of (f row) ≡ None) → ((row : HostRow) → is_inside (f row) ≡ is_inside row) → ((row : HostRow) → is_waiting (f row) ≡ is_waiting row) → (h : ℕ) (sends told_sends : List Bool) (standings told_standings : List Standing) (batch waits : List Bool)
+    (jobs told_jobs : List (HostNo × Ticket)) (rows new : List HostRow) → ((row : HostRow) → slice_get rows h ≡ Some row → IsOutside row → IsOutside (f row)) → IsDue sends standings batch waits jobs rows → new ≡ given_to gifts (change rows h f) → told_sends ≡ asked_at has_send new h sends → told_standings ≡ asked_at standing new h standings → told_jobs ≡ without_job h jobs
+    → IsDue told_sends told_standings batch waits told_jobs new
+given_due gifts f none same stays h sends told_sends standings told_standings batch waits jobs told_jobs rows new keeps due n s t o =
     record {
       sending = one_given has_send (λ gift row. refl) gifts f h sends told_sends rows new due.sending n s;
       stands = one_given standing (λ gift row. refl) gifts f h standings told_standings rows new due.stands n t;
+      insiders = given_told is_inside (λ gift row. refl) gifts f same h batch rows new due.insiders n;
+      waiting = given_told is_waiting (λ gift row. refl) gifts f stays h waits rows new due.waiting n;
+      outsiders = given_out gifts f h rows new keeps due.outsiders n;
       in_order = quiet_order gifts f none h jobs told_jobs rows new due.in_order n o;
     }
 
--- before the run nobody has a job to send, and nobody is in a batch
-first_send : (h n : ℕ) → replicate n false ≡ map has_send (first_rows h n)
-first_send h zero = refl
-first_send h (suc n) = ap (λ rest. false ∷ rest) (first_send (h + 1) n)
+-- a turn changes nobody's waiting
+each_waits : (all : List (Option Turned)) (rows : List HostRow) → map is_waiting (with_each all rows) ≡ map is_waiting rows
+each_waits [] rows = refl
+each_waits (t ∷ all) [] = refl
+each_waits (t ∷ all) (row ∷ rows) = ap (λ (b : Bool). b ∷ map is_waiting (with_each all rows)) (if_waits t) ∙ ap (λ (rest : List Bool). row.waits ∷ rest) (each_waits all rows)
+  where
+    if_waits : (u : Option Turned) → is_waiting (turned_if u row) ≡ row.waits
+    if_waits None = refl
+    if_waits (Some made) = refl
+
+pub turned_waits : (all : List (Option Turned)) (waits : List Bool) (rows new : List HostRow) → waits ≡ map is_waiting rows → new ≡ with_each all rows → waits ≡ map is_waiting new
+turned_waits all waits rows new e n = e ∙ sym (each_waits all rows) ∙ ap (map is_waiting) (sym n)
+
+-- as a play begins those wait that are called, and those that are in a batch stay in it
+called_inside : (hosts : List Bool) (rows : List HostRow) → map is_inside (map (called hosts) rows) ≡ map is_inside rows
+called_inside hosts [] = refl
+called_inside hosts (row ∷ rows) = ap (λ (rest : List Bool). row.in_batch ∷ rest) (called_inside hosts rows)
+
+pub inside_called : (hosts batch : List Bool) (rows new : List HostRow) → batch ≡ map is_inside rows → new ≡ map (called hosts) rows → batch ≡ map is_inside new
+inside_called hosts batch rows new e n = e ∙ sym (called_inside hosts rows) ∙ ap (map is_inside) (sym n)
+
+pub waits_called : (hosts calls : List Bool) (rows new : List HostRow) → calls ≡ map (is_called hosts) rows → new ≡ map (called hosts) rows → calls ≡ map is_waiting new
+waits_called hosts calls rows new e n = e ∙ sym (waiting_called hosts rows) ∙ ap (map is_waiting) (sym n)
+
+-- a host of the batch waits no more once it closes
+left_waits : (rows : List HostRow) → zip2 (λ (a b : Bool). a && not b) (map is_waiting rows) (map is_inside rows) ≡ map is_waiting (map left rows)
+left_waits [] = refl
+left_waits (row ∷ rows) = ap (λ (rest : List Bool). (row.waits && not row.in_batch) ∷ rest) (left_waits rows)
+
+pub waits_left : (waits batch told : List Bool) (rows new : List HostRow) → waits ≡ map is_waiting rows → batch ≡ map is_inside rows → told ≡ zip2 (λ (a b : Bool). a && not b) waits batch → new ≡ map left rows → told ≡ map is_waiting new
+waits_left waits batch told rows new w b t n =
+    t ∙ ap (λ (set : List Bool). zip2 (λ (a b : Bool). a && not b) set batch) w
+    ∙ ap (zip2 (λ (a b : Bool). a && not b) (map is_waiting rows)) b
+    ∙ left_waits rows
+    ∙ ap (map is_waiting) (sym n)
+
+-- before the run nobody has a job to send, is in a batch or waits for one
+first_none : (of : HostRow → Bool) → ((h : ℕ) → of (first_row h) ≡ false) → (h n : ℕ) → replicate n false ≡ map of (first_rows h n)
+first_none of off h zero = refl
+first_none of off h (suc n) = ap (λ (b : Bool). b ∷ replicate n false) (sym (off h)) ∙ ap (λ (rest : List Bool). of (first_row h) ∷ rest) (first_none of off (h + 1) n)
 
 first_stand : (h n : ℕ) → replicate n nowhere ≡ map standing (first_rows h n)
 first_stand h zero = refl
 first_stand h (suc n) = ap (λ (rest : List Standing). nowhere ∷ rest) (first_stand (h + 1) n)
 
-pub first_due : (n : ℕ) (sends : List Bool) (standings : List Standing) (jobs : List (HostNo × Ticket)) (rows : List HostRow) → sends ≡ replicate n false → standings ≡ replicate n nowhere → jobs ≡ [] → rows ≡ first_rows 0 n
-    → IsDue sends standings jobs rows
-first_due n sends standings jobs rows s t o e =
+pub first_due : (n : ℕ) (sends : List Bool) (standings : List Standing) (batch waits : List Bool) (jobs : List (HostNo × Ticket)) (rows : List HostRow) → sends ≡ replicate n false → standings ≡ replicate n nowhere → batch ≡ replicate n false → waits ≡ replicate n false → jobs ≡ []
+    → rows ≡ first_rows 0 n → IsDue sends standings batch waits jobs rows
+first_due n sends standings batch waits jobs rows s t b w o e =
     record {
-      sending = s ∙ first_send 0 n ∙ ap (map has_send) (sym e);
+      sending = s ∙ first_none has_send (λ h. refl) 0 n ∙ ap (map has_send) (sym e);
       stands = t ∙ first_stand 0 n ∙ ap (map standing) (sym e);
+      insiders = b ∙ first_none is_inside (λ h. refl) 0 n ∙ ap (map is_inside) (sym e);
+      waiting = w ∙ first_none is_waiting (λ h. refl) 0 n ∙ ap (map is_waiting) (sym e);
+      outsiders = subst AreOutside (sym e) (out_first 0 n);
       in_order = o ∙ sym (first_order 0 0 n) ∙ ap all_out (sym e);
     }

@@ -1,7 +1,6 @@
 -- The rows of a batch that opens.
 use Rattle.std.proofs.Common.{◌≡◌, ℕ, zero, suc, ◌-◌, ◌<◌, ◌≤◌, Bool, true, false, ◌||◌, List, [], ◌∷◌, length, map, refl, ap, arith, cond}
 use Rattle.std.specs.List.{list_any}
-use Rattle.std.proofs.lemmas.List.{length-map}
 use Rattle.std.proofs.lemmas.List.Sums.{sum_by-cons, count_by-le-length}
 use Rattle.pb_tree.specs.Tree.{TreeOf}
 use Rattle.pb_all_hosts.specs.Batches.{called_count, joins, room_behind, joined_first}
@@ -32,9 +31,6 @@ some_called hosts (row ∷ rows) e = by_row (is_called hosts row) refl (λ f. so
 pub length-joined : (tree : TreeOf) (room : ℕ) (rows : List HostRow) → length (joined_first tree room rows) ≡ length rows
 length-joined tree room [] = refl
 length-joined tree room (row ∷ rows) = ap suc (length-joined tree (room_behind room row.waits) rows)
-
-pub length-begun : (tree : TreeOf) (room : ℕ) (hosts : List Bool) (rows : List HostRow) → length (joined_first tree room (map (called hosts) rows)) ≡ length rows
-length-begun tree room hosts rows = let joined_too = length-joined tree room (map (called hosts) rows) in let called_too = length-map rows (called hosts) in omega (arith, joined_too, called_too)
 
 -- of whom those join that wait
 pub joins_waits : (room : ℕ) (waits : Bool) → joins room waits ≡ true → waits ≡ true

@@ -4,12 +4,12 @@ use Rattle.std.specs.Prelude.{Some, slice_get, slice_set, nat_eq}
 use Rattle.std.specs.List.{list_any}
 use Rattle.std.proofs.lemmas.List.{length-map}
 use Rattle.std.proofs.lemmas.List.Sums.{sum_by-cons, count_by-le-length}
-use Rattle.pb_tree.specs.Tree.{TreeOf}
-use Rattle.pb_all_hosts.specs.Batches.{room_behind, joined_first}
+use Rattle.pb_cursors.specs.Walks.{PlayWalkOf}
+use Rattle.pb_all_hosts.specs.Joining.{walks_behind, joined_by}
 use Rattle.pb_one_host.specs.Row.{HostRow, first_rows, called, left}
 use Rattle.pb_one_host.specs.Runs.{is_running}
 use Rattle.pb_all_hosts.specs.Hosts.{running_count, one_if}
-use Rattle.pb_all_hosts.proofs.Batching.{length-joined}
+use Rattle.pb_all_hosts.proofs.Joined.{length-joined_by}
 use Rattle.pb_all_hosts.proofs.FirstRows.{length-first}
 
 one_is : (b : Bool) → one_if b ≡ cond b 1 0
@@ -63,9 +63,9 @@ pub none_first : (h n : ℕ) → running_count (first_rows h n) ≡ 0
 none_first h zero = refl
 none_first h (suc n) = none_first (h + 1) n
 
-pub none_joined : (tree : TreeOf) (room : ℕ) (rows : List HostRow) → running_count (joined_first tree room rows) ≡ 0
-none_joined tree room [] = refl
-none_joined tree room (row ∷ rows) = none_joined tree (room_behind room row.waits) rows
+none_joined : (walks : List PlayWalkOf) (rows : List HostRow) → running_count (joined_by walks rows) ≡ 0
+none_joined walks [] = refl
+none_joined walks (row ∷ rows) = none_joined (walks_behind row.waits walks) rows
 
 pub none_left : (rows : List HostRow) → running_count (map left rows) ≡ 0
 none_left [] = refl
@@ -78,13 +78,19 @@ counted_below rows n most k l = let le = count_by-le-length is_running rows in o
 pub first_holds : (rows : List HostRow) (n : ℕ) → rows ≡ first_rows 0 n → n < 4294967296 → (0 ≡ running_count rows) × (length rows < 4294967296)
 first_holds rows n e below = rw e (sym (none_first 0 n), rw (length-first 0 n) below)
 
-pub joined_holds : (tree : TreeOf) (room : ℕ) (rows joined_rows : List HostRow) → joined_rows ≡ joined_first tree room rows → length rows < 4294967296
-    → (0 ≡ running_count joined_rows) × (length joined_rows < 4294967296)
-joined_holds tree room rows joined_rows e below = rw e (sym (none_joined tree room rows), rw (length-joined tree room rows) below)
+pub joined_holds : (walks : List PlayWalkOf) (rows joined_rows : List HostRow) → joined_rows ≡ joined_by walks rows → length rows < 4294967296 → (0 ≡ running_count joined_rows) × (length joined_rows < 4294967296)
+joined_holds walks rows joined_rows e below = rw e (sym (none_joined walks rows), rw (length-joined_by walks rows) below)
 
-pub begun_holds : (tree : TreeOf) (room : ℕ) (hosts : List Bool) (rows begun_rows : List HostRow) → begun_rows ≡ joined_first tree room (map (called hosts) rows) → length rows < 4294967296
-    → (0 ≡ running_count begun_rows) × (length begun_rows < 4294967296)
-begun_holds tree room hosts rows begun_rows e below = joined_holds tree room (map (called hosts) rows) begun_rows e (rw (length-map rows (called hosts)) below)
+-- and as many run as a play begins as before
+called_running : (hosts : List Bool) (rows : List HostRow) → running_count (map (called hosts) rows) ≡ running_count rows
+called_running hosts [] = refl
+called_running hosts (row ∷ rows) =
+    let rest = called_running hosts rows in
+    let here : one_if (is_running (called hosts row)) ≡ one_if (is_running row) = refl in
+    omega (arith, rest, here, count_on (called hosts row) (map (called hosts) rows), count_on row rows)
+
+pub called_holds : (hosts : List Bool) (n : ℕ) (rows called_rows : List HostRow) → called_rows ≡ map (called hosts) rows → n ≡ running_count rows → length rows < 4294967296 → (n ≡ running_count called_rows) × (length called_rows < 4294967296)
+called_holds hosts n rows called_rows e k below = rw e (k ∙ sym (called_running hosts rows), rw (length-map rows (called hosts)) below)
 
 pub left_holds : (rows left_rows : List HostRow) → left_rows ≡ map left rows → length rows < 4294967296 → (0 ≡ running_count left_rows) × (length left_rows < 4294967296)
 left_holds rows left_rows e below = rw e (sym (none_left rows), rw (length-map rows) below)

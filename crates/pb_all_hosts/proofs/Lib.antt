@@ -12,3 +12,5 @@ pub mod TicketOrder
 pub mod Asked
 pub mod Overwritten
 pub mod Reported
+pub mod Members
+pub mod Outside

@@ -12,10 +12,10 @@ use Rattle.pb_outcome.specs.declared.outcome.Form.{Form}
 use Rattle.pb_outcome.specs.Items.{is_over}
 use Rattle.pb_plan.specs.Plan.{PlayOf, PlanOf}
 use Rattle.pb_sight.specs.declared.gifts.Gift.{Gift}
-use Rattle.pb_tree.specs.Tree.{TreeOf}
+use Rattle.pb_cursors.specs.Walks.{PlayWalkOf}
 use Rattle.pb_one_host.specs.declared.row.Running.{Running}
 use Rattle.pb_one_host.specs.declared.turned.Turned.{Turned}
-use Rattle.pb_all_hosts.specs.Batches.{room_behind, joined_first}
+use Rattle.pb_all_hosts.specs.Joining.{walks_behind, joined_by}
 use Rattle.pb_one_host.specs.Row.{HostRow, first_rows, left, sent, sent_running, ended, progressed, reported, reported_running, items_after}
 use Rattle.pb_one_host.specs.Runs.{has_send, has_ticket, is_out, is_ticket}
 use Rattle.pb_all_hosts.specs.Hosts.{at_row, change}
@@ -301,9 +301,9 @@ pub left_order : (h : ℕ) (rows : List HostRow) → out_from h (map ticket_of (
 left_order h [] = refl
 left_order h (row ∷ rows) = left_order (h + 1) rows
 
-pub joined_order : (tree : TreeOf) (h room : ℕ) (rows : List HostRow) → out_from h (map ticket_of (joined_first tree room rows)) ≡ []
-joined_order tree h room [] = refl
-joined_order tree h room (row ∷ rows) = joined_order tree (h + 1) (room_behind room row.waits) rows
+pub joined_order : (h : ℕ) (walks : List PlayWalkOf) (rows : List HostRow) → out_from h (map ticket_of (joined_by walks rows)) ≡ []
+joined_order h walks [] = refl
+joined_order h walks (row ∷ rows) = joined_order (h + 1) (walks_behind row.waits walks) rows
 
 pub first_order : (h k n : ℕ) → out_from h (map ticket_of (first_rows k n)) ≡ []
 first_order h k zero = refl

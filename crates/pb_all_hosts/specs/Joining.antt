@@ -1,18 +1,26 @@
--- How the batch of a play opens for all hosts: each gets the walk that was made for it.
-use Rattle.std.specs.Prelude.{ℕ, ◌+◌, Bool, List, [], ◌∷◌, Option, if◌then◌else◌}
-use Rattle.pb_cursors.specs.Walks.{PlayWalkOf}
+-- How the batch of a play opens for all hosts: the first of those that wait take the walks that were made for them.
+use Rattle.std.specs.Prelude.{ℕ, min, Bool, true, false, List, [], ◌∷◌, Option, Some, None, replicate, count_by}
+use Rattle.pb_cursors.specs.Walks.{PlayWalkOf, walk_from}
 use Rattle.pb_tree.specs.Tree.{TreeOf}
-use Rattle.pb_all_hosts.specs.Hosts.{change}
-use Rattle.pb_all_hosts.specs.Batches.{joins, room_behind}
 use Rattle.pb_one_host.specs.Row.{HostRow}
-use Rattle.pb_one_host.specs.Walking.{walk_if, with_walk}
+use Rattle.pb_one_host.specs.Walking.{with_walk}
 
--- the walks of hosts of which these wait, in a batch that has room for so many
-abbrev pub walks_from : TreeOf → ℕ → List Bool → List (Option PlayWalkOf)
-walks_from tree room [] = []
-walks_from tree room (waits ∷ rest) = walk_if tree (joins room waits) ∷ walks_from tree (room_behind room waits) rest
+-- the walks of a batch of this size, where these hosts wait: one for each of those that join
+abbrev pub first_walks : TreeOf → ℕ → List Bool → List PlayWalkOf
+first_walks tree size waits = replicate (min size (count_by (λ b. b) waits)) (walk_from tree)
 
--- hosts that take these walks, of which the first is that of the host at this number
-abbrev pub joined_from : ℕ → List (Option PlayWalkOf) → List HostRow → List HostRow
-joined_from n [] rows = rows
-joined_from n (walk ∷ walks) rows = joined_from (n + 1) walks (change rows n (with_walk walk))
+-- the walk that a host takes of these, where it waits or doesn't, and those that it leaves
+abbrev pub taken : Bool → List PlayWalkOf → Option PlayWalkOf
+taken true [] = None
+taken true (walk ∷ walks) = Some walk
+taken false walks = None
+
+abbrev pub walks_behind : Bool → List PlayWalkOf → List PlayWalkOf
+walks_behind true [] = []
+walks_behind true (walk ∷ walks) = walks
+walks_behind false walks = walks
+
+-- the first of the hosts that wait take these walks, one each; the others are in no batch
+abbrev pub joined_by : List PlayWalkOf → List HostRow → List HostRow
+joined_by walks [] = []
+joined_by walks (row ∷ rows) = with_walk (taken row.waits walks) row ∷ joined_by (walks_behind row.waits walks) rows

@@ -1,24 +1,30 @@
-//! Which hosts are due, and which jobs are out, beside the rows of all hosts.
+//! Which hosts are due and in the batch, and which jobs are out, beside the rows of all hosts.
 
-ghost use Rattle.std.specs.Prelude.{◌≡◌, ◌<◌, ◌-◌, ◌^◌, length, map, replicate, slice_get, slice_set, true, IfOk, IfSome, OnOk, OnErr, None};
+ghost use Rattle.std.specs.Prelude.{◌≡◌, ◌<◌, ◌≤◌, ◌-◌, ◌^◌, length, map, replicate, slice_get, count_by, true, IfOk, IfSome, OnOk, OnErr, None};
 ghost use Rattle.std.specs.List.{list_any};
 ghost use Rattle.std.specs.Option.{option_map_or};
-ghost use Rattle.pb_one_host.specs.Row.{first_rows, called, left, progressed, sent, reported};
+ghost use Rattle.pb_one_host.specs.Row.{first_rows, is_waiting, called, left, progressed, sent, reported};
 ghost use Rattle.pb_all_hosts.specs.Batches.{joined_first};
+ghost use Rattle.pb_all_hosts.specs.Joining.{joined_by};
 ghost use Rattle.pb_one_host.specs.Ends.{IsAtMost};
-ghost use Rattle.pb_one_host.specs.Runs.{is_running, has_send, is_out, has_ticket};
+ghost use Rattle.pb_one_host.specs.Runs.{is_in, is_running, has_send, is_out, has_ticket};
 ghost use Rattle.pb_one_host.specs.Decides.{done_if, report_decides};
-ghost use Rattle.pb_all_hosts.specs.Hosts.{at_row, change, pending_in};
+ghost use Rattle.pb_all_hosts.specs.Hosts.{at_row, change, least_place, pending_in};
 ghost use Rattle.pb_all_hosts.specs.Giving.{given_to, gifts_at, report_gives};
 ghost use Rattle.pb_one_host.specs.Standing.{standing};
-ghost use Rattle.pb_all_hosts.specs.Due.{asked_at};
+ghost use Rattle.pb_all_hosts.specs.Due.{asked_at, is_inside, AreOutside};
+ghost use Rattle.pb_strategies.specs.Hosts.{nowhere};
 ghost use Rattle.pb_all_hosts.specs.Oldest.{oldest_out};
 ghost use Rattle.pb_all_hosts.specs.TurnMade.{halts_at, turned_rows};
 
+use crate::inside::{empty_by, least_inside, put_in, some_inside, stand_inside, stand_left};
 use crate::jobs_out::{drop_job, first_job, put_job, some_under};
-use crate::rows::{self, HostRows, sends_into, stand_all, turn_all};
+use crate::rows::{
+    self, HostRows, call_all, called_set, inside_into, join_waiting, sends_into, stand_all,
+    turn_all, walks_for,
+};
 use crate::turned::turn_of;
-use pb_cursors::LaidTree;
+use pb_cursors::{LaidTree, PlayWalk};
 use pb_ids::{HostNo, Ticket};
 use pb_inventory::inventory::Inventory;
 use pb_one_host::{Decided, Done, Row, TaskItems};
@@ -31,12 +37,16 @@ use std::alloc::{AllocError, Global};
 use std::marker::Model;
 use std::rc::Rc;
 
-/// The rows of all hosts. Which of them have a job to send, where each stands, and which jobs are out is kept beside them: a step that changes one
-/// host's row asks that row alone.
+/// The rows of all hosts. Which of them have a job to send, where each stands, which are in the batch, which wait for theirs, and which jobs are out is
+/// kept beside them: a step that changes one host's row asks that row alone, and one that is about the batch the batch's rows.
 pub struct DueRows {
     rows: HostRows,
     sends: HostSet,
     standings: Standings,
+    /// The hosts of the batch.
+    batch: HostSet,
+    /// Those of the play that goes on whose batch hasn't closed.
+    waits: HostSet,
     /// The jobs that are out, in the order in which they were sent.
     out: Vec<(HostNo, Ticket)>,
 }
@@ -47,11 +57,15 @@ impl Drop for DueRows {
             rows,
             sends,
             standings,
+            batch,
+            waits,
             out,
         } = self;
         drop(rows);
         drop(sends);
         drop(standings);
+        drop(batch);
+        drop(waits);
         drop(out);
     }
 }
@@ -70,7 +84,7 @@ impl Model for DueRows {
 
     ghost view = { λ r. r.rows };
 
-    ghost invariant = { λ r. IsDue r.sends r.standings r.out.items r.rows };
+    ghost invariant = { λ r. IsDue r.sends r.standings r.batch r.waits r.out.items r.rows };
 }
 
 impl DueRows {
@@ -80,12 +94,16 @@ impl DueRows {
     {
         let sends = HostSet::empty(alloc, hosts)?;
         let standings = Standings::new(alloc, hosts, 0)?;
+        let batch = HostSet::empty(alloc, hosts)?;
+        let waits = HostSet::empty(alloc, hosts)?;
         let rows = HostRows::first(alloc, hosts)?;
         let out = Vec::new(alloc);
         Ok(DueRows {
             rows,
             sends,
             standings,
+            batch,
+            waits,
             out,
         })
     }
@@ -109,6 +127,13 @@ impl DueRows {
         ensures { result.now ≡ map has_send self.now }
     {
         &self.sends
+    }
+
+    /// The hosts of the batch.
+    pub fn batch(&self) -> &HostSet
+        ensures { result.now ≡ map is_inside self.now }
+    {
+        &self.batch
     }
 
     /// Where each host stands.
@@ -140,16 +165,6 @@ impl DueRows {
     }
 }
 
-/// Adds a host to a set, or takes it out. A host past the set's end changes nothing.
-#[tactic(auto, using(crate::proofs::Asked::set_past))]
-fn put_in(set: &mut HostSet, host: HostNo, is_in: bool)
-    ensures { set.new ≡ slice_set set.old host.0 is_in }
-{
-    if host.0 < set.width() {
-        set.put(host, is_in);
-    }
-}
-
 /// Asks the row of one host anew.
 fn ask_one(rows: &HostRows, host: HostNo, sends: &mut HostSet, standings: &mut Standings)
     ensures sends { sends.new ≡ asked_at has_send rows.now host.0 sends.old }
@@ -162,17 +177,59 @@ fn ask_one(rows: &HostRows, host: HostNo, sends: &mut HostSet, standings: &mut S
 }
 
 /// Asks all rows anew.
-fn ask_all(rows: &HostRows, sends: &mut HostSet, standings: &mut Standings)
+fn ask_all(rows: &HostRows, sends: &mut HostSet, standings: &mut Standings, batch: &mut HostSet)
     requires sends { length sends.old ≡ length rows.now }
     requires stands { length standings.old ≡ length rows.now }
+    requires batch { length batch.old ≡ length rows.now }
     ensures sends { sends.new ≡ map has_send rows.now }
     ensures stands { standings.new ≡ map standing rows.now }
+    ensures batch { batch.new ≡ map is_inside rows.now }
 {
     // (there are fewer rows than host numbers)
     let _hosts = rows.hosts();
     let all = rows.as_slice();
     sends_into(all, sends);
     stand_all(all, standings);
+    inside_into(all, batch);
+}
+
+/// A batch opens with these walks: the first hosts that wait take them, one each, and no other host is in it. No host of these stood anywhere.
+fn open_batch(
+    rows: &mut HostRows,
+    walks: Vec<PlayWalk>,
+    waits: &HostSet,
+    batch: &mut HostSet,
+    sends: &mut HostSet,
+    standings: &mut Standings,
+)
+    requires waits { waits.now ≡ map is_waiting rows.old }
+    requires few { length walks.items ≤ count_by (λ b. b) waits.now }
+    requires insiders { batch.old ≡ map is_inside rows.old }
+    requires outsiders { AreOutside rows.old }
+    requires sends { length sends.old ≡ length rows.old }
+    requires stands { standings.old ≡ replicate (length rows.old) nowhere }
+    ensures rows { rows.new ≡ joined_by walks.items rows.old }
+    ensures batch { batch.new ≡ map is_inside rows.new }
+    ensures sends { sends.new ≡ map has_send rows.new }
+    ensures stands { standings.new ≡ map standing rows.new }
+{
+    join_waiting(rows, walks, waits, batch);
+    empty_by(batch, sends);
+    stand_inside(rows.as_slice(), batch, standings);
+}
+
+/// The least place at which a host of the batch is.
+pub fn least_place(rows: &DueRows) -> Option<usize>
+    ensures { result ≡ least_place rows.now }
+{
+    least_inside(rows.rows.as_slice(), &rows.batch)
+}
+
+/// Whether a host of the batch is active.
+pub fn some_in(rows: &DueRows) -> bool
+    ensures { result ≡ list_any is_in rows.now }
+{
+    some_inside(rows.rows.as_slice(), &rows.batch)
 }
 
 /// From now on it is kept who is at this place.
@@ -237,13 +294,6 @@ pub fn report_row(
     Ok(decided)
 }
 
-/// Where no host of these is in a batch, in a play with so many places.
-fn nowhere(alloc: Global, rows: &HostRows, places: usize) -> Result<Standings, AllocError>
-    ensures { IfOk result (λ standings. length standings ≡ length rows.now) }
-{
-    Standings::new(alloc, rows.hosts(), places)
-}
-
 /// A batch of this size opens of the play that goes on, which has this tree. An `Err` changes nothing.
 pub fn join_first(
     alloc: Global,
@@ -255,11 +305,17 @@ pub fn join_first(
     ensures ok { OnOk result (rows.new ≡ joined_first laid.now.value.tree size rows.old) }
     ensures err { OnErr result (rows.new ≡ rows.old) }
 {
-    let standings = nowhere(alloc, &rows.rows, places)?;
-    rows::join_first(alloc, &mut rows.rows, size, laid)?;
-    rows.standings = standings;
+    let walks = walks_for(alloc, &rows.waits, size, laid)?;
+    rows.standings.clear(alloc, places)?;
     rows.out.clear();
-    ask_all(&rows.rows, &mut rows.sends, &mut rows.standings);
+    open_batch(
+        &mut rows.rows,
+        walks,
+        &rows.waits,
+        &mut rows.batch,
+        &mut rows.sends,
+        &mut rows.standings,
+    );
     Ok(())
 }
 
@@ -275,11 +331,20 @@ pub fn begin_first(
     ensures ok { OnOk result (rows.new ≡ joined_first laid.now.value.tree size (map (called hosts.now) rows.old)) }
     ensures err { OnErr result (rows.new ≡ rows.old) }
 {
-    let standings = nowhere(alloc, &rows.rows, places)?;
-    rows::begin_first(alloc, &mut rows.rows, hosts, size, laid)?;
-    rows.standings = standings;
+    let calls = called_set(alloc, &rows.rows, hosts)?;
+    let walks = walks_for(alloc, &calls, size, laid)?;
+    rows.standings.clear(alloc, places)?;
+    call_all(&mut rows.rows, hosts);
+    rows.waits = calls;
     rows.out.clear();
-    ask_all(&rows.rows, &mut rows.sends, &mut rows.standings);
+    open_batch(
+        &mut rows.rows,
+        walks,
+        &rows.waits,
+        &mut rows.batch,
+        &mut rows.sends,
+        &mut rows.standings,
+    );
     Ok(())
 }
 
@@ -287,9 +352,12 @@ pub fn begin_first(
 pub fn leave_all(rows: &mut DueRows)
     ensures { rows.new ≡ map left rows.old }
 {
-    rows::leave_all(&mut rows.rows);
+    stand_left(rows.rows.as_slice(), &rows.batch, &mut rows.standings);
+    rows::leave_all(&mut rows.rows, &rows.batch);
     rows.out.clear();
-    ask_all(&rows.rows, &mut rows.sends, &mut rows.standings);
+    rows.waits.minus_with(&rows.batch);
+    empty_by(&rows.batch, &mut rows.sends);
+    empty_by(&rows.sends, &mut rows.batch);
 }
 
 /// The batch goes on from a place: what one host did for all goes to the others, and hosts are halted; it says whether they are. An `Err` changes
@@ -307,11 +375,23 @@ pub fn turn_rows(
 {
     // (there are fewer rows than host numbers)
     let _hosts = rows.rows.hosts();
-    match turn_of(alloc, inventory, play, place, rows.rows.as_slice())? {
+    match turn_of(
+        alloc,
+        inventory,
+        play,
+        place,
+        rows.rows.as_slice(),
+        &rows.batch,
+    )? {
         Some(made) => {
             let (all, halts) = made.parts();
             turn_all(&mut rows.rows, all);
-            ask_all(&rows.rows, &mut rows.sends, &mut rows.standings);
+            ask_all(
+                &rows.rows,
+                &mut rows.sends,
+                &mut rows.standings,
+                &mut rows.batch,
+            );
             Ok(halts)
         }
         None => Ok(false),

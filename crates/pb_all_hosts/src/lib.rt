@@ -2,22 +2,22 @@
 //!
 //! For the layers above: `DueRows` are the rows of all hosts, which contracts see as a plain list of `HostRow` (pb_one_host). Its calls change the row of
 //! one host as its task starts, is sent or comes back, and give to other hosts what the task gives (`specs/Giving.antt`); or all rows as a batch opens
-//! (`specs/Batches.antt`), goes on (`specs/Turn.antt`) or closes. Which hosts have a job to send, where each stands and which jobs are out is kept
-//! beside the rows (`specs/Due.antt`), so that a step which changes one row asks that row alone. Nothing here knows of events. A call that finds no
-//! memory changes nothing.
+//! (`specs/Batches.antt`), goes on (`specs/Turn.antt`) or closes. Which hosts have a job to send, where each stands, which are in the batch, which wait
+//! for theirs and which jobs are out is kept beside the rows (`specs/Due.antt`), so that a step which changes one row asks that row alone, what is asked
+//! of the batch is asked of its rows, and a batch that opens looks at the hosts that join and at those that were in the one before. Nothing here knows
+//! of events. A call that finds no memory changes nothing.
 #![tactic(auto)]
 
 mod due;
 mod gifts;
+mod inside;
 mod jobs_out;
 mod rows;
 mod turned;
 
 pub use due::{
-    DueRows, begin_first, join_first, leave_all, report_row, send_row, stand_at, start_row,
-    turn_rows,
+    DueRows, begin_first, join_first, least_place, leave_all, report_row, send_row, some_in,
+    stand_at, start_row, turn_rows,
 };
-pub use rows::{
-    attempt_in, called_count, counts_of, first_play, item_in, least_place, none_into, some_in,
-};
+pub use rows::{attempt_in, called_count, counts_of, first_play, item_in, none_into};
 pub use turned::is_settled;

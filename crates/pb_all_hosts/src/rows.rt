@@ -1,30 +1,30 @@
 //! The rows of all hosts.
 
-ghost use Rattle.std.specs.Prelude.{◌≡◌, ◌&&◌, ◌<◌, ◌≤◌, ◌+◌, ◌-◌, ◌^◌, length, map, drop, replicate, slice_get, count_by, true, false, IfOk, IfSome, IfNone, OnOk, OnErr, Some, None};
+ghost use Rattle.std.specs.Prelude.{◌≡◌, ◌<◌, ◌≤◌, ◌+◌, ◌-◌, ◌^◌, length, map, drop, replicate, slice_get, count_by, true, false, IfOk, IfSome, OnOk, OnErr, Some, None};
 ghost use Rattle.std.specs.List.{list_any};
 ghost use Rattle.std.specs.Option.{option_map_or};
-ghost use Rattle.pb_one_host.specs.Row.{HostRow, first_rows, next_place, is_called, is_waiting, called, left, progressed, sent, reported, knows};
+ghost use Rattle.pb_one_host.specs.Row.{HostRow, first_rows, is_called, is_waiting, called, left, progressed, sent, reported, knows};
 ghost use Rattle.pb_one_host.specs.Ends.{IsAtMost};
-ghost use Rattle.pb_all_hosts.specs.Batches.{called_count, joins, room_behind, joined_first};
-ghost use Rattle.pb_one_host.specs.Walking.{with_walk};
-ghost use Rattle.pb_all_hosts.specs.Joining.{walks_from, joined_from};
+ghost use Rattle.pb_cursors.specs.Walks.{walk_from};
+ghost use Rattle.pb_all_hosts.specs.Batches.{called_count};
+ghost use Rattle.pb_all_hosts.specs.Joining.{first_walks, joined_by};
 ghost use Rattle.pb_one_host.specs.Standing.{standing};
-ghost use Rattle.pb_one_host.specs.Runs.{is_in, is_running, has_send, item_of, attempt_of};
+ghost use Rattle.pb_one_host.specs.Runs.{is_running, has_send, item_of, attempt_of};
 ghost use Rattle.pb_one_host.specs.Decides.{done_if, report_decides};
-ghost use Rattle.pb_all_hosts.specs.Hosts.{least_place, lesser, change, one_if, running_count, pending_in, has_hosts, first_play};
+ghost use Rattle.pb_all_hosts.specs.Hosts.{lesser, change, one_if, running_count, pending_in, first_play};
 ghost use Rattle.pb_all_hosts.specs.Giving.{given_to, gifts_at, report_gives, gives_now};
 ghost use Rattle.pb_one_host.specs.Back.{back_row, retried_row, undone, went_on, decided_now};
 ghost use Rattle.pb_all_hosts.specs.Prepared.{with_facts};
 ghost use Rattle.pb_one_host.specs.Turned.{turned_if};
 ghost use Rattle.pb_all_hosts.specs.TurnMade.{each_from, with_each};
+ghost use Rattle.pb_all_hosts.specs.Due.{is_inside, AreOutside};
 
 use crate::gifts::{NewFacts, gifts_at, gives_now, with_gifts};
+use crate::inside::{empty_by, join_each, leave_inside, step_out};
 use pb_cursors::{LaidTree, PlayWalk};
 use pb_ids::{HostNo, Ticket};
 use pb_inventory::inventory::Inventory;
-use pb_one_host::{
-    Before, CameBack, Counts, Decided, Done, Retried, Row, TaskItems, Turned, walk_if,
-};
+use pb_one_host::{Before, CameBack, Counts, Decided, Done, Retried, Row, TaskItems, Turned};
 use pb_outcome::outcome::Outcome;
 use pb_plan::PlanPlay;
 use pb_planes::HostSet;
@@ -154,13 +154,6 @@ pub fn first_play(rows: &[Row], plays: &[PlanPlay], from: usize) -> Option<usize
         }
     }
     None
-}
-
-/// Whether a host of the batch is active.
-pub fn some_in(rows: &[Row]) -> bool
-    ensures { result ≡ list_any is_in rows.now }
-{
-    rows.iter().any(|row| row.is_in())
 }
 
 /// A host starts the task at a place with these items. An `Err` changes nothing.
@@ -399,121 +392,81 @@ pub fn report_row(
     }
 }
 
-/// Of each host whether it waits for its batch.
-fn waiting_in(alloc: Global, rows: &[Row]) -> Result<Vec<bool>, AllocError>
-    ensures { IfOk result (λ all. all.items ≡ map is_waiting rows.now) }
+/// Puts the hosts that are called to a play with these hosts of its own into a set.
+fn called_into(rows: &[Row], hosts: &HostSet, set: &mut HostSet)
+    requires { length set.old ≡ length rows.now }
+    ensures { set.new ≡ map (is_called hosts.now) rows.now }
 {
-    let mut all = Vec::with_capacity(alloc, rows.len())?;
-    for row in rows {
-        all.push(row.waits())?;
+    let width = set.width();
+    for i in 0..width {
+        let is_in = rows[i as usize].is_called(hosts);
+        set.put(HostNo(i), is_in);
     }
-    Ok(all)
 }
 
-/// Of each host whether it is called to a play with these hosts of its own.
-fn called_in(alloc: Global, rows: &[Row], hosts: &HostSet) -> Result<Vec<bool>, AllocError>
-    ensures { IfOk result (λ all. all.items ≡ map (is_called hosts.now) rows.now) }
-{
-    let mut all = Vec::with_capacity(alloc, rows.len())?;
-    for row in rows {
-        all.push(row.is_called(hosts))?;
-    }
-    Ok(all)
-}
-
-/// Whether a host joins a batch that has room for so many more.
-fn joins(room: u32, waits: bool) -> bool
-    ensures { result ≡ joins room waits }
-{
-    waits && 0 < room
-}
-
-/// For how many a batch has room behind a host.
-fn room_behind(room: u32, waits: bool) -> u32
-    ensures { result ≡ room_behind room waits }
-{
-    if joins(room, waits) { room - 1 } else { room }
-}
-
-/// The walks of the hosts, of which these wait, as a batch of this size opens of a play that has this tree. All of them are made before the first row
-/// changes, so that a row is never made anew: what its host has learnt stays in it.
-fn walks_for(
+/// The hosts that are called to a play with these hosts of its own.
+pub(crate) fn called_set(
     alloc: Global,
-    waiting: &[bool],
-    size: u32,
-    laid: &Rc<LaidTree>,
-) -> Result<Vec<Option<PlayWalk>>, AllocError>
-    ensures { IfOk result (λ all. all.items ≡ walks_from laid.now.value.tree size waiting.now) }
-{
-    let mut all = Vec::with_capacity(alloc, waiting.len())?;
-    let mut room = size;
-    for waits in waiting {
-        let walk = walk_if(alloc, joins(room, *waits), laid)?;
-        all.push(walk)?;
-        room = room_behind(room, *waits);
-    }
-    Ok(all)
-}
-
-/// A host takes its walk.
-fn join_row(rows: &mut Vec<Row>, at: usize, walk: Option<PlayWalk>)
-    ensures { rows.new.items ≡ change rows.old.items at (with_walk walk) }
-{
-    if let Some(row) = rows.get_mut(at) {
-        row.join(walk);
-    }
-}
-
-/// Each host takes its walk.
-fn join_each(rows: &mut Vec<Row>, walks: Vec<Option<PlayWalk>>)
-    requires { length walks.items < 2 ^ 32 }
-    ensures { rows.new.items ≡ joined_from 0 walks.items rows.old.items }
-{
-    let mut at: usize = 0;
-    for walk in walks {
-        join_row(rows, at, walk);
-        at += 1;
-    }
-}
-
-/// A batch of this size opens of the play that goes on, which has this tree. An `Err` changes nothing.
-pub fn join_first(
-    alloc: Global,
-    rows: &mut HostRows,
-    size: u32,
-    laid: &Rc<LaidTree>,
-) -> Result<(), AllocError>
-    ensures ok { OnOk result (rows.new ≡ joined_first laid.now.value.tree size rows.old) }
-    ensures err { OnErr result (rows.new ≡ rows.old) }
-{
-    let all = rows.rows.as_slice();
-    let waiting = waiting_in(alloc, all)?;
-    let told = waiting.as_slice();
-    let walks = walks_for(alloc, told, size, laid)?;
-    join_each(&mut rows.rows, walks);
-    rows.running = 0;
-    Ok(())
-}
-
-/// A play begins that has this tree and these hosts of its own, with a batch of this size. An `Err` changes nothing.
-pub fn begin_first(
-    alloc: Global,
-    rows: &mut HostRows,
+    rows: &HostRows,
     hosts: &HostSet,
+) -> Result<HostSet, AllocError>
+    ensures { IfOk result (λ calls. calls ≡ map (is_called hosts.now) rows.now) }
+{
+    let mut calls = HostSet::empty(alloc, rows.hosts())?;
+    called_into(rows.as_slice(), hosts, &mut calls);
+    Ok(calls)
+}
+
+/// So many walks, each at the beginning of a play that has this tree.
+fn walks_of(alloc: Global, many: usize, laid: &Rc<LaidTree>) -> Result<Vec<PlayWalk>, AllocError>
+    ensures { IfOk result (λ walks. walks.items ≡ replicate many (walk_from laid.now.value.tree)) }
+{
+    let mut walks = Vec::with_capacity(alloc, many)?;
+    for _ in 0..many {
+        let walk = PlayWalk::first(alloc, laid)?;
+        walks.push(walk)?;
+    }
+    Ok(walks)
+}
+
+/// The walks of those hosts, of these that wait, that join a batch of this size of a play that has this tree. All of them are made before the first row
+/// changes, so that a row is never made anew: what its host has learnt stays in it.
+pub(crate) fn walks_for(
+    alloc: Global,
+    waits: &HostSet,
     size: u32,
     laid: &Rc<LaidTree>,
-) -> Result<(), AllocError>
-    ensures ok { OnOk result (rows.new ≡ joined_first laid.now.value.tree size (map (called hosts.now) rows.old)) }
-    ensures err { OnErr result (rows.new ≡ rows.old) }
+) -> Result<Vec<PlayWalk>, AllocError>
+    ensures { IfOk result (λ walks. walks.items ≡ first_walks laid.now.value.tree size waits.now) }
 {
-    let all = rows.rows.as_slice();
-    let waiting = called_in(alloc, all, hosts)?;
-    let told = waiting.as_slice();
-    let walks = walks_for(alloc, told, size, laid)?;
-    call_rows(&mut rows.rows, hosts);
-    join_each(&mut rows.rows, walks);
+    walks_of(alloc, size.min(waits.count()) as usize, laid)
+}
+
+/// A batch opens with these walks: the first hosts that wait take them, one each, and no other host is in it.
+pub(crate) fn join_waiting(
+    rows: &mut HostRows,
+    walks: Vec<PlayWalk>,
+    waits: &HostSet,
+    batch: &mut HostSet,
+)
+    requires waits { waits.now ≡ map is_waiting rows.old }
+    requires few { length walks.items ≤ count_by (λ b. b) waits.now }
+    requires insiders { batch.old ≡ map is_inside rows.old }
+    requires outsiders { AreOutside rows.old }
+    ensures rows { rows.new ≡ joined_by walks.items rows.old }
+    ensures batch { batch.new ≡ map is_inside rows.new }
+{
+    step_out(&mut rows.rows, batch);
+    empty_by(waits, batch);
+    join_each(&mut rows.rows, walks, waits, batch);
     rows.running = 0;
-    Ok(())
+}
+
+/// A play begins that has these hosts of its own: each that is called waits for its batch.
+pub(crate) fn call_all(rows: &mut HostRows, hosts: &HostSet)
+    ensures { rows.new ≡ map (called hosts.now) rows.old }
+{
+    call_rows(&mut rows.rows, hosts);
 }
 
 fn call_rows(rows: &mut Vec<Row>, hosts: &HostSet)
@@ -531,26 +484,14 @@ fn call_each(rows: &mut [Row], hosts: &HostSet)
     }
 }
 
-/// Each host leaves the batch.
-pub fn leave_all(rows: &mut HostRows)
+/// Each host leaves the batch, whose hosts are these.
+pub(crate) fn leave_all(rows: &mut HostRows, batch: &HostSet)
+    requires insiders { batch.now ≡ map is_inside rows.old }
+    requires outsiders { AreOutside rows.old }
     ensures { rows.new ≡ map left rows.old }
 {
-    leave_rows(&mut rows.rows);
+    leave_inside(&mut rows.rows, batch);
     rows.running = 0;
-}
-
-fn leave_rows(rows: &mut Vec<Row>)
-    ensures { rows.new.items ≡ map left rows.old.items }
-{
-    leave_each(rows.as_mut_slice());
-}
-
-fn leave_each(rows: &mut [Row])
-    ensures { rows.new ≡ map left rows.old }
-{
-    for row in rows.iter_mut() {
-        row.leave();
-    }
 }
 
 /// What is new of one host as its batch goes on.
@@ -582,19 +523,8 @@ pub(crate) fn turn_all(rows: &mut HostRows, all: Vec<Option<Turned>>)
     turn_each(&mut rows.rows, all);
 }
 
-/// The least place at which a host of the batch is.
-#[tactic(auto, using(crate::proofs::Least::lesser_assoc, crate::proofs::Least::lesser_none))]
-pub fn least_place(rows: &[Row]) -> Option<usize>
-    ensures { result ≡ least_place rows.now }
-{
-    let mut least = None;
-    for row in rows {
-        least = lesser(least, row.next_place());
-    }
-    least
-}
-
-fn lesser(a: Option<usize>, b: Option<usize>) -> Option<usize>
+/// The lesser of two places.
+pub(crate) fn lesser(a: Option<usize>, b: Option<usize>) -> Option<usize>
     ensures { result ≡ lesser a b }
 {
     match (a, b) {
@@ -612,6 +542,18 @@ pub fn sends_into(rows: &[Row], set: &mut HostSet)
     let width = set.width();
     for i in 0..width {
         let is_in = rows[i as usize].has_send();
+        set.put(HostNo(i), is_in);
+    }
+}
+
+/// Puts the hosts of the batch into a set.
+pub fn inside_into(rows: &[Row], set: &mut HostSet)
+    requires { length set.old ≡ length rows.now }
+    ensures { set.new ≡ map is_inside rows.now }
+{
+    let width = set.width();
+    for i in 0..width {
+        let is_in = rows[i as usize].in_batch();
         set.put(HostNo(i), is_in);
     }
 }

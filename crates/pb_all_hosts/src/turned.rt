@@ -1,14 +1,16 @@
 //! What a turn makes of the rows of a batch: what one host did for all goes to the others, and hosts are halted.
 
-ghost use Rattle.std.specs.Prelude.{◌≡◌, ◌<◌, ◌^◌, ℕ, Option, Some, None, List, length, map, count_by, unwrap_or, IfOk, IfNone, OnOk, false};
+ghost use Rattle.std.specs.Prelude.{◌≡◌, ◌<◌, ◌^◌, Option, Some, None, List, length, map, unwrap_or, IfOk, OnOk, false};
 ghost use Rattle.std.specs.List.{list_any};
 ghost use Rattle.std.specs.Option.{option_copied};
 ghost use Rattle.pb_facts.specs.News.{heard};
-ghost use Rattle.pb_one_host.specs.Row.{HostRow, taught};
-ghost use Rattle.pb_all_hosts.specs.Turn.{any_errors_fatal_at, batch_count, copied, copied_if, has_ended_fatally, has_failed_too_often, has_settled, is_fatal_at, is_halting, is_settled, is_settled_at, settler, source, with_copy};
+ghost use Rattle.pb_one_host.specs.Row.{taught};
+ghost use Rattle.pb_all_hosts.specs.Turn.{any_errors_fatal_at, copied, copied_if, has_ended_fatally, has_failed_too_often, has_settled, is_fatal_at, is_halting, is_settled, is_settled_at, settler, source, with_copy};
 ghost use Rattle.pb_one_host.specs.Turned.{turned_if, with_turned};
 ghost use Rattle.pb_all_hosts.specs.TurnMade.{IsTurnOf, turned_row, with_each};
+ghost use Rattle.pb_all_hosts.specs.Due.{is_inside, AreOutside};
 
+use crate::inside::{broken_inside, count_inside};
 use pb_facts::facts::Facts;
 use pb_facts::news::News;
 use pb_inventory::inventory::Inventory;
@@ -18,6 +20,7 @@ use pb_one_host::{
 };
 use pb_outcome::registered::registered;
 use pb_plan::PlanPlay;
+use pb_planes::HostSet;
 use pb_sight::learning::taught;
 use std::alloc::{AllocError, Global};
 
@@ -281,7 +284,7 @@ fn is_fatal_at(play: &PlanPlay, place: usize, rows: &[Row]) -> bool
 }
 
 /// Whether a host is broken once it got what another one did for all.
-fn is_broken_then(
+pub(crate) fn is_broken_then(
     inventory: &Inventory,
     play: &PlanPlay,
     place: usize,
@@ -304,34 +307,6 @@ fn is_broken_then(
     }
 }
 
-/// How many of these hosts are in the batch.
-fn batch_count(rows: &[Row]) -> usize
-    ensures { result ≡ batch_count rows.now }
-{
-    let mut count = 0;
-    for row in rows {
-        if row.in_batch() {
-            count += 1;
-        }
-    }
-    count
-}
-
-/// How many of them are broken then.
-fn broken_then(
-    inventory: &Inventory,
-    play: &PlanPlay,
-    place: usize,
-    from: Option<&Row>,
-    rows: &[Row],
-) -> usize
-    ensures { result ≡ count_by (λ (row : HostRow). (with_copy inventory.now play.now place (option_copied from.entry) row).is_broken) rows.now }
-{
-    rows.iter()
-        .filter(|row| is_broken_then(inventory, play, place, from, row))
-        .count()
-}
-
 /// Whether more of them are broken then than the play allows.
 #[tactic(auto, using(crate::proofs::Making::broken_map, crate::proofs::Making::batch_map))]
 fn has_failed_too_often(
@@ -340,12 +315,15 @@ fn has_failed_too_often(
     place: usize,
     from: Option<&Row>,
     rows: &[Row],
+    batch: &HostSet,
 ) -> bool
-    requires { length rows.now < 2 ^ 32 }
+    requires few { length rows.now < 2 ^ 32 }
+    requires insiders { batch.now ≡ map is_inside rows.now }
+    requires outsiders { AreOutside rows.now }
     ensures { result ≡ has_failed_too_often play.now (map (with_copy inventory.now play.now place (option_copied from.entry)) rows.now) }
 {
-    let all = batch_count(rows) as u64;
-    let broken = broken_then(inventory, play, place, from, rows) as u64;
+    let all = count_inside(rows, batch) as u64;
+    let broken = broken_inside(inventory, play, place, from, rows, batch) as u64;
     play.max_fail_percentage() as u64 * all < 100 * broken
 }
 
@@ -357,11 +335,15 @@ fn is_halting(
     place: usize,
     from: Option<&Row>,
     rows: &[Row],
+    batch: &HostSet,
 ) -> bool
-    requires { length rows.now < 2 ^ 32 }
+    requires few { length rows.now < 2 ^ 32 }
+    requires insiders { batch.now ≡ map is_inside rows.now }
+    requires outsiders { AreOutside rows.now }
     ensures { result ≡ is_halting play.now place (map (with_copy inventory.now play.now place (option_copied from.entry)) rows.now) }
 {
-    is_fatal_at(play, place, rows) || has_failed_too_often(inventory, play, place, from, rows)
+    is_fatal_at(play, place, rows)
+        || has_failed_too_often(inventory, play, place, from, rows, batch)
 }
 
 /// What a turn makes of all rows, of which one or the other changes.
@@ -388,7 +370,7 @@ impl TurnMade {
     }
 }
 
-/// What a turn makes of these rows as the batch goes on from a place, or nothing where it leaves them as they are. Nothing is made of a row but where
+/// What a turn makes of these rows, of which those of the batch are in the set, as the batch goes on from a place, or nothing where it leaves them as they are. Nothing is made of a row but where
 /// the task at the place runs once, or where hosts are halted.
 #[tactic(auto, using(crate::proofs::Making::nothing_new))]
 pub(crate) fn turn_of(
@@ -397,12 +379,15 @@ pub(crate) fn turn_of(
     play: &PlanPlay,
     place: usize,
     rows: &[Row],
+    batch: &HostSet,
 ) -> Result<Option<TurnMade>, AllocError>
-    requires { length rows.now < 2 ^ 32 }
+    requires few { length rows.now < 2 ^ 32 }
+    requires insiders { batch.now ≡ map is_inside rows.now }
+    requires outsiders { AreOutside rows.now }
     ensures { IfOk result (λ made. IsTurnOf inventory.now play.now place rows.now made) }
 {
     let from = source(play, place, rows);
-    let halts = is_halting(inventory, play, place, from, rows);
+    let halts = is_halting(inventory, play, place, from, rows, batch);
     if from.is_none() && !halts {
         return Ok(None);
     }

@@ -1,24 +1,66 @@
-use Rattle.std.proofs.Common.{◌∙◌, length, map, ap, sym}
+use Rattle.std.proofs.Common.{◌∙◌, ℕ, List, map, replicate, ap, subst, sym}
+use Rattle.pb_strategies.specs.Hosts.{nowhere}
+use Rattle.pb_one_host.specs.Row.{HostRow, called}
 use Rattle.pb_one_host.specs.Runs.{has_send}
+use Rattle.pb_one_host.specs.Standing.{standing}
+use Rattle.pb_all_hosts.specs.Batches.{joined_first}
 use Rattle.pb_all_hosts.specs.Oldest.{all_out}
-use Rattle.pb_one_host.specs.Row.{called}
-use Rattle.pb_all_hosts.proofs.Asked.{same_width}
-use Rattle.pb_all_hosts.proofs.Batching.{length-begun}
+use Rattle.pb_all_hosts.specs.Due.{AreOutside}
+use Rattle.pb_all_hosts.proofs.Asked.{mapped_width, inside_called, waits_called}
+use Rattle.pb_all_hosts.proofs.Joined.{few_walks, joined_as, joined_waits}
+use Rattle.pb_all_hosts.proofs.Outside.{out_called, out_joined}
 use Rattle.pb_all_hosts.proofs.TicketOrder.{joined_order}
 use Rattle.pb_all_hosts.proofs.due.begin_first.Goals as goal
 
-pub ask_all-requires-clause-sends : goal.ask_all-requires-clause-sends
-ask_all-requires-clause-sends c =
-    same_width has_send c.rows.inside.rows c.begin_first.new.rows c.rows.inside.sends c.rows.invariant.sending (ap length c.in_ok-begin_first.ensures.ok ∙ length-begun c.args.laid.now.value.tree c.args.size c.args.hosts.now c.rows.inside.rows)
+-- memory was refused: nobody stands elsewhere
+pub invariant_of-rows : goal.invariant_of-rows
+invariant_of-rows c =
+    record {
+      sending = c.rows.invariant.sending;
+      stands = c.in_err-clear.ensures.err ∙ c.rows.invariant.stands;
+      insiders = c.rows.invariant.insiders;
+      waiting = c.rows.invariant.waiting;
+      outsiders = c.rows.invariant.outsiders;
+      in_order = c.rows.invariant.in_order;
+    }
 
-pub ask_all-requires-clause-stands : goal.ask_all-requires-clause-stands
-ask_all-requires-clause-stands c =
-    c.in_ok-standings.ensures ∙ sym (ap length c.in_ok-begin_first.ensures.ok ∙ length-begun c.args.laid.now.value.tree c.args.size c.args.hosts.now c.rows.inside.rows)
+pub open_batch-requires-clause-waits : goal.open_batch-requires-clause-waits
+open_batch-requires-clause-waits c = waits_called c.args.hosts.now c.in_ok-calls.calls c.rows.inside.rows c.call_all.new.rows c.in_ok-calls.ensures c.call_all.ensures
+
+pub open_batch-requires-clause-few : goal.open_batch-requires-clause-few
+open_batch-requires-clause-few c = few_walks c.args.laid.now.value.tree c.args.size c.in_ok-calls.calls c.in_ok-walks.walks.items c.in_ok-walks.ensures
+
+pub open_batch-requires-clause-insiders : goal.open_batch-requires-clause-insiders
+open_batch-requires-clause-insiders c = inside_called c.args.hosts.now c.rows.inside.batch c.rows.inside.rows c.call_all.new.rows c.rows.invariant.insiders c.call_all.ensures
+
+pub open_batch-requires-clause-outsiders : goal.open_batch-requires-clause-outsiders
+open_batch-requires-clause-outsiders c = out_called c.args.hosts.now c.rows.inside.rows c.call_all.new.rows c.rows.invariant.outsiders c.call_all.ensures
+
+pub open_batch-requires-clause-sends : goal.open_batch-requires-clause-sends
+open_batch-requires-clause-sends c = mapped_width has_send (called c.args.hosts.now) c.rows.inside.rows c.call_all.new.rows c.rows.inside.sends c.rows.invariant.sending c.call_all.ensures
+
+pub open_batch-requires-clause-stands : goal.open_batch-requires-clause-stands
+open_batch-requires-clause-stands c =
+    c.in_ok-clear.ensures.ok
+    ∙ ap (λ (n : ℕ). replicate n nowhere) (mapped_width standing (called c.args.hosts.now) c.rows.inside.rows c.call_all.new.rows c.rows.inside.standings c.rows.invariant.stands c.call_all.ensures)
 
 pub invariant_of-rows-2 : goal.invariant_of-rows-2
 invariant_of-rows-2 c =
     record {
-      sending = c.ask_all.ensures.sends;
-      stands = c.ask_all.ensures.stands;
-      in_order = c.clear.ensures.items ∙ sym (ap all_out c.in_ok-begin_first.ensures.ok ∙ joined_order c.args.laid.now.value.tree 0 c.args.size (map (called c.args.hosts.now) c.rows.inside.rows));
+      sending = c.open_batch.ensures.sends;
+      stands = c.open_batch.ensures.stands;
+      insiders = c.open_batch.ensures.batch;
+      waiting = joined_waits c.in_ok-walks.walks.items c.call_all.new.rows c.open_batch.new.rows c.in_ok-calls.calls
+          (waits_called c.args.hosts.now c.in_ok-calls.calls c.rows.inside.rows c.call_all.new.rows c.in_ok-calls.ensures c.call_all.ensures) c.open_batch.ensures.rows;
+      outsiders = subst AreOutside (sym c.open_batch.ensures.rows) (out_joined c.in_ok-walks.walks.items c.call_all.new.rows);
+      in_order = c.clear-2.ensures.items ∙ sym (ap all_out c.open_batch.ensures.rows ∙ joined_order 0 c.in_ok-walks.walks.items c.call_all.new.rows);
     }
+
+pub returns-clause-ok : goal.returns-clause-ok
+returns-clause-ok c =
+    joined_as c.args.laid.now.value.tree c.args.size c.call_all.new.rows c.open_batch.new.rows c.in_ok-calls.calls c.in_ok-walks.walks.items
+    (waits_called c.args.hosts.now c.in_ok-calls.calls c.rows.inside.rows c.call_all.new.rows c.in_ok-calls.ensures c.call_all.ensures)
+    c.in_ok-walks.ensures
+    c.open_batch.ensures.rows
+    ∙ ap (joined_first c.args.laid.now.value.tree c.args.size) c.call_all.ensures
+    ∙ ap (λ (all : List HostRow). joined_first c.args.laid.now.value.tree c.args.size (map (called c.args.hosts.now) all)) c.rows.view_is

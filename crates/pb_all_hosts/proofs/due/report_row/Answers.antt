@@ -4,6 +4,7 @@ use Rattle.pb_one_host.specs.Ends.{IsAtMost}
 use Rattle.pb_one_host.specs.Row.{HostRow, reported}
 use Rattle.pb_all_hosts.specs.Giving.{report_gives}
 use Rattle.pb_all_hosts.proofs.Asked.{given_due}
+use Rattle.pb_all_hosts.proofs.Outside.{reported_inside, reported_waits, reported_out}
 use Rattle.pb_all_hosts.proofs.TicketOrder.{reported_quiet}
 use Rattle.pb_all_hosts.proofs.due.report_row.Goals as goal
 
@@ -14,8 +15,11 @@ report_row-requires c =
 pub invariant_of-rows-2 : goal.invariant_of-rows-2
 invariant_of-rows-2 c =
     given_due (report_gives c.args.plan.now c.args.play.now c.args.outcome.now c.args.host.0 c.rows.inside.rows) (reported c.args.plan.now c.args.play.now c.args.outcome.now)
-    (reported_quiet c.args.plan.now c.args.play.now c.args.outcome.now) c.args.host.0 c.rows.inside.sends c.ask_one.new.sends c.rows.inside.standings c.ask_one.new.standings c.rows.inside.out.items c.drop_job.new.all.items
+    (reported_quiet c.args.plan.now c.args.play.now c.args.outcome.now)
+    (reported_inside c.args.plan.now c.args.play.now c.args.outcome.now)
+    (reported_waits c.args.plan.now c.args.play.now c.args.outcome.now) c.args.host.0 c.rows.inside.sends c.ask_one.new.sends c.rows.inside.standings c.ask_one.new.standings c.rows.inside.batch c.rows.inside.waits c.rows.inside.out.items c.drop_job.new.all.items
     c.rows.inside.rows c.report_row.new.rows
+    (λ row at out. reported_out c.args.plan.now c.args.play.now c.args.outcome.now row out)
     c.rows.invariant
     c.in_ok-decided.ensures.rows
     c.ask_one.ensures.sends

@@ -4,6 +4,7 @@ use Rattle.pb_one_host.specs.Ends.{IsAtMost}
 use Rattle.pb_one_host.specs.Row.{HostRow, progressed}
 use Rattle.pb_all_hosts.specs.Giving.{gifts_at}
 use Rattle.pb_all_hosts.proofs.Asked.{given_due}
+use Rattle.pb_all_hosts.proofs.Outside.{progressed_inside, progressed_waits, progressed_out}
 use Rattle.pb_all_hosts.proofs.TicketOrder.{progressed_quiet}
 use Rattle.pb_all_hosts.proofs.due.start_row.Goals as goal
 
@@ -21,8 +22,12 @@ start_row-requires-clause-room c =
 pub invariant_of-rows-2 : goal.invariant_of-rows-2
 invariant_of-rows-2 c =
     given_due (gifts_at c.args.inventory.now c.args.play.now c.args.place c.args.host.0 c.args.items) (progressed c.args.inventory.now c.args.play.now c.args.place c.args.items)
-    (progressed_quiet c.args.inventory.now c.args.play.now c.args.place c.args.items) c.args.host.0 c.rows.inside.sends c.ask_one.new.sends c.rows.inside.standings c.ask_one.new.standings c.rows.inside.out.items c.drop_job.new.all.items
+    (progressed_quiet c.args.inventory.now c.args.play.now c.args.place c.args.items)
+    (progressed_inside c.args.inventory.now c.args.play.now c.args.place c.args.items)
+    (progressed_waits c.args.inventory.now c.args.play.now c.args.place c.args.items) c.args.host.0 c.rows.inside.sends c.ask_one.new.sends c.rows.inside.standings c.ask_one.new.standings c.rows.inside.batch c.rows.inside.waits c.rows.inside.out.items c.drop_job.new.all.items
     c.rows.inside.rows c.start_row.new.rows
+    (progressed_out c.args.inventory.now c.args.play.now c.args.place c.args.items c.rows.inside.rows c.args.host.0
+    (subst (λ (all : List HostRow). IfSome (slice_get all c.args.host.0) (λ (row : HostRow). row.in_batch ≡ true)) (sym c.rows.view_is) c.requires.batch))
     c.rows.invariant
     c.in_ok-done.ensures.rows
     c.ask_one.ensures.sends

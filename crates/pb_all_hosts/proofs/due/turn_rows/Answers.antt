@@ -1,9 +1,11 @@
-use Rattle.std.proofs.Common.{◌∙◌, length, ap}
+use Rattle.std.proofs.Common.{◌∙◌, length, refl, ap, subst, sym}
 use Rattle.pb_one_host.specs.Runs.{has_send}
 use Rattle.pb_one_host.specs.Standing.{standing}
 use Rattle.pb_all_hosts.specs.TurnMade.{with_each}
-use Rattle.pb_all_hosts.proofs.Asked.{same_width}
+use Rattle.pb_all_hosts.specs.Due.{is_inside, AreOutside}
+use Rattle.pb_all_hosts.proofs.Asked.{same_width, turned_waits}
 use Rattle.pb_all_hosts.proofs.Making.{length_each, made_some, made_none}
+use Rattle.pb_all_hosts.proofs.Outside.{out_turned}
 use Rattle.pb_all_hosts.proofs.TicketOrder.{turned_order}
 use Rattle.pb_all_hosts.proofs.due.turn_rows.Goals as goal
 
@@ -14,6 +16,10 @@ ask_all-requires-clause-sends c =
 pub ask_all-requires-clause-stands : goal.ask_all-requires-clause-stands
 ask_all-requires-clause-stands c =
     same_width standing c.rows.inside.rows c.turn_all.new.rows c.rows.inside.standings c.rows.invariant.stands (ap length c.turn_all.ensures ∙ length_each _ _)
+
+pub ask_all-requires-clause-batch : goal.ask_all-requires-clause-batch
+ask_all-requires-clause-batch c =
+    same_width is_inside c.rows.inside.rows c.turn_all.new.rows c.rows.inside.batch c.rows.invariant.insiders (ap length c.turn_all.ensures ∙ length_each _ _)
 
 pub returns-in-Some-clause-rows : goal.returns-in-Some-clause-rows
 returns-in-Some-clause-rows c =
@@ -39,5 +45,11 @@ invariant_of-rows c =
     record {
       sending = c.ask_all.ensures.sends;
       stands = c.ask_all.ensures.stands;
+      insiders = c.ask_all.ensures.batch;
+      waiting = turned_waits c.parts-all.result.0.items c.rows.inside.waits c.rows.inside.rows c.turn_all.new.rows c.rows.invariant.waiting c.turn_all.ensures;
+      outsiders =
+          let made = made_some c.args.inventory.now c.args.play.now c.args.place c.as_slice.result.now c.rows.inside.rows c.rows.inside.rows c.in_ok-made.field-0 c.in-Some.made c.as_slice.ensures refl c.in-Some.is c.in_ok-made.ensures in
+          subst AreOutside (sym (c.turn_all.ensures ∙ ap (λ parts. with_each parts.0.items c.rows.inside.rows) c.parts-all.ensures ∙ made.0))
+          (out_turned c.args.inventory.now c.args.play.now c.args.place c.rows.inside.rows c.rows.invariant.outsiders);
       in_order = turned_order c.parts-all.result.0.items c.rows.inside.out.items c.rows.inside.rows c.turn_all.new.rows c.rows.invariant.in_order c.turn_all.ensures;
     }
