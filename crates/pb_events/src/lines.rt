@@ -163,7 +163,7 @@ fn in_play(
 
 /// The name of a host, if there is one with this number.
 #[tactic(auto, using(crate::proofs::Plays::past))]
-fn name_of(plan: &Plan, host: HostNo) -> Option<&str>
+pub(crate) fn name_of(plan: &Plan, host: HostNo) -> Option<&str>
     ensures { option_copied result ≡ slice_get plan.now.inventory.hosts host.0 }
 {
     if host.0 < plan.host_count() {

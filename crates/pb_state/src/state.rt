@@ -288,7 +288,7 @@ impl EngineState {
                 !self.stopped
                     && self.place.is_none()
                     && !self.rows.some_running()
-                    && least_place(self.rows.as_slice()).is_none()
+                    && least_place(&self.rows).is_none()
             }
             None => false,
         }
@@ -517,7 +517,7 @@ impl EngineState {
     fn stand_first(&mut self, strategy: Strategy)
         ensures { self.new ≡ with_place (first_by strategy self.old.rows) self.old }
     {
-        let place = first_by(strategy, self.rows.as_slice());
+        let place = first_by(strategy, &self.rows);
         stand_at(&mut self.rows, place);
         self.place = place;
     }
@@ -570,7 +570,7 @@ impl EngineState {
     fn move_on(&mut self)
         ensures { self.new ≡ moved self.old (batch_of self.old) }
     {
-        let place = least_place(self.rows.as_slice());
+        let place = least_place(&self.rows);
         stand_at(&mut self.rows, place);
         self.place = place;
         decide(&mut self.decided, None);
@@ -580,7 +580,7 @@ impl EngineState {
         requires { self.old.is_open ≡ true }
         ensures { self.new ≡ closed self.old }
     {
-        self.ended = !some_in(self.rows.as_slice());
+        self.ended = !some_in(&self.rows);
         leave_all(&mut self.rows);
         self.play = play_behind(self.later.has_some(), self.play);
         self.is_open = false;
@@ -1014,6 +1014,13 @@ impl EngineState {
         }
     }
 
+    /// The hosts that take part in the open batch.
+    pub fn batch_hosts(&self) -> &HostSet
+        ensures { result.now ≡ map (λ (row : HostRow). row.in_batch) self.now.rows }
+    {
+        self.rows.batch()
+    }
+
     /// Whether all that was to be done on a host was done: it is active, waits for nothing in the play that goes on, and no play that hasn't begun has it for
     /// its own. No number beyond the last host got through.
     pub fn got_through(&self, plan: &Plan, host: HostNo) -> bool
@@ -1040,7 +1047,7 @@ impl EngineState {
 }
 
 /// The first place of a batch of these hosts: there is no current place but under the linear strategy.
-fn first_by(strategy: Strategy, rows: &[Row]) -> Option<usize>
+fn first_by(strategy: Strategy, rows: &DueRows) -> Option<usize>
     ensures { result ≡ first_by strategy rows.now }
 {
     match strategy {
