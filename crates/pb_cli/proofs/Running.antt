@@ -14,7 +14,7 @@ use Rattle.pb_recap.specs.Kinds.{status_of, has}
 use Rattle.pb_recap.specs.declared.kind.CountKind.TheVariants.{Failed, Unreachable}
 use Rattle.pb_recap.specs.Recap.{recap}
 use Rattle.pb_driver.specs.declared.driver.RunFault.{RunFault}
-use Rattle.pb_laws.specs.Kept.{RunsKeepLaws}
+use Rattle.pb_driver.specs.Laws.{RunsKeepLaws}
 use Rattle.pb_driver.specs.Cut.{IsCut}
 use Rattle.pb_driver.specs.Driven.{Answers, IsAnswer, IsBegun, IsBegunBy, IsWhole, IsWholeRun}
 use Rattle.pb_driver.specs.Ran.{IsRanTo, answers_of}

@@ -2,7 +2,7 @@
 use Rattle.std.specs.Prelude.{◌≡◌, ◌⊎◌, ℕ, true, false, List, [], ◌++◌, Option, None, Some, Ok, codes, slice_get, unwrap_or}
 use Rattle.pb_ids.specs.declared.numbers.HostNo.{HostNo}
 use Rattle.pb_audit.specs.Audit.{end_of, end_under}
-use Rattle.pb_laws.specs.Fixed.{is_independent, are_linear}
+use Rattle.pb_driver.specs.Laws.{is_independent, are_linear}
 use Rattle.pb_plan.specs.Bundle.{IsPlanOf}
 use Rattle.pb_plan.specs.Plan.{PlanOf}
 use Rattle.pb_plan.specs.declared.bundle.Bundle.{Bundle}

@@ -13,7 +13,7 @@ use Rattle.pb_plan.specs.Plan.{PlanOf}
 use Rattle.pb_audit.specs.Audit.{is_legal}
 use Rattle.pb_recap.specs.Recap.{recap}
 use Rattle.pb_recap.specs.Kinds.{status_of}
-use Rattle.pb_laws.specs.Kept.{KeepsLaws}
+use Rattle.pb_driver.specs.Laws.{KeepsLaws}
 use Rattle.pb_driver.specs.Engine.{Stop}
 use Rattle.pb_driver.specs.declared.driver.RunFault.{RunFault}
 use Rattle.pb_driver.specs.declared.driver.RunFault.TheVariants.{Memory, Closed}

@@ -103,7 +103,7 @@ fn run_given<N: Runner, P: Picker, O: LineOut>(
     ensures over { IfErr result (λ cut. IsRanTo (λ jobs. N.ran runner.old jobs runner.new) plan 256 cut.1 cut.0) }
     ensures write { IfErr result (λ cut. cut.0 ≡ RunFault.Write → O.failures out.new ≡ one_more (O.failures out.old)) }
 {
-    pb_laws::runs_keep_laws();
+    pb_driver::runs_keep_laws();
     pb_driver::lines_stand_behind_events();
     match run_plain(alloc, plan, runner, picker, commands, out) {
         Ok(

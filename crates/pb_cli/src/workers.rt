@@ -59,7 +59,7 @@ fn run_told<N: Runner + Send + Drop, R: AllocGlobal + Threads + Wait + Sync, O: 
     ensures closed { IfErr result (λ cut. cut.0 ≡ RunFault.Closed → (cut.1 ≡ []) × (O.taken out.new ≡ O.taken out.old) × IsSpread N.ran runners.old.items runners.new.items plan [] []) }
     ensures write { IfErr result (λ cut. cut.0 ≡ RunFault.Write → O.failures out.new ≡ one_more (O.failures out.old)) }
 {
-    pb_laws::runs_keep_laws();
+    pb_driver::runs_keep_laws();
     pb_driver::lines_stand_behind_events();
     pb_audit::larger_pools_allow_as_much();
     match run_pool(rt, rt.alloc(), plan, runners, Lowest, commands, out) {

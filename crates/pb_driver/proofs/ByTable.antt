@@ -26,7 +26,7 @@ use Rattle.pb_state.specs.declared.event.Event.TheVariants.{Open, Start, Send, R
 use Rattle.pb_state.specs.Jobs.{AttemptOf, connector_for, item_job, job_in, job_of, job_with, named_job, next_attempt, placed_job, row_job, running_job}
 use Rattle.pb_state.specs.Machine.{after, open_play}
 use Rattle.pb_state.specs.State.{State}
-use Rattle.pb_laws.specs.Fixed.{asked_of, IsFixedAt}
+use Rattle.pb_engine.specs.Laws.{asked_of, IsFixedAt}
 use Rattle.pb_driver.specs.ByTable.{allows_all, given_by, job_again, IsUnrefusedAt, TablesFixOutcomes}
 use Rattle.pb_driver.specs.Driven.{IsAnswer, IsAnswerAt}
 

@@ -21,7 +21,7 @@ use Rattle.pb_driver.specs.declared.given.Given.{Given}
 use Rattle.pb_driver.specs.Taken.{with_more}
 use Rattle.pb_driver.specs.Output.{lines_from}
 use Rattle.pb_driver.specs.Cut.{Breaks}
-use Rattle.pb_laws.specs.JobsOut.{has_mail}
+use Rattle.pb_engine.specs.Laws.{has_mail}
 use Rattle.pb_driver.specs.Mails.{Mail, mail_in, mails_from, mails_in, GoesAlong, GoesOver}
 use Rattle.pb_driver.specs.Commanded.{is_taken}
 use Rattle.pb_driver.specs.Driven.{Answers, IsAnswered, HasBegun, IsSame, Keeps, AreCommands, TakesCommands, lines_of_trail}

@@ -20,7 +20,7 @@ use Rattle.pb_engine.specs.declared.engine.Next.TheVariants.{Sent as ToSend, Mov
 use Rattle.pb_driver.specs.declared.driver.RunFault.{RunFault}
 use Rattle.pb_driver.specs.declared.driver.RunFault.TheVariants.{Memory}
 use Rattle.pb_driver.specs.Driven.{Answers, IsSame, IsFresh}
-use Rattle.pb_laws.specs.JobsOut.{has_mail}
+use Rattle.pb_engine.specs.Laws.{has_mail}
 use Rattle.pb_driver.specs.Mails.{Mail, Goes, Comes, mail_in, mails_from, mails_of, mails_in, HasGoneTo, GoesAlong, GoesOver}
 use Rattle.pb_driver.proofs.Driving.{made_of}
 

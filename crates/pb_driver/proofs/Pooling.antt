@@ -39,14 +39,12 @@ use Rattle.pb_state.proofs.Trails.{run_more, legal_rest, state_both}
 use Rattle.pb_engine.specs.EngineOf.{EngineOf, Takes, taken, IsSound}
 use Rattle.pb_engine.specs.Refusals.{refusal_of}
 use Rattle.pb_engine.proofs.Waits.{out_awaited}
-use Rattle.pb_laws.proofs.Telling.{tasks_of}
+use Rattle.pb_engine.proofs.Laws.{tasks_of, stays_out, job_host, sent_out, open_of_job, InRun, in_run, outs_silent, outs_sent, outs_reported, room_to_send, sending, silent_says, send_says, report_tells, first_outs}
 use Rattle.pb_driver.specs.Crews.{AreSilent, FitsSince, HasSent, HasPosted, StaysWithin}
 use Rattle.pb_driver.specs.Driven.{IsWorkersAnswer}
 use Rattle.pb_driver.specs.FitsPool.{HasItsJob, FitsView, FitsPool}
 use Rattle.pb_driver.specs.Mails.{Goes, Comes, AreWithin, is_fork_below, letter_at, Came}
-use Rattle.pb_laws.specs.JobsOut.{IsOut, has_mail, one_out, outs, tasks}
-use Rattle.pb_laws.proofs.JobsStay.{stays_out, job_host, sent_out, open_of_job}
-use Rattle.pb_laws.proofs.OutJobs.{InRun, in_run, outs_silent, outs_sent, outs_reported, room_to_send, sending, silent_says, send_says, report_tells, first_outs}
+use Rattle.pb_engine.specs.Laws.{IsOut, has_mail, one_out, outs, tasks}
 
 -- ---- the view beside an engine
 out_is : (w : ℕ) → is_out w ≡ true → w % 4 ≢ 0

@@ -20,12 +20,12 @@ use Rattle.pb_one_host.specs.Row.{HostRow}
 use Rattle.pb_one_host.specs.Runs.{is_out}
 use Rattle.pb_state.specs.declared.event.Event.{Event}
 use Rattle.pb_state.specs.Machine.{first_state}
-use Rattle.pb_laws.proofs.Telling.{tasks_of}
+use Rattle.pb_engine.proofs.Laws.{tasks_of}
 use Rattle.pb_engine.specs.EngineOf.{EngineOf, engine_of}
 use Rattle.pb_driver.specs.declared.driver.RunFault.{RunFault}
 use Rattle.pb_driver.specs.Crews.{HasFitEnd, HasPosted, StaysWithin, stays_more}
 use Rattle.pb_driver.specs.Driven.{Answers}
-use Rattle.pb_laws.specs.JobsOut.{outs, one_out}
+use Rattle.pb_engine.specs.Laws.{outs, one_out}
 use Rattle.pb_driver.specs.FitsPool.{FitsPool}
 use Rattle.pb_driver.specs.Mails.{Mail, Comes, Came, letter_at, letter_of, mails_of, AreMails, AreWithin, HasDrained, HasGoneTo}
 use Rattle.pb_driver.proofs.Driving.{made_is}

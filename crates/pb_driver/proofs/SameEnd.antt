@@ -4,7 +4,7 @@ use Rattle.std.specs.Prelude.{Option, Some, None, slice_get}
 use Rattle.std.specs.Option.{option_map_or}
 use Rattle.pb_all_hosts.proofs.FirstRows.{length-first}
 use Rattle.pb_audit.specs.Audit.{start_under, end_of, end_under}
-use Rattle.pb_laws.proofs.Fixed.{ends_together}
+use Rattle.pb_engine.proofs.Laws.{ends_together}
 use Rattle.pb_facts.proofs.Each.{layer_gathers}
 use Rattle.pb_facts.specs.Facts.{FactsOf, no_facts, gathered_layer, gathered_in}
 use Rattle.pb_ids.specs.declared.numbers.HostNo.{HostNo}

@@ -13,7 +13,7 @@ use Rattle.pb_state.specs.declared.event.Event.TheVariants.{Open, Start, Send, R
 use Rattle.pb_state.specs.Jobs.{job_of}
 use Rattle.pb_state.specs.Machine.{after}
 use Rattle.pb_state.specs.State.{State}
-use Rattle.pb_laws.specs.Fixed.{Asked, Fixed, IsFixed}
+use Rattle.pb_engine.specs.Laws.{Asked, Fixed, IsFixed}
 use Rattle.pb_driver.specs.Driven.{IsAnswer, IsAnswered}
 
 -- a table may give every outcome

@@ -15,7 +15,7 @@ use Rattle.pb_state.specs.declared.event.Event.TheVariants.{Send}
 use Rattle.pb_state.specs.Jobs.{job_of}
 use Rattle.pb_state.specs.Run.{IsFinished}
 use Rattle.pb_engine.specs.EngineOf.{EngineOf, Takes, IsSound}
-use Rattle.pb_laws.specs.JobsOut.{has_mail}
+use Rattle.pb_engine.specs.Laws.{has_mail}
 use Rattle.pb_driver.specs.Mails.{Mail, Goes, Comes, AreWithin, answers_among, letter_at, letter_of}
 
 -- events without mail

@@ -19,7 +19,7 @@ use Rattle.pb_state.specs.Over.{IsOver}
 use Rattle.pb_events.specs.Lines.{lines_of}
 use Rattle.pb_recap.specs.Recap.{recap}
 use Rattle.pb_recap.specs.Kinds.{status_of}
-use Rattle.pb_laws.specs.Fixed.{EndsAsFixed}
+use Rattle.pb_engine.specs.Laws.{EndsAsFixed}
 use Rattle.pb_driver.specs.Taken.{with_more}
 use Rattle.pb_driver.specs.Output.{lines_from, output}
 use Rattle.pb_driver.specs.Ran.{answers_of}

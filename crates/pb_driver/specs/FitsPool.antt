@@ -7,7 +7,7 @@ use Rattle.pb_forks.specs.declared.views.MainView.{MainView}
 use Rattle.pb_forks.specs.Logs.{IsAbove, EndsIn, offers_of}
 use Rattle.pb_forks.specs.Seats.{main_view, forks_of, IsMainOf}
 use Rattle.pb_forks.specs.Views.{idle_forks, jobs_out, is_out}
-use Rattle.pb_laws.specs.JobsOut.{IsOut, outs, tasks}
+use Rattle.pb_engine.specs.Laws.{IsOut, outs, tasks}
 use Rattle.pb_engine.specs.EngineOf.{EngineOf}
 
 -- the job that a fork has is the last one that was offered to it, and is out

@@ -1,4 +1,5 @@
 pub mod Engine
+pub mod Laws
 pub mod Taken
 pub mod Output
 pub mod Ran

@@ -4,7 +4,7 @@ use Rattle.std.specs.Option.{option_map_or}
 use Rattle.pb_audit.specs.Audit.{is_legal, Tells, TellsUnder}
 use Rattle.pb_audit.specs.declared.fault.AuditFault.{AuditFault}
 use Rattle.pb_audit.specs.declared.fault.AuditFault.TheVariants.{Memory}
-use Rattle.pb_laws.specs.Fixed.{IsWhole, Fixed, is_independent, are_linear}
+use Rattle.pb_engine.specs.Laws.{IsWhole, Fixed, is_independent, are_linear}
 use Rattle.pb_ids.specs.declared.numbers.HostNo.{HostNo}
 use Rattle.pb_one_host.specs.declared.row.Counts.{Counts}
 use Rattle.pb_one_host.specs.Row.{HostRow, none_counted}

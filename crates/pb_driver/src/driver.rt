@@ -417,7 +417,7 @@ pub(crate) fn run_crew<H, C: Crew<H>, P: Picker, W: LineOut>(
     ensures write { IfErr result (λ e. e.0 ≡ RunFault.Write → W.failures writer.new ≡ one_more (W.failures writer.old)) }
     ensures opened { IfErr result (λ e. e.0 ≢ RunFault.Closed) }
 {
-    pb_laws::runs_end_as_fixed();
+    pb_engine::runs_end_as_fixed();
     let mut engine = match Engine::new(alloc, plan, pool) {
         Ok(engine) => engine,
         Err(EngineFault::Memory) => return Err((RunFault::Memory, Vec::new(alloc))),

@@ -30,7 +30,9 @@ pub use comparing::same_end;
 pub use driver::{Ended, RunFault, run_plain};
 pub use given::Given;
 pub use line_out::{Failed, LineOut, Printed, Silent, put_all};
-pub use pb_engine::{Command, Lowest, Picker, RoundRobin};
+pub use pb_engine::{
+    Command, CommandFault, Engine, Lowest, Next, Picker, Refusal, RoundRobin, runs_keep_laws,
+};
 pub use pooled::drive;
 pub use threads::run_pool;
 

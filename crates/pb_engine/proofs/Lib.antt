@@ -4,3 +4,4 @@ pub mod Noted
 pub mod Picked
 pub mod Runs
 pub mod Waits
+pub mod Laws

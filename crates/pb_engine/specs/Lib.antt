@@ -7,3 +7,4 @@ pub mod Commands
 pub mod Refusals
 pub mod RefusalRows
 pub mod Awaited
+pub mod Laws

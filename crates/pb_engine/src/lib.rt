@@ -21,6 +21,7 @@ mod refusal;
 pub use command::{Command, CommandFault};
 pub use engine::{Engine, Next};
 pub use fault::EngineFault;
+pub use pb_laws::{runs_end_as_fixed, runs_keep_laws};
 pub use picker::{Lowest, Picker, RoundRobin};
 pub use refusal::Refusal;
 

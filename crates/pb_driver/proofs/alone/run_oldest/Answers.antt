@@ -1,6 +1,6 @@
 use Rattle.std.proofs.Common.{rules}
 use Rattle.pb_outcome.specs.declared.job.Report.{Report}
-use Rattle.pb_laws.proofs.JobsStay.{attempt_of_job, item_of_job}
+use Rattle.pb_engine.proofs.Laws.{attempt_of_job, item_of_job}
 use Rattle.pb_driver.proofs.Driving.{oldest_waits}
 use Rattle.pb_driver.proofs.alone.run_oldest.Goals as goal
 
