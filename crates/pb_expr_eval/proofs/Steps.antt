@@ -1,5 +1,5 @@
 -- One step of reading.
-use Rattle.std.proofs.Common.{◌≡◌, ℕ, zero, suc, ◌-◌, ◌<◌, ◌≤◌, true, List, [], ◌∷◌, Some, Err, length, refl, arith}
+use Rattle.std.proofs.Common.{◌≡◌, ℕ, zero, suc, ◌-◌, ◌<◌, ◌≤◌, true, false, List, [], ◌∷◌, Some, Ok, Err, length, refl, arith}
 use Rattle.pb_value.specs.Datum.{Datum}
 use Rattle.pb_expr_syntax.specs.Tree.{Tree, trees_of}
 use Rattle.pb_layers.specs.Scope.{Map, found, has_templates}
@@ -21,3 +21,9 @@ pub rendered_name : (scope : List Map) (levels : ℕ) (name : List ℕ) (f : ℕ
     → names_in scope levels name ≡ rendered (names_in scope (levels - 1)) f.1
 rendered_name scope zero name f lt e t = absurd (omega arith)
 rendered_name scope (suc n) name f lt e t = let same : suc n - 1 ≡ n = omega arith in rw (e, t, same)
+
+-- and one whose layer has none is read as it is stored
+pub stored_name : (scope : List Map) (levels : ℕ) (name : List ℕ) (f : ℕ × Datum) → 0 < levels → found name scope ≡ Some f → has_templates f.0 ≡ false
+    → names_in scope levels name ≡ Ok f.1
+stored_name scope zero name f lt e t = absurd (omega arith)
+stored_name scope (suc n) name f lt e t = rw (e, t)

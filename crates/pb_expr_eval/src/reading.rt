@@ -1,5 +1,6 @@
 //! Reads expressions and templates in a scope, with a number of look-ups left.
-ghost use Rattle.std.specs.Prelude.{◌≡◌, ◌≢◌, IfOk, IfErr, Ok, Err, string_bytes};
+ghost use Rattle.std.specs.Prelude.{◌≡◌, ◌≢◌, IfOk, IfErr, IfSome, Ok, Err, string_bytes};
+ghost use Rattle.std.specs.Option.{option_copied};
 ghost use Rattle.pb_value.specs.Datum.{items_of, members_of, named};
 ghost use Rattle.pb_value.specs.Reading.{and_then};
 ghost use Rattle.pb_expr_syntax.specs.Tree as tree;
@@ -37,10 +38,7 @@ fn value(alloc: Global, scope: &Scope, levels: u32, expr: &Expr) -> Result<Val, 
         Form::Truth(truth) => Ok(Val::boolean(*truth)),
         Form::Null => Ok(Val::null()),
         Form::List(items) => Ok(Val::list(values(alloc, scope, levels, items.as_slice())?)),
-        Form::Member(x, name) => {
-            let x = value(alloc, scope, levels, x)?;
-            member(alloc, &x, name.as_str())
-        }
+        Form::Member(x, name) => membered(alloc, scope, levels, x, name.as_str()),
         Form::Index(x, y) => indexed(alloc, scope, levels, x, y),
         Form::Not(x) => {
             let x = value(alloc, scope, levels, x)?;
@@ -81,6 +79,45 @@ fn operated(
     binary(alloc, op, &x, &y)
 }
 
+/// The value of an expression that is a name, where it is read as it is stored: then a part of it is read without a copy of the whole. `hostvars` has an
+/// entry for each host.
+#[tactic(auto, using(crate::proofs::Steps::stored_name))]
+fn lent<'a>(scope: &Scope<'a>, levels: u32, expr: &Expr) -> Option<&'a Val>
+    ensures { IfSome (option_copied result) (λ v. value (names_in scope.now levels) expr.now ≡ Ok v) }
+{
+    let Form::Name(name) = &expr.form else {
+        return None;
+    };
+    if levels == 0 {
+        return None;
+    }
+    let found = scope.find(name.as_str())?;
+    if has_templates(found.layer) {
+        return None;
+    }
+    Some(found.value)
+}
+
+/// The member of that name.
+#[cycle(reading)]
+#[inline(never)]
+fn membered(
+    alloc: Global,
+    scope: &Scope,
+    levels: u32,
+    x: &Expr,
+    name: &str,
+) -> Result<Val, EvalFault>
+    ensures value { IfOk result (λ v. value (names_in scope.now levels) (tree.Member x.now name.now) ≡ Ok v) }
+    ensures fault { IfErr result (λ e. e ≢ fault.Memory → value (names_in scope.now levels) (tree.Member x.now name.now) ≡ Err e) }
+{
+    if let Some(x) = lent(scope, levels, x) {
+        return member(alloc, x, name);
+    }
+    let x = value(alloc, scope, levels, x)?;
+    member(alloc, &x, name)
+}
+
 /// The member under a key that is read.
 #[cycle(reading)]
 #[inline(never)]
@@ -88,6 +125,10 @@ fn indexed(alloc: Global, scope: &Scope, levels: u32, x: &Expr, y: &Expr) -> Res
     ensures value { IfOk result (λ v. value (names_in scope.now levels) (tree.Index x.now y.now) ≡ Ok v) }
     ensures fault { IfErr result (λ e. e ≢ fault.Memory → value (names_in scope.now levels) (tree.Index x.now y.now) ≡ Err e) }
 {
+    if let Some(x) = lent(scope, levels, x) {
+        let y = value(alloc, scope, levels, y)?;
+        return index(alloc, x, &y);
+    }
     let x = value(alloc, scope, levels, x)?;
     let y = value(alloc, scope, levels, y)?;
     index(alloc, &x, &y)

@@ -18,6 +18,9 @@ decreases-value l = spent l.scope.now l.levels + 4 * nodes l.expr.now
 abbrev pub decreases-operated : goal.decreases-operated
 decreases-operated l = spent l.scope.now l.levels + (4 * (nodes l.x.now + nodes l.y.now) + 1)
 
+abbrev pub decreases-membered : goal.decreases-membered
+decreases-membered l = spent l.scope.now l.levels + (4 * nodes l.x.now + 1)
+
 abbrev pub decreases-indexed : goal.decreases-indexed
 decreases-indexed l = spent l.scope.now l.levels + (4 * (nodes l.x.now + nodes l.y.now) + 1)
 
