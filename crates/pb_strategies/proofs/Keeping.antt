@@ -1,19 +1,20 @@
 -- What is kept beside the list of where hosts stand.
-use Rattle.std.proofs.Common.{◌≡◌, ◌<◌, ◌+◌, ◌^◌, ◌∙◌, ◌++◌, ℕ, zero, suc, Bool, true, false, ◌&&◌, ◌||◌, not, cond, List, [], ◌∷◌, Option, Some, None, map, length, take, count_by, is_some, slice_get, slice_set, get_or, arith, refl, ap, sym}
+use Rattle.std.proofs.Common.{◌≡◌, ◌<◌, ◌+◌, ◌^◌, ◌∙◌, ◌++◌, ℕ, zero, suc, Bool, true, false, ◌&&◌, ◌||◌, not, cond, List, [], ◌∷◌, Option, Some, None, map, length, take, count_by, is_some, slice_get, slice_set, get_or, arith, refl, ap, sym, subst}
 use Rattle.std.specs.Prelude.{option_map, replicate}
-use Rattle.std.specs.List.{list_any, range_with_len}
+use Rattle.std.specs.List.{All, range_with_len}
 use Rattle.std.specs.Simd.Lanes.{zip2}
 use Rattle.std.proofs.lemmas.Option.{get_or_from_slice_get, slice_get-get_or, slice_get-map, slice_get_within}
-use Rattle.std.proofs.lemmas.Bool.{eqb-true}
 use Rattle.std.proofs.lemmas.List.FromFn.{get_or-map-range_with_len, length-map-range_with_len}
 use Rattle.std.proofs.lemmas.List.{length-set, length-map, length-replicate, map-set, set-set, set-get_or, get_or-set_same, map_more}
+use Rattle.std.proofs.lemmas.List.Elements.{All-nil}
 use Rattle.std.proofs.lemmas.List.Sums.{sum_by-cons, sum_by_push}
 use Rattle.std.proofs.lemmas.Simd.{zip2-map, length-zip2}
-use Rattle.pb_planes.specs.Set.{has_some}
 use Rattle.pb_limits.specs.Counts.{LimitsOf, limits_of, runs_at, running_at}
 use Rattle.pb_strategies.specs.declared.standings.Standing.{Standing}
-use Rattle.pb_strategies.specs.Hosts.{nowhere, same_place, is_running, has_begun, is_unended, is_next_at, runs_in}
-use Rattle.pb_strategies.specs.Kept.{IsKept}
+use Rattle.pb_strategies.specs.declared.watched.Watched.{Watched}
+use Rattle.pb_strategies.specs.Hosts.{nowhere, same_place, is_running, has_begun, is_unended, is_next_at, is_under_way, runs_in}
+use Rattle.pb_strategies.specs.Kept.{IsWatched, with_next, IsKept}
+use Rattle.pb_strategies.proofs.Watching.{watched_put, each_put}
 
 -- what is written where it stands already changes nothing
 pub set_same : (runs : List (Option ℕ)) (host : ℕ) (v : Option ℕ) → slice_get runs host ≡ Some v → slice_set runs host v ≡ runs
@@ -46,20 +47,24 @@ counts_kept hosts h old new limits mid last few e finish start places law =
 one_kept : (test : Standing → Bool) (hosts : List Standing) (h : ℕ) (new : Standing) (set told : List Bool) → set ≡ map test hosts → told ≡ slice_set set h (test new) → told ≡ map test (slice_set hosts h new)
 one_kept test hosts h new set told s t = t ∙ ap (λ xs. slice_set xs h (test new)) s ∙ sym (map-set test hosts h new)
 
-pub put_kept : (hosts : List Standing) (h : ℕ) (old new : Standing) (limits mid last : LimitsOf) (running begun unended here r b u t : List Bool) (place : Option ℕ) → slice_get hosts h ≡ Some old → IsKept hosts limits running begun unended here place
+pub put_kept : (hosts : List Standing) (h : ℕ) (old new : Standing) (limits mid last : LimitsOf) (n m : ℕ) (running begun unended r b u : List Bool) (here t : Watched) (watched w : List Watched) → slice_get hosts h ≡ Some old
+    → IsKept hosts limits n running begun unended here watched
     → ((places host : ℕ) (runs : List (Option ℕ)) → slice_get runs host ≡ Some old.runs → limits ≡ limits_of places runs → mid ≡ limits_of places (slice_set runs host None))
     → ((places host : ℕ) (runs : List (Option ℕ)) → length runs < 2 ^ 32 → slice_get runs host ≡ Some None → mid ≡ limits_of places runs → last ≡ limits_of places (slice_set runs host new.runs))
-    → r ≡ slice_set running h (is_some new.runs) → b ≡ slice_set begun h new.has_begun → u ≡ slice_set unended h (is_some new.next) → t ≡ slice_set here h (same_place new.next place)
-    → IsKept (slice_set hosts h new) last r b u t place
-put_kept hosts h old new limits mid last running begun unended here r b u t place e kept finish start er eb eu et =
+    → m ≡ count_by is_under_way (slice_set hosts h new)
+    → r ≡ slice_set running h (is_some new.runs) → b ≡ slice_set begun h new.has_begun → u ≡ slice_set unended h (is_some new.next) → t ≡ with_next h new.next here → w ≡ map (with_next h new.next) watched
+    → IsKept (slice_set hosts h new) last m r b u t w
+put_kept hosts h old new limits mid last n m running begun unended r b u here t watched w e kept finish start em er eb eu et ew =
     let long = length-set hosts h new in
     record {
       few = omega (arith, long, kept.few);
       counted = (kept.counted.0, counts_kept hosts h old new limits mid last kept.few e finish start kept.counted.0 kept.counted.1);
+      are_under_way = em;
       are_running = one_kept is_running hosts h new running r kept.are_running er;
       have_begun = one_kept has_begun hosts h new begun b kept.have_begun eb;
       are_unended = one_kept is_unended hosts h new unended u kept.are_unended eu;
-      are_here = one_kept (is_next_at place) hosts h new here t kept.are_here et;
+      are_here = subst (IsWatched (slice_set hosts h new)) (sym et) (watched_put hosts h new here kept.are_here);
+      are_watched = subst (All (IsWatched (slice_set hosts h new))) (sym ew) (each_put hosts h new watched kept.are_watched);
     }
 
 -- a set that keeps what another one has too, and then gains all of that, is that other one
@@ -111,10 +116,6 @@ count_mapped test (host ∷ hosts) =
     let each : Standing → ℕ = λ (h : Standing). cond (test h) 1 0 in
     sum_by-cons one (test host) (map test hosts) ∙ ap (λ n. cond (test host) 1 0 + n) (count_mapped test hosts) ∙ sym (sum_by-cons each host hosts)
 
-pub some_mapped : (test : Standing → Bool) (hosts : List Standing) → has_some (map test hosts) ≡ list_any test hosts
-some_mapped test [] = refl
-some_mapped test (host ∷ hosts) = ap (λ b. test host || b) (some_mapped test hosts)
-
 -- one host more that is counted, or not
 pub count_more : (hosts : List Standing) (place i : ℕ) (host : Standing) → i < length hosts → host ≡ get_or hosts i host
     → running_at (runs_in (take (i + 1) hosts)) place ≡ running_at (runs_in (take i hosts)) place + cond (runs_at place host.runs) 1 0
@@ -137,16 +138,6 @@ count_found limits places place n runs law found =
     sym (get_or_from_slice_get (map (running_at runs) (range_with_len 0 places)) place n 0 counts)
     ∙ get_or-map-range_with_len (running_at runs) 0 places place place 0 (omega (arith, within, long)) (omega arith)
 
-not_not : (b : Bool) → not (not b) ≡ b
-not_not true = refl
-not_not false = refl
-
--- who is at a place, where it is kept who is there
-pub some_here : (place : Option ℕ) (p : ℕ) (hosts : List Standing) (here : List Bool) → here ≡ map (is_next_at place) hosts → same_place place (Some p) ≡ true → not (not (has_some here)) ≡ list_any (is_next_at (Some p)) hosts
-some_here None p hosts here e same = cc
-some_here (Some q) p hosts here e same =
-    not_not (has_some here) ∙ ap has_some e ∙ some_mapped (is_next_at (Some q)) hosts ∙ ap (λ r. list_any (is_next_at (Some r)) hosts) (eqb-true q p same)
-
 -- at first all hosts are outside of the batch
 all_nowhere : {Y : Type 0} (f : Standing → Y) (n : ℕ) → replicate n (f nowhere) ≡ map f (replicate n nowhere)
 all_nowhere f zero = refl
@@ -155,16 +146,23 @@ all_nowhere f (suc n) = ap (λ rest. f nowhere ∷ rest) (all_nowhere f n)
 none_at_first : (test : Standing → Bool) (n : ℕ) (hosts : List Standing) (set : List Bool) → test nowhere ≡ false → hosts ≡ replicate n nowhere → set ≡ replicate n false → set ≡ map test hosts
 none_at_first test n hosts set no_one h s = s ∙ ap (replicate n) (sym no_one) ∙ all_nowhere test n ∙ ap (map test) (sym h)
 
-pub first_kept : (n places : ℕ) (hosts : List Standing) (limits : LimitsOf) (running begun unended here : List Bool) → n < 2 ^ 32 → hosts ≡ replicate n nowhere → ((m : ℕ) → limits ≡ limits_of places (replicate m None))
-    → running ≡ replicate n false → begun ≡ replicate n false → unended ≡ replicate n false → here ≡ replicate n false → IsKept hosts limits running begun unended here None
-first_kept n places hosts limits running begun unended here few h l r b u t =
+none_under_way : (n : ℕ) → count_by is_under_way (replicate n nowhere) ≡ 0
+none_under_way zero = refl
+none_under_way (suc n) = sum_by-cons (λ (host : Standing). cond (is_under_way host) 1 0) nowhere (replicate n nowhere) ∙ ap (λ m. 0 + m) (none_under_way n)
+
+pub first_kept : (n places : ℕ) (hosts : List Standing) (limits : LimitsOf) (running begun unended : List Bool) (here : Watched) (watched : List Watched) → n < 2 ^ 32 → hosts ≡ replicate n nowhere
+    → ((m : ℕ) → limits ≡ limits_of places (replicate m None))
+    → running ≡ replicate n false → begun ≡ replicate n false → unended ≡ replicate n false → here.hosts ≡ replicate n false → watched ≡ [] → IsKept hosts limits 0 running begun unended here watched
+first_kept n places hosts limits running begun unended here watched few h l r b u t w =
     let runs : Standing → Option ℕ = λ (one : Standing). one.runs in
     let long : length hosts ≡ n = ap length h ∙ length-replicate n nowhere in
     record {
       few = omega (arith, long, few);
       counted = (places, l n ∙ ap (limits_of places) (all_nowhere runs n ∙ ap (map runs) (sym h)));
+      are_under_way = sym (ap (count_by is_under_way) h ∙ none_under_way n);
       are_running = none_at_first is_running n hosts running refl h r;
       have_begun = none_at_first has_begun n hosts begun refl h b;
       are_unended = none_at_first is_unended n hosts unended refl h u;
-      are_here = none_at_first (is_next_at None) n hosts here refl h t;
+      are_here = none_at_first (is_next_at here.place) n hosts here.hosts refl h t;
+      are_watched = subst (All (IsWatched hosts)) (sym w) (All-nil (IsWatched hosts));
     }

@@ -1,5 +1,6 @@
-pub mod Overwritten
-pub mod Keeping
 pub mod Members
+pub mod Watching
+pub mod Keeping
 pub mod Starting
+pub mod Closing
 pub mod Turning

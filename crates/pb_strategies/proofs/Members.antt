@@ -1,5 +1,5 @@
 -- The hosts of a set alone are looked at, one after another: a list that says of the others what it is to say already says it of all in the end.
-use Rattle.std.proofs.Common.{◌≡◌, ◌<◌, ◌≤◌, ◌+◌, ◌∙◌, ℕ, zero, suc, Bool, true, false, ◌||◌, List, [], ◌∷◌, Option, Some, None, map, length, is_some, slice_get, slice_set, get_or, arith, refl, ap, sym, inl, inr}
+use Rattle.std.proofs.Common.{◌≡◌, ◌<◌, ◌≤◌, ◌+◌, ◌∙◌, ℕ, zero, suc, Bool, true, false, ◌||◌, not, List, [], ◌∷◌, Option, Some, None, map, length, is_some, slice_get, slice_set, get_or, arith, refl, ap, sym, inl, inr}
 use Rattle.std.specs.Prelude.{⊤, replicate}
 use Rattle.std.specs.Simd.Lanes.{zip2}
 use Rattle.std.proofs.lemmas.Bool.{cases_lt}
@@ -138,3 +138,7 @@ are_somewhere hosts unended begun running one both u b r o e =
     let half = o ∙ ap (λ xs. zip2 (λ (x y : Bool). x || y) xs begun) u ∙ ap (λ ys. zip2 (λ (x y : Bool). x || y) (map is_unended hosts) ys) b ∙ zip2-map (λ (x y : Bool). x || y) is_unended has_begun hosts in
     e ∙ ap (λ xs. zip2 (λ (x y : Bool). x || y) xs running) half ∙ ap (λ ys. zip2 (λ (x y : Bool). x || y) (map (λ (host : Standing). is_unended host || has_begun host) hosts) ys) r
     ∙ zip2-map (λ (x y : Bool). x || y) (λ (host : Standing). is_unended host || has_begun host) is_running hosts
+
+pub not_not : (b : Bool) → not (not b) ≡ b
+not_not true = refl
+not_not false = refl

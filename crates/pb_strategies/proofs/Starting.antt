@@ -1,20 +1,19 @@
 -- Who may start, by strategy.
-use Rattle.std.proofs.Common.{◌≡◌, ◌<◌, ◌∙◌, ℕ, zero, suc, Bool, true, false, ◌&&◌, ◌||◌, not, List, [], ◌∷◌, Option, Some, None, map, length, nat_eq, slice_get, slice_index_or, get_or, arith, refl, ap, sym, inl, inr, eq-eqb}
+use Rattle.std.proofs.Common.{◌≡◌, ◌<◌, ◌∙◌, ℕ, Bool, true, false, ◌&&◌, ◌||◌, not, List, [], ◌∷◌, Option, Some, None, map, length, nat_eq, slice_get, get_or, arith, refl, ap, sym, inl, inr, eq-eqb}
 use Rattle.std.specs.Prelude.{option_map, replicate}
 use Rattle.std.specs.Option.{option_map_or}
-use Rattle.std.specs.List.{list_any, range_with_len}
+use Rattle.std.specs.List.{range_with_len}
 use Rattle.std.specs.Simd.Lanes.{zip2}
 use Rattle.std.proofs.lemmas.Bool.{cases_eq, cases_lt, ne_eqb, and_left}
 use Rattle.std.proofs.lemmas.Option.{get_or_from_slice_get, slice_get-get_or, slice_get-map, slice_get_within}
 use Rattle.std.proofs.lemmas.List.{length-map, length-replicate, get_or-replicate, get_or_past}
 use Rattle.std.proofs.lemmas.List.FromFn.{fill_by_all, get_or-map-range_with_len, length-map-range_with_len}
 use Rattle.pb_planes.specs.Set.{is_in}
-use Rattle.pb_limits.specs.Counts.{has_room_for, running_at}
 use Rattle.pb_strategies.specs.declared.standings.Standing.{Standing}
 use Rattle.pb_strategies.specs.declared.strategy.Strategy.TheVariants.{Linear, Free, HostPinned}
-use Rattle.pb_strategies.specs.Hosts.{nowhere, same_place, is_running, has_begun, is_waiting, runs_in}
+use Rattle.pb_strategies.specs.Hosts.{nowhere, same_place, is_running, has_begun, is_waiting}
 use Rattle.pb_strategies.specs.MayStart.{ViewOf, has_room, has_room_at, runs_once, is_first_at, is_open_once, may_run_once, has_room_to_begin, suits, may_start_at, may_start_from, may_start, ready}
-use Rattle.pb_strategies.specs.Parts.{is_throttle, is_open_to, is_open, stays_open, opened, begins, stands_at, first_standing}
+use Rattle.pb_strategies.specs.Parts.{is_open_to, is_open, stays_open, opened, begins, stands_at, first_standing}
 
 and_no : (a : Bool) → (a && false) ≡ false
 and_no true = refl
@@ -123,27 +122,6 @@ all_begin view set room s =
     or_yes : (a : Bool) → (a || true) ≡ true
     or_yes true = refl
     or_yes false = refl
-
--- without throttles a set stays as it is
-no_throttle : (throttles : List ℕ) (p : ℕ) → list_any is_throttle throttles ≡ false → slice_index_or throttles p 0 ≡ 0
-no_throttle [] p e = refl
-no_throttle (zero ∷ throttles) zero e = refl
-no_throttle (suc t ∷ throttles) p e = absurd (differ (sym (ap (λ b. not b || list_any is_throttle throttles) (ne_eqb (suc t) 0 (λ (z : suc t ≡ 0). omega (arith, z)))) ∙ e))
-no_throttle (zero ∷ throttles) (suc p) e = no_throttle throttles p e
-
-lets_next : (view : ViewOf) → list_any is_throttle view.throttles ≡ false → (next : Option ℕ) → option_map_or (has_room_at view) next true ≡ true
-lets_next view e None = refl
-lets_next view e (Some p) = ap (λ t. has_room_for (running_at (runs_in view.hosts) p) t) (no_throttle view.throttles p e)
-
-lets_host : (view : ViewOf) → list_any is_throttle view.throttles ≡ false → (found : Option Standing) → option_map_or (is_open_to view) found true ≡ true
-lets_host view e None = refl
-lets_host view e (Some host) = lets_next view e host.next
-
-pub unthrottled : (view : ViewOf) (set : List Bool) → list_any is_throttle view.throttles ≡ false → set ≡ opened view set
-unthrottled view set e = fill_by_all (stays_open view set) set (length set) false refl each
-  where
-    each : (k : ℕ) → k < length set → slice_index_or set k false ≡ stays_open view set k
-    each k lt = sym (ap (λ b. is_in set k && b) (lets_host view e (slice_get view.hosts k)) ∙ and_yes (is_in set k))
 
 -- under the linear strategy: at the current place, and elsewhere
 at_place : (view : ViewOf) (place h : ℕ) (host : Standing) → view.strategy ≡ Linear → view.place ≡ Some place →

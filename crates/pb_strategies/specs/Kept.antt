@@ -1,14 +1,26 @@
 -- What is kept beside the list of where hosts stand.
-use Rattle.std.specs.Prelude.{◌≡◌, ◌<◌, ◌^◌, ℕ, Bool, List, Option, map, length}
+use Rattle.std.specs.Prelude.{◌≡◌, ◌<◌, ◌^◌, ℕ, Bool, List, Option, All, map, length, count_by, slice_set}
 use Rattle.pb_limits.specs.Counts.{LimitsOf, limits_of}
 use Rattle.pb_strategies.specs.declared.standings.Standing.{Standing}
-use Rattle.pb_strategies.specs.Hosts.{is_running, has_begun, is_unended, is_next_at, runs_in}
+use Rattle.pb_strategies.specs.declared.watched.Watched.{Watched}
+use Rattle.pb_strategies.specs.Hosts.{same_place, is_running, has_begun, is_unended, is_next_at, is_under_way, runs_in}
 
--- the counts of the hosts that run, and the sets of those that run, that have begun, that have a next place, and whose next place is a certain one
-pub record IsKept (hosts : List Standing) (limits : LimitsOf) (running begun unended here : List Bool) (place : Option ℕ) : Type 0 where
+-- a place, and the hosts whose next place it is
+abbrev pub IsWatched : List Standing → Watched → Type 0
+IsWatched hosts watched = watched.hosts ≡ map (is_next_at watched.place) hosts
+
+-- what is kept of a place once a host has this next place
+abbrev pub with_next : ℕ → Option ℕ → Watched → Watched
+with_next host next watched = record watched { hosts = slice_set watched.hosts host (same_place next watched.place) }
+
+-- the counts of the hosts that run, and of those that have begun and are not at their end; the sets of those that run, that have begun, that have a next
+-- place, and whose next place is a certain one, of the current one and of each that is watched
+pub record IsKept (hosts : List Standing) (limits : LimitsOf) (under_way : ℕ) (running begun unended : List Bool) (here : Watched) (watched : List Watched) : Type 0 where
   pub few : length hosts < 2 ^ 32
   pub counted : (places : ℕ) × (limits ≡ limits_of places (runs_in hosts))
+  pub are_under_way : under_way ≡ count_by is_under_way hosts
   pub are_running : running ≡ map is_running hosts
   pub have_begun : begun ≡ map has_begun hosts
   pub are_unended : unended ≡ map is_unended hosts
-  pub are_here : here ≡ map (is_next_at place) hosts
+  pub are_here : IsWatched hosts here
+  pub are_watched : All (IsWatched hosts) watched

@@ -1,14 +1,11 @@
 -- What the hosts that may start are put together of.
-use Rattle.std.specs.Prelude.{ℕ, nat_eq, Bool, true, false, ◌&&◌, ◌||◌, not, List, map, length, slice_get, Some}
+use Rattle.std.specs.Prelude.{ℕ, Bool, true, false, ◌&&◌, ◌||◌, not, List, map, length, slice_get, Option, Some, None}
 use Rattle.std.specs.List.{range_with_len}
 use Rattle.std.specs.Option.{option_map_or}
 use Rattle.pb_planes.specs.Set.{is_in}
 use Rattle.pb_strategies.specs.declared.standings.Standing.{Standing}
 use Rattle.pb_strategies.specs.Hosts.{is_running, has_begun, is_next_at, is_waiting}
 use Rattle.pb_strategies.specs.MayStart.{ViewOf, has_room_at, has_room, runs_once, is_open_once, has_room_to_begin, is_first_at}
-
-abbrev pub is_throttle : ℕ → Bool
-is_throttle throttle = not (nat_eq throttle 0)
 
 -- whether the throttle of a host's next place lets it start
 abbrev pub is_open_to : ViewOf → Standing → Bool
@@ -23,6 +20,11 @@ stays_open view set h = is_in set h && is_open view h
 -- a set without the hosts that the throttles don't let start
 abbrev pub opened : ViewOf → List Bool → List Bool
 opened view set = map (stays_open view set) (range_with_len 0 (length set))
+
+-- whether a host's next place is that of this task, if the throttle there lets no other host start
+abbrev pub is_shut_by : ViewOf → Option ℕ → Standing → Bool
+is_shut_by view None host = false
+is_shut_by view (Some p) host = is_next_at (Some p) host && not (has_room_at view p)
 
 -- a host that waits, and has begun or may begin
 abbrev pub begins : ViewOf → Standing → Bool

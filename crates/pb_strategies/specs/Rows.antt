@@ -1,10 +1,12 @@
 -- Worked examples: each is proved by computing both sides.
-use Rattle.std.specs.Prelude.{◌≡◌, ℕ, refl, true, false, List, [], ◌∷◌, Option, Some, None}
+use Rattle.std.specs.Prelude.{◌≡◌, ℕ, refl, true, false, List, [], ◌∷◌, map, Option, Some, None}
 use Rattle.pb_strategies.specs.declared.standings.Standing.{Standing}
 use Rattle.pb_strategies.specs.declared.strategy.Strategy.{Strategy}
 use Rattle.pb_strategies.specs.declared.strategy.Strategy.TheVariants.{Linear, Free, HostPinned}
 use Rattle.pb_strategies.specs.Hosts.{nowhere}
+use Rattle.pb_strategies.specs.Kept.{IsWatched, with_next}
 use Rattle.pb_strategies.specs.MayStart.{ViewOf, ready, turn_ready}
+use Rattle.pb_strategies.specs.Parts.{is_shut_by}
 
 -- a host that waits at a place, one that runs there, one that has done there what it does, and one at its end
 abbrev fresh : ℕ → Standing
@@ -67,6 +69,20 @@ pinned = refl
 -- it begins when one of them is at its end
 pinned_next : ready (seen HostPinned 2 None (ended ∷ runs 0 ∷ fresh 0 ∷ [])) ≡ false ∷ false ∷ true ∷ []
 pinned_next = refl
+
+-- where a host runs and the throttle is full, nobody else starts who is next there; elsewhere that host is in nobody's way
+shut : map (is_shut_by (seen Free 5 None (waits 1 ∷ runs 1 ∷ waits 0 ∷ ended ∷ [])) (Some 1)) (waits 1 ∷ runs 1 ∷ waits 0 ∷ ended ∷ []) ≡ true ∷ true ∷ false ∷ false ∷ []
+shut = refl
+
+not_shut : map (is_shut_by (seen Free 5 None (waits 0 ∷ runs 0 ∷ waits 1 ∷ [])) (Some 0)) (waits 0 ∷ runs 0 ∷ waits 1 ∷ []) ≡ false ∷ false ∷ false ∷ []
+not_shut = refl
+
+-- of a place that is watched its hosts are kept, and as one of them goes on it is kept no more
+watched : IsWatched (fresh 0 ∷ runs 1 ∷ waits 1 ∷ ended ∷ []) (record { place = Some 1; hosts = false ∷ true ∷ true ∷ false ∷ [] })
+watched = refl
+
+watched_on : with_next 1 (Some 2) (record { place = Some 1; hosts = false ∷ true ∷ true ∷ false ∷ [] }) ≡ record { place = Some 1; hosts = false ∷ false ∷ true ∷ false ∷ [] }
+watched_on = refl
 
 -- the batch goes on once nobody runs and nobody may start
 done_there : turn_ready (seen Linear 5 (Some 0) (waits 1 ∷ waits 1 ∷ nowhere ∷ [])) ≡ true

@@ -2,7 +2,8 @@
 //!
 //! For the layers above: a `View` is what a strategy sees of a run; `ready` gives exactly the hosts that may start, `may_start` says it of one, and
 //! `turn_ready` says whether the batch goes on from its current place, as `specs/MayStart.antt` says. None of them takes memory. Where each host stands is kept in a `Standings`, which
-//! contracts see as a plain list: the layer above says of a host where it stands as that changes (`put`), and lends the list to a view.
+//! contracts see as a plain list: the layer above says of a host where it stands as that changes (`put`), and lends the list to a view. It also says which
+//! places to watch (`stand_at`, `watch`): no contract tells that, but what is asked of the hosts there is then told without a look at each host.
 #![tactic(auto)]
 
 mod single;
@@ -10,6 +11,7 @@ pub mod standings;
 pub mod starts;
 pub mod strategy;
 pub mod view;
+mod watched;
 
 pub use single::may_start;
 pub use standings::{Standing, Standings};

@@ -1,59 +1,26 @@
 //! Whether one host may start its next task.
 
-ghost use Rattle.std.specs.Prelude.{◌≡◌, take, count_by};
-ghost use Rattle.pb_strategies.specs.Hosts.{is_under_way};
-ghost use Rattle.pb_strategies.specs.MayStart.{is_first_at, may_run_once, has_room_to_begin, suits, may_start_at, may_start_from, may_start};
+ghost use Rattle.std.specs.Prelude.{◌≡◌};
+ghost use Rattle.pb_strategies.specs.MayStart.{is_first_at, may_run_once, suits, may_start_at, may_start_from, may_start};
 
-use crate::standings::{Standing, same_place, some_next};
-use crate::starts::{has_room, has_room_at, is_open_once, runs_once};
+use crate::standings::{Standing, Standings, same_place};
+use crate::starts::{has_room, has_room_at, has_room_to_begin, is_open_once, runs_once};
 use crate::strategy::Strategy;
 use crate::view::View;
 use pb_ids::HostNo;
 
-/// The hosts before this one.
-fn before(hosts: &[Standing], host: usize) -> &[Standing]
-    ensures { result.now ≡ take host hosts.now }
-{
-    if host < hosts.len() {
-        &hosts[..host]
-    } else {
-        hosts
-    }
-}
-
 /// Whether no host before this one has this next place.
-fn is_first_at(hosts: &[Standing], place: usize, host: usize) -> bool
+fn is_first_at(hosts: &Standings, place: usize, host: usize) -> bool
     ensures { result ≡ is_first_at hosts.now place host }
 {
-    !some_next(before(hosts, host), place)
+    !hosts.some_next_before(place, host)
 }
 
 /// Whether a host starts a task that runs once.
 fn may_run_once(view: &View, host: usize, place: usize) -> bool
     ensures { result ≡ may_run_once view.now host place }
 {
-    is_open_once(view, place) && is_first_at(view.hosts.as_slice(), place, host)
-}
-
-/// Whether a host has begun and isn't at its end.
-fn is_under_way(host: &Standing) -> bool
-    ensures { result ≡ is_under_way host.now }
-{
-    host.has_begun && host.next.is_some()
-}
-
-/// How many hosts have begun and aren't at their end.
-fn under_way(hosts: &[Standing]) -> usize
-    ensures { result ≡ count_by is_under_way hosts.now }
-{
-    hosts.iter().filter(|host| is_under_way(host)).count()
-}
-
-/// Whether a host may begin.
-fn has_room_to_begin(view: &View) -> bool
-    ensures { result ≡ has_room_to_begin view.now }
-{
-    under_way(view.hosts.as_slice()) < view.forks as usize
+    is_open_once(view, place) && is_first_at(view.hosts, place, host)
 }
 
 /// What the strategy asks of a host whose next place is this one.
@@ -83,7 +50,7 @@ fn may_start_from(view: &View, host: usize, standing: Standing) -> bool
     }
 }
 
-/// Whether a host may start its next task. Under `HostPinned` it looks at all hosts where this one hasn't begun.
+/// Whether a host may start its next task.
 pub fn may_start(view: &View, host: HostNo) -> bool
     ensures { result ≡ may_start view.now host.0 }
 {

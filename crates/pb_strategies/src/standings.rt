@@ -1,12 +1,13 @@
 //! Where each host stands.
 
-ghost use Rattle.std.specs.Prelude.{◌≡◌, ◌<◌, ◌+◌, ◌&&◌, ◌||◌, ◌^◌, ℕ, List, Option, Some, None, IfOk, OnOk, OnErr, true, false, length, map, not, count_by, replicate, slice_get, slice_set};
+ghost use Rattle.std.specs.Prelude.{◌≡◌, ◌<◌, ◌+◌, ◌&&◌, ◌||◌, ◌^◌, ℕ, List, Option, Some, None, IfOk, IfSome, OnOk, OnErr, true, false, length, map, take, not, count_by, replicate, slice_get, slice_set, slice_index_or};
 ghost use Rattle.std.specs.List.{list_any};
 ghost use Rattle.std.specs.Simd.Lanes.{zip2};
 ghost use Rattle.pb_limits.specs.Counts.{limits_of, running, running_at};
-ghost use Rattle.pb_planes.specs.Set.{is_in};
+ghost use Rattle.pb_planes.specs.Set.{is_in, has_some};
 ghost use Rattle.pb_strategies.specs.Hosts.{nowhere, same_place, is_running, is_unended, is_somewhere, is_next_at, is_waiting, is_under_way, has_begun, runs_in};
 
+use crate::watched::{self, Watched};
 use pb_ids::HostNo;
 use pb_limits::Limits;
 use pb_planes::HostSet;
@@ -42,16 +43,22 @@ impl Standing {
 pub struct Standings {
     hosts: Vec<Standing>,
     limits: Limits,
+    /// How many have begun and aren't at their end.
+    under_way: u32,
     /// The hosts that run.
     running: HostSet,
     /// Those that have begun.
     begun: HostSet,
     /// Those that have a next place.
     unended: HostSet,
-    /// Those whose next place is `place`.
-    here: HostSet,
-    place: Option<usize>,
+    /// Those whose next place is the one that `stand_at` named last.
+    here: Watched,
+    /// Those whose next place is one that is watched.
+    watched: Vec<Watched>,
 }
+
+/// So many places are watched at most, since as a host goes on each of their sets is written. The hosts at a further place are looked for one by one.
+const MOST_WATCHED: usize = 64;
 
 impl Model for Standings {
     ghost use Rattle.std.specs.Prelude.{List};
@@ -62,7 +69,7 @@ impl Model for Standings {
 
     ghost view = { λ s. s.hosts.items };
 
-    ghost invariant = { λ s. IsKept s.hosts.items s.limits s.running s.begun s.unended s.here s.place };
+    ghost invariant = { λ s. IsKept s.hosts.items s.limits s.under_way s.running s.begun s.unended s.here s.watched.items };
 }
 
 /// Whether both are the same place.
@@ -137,7 +144,7 @@ fn empty_by(other: &HostSet, set: &mut HostSet)
 
 /// The number behind that of a host of a set.
 #[tactic(auto, using(crate::proofs::Members::member_below))]
-fn behind(set: &HostSet, host: HostNo) -> u32
+pub(crate) fn behind(set: &HostSet, host: HostNo) -> u32
     requires { is_in set.now host.0 ≡ true }
     ensures { result ≡ host.0 + 1 }
 {
@@ -147,7 +154,12 @@ fn behind(set: &HostSet, host: HostNo) -> u32
 }
 
 /// Puts the hosts whose next place is this one into a set without hosts: of those that have a next place each is asked.
-fn put_next(hosts: &[Standing], place: Option<usize>, unended: &HostSet, set: &mut HostSet)
+pub(crate) fn put_next(
+    hosts: &[Standing],
+    place: Option<usize>,
+    unended: &HostSet,
+    set: &mut HostSet,
+)
     requires unended { unended.now ≡ map is_unended hosts.now }
     requires none { set.old ≡ replicate (length hosts.now) false }
     ensures { set.new ≡ map (is_next_at place) hosts.now }
@@ -168,6 +180,41 @@ fn next_at_into(hosts: &[Standing], place: Option<usize>, unended: &HostSet, set
 {
     empty_by(unended, set);
     put_next(hosts, place, unended, set);
+}
+
+/// Takes the hosts whose next place is this one out of a set: of the hosts of the set each is asked.
+#[tactic(auto, using(crate::proofs::Members::member_below))]
+fn drop_each_next(hosts: &[Standing], place: usize, set: &mut HostSet)
+    requires { length set.old ≡ length hosts.now }
+    ensures { set.new ≡ zip2 (λ a b. a && not b) set.old (map (is_next_at (Some place)) hosts.now) }
+{
+    let mut from = 0;
+    while let Some(host) = set.next_at(from) {
+        let is_next = same_place(hosts[host.0 as usize].next, Some(place));
+        from = behind(set, host);
+        set.put(host, !is_next);
+    }
+}
+
+/// Whether a set has a host before this one.
+fn has_before(set: &HostSet, host: usize) -> bool
+    ensures { result ≡ has_some (take host set.now) }
+{
+    match set.next_at(0) {
+        Some(first) => (first.0 as usize) < host,
+        None => false,
+    }
+}
+
+/// The hosts before this one.
+fn before(hosts: &[Standing], host: usize) -> &[Standing]
+    ensures { result.now ≡ take host hosts.now }
+{
+    if host < hosts.len() {
+        &hosts[..host]
+    } else {
+        hosts
+    }
 }
 
 /// Puts a host outside of the batch. One past the end changes nothing.
@@ -206,8 +253,33 @@ fn count_at(hosts: &[Standing], place: usize) -> u32
     count
 }
 
+/// Whether a host has begun and isn't at its end.
+fn is_under_way(host: &Standing) -> bool
+    ensures { result ≡ is_under_way host.now }
+{
+    host.has_begun && host.next.is_some()
+}
+
+/// How many hosts are under way once this one stands here, of so many before.
+fn under_way_with(hosts: &[Standing], host: HostNo, standing: &Standing, count: u32) -> u32
+    requires few { length hosts.now < 2 ^ 32 }
+    requires there { host.0 < length hosts.now }
+    requires count { count ≡ count_by is_under_way hosts.now }
+    ensures { result ≡ count_by is_under_way (slice_set hosts.now host.0 standing.now) }
+{
+    let counted = is_under_way(&hosts[host.0 as usize]);
+    let counts = is_under_way(standing);
+    if counted {
+        if counts { count } else { count - 1 }
+    } else if counts {
+        count + 1
+    } else {
+        count
+    }
+}
+
 /// Whether some host's next place is this one.
-pub(crate) fn some_next(hosts: &[Standing], place: usize) -> bool
+fn some_next(hosts: &[Standing], place: usize) -> bool
     ensures { result ≡ list_any (is_next_at (Some place)) hosts.now }
 {
     for host in hosts {
@@ -228,33 +300,41 @@ impl Standings {
         let running = HostSet::empty(alloc, hosts)?;
         let begun = HostSet::empty(alloc, hosts)?;
         let unended = HostSet::empty(alloc, hosts)?;
-        let here = HostSet::empty(alloc, hosts)?;
+        let here = Watched::nowhere(alloc, hosts)?;
+        let watched = Vec::new(alloc);
         Ok(Standings {
             hosts: all,
             limits,
+            under_way: 0,
             running,
             begun,
             unended,
             here,
-            place: None,
+            watched,
         })
     }
 
-    /// Puts all hosts outside of the batch; the play whose batch opens next has so many places. Only hosts that stood somewhere are looked at. The only
-    /// error is want of memory, which changes nothing.
+    /// Puts all hosts outside of the batch; the play whose batch opens next has so many places, none of which is watched. Only hosts that stood somewhere
+    /// are looked at. The only error is want of memory, which changes nothing.
     pub fn clear(&mut self, alloc: Global, places: usize) -> Result<(), AllocError>
         ensures ok { OnOk result (self.new ≡ replicate (length self.old) nowhere) }
         ensures err { OnErr result (self.new ≡ self.old) }
     {
         let limits = Limits::new(alloc, places)?;
-        unite_into(&self.unended, &self.begun, &self.running, &mut self.here);
-        forget_each(&mut self.hosts, &self.here);
-        empty_by(&self.unended, &mut self.here);
-        empty_by(&self.here, &mut self.unended);
-        empty_by(&self.here, &mut self.begun);
-        empty_by(&self.here, &mut self.running);
+        unite_into(
+            &self.unended,
+            &self.begun,
+            &self.running,
+            &mut self.here.hosts,
+        );
+        forget_each(&mut self.hosts, &self.here.hosts);
+        empty_by(&self.unended, &mut self.here.hosts);
+        empty_by(&self.here.hosts, &mut self.unended);
+        empty_by(&self.here.hosts, &mut self.begun);
+        empty_by(&self.here.hosts, &mut self.running);
         self.limits = limits;
-        self.place = None;
+        self.under_way = 0;
+        self.watched.clear();
         Ok(())
     }
 
@@ -273,10 +353,12 @@ impl Standings {
         if at < self.hosts.len() {
             finish_if(&mut self.limits, self.hosts[at].runs);
             start_if(&mut self.limits, standing.runs);
+            self.under_way = under_way_with(self.hosts.as_slice(), host, &standing, self.under_way);
             self.running.put(host, standing.runs.is_some());
             self.begun.put(host, standing.has_begun);
             self.unended.put(host, standing.next.is_some());
-            self.here.put(host, same_place(standing.next, self.place));
+            self.here.put(host, standing.next);
+            watched::put_all(&mut self.watched, host, standing.next);
             self.hosts[at] = standing;
         }
     }
@@ -285,8 +367,26 @@ impl Standings {
     pub fn stand_at(&mut self, place: Option<usize>)
         ensures { self.new ≡ self.old }
     {
-        next_at_into(self.hosts.as_slice(), place, &self.unended, &mut self.here);
-        self.place = place;
+        next_at_into(
+            self.hosts.as_slice(),
+            place,
+            &self.unended,
+            &mut self.here.hosts,
+        );
+        self.here.place = place;
+    }
+
+    /// From now on, until all hosts are put outside of the batch, it is kept which hosts' next place is this one too: for a place where a throttle may be
+    /// full, so that `ready` needn't look for the hosts there. Past the most places that are watched nothing changes. The only error is want of memory:
+    /// then the place isn't watched, and nothing else has changed.
+    pub fn watch(&mut self, alloc: Global, place: usize) -> Result<(), AllocError>
+        ensures { self.new ≡ self.old }
+    {
+        if self.watched.len() < MOST_WATCHED {
+            let watched = Watched::at(alloc, self.hosts.as_slice(), &self.unended, place)?;
+            self.watched.push(watched)?;
+        }
+        Ok(())
     }
 
     /// How many hosts run.
@@ -306,15 +406,28 @@ impl Standings {
         }
     }
 
-    /// How many hosts have begun and aren't at their end; the set is written over.
-    pub(crate) fn under_way(&self, set: &mut HostSet) -> u32
-        requires { length set.old ≡ length self.now }
-        ensures count { result ≡ count_by is_under_way self.now }
-        ensures width { length set.new ≡ length self.now }
+    /// How many hosts have begun and aren't at their end.
+    pub(crate) fn under_way(&self) -> u32
+        ensures { result ≡ count_by is_under_way self.now }
     {
-        copy_into(&self.begun, set);
-        set.and_with(&self.unended);
-        set.count()
+        self.under_way
+    }
+
+    /// The hosts that run.
+    pub(crate) fn running_hosts(&self) -> &HostSet
+        ensures { result.now ≡ map is_running self.now }
+    {
+        &self.running
+    }
+
+    /// The place of the task that a host runs.
+    pub(crate) fn runs_of(&self, host: HostNo) -> Option<usize>
+        ensures { result ≡ slice_index_or (runs_in self.now) host.0 None }
+    {
+        match self.hosts.as_slice().get(host.0 as usize) {
+            Some(standing) => standing.runs,
+            None => None,
+        }
     }
 
     /// Takes all hosts out of a set.
@@ -350,15 +463,36 @@ impl Standings {
         set.minus_with(&self.running);
     }
 
+    /// The hosts whose next place is this one, where they are kept.
+    fn kept_at(&self, place: usize) -> Option<&HostSet>
+        ensures { IfSome result (λ kept. kept.now ≡ map (is_next_at (Some place)) self.now) }
+    {
+        if same_place(self.here.place, Some(place)) {
+            Some(&self.here.hosts)
+        } else {
+            watched::set_of(self.watched.as_slice(), place)
+        }
+    }
+
     /// Puts the hosts whose next place is this one into a set.
     pub(crate) fn next_into(&self, place: usize, set: &mut HostSet)
         requires { length set.old ≡ length self.now }
         ensures { set.new ≡ map (is_next_at (Some place)) self.now }
     {
-        if same_place(self.place, Some(place)) {
-            copy_into(&self.here, set);
-        } else {
-            next_at_into(self.hosts.as_slice(), Some(place), &self.unended, set);
+        match self.kept_at(place) {
+            Some(kept) => copy_into(kept, set),
+            None => next_at_into(self.hosts.as_slice(), Some(place), &self.unended, set),
+        }
+    }
+
+    /// Takes the hosts whose next place is this one out of a set.
+    pub(crate) fn drop_next(&self, place: usize, set: &mut HostSet)
+        requires { length set.old ≡ length self.now }
+        ensures { set.new ≡ zip2 (λ a b. a && not b) set.old (map (is_next_at (Some place)) self.now) }
+    {
+        match self.kept_at(place) {
+            Some(kept) => set.minus_with(kept),
+            None => drop_each_next(self.hosts.as_slice(), place, set),
         }
     }
 
@@ -366,10 +500,19 @@ impl Standings {
     pub(crate) fn some_next_at(&self, place: usize) -> bool
         ensures { result ≡ list_any (is_next_at (Some place)) self.now }
     {
-        if same_place(self.place, Some(place)) {
-            !self.here.is_empty()
-        } else {
-            some_next(self.hosts.as_slice(), place)
+        match self.kept_at(place) {
+            Some(kept) => !kept.is_empty(),
+            None => some_next(self.hosts.as_slice(), place),
+        }
+    }
+
+    /// Whether the next place of some host before this one is this place.
+    pub(crate) fn some_next_before(&self, place: usize, host: usize) -> bool
+        ensures { result ≡ list_any (is_next_at (Some place)) (take host self.now) }
+    {
+        match self.kept_at(place) {
+            Some(kept) => has_before(kept, host),
+            None => some_next(before(self.hosts.as_slice(), host), place),
         }
     }
 }

@@ -1,15 +1,16 @@
 //! Which hosts may start their next task.
 
 ghost use Rattle.std.specs.Prelude.{◌≡◌, ◌&&◌, ◌<◌, true, false, not, length, map, replicate, Some, None, slice_get, slice_set, slice_index_or};
-ghost use Rattle.std.specs.List.{range_with_len, list_any};
+ghost use Rattle.std.specs.List.{range_with_len};
 ghost use Rattle.std.specs.Option.{option_map_or};
+ghost use Rattle.std.specs.Simd.Lanes.{zip2};
 ghost use Rattle.pb_planes.specs.Set.{has_some};
 ghost use Rattle.pb_limits.specs.Counts.{running};
 ghost use Rattle.pb_strategies.specs.Hosts.{is_running, runs_in};
-ghost use Rattle.pb_strategies.specs.MayStart.{has_room, has_room_at, runs_once, is_open_once, is_linear, is_idle, ready, turn_ready};
-ghost use Rattle.pb_strategies.specs.Parts.{is_throttle, is_open, is_open_at, stays_open, opened, begins, stands_at, first_standing};
+ghost use Rattle.pb_strategies.specs.MayStart.{has_room, has_room_at, has_room_to_begin, runs_once, is_open_once, is_linear, is_idle, ready, turn_ready};
+ghost use Rattle.pb_strategies.specs.Parts.{is_open_at, is_shut_by, opened, begins, stands_at, first_standing};
 
-use crate::standings::Standings;
+use crate::standings::{Standings, behind};
 use crate::strategy::Strategy;
 use crate::view::View;
 use pb_ids::HostNo;
@@ -60,55 +61,36 @@ pub(crate) fn is_open_once(view: &View, place: usize) -> bool
     view.hosts.running_at(place) == 0 && !view.is_settled
 }
 
-/// Whether some place has a throttle.
-fn some_throttle(throttles: &[u32]) -> bool
-    ensures { result ≡ list_any is_throttle throttles.now }
+/// Whether another host may begin.
+pub(crate) fn has_room_to_begin(view: &View) -> bool
+    ensures { result ≡ has_room_to_begin view.now }
 {
-    for throttle in throttles {
-        if *throttle != 0 {
-            return true;
+    view.hosts.under_way() < view.forks
+}
+
+/// Takes the hosts out of a set whose next place is that of the task that a host runs, if its throttle lets no more hosts start there.
+fn drop_beside(view: &View, host: HostNo, set: &mut HostSet)
+    requires { length set.old ≡ length view.now.hosts }
+    ensures { set.new ≡ zip2 (λ a b. a && not b) set.old (map (is_shut_by view.now (slice_index_or (runs_in view.now.hosts) host.0 None)) view.now.hosts) }
+{
+    if let Some(place) = view.hosts.runs_of(host) {
+        if !has_room_at(view, place) {
+            view.hosts.drop_next(place, set);
         }
     }
-    false
 }
 
-/// Whether the throttle of a host's next place lets it start.
-fn is_open(view: &View, host: u32) -> bool
-    ensures { result ≡ is_open view.now host }
-{
-    match view.hosts.as_slice().get(host as usize) {
-        Some(standing) => match standing.next {
-            Some(place) => has_room_at(view, place),
-            None => true,
-        },
-        None => true,
-    }
-}
-
-/// Whether a host is in a set, and the throttle of its next place lets it start.
-fn stays_open(view: &View, set: &HostSet, host: u32) -> bool
-    ensures { result ≡ stays_open view.now set.now host }
-{
-    set.contains(HostNo(host)) && is_open(view, host)
-}
-
-/// Takes each host out of a set that its next place's throttle doesn't let start.
-fn keep_each_open(view: &View, set: &mut HostSet)
-    ensures { set.new ≡ opened view.now set.old }
-{
-    let width = set.width();
-    for i in 0..width {
-        let is_in = stays_open(view, set, i);
-        set.put(HostNo(i), is_in);
-    }
-}
-
-/// Takes the hosts out of a set that the throttles of their next places don't let start.
+/// Takes the hosts out of a set that the throttles of their next places don't let start. Where a throttle lets no more hosts start some host runs, so that
+/// the hosts that run tell these places.
 fn keep_open(view: &View, set: &mut HostSet)
+    requires { length set.old ≡ length view.now.hosts }
     ensures { set.new ≡ opened view.now set.old }
 {
-    if some_throttle(view.throttles) {
-        keep_each_open(view, set);
+    let running = view.hosts.running_hosts();
+    let mut from = 0;
+    while let Some(host) = running.next_at(from) {
+        drop_beside(view, host, set);
+        from = behind(running, host);
     }
 }
 
@@ -128,9 +110,8 @@ fn begins_into(view: &View, set: &mut HostSet)
     requires { length set.old ≡ length view.now.hosts }
     ensures { set.new ≡ map (begins view.now) view.now.hosts }
 {
-    let under_way = view.hosts.under_way(set);
     view.hosts.waiting_into(set);
-    if under_way >= view.forks {
+    if !has_room_to_begin(view) {
         view.hosts.keep_begun(set);
     }
 }

@@ -50,9 +50,10 @@ invariant_of-self c =
     let united = mapped_long is_somewhere hosts c.unite_into.new.set
     (are_somewhere hosts c.self.inside.unended c.self.inside.begun c.self.inside.running (zip2 (λ (a b : Bool). a || b) c.self.inside.unended c.self.inside.begun) c.unite_into.new.set
     c.self.invariant.are_unended c.self.invariant.have_begun c.self.invariant.are_running refl c.unite_into.ensures) in
-    first_kept (length hosts) c.args.places c.forget_each.new.hosts.items c.in_ok-limits.limits c.empty_by-4.new.set c.empty_by-3.new.set c.empty_by-2.new.set c.empty_by.new.set
+    first_kept (length hosts) c.args.places c.forget_each.new.hosts.items c.in_ok-limits.limits c.empty_by-4.new.set c.empty_by-3.new.set c.empty_by-2.new.set
+    (record c.self.inside.here { hosts = c.empty_by.new.set }) c.clear.new.self.items
     c.self.invariant.few c.forget_each.ensures c.in_ok-limits.ensures
     (wide is_running c.self.inside.running c.empty_by-4.new.set c.self.invariant.are_running c.empty_by-4.ensures)
     (wide has_begun c.self.inside.begun c.empty_by-3.new.set c.self.invariant.have_begun c.empty_by-3.ensures)
     (wide is_unended c.self.inside.unended c.empty_by-2.new.set c.self.invariant.are_unended c.empty_by-2.ensures)
-    (c.empty_by.ensures ∙ ap (λ k. replicate k false) united)
+    (c.empty_by.ensures ∙ ap (λ k. replicate k false) united) c.clear.ensures.items

@@ -1,11 +1,11 @@
-use Rattle.std.proofs.Common.{◌∙◌, ap, sym, not, Some}
-use Rattle.std.specs.List.{list_any}
+use Rattle.std.proofs.Common.{◌∙◌, ap, not, Some}
 use Rattle.pb_strategies.specs.Hosts.{is_next_at}
-use Rattle.pb_strategies.proofs.Keeping.{some_here}
+use Rattle.pb_planes.specs.Set.{has_some}
+use Rattle.pb_strategies.proofs.Watching.{some_mapped}
+use Rattle.pb_strategies.proofs.Members.{not_not}
 use Rattle.pb_strategies.proofs.standings.Standings.some_next_at.Goals as goal
 
-pub returns-then-same_place : goal.returns-then-same_place
-returns-then-same_place c =
-    ap not c.is_empty.ensures
-    ∙ some_here c.self.inside.place c.args.place c.self.inside.hosts.items c.self.inside.here c.self.invariant.are_here (sym c.same_place.ensures ∙ c.if-same_place.true)
-    ∙ ap (list_any (is_next_at (Some c.args.place))) c.self.view_is
+pub returns-in-Some : goal.returns-in-Some
+returns-in-Some c =
+    let kept = c.in-Some.kept.now in
+    ap not c.is_empty.ensures ∙ not_not (has_some kept) ∙ ap has_some c.in-Some.ensures ∙ some_mapped (is_next_at (Some c.args.place)) c.args.self.now
