@@ -8,12 +8,12 @@ use Rattle.pb_driver.specs.Laws.{IsEnd, IsWhole, with_forks, Fixed, IsFixed, is_
 use Rattle.pb_driver.proofs.Laws.{end_alike, state_forks, whole_forks}
 use Rattle.pb_recap.specs.Kinds.{status_of}
 use Rattle.pb_play.specs.Playbooks.{playbook_of}
-use Rattle.pb_plan.specs.Bundle.{Readings, Variables, are_bad_forks, bundle_bytes, in_part, limited, varied, variables_of, IsPlanOf}
+use Rattle.pb_planning.specs.Bundle.{Readings, Variables, are_bad_forks, bundle_bytes, in_part, limited, varied, variables_of, IsPlanOf}
 use Rattle.pb_plan.specs.Plan.{PlanOf}
-use Rattle.pb_plan.specs.declared.bundle.Bundle.{Bundle}
-use Rattle.pb_plan.specs.declared.bundle.BundleFault.{BundleFault}
-use Rattle.pb_plan.specs.declared.bundle.BundleFault.TheVariants.{Inventory, Playbook as InPlaybook, BadForks, TooLarge}
-use Rattle.pb_plan.proofs.OnePlan.{forks_are_apart}
+use Rattle.pb_planning.specs.declared.bundle.Bundle.{Bundle}
+use Rattle.pb_planning.specs.declared.bundle.BundleFault.{BundleFault}
+use Rattle.pb_planning.specs.declared.bundle.BundleFault.TheVariants.{Inventory, Playbook as InPlaybook, BadForks, TooLarge}
+use Rattle.pb_planning.proofs.OnePlan.{forks_are_apart}
 use Rattle.pb_runner.specs.declared.table.Table.{Table}
 use Rattle.pb_runner.specs.Table.{TableGives}
 use Rattle.pb_state.specs.declared.event.Event.{Event}

@@ -1,7 +1,7 @@
 -- What was asked for couldn't go on, said of the request.
 use Rattle.std.proofs.Common.{◌≡◌, ◌⊎◌, ◌<◌, ◌≤◌, ℕ, true, false, List, Option, Some, None, is_some, inl, inr, subst, sym, arith}
 use Rattle.std.specs.Prelude.{IfSome}
-use Rattle.pb_plan.specs.declared.bundle.Bundle.{Bundle}
+use Rattle.pb_planning.specs.declared.bundle.Bundle.{Bundle}
 use Rattle.pb_cli.specs.Played.{Starts}
 use Rattle.pb_command_line.specs.CommandLine.{Asks, IsSameUnder}
 use Rattle.pb_command_line.specs.declared.words.Request.{Request}

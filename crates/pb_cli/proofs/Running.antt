@@ -5,7 +5,7 @@ use Rattle.std.specs.Prelude.{if◌then◌else◌}
 use Rattle.pb_outcome.specs.declared.job.Job.{Job}
 use Rattle.pb_outcome.specs.declared.outcome.Form.{Form}
 use Rattle.pb_plan.specs.Plan.{PlanOf}
-use Rattle.pb_plan.specs.declared.bundle.Bundle.{Bundle}
+use Rattle.pb_planning.specs.declared.bundle.Bundle.{Bundle}
 use Rattle.pb_state.specs.declared.event.Event.{Event}
 use Rattle.pb_one_host.specs.declared.row.Counts.{Counts}
 use Rattle.pb_audit.specs.Audit.{is_legal}

@@ -1,9 +1,9 @@
 -- The trails that are handed out are legal.
 use Rattle.std.proofs.Common.{◌≡◌, ℕ, Bool, true, false, List, Option, Some, None, inl, inr, refl, subst}
-use Rattle.pb_plan.specs.Bundle.{IsPlanOf}
+use Rattle.pb_planning.specs.Bundle.{IsPlanOf}
 use Rattle.pb_plan.specs.Plan.{PlanOf}
-use Rattle.pb_plan.specs.declared.bundle.Bundle.{Bundle}
-use Rattle.pb_plan.proofs.OnePlan.{plans_are_one}
+use Rattle.pb_planning.specs.declared.bundle.Bundle.{Bundle}
+use Rattle.pb_planning.proofs.OnePlan.{plans_are_one}
 use Rattle.pb_state.specs.declared.event.Event.{Event}
 use Rattle.pb_driver.specs.declared.driver.RunFault.{RunFault}
 use Rattle.pb_audit.specs.Audit.{is_legal}

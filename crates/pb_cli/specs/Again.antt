@@ -3,9 +3,9 @@ use Rattle.std.specs.Prelude.{◌≡◌, ◌⊎◌, ℕ, true, false, List, [], 
 use Rattle.pb_ids.specs.declared.numbers.HostNo.{HostNo}
 use Rattle.pb_audit.specs.Audit.{end_of, end_under}
 use Rattle.pb_driver.specs.Laws.{is_independent, are_linear}
-use Rattle.pb_plan.specs.Bundle.{IsPlanOf}
+use Rattle.pb_planning.specs.Bundle.{IsPlanOf}
 use Rattle.pb_plan.specs.Plan.{PlanOf}
-use Rattle.pb_plan.specs.declared.bundle.Bundle.{Bundle}
+use Rattle.pb_planning.specs.declared.bundle.Bundle.{Bundle}
 use Rattle.pb_runner.specs.declared.table.Table.{Table}
 use Rattle.pb_runner.specs.Reading.{table_of}
 use Rattle.pb_runner.specs.Table.{TableGives}

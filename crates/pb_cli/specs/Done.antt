@@ -7,9 +7,9 @@ use Rattle.pb_runner.specs.declared.fault.TableFault.{TableFault}
 use Rattle.pb_runner.specs.declared.fault.TableFault.TheVariants.{Memory}
 use Rattle.pb_value.specs.Limits.{max_bytes}
 use Rattle.pb_state.specs.declared.event.Event.{Event}
-use Rattle.pb_plan.specs.declared.bundle.Bundle.{Bundle}
+use Rattle.pb_planning.specs.declared.bundle.Bundle.{Bundle}
 use Rattle.pb_plan.specs.Plan.{PlanOf}
-use Rattle.pb_plan.specs.Bundle.{IsPlanOf}
+use Rattle.pb_planning.specs.Bundle.{IsPlanOf}
 use Rattle.pb_driver.specs.declared.driver.RunFault.{RunFault}
 use Rattle.pb_driver.specs.declared.driver.RunFault.TheVariants.{Write}
 use Rattle.pb_driver.specs.Cut.{IsPart}

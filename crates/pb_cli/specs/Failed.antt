@@ -1,9 +1,9 @@
 -- The names of the hosts that a run didn't bring through, as a limit takes them.
 use Rattle.std.specs.Prelude.{◌≡◌, ℕ, ◌+◌, Bool, true, false, List, [], ◌∷◌, ◌++◌, codes, if◌then◌else◌}
 use Rattle.pb_audit.specs.Audit.{end_of}
-use Rattle.pb_plan.specs.Bundle.{IsPlanOf}
+use Rattle.pb_planning.specs.Bundle.{IsPlanOf}
 use Rattle.pb_plan.specs.Plan.{PlanOf}
-use Rattle.pb_plan.specs.declared.bundle.Bundle.{Bundle}
+use Rattle.pb_planning.specs.declared.bundle.Bundle.{Bundle}
 use Rattle.pb_state.specs.State.{State}
 use Rattle.pb_state.specs.Through.{got_through}
 use Rattle.pb_state.specs.declared.event.Event.{Event}

@@ -4,7 +4,7 @@ ghost use Rattle.std.specs.Prelude.{◌≡◌, ◌<◌, ◌≤◌, ℕ, None, Ok
 ghost use Rattle.pb_audit.specs.Audit.{is_legal};
 ghost use Rattle.pb_driver.specs.ByTable.{allows_all};
 ghost use Rattle.pb_driver.specs.Driven.{IsAnswer};
-ghost use Rattle.pb_plan.specs.Bundle.{IsPlanOf};
+ghost use Rattle.pb_planning.specs.Bundle.{IsPlanOf};
 ghost use Rattle.pb_plan.specs.Plan.{PlanOf};
 ghost use Rattle.pb_ids.specs.declared.numbers.HostNo.{HostNo};
 ghost use Rattle.pb_runner.specs.declared.table.Table.{Table};

@@ -2,7 +2,7 @@
 
 ghost use Rattle.std.specs.Prelude.{◌≡◌, ◌≢◌, ◌⊎◌, ◌≤◌, ◌++◌, ℕ, List, length, map, Option, None, Some, IfOk, IfErr, OnErr, Ok, Err, is_some, string_bytes};
 ghost use Rattle.pb_state.specs.declared.event.Event.{Event};
-ghost use Rattle.pb_plan.specs.Bundle.{IsBundleFault};
+ghost use Rattle.pb_planning.specs.Bundle.{IsBundleFault};
 ghost use Rattle.pb_driver.specs.Cut.{IsPart};
 ghost use Rattle.pb_driver.specs.Driven.{IsAnswer};
 ghost use Rattle.pb_driver.specs.Ran.{IsRanTo, answers_of};

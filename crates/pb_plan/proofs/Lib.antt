@@ -1,4 +1,1 @@
 mod Connected
-mod Fitting
-mod Plans
-pub mod OnePlan

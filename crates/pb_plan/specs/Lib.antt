@@ -1,4 +1,1 @@
-pub mod Bundle
-pub mod Ignored
-pub mod IgnoredRows
 pub mod Plan

@@ -1,25 +1,11 @@
-//! What a run is made of, and its plan.
+//! The plan of a run: what the machine reads of a bundle.
 //!
-//! For the layers above: a `Bundle` has the bytes of a run's files, those of roles too, and what its words give. `Plan::of` makes its plan: the hosts
-//! and their variables, and of each play its name, its tree, what stands at each place and the hosts that its pattern and the limit
-//! select, and warnings, those of keys that a play's strategy ignores among them (`specs/Ignored.antt`); or it answers the bundle's first fault, both as `specs/Bundle.antt` says (`IsPlanOf`, `IsBundleFault`).
-//! A bundle has one plan (`plans_are_one`).
+//! For the layers above: a `Plan` has the hosts and their variables, and of each play its name, its tree, what stands at each place and the hosts that
+//! are its own. `Plan::of` makes it of what can be planned (`Planned`), as a bundle is.
 #![tactic(auto)]
 
-ghost use Rattle.pb_plan.specs.Bundle.{PlansAreOne, ForksAreApart};
+pub mod plan;
+mod planned;
 
-mod bundle;
-mod ignored;
-mod plan;
-mod planning;
-
-pub use bundle::{Bundle, BundleFault};
-pub use pb_roles::{RoleFault, RoleFile, RoleFiles};
-pub use pb_value::limits::MAX_BYTES;
 pub use plan::{Plan, PlanPlay};
-
-/// What holds of every bundle: it has no more than one plan, and bundles that differ in forks alone have plans that differ in forks alone.
-pub fn plans_are_one()
-    ensures one { PlansAreOne }
-    ensures forks { ForksAreApart }
-{}
+pub use planned::Planned;

@@ -105,7 +105,7 @@ impl Model for PlanPlay {
 
 impl PlanPlay {
     /// A play of these parts.
-    pub(crate) fn of(
+    pub fn new(
         name: Text,
         laid: Rc<LaidTree>,
         places: Items<Place>,
@@ -237,7 +237,7 @@ impl PlanPlay {
 }
 
 /// How many hosts may run the task at each of these places at once.
-pub(crate) fn throttles_of(alloc: Global, places: &[Place]) -> Result<Vec<u32>, AllocError>
+pub fn throttles_of(alloc: Global, places: &[Place]) -> Result<Vec<u32>, AllocError>
     ensures { IfOk result (λ all. all.items ≡ throttles_of places.now) }
 {
     let mut all = Vec::with_capacity(alloc, places.len())?;
@@ -248,7 +248,7 @@ pub(crate) fn throttles_of(alloc: Global, places: &[Place]) -> Result<Vec<u32>, 
 }
 
 /// Whether the first host of a batch runs the task at each of these places for all.
-pub(crate) fn run_once_of(alloc: Global, places: &[Place]) -> Result<Vec<bool>, AllocError>
+pub fn run_once_of(alloc: Global, places: &[Place]) -> Result<Vec<bool>, AllocError>
     ensures { IfOk result (λ all. all.items ≡ run_once_of places.now) }
 {
     let mut all = Vec::with_capacity(alloc, places.len())?;
@@ -325,7 +325,7 @@ impl Plan {
     ghost use Rattle.std.specs.Prelude.{◌<◌};
 
     /// A plan of these parts.
-    pub(crate) fn from_parts(
+    pub fn from_parts(
         inventory: Inventory,
         plays: Items<PlanPlay>,
         forks: u32,

@@ -17,7 +17,8 @@ mod through;
 
 pub use event::{Event, Trail};
 pub use pb_one_host::{Counts, Decided, Done, Retried, TaskEnd};
-pub use pb_plan::{Bundle, BundleFault, MAX_BYTES, Plan, PlanPlay, RoleFault};
+pub use pb_plan::{Plan, PlanPlay};
+pub use pb_planning::{Bundle, BundleFault, MAX_BYTES, RoleFault};
 pub use state::{EngineState, StepFault};
 
 /// What holds of every run: each host of the open batch is at the place to which its answers lead in the play's tree, and no other host

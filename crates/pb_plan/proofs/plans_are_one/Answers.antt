@@ -1,5 +1,0 @@
-use Rattle.pb_plan.proofs.OnePlan.{plans_are_one, forks_are_apart}
-use Rattle.pb_plan.proofs.plans_are_one.Goals as goal
-
-pub returns : goal.returns
-returns c = record { one = plans_are_one; forks = forks_are_apart }

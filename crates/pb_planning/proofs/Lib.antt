@@ -1,0 +1,3 @@
+mod Fitting
+mod Plans
+pub mod OnePlan

@@ -1,0 +1,12 @@
+use Rattle.std.proofs.Common.{◌≤◌, ◌∙◌, ap, subst, sym}
+use Rattle.pb_tree.specs.Tree.{TreeOf, size_of}
+use Rattle.pb_planning.proofs.bundle.play_with.Goals as goal
+
+pub laid_out-requires : goal.laid_out-requires
+laid_out-requires c = c.requires.built.flat
+
+pub new-requires-clause-bound : goal.new-requires-clause-bound
+new-requires-clause-bound c = subst (λ (t : TreeOf). size_of t ≤ 16384) (sym c.in_ok-laid.ensures.value) c.requires.built.few
+
+pub new-requires-clause-places : goal.new-requires-clause-places
+new-requires-clause-places c = c.requires.built.places ∙ ap size_of (sym c.in_ok-laid.ensures.value)
