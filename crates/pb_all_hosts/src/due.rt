@@ -1,6 +1,6 @@
 //! Which hosts are due and in the batch, and which jobs are out, beside the rows of all hosts.
 
-ghost use Rattle.std.specs.Prelude.{◌≡◌, ◌<◌, ◌≤◌, ◌-◌, ◌^◌, length, map, replicate, slice_get, count_by, true, IfOk, IfSome, OnOk, OnErr, None};
+ghost use Rattle.std.specs.Prelude.{false, ◌≡◌, ◌<◌, ◌≤◌, ◌-◌, ◌^◌, length, map, replicate, slice_get, count_by, true, IfOk, IfSome, OnOk, OnErr, None};
 ghost use Rattle.std.specs.List.{list_any};
 ghost use Rattle.std.specs.Option.{option_map_or};
 ghost use Rattle.pb_one_host.specs.Row.{first_rows, is_waiting, called, left, progressed, sent, reported};
@@ -134,6 +134,14 @@ impl DueRows {
         ensures { result.now ≡ map is_inside self.now }
     {
         &self.batch
+    }
+
+    /// Takes all hosts out of a set.
+    pub fn none_into(&self, set: &mut HostSet)
+        requires { length set.old ≡ length self.now }
+        ensures { set.new ≡ replicate (length set.old) false }
+    {
+        empty_by(&self.batch, set);
     }
 
     /// Where each host stands.
@@ -294,19 +302,40 @@ pub fn report_row(
     Ok(decided)
 }
 
-/// A batch of this size opens of the play that goes on, which has this tree. An `Err` changes nothing.
+/// From now on it is kept who is next at each place that has a throttle. Where memory is refused for it, it costs time and nothing else.
+fn watch_throttled(alloc: Global, standings: &mut Standings, throttles: &[u32])
+    ensures { standings.new ≡ standings.old }
+{
+    for place in 0..throttles.len() {
+        if throttles[place] != 0 {
+            let _is_watched = standings.watch(alloc, place);
+        }
+    }
+}
+
+/// Nobody stands anywhere, as a batch opens of a play that has these throttles, one for each of its places. An `Err` changes nothing.
+fn clear(alloc: Global, standings: &mut Standings, throttles: &[u32]) -> Result<(), AllocError>
+    ensures ok { OnOk result (standings.new ≡ replicate (length standings.old) nowhere) }
+    ensures err { OnErr result (standings.new ≡ standings.old) }
+{
+    standings.clear(alloc, throttles.len())?;
+    watch_throttled(alloc, standings, throttles);
+    Ok(())
+}
+
+/// A batch of this size opens of the play that goes on, which has this tree and these throttles. An `Err` changes nothing.
 pub fn join_first(
     alloc: Global,
     rows: &mut DueRows,
     size: u32,
     laid: &Rc<LaidTree>,
-    places: usize,
+    throttles: &[u32],
 ) -> Result<(), AllocError>
     ensures ok { OnOk result (rows.new ≡ joined_first laid.now.value.tree size rows.old) }
     ensures err { OnErr result (rows.new ≡ rows.old) }
 {
     let walks = walks_for(alloc, &rows.waits, size, laid)?;
-    rows.standings.clear(alloc, places)?;
+    clear(alloc, &mut rows.standings, throttles)?;
     rows.out.clear();
     open_batch(
         &mut rows.rows,
@@ -319,21 +348,21 @@ pub fn join_first(
     Ok(())
 }
 
-/// A play begins that has this tree and these hosts of its own, with a batch of this size. An `Err` changes nothing.
+/// A play begins that has this tree, these throttles and these hosts of its own, with a batch of this size. An `Err` changes nothing.
 pub fn begin_first(
     alloc: Global,
     rows: &mut DueRows,
     hosts: &HostSet,
     size: u32,
     laid: &Rc<LaidTree>,
-    places: usize,
+    throttles: &[u32],
 ) -> Result<(), AllocError>
     ensures ok { OnOk result (rows.new ≡ joined_first laid.now.value.tree size (map (called hosts.now) rows.old)) }
     ensures err { OnErr result (rows.new ≡ rows.old) }
 {
     let calls = called_set(alloc, &rows.rows, hosts)?;
     let walks = walks_for(alloc, &calls, size, laid)?;
-    rows.standings.clear(alloc, places)?;
+    clear(alloc, &mut rows.standings, throttles)?;
     call_all(&mut rows.rows, hosts);
     rows.waits = calls;
     rows.out.clear();

@@ -19,5 +19,5 @@ pub use due::{
     DueRows, begin_first, join_first, least_place, leave_all, report_row, send_row, some_in,
     stand_at, start_row, turn_rows,
 };
-pub use rows::{attempt_in, called_count, counts_of, first_play, item_in, none_into};
+pub use rows::{attempt_in, called_count, counts_of, first_play, item_in};
 pub use turned::is_settled;

@@ -569,16 +569,6 @@ pub fn stand_all(rows: &[Row], standings: &mut Standings)
     }
 }
 
-/// Takes all hosts out of a set.
-pub fn none_into(set: &mut HostSet)
-    ensures { set.new ≡ replicate (length set.old) false }
-{
-    let width = set.width();
-    for i in 0..width {
-        set.remove(HostNo(i));
-    }
-}
-
 /// How each host's finished tasks count.
 pub fn counts_of(alloc: Global, rows: &[Row]) -> Result<Vec<Counts>, AllocError>
     ensures { IfOk result (λ counts. counts.items ≡ map (λ (row : HostRow). row.counts) rows.now) }

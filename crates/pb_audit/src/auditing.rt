@@ -31,8 +31,9 @@ pub fn replay(
     ensures state { IfOk result (λ s. s ≡ end_under plan.now forks trail.now) }
 {
     let mut state = EngineState::first(alloc, plan, forks, POOL)?;
+    let mut known = None;
     for (step, event) in trail.iter().enumerate() {
-        match state.step(plan, event) {
+        match state.step_knowing(plan, event, &mut known) {
             Ok(()) => {}
             Err(StepFault::Illegal) => {
                 let rule = EventName::of(event);

@@ -3,6 +3,7 @@
 ghost use Rattle.std.specs.Prelude.{◌≡◌, ◌≢◌, ◌≤◌, ◌<◌, ◌++◌, ◌∷◌, [], length, true, false, IfOk, OnOk, OnErr, IfErr, Ok, Err, Some, None};
 ghost use Rattle.std.specs.Prelude.{◌-◌, slice_get};
 ghost use Rattle.std.specs.Option.{option_copied};
+ghost use Rattle.pb_state.specs.Known.{IsKnown};
 ghost use Rattle.pb_state.specs.Machine.{possible, after, first_state, facts_at, pending_at};
 ghost use Rattle.pb_state.specs.Once.{IsOnce};
 ghost use Rattle.pb_state.specs.Run.{IsRun, is_command, IsFinished};
@@ -27,6 +28,7 @@ use pb_outcome::job::{Job, Report};
 use pb_planes::HostSet;
 use pb_recap::Recap;
 use pb_state::{EngineState, Event, Plan, StepFault};
+use pb_value::val::Dict;
 use std::alloc::{AllocError, Global};
 use std::marker::Model;
 
@@ -52,6 +54,8 @@ pub struct Engine {
     state: EngineState,
     trail: Vec<Event>,
     ready: HostSet,
+    /// The map of `hostvars`, where a task looked it up and no host has learnt anything since.
+    known: Option<Dict>,
 }
 
 impl Model for Engine {
@@ -100,6 +104,7 @@ impl Engine {
             state,
             trail: Vec::new(alloc),
             ready,
+            known: None,
         })
     }
 
@@ -342,7 +347,13 @@ impl Engine {
         ensures work { OnOk result (is_command event ≡ false → LessWork self.old self.new) }
         ensures run { IsSound self.new }
     {
-        record(&self.plan, &mut self.state, &mut self.trail, event)
+        record(
+            &self.plan,
+            &mut self.state,
+            &mut self.known,
+            &mut self.trail,
+            event,
+        )
     }
 }
 
@@ -358,21 +369,24 @@ fn without_event(event: Event) -> EngineFault
 fn record(
     plan: &Plan,
     state: &mut EngineState,
+    known: &mut Option<Dict>,
     trail: &mut Vec<Event>,
     event: Event,
 ) -> Result<(), Event>
     requires possible { possible plan.now state.old event ≡ true }
+    requires known { IsKnown plan.now state.old known.old }
     ensures ok { OnOk result ((state.new ≡ after plan.now state.old event) × (trail.new.items ≡ trail.old.items ++ event ∷ [])) }
     ensures err { OnErr result ((state.new ≡ state.old) × (trail.new.items ≡ trail.old.items)) }
     ensures back { IfErr result (λ e. e ≡ event) }
     ensures hosts { length state.new.rows ≡ length state.old.rows }
     ensures work { OnOk result (0 < state.old.forks → is_command event ≡ false → work plan.now state.new < work plan.now state.old) }
     ensures forks { 0 < state.old.forks → 0 < state.new.forks }
+    ensures known { IsKnown plan.now state.new known.new }
 {
     if trail.reserve(1).is_err() {
         return Err(event);
     }
-    match state.step(plan, &event) {
+    match state.step_knowing(plan, &event, known) {
         Ok(()) => {}
         Err(StepFault::Memory) => return Err(event),
         Err(StepFault::Illegal) => unreachable!(),

@@ -1,9 +1,9 @@
 -- What a row's walk tells, and a row that takes a walk.
-use Rattle.std.specs.Prelude.{◌≡◌, true, List, [], Option, is_some, IfSome, Bool, false, Some, None, if◌then◌else◌}
+use Rattle.std.specs.Prelude.{◌≡◌, true, List, [], Option, is_some, IfSome, false, None}
 use Rattle.std.specs.Option.{option_map_or}
 use Rattle.pb_tree.specs.Answer.{AnswerOf}
 use Rattle.pb_tree.specs.Tree.{TreeOf}
-use Rattle.pb_cursors.specs.Walks.{PlayWalkOf, walk_from}
+use Rattle.pb_cursors.specs.Walks.{PlayWalkOf}
 use Rattle.pb_one_host.specs.declared.row.Running.{Running}
 use Rattle.pb_one_host.specs.Row.{no_tree, HostRow}
 
@@ -17,10 +17,6 @@ answers_in walk = option_map_or (λ (w : PlayWalkOf). w.answers) walk []
 -- a host that runs is in the batch
 abbrev pub RunsInBatch : Option Running → Option PlayWalkOf → Type 0
 RunsInBatch running walk = IfSome running (λ r. is_some walk ≡ true)
-
--- the walk of a host through this tree, where it takes part
-abbrev pub walk_if : TreeOf → Bool → Option PlayWalkOf
-walk_if tree inside = if inside then Some (walk_from tree) else None
 
 -- a host that takes this walk
 abbrev pub with_walk : Option PlayWalkOf → HostRow → HostRow

@@ -18,6 +18,6 @@ mod turned;
 pub use decided::{Decided, Done, Retried, TaskEnd, decide};
 pub use ends::{breaks, is_fatal, is_settling};
 pub use items::{Before, CameBack, TaskItems};
-pub use row::{Counts, Finish, Row, Running, walk_if};
+pub use row::{Counts, Finish, Row, Running};
 pub use told::{caught_at, numbered, runs_once_at, task_at, variable_at};
 pub use turned::Turned;

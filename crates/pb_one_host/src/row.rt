@@ -8,7 +8,6 @@ ghost use Rattle.pb_planes.specs.Set.{is_in as is_member};
 ghost use Rattle.pb_cursors.specs.Walks.{walk_after};
 ghost use Rattle.pb_facts.specs.News.{heard};
 ghost use Rattle.pb_sight.specs.Learning.{taught_by};
-ghost use Rattle.pb_one_host.specs.Walking.{walk_if};
 
 use crate::decided::{Decided, Done, Retried, TaskEnd};
 use crate::ends::{breaks, counted, kind_of};
@@ -16,7 +15,7 @@ use crate::handlers::{marks_in, notified_by};
 use crate::items::{Before, CameBack, TaskItems, none_back};
 use crate::told::{done_at, runs_once_at, told_of};
 use crate::turned::Turned;
-use pb_cursors::{LaidTree, PlayWalk};
+use pb_cursors::PlayWalk;
 use pb_facts::facts::Facts;
 use pb_facts::news::{News, Past};
 use pb_ids::{HostNo, Ticket};
@@ -31,7 +30,6 @@ use pb_tree::{Answer, Kind, Reach, Status};
 use std::alloc::{AllocError, Global};
 use std::marker::Model;
 use std::mem;
-use std::rc::Rc;
 
 /// How a host's finished tasks count in the recap (Ansible's documentation, "Return Values").
 #[derive(Clone, Copy, Debug, PartialEq, Eq)]
@@ -170,22 +168,6 @@ impl Model for Row {
     } };
 
     ghost invariant = { λ r. RunsInBatch r.running r.walk };
-}
-
-/// The walk of a host through this tree, where it takes part in the batch that opens.
-pub fn walk_if(
-    alloc: Global,
-    joins: bool,
-    laid: &Rc<LaidTree>,
-) -> Result<Option<PlayWalk>, AllocError>
-    ensures { IfOk result (λ walk. walk ≡ walk_if laid.now.value.tree joins) }
-{
-    if joins {
-        let walk = PlayWalk::first(alloc, laid)?;
-        Ok(Some(walk))
-    } else {
-        Ok(None)
-    }
 }
 
 /// Whether a host still takes part.

@@ -1,4 +1,5 @@
 pub mod ReadHosts
+pub mod KeepsFacts
 pub mod Stands
 pub mod Idle
 pub mod Readies

@@ -1,7 +1,7 @@
 //! What `hostvars` stands for, with what the rows say that their hosts have learnt.
 
-ghost use Rattle.std.specs.Prelude.{◌≡◌, ℕ, Option, IfOk};
-ghost use Rattle.pb_value.specs.Datum.{Datum};
+ghost use Rattle.std.specs.Prelude.{◌≡◌, ℕ, true, false, Option, IfOk};
+ghost use Rattle.pb_value.specs.Datum.{Datum, null};
 ghost use Rattle.pb_variables.specs.Learnt.{facts_in};
 ghost use Rattle.pb_variables.specs.Magic.{hostvars, hosts_magic};
 ghost use Rattle.pb_outcome.specs.declared.gather.ItemResult.{ItemResult};
@@ -18,6 +18,13 @@ use pb_sight::seen::Seen;
 use pb_value::val::{Dict, Val};
 use pb_variables::hostvars::hosts_magic;
 use std::alloc::{AllocError, Global};
+
+/// The map of `hostvars` as a task sees it, and whether it is the one that each task may see.
+#[derive(Drop)]
+pub(crate) struct Shown {
+    pub(crate) hosts: Dict,
+    pub(crate) is_whole: bool,
+}
 
 /// What each host has learnt, by its number.
 fn learnt_in<'a>(alloc: Global, rows: &'a [Row]) -> Result<Vec<&'a Facts>, AllocError>
@@ -38,6 +45,17 @@ fn hosts_of(alloc: Global, plan: &Plan, rows: &[Row]) -> Result<Dict, AllocError
     hosts_known(alloc, plan, learnt.as_slice())
 }
 
+/// The variable `hostvars` without a value, as a task may see it that doesn't look it up.
+pub(crate) fn unread(alloc: Global) -> Result<Shown, AllocError>
+    ensures { IfOk result (λ shown. shown ≡ record { hosts = hosts_magic null; is_whole = false }) }
+{
+    let hosts = hosts_magic(alloc, Val::null())?;
+    Ok(Shown {
+        hosts,
+        is_whole: false,
+    })
+}
+
 /// The variable `hostvars` as the task at a place may see it as it starts on a host that has learnt this: with what all hosts have learnt where the task
 /// may look it up then, and else without a value, which is the same to the task's items.
 pub(crate) fn hosts_at_start(
@@ -48,18 +66,22 @@ pub(crate) fn hosts_at_start(
     host: HostNo,
     facts: &Facts,
     place: usize,
-) -> Result<Dict, AllocError>
-    ensures { IfOk result (λ hosts. items_at (with_hosts plan.now hosts) play.now host.0 facts.now place
+) -> Result<Shown, AllocError>
+    ensures same { IfOk result (λ shown. items_at (with_hosts plan.now shown.hosts) play.now host.0 facts.now place
         ≡ items_at (seen_with plan.now (learnt_by rows.now)) play.now host.0 facts.now place) }
+    ensures whole { IfOk result (λ shown. shown.is_whole ≡ true → shown.hosts ≡ hosts_magic (hostvars plan.now.inventory plan.now.extra (learnt_by rows.now))) }
 {
     let none = Dict::new(alloc);
     let seen = Seen::new(plan, &none);
     let reads = reads_at_start(alloc, &seen, play, host, facts, place)?;
     if reads {
-        hosts_of(alloc, plan, rows)
-    } else {
-        hosts_magic(alloc, Val::null())
+        let hosts = hosts_of(alloc, plan, rows)?;
+        return Ok(Shown {
+            hosts,
+            is_whole: true,
+        });
     }
+    unread(alloc)
 }
 
 /// The same as a report comes in: where what the task says of an attempt doesn't look it up, it has no value, which is the same to what the task says.
@@ -71,16 +93,20 @@ pub(crate) fn hosts_at_report(
     host: HostNo,
     facts: &Facts,
     place: usize,
-) -> Result<Dict, AllocError>
-    ensures { IfOk result (λ hosts. (value : Option Datum) (attempt : ℕ) (item : ItemResult) → came_at (with_hosts plan.now hosts) play.now host.0 facts.now place value attempt item
+) -> Result<Shown, AllocError>
+    ensures same { IfOk result (λ shown. (value : Option Datum) (attempt : ℕ) (item : ItemResult) → came_at (with_hosts plan.now shown.hosts) play.now host.0 facts.now place value attempt item
         ≡ came_at (seen_with plan.now (learnt_by rows.now)) play.now host.0 facts.now place value attempt item) }
+    ensures whole { IfOk result (λ shown. shown.is_whole ≡ true → shown.hosts ≡ hosts_magic (hostvars plan.now.inventory plan.now.extra (learnt_by rows.now))) }
 {
     let none = Dict::new(alloc);
     let seen = Seen::new(plan, &none);
     let reads = reads_of_result(alloc, &seen, play, host, facts, place)?;
     if reads {
-        hosts_of(alloc, plan, rows)
-    } else {
-        hosts_magic(alloc, Val::null())
+        let hosts = hosts_of(alloc, plan, rows)?;
+        return Ok(Shown {
+            hosts,
+            is_whole: true,
+        });
     }
+    unread(alloc)
 }

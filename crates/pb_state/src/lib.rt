@@ -11,6 +11,7 @@ ghost use Rattle.pb_state.specs.Rising.{StartsRise};
 mod event;
 mod hosts;
 mod job;
+mod known;
 mod later;
 mod state;
 mod through;

@@ -11,6 +11,7 @@ invariant_of-self c =
       run = run_on c.record.result c.self.inside.plan c.self.inside.pool c.self.inside.trail.items c.record.new.trail.items c.self.inside.state c.record.new.state c.args.event c.self.invariant.run may c.record.ensures.ok c.record.ensures.err;
       width = c.self.invariant.width ∙ sym c.record.ensures.hosts;
       forks = c.record.ensures.forks c.self.invariant.forks;
+      known = c.record.ensures.known;
     }
 
 pub returns-clause-run : goal.returns-clause-run

@@ -1,0 +1,200 @@
+-- After a step that teaches nothing the hosts know what they knew, so that what is kept of it is what would be made.
+use Rattle.std.proofs.Common.{◌≡◌, ◌∙◌, ℕ, zero, suc, Bool, true, false, ◌&&◌, not, List, [], ◌∷◌, Option, Some, None, IfSome, is_none, slice_get, refl, sym, ap}
+use Rattle.std.specs.Prelude.{slice_set, if◌then◌else◌}
+use Rattle.std.specs.Option.{option_map_or}
+use Rattle.pb_value.specs.Datum.{Datum}
+use Rattle.pb_ids.specs.declared.numbers.Ticket.{Ticket}
+use Rattle.pb_inventory.specs.InventoryOf.{InventoryOf}
+use Rattle.pb_facts.specs.declared.facts.Gives.{Gives}
+use Rattle.pb_facts.specs.declared.facts.Gives.TheVariants.{Nothing, Sets, Gathers}
+use Rattle.pb_facts.specs.Facts.{FactsOf, given_in, learnt}
+use Rattle.pb_facts.proofs.Each.{each_nothing}
+use Rattle.pb_outcome.specs.declared.gather.TaskResult.{TaskResult}
+use Rattle.pb_outcome.specs.declared.item.Item.{Item}
+use Rattle.pb_outcome.specs.declared.job.Report.{Report}
+use Rattle.pb_outcome.specs.declared.outcome.Form.{Form}
+use Rattle.pb_outcome.specs.Items.{is_over}
+use Rattle.pb_variables.specs.Magic.{hostvars, hosts_magic}
+use Rattle.pb_places.specs.Place.{PlaceOf}
+use Rattle.pb_play.specs.declared.modules.Module.{Module}
+use Rattle.pb_plan.specs.Plan.{PlayOf, PlanOf}
+use Rattle.pb_sight.specs.Delegates.{kept}
+use Rattle.pb_sight.specs.Ends.{has_run}
+use Rattle.pb_sight.specs.Gifts.{gifts_from, gifts_of as gifts_with, given_by}
+use Rattle.pb_sight.specs.Learning.{gives_of, gives_if, learns_at, taught_by}
+use Rattle.pb_sight.specs.Results.{items_at}
+use Rattle.pb_sight.specs.declared.gifts.Gift.{Gift}
+use Rattle.pb_one_host.specs.declared.row.Running.{Running}
+use Rattle.pb_one_host.specs.Row.{HostRow, ended, items_after, progressed, reported, reported_running, sent, task_at}
+use Rattle.pb_all_hosts.specs.Hosts.{change}
+use Rattle.pb_all_hosts.specs.Giving.{given_to, gifts_at, gifts_by, gifts_of}
+use Rattle.pb_state.specs.declared.event.Event.{Event}
+use Rattle.pb_state.specs.declared.event.Event.TheVariants.{Open, Start, Send, Report as Reported, Turn, Close, Stop, Forks}
+use Rattle.pb_state.specs.State.{State}
+use Rattle.pb_state.specs.Machine.{after, facts_at, learnt_by, next_at, open_play, plan_seen, reported_in, sent_in, start_at, started_in}
+use Rattle.pb_state.specs.Known.{IsKnown, gives_nothing, keeps_facts, report_keeps, start_keeps, teaches_nothing, teaches_nothing_at}
+
+first_is : (a b : Bool) → (a && b) ≡ true → a ≡ true
+first_is true b e = refl
+first_is false b e = cc
+
+second_is : (a b : Bool) → (a && b) ≡ true → b ≡ true
+second_is true b e = e
+second_is false b e = cc
+
+none_is : (name : Option (List ℕ)) → is_none name ≡ true → name ≡ None
+none_is None e = refl
+none_is (Some name) e = cc
+
+off_is : (b : Bool) → not b ≡ true → b ≡ false
+off_is true e = cc
+off_is false e = refl
+
+-- ---- one task
+nothing_is : (gives : Gives) → gives_nothing gives ≡ true → gives ≡ Nothing
+nothing_is Nothing e = refl
+nothing_is Sets e = cc
+nothing_is Gathers e = cc
+
+gives_none : (went_well : Bool) (called : Module) → gives_nothing (gives_of called) ≡ true → gives_if went_well called ≡ Nothing
+gives_none true called e = nothing_is (gives_of called) e
+gives_none false called e = refl
+
+learnt_none : (gives : Gives) (register : Option (List ℕ)) (result : Datum) (items : List Item) (facts : FactsOf) → gives ≡ Nothing → register ≡ None → learnt gives register result items facts ≡ facts
+learnt_none gives register result items facts g r =
+    ap (λ (given : Gives). learnt given register result items facts) g ∙ ap (λ (name : Option (List ℕ)). learnt Nothing name result items facts) r ∙ each_nothing (given_in items) facts
+
+-- what a task says that teaches nothing
+abbrev says_nothing : PlaceOf → Bool
+says_nothing place = is_none place.task.register && gives_nothing (gives_of place.task.«module»)
+
+registers_none : (place : PlaceOf) → teaches_nothing place ≡ true → place.task.register ≡ None
+registers_none place e =
+    none_is place.task.register
+    (first_is (is_none place.task.register) (gives_nothing (gives_of place.task.«module»)) (first_is (says_nothing place) (not place.delegate_facts) e))
+
+gives_none_at : (place : PlaceOf) → teaches_nothing place ≡ true → gives_nothing (gives_of place.task.«module») ≡ true
+gives_none_at place e =
+    second_is (is_none place.task.register) (gives_nothing (gives_of place.task.«module»)) (first_is (says_nothing place) (not place.delegate_facts) e)
+
+delegates_none : (place : PlaceOf) → teaches_nothing place ≡ true → place.delegate_facts ≡ false
+delegates_none place e = off_is place.delegate_facts (second_is (says_nothing place) (not place.delegate_facts) e)
+
+if_same : (b : Bool) (facts known : FactsOf) → known ≡ facts → (if b then facts else known) ≡ facts
+if_same true facts known e = refl
+if_same false facts known e = e
+
+taught_none : (inventory : InventoryOf) (play : PlayOf) (p : ℕ) (starter : Option ℕ) (task : TaskResult) (result : Datum) (items : List Item) (facts : FactsOf) →
+    teaches_nothing_at play p ≡ true → taught_by inventory play p starter task result items facts ≡ facts
+unfolding taught_by
+taught_none inventory play p starter task result items facts e =
+    if_same task.unreachable facts (option_map_or (learns_at inventory starter result (has_run task) items facts) (slice_get play.places p) facts) (by_place (slice_get play.places p) e)
+  where
+    by_place : (found : Option PlaceOf) → option_map_or teaches_nothing found true ≡ true → option_map_or (learns_at inventory starter result (has_run task) items facts) found facts ≡ facts
+    by_place None e = refl
+    by_place (Some place) e =
+        learnt_none (gives_if (has_run task) place.task.«module») place.task.register result (kept inventory starter place.delegate_facts items) facts
+        (gives_none (has_run task) place.task.«module» (gives_none_at place e)) (registers_none place e)
+
+progressed_knows : (inventory : InventoryOf) (play : PlayOf) (p : ℕ) (items : List Item) (row : HostRow) → teaches_nothing_at play p ≡ true → (progressed inventory play p items row).facts ≡ row.facts
+progressed_knows inventory play p items row e = by_over (is_over items)
+  where
+    by_over : (b : Bool) → (if b then ended inventory play p items row else record row { running = Some (record { place = p; items = items; out = None }) }).facts ≡ row.facts
+    by_over true = taught_none inventory play p (Some row.host) (task_at play p items).result _ items row.facts e
+    by_over false = refl
+
+-- a task that doesn't delegate its facts gives nothing to other hosts
+given_none : (inventory : InventoryOf) (play : PlayOf) (p h : ℕ) (task : TaskResult) (items : List Item) → teaches_nothing_at play p ≡ true → given_by inventory play p h task items ≡ []
+unfolding given_by
+given_none inventory play p h task items e = by_place (slice_get play.places p) e
+  where
+    by_place : (found : Option PlaceOf) → option_map_or teaches_nothing found true ≡ true → option_map_or (gifts_from inventory h task items) found [] ≡ []
+    by_place None e = refl
+    by_place (Some place) e =
+        ap (λ (away : Bool). if away && has_run task && not task.unreachable then gifts_with inventory h (gives_of place.task.«module») items else []) (delegates_none place e)
+
+gifts_none : (inventory : InventoryOf) (play : PlayOf) (p h : ℕ) (items : List Item) → teaches_nothing_at play p ≡ true → gifts_at inventory play p h items ≡ []
+gifts_none inventory play p h items e = by_over (is_over items)
+  where
+    by_over : (b : Bool) → (if b then given_by inventory play p h (task_at play p items).result items else []) ≡ []
+    by_over true = given_none inventory play p h (task_at play p items).result items e
+    by_over false = refl
+
+-- ---- the rows of all hosts
+set_knows : (rows : List HostRow) (h : ℕ) (row changed : HostRow) → slice_get rows h ≡ Some row → changed.facts ≡ row.facts → learnt_by (slice_set rows h changed) ≡ learnt_by rows
+set_knows [] h row changed e same = cc
+set_knows (r ∷ rows) zero row changed e same = let first : row ≡ r = cc in ap (λ (x : FactsOf). x ∷ learnt_by rows) (same ∙ ap (λ (x : HostRow). x.facts) first)
+set_knows (r ∷ rows) (suc h) row changed e same = ap (λ (xs : List FactsOf). r.facts ∷ xs) (set_knows rows h row changed e same)
+
+change_knows : (rows : List HostRow) (h : ℕ) (f : HostRow → HostRow) (found : Option HostRow) → slice_get rows h ≡ found → IfSome found (λ row. (f row).facts ≡ row.facts) → learnt_by (change rows h f) ≡ learnt_by rows
+change_knows rows h f None e same = ap (λ (o : Option HostRow). learnt_by (option_map_or (λ row. slice_set rows h (f row)) o rows)) e
+change_knows rows h f (Some row) e same = ap (λ (o : Option HostRow). learnt_by (option_map_or (λ row. slice_set rows h (f row)) o rows)) e ∙ set_knows rows h row (f row) e same
+
+given_knows : (gifts : List Gift) (rows all : List HostRow) → gifts ≡ [] → learnt_by rows ≡ learnt_by all → learnt_by (given_to gifts rows) ≡ learnt_by all
+given_knows gifts rows all e same = ap (λ (gs : List Gift). learnt_by (given_to gs rows)) e ∙ same
+
+for_each : (P : HostRow → Type 0) → ((row : HostRow) → P row) → (found : Option HostRow) → IfSome found P
+for_each P f None = tt
+for_each P f (Some row) = f row
+
+start_knows : (plan : PlanOf) (s : State) (h : ℕ) (play : PlayOf) (p : ℕ) → teaches_nothing_at play p ≡ true → learnt_by (start_at plan s h play p).rows ≡ learnt_by s.rows
+start_knows plan s h play p e =
+    let items = items_at (plan_seen plan s) play h (facts_at s h) p in
+    given_knows (gifts_at plan.inventory play p h items) (change s.rows h (progressed plan.inventory play p items)) s.rows (gifts_none plan.inventory play p h items e)
+    (change_knows s.rows h (progressed plan.inventory play p items) (slice_get s.rows h) refl
+    (for_each (λ row. (progressed plan.inventory play p items row).facts ≡ row.facts) (λ row. progressed_knows plan.inventory play p items row e) (slice_get s.rows h)))
+
+-- the place of the task that a host runs
+abbrev run_place : Option Running → Option ℕ
+run_place running = option_map_or (λ (r : Running). Some r.place) running None
+
+reported_knows : (plan : PlanOf) (play : PlayOf) (outcome : Form) (row : HostRow) (running : Option Running) → option_map_or (teaches_nothing_at play) (run_place running) true ≡ true →
+    (option_map_or (reported_running plan play outcome row) running row).facts ≡ row.facts
+reported_knows plan play outcome row None e = refl
+reported_knows plan play outcome row (Some r) e = progressed_knows plan.inventory play r.place (items_after plan play row.host row.facts outcome r) row e
+
+report_none : (plan : PlanOf) (play : PlayOf) (outcome : Form) (h : ℕ) (row : HostRow) (running : Option Running) → option_map_or (teaches_nothing_at play) (run_place running) true ≡ true →
+    option_map_or (gifts_by plan play outcome h row) running [] ≡ []
+report_none plan play outcome h row None e = refl
+report_none plan play outcome h row (Some r) e = gifts_none plan.inventory play r.place h (items_after plan play row.host row.facts outcome r) e
+
+reports_know : (plan : PlanOf) (play : PlayOf) (outcome : Form) (rows : List HostRow) (h : ℕ) (found : Option HostRow) → slice_get rows h ≡ found →
+    option_map_or (teaches_nothing_at play) (option_map_or (λ (row : HostRow). run_place row.running) found None) true ≡ true →
+    learnt_by (given_to (option_map_or (gifts_of plan play outcome h) found []) (change rows h (reported plan play outcome))) ≡ learnt_by rows
+reports_know plan play outcome rows h None is e = change_knows rows h (reported plan play outcome) None is tt
+reports_know plan play outcome rows h (Some row) is e =
+    given_knows (gifts_of plan play outcome h row) (change rows h (reported plan play outcome)) rows (report_none plan play outcome h row row.running e)
+    (change_knows rows h (reported plan play outcome) (Some row) is (reported_knows plan play outcome row row.running e))
+
+-- ---- each event
+start_in_knows : (plan : PlanOf) (s : State) (h : ℕ) (play : PlayOf) (next : Option ℕ) → option_map_or (teaches_nothing_at play) next true ≡ true → learnt_by (option_map_or (start_at plan s h play) next s).rows ≡ learnt_by s.rows
+start_in_knows plan s h play None e = refl
+start_in_knows plan s h play (Some p) e = start_knows plan s h play p e
+
+started_knows : (plan : PlanOf) (s : State) (h : ℕ) (found : Option PlayOf) → option_map_or (start_keeps s h) found true ≡ true → learnt_by (option_map_or (started_in plan s h) found s).rows ≡ learnt_by s.rows
+started_knows plan s h None e = refl
+started_knows plan s h (Some play) e = start_in_knows plan s h play (next_at s h) e
+
+came_knows : (plan : PlanOf) (s : State) (r : Report) (found : Option PlayOf) → option_map_or (report_keeps s r.host.0) found true ≡ true → learnt_by (option_map_or (reported_in plan s r) found s).rows ≡ learnt_by s.rows
+came_knows plan s r None e = refl
+came_knows plan s r (Some play) e = reports_know (plan_seen plan s) play r.outcome s.rows r.host.0 (slice_get s.rows r.host.0) refl e
+
+sent_knows : (s : State) (h : ℕ) (ticket : Ticket) (found : Option PlayOf) → learnt_by (option_map_or (sent_in s h ticket) found s).rows ≡ learnt_by s.rows
+sent_knows s h ticket None = refl
+sent_knows s h ticket (Some play) = change_knows s.rows h (sent ticket) (slice_get s.rows h) refl (for_each (λ row. (sent ticket row).facts ≡ row.facts) (λ row. refl) (slice_get s.rows h))
+
+pub knows_same : (plan : PlanOf) (s : State) (event : Event) → keeps_facts plan s event ≡ true → learnt_by (after plan s event).rows ≡ learnt_by s.rows
+knows_same plan s Open e = cc
+knows_same plan s (Start h) e = started_knows plan s h.0 (open_play plan s) e
+knows_same plan s (Send h item attempt ticket) e = sent_knows s h.0 ticket (open_play plan s)
+knows_same plan s (Reported r) e = came_knows plan s r (open_play plan s) e
+knows_same plan s Turn e = cc
+knows_same plan s Close e = cc
+knows_same plan s Stop e = refl
+knows_same plan s (Forks n) e = refl
+
+-- what is kept stays what would be made
+pub stays_known : (plan : PlanOf) (s : State) (event : Event) (known : Option (List (List ℕ × Datum))) → keeps_facts plan s event ≡ true → IsKnown plan s known → IsKnown plan (after plan s event) known
+stays_known plan s event None e k = tt
+stays_known plan s event (Some hosts) e k =
+    k ∙ sym (ap (λ (all : List FactsOf). hosts_magic (hostvars plan.inventory plan.extra all)) (knows_same plan s event e))

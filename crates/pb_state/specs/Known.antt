@@ -1,0 +1,58 @@
+-- The map of `hostvars` that is kept from step to step, and which steps surely leave what the hosts know as it was
+-- (Ansible's documentation, "Discovering variables: facts and magic variables").
+use Rattle.std.specs.Prelude.{◌≡◌, ℕ, List, Bool, true, false, ◌&&◌, not, Option, Some, None, is_none, IfSome, slice_get}
+use Rattle.std.specs.Option.{option_map_or}
+use Rattle.pb_value.specs.Datum.{Datum}
+use Rattle.pb_facts.specs.declared.facts.Gives.{Gives}
+use Rattle.pb_facts.specs.declared.facts.Gives.TheVariants.{Nothing, Sets, Gathers}
+use Rattle.pb_variables.specs.Magic.{hostvars, hosts_magic}
+use Rattle.pb_places.specs.Place.{PlaceOf}
+use Rattle.pb_plan.specs.Plan.{PlayOf, PlanOf}
+use Rattle.pb_sight.specs.Learning.{gives_of}
+use Rattle.pb_one_host.specs.declared.row.Running.{Running}
+use Rattle.pb_one_host.specs.Row.{HostRow}
+use Rattle.pb_state.specs.declared.event.Event.{Event}
+use Rattle.pb_state.specs.declared.event.Event.TheVariants.{Open, Start, Send, Report as Reported, Turn, Close, Stop, Forks}
+use Rattle.pb_state.specs.State.{State}
+use Rattle.pb_state.specs.Machine.{open_play, next_at, learnt_by}
+
+-- the map of `hostvars` in a state
+abbrev pub hosts_now : PlanOf → State → List (List ℕ × Datum)
+hosts_now plan s = hosts_magic (hostvars plan.inventory plan.extra (learnt_by s.rows))
+
+-- what is kept is what would be made
+abbrev pub IsKnown : PlanOf → State → Option (List (List ℕ × Datum)) → Type 0
+IsKnown plan s known = IfSome known (λ hosts. hosts ≡ hosts_now plan s)
+
+abbrev pub gives_nothing : Gives → Bool
+gives_nothing Nothing = true
+gives_nothing Sets = false
+gives_nothing Gathers = false
+
+-- a task that registers nothing and gives no facts teaches nothing, neither its host nor others
+abbrev pub teaches_nothing : PlaceOf → Bool
+teaches_nothing place = is_none place.task.register && gives_nothing (gives_of place.task.«module») && not place.delegate_facts
+
+abbrev pub teaches_nothing_at : PlayOf → ℕ → Bool
+teaches_nothing_at play p = option_map_or teaches_nothing (slice_get play.places p) true
+
+-- the place of the task that a host runs
+abbrev pub running_at : State → ℕ → Option ℕ
+running_at s h = option_map_or (λ (row : HostRow). option_map_or (λ (r : Running). Some r.place) row.running None) (slice_get s.rows h) None
+
+abbrev pub start_keeps : State → ℕ → PlayOf → Bool
+start_keeps s h play = option_map_or (teaches_nothing_at play) (next_at s h) true
+
+abbrev pub report_keeps : State → ℕ → PlayOf → Bool
+report_keeps s h play = option_map_or (teaches_nothing_at play) (running_at s h) true
+
+-- after these events the hosts know what they knew; after the others they may know more
+abbrev pub keeps_facts : PlanOf → State → Event → Bool
+keeps_facts plan s Open = false
+keeps_facts plan s (Start h) = option_map_or (start_keeps s h.0) (open_play plan s) true
+keeps_facts plan s (Send h item attempt ticket) = true
+keeps_facts plan s (Reported r) = option_map_or (report_keeps s r.host.0) (open_play plan s) true
+keeps_facts plan s Turn = false
+keeps_facts plan s Close = false
+keeps_facts plan s Stop = true
+keeps_facts plan s (Forks n) = true

@@ -1,0 +1,163 @@
+//! How a job goes out, and how its report comes in.
+
+ghost use Rattle.std.specs.Prelude.{◌≡◌, OnOk, OnErr, IfOk, IfSome, slice_get, true, false};
+ghost use Rattle.std.specs.Option.{option_map_or};
+ghost use Rattle.pb_sight.specs.Seen.{with_hosts};
+ghost use Rattle.pb_state.specs.Machine.{plan_seen};
+ghost use Rattle.pb_state.specs.Known.{IsKnown, hosts_now};
+ghost use Rattle.pb_one_host.specs.Back.{SameTold};
+
+use super::EngineState;
+use crate::event::Event;
+use crate::hosts::{Shown, hosts_at_report, unread};
+use crate::known::keep;
+use pb_all_hosts::{report_row, send_row};
+use pb_ids::{HostNo, Ticket};
+use pb_one_host::decide;
+use pb_outcome::job::Report;
+use pb_plan::{Plan, PlanPlay};
+use pb_sight::seen::Seen;
+use pb_value::val::Dict;
+use std::alloc::AllocError;
+
+impl EngineState {
+    ghost use Rattle.pb_state.specs.Machine.{open_play, may_send_in, may_report_in};
+    ghost use Rattle.pb_state.specs.Machine.{after, sent_in, reported_in, reported_seen};
+
+    pub(crate) fn send(
+        &mut self,
+        plan: &Plan,
+        host: HostNo,
+        item: u32,
+        attempt: u32,
+        ticket: Ticket,
+    ) -> Result<(), AllocError>
+        requires { option_map_or (may_send_in self.old host.0 item attempt ticket) (open_play plan.now self.old) false ≡ true }
+        ensures ok { OnOk result (self.new ≡ after plan.now self.old (Event.Send host item attempt ticket)) }
+        ensures err { OnErr result (self.new ≡ self.old) }
+    {
+        match self.open_play(plan) {
+            Some(play) => self.send_in(host, item, attempt, ticket, play),
+            None => Ok(()),
+        }
+    }
+
+    pub(crate) fn send_in(
+        &mut self,
+        host: HostNo,
+        item: u32,
+        attempt: u32,
+        ticket: Ticket,
+        play: &PlanPlay,
+    ) -> Result<(), AllocError>
+        requires open { self.old.is_open ≡ true }
+        requires may { may_send_in self.old host.0 item attempt ticket play.now ≡ true }
+        ensures ok { OnOk result (self.new ≡ sent_in self.old host.0 ticket play.now) }
+        ensures err { OnErr result (self.new ≡ self.old) }
+    {
+        // (what only the clauses speak of)
+        let _item = item;
+        let _attempt = attempt;
+        let _play = play;
+        send_row(&mut self.rows, host, ticket)?;
+        self.sends += 1;
+        decide(&mut self.decided, None);
+        Ok(())
+    }
+
+    pub(crate) fn report(
+        &mut self,
+        plan: &Plan,
+        report: &Report,
+        known: &mut Option<Dict>,
+    ) -> Result<(), AllocError>
+        requires may { option_map_or (may_report_in self.old report.now) (open_play plan.now self.old) false ≡ true }
+        requires known { IsKnown plan.now self.old known.old }
+        ensures ok { OnOk result (self.new ≡ after plan.now self.old (Event.Report report.now)) }
+        ensures err { OnErr result (self.new ≡ self.old) }
+        ensures known { IsKnown plan.now self.old known.new }
+    {
+        match self.open_play(plan) {
+            Some(play) => self.report_in(plan, play, report, known),
+            None => Ok(()),
+        }
+    }
+
+    /// The variable `hostvars` as the task that a host runs may see it.
+    pub(crate) fn hosts_back(
+        &self,
+        plan: &Plan,
+        play: &PlanPlay,
+        host: HostNo,
+    ) -> Result<Shown, AllocError>
+        ensures same { IfOk result (λ shown. IfSome (slice_get self.now.rows host.0)
+            (λ row. SameTold (with_hosts plan.now shown.hosts) (plan_seen plan.now self.now) play.now row row.running)) }
+        ensures whole { IfOk result (λ shown. shown.is_whole ≡ true → shown.hosts ≡ hosts_now plan.now self.now) }
+    {
+        let rows = self.rows.as_slice();
+        let Some(row) = rows.get(host.0 as usize) else {
+            return unread(self.alloc);
+        };
+        let Some(running) = row.running() else {
+            return unread(self.alloc);
+        };
+        hosts_at_report(
+            self.alloc,
+            plan,
+            rows,
+            play,
+            row.host(),
+            row.facts(),
+            running.place,
+        )
+    }
+
+    pub(crate) fn report_in(
+        &mut self,
+        plan: &Plan,
+        play: &PlanPlay,
+        report: &Report,
+        known: &mut Option<Dict>,
+    ) -> Result<(), AllocError>
+        requires open { self.old.is_open ≡ true }
+        requires may { may_report_in self.old report.now play.now ≡ true }
+        requires known { IsKnown plan.now self.old known.old }
+        ensures ok { OnOk result (self.new ≡ reported_in plan.now self.old report.now play.now) }
+        ensures err { OnErr result (self.new ≡ self.old) }
+        ensures known { IsKnown plan.now self.old known.new }
+    {
+        if let Some(hosts) = known.as_ref() {
+            let seen = Seen::new(plan, hosts);
+            return self.report_seen(&seen, play, report);
+        }
+        let shown = self.hosts_back(plan, play, report.host)?;
+        let seen = Seen::new(plan, &shown.hosts);
+        self.report_seen(&seen, play, report)?;
+        keep(known, shown);
+        Ok(())
+    }
+
+    /// A report comes in, where tasks see the plan so.
+    pub(crate) fn report_seen(
+        &mut self,
+        plan: &Seen,
+        play: &PlanPlay,
+        report: &Report,
+    ) -> Result<(), AllocError>
+        requires open { self.old.is_open ≡ true }
+        requires may { may_report_in self.old report.now play.now ≡ true }
+        ensures ok { OnOk result (self.new ≡ reported_seen plan.now self.old report.now play.now) }
+        ensures err { OnErr result (self.new ≡ self.old) }
+    {
+        let decided = report_row(
+            self.alloc,
+            &mut self.rows,
+            report.host,
+            plan,
+            play,
+            &report.outcome,
+        )?;
+        decide(&mut self.decided, decided);
+        Ok(())
+    }
+}

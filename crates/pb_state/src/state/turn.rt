@@ -1,0 +1,108 @@
+//! How a place is left, and how a batch closes.
+
+ghost use Rattle.std.specs.Prelude.{◌≡◌, ◌<◌, OnOk, OnErr, true, false};
+ghost use Rattle.std.specs.Prelude.{◌-◌, ◌^◌};
+ghost use Rattle.std.specs.List.{list_any};
+ghost use Rattle.std.specs.Option.{option_map_or};
+ghost use Rattle.pb_state.specs.Machine.{play_behind};
+
+use super::EngineState;
+use crate::event::Event;
+use crate::later::Later;
+use pb_all_hosts::{least_place, leave_all, some_in, stand_at, turn_rows};
+use pb_inventory::inventory::Inventory;
+use pb_one_host::decide;
+use pb_plan::{Plan, PlanPlay};
+use std::alloc::AllocError;
+
+impl EngineState {
+    ghost use Rattle.pb_state.specs.Machine.{open_play, may_turn_in};
+    ghost use Rattle.pb_one_host.specs.Runs.{is_running};
+    ghost use Rattle.pb_state.specs.Machine.{after, turned_in, moved, batch_of, with_batch, closed};
+    ghost use Rattle.pb_all_hosts.specs.Turn.{turned};
+
+    pub(crate) fn turn(&mut self, plan: &Plan) -> Result<(), AllocError>
+        requires { option_map_or (may_turn_in self.old) (open_play plan.now self.old) false ≡ true }
+        ensures ok { OnOk result (self.new ≡ after plan.now self.old Event.Turn) }
+        ensures err { OnErr result (self.new ≡ self.old) }
+    {
+        match self.open_play(plan) {
+            Some(play) => self.turn_in(plan.inventory(), play),
+            None => Ok(()),
+        }
+    }
+
+    /// The batch goes on from its current place: first its hosts, and then the place.
+    pub(crate) fn turn_in(
+        &mut self,
+        inventory: &Inventory,
+        play: &PlanPlay,
+    ) -> Result<(), AllocError>
+        requires open { self.old.is_open ≡ true }
+        requires may { may_turn_in self.old play.now ≡ true }
+        ensures ok { OnOk result (self.new ≡ turned_in inventory.now self.old play.now) }
+        ensures err { OnErr result (self.new ≡ self.old) }
+    {
+        if let Some(place) = self.place {
+            self.turn_hosts(inventory, play, place)?;
+        }
+        self.move_on();
+        Ok(())
+    }
+
+    /// What one host did for all goes to the others, and hosts are halted; where they are, no further batch of the play comes.
+    pub(crate) fn turn_hosts(
+        &mut self,
+        inventory: &Inventory,
+        play: &PlanPlay,
+        place: usize,
+    ) -> Result<(), AllocError>
+        requires open { self.old.is_open ≡ true }
+        requires idle { list_any is_running self.old.rows ≡ false }
+        ensures ok { OnOk result (self.new ≡ with_batch (turned inventory.now play.now place (batch_of self.old)) self.old) }
+        ensures err { OnErr result (self.new ≡ self.old) }
+    {
+        let halts = turn_rows(self.alloc, &mut self.rows, inventory, play, place)?;
+        if halts {
+            drop_later(&mut self.later, Later::none(self.alloc));
+        }
+        Ok(())
+    }
+
+    /// The current place becomes the least next place of the batch.
+    pub(crate) fn move_on(&mut self)
+        ensures { self.new ≡ moved self.old (batch_of self.old) }
+    {
+        let place = least_place(&self.rows);
+        stand_at(&mut self.rows, place);
+        self.place = place;
+        decide(&mut self.decided, None);
+    }
+
+    pub(crate) fn close(&mut self)
+        requires { self.old.is_open ≡ true }
+        ensures { self.new ≡ closed self.old }
+    {
+        self.ended = !some_in(&self.rows);
+        leave_all(&mut self.rows);
+        self.play = play_behind(self.later.has_some(), self.play);
+        self.is_open = false;
+        self.begun.clear();
+        decide(&mut self.decided, None);
+    }
+}
+
+/// The sizes of the batches that are left become these.
+fn drop_later(slot: &mut Later, later: Later)
+    ensures { slot.new ≡ later }
+{
+    *slot = later;
+}
+
+/// The number of the play to which a batch of this one leads.
+fn play_behind(goes_on: bool, play: usize) -> usize
+    requires { play < 2 ^ 64 - 1 }
+    ensures { result ≡ play_behind goes_on play }
+{
+    if goes_on { play } else { play + 1 }
+}
