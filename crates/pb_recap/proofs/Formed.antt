@@ -1,5 +1,5 @@
 -- How the result of a task's items counts: in the host's counts as in the recap from scratch.
-use Rattle.std.proofs.Common.{◌≡◌, ℕ, ◌+◌, Bool, true, false, ◌&&◌, ◌||◌, not, List, [], ◌∷◌, refl, arith}
+use Rattle.std.proofs.Common.{◌≡◌, ℕ, ◌+◌, Bool, true, false, ◌&&◌, ◌||◌, not, List, refl, arith}
 use Rattle.std.specs.Prelude.{Option, is_none, if◌then◌else◌}
 use Rattle.std.specs.List.{list_any, list_all}
 use Rattle.pb_outcome.specs.declared.gather.ItemResult.{ItemResult}

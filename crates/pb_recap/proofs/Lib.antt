@@ -1,5 +1,5 @@
 pub mod Hosts
-pub mod NoFloat
+pub mod Named
 pub mod Formed
 pub mod Counted
 pub mod Finishing

@@ -3,6 +3,7 @@ pub mod Recap
 pub mod Hosts
 pub mod Text
 pub mod Stats
+pub mod Named
 pub mod Rows
 pub mod BlockRows
 pub mod Counting

@@ -1,100 +1,124 @@
 //! The line of statistics.
 
-ghost use Rattle.std.specs.Prelude.{◌≡◌, ◌++◌, ◌∷◌, [], false, IfOk, string_bytes};
+ghost use Rattle.std.specs.Prelude.{◌≡◌, ◌++◌, ◌∷◌, [], IfOk, OnOk, decimal, map, string_bytes};
+ghost use Rattle.std.specs.Map.Iter.{deref_pair};
 ghost use Rattle.std.specs.Option.{option_copied};
-ghost use Rattle.serde_json.specs.Written.{compact_text, has_float};
-ghost use Rattle.serde_json.specs.View.{view, members_view};
+ghost use Rattle.json.specs.Print.{print};
+ghost use Rattle.json.specs.Token.{begin_object, key as key_token, number};
+ghost use Rattle.json.specs.Tree.{json_tokens, members_tokens};
+ghost use Rattle.serde_json.specs.Data.{no_members};
+ghost use Rattle.serde_json.specs.Written.{outline, members_outline};
 ghost use Rattle.pb_recap.specs.Hosts.{hosts_with_count, host_if_counted};
-ghost use Rattle.pb_recap.specs.Stats.{stats_line, line_data, with_hosts, counts_data};
+ghost use Rattle.pb_recap.specs.Named.{members_of, line_with};
+ghost use Rattle.pb_recap.specs.Stats.{stats_line, with_hosts, counts_data};
 
 use crate::kind::{counts_at, has_count};
+use json::Writer;
 use pb_ids::HostNo;
 use pb_state::{Counts, Plan};
-use serde_json::{Map, Value, put};
 use std::alloc::{AllocError, Global};
+use std::collections::BTreeMap;
 
-/// The line of the hosts that have a count.
-#[tactic(auto, using(crate::proofs::NoFloat::line_none))]
+/// The line of the hosts that have a count. The order of their names and the line itself are all that takes memory.
 pub fn line_of(alloc: Global, plan: &Plan, counts: &[Counts]) -> Result<String, AllocError>
     ensures { IfOk result (λ s. string_bytes s ≡ stats_line plan.now.inventory.hosts counts.now) }
 {
-    let line = line_value(alloc, plan, counts)?;
-    line_text(alloc, &line)
+    let hosts = by_name(alloc, plan, counts)?;
+    let mut out = Writer::new(Vec::new(alloc));
+    write_line(&hosts, &mut out)?;
+    ended(out)
 }
 
-/// The compact text of a value without floats, and a line end.
-fn line_text(alloc: Global, line: &Value) -> Result<String, AllocError>
-    requires { has_float (view line.now) ≡ false }
-    ensures { IfOk result (λ s. string_bytes s ≡ compact_text (view line.now) ++ 10 ∷ []) }
-{
-    let mut text = line.to_string(alloc)?;
-    text.push('\n')?;
-    Ok(text)
-}
-
-#[tactic(auto, unfolding(crate::specs::Stats::line_data))]
-fn line_value(alloc: Global, plan: &Plan, counts: &[Counts]) -> Result<Value, AllocError>
-    ensures { IfOk result (λ v. view v ≡ line_data plan.now.inventory.hosts counts.now) }
-{
-    let mut stats = Map::new(alloc);
-    put_hosts(alloc, &mut stats, plan, counts)?;
-    let mut line = Map::new(alloc);
-    let event = Value::try_from_str(alloc, "playbook_on_stats")?;
-    put(&mut line, alloc, "event", event)?;
-    put(&mut line, alloc, "stats", Value::Object(stats))?;
-    Ok(Value::Object(line))
-}
-
-fn put_hosts(
+/// The hosts that have a count, in the order of their names.
+fn by_name<'a>(
     alloc: Global,
-    stats: &mut Map<String, Value>,
-    plan: &Plan,
-    counts: &[Counts],
-) -> Result<(), AllocError>
-    ensures { IfOk result (λ _. members_view stats.new.entries ≡ with_hosts (members_view stats.old.entries) (hosts_with_count plan.now.inventory.hosts counts.now)) }
+    plan: &'a Plan,
+    counts: &'a [Counts],
+) -> Result<BTreeMap<&'a str, &'a Counts>, AllocError>
+    ensures { IfOk result (λ hosts. members_of (map deref_pair hosts.entries) ≡ with_hosts no_members (hosts_with_count plan.now.inventory.hosts counts.now)) }
 {
+    let mut hosts = BTreeMap::new(alloc);
     for host in 0..plan.host_count() {
         let name = plan.host_name(HostNo(host));
-        put_host(alloc, stats, name, counts_at(counts, HostNo(host)))?;
+        add_host(&mut hosts, name, counts_at(counts, HostNo(host)))?;
     }
-    Ok(())
+    Ok(hosts)
 }
 
-/// Puts the counts of a host under its name, if it has one.
-fn put_host(
-    alloc: Global,
-    stats: &mut Map<String, Value>,
-    name: &str,
-    counts: Option<&Counts>,
+/// Adds a host, if it has a count.
+fn add_host<'a>(
+    hosts: &mut BTreeMap<&'a str, &'a Counts>,
+    name: &'a str,
+    counts: Option<&'a Counts>,
 ) -> Result<(), AllocError>
-    ensures { IfOk result (λ _. members_view stats.new.entries ≡ with_hosts (members_view stats.old.entries) (host_if_counted name.now (option_copied counts.entry))) }
+    ensures { OnOk result (members_of (map deref_pair hosts.new.entries) ≡ with_hosts (members_of (map deref_pair hosts.old.entries)) (host_if_counted name.now (option_copied counts.entry))) }
 {
     match counts {
         Some(counts) if has_count(counts) => {
-            let value = counts_value(alloc, counts)?;
-            put(stats, alloc, name, value)?;
+            hosts.insert(name, counts)?;
             Ok(())
         }
         _ => Ok(()),
     }
 }
 
-/// The seven counts under their names.
-fn counts_value(alloc: Global, counts: &Counts) -> Result<Value, AllocError>
-    ensures { IfOk result (λ v. view v ≡ counts_data counts.now) }
+/// Writes the line's object, with these hosts.
+fn write_line(hosts: &BTreeMap<&str, &Counts>, out: &mut Writer) -> Result<(), AllocError>
+    ensures tokens { OnOk result (out.new.tokens ≡ out.old.tokens ++ json_tokens (outline (line_with (members_of (map deref_pair hosts.now.entries))))) }
+    ensures before { out.new.before ≡ out.old.before }
 {
-    let mut members = Map::new(alloc);
-    put(&mut members, alloc, "changed", Value::from(counts.changed))?;
-    put(&mut members, alloc, "failed", Value::from(counts.failed))?;
-    put(&mut members, alloc, "ignored", Value::from(counts.ignored))?;
-    put(&mut members, alloc, "ok", Value::from(counts.ok))?;
-    put(&mut members, alloc, "rescued", Value::from(counts.rescued))?;
-    put(&mut members, alloc, "skipped", Value::from(counts.skipped))?;
-    put(
-        &mut members,
-        alloc,
-        "unreachable",
-        Value::from(counts.unreachable),
-    )?;
-    Ok(Value::Object(members))
+    out.begin_object()?;
+    out.key("event")?;
+    out.string("playbook_on_stats")?;
+    out.key("stats")?;
+    write_hosts(hosts, out)?;
+    out.end_object()
+}
+
+/// Writes each host's counts under its name, between braces.
+fn write_hosts(hosts: &BTreeMap<&str, &Counts>, out: &mut Writer) -> Result<(), AllocError>
+    ensures tokens { OnOk result (out.new.tokens ≡ out.old.tokens ++ begin_object ∷ members_tokens (members_outline (members_of (map deref_pair hosts.now.entries)))) }
+    ensures before { out.new.before ≡ out.old.before }
+{
+    out.begin_object()?;
+    for (name, counts) in hosts.iter() {
+        out.key(*name)?;
+        write_counts(*counts, out)?;
+    }
+    out.end_object()
+}
+
+/// Writes the seven counts under their names.
+fn write_counts(counts: &Counts, out: &mut Writer) -> Result<(), AllocError>
+    ensures tokens { OnOk result (out.new.tokens ≡ out.old.tokens ++ json_tokens (outline (counts_data counts.now))) }
+    ensures before { out.new.before ≡ out.old.before }
+{
+    out.begin_object()?;
+    put_count(out, "changed", counts.changed)?;
+    put_count(out, "failed", counts.failed)?;
+    put_count(out, "ignored", counts.ignored)?;
+    put_count(out, "ok", counts.ok)?;
+    put_count(out, "rescued", counts.rescued)?;
+    put_count(out, "skipped", counts.skipped)?;
+    put_count(out, "unreachable", counts.unreachable)?;
+    out.end_object()
+}
+
+/// Puts a count under a key.
+fn put_count(out: &mut Writer, key: &str, count: u64) -> Result<(), AllocError>
+    ensures tokens { OnOk result (out.new.tokens ≡ out.old.tokens ++ key_token key.now ∷ number (decimal count) ∷ []) }
+    ensures before { out.new.before ≡ out.old.before }
+{
+    out.key(key)?;
+    out.u64(count)
+}
+
+/// What was written, and a line end.
+fn ended(out: Writer) -> Result<String, AllocError>
+    requires { out.before ≡ [] }
+    ensures { IfOk result (λ s. string_bytes s ≡ print out.tokens ++ 10 ∷ []) }
+{
+    let mut text = String::from_utf8(out.into_inner()).unwrap();
+    text.push('\n')?;
+    Ok(text)
 }

@@ -1,0 +1,16 @@
+-- The line of statistics over members that stand in the order of their names.
+use Rattle.std.specs.Prelude.{ℕ, List, [], ◌∷◌, codes}
+use Rattle.serde_json.specs.Data.{Data, string, object, Members, no_members, member}
+use Rattle.pb_one_host.specs.declared.row.Counts.{Counts}
+use Rattle.pb_recap.specs.Stats.{counts_data}
+
+-- hosts as they stand, each with its counts
+abbrev pub members_of : List (List ℕ × Counts) → Members
+members_of [] = no_members
+members_of (host ∷ hosts) = member host.0 (counts_data host.1) (members_of hosts)
+
+abbrev pub line_with : Members → Data
+line_with ms =
+    object
+    (member (codes "event") (string (codes "playbook_on_stats"))
+    (member (codes "stats") (object ms) no_members))
