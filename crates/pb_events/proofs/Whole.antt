@@ -7,21 +7,17 @@ use Rattle.serde_json.specs.Data.{Data}
 use Rattle.serde_json.specs.Written.{compact_text}
 use Rattle.pb_value.specs.Datum.{Datum, dict, members_of}
 use Rattle.pb_value.specs.ToJson.{json_of}
-use Rattle.pb_ids.specs.Dotted.{dotted}
 use Rattle.pb_outcome.specs.Gathered.{is_unreachable}
 use Rattle.pb_outcome.specs.declared.gather.ItemResult.{ItemResult}
-use Rattle.pb_places.specs.Place.{PlaceOf}
 use Rattle.pb_play.specs.Modules.{is_meta}
 use Rattle.pb_plan.specs.Plan.{PlayOf, PlanOf}
-use Rattle.pb_tree.specs.Tree.{path_at}
-use Rattle.pb_one_host.specs.declared.decided.Decided.{Decided}
 use Rattle.pb_one_host.specs.declared.decided.Done.{Done}
 use Rattle.pb_one_host.specs.declared.decided.Retried.{Retried}
 use Rattle.pb_state.specs.declared.event.Event.{Event}
 use Rattle.pb_state.specs.declared.event.Event.TheVariants.{Open, Start, Send, Report as Reported, Turn, Close, Stop, Forks}
 use Rattle.pb_state.specs.State.{State}
 use Rattle.pb_events.specs.Line.{line}
-use Rattle.pb_events.specs.Lines.{start_event, task_start, host_start, start_text, result_line, done_text, retried_text, task_text, meta_text, lines_on, of_place, for_host, in_play, told_in, told_of, opened_in, lines_of}
+use Rattle.pb_events.specs.Lines.{start_event, task_start, host_start, start_text, result_line, done_text, retried_text, meta_text, SiteOf, site_of, end_text, started, came_back, opened_in, lines_of}
 use Rattle.pb_events.specs.Items.{item_line, item_lines}
 use Rattle.pb_events.specs.Notify.{handler_name, notify_line, notify_lines, notify_text}
 use Rattle.pb_events.specs.Whole.{lines_in, AreObjects, EventsHaveLines}
@@ -97,46 +93,36 @@ retried_whole : (host place : List ℕ) (play : ℕ) (retried : Option Retried) 
 retried_whole host place play None = nothing
 retried_whole host place play (Some retried) = one _
 
-start_whole : (starts is_new : Bool) (event host name place : List ℕ) (play : ℕ) → IsWhole (start_text starts is_new event host name place play)
-start_whole true is_new event host name place play =
-    both (cond is_new (task_start event name place play) []) (host_start host place play) (if_so is_new _ _ (one _) nothing) (one _)
-start_whole false is_new event host name place play = nothing
-
 meta_whole : (host place : List ℕ) (play : ℕ) (done : Option Done) → IsWhole (meta_text host place play done)
 meta_whole host place play None = nothing
 meta_whole host place play (Some done) = if_so done.task.result.failed _ _ (one _) nothing
 
-task_whole : (starts : Bool) (play : PlayOf) (number : ℕ) (decided : Decided) (host : List ℕ) (at : PlaceOf) (place : List ℕ)
-    → IsWhole (task_text starts play number decided host at place)
-task_whole starts play number decided host at place =
-    both _ (notify_text host play number decided.done)
-    (both _ (done_text host place number decided.done)
-    (both _ (retried_text host place number decided.retried)
-    (both (start_text starts decided.is_new (start_event at.handler) host at.task.name place number) (item_lines host place number decided.items)
-    (start_whole starts decided.is_new (start_event at.handler) host at.task.name place number) (items_whole host place number decided.items))
-    (retried_whole host place number decided.retried))
-    (done_whole host place number decided.done)) (notified_whole host play number decided.done)
+start_whole : (site : SiteOf) → IsWhole (start_text site)
+start_whole site =
+    both (cond site.decided.is_new (task_start (start_event site.place.handler) site.place.task.name site.path site.number) []) (host_start site.host site.path site.number)
+    (if_so site.decided.is_new _ _ (one _) nothing) (one _)
+
+end_whole : (site : SiteOf) → IsWhole (end_text site)
+end_whole site =
+    both _ (notify_text site.host site.play site.number site.decided.done)
+    (both _ (done_text site.host site.path site.number site.decided.done)
+    (both (item_lines site.host site.path site.number site.decided.items) (retried_text site.host site.path site.number site.decided.retried)
+    (items_whole site.host site.path site.number site.decided.items) (retried_whole site.host site.path site.number site.decided.retried))
+    (done_whole site.host site.path site.number site.decided.done)) (notified_whole site.host site.play site.number site.decided.done)
 
 -- ---- the texts of events
-place_whole : (starts : Bool) (play : PlayOf) (number : ℕ) (decided : Decided) (host : List ℕ) (at : PlaceOf) → IsWhole (of_place starts play number decided host at)
-place_whole starts play number decided host at =
-    of_some (path_at play.tree decided.place) (lines_on starts play number decided host at)
-    (λ path. if_so (is_meta at.task.«module») _ _ (meta_whole host (dotted path) number decided.done) (task_whole starts play number decided host at (dotted path)))
+started_whole : (site : SiteOf) → IsWhole (started site)
+started_whole site =
+    if_so (is_meta site.place.task.«module») _ _ (meta_whole site.host site.path site.number site.decided.done) (both (start_text site) (end_text site) (start_whole site) (end_whole site))
 
-host_whole : (starts : Bool) (plan : PlanOf) (s : State) (h : ℕ) (play : PlayOf) (decided : Decided) → IsWhole (in_play starts plan s h play decided)
-host_whole starts plan s h play decided =
-    of_some (slice_get plan.inventory.hosts h) (for_host starts play s.play decided)
-    (λ host. of_some (slice_get play.places decided.place) (of_place starts play s.play decided host) (λ at. place_whole starts play s.play decided host at))
-
-told_whole : (starts : Bool) (plan : PlanOf) (s : State) (h : ℕ) → IsWhole (told_of starts plan s h)
-told_whole starts plan s h =
-    of_some (slice_get plan.plays s.play) (told_in starts plan s h) (λ play. of_some s.decided (in_play starts plan s h play) (λ decided. host_whole starts plan s h play decided))
+came_whole : (site : SiteOf) → IsWhole (came_back site)
+came_whole site = if_so (is_meta site.place.task.«module») _ _ (meta_whole site.host site.path site.number site.decided.done) (end_whole site)
 
 event_whole : (plan : PlanOf) (s : State) (e : Event) → IsWhole (lines_of plan s e)
 event_whole plan s Open = of_some (slice_get plan.plays s.play) (opened_in plan s) (λ play. one _)
-event_whole plan s (Start h) = told_whole true plan s h.0
+event_whole plan s (Start h) = of_some (site_of plan s h.0) started started_whole
 event_whole plan s (Send h item attempt ticket) = nothing
-event_whole plan s (Reported r) = told_whole false plan s r.host.0
+event_whole plan s (Reported r) = of_some (site_of plan s r.host.0) came_back came_whole
 event_whole plan s Turn = nothing
 event_whole plan s Close = nothing
 event_whole plan s Stop = nothing

@@ -77,47 +77,59 @@ abbrev pub retried_text : List ℕ → List ℕ → ℕ → Option Retried → L
 retried_text host place play None = []
 retried_text host place play (Some retried) = retry_line host place play retried
 
--- what is told before the end: of a start the task, where the host is the first there, and the host; of a report nothing
-abbrev pub start_text : Bool → Bool → List ℕ → List ℕ → List ℕ → List ℕ → ℕ → List ℕ
-start_text true is_new event host name place play = (if is_new then task_start event name place play else []) ++ host_start host place play
-start_text false is_new event host name place play = []
-
--- of the task at a place, which the host started or which a report was for: the items of a loop, or the attempt that came back, come before the task's
--- own end, and the handlers that it notified behind it
-abbrev pub task_text : Bool → PlayOf → ℕ → Decided → List ℕ → PlaceOf → List ℕ → List ℕ
-task_text starts play number decided host at place =
-    start_text starts decided.is_new (start_event at.handler) host at.task.name place number ++ item_lines host place number decided.items
-    ++ retried_text host place number decided.retried ++ done_text host place number decided.done ++ notify_text host play number decided.done
-
 -- a task of `meta` has no line but that of its failure: its conditions can't be read, which nothing ignores
 abbrev pub meta_text : List ℕ → List ℕ → ℕ → Option Done → List ℕ
 meta_text host place play None = []
 meta_text host place play (Some done) = if done.task.result.failed then host_failed false host place play done.result else []
 
-abbrev pub lines_at : Bool → PlayOf → ℕ → Decided → List ℕ → PlaceOf → List ℕ → List ℕ
-lines_at starts play number decided host at place =
-    if is_meta at.task.«module» then meta_text host place number decided.done else task_text starts play number decided host at place
+-- what lines are about: what was decided for the host with this name, in the play with this number, of the task at the place with this path
+pub record SiteOf : Type 0 where
+  pub play : PlayOf
+  pub number : ℕ
+  pub host : List ℕ
+  pub place : PlaceOf
+  pub path : List ℕ
+  pub decided : Decided
 
-abbrev pub lines_on : Bool → PlayOf → ℕ → Decided → List ℕ → PlaceOf → List ℕ → List ℕ
-lines_on starts play number decided host at path = lines_at starts play number decided host at (dotted path)
+-- a place is printed by its path in the play's tree
+abbrev pub site_at : PlayOf → ℕ → List ℕ → Decided → Option PlaceOf → Option (List ℕ) → Option SiteOf
+site_at play number host decided (Some place) (Some path) = Some (record { play = play; number = number; host = host; place = place; path = dotted path; decided = decided })
+site_at play number host decided place path = None
 
--- of the task at this place, which is printed by its path in the play's tree
-abbrev pub of_place : Bool → PlayOf → ℕ → Decided → List ℕ → PlaceOf → List ℕ
-of_place starts play number decided host at = option_map_or (lines_on starts play number decided host at) (path_at play.tree decided.place) []
+abbrev pub site_in : ℕ → Option PlayOf → Option Decided → Option (List ℕ) → Option SiteOf
+site_in number (Some play) (Some decided) (Some host) = site_at play number host decided (slice_get play.places decided.place) (path_at play.tree decided.place)
+site_in number play decided host = None
 
--- of a host with this name
-abbrev pub for_host : Bool → PlayOf → ℕ → Decided → List ℕ → List ℕ
-for_host starts play number decided host = option_map_or (of_place starts play number decided host) (slice_get play.places decided.place) []
+-- of the host with this number, in a state
+abbrev pub site_of : PlanOf → State → ℕ → Option SiteOf
+site_of plan s h = site_in s.play (slice_get plan.plays s.play) s.decided (slice_get plan.inventory.hosts h)
 
--- of the host with this number, in a play, and of what was decided for it
-abbrev pub in_play : Bool → PlanOf → State → ℕ → PlayOf → Decided → List ℕ
-in_play starts plan s h play decided = option_map_or (for_host starts play s.play decided) (slice_get plan.inventory.hosts h) []
+-- a start: the task, where the host is the first there, and the host
+abbrev pub start_text : SiteOf → List ℕ
+start_text site =
+    (if site.decided.is_new then task_start (start_event site.place.handler) site.place.task.name site.path site.number else [])
+    ++ host_start site.host site.path site.number
 
-abbrev pub told_in : Bool → PlanOf → State → ℕ → PlayOf → List ℕ
-told_in starts plan s h play = option_map_or (in_play starts plan s h play) s.decided []
+-- what came of a task: the items of a loop, or the attempt that came back, the task's own end, and the handlers that it notified
+abbrev pub end_text : SiteOf → List ℕ
+end_text site =
+    item_lines site.host site.path site.number site.decided.items ++ retried_text site.host site.path site.number site.decided.retried
+    ++ done_text site.host site.path site.number site.decided.done ++ notify_text site.host site.play site.number site.decided.done
 
+-- of a host that started a task
+abbrev pub started : SiteOf → List ℕ
+started site =
+    if is_meta site.place.task.«module» then meta_text site.host site.path site.number site.decided.done else start_text site ++ end_text site
+
+-- of a host whose report came
+abbrev pub came_back : SiteOf → List ℕ
+came_back site =
+    if is_meta site.place.task.«module» then meta_text site.host site.path site.number site.decided.done else end_text site
+
+-- of the host with this number: that it started a task, or that its report came
 abbrev pub told_of : Bool → PlanOf → State → ℕ → List ℕ
-told_of starts plan s h = option_map_or (told_in starts plan s h) (slice_get plan.plays s.play) []
+told_of true plan s h = option_map_or started (site_of plan s h) []
+told_of false plan s h = option_map_or came_back (site_of plan s h) []
 
 abbrev pub opened_in : PlanOf → State → PlayOf → List ℕ
 opened_in plan s play = play_start s.play s.batch play.name (map text (batch_names plan.inventory.hosts s.rows))

@@ -6,7 +6,7 @@ ghost use Rattle.pb_planes.specs.Set.{is_in};
 ghost use Rattle.pb_value.specs.Datum.{text};
 ghost use Rattle.pb_events.specs.Batch.{batch_names};
 
-use crate::lines::name_of;
+use crate::site::name_of;
 use pb_ids::HostNo;
 use pb_planes::HostSet;
 use pb_state::{EngineState, Plan};

@@ -4,6 +4,7 @@ ghost use Rattle.std.specs.Prelude.{◌≡◌, ◌++◌, IfOk};
 ghost use Rattle.pb_events.specs.Items.{item_event, item_end, item_line, item_lines};
 
 use crate::line::{begin, end, put_number, put_text, put_value};
+use crate::site::Site;
 use pb_outcome::gather::{Ending, ItemResult};
 use pb_value::val::Val;
 use std::alloc::{AllocError, Global};
@@ -27,21 +28,19 @@ fn item_event(ending: Ending) -> &'static str
 /// Adds the line of an item's end.
 fn item_end(
     lines: Vec<u8>,
+    site: &Site,
     event: &str,
-    host: &str,
-    place: &str,
-    play: u32,
     number: u32,
     shown: &Val,
 ) -> Result<Vec<u8>, AllocError>
-    ensures { IfOk result (λ bytes. bytes.items ≡ lines.items ++ item_end event.now host.now place.now play number shown.now) }
+    ensures { IfOk result (λ bytes. bytes.items ≡ lines.items ++ item_end event.now site.now.host site.now.path site.now.number number shown.now) }
 {
     let mut out = begin(lines)?;
     put_text(&mut out, "event", event)?;
-    put_text(&mut out, "host", host)?;
+    put_text(&mut out, "host", site.host)?;
     put_number(&mut out, "item", number)?;
-    put_text(&mut out, "place", place)?;
-    put_number(&mut out, "play", play)?;
+    put_text(&mut out, "place", site.path.as_str())?;
+    put_number(&mut out, "play", site.number)?;
     put_value(&mut out, "result", shown)?;
     end(out)
 }
@@ -49,36 +48,31 @@ fn item_end(
 /// Adds the line of an item of a loop; none of one that found its host out of reach.
 fn item_line(
     lines: Vec<u8>,
-    host: &str,
-    place: &str,
-    play: u32,
+    site: &Site,
     number: u32,
     item: &ItemResult,
 ) -> Result<Vec<u8>, AllocError>
-    ensures { IfOk result (λ bytes. bytes.items ≡ lines.items ++ item_line host.now place.now play number item.now) }
+    ensures { IfOk result (λ bytes. bytes.items ≡ lines.items ++ item_line site.now.host site.now.path site.now.number number item.now) }
 {
     if item.ending.is_unreachable() {
         return Ok(lines);
     }
-    let event = item_event(item.ending);
-    item_end(lines, event, host, place, play, number, &item.result)
+    item_end(lines, site, item_event(item.ending), number, &item.result)
 }
 
 /// Adds the lines of the items of a loop that ended, in order. Each is written by itself: a writer fills as much memory ahead as there is before it.
 pub fn item_lines(
     alloc: Global,
     lines: Vec<u8>,
-    host: &str,
-    place: &str,
-    play: u32,
+    site: &Site,
     told: &[(u32, ItemResult)],
 ) -> Result<Vec<u8>, AllocError>
-    ensures { IfOk result (λ bytes. bytes.items ≡ lines.items ++ item_lines host.now place.now play told.now) }
+    ensures { IfOk result (λ bytes. bytes.items ≡ lines.items ++ item_lines site.now.host site.now.path site.now.number told.now) }
 {
     let mut all = lines;
     for (number, item) in told {
         let line = Vec::with_capacity(alloc, ROOM)?;
-        let more = item_line(line, host, place, play, *number, item)?;
+        let more = item_line(line, site, *number, item)?;
         all.extend_from_slice(more.as_slice())?;
     }
     Ok(all)

@@ -14,6 +14,7 @@ mod line;
 mod lines;
 mod notify;
 mod retry;
+mod site;
 
 pub use lines::{lines_of, start_line};
 

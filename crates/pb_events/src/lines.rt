@@ -1,11 +1,11 @@
 //! The lines of events.
 
-ghost use Rattle.std.specs.Prelude.{◌≡◌, ◌<◌, ◌∷◌, ◌++◌, [], ℕ, List, IfOk, IfSome, codes, pos, slice_get, true, false, if◌then◌else◌};
-ghost use Rattle.std.specs.Option.{option_copied, option_map_or};
+ghost use Rattle.std.specs.Prelude.{◌≡◌, ◌∷◌, ◌++◌, [], ℕ, List, IfOk, codes, pos, slice_get, if◌then◌else◌};
+ghost use Rattle.std.specs.Option.{option_map_or};
 ghost use Rattle.json.specs.Token.{begin_object};
 ghost use Rattle.pb_value.specs.Datum.{Datum, text, int};
 ghost use Rattle.pb_events.specs.Members.{tokens_in};
-ghost use Rattle.pb_events.specs.Lines.{start_line, play_start, start_event, task_start, host_start, start_text, task_text, lines_at, of_place, for_host, in_play, told_in, told_of, opened_in, lines_of};
+ghost use Rattle.pb_events.specs.Lines.{start_line, play_start, start_event, task_start, host_start, start_text, end_text, site_of, started, came_back, opened_in, lines_of};
 
 use crate::batch::batch_names;
 use crate::end::{done_text, meta_text};
@@ -13,11 +13,10 @@ use crate::item::item_lines;
 use crate::line::{begin, end, put_number, put_text, put_value};
 use crate::notify::notify_text;
 use crate::retry::retried_text;
+use crate::site::{Site, play_at, site_of};
 use json::Writer;
 use pb_ids::HostNo;
-use pb_places::Place;
-use pb_play::modules::Module;
-use pb_state::{Decided, EngineState, Event, Plan, PlanPlay};
+use pb_state::{EngineState, Event, Plan};
 use pb_value::val::{Val, ValList};
 use std::alloc::{AllocError, Global};
 
@@ -48,21 +47,12 @@ pub fn lines_of(
 {
     match event {
         Event::Open => opened(alloc, plan, state),
-        Event::Start(host) => told(alloc, true, plan, state, *host),
-        Event::Report(report) => told(alloc, false, plan, state, report.host),
+        Event::Start(host) => started(alloc, plan, state, *host),
+        Event::Report(report) => came_back(alloc, plan, state, report.host),
         Event::Send { .. } | Event::Turn | Event::Close | Event::Stop | Event::Forks(_) => {
             Ok(Vec::new(alloc))
         }
     }
-}
-
-/// The play with a number.
-#[tactic(auto, using(crate::proofs::Plays::below))]
-fn play_at(plan: &Plan, number: usize) -> Option<&PlanPlay>
-    ensures value { option_copied result ≡ slice_get plan.now.plays number }
-    ensures below { IfSome result (λ _. number < 256) }
-{
-    plan.plays().get(number)
 }
 
 /// The line of a batch that opened.
@@ -108,169 +98,50 @@ fn play_start(
     end(out)
 }
 
-/// The lines of a host that started a task, or whose report came.
-fn told(
+/// The lines of a host that started a task.
+fn started(
     alloc: Global,
-    starts: bool,
     plan: &Plan,
     state: &EngineState,
     host: HostNo,
 ) -> Result<Vec<u8>, AllocError>
-    ensures { IfOk result (λ bytes. bytes.items ≡ told_of starts plan.now state.now host.0) }
+    ensures { IfOk result (λ bytes. bytes.items ≡ option_map_or started (site_of plan.now state.now host.0) []) }
 {
-    match play_at(plan, state.play()) {
-        Some(play) => told_in(alloc, starts, plan, state, host, play),
-        None => Ok(Vec::new(alloc)),
-    }
-}
-
-/// The lines of a host in a play: those of what the step decided.
-fn told_in(
-    alloc: Global,
-    starts: bool,
-    plan: &Plan,
-    state: &EngineState,
-    host: HostNo,
-    play: &PlanPlay,
-) -> Result<Vec<u8>, AllocError>
-    requires { state.now.play < 256 }
-    ensures { IfOk result (λ bytes. bytes.items ≡ told_in starts plan.now state.now host.0 play.now) }
-{
-    match state.decided() {
-        Some(decided) => in_play(alloc, starts, plan, state, host, play, decided),
-        None => Ok(Vec::new(alloc)),
-    }
-}
-
-/// The lines of what was decided for a host of the plan.
-fn in_play(
-    alloc: Global,
-    starts: bool,
-    plan: &Plan,
-    state: &EngineState,
-    host: HostNo,
-    play: &PlanPlay,
-    decided: &Decided,
-) -> Result<Vec<u8>, AllocError>
-    requires { state.now.play < 256 }
-    ensures { IfOk result (λ bytes. bytes.items ≡ in_play starts plan.now state.now host.0 play.now decided.now) }
-{
-    match name_of(plan, host) {
-        Some(name) => for_host(alloc, starts, play, state.play() as u32, decided, name),
-        None => Ok(Vec::new(alloc)),
-    }
-}
-
-/// The name of a host, if there is one with this number.
-#[tactic(auto, using(crate::proofs::Plays::past))]
-pub(crate) fn name_of(plan: &Plan, host: HostNo) -> Option<&str>
-    ensures { option_copied result ≡ slice_get plan.now.inventory.hosts host.0 }
-{
-    if host.0 < plan.host_count() {
-        Some(plan.host_name(host))
-    } else {
-        None
-    }
-}
-
-/// The lines of a host with this name.
-fn for_host(
-    alloc: Global,
-    starts: bool,
-    play: &PlanPlay,
-    number: u32,
-    decided: &Decided,
-    host: &str,
-) -> Result<Vec<u8>, AllocError>
-    ensures { IfOk result (λ bytes. bytes.items ≡ for_host starts play.now number decided.now host.now) }
-{
-    match play.place(decided.place) {
-        Some(place) => of_place(alloc, starts, play, number, decided, host, place),
-        None => Ok(Vec::new(alloc)),
-    }
-}
-
-/// The lines of the host's task, which stands at a place.
-fn of_place(
-    alloc: Global,
-    starts: bool,
-    play: &PlanPlay,
-    number: u32,
-    decided: &Decided,
-    host: &str,
-    place: &Place,
-) -> Result<Vec<u8>, AllocError>
-    ensures { IfOk result (λ bytes. bytes.items ≡ of_place starts play.now number decided.now host.now place.now) }
-{
-    match play.tree().place(decided.place) {
-        Some(at) => {
-            let path = at.text(alloc)?;
-            lines_at(
-                alloc,
-                starts,
-                play,
-                number,
-                decided,
-                host,
-                place,
-                path.as_str(),
-            )
+    match site_of(alloc, plan, state, host)? {
+        Some(site) if site.place.task().module.is_meta() => meta_text(Vec::new(alloc), &site),
+        Some(site) => {
+            let lines = start_text(Vec::with_capacity(alloc, ROOM)?, &site)?;
+            end_text(alloc, lines, &site)
         }
         None => Ok(Vec::new(alloc)),
     }
 }
 
-/// The lines of a task at a place: of one of `meta` its failure alone.
-fn lines_at(
+/// The lines of a host whose report came.
+fn came_back(
     alloc: Global,
-    starts: bool,
-    play: &PlanPlay,
-    number: u32,
-    decided: &Decided,
-    host: &str,
-    at: &Place,
-    place: &str,
+    plan: &Plan,
+    state: &EngineState,
+    host: HostNo,
 ) -> Result<Vec<u8>, AllocError>
-    ensures { IfOk result (λ bytes. bytes.items ≡ lines_at starts play.now number decided.now host.now at.now place.now) }
+    ensures { IfOk result (λ bytes. bytes.items ≡ option_map_or came_back (site_of plan.now state.now host.0) []) }
 {
-    if at.task().module.is_meta() {
-        meta_text(Vec::new(alloc), host, place, number, &decided.done)
-    } else {
-        task_lines(alloc, starts, play, number, decided, host, at, place)
+    match site_of(alloc, plan, state, host)? {
+        Some(site) if site.place.task().module.is_meta() => meta_text(Vec::new(alloc), &site),
+        Some(site) => end_text(alloc, Vec::with_capacity(alloc, ROOM)?, &site),
+        None => Ok(Vec::new(alloc)),
     }
 }
 
-/// The lines of a task: its start, if it starts, the items of a loop that ended, the attempt that came back, if another one comes behind it, its end, if
-/// it ended, and the handlers that it notified then.
-fn task_lines(
-    alloc: Global,
-    starts: bool,
-    play: &PlanPlay,
-    number: u32,
-    decided: &Decided,
-    host: &str,
-    at: &Place,
-    place: &str,
-) -> Result<Vec<u8>, AllocError>
-    ensures { IfOk result (λ bytes. bytes.items ≡ task_text starts play.now number decided.now host.now at.now place.now) }
+/// Adds what came of a task: the items of a loop that ended, the attempt that came back, if another one comes behind it, its end, if it ended, and the
+/// handlers that it notified then.
+fn end_text(alloc: Global, lines: Vec<u8>, site: &Site) -> Result<Vec<u8>, AllocError>
+    ensures { IfOk result (λ bytes. bytes.items ≡ lines.items ++ end_text site.now) }
 {
-    let event = start_event(at.handler());
-    let name = at.task().name.as_str();
-    let lines = Vec::with_capacity(alloc, ROOM)?;
-    let lines = start_text(
-        lines,
-        starts,
-        decided.is_new,
-        event,
-        host,
-        name,
-        place,
-        number,
-    )?;
-    let lines = item_lines(alloc, lines, host, place, number, decided.items.as_slice())?;
-    let lines = retried_text(lines, host, place, number, &decided.retried)?;
-    let lines = done_text(lines, host, place, number, &decided.done)?;
-    notify_text(lines, host, play, number, &decided.done)
+    let lines = item_lines(alloc, lines, site, site.decided.items.as_slice())?;
+    let lines = retried_text(lines, site)?;
+    let lines = done_text(lines, site)?;
+    notify_text(lines, site)
 }
 
 /// The name of the event of a task's start, or of a handler's.
@@ -283,70 +154,37 @@ fn start_event(handler: Option<u32>) -> &'static str
     }
 }
 
-/// Adds what is told of a start: the task, if the host is the first to start there, and the host. Of a report it is nothing.
-fn start_text(
-    lines: Vec<u8>,
-    starts: bool,
-    is_new: bool,
-    event: &str,
-    host: &str,
-    name: &str,
-    place: &str,
-    play: u32,
-) -> Result<Vec<u8>, AllocError>
-    ensures { IfOk result (λ bytes. bytes.items ≡ lines.items ++ start_text starts is_new event.now host.now name.now place.now play) }
+/// Adds what is told of a start: the task, if the host is the first to start there, and the host.
+fn start_text(lines: Vec<u8>, site: &Site) -> Result<Vec<u8>, AllocError>
+    ensures { IfOk result (λ bytes. bytes.items ≡ lines.items ++ start_text site.now) }
 {
-    if !starts {
-        return Ok(lines);
-    }
-    let lines = task_if_new(lines, is_new, event, name, place, play)?;
-    host_start(lines, host, place, play)
+    let lines = task_if_new(lines, site)?;
+    host_start(lines, site)
 }
 
 /// Adds the line of a host that starts a task.
-fn host_start(lines: Vec<u8>, host: &str, place: &str, play: u32) -> Result<Vec<u8>, AllocError>
-    ensures { IfOk result (λ bytes. bytes.items ≡ lines.items ++ host_start host.now place.now play) }
+fn host_start(lines: Vec<u8>, site: &Site) -> Result<Vec<u8>, AllocError>
+    ensures { IfOk result (λ bytes. bytes.items ≡ lines.items ++ host_start site.now.host site.now.path site.now.number) }
 {
     let mut out = begin(lines)?;
     put_text(&mut out, "event", "runner_on_start")?;
-    put_text(&mut out, "host", host)?;
-    put_text(&mut out, "place", place)?;
-    put_number(&mut out, "play", play)?;
+    put_text(&mut out, "host", site.host)?;
+    put_text(&mut out, "place", site.path.as_str())?;
+    put_number(&mut out, "play", site.number)?;
     end(out)
 }
 
 /// Adds the line of a task that no host had started.
-fn task_if_new(
-    lines: Vec<u8>,
-    is_new: bool,
-    event: &str,
-    name: &str,
-    place: &str,
-    play: u32,
-) -> Result<Vec<u8>, AllocError>
-    ensures { IfOk result (λ bytes. bytes.items ≡ lines.items ++ (if is_new then task_start event.now name.now place.now play else [])) }
+fn task_if_new(lines: Vec<u8>, site: &Site) -> Result<Vec<u8>, AllocError>
+    ensures { IfOk result (λ bytes. bytes.items ≡ lines.items ++ (if site.now.decided.is_new then task_start (start_event site.now.place.handler) site.now.place.task.name site.now.path site.now.number else [])) }
 {
-    if is_new {
-        task_start(lines, event, name, place, play)
-    } else {
-        Ok(lines)
+    if !site.decided.is_new {
+        return Ok(lines);
     }
-}
-
-/// Adds the line of a task.
-fn task_start(
-    lines: Vec<u8>,
-    event: &str,
-    name: &str,
-    place: &str,
-    play: u32,
-) -> Result<Vec<u8>, AllocError>
-    ensures { IfOk result (λ bytes. bytes.items ≡ lines.items ++ task_start event.now name.now place.now play) }
-{
     let mut out = begin(lines)?;
-    put_text(&mut out, "event", event)?;
-    put_text(&mut out, "name", name)?;
-    put_text(&mut out, "place", place)?;
-    put_number(&mut out, "play", play)?;
+    put_text(&mut out, "event", start_event(site.place.handler()))?;
+    put_text(&mut out, "name", site.place.task().name.as_str())?;
+    put_text(&mut out, "place", site.path.as_str())?;
+    put_number(&mut out, "play", site.number)?;
     end(out)
 }

@@ -4,41 +4,30 @@ ghost use Rattle.std.specs.Prelude.{◌≡◌, ◌++◌, IfOk};
 ghost use Rattle.pb_events.specs.Lines.{retry_line, retried_text};
 
 use crate::line::{begin, end, put_number, put_text, put_value};
+use crate::site::Site;
 use pb_state::Retried;
 use std::alloc::AllocError;
 
 /// Adds the line of an attempt that came back, if another one comes behind it.
-pub fn retried_text(
-    lines: Vec<u8>,
-    host: &str,
-    place: &str,
-    play: u32,
-    retried: &Option<Retried>,
-) -> Result<Vec<u8>, AllocError>
-    ensures { IfOk result (λ bytes. bytes.items ≡ lines.items ++ retried_text host.now place.now play retried.now) }
+pub fn retried_text(lines: Vec<u8>, site: &Site) -> Result<Vec<u8>, AllocError>
+    ensures { IfOk result (λ bytes. bytes.items ≡ lines.items ++ retried_text site.now.host site.now.path site.now.number site.now.decided.retried) }
 {
-    match retried {
-        Some(retried) => retry_line(lines, host, place, play, retried),
+    match &site.decided.retried {
+        Some(retried) => retry_line(lines, site, retried),
         None => Ok(lines),
     }
 }
 
 /// Adds the line of that attempt: its number, and what came of it.
-fn retry_line(
-    lines: Vec<u8>,
-    host: &str,
-    place: &str,
-    play: u32,
-    retried: &Retried,
-) -> Result<Vec<u8>, AllocError>
-    ensures { IfOk result (λ bytes. bytes.items ≡ lines.items ++ retry_line host.now place.now play retried.now) }
+fn retry_line(lines: Vec<u8>, site: &Site, retried: &Retried) -> Result<Vec<u8>, AllocError>
+    ensures { IfOk result (λ bytes. bytes.items ≡ lines.items ++ retry_line site.now.host site.now.path site.now.number retried.now) }
 {
     let mut out = begin(lines)?;
     put_number(&mut out, "attempt", retried.attempt)?;
     put_text(&mut out, "event", "runner_retry")?;
-    put_text(&mut out, "host", host)?;
-    put_text(&mut out, "place", place)?;
-    put_number(&mut out, "play", play)?;
+    put_text(&mut out, "host", site.host)?;
+    put_text(&mut out, "place", site.path.as_str())?;
+    put_number(&mut out, "play", site.number)?;
     put_value(&mut out, "result", &retried.result)?;
     end(out)
 }
