@@ -39,7 +39,7 @@ under_in (Some text) None is = absurd is
 under_in (Some text) (Some n) (numeral, value, least, most) = (omega (arith, least), most)
 
 pub under_asked : (words : List (List ℕ)) (request : Request) → Asks words request → IfSome request.same_under (λ n. (0 < n) × (n ≤ 256))
-under_asked words request (none, (inventory, playbook, forks, outcomes, limit, extra, roles, facts, stop, under, failed, trail, audit, strict, purpose)) = under_in _ request.same_under under
+under_asked words request (none, (inventory, playbook, forks, outcomes, limit, extra, roles, facts, stop, under, failed, trail, audit, strict, places, purpose)) = under_in _ request.same_under under
 
 -- what was asked for was done, and then status 1 is told: nothing was done where a warning is a fault, and else the trail or the hosts that didn't get through couldn't be kept, or another run not be made
 pub done_badly : (bundle : Bundle) (wanted : Wanted) (path : Option (List ℕ)) (same_under : Option ℕ) (failed : Option (List ℕ)) (started started_after : Starts) (out_before out_after err_before err_after : Option (List ℕ)) (out_failures out_failures_after failures failures_after : ℕ) (played : Played)

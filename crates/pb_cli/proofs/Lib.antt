@@ -7,3 +7,4 @@ pub mod Ending
 pub mod Alike
 pub mod Compared
 pub mod Left
+pub mod Telling

@@ -1,4 +1,5 @@
 pub mod Files
+pub mod Places
 pub mod Messages
 pub mod Listing
 pub mod Audited

@@ -1,5 +1,9 @@
 -- What the program writes to standard error.
-use Rattle.std.specs.Prelude.{ℕ, List, [], ◌∷◌, ◌++◌, codes}
+use Rattle.std.specs.Prelude.{◌≡◌, ◌⊎◌, ℕ, Bool, List, [], ◌∷◌, ◌++◌, Option, Some, None, codes}
+use Rattle.pb_driver.specs.Taken.{with_more, one_more}
+use Rattle.pb_planning.specs.declared.bundle.BundleFault.{BundleFault}
+use Rattle.pb_planning.specs.declared.bundle.BundleFault.TheVariants as bundle
+use Rattle.pb_cli.specs.Places.{place_if}
 use Rattle.pb_cli.specs.declared.messages.Part.{Part}
 use Rattle.pb_cli.specs.declared.messages.Part.TheVariants.{Words, File, Bundle, Inventory, Extra, Playbook, Limit, Roles, Outcomes, Trail, Run}
 
@@ -24,3 +28,32 @@ message part fault = codes "pb-play: " ++ part_name part ++ codes ": " ++ fault 
 -- the fault of the file at this path, with what the system says of it
 abbrev pub file_message : (path said : List ℕ) → List ℕ
 file_message path said = message File (path ++ codes ": " ++ said)
+
+-- a place, on a line of its own
+abbrev pub place_line : Option (List ℕ) → List ℕ
+place_line None = []
+place_line (Some place) = codes "at " ++ place ++ 10 ∷ []
+
+-- a fault of a part, and behind it its place, if that is told
+abbrev pub placed_message : Part → (said : List ℕ) → (place : Option (List ℕ)) → List ℕ
+placed_message part said place = message part said ++ place_line place
+
+-- the part that a bundle's fault belongs to
+abbrev pub part_of : BundleFault → Part
+part_of (bundle.Inventory fault) = Inventory
+part_of (bundle.Playbook fault) = Playbook
+part_of (bundle.Roles fault) = Roles
+part_of (bundle.Limit fault) = Limit
+part_of (bundle.Extra fault) = Extra
+part_of bundle.BadForks = Bundle
+part_of bundle.TooLarge = Bundle
+part_of bundle.Memory = Bundle
+
+-- what a fault of a bundle is told by: what is said of it, and then its place, where that is asked for and there is one
+abbrev pub IsBundleMessage : (places : Bool) → BundleFault → List ℕ → Type 0
+IsBundleMessage places fault text = (said : List ℕ) × (text ≡ placed_message (part_of fault) said (place_if places fault))
+
+-- it was written whole, or the writer failed; or nothing was written, where memory was refused
+abbrev pub IsToldBundle : (places : Bool) → BundleFault → (before after : Option (List ℕ)) → (failures failures_after : ℕ) → Type 0
+IsToldBundle places fault before after failures failures_after =
+    ((text : List ℕ) × IsBundleMessage places fault text × ((after ≡ with_more before text) ⊎ (failures_after ≡ one_more failures))) ⊎ (after ≡ before)

@@ -3,7 +3,7 @@
 //! For the program: `play` does what its words ask for, which pb_command_line reads; `play_bundle` does what is wanted of a bundle,
 //! without files: its run by as many workers as it has forks, whose events it hands out, the audit of a trail in place of that, or
 //! what else is told of its plan; `system_launchers` gives the workers their launchers; `read_file` gives a file's bytes up to one
-//! byte over a limit; `message` and `file_message` are the texts of faults for standard error.
+//! byte over a limit; `message`, `file_message` and `bundle_message` are the texts of faults for standard error.
 #![tactic(auto)]
 
 pub mod again;
@@ -12,6 +12,7 @@ mod failed;
 pub mod files;
 pub mod listing;
 pub mod messages;
+mod places;
 pub mod playing;
 pub mod program;
 pub mod role_files;

@@ -2,14 +2,15 @@
 
 ghost use Rattle.std.specs.Prelude.{◌≡◌, ◌≢◌, ◌⊎◌, ◌<◌, ◌≤◌, ◌+◌, IfOk, IfErr, IfSome, OnErr, Some, is_some, length, map, true, string_bytes};
 ghost use Rattle.pb_value.specs.Limits.{max_bytes};
-ghost use Rattle.pb_cli.specs.Again.{IsToldAgain};
+ghost use Rattle.pb_cli.specs.Again.{IsPut, IsToldAgain};
 ghost use Rattle.pb_cli.specs.Done.{IsBundleOf, IsWantedBy, is_too_long, IsShownAs, IsDone, IsUntouched, IsCutOrUnkept, IsBroken, IsHelped, IsAnswered, IsUnended};
+ghost use Rattle.pb_cli.specs.Messages.{IsToldBundle};
 ghost use Rattle.pb_cli.specs.RoleFiles.{AreRolesIn};
 
 use crate::again::tell_again;
 use crate::failed::keep_failed;
 use crate::files::{FileFault, read_named};
-use crate::messages::{Part, file_message, message};
+use crate::messages::{Part, bundle_message, file_message, message};
 use crate::playing::{PlayFault, Played, Wanted, play_bundle};
 use crate::role_files::read_role_files;
 use pb_audit::trail_text;
@@ -73,6 +74,7 @@ struct Asked {
     failed: Option<Text>,
     trail: Option<Text>,
     same_under: Option<u32>,
+    places: bool,
 }
 
 // (by hand: it is then dropped by one call, and not part by part at each exit)
@@ -85,6 +87,7 @@ impl Drop for Asked {
             failed,
             trail,
             same_under: _,
+            places: _,
         } = self;
         drop(bundle);
         drop(wanted);
@@ -139,7 +142,7 @@ fn play_asked<
         Err(PlayFault::Run(fault, trail)) => told_run(rt, asked, err, fault, &trail),
         Err(PlayFault::Outcomes(fault)) => told(alloc, err, Part::Outcomes, &fault),
         Err(PlayFault::Trail(fault)) => told(alloc, err, Part::Trail, &fault),
-        Err(PlayFault::Bundle(fault)) => told_bundle(alloc, err, &fault),
+        Err(PlayFault::Bundle(fault)) => told_bundle(alloc, err, &fault, asked.places),
     }
 }
 
@@ -252,6 +255,7 @@ fn read_files<R: Files + AllocGlobal>(rt: &R, request: Request) -> Result<Asked,
     ensures trail { IfOk result (λ asked. asked.trail ≡ request.trail) }
     ensures under { IfOk result (λ asked. asked.same_under ≡ request.same_under) }
     ensures failed { IfOk result (λ asked. asked.failed ≡ request.failed) }
+    ensures places { IfOk result (λ asked. asked.places ≡ request.places) }
 {
     let Request {
         inventory,
@@ -268,6 +272,7 @@ fn read_files<R: Files + AllocGlobal>(rt: &R, request: Request) -> Result<Asked,
         trail,
         audit,
         strict,
+        places,
         purpose,
     } = request;
     let inventory = read_named(rt, inventory.as_str(), MAX_BYTES)?;
@@ -301,6 +306,7 @@ fn read_files<R: Files + AllocGlobal>(rt: &R, request: Request) -> Result<Asked,
         failed,
         trail,
         same_under,
+        places,
     })
 }
 
@@ -366,20 +372,13 @@ fn is_too_long(outcomes: &Option<Items<u8>>) -> bool
     }
 }
 
-/// Tells a bundle's fault, by its part.
-fn told_bundle<E: LineOut>(alloc: Global, err: &mut E, fault: &BundleFault) -> u8
-    ensures { result ≡ 1 }
+/// Tells a bundle's fault, by its part, and its place, where that is asked for.
+#[tactic(auto, using(crate::proofs::Telling::bundle_told))]
+fn told_bundle<E: LineOut>(alloc: Global, err: &mut E, fault: &BundleFault, places: bool) -> u8
+    ensures status { result ≡ 1 }
+    ensures told { IsToldBundle places fault.now (E.taken err.old) (E.taken err.new) (E.failures err.old) (E.failures err.new) }
 {
-    match fault {
-        BundleFault::Inventory(fault) => told(alloc, err, Part::Inventory, fault),
-        BundleFault::Extra(fault) => told(alloc, err, Part::Extra, fault),
-        BundleFault::Playbook(fault) => told(alloc, err, Part::Playbook, fault),
-        BundleFault::Limit(fault) => told(alloc, err, Part::Limit, fault),
-        BundleFault::Roles(fault) => told(alloc, err, Part::Roles, fault),
-        BundleFault::BadForks | BundleFault::TooLarge | BundleFault::Memory => {
-            told(alloc, err, Part::Bundle, fault)
-        }
-    }
+    told_line(err, bundle_message(alloc, fault, places))
 }
 
 /// Tells that the file of outcomes at a path is too long.
@@ -411,7 +410,9 @@ fn told<E: LineOut, F: Display>(alloc: Global, err: &mut E, part: Part, fault: &
 
 /// Writes the line of a fault, if there is memory for it. That standard error fails changes nothing: the status is 1.
 fn told_line<E: LineOut>(err: &mut E, line: Result<String, AllocError>) -> u8
-    ensures { result ≡ 1 }
+    ensures status { result ≡ 1 }
+    ensures told { IfOk line (λ text. IsPut (string_bytes text) (E.taken err.old) (E.taken err.new) (E.failures err.old) (E.failures err.new)) }
+    ensures quiet { OnErr line (E.taken err.new ≡ E.taken err.old) }
 {
     if let Ok(line) = line {
         let _ = put_all(err, line.as_bytes());

@@ -50,8 +50,9 @@ request_met app m words request is none has asked =
         sym (same (codes "trail")) ∙ asked.11,
         sym (same (codes "audit")) ∙ asked.12,
         subst (λ (found : Option Text). is_true found ≡ request.strict) (same (codes "strict")) asked.13,
+        subst (λ (found : Option Text). is_true found ≡ request.places) (same (codes "where")) asked.14,
         subst (λ (found : Option Text). purpose_of (is_true found) (is_true (value_in (codes "list_hosts") words)) ≡ request.purpose) (same (codes "syntax_check"))
-            (subst (λ (found : Option Text). purpose_of (is_true (first_value (found_of m) (codes "syntax_check"))) (is_true found) ≡ request.purpose) (same (codes "list_hosts")) asked.14),
+            (subst (λ (found : Option Text). purpose_of (is_true (first_value (found_of m) (codes "syntax_check"))) (is_true found) ≡ request.purpose) (same (codes "list_hosts")) asked.15),
       ),
     )
 

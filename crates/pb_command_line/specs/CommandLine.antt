@@ -1,5 +1,5 @@
 -- What the words of the command line mean: `pb-play -i FILE [-f N] [-l PATTERN] [-e JSON] [--roles DIR] [--facts-program PATH] [--outcomes FILE] [--stop-after N] [--same-under M] [--failed FILE] [--trail FILE]
--- [--audit TRAIL] [--syntax-check] [--list-hosts] [--strict] PLAYBOOK`, and `--help`.
+-- [--audit TRAIL] [--syntax-check] [--list-hosts] [--strict] [--where] PLAYBOOK`, and `--help`.
 -- clap's own definitions say how words are read; the program's arguments are stated here. std's say how a number is read.
 use Rattle.std.specs.Prelude.{◌≡◌, ◌≢◌, ◌⊎◌, ◌≤◌, ℕ, Bool, true, false, List, [], Some, None, Option, codes}
 use Rattle.std.specs.Str.{bytes_eq}
@@ -78,6 +78,10 @@ list_hosts = record (new_rule (codes "list_hosts")) { long = Some (codes "list-h
 abbrev pub strict : Rule
 strict = record (new_rule (codes "strict")) { long = Some (codes "strict"); action = Some SetTrue }
 
+-- `--where`
+abbrev pub places : Rule
+places = record (new_rule (codes "where")) { long = Some (codes "where"); action = Some SetTrue }
+
 abbrev pub file_program : App
 file_program = with_rule (with_rule (new_app (codes "pb-play")) inventory) playbook
 
@@ -99,8 +103,11 @@ recording_program = with_rule (with_rule stopping_program failed) trail
 abbrev pub choosing_program : App
 choosing_program = with_rule (with_rule recording_program audit) syntax_check
 
+abbrev pub warning_program : App
+warning_program = with_rule (with_rule choosing_program list_hosts) strict
+
 abbrev pub program : App
-program = with_rule (with_rule choosing_program list_hosts) strict
+program = with_rule warning_program places
 
 -- what the words, the first of which is the program's name, give an argument
 unfoldable pub value_in : Text → List Text → Option Text
@@ -171,7 +178,7 @@ IsBadNumber Memory = Unit
 
 -- what the values of the arguments, each by its name, ask for: these files, so many forks, this limit, these extra variables, this folder of roles, this facts program,
 -- this many reports until the run is stopped, so many forks with which it is done once more, this file for the hosts that didn't get through, this file for its trail, this trail to be looked at, whether warnings are faults,
--- and this purpose
+-- whether faults are told with their places, and this purpose
 abbrev pub AskFor : (Text → Option Text) → Request → Type 0
 AskFor value request = (value (codes "inventory") ≡ Some request.inventory) × (value (codes "playbook") ≡ Some request.playbook)
     × AreForks (value (codes "forks")) request.forks × (value (codes "outcomes") ≡ request.outcomes)
@@ -179,7 +186,7 @@ AskFor value request = (value (codes "inventory") ≡ Some request.inventory) ×
     × (value (codes "facts_program") ≡ request.facts_program) × IsStop (value (codes "stop_after")) request.stop_after
     × IsSameUnder (value (codes "same_under")) request.same_under
     × (value (codes "failed") ≡ request.failed) × (value (codes "trail") ≡ request.trail) × (value (codes "audit") ≡ request.audit)
-    × (is_true (value (codes "strict")) ≡ request.strict)
+    × (is_true (value (codes "strict")) ≡ request.strict) × (is_true (value (codes "where")) ≡ request.places)
     × (purpose_of (is_true (value (codes "syntax_check"))) (is_true (value (codes "list_hosts"))) ≡ request.purpose)
 
 -- why values ask for nothing to be played

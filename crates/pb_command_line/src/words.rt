@@ -1,7 +1,7 @@
 ghost use Rattle.pb_command_line.specs.declared.words.WordsFault.TheVariants.{Memory};
 ghost use Rattle.std.specs.Prelude.{◌≡◌, ◌⊎◌, IfOk, IfErr, map, codes, string_bytes};
 ghost use Rattle.clap.specs.Words.{app_of, kind_of, found_of, first_value};
-ghost use Rattle.pb_command_line.specs.CommandLine.{file_program, run_program, limited_program, gathering_program, stopping_program, recording_program, choosing_program, program, is_true, purpose_of, AskFor, AreRefused, Asks, IsCount, IsNoCount, AreForks, NoForks, IsStop, NoStop, IsSameUnder, IsReportCount, IsNoReportCount, IsBadNumber, IsRefused, TellsKind};
+ghost use Rattle.pb_command_line.specs.CommandLine.{file_program, run_program, limited_program, gathering_program, stopping_program, recording_program, choosing_program, warning_program, program, is_true, purpose_of, AskFor, AreRefused, Asks, IsCount, IsNoCount, AreForks, NoForks, IsStop, NoStop, IsSameUnder, IsReportCount, IsNoReportCount, IsBadNumber, IsRefused, TellsKind};
 
 use clap::error::ErrorKind;
 use clap::{Arg, ArgAction, ArgMatches, Command, Error};
@@ -39,6 +39,8 @@ pub struct Request {
     pub audit: Option<Text>,
     /// Whether a warning is a fault.
     pub strict: bool,
+    /// Whether a fault of the playbook or of a role's file is told with the place at which it stands.
+    pub places: bool,
     /// What is to be done with the plan.
     pub purpose: Purpose,
 }
@@ -169,7 +171,7 @@ fn recording_words<'a>(alloc: Global) -> Result<Command<'a>, AllocError>
     stopping_words(alloc)?.arg(failed)?.arg(trail)
 }
 
-/// The program with all its arguments but the last two.
+/// The program with all its arguments but the last three.
 fn choosing_words<'a>(alloc: Global) -> Result<Command<'a>, AllocError>
     ensures { IfOk result (λ c. app_of c ≡ choosing_program) }
 {
@@ -184,8 +186,9 @@ fn choosing_words<'a>(alloc: Global) -> Result<Command<'a>, AllocError>
     recording_words(alloc)?.arg(audit)?.arg(syntax_check)
 }
 
-fn command<'a>(alloc: Global) -> Result<Command<'a>, AllocError>
-    ensures { IfOk result (λ c. app_of c ≡ program) }
+/// The program with all its arguments but the last one.
+fn warning_words<'a>(alloc: Global) -> Result<Command<'a>, AllocError>
+    ensures { IfOk result (λ c. app_of c ≡ warning_program) }
 {
     let list_hosts = Arg::new(alloc, "list_hosts")
         .long("list-hosts")
@@ -196,6 +199,16 @@ fn command<'a>(alloc: Global) -> Result<Command<'a>, AllocError>
         .action(ArgAction::SetTrue)
         .help("Runs nothing where there is a warning");
     choosing_words(alloc)?.arg(list_hosts)?.arg(strict)
+}
+
+fn command<'a>(alloc: Global) -> Result<Command<'a>, AllocError>
+    ensures { IfOk result (λ c. app_of c ≡ program) }
+{
+    let places = Arg::new(alloc, "where")
+        .long("where")
+        .action(ArgAction::SetTrue)
+        .help("Tells the place of a fault in the playbook or in a role's file");
+    warning_words(alloc)?.arg(places)
 }
 
 fn fault(alloc: Global, error: &Error) -> WordsFault
@@ -365,6 +378,7 @@ fn request_in(alloc: Global, matches: &ArgMatches<'_>) -> Result<Request, WordsF
         trail,
         audit,
         strict: is_given(matches, "strict"),
+        places: is_given(matches, "where"),
         purpose: purpose_in(matches),
     })
 }

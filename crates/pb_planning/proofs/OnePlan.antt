@@ -11,6 +11,7 @@ use Rattle.pb_patterns.specs.Expressions.{AreTaken, behind}
 use Rattle.pb_patterns.specs.declared.element.Element.{Element}
 use Rattle.pb_patterns.specs.declared.selected.Selected.{Selected}
 use Rattle.pb_play.specs.Playbooks.{playbook_of, expressions_of_book}
+use Rattle.pb_play.specs.Refusals.{met_behind, AllTaken}
 use Rattle.pb_roles.specs.declared.sections.Expanded.{Expanded}
 use Rattle.pb_planning.specs.declared.bundle.Bundle.{Bundle}
 use Rattle.pb_planning.specs.declared.bundle.BundleFault.{BundleFault}
@@ -117,7 +118,7 @@ other_forks bundle forks q good is =
     let first = read_first bundle (variables_of (with_forks forks bundle)) is.readings is.read in
     let same = variables_same bundle forks first.0 good first.1 in record {
       readings = is.readings;
-      plays_taken = subst (λ (r : Result Variables BundleFault). AreTaken (behind r (λ _. expressions_of_book bundle.playbook))) same is.plays_taken;
+      plays_taken = subst (λ (r : Result Variables BundleFault). AllTaken (met_behind r (λ _. expressions_of_book bundle.playbook))) same is.plays_taken;
       limit_taken =
           subst (λ (r : Result Variables BundleFault). AreTaken (behind (and_then r (λ _. in_part InPlaybook (playbook_of bundle.playbook))) (λ _. expressions_of_limit bundle.limit))) same is.limit_taken;
       read = ap (then_read bundle) (sym same) ∙ is.read;

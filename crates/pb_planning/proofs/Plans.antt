@@ -18,6 +18,7 @@ use Rattle.pb_patterns.specs.declared.selected.Selected.{Selected}
 use Rattle.pb_patterns.specs.declared.fault.PatFault.{PatFault}
 use Rattle.pb_patterns.specs.declared.fault.PatFault.TheVariants.{BadRegex}
 use Rattle.pb_play.specs.Playbooks.{playbook_of, expressions_of_book}
+use Rattle.pb_play.specs.Refusals.{AllTaken, IsFirstFaultAt}
 use Rattle.pb_written.specs.declared.fault.LoadFault.{LoadFault}
 use Rattle.pb_written.specs.declared.fault.LoadFault.TheVariants.{BadPattern}
 use Rattle.pb_roles.specs.Plays.{IsBuilt, expansion_of}
@@ -72,9 +73,9 @@ rest_built old rest play steps built = All-tail IsBuilt play rest (subst (All Is
 pub first_built : (old rest : List Expanded) (play : Expanded) → old ≡ play ∷ rest → All IsBuilt old → IsBuilt play
 first_built old rest play steps built = All-head IsBuilt play rest (subst (All IsBuilt) steps built)
 
-pub playbook_fault : (bytes : List ℕ) (fault : LoadFault) → IsFirstFault (expressions_of_book bytes) (playbook_of bytes) BadPattern fault → IsPlaybookFault bytes (InPlaybook fault)
+pub playbook_fault : (bytes : List ℕ) (fault : LoadFault) → IsFirstFaultAt (expressions_of_book bytes) (playbook_of bytes) BadPattern fault → IsPlaybookFault bytes (InPlaybook fault)
 playbook_fault bytes fault (inl (taken, is)) = inl (taken, ap (in_part InPlaybook) is)
-playbook_fault bytes fault (inr (is, refused)) = inr (ap InPlaybook is, refused)
+playbook_fault bytes fault (inr (path, is, refused)) = inr (path, ap InPlaybook is, refused)
 
 pub limit_fault : (text : List ℕ) (fault : PatFault) → IsFirstFault (expressions_of (text ∷ [])) (pattern_of (text ∷ [])) BadRegex fault → IsLimitFault (Some text) (Limit fault)
 limit_fault text fault (inl (taken, is)) = inl (taken, rw is refl)
@@ -124,9 +125,9 @@ book_fault bundle inventory extra fault has bad = inl (rw (variables_read bundle
 pub record HasBook (bundle : Bundle) (inventory : InventoryOf) (extra : Map) (book : Playbook) : Type 0 where
   pub variables : HasVariables bundle inventory extra
   pub read : in_part InPlaybook (playbook_of bundle.playbook) ≡ Ok book
-  pub taken : AreTaken (expressions_of_book bundle.playbook)
+  pub taken : AllTaken (expressions_of_book bundle.playbook)
 
-plays_taken : (bundle : Bundle) (inventory : InventoryOf) (extra : Map) (book : Playbook) → HasBook bundle inventory extra book → AreTaken (expressions_in_plays bundle)
+plays_taken : (bundle : Bundle) (inventory : InventoryOf) (extra : Map) (book : Playbook) → HasBook bundle inventory extra book → AllTaken (expressions_in_plays bundle)
 plays_taken bundle inventory extra book has = rw (variables_read bundle inventory extra has.variables) has.taken
 
 behind_book : (bundle : Bundle) (inventory : InventoryOf) (extra : Map) (book : Playbook) → HasBook bundle inventory extra book

@@ -20,6 +20,7 @@ use Rattle.pb_patterns.specs.declared.element.Element.{Element}
 use Rattle.pb_patterns.specs.declared.selected.Selected.{Selected}
 use Rattle.pb_play.specs.declared.playbook.Playbook.{Playbook}
 use Rattle.pb_play.specs.Playbooks.{playbook_of, expressions_of_book}
+use Rattle.pb_play.specs.Refusals.{Placed, met_behind, AllTaken, IsFirstFaultAt}
 use Rattle.pb_roles.specs.Plays.{expansion_of}
 use Rattle.pb_roles.specs.declared.files.RoleFile.{RoleFile}
 use Rattle.pb_roles.specs.declared.sections.Expanded.{Expanded}
@@ -117,8 +118,8 @@ abbrev pub readings_of : Bundle → Result Readings BundleFault
 readings_of bundle = and_then (variables_of bundle) (λ variables. and_then (in_part InPlaybook (playbook_of bundle.playbook)) (limited bundle variables))
 
 -- the regular expressions that are met in the plays' patterns: none, where a fault stands in front of the playbook
-abbrev pub expressions_in_plays : Bundle → List (List ℕ)
-expressions_in_plays bundle = behind (variables_of bundle) (λ _. expressions_of_book bundle.playbook)
+abbrev pub expressions_in_plays : Bundle → List Placed
+expressions_in_plays bundle = met_behind (variables_of bundle) (λ _. expressions_of_book bundle.playbook)
 
 -- those that are met in the limit: none, where a fault stands in front of it
 abbrev pub expressions_in_limit : Bundle → List (List ℕ)
@@ -172,14 +173,18 @@ pub record IsPlanIn (inventory : InventoryOf) (extra : Map) (limit : Option (Lis
 
 pub record IsPlanOf (bundle : Bundle) (plan : PlanOf) : Type 0 where
   pub readings : Readings
-  pub plays_taken : AreTaken (expressions_in_plays bundle)
+  pub plays_taken : AllTaken (expressions_in_plays bundle)
   pub limit_taken : AreTaken (expressions_in_limit bundle)
   pub read : readings_of bundle ≡ Ok readings
   pub planned : IsPlanIn readings.inventory readings.extra readings.limit bundle.forks bundle.has_facts_program readings.plays plan
 
+-- hosts of a play that are no pattern
+abbrev pub bad_hosts : List ℕ → BundleFault
+bad_hosts path = InPlaybook (BadPattern path)
+
 -- the first fault of a playbook, and of a limit, as faults of a bundle
 abbrev pub IsPlaybookFault : List ℕ → BundleFault → Type 0
-IsPlaybookFault bytes fault = IsFirstFault (expressions_of_book bytes) (in_part InPlaybook (playbook_of bytes)) (InPlaybook BadPattern) fault
+IsPlaybookFault bytes fault = IsFirstFaultAt (expressions_of_book bytes) (in_part InPlaybook (playbook_of bytes)) bad_hosts fault
 
 abbrev pub IsLimitFault : Option (List ℕ) → BundleFault → Type 0
 IsLimitFault limit fault = IsFirstFault (expressions_of_limit limit) (limit_of limit) (Limit BadRegex) fault
@@ -187,8 +192,8 @@ IsLimitFault limit fault = IsFirstFault (expressions_of_limit limit) (limit_of l
 -- The first fault of a bundle: it is met up to the end of the playbook; or the expressions of the plays are taken, and it is the first fault of all.
 abbrev pub IsBundleFault : Bundle → BundleFault → Type 0
 IsBundleFault bundle fault =
-    IsFirstFault (expressions_in_plays bundle) (book_of bundle) (InPlaybook BadPattern) fault
-    ⊎ (AreTaken (expressions_in_plays bundle) × IsFirstFault (expressions_in_limit bundle) (readings_of bundle) (Limit BadRegex) fault)
+    IsFirstFaultAt (expressions_in_plays bundle) (book_of bundle) bad_hosts fault
+    ⊎ (AllTaken (expressions_in_plays bundle) × IsFirstFault (expressions_in_limit bundle) (readings_of bundle) (Limit BadRegex) fault)
 
 -- a bundle has no more than one plan
 abbrev pub PlansAreOne : Type 0

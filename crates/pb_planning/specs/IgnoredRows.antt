@@ -6,10 +6,10 @@ use Rattle.pb_strategies.specs.declared.strategy.Strategy.{Strategy}
 use Rattle.pb_strategies.specs.declared.strategy.Strategy.TheVariants.{Linear, Free, HostPinned}
 
 -- a play is warned by the name by which it names its strategy
-named_as_written : (strategy : Strategy) → strategy_of (name_of strategy) ≡ Ok strategy
-named_as_written Linear = refl
-named_as_written Free = refl
-named_as_written HostPinned = refl
+named_as_written : (path : List ℕ) (strategy : Strategy) → strategy_of path (name_of strategy) ≡ Ok strategy
+named_as_written path Linear = refl
+named_as_written path Free = refl
+named_as_written path HostPinned = refl
 
 all_are_heeded : ignored_lines Linear (record { any_errors_fatal = true; max_fail_percentage = true; run_once = true }) ≡ []
 all_are_heeded = refl

@@ -6,6 +6,7 @@ ghost use Rattle.pb_inventory.specs.Reading.{inventory_of};
 ghost use Rattle.pb_patterns.specs.Expressions.{AreTaken};
 ghost use Rattle.pb_inventory.specs.Vars.{strangers};
 ghost use Rattle.pb_play.specs.Playbooks.{playbook_of, expressions_of_book};
+ghost use Rattle.pb_play.specs.Refusals.{AllTaken};
 ghost use Rattle.pb_roles.specs.Plays.{expansion_of, IsBuilt};
 ghost use Rattle.pb_plan.specs.Plan.{Fits};
 ghost use Rattle.pb_planning.specs.Bundle.{in_part, limit_of, expressions_of_limit, extra_in, lines_of_play, stranger_line, unmatched_line, IsLimit, IsPlayOf, ArePlaysOf, IsPlanIn, IsPlanOf, IsBundleFault, IsPlaybookFault, IsLimitFault};
@@ -61,7 +62,7 @@ fn extra_in(alloc: Global, extra: &Option<Text>) -> Result<Dict, BundleFault>
 /// The playbook of a bundle.
 fn playbook_in(alloc: Global, bundle: &Bundle) -> Result<Playbook, BundleFault>
     ensures value { IfOk result (λ p. in_part BundleFault.Playbook (playbook_of bundle.now.playbook) ≡ Ok p) }
-    ensures taken { OnOk result (AreTaken (expressions_of_book bundle.now.playbook)) }
+    ensures taken { OnOk result (AllTaken (expressions_of_book bundle.now.playbook)) }
     ensures limit { IfOk result (λ p. length p.plays ≤ 256) }
     ensures fault { IfErr result (λ e. e ≢ BundleFault.Memory → IsPlaybookFault bundle.now.playbook e) }
 {

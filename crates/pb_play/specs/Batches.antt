@@ -37,12 +37,12 @@ entry_in (json.array ds) = None
 entry_in (json.object ms) = None
 
 -- whatever is no size, of whatever kind it is
-abbrev pub sure : Option Entry → Reading Entry LoadFault
-sure (Some e) = Ok e
-sure None = Err (Own BadSerial)
+abbrev pub sure : List ℕ → Option Entry → Reading Entry LoadFault
+sure path (Some e) = Ok e
+sure path None = Err (Own (BadSerial path))
 
 abbrev pub entry : List ℕ → json.Data → Reading Entry LoadFault
-entry path d = sure (entry_in d)
+entry path d = sure path (entry_in d)
 
 -- the sizes in their order
 abbrev pub sizes : List Entry → Serial

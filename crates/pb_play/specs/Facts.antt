@@ -19,7 +19,7 @@ use Rattle.pb_play.specs.declared.modules.Module.TheVariants as called
 -- one fact more: its name is that of a variable, and the texts of its value are templates; facts aren't kept beyond the run
 abbrev pub one_more_fact : Facts → List ℕ → List ℕ → json.Data → Reading Facts LoadFault
 one_more_fact told path k d =
-    if bytes_eq k (codes "cacheable") then refused_key k
+    if bytes_eq k (codes "cacheable") then refused_key path k
     else (if is_name k then map_ok (λ v. record { facts = put k v told.facts }) (template_value path d) else wrong path)
 
 abbrev pub set_fact : List ℕ → json.Data → Reading Module LoadFault

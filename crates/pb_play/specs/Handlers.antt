@@ -13,15 +13,15 @@ use Rattle.pb_play.specs.declared.task.Modules.TheVariants.{Nothing}
 use Rattle.pb_play.specs.declared.task.Told.{Told}
 
 -- a handler behind its keys up to `ignore_errors`; one that doesn't say so listens to no topic
-abbrev pub rest_of_handler : Told → Part Modules LoadFault Handler
-rest_of_handler told = do
+abbrev pub rest_of_handler : List ℕ → Told → Part Modules LoadFault Handler
+rest_of_handler path told = do
   listens ← key_or (codes "listen") texts []
   looped ← looping
-  task ← rest_of_task told looped
+  task ← rest_of_task path told looped
   rule (Ok (record { task = task; listens = listens }))
 
 -- a handler
 unfoldable pub handler : List ℕ → json.Data → Reading Handler LoadFault
-handler = object Nothing do
+handler path = object Nothing (do
   told ← told
-  rest_of_handler told
+  rest_of_handler path told) path

@@ -4,14 +4,13 @@ use Rattle.std.specs.Prelude.{ℕ, Bool, false, ◌||◌, List, [], ◌∷◌, �
 use Rattle.std.specs.List.{starts_with, list_any}
 use Rattle.serde_json.specs.Data as json
 use Rattle.pb_value.specs.Reading.{and_then}
-use Rattle.pb_patterns.specs.Expressions.{behind}
 use Rattle.pb_patterns.specs.Reading.{pattern_of, expressions_of}
 use Rattle.pb_patterns.specs.declared.element.Element.{Element}
 use Rattle.pb_patterns.specs.declared.fault.PatFault.{PatFault}
-use Rattle.pb_reading.specs.Reading.{Reading, Own}
+use Rattle.pb_reading.specs.Reading.{Reading}
 use Rattle.pb_written.specs.Texts.{texts}
 use Rattle.pb_written.specs.declared.fault.LoadFault.{LoadFault}
-use Rattle.pb_written.specs.declared.fault.LoadFault.TheVariants.{BadPattern}
+use Rattle.pb_play.specs.Refusals.{Placed, bad_pattern, met_at, met_behind}
 use Rattle.pb_play.specs.declared.hosts.PlayHosts.{PlayHosts}
 
 -- `{{` stands somewhere in a text
@@ -20,13 +19,13 @@ has_braces [] = false
 has_braces (b ∷ bs) = starts_with nat_eq (b ∷ bs) (codes "{{") || has_braces bs
 
 -- a pattern, as it was read: where it is none, for whatever cause, that is BadPattern
-abbrev pub as_read : Result (List Element) PatFault → Reading (List Element) LoadFault
-as_read (Ok elements) = Ok elements
-as_read (Err e) = Err (Own BadPattern)
+abbrev pub as_read : List ℕ → Result (List Element) PatFault → Reading (List Element) LoadFault
+as_read path (Ok elements) = Ok elements
+as_read path (Err e) = Err (bad_pattern path)
 
 -- the pattern that texts spell, taken together; `{{` may stand in none of them
-abbrev pub pattern : List (List ℕ) → Reading (List Element) LoadFault
-pattern ts = if list_any has_braces ts then Err (Own BadPattern) else as_read (pattern_of ts)
+abbrev pub pattern : List ℕ → List (List ℕ) → Reading (List Element) LoadFault
+pattern path ts = if list_any has_braces ts then Err (bad_pattern path) else as_read path (pattern_of ts)
 
 -- the regular expressions that are met in it
 abbrev pub expressions_in : List (List ℕ) → List (List ℕ)
@@ -44,8 +43,8 @@ joined (t ∷ ts) = t ++ behind_commas ts
 
 -- the kinds of all values come first, and then what the texts mean
 abbrev pub hosts : List ℕ → json.Data → Reading PlayHosts LoadFault
-hosts path d = and_then (texts path d) (λ ts. and_then (pattern ts) (λ elements. Ok (record { text = joined ts; pattern = elements })))
+hosts path d = and_then (texts path d) (λ ts. and_then (pattern path ts) (λ elements. Ok (record { text = joined ts; pattern = elements })))
 
 -- the regular expressions that are met in them
-abbrev pub expressions_of_hosts : List ℕ → json.Data → List (List ℕ)
-expressions_of_hosts path d = behind (texts path d) expressions_in
+abbrev pub expressions_of_hosts : List ℕ → json.Data → List Placed
+expressions_of_hosts path d = met_behind (texts path d) (λ ts. met_at path (expressions_in ts))

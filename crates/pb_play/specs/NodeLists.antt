@@ -43,7 +43,7 @@ nodes_of reads path d = wrong path
 
 -- blocks inside one another that are too many: nothing in such a block is looked at
 abbrev pub too_deep : Lists
-too_deep path d = Err (Own (TooLarge Blocks))
+too_deep path d = Err (Own (TooLarge Blocks path))
 
 -- a block in a list in which so many blocks may stand inside one another: in its own lists there is room for one fewer
 abbrev pub inner : ℕ → Lists

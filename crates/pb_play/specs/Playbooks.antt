@@ -4,10 +4,10 @@ use Rattle.std.specs.Prelude.{ℕ, ◌+◌, List, [], ◌++◌, Result, Ok, Err,
 use Rattle.serde_json.specs.Data as json
 use Rattle.pb_value.specs.Bytes.{json_in}
 use Rattle.pb_value.specs.Reading.{below}
-use Rattle.pb_patterns.specs.Expressions.{behind}
 use Rattle.pb_reading.specs.Reading.{Reading, Own, wrong, each}
 use Rattle.pb_written.specs.Faults.{as_load_fault}
 use Rattle.pb_play.specs.Plays.{play, expressions_of_play}
+use Rattle.pb_play.specs.Refusals.{Placed, met_behind}
 use Rattle.pb_written.specs.declared.fault.LoadFault.{LoadFault}
 use Rattle.pb_written.specs.declared.fault.LoadFault.TheVariants as load
 use Rattle.pb_written.specs.declared.fault.LoadFault.TheVariants.{TooLarge}
@@ -25,7 +25,7 @@ abbrev pub max_plays : ℕ
 max_plays = 256
 
 abbrev pub plays : json.Data → Reading (List Play) LoadFault
-plays (json.array ds) = if nat_lt max_plays (count ds) then Err (Own (TooLarge Plays)) else each play [] 0 ds
+plays (json.array ds) = if nat_lt max_plays (count ds) then Err (Own (TooLarge Plays [])) else each play [] 0 ds
 plays d = wrong []
 
 abbrev pub as_playbook : Reading (List Play) LoadFault → Result Playbook LoadFault
@@ -41,18 +41,18 @@ unfoldable pub playbook_of : List ℕ → Result Playbook LoadFault
 playbook_of bytes = of_json (json_in bytes)
 
 -- the regular expressions that are met in the plays of a list, from the one numbered i on: in their order, up to the first fault
-abbrev pub each_expression : List ℕ → ℕ → json.Items → List (List ℕ)
+abbrev pub each_expression : List ℕ → ℕ → json.Items → List Placed
 each_expression path i json.no_items = []
-each_expression path i (json.item d ds) = expressions_of_play (below path (decimal i)) d ++ behind (play (below path (decimal i)) d) (λ _. each_expression path (i + 1) ds)
+each_expression path i (json.item d ds) = expressions_of_play (below path (decimal i)) d ++ met_behind (play (below path (decimal i)) d) (λ _. each_expression path (i + 1) ds)
 
-abbrev pub expressions_of_plays : json.Data → List (List ℕ)
+abbrev pub expressions_of_plays : json.Data → List Placed
 expressions_of_plays (json.array ds) = if nat_lt max_plays (count ds) then [] else each_expression [] 0 ds
 expressions_of_plays d = []
 
-abbrev pub expressions_in : Option json.Data → List (List ℕ)
+abbrev pub expressions_in : Option json.Data → List Placed
 expressions_in None = []
 expressions_in (Some d) = expressions_of_plays d
 
 -- those that are met in a playbook
-unfoldable pub expressions_of_book : List ℕ → List (List ℕ)
+unfoldable pub expressions_of_book : List ℕ → List Placed
 expressions_of_book bytes = expressions_in (json_in bytes)

@@ -4,7 +4,6 @@ use Rattle.serde_json.specs.Data as json
 use Rattle.pb_value.specs.Datum.{Datum}
 use Rattle.pb_value.specs.Reading.{below}
 use Rattle.pb_patterns.specs.declared.element.Element.{Element}
-use Rattle.pb_patterns.specs.Expressions.{behind}
 use Rattle.pb_reading.specs.Fields.{◌>>=◌, Part, others, object, rule, value_at}
 use Rattle.pb_reading.specs.Reading.{Reading, each_of, required}
 use Rattle.pb_reading.specs.Simple.{text}
@@ -17,6 +16,7 @@ use Rattle.pb_play.specs.NodeLists.{node_list}
 use Rattle.pb_play.specs.Nodes.{Nothing}
 use Rattle.pb_play.specs.NoEffect.{has_no_effect, key, key_or}
 use Rattle.pb_play.specs.Percentages.{percentage}
+use Rattle.pb_play.specs.Refusals.{Placed, met_behind}
 use Rattle.pb_written.specs.Simple.{switched}
 use Rattle.pb_play.specs.Strategies.{strategy}
 use Rattle.pb_play.specs.Variables.{variables}
@@ -109,12 +109,12 @@ play path = object (record {}) (do
   rest_of_play path before hosts) path
 
 -- the regular expressions that are met in a play: those of its hosts, where the keys before them have no fault
-abbrev pub expressions_at : List ℕ → Option json.Data → List (List ℕ)
+abbrev pub expressions_at : List ℕ → Option json.Data → List Placed
 expressions_at path None = []
 expressions_at path (Some d) = expressions_of_hosts path d
 
-unfoldable pub expressions_of_play : List ℕ → json.Data → List (List ℕ)
+unfoldable pub expressions_of_play : List ℕ → json.Data → List Placed
 expressions_of_play path (json.object ms) =
-    behind (before_hosts (record { path = path; members = ms; told = record {} })) (λ before.
-    behind (value_at has_no_effect (codes "hosts") before.ahead) (λ hosts. expressions_at (below path (codes "hosts")) hosts.value))
+    met_behind (before_hosts (record { path = path; members = ms; told = record {} })) (λ before.
+    met_behind (value_at has_no_effect (codes "hosts") before.ahead) (λ hosts. expressions_at (below path (codes "hosts")) hosts.value))
 expressions_of_play path d = []

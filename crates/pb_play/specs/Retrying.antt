@@ -6,7 +6,7 @@ use Rattle.pb_expr_syntax.specs.Tree.{Tree}
 use Rattle.pb_reading.specs.Fields.{◌>>=◌, Part, Telling, field, rule}
 use Rattle.pb_reading.specs.Reading.{Reading, wrong, required}
 use Rattle.pb_written.specs.Conditions.{conditions}
-use Rattle.pb_written.specs.Faults.{refused_key}
+use Rattle.pb_written.specs.Faults.{refused_below}
 use Rattle.pb_written.specs.declared.fault.LoadFault.{LoadFault}
 use Rattle.pb_play.specs.Couplings.{runs}
 use Rattle.pb_play.specs.Modules.{is_program}
@@ -39,13 +39,13 @@ tries tells = do
   rule (Ok (record { retries = retries; runs = runs; until = until }))
 
 -- only a program is tried more than once: on any other task these keys are refused
-abbrev pub not_tried_again : Option (List Tree) → Option ℕ → Reading Unit LoadFault
-not_tried_again None None = Ok tt
-not_tried_again None (Some n) = refused_key (codes "retries")
-not_tried_again (Some until) retries = refused_key (codes "until")
+abbrev pub not_tried_again : List ℕ → Option (List Tree) → Option ℕ → Reading Unit LoadFault
+not_tried_again path None None = Ok tt
+not_tried_again path None (Some n) = refused_below path (codes "retries")
+not_tried_again path (Some until) retries = refused_below path (codes "until")
 
-abbrev pub may_retry : Module → Tries → Reading Unit LoadFault
-may_retry called tries = if is_program called then Ok tt else not_tried_again tries.until tries.retries
+abbrev pub may_retry : List ℕ → Module → Tries → Reading Unit LoadFault
+may_retry path called tries = if is_program called then Ok tt else not_tried_again path tries.until tries.retries
 
 -- a task that says neither until when nor how often is tried once; where it says one of them, three attempts may follow the first one, five seconds apart,
 -- unless it says otherwise

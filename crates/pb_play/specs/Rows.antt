@@ -1,5 +1,5 @@
 -- Worked playbooks: what their texts spell, or the first fault in them.
-use Rattle.std.specs.Prelude.{◌≡◌, ⊤, pos, true, false, List, [], ◌∷◌, Some, None, Ok, Err, codes, refl}
+use Rattle.std.specs.Prelude.{◌≡◌, ⊤, pos, true, false, List, [], ◌∷◌, ◌++◌, Some, None, Ok, Err, codes, refl}
 use Rattle.std.specs.Fmt.{digits}
 use Rattle.std.specs.Str.{chars, is_utf8}
 use Rattle.std.specs.Str.Lossy.{utf8_valid_len}
@@ -23,6 +23,7 @@ use Rattle.pb_play.specs.Handlers.{handler}
 use Rattle.pb_play.specs.Playbooks.{playbook_of, expressions_of_book}
 use Rattle.pb_reading.specs.Fields.{field, field_or, others}
 use Rattle.pb_play.specs.Plays.{play, expressions_of_play}
+use Rattle.pb_play.specs.Refusals.{met_at}
 use Rattle.pb_play.specs.NodeLists.{nodes}
 use Rattle.pb_play.specs.Nodes.{Written, Nothing, Task}
 use Rattle.pb_play.specs.Tasks.{task, tells_of_task, plain_task}
@@ -64,7 +65,7 @@ unfolding on_literals
 cut_off = refl
 
 -- keys are looked at in byte order, wherever they stand
-unknown_key : playbook_of (codes "[{\"hosts\":3,\"gather_facts\":true,\"become\":true}]") ≡ Err (NotInProfile (codes "become"))
+unknown_key : playbook_of (codes "[{\"hosts\":3,\"gather_facts\":true,\"become\":true}]") ≡ Err (NotInProfile (codes "become") (codes "0/become"))
 unfolding on_literals
 unknown_key = refl
 
@@ -83,15 +84,15 @@ unfolding on_literals
 template = refl
 
 -- there is no such operator
-no_template : playbook_of (codes "[{\"hosts\":\"all\",\"gather_facts\":false,\"tasks\":[{\"debug\":{\"msg\":\"{{ 2 * 3 }}\"}}]}]") ≡ Err BadExpression
+no_template : playbook_of (codes "[{\"hosts\":\"all\",\"gather_facts\":false,\"tasks\":[{\"debug\":{\"msg\":\"{{ 2 * 3 }}\"}}]}]") ≡ Err (BadExpression (codes "0/tasks/0/debug/msg"))
 unfolding on_literals
 no_template = refl
 
-no_module : playbook_of (codes "[{\"hosts\":\"all\",\"gather_facts\":false,\"tasks\":[{}]}]") ≡ Err NoModule
+no_module : playbook_of (codes "[{\"hosts\":\"all\",\"gather_facts\":false,\"tasks\":[{}]}]") ≡ Err (NoModule (codes "0/tasks/0"))
 unfolding on_literals
 no_module = refl
 
-two_modules : playbook_of (codes "[{\"hosts\":\"all\",\"gather_facts\":false,\"tasks\":[{\"debug\":{},\"ansible.builtin.debug\":{}}]}]") ≡ Err TwoModules
+two_modules : playbook_of (codes "[{\"hosts\":\"all\",\"gather_facts\":false,\"tasks\":[{\"debug\":{},\"ansible.builtin.debug\":{}}]}]") ≡ Err (TwoModules (codes "0/tasks/0"))
 unfolding on_literals
 two_modules = refl
 
@@ -185,8 +186,8 @@ empty_regex : playbook_of (codes "[{\"hosts\":\"~\",\"gather_facts\":false}]")
 unfolding on_literals
 empty_regex = refl
 
--- the expressions that are met: each play's in the order of the plays, up to the first fault
-expressions_met : expressions_of_book (codes "[{\"hosts\":\"a,~(\",\"gather_facts\":false},{\"hosts\":[\"~b\",\"!~c\"],\"tasks\":3},{\"hosts\":\"~d\"}]") ≡ codes "(" ∷ codes "b" ∷ codes "c" ∷ []
+-- the expressions that are met: each play's in the order of the plays, with the path of its hosts, up to the first fault
+expressions_met : expressions_of_book (codes "[{\"hosts\":\"a,~(\",\"gather_facts\":false},{\"hosts\":[\"~b\",\"!~c\"],\"tasks\":3},{\"hosts\":\"~d\"}]") ≡ met_at (codes "0/hosts") (codes "(" ∷ []) ++ met_at (codes "1/hosts") (codes "b" ∷ codes "c" ∷ [])
 unfolding on_literals
 expressions_met = refl
 
@@ -195,19 +196,19 @@ unfolding on_literals
 no_expression_met = refl
 
 -- there has to be an element
-no_texts : playbook_of (codes "[{\"hosts\":[]}]") ≡ Err BadPattern
+no_texts : playbook_of (codes "[{\"hosts\":[]}]") ≡ Err (BadPattern (codes "0/hosts"))
 unfolding on_literals
 no_texts = refl
 
-no_elements : playbook_of (codes "[{\"hosts\":[\" \",\",\"]}]") ≡ Err BadPattern
+no_elements : playbook_of (codes "[{\"hosts\":[\" \",\",\"]}]") ≡ Err (BadPattern (codes "0/hosts"))
 unfolding on_literals
 no_elements = refl
 
-bad_subscript : playbook_of (codes "[{\"hosts\":\"web[x]\"}]") ≡ Err BadPattern
+bad_subscript : playbook_of (codes "[{\"hosts\":\"web[x]\"}]") ≡ Err (BadPattern (codes "0/hosts"))
 unfolding on_literals
 bad_subscript = refl
 
-template_in_hosts : playbook_of (codes "[{\"hosts\":[\"a\",\"b{{ x }}\"]}]") ≡ Err BadPattern
+template_in_hosts : playbook_of (codes "[{\"hosts\":[\"a\",\"b{{ x }}\"]}]") ≡ Err (BadPattern (codes "0/hosts"))
 unfolding on_literals
 template_in_hosts = refl
 
@@ -262,19 +263,19 @@ without_effect_on_tasks : playbook_of (codes "[{\"hosts\":\"all\",\"gather_facts
 unfolding on_literals
 without_effect_on_tasks = refl
 
-tag_never : playbook_of (codes "[{\"hosts\":\"all\",\"gather_facts\":false,\"tags\":\"a, never\"}]") ≡ Err (NotInProfile (codes "never"))
+tag_never : playbook_of (codes "[{\"hosts\":\"all\",\"gather_facts\":false,\"tags\":\"a, never\"}]") ≡ Err (NotInProfile (codes "never") (codes "0/tags"))
 unfolding on_literals
 tag_never = refl
 
-tags_never : playbook_of (codes "[{\"hosts\":\"all\",\"gather_facts\":false,\"tasks\":[{\"debug\":{},\"tags\":[\"a\",\"never ,b\"]}]}]") ≡ Err (NotInProfile (codes "never"))
+tags_never : playbook_of (codes "[{\"hosts\":\"all\",\"gather_facts\":false,\"tasks\":[{\"debug\":{},\"tags\":[\"a\",\"never ,b\"]}]}]") ≡ Err (NotInProfile (codes "never") (codes "0/tasks/0/tags"))
 unfolding on_literals
 tags_never = refl
 
-other_connection : playbook_of (codes "[{\"hosts\":\"all\",\"connection\":\"ssh\"}]") ≡ Err (NotInProfile (codes "connection"))
+other_connection : playbook_of (codes "[{\"hosts\":\"all\",\"connection\":\"ssh\"}]") ≡ Err (NotInProfile (codes "connection") (codes "0/connection"))
 unfolding on_literals
 other_connection = refl
 
-no_switch : playbook_of (codes "[{\"hosts\":\"all\",\"no_log\":5}]") ≡ Err (NotInProfile (codes "no_log"))
+no_switch : playbook_of (codes "[{\"hosts\":\"all\",\"no_log\":5}]") ≡ Err (NotInProfile (codes "no_log") (codes "0/no_log"))
 unfolding on_literals
 no_switch = refl
 
@@ -371,7 +372,7 @@ setups : playbook_of (codes "[{\"hosts\":\"all\",\"gather_facts\":false,\"tasks\
 unfolding on_literals
 setups = refl
 
-argument_of_setup : playbook_of (codes "[{\"hosts\":\"all\",\"tasks\":[{\"setup\":{\"filter\":\"os\"}}]}]") ≡ Err (NotInProfile (codes "filter"))
+argument_of_setup : playbook_of (codes "[{\"hosts\":\"all\",\"tasks\":[{\"setup\":{\"filter\":\"os\"}}]}]") ≡ Err (NotInProfile (codes "filter") (codes "0/tasks/0/setup/filter"))
 unfolding on_literals
 argument_of_setup = refl
 
@@ -384,7 +385,7 @@ neither_form : playbook_of (codes "[{\"hosts\":\"all\",\"tasks\":[{\"command\":{
 unfolding on_literals
 neither_form = refl
 
-unknown_argument : playbook_of (codes "[{\"hosts\":\"all\",\"tasks\":[{\"command\":{\"argv\":[],\"chdir\":1,\"cmd\":1}}]}]") ≡ Err (NotInProfile (codes "chdir"))
+unknown_argument : playbook_of (codes "[{\"hosts\":\"all\",\"tasks\":[{\"command\":{\"argv\":[],\"chdir\":1,\"cmd\":1}}]}]") ≡ Err (NotInProfile (codes "chdir") (codes "0/tasks/0/command/chdir"))
 unfolding on_literals
 unknown_argument = refl
 
@@ -393,7 +394,7 @@ refused_word : playbook_of (codes "[{\"hosts\":\"all\",\"tasks\":[{\"command\":{
 unfolding on_literals
 refused_word = refl
 
-no_words_for_shell : playbook_of (codes "[{\"hosts\":\"all\",\"tasks\":[{\"shell\":{\"argv\":[]}}]}]") ≡ Err (NotInProfile (codes "argv"))
+no_words_for_shell : playbook_of (codes "[{\"hosts\":\"all\",\"tasks\":[{\"shell\":{\"argv\":[]}}]}]") ≡ Err (NotInProfile (codes "argv") (codes "0/tasks/0/shell/argv"))
 unfolding on_literals
 no_words_for_shell = refl
 
@@ -402,11 +403,11 @@ unfolding on_literals
 no_arguments_of_fail = refl
 
 -- the kinds of values come first, and then their texts, at any depth but for keys
-no_template_in_command : playbook_of (codes "[{\"hosts\":\"all\",\"tasks\":[{\"command\":\"run {{ item\"}]}]") ≡ Err BadExpression
+no_template_in_command : playbook_of (codes "[{\"hosts\":\"all\",\"tasks\":[{\"command\":\"run {{ item\"}]}]") ≡ Err (BadExpression (codes "0/tasks/0/command"))
 unfolding on_literals
 no_template_in_command = refl
 
-no_template_in_word : playbook_of (codes "[{\"hosts\":\"all\",\"tasks\":[{\"command\":{\"argv\":[[\"{% x\"]]}}]}]") ≡ Err BadExpression
+no_template_in_word : playbook_of (codes "[{\"hosts\":\"all\",\"tasks\":[{\"command\":{\"argv\":[[\"{% x\"]]}}]}]") ≡ Err (BadExpression (codes "0/tasks/0/command/argv"))
 unfolding on_literals
 no_template_in_word = refl
 
@@ -463,7 +464,7 @@ no_variables : playbook_of (codes "[{\"hosts\":\"all\",\"tasks\":[{\"debug\":{},
 unfolding on_literals
 no_variables = refl
 
-no_template_in_variable : playbook_of (codes "[{\"hosts\":\"all\",\"vars\":{\"x\":\"{{ }}\"}}]") ≡ Err BadExpression
+no_template_in_variable : playbook_of (codes "[{\"hosts\":\"all\",\"vars\":{\"x\":\"{{ }}\"}}]") ≡ Err (BadExpression (codes "0/vars/x"))
 unfolding on_literals
 no_template_in_variable = refl
 
@@ -473,7 +474,7 @@ shown : playbook_of (codes "[{\"hosts\":\"all\",\"gather_facts\":false,\"tasks\"
 unfolding on_literals
 shown = refl
 
-no_expression : playbook_of (codes "[{\"hosts\":\"all\",\"tasks\":[{\"debug\":{\"var\":\"{{ x }}\"}}]}]") ≡ Err BadExpression
+no_expression : playbook_of (codes "[{\"hosts\":\"all\",\"tasks\":[{\"debug\":{\"var\":\"{{ x }}\"}}]}]") ≡ Err (BadExpression (codes "0/tasks/0/debug/var"))
 unfolding on_literals
 no_expression = refl
 
@@ -485,15 +486,15 @@ message_and_expression : playbook_of (codes "[{\"hosts\":\"all\",\"tasks\":[{\"d
 unfolding on_literals
 message_and_expression = refl
 
-no_expression_of_fail : playbook_of (codes "[{\"hosts\":\"all\",\"tasks\":[{\"fail\":{\"var\":\"x\"}}]}]") ≡ Err (NotInProfile (codes "var"))
+no_expression_of_fail : playbook_of (codes "[{\"hosts\":\"all\",\"tasks\":[{\"fail\":{\"var\":\"x\"}}]}]") ≡ Err (NotInProfile (codes "var") (codes "0/tasks/0/fail/var"))
 unfolding on_literals
 no_expression_of_fail = refl
 
-other_modules : playbook_of (codes "[{\"hosts\":\"all\",\"tasks\":[{\"command\":\"a\",\"shell\":\"a\"}]}]") ≡ Err TwoModules
+other_modules : playbook_of (codes "[{\"hosts\":\"all\",\"tasks\":[{\"command\":\"a\",\"shell\":\"a\"}]}]") ≡ Err (TwoModules (codes "0/tasks/0"))
 unfolding on_literals
 other_modules = refl
 
-other_prefix : playbook_of (codes "[{\"hosts\":\"all\",\"tasks\":[{\"ansible.builtin.copy\":\"a\"}]}]") ≡ Err (NotInProfile (codes "ansible.builtin.copy"))
+other_prefix : playbook_of (codes "[{\"hosts\":\"all\",\"tasks\":[{\"ansible.builtin.copy\":\"a\"}]}]") ≡ Err (NotInProfile (codes "ansible.builtin.copy") (codes "0/tasks/0/ansible.builtin.copy"))
 unfolding on_literals
 other_prefix = refl
 

@@ -76,11 +76,11 @@ null_is_notified : playbook_of (codes "[{\"hosts\":\"all\",\"tasks\":[{\"notify\
 unfolding on_literals
 null_is_notified = refl
 
-block_notifies : playbook_of (codes "[{\"hosts\":\"all\",\"tasks\":[{\"block\":[],\"notify\":\"h\"}]}]") ≡ Err (NotInProfile (codes "notify"))
+block_notifies : playbook_of (codes "[{\"hosts\":\"all\",\"tasks\":[{\"block\":[],\"notify\":\"h\"}]}]") ≡ Err (NotInProfile (codes "notify") (codes "0/tasks/0/notify"))
 unfolding on_literals
 block_notifies = refl
 
-meta_notifies : playbook_of (codes "[{\"hosts\":\"all\",\"tasks\":[{\"meta\":\"noop\",\"notify\":\"h\"}]}]") ≡ Err (NotInProfile (codes "notify"))
+meta_notifies : playbook_of (codes "[{\"hosts\":\"all\",\"tasks\":[{\"meta\":\"noop\",\"notify\":\"h\"}]}]") ≡ Err (NotInProfile (codes "notify") (codes "0/tasks/0/notify"))
 unfolding on_literals
 meta_notifies = refl
 
@@ -155,15 +155,15 @@ unfolding on_literals
 no_switch_of_handlers = refl
 
 -- a handler is neither a block nor a meta task: their keys aren't read there, as `listen` isn't on a task
-block_as_handler : playbook_of (codes "[{\"handlers\":[{\"setup\":{}},{\"block\":[]}],\"hosts\":3}]") ≡ Err (NotInProfile (codes "block"))
+block_as_handler : playbook_of (codes "[{\"handlers\":[{\"setup\":{}},{\"block\":[]}],\"hosts\":3}]") ≡ Err (NotInProfile (codes "block") (codes "0/handlers/1/block"))
 unfolding on_literals
 block_as_handler = refl
 
-meta_as_handler : playbook_of (codes "[{\"handlers\":[{\"meta\":\"noop\"}],\"hosts\":\"all\"}]") ≡ Err (NotInProfile (codes "meta"))
+meta_as_handler : playbook_of (codes "[{\"handlers\":[{\"meta\":\"noop\"}],\"hosts\":\"all\"}]") ≡ Err (NotInProfile (codes "meta") (codes "0/handlers/0/meta"))
 unfolding on_literals
 meta_as_handler = refl
 
-task_listens : playbook_of (codes "[{\"hosts\":\"all\",\"tasks\":[{\"listen\":\"x\",\"setup\":{}}]}]") ≡ Err (NotInProfile (codes "listen"))
+task_listens : playbook_of (codes "[{\"hosts\":\"all\",\"tasks\":[{\"listen\":\"x\",\"setup\":{}}]}]") ≡ Err (NotInProfile (codes "listen") (codes "0/tasks/0/listen"))
 unfolding on_literals
 task_listens = refl
 
@@ -171,7 +171,7 @@ number_listens : playbook_of (codes "[{\"handlers\":[{\"listen\":[\"x\",1],\"set
 unfolding on_literals
 number_listens = refl
 
-no_module_of_handler : playbook_of (codes "[{\"handlers\":[{\"name\":\"h\"}],\"hosts\":\"all\"}]") ≡ Err NoModule
+no_module_of_handler : playbook_of (codes "[{\"handlers\":[{\"name\":\"h\"}],\"hosts\":\"all\"}]") ≡ Err (NoModule (codes "0/handlers/0"))
 unfolding on_literals
 no_module_of_handler = refl
 
@@ -200,7 +200,7 @@ no_role_at_entry : playbook_of (codes "[{\"hosts\":\"all\",\"roles\":[\"app\",{\
 unfolding on_literals
 no_role_at_entry = refl
 
-refused_at_entry : playbook_of (codes "[{\"hosts\":\"all\",\"roles\":[{\"become\":true,\"role\":\"app\"}]}]") ≡ Err (NotInProfile (codes "become"))
+refused_at_entry : playbook_of (codes "[{\"hosts\":\"all\",\"roles\":[{\"become\":true,\"role\":\"app\"}]}]") ≡ Err (NotInProfile (codes "become") (codes "0/roles/0/become"))
 unfolding on_literals
 refused_at_entry = refl
 
@@ -214,16 +214,16 @@ serial_behind_roles : playbook_of (codes "[{\"hosts\":\"all\",\"roles\":\"app\",
 unfolding on_literals
 serial_behind_roles = refl
 
-serial_first : playbook_of (codes "[{\"hosts\":\"all\",\"serial\":\"x\",\"strategy\":\"y\",\"tasks\":1}]") ≡ Err (BadSerial)
+serial_first : playbook_of (codes "[{\"hosts\":\"all\",\"serial\":\"x\",\"strategy\":\"y\",\"tasks\":1}]") ≡ Err (BadSerial (codes "0/serial"))
 unfolding on_literals
 serial_first = refl
 
-strategy_before_tasks : playbook_of (codes "[{\"hosts\":\"all\",\"serial\":0,\"strategy\":\"debug\",\"tasks\":1}]") ≡ Err (BadStrategy)
+strategy_before_tasks : playbook_of (codes "[{\"hosts\":\"all\",\"serial\":0,\"strategy\":\"debug\",\"tasks\":1}]") ≡ Err (BadStrategy (codes "0/strategy"))
 unfolding on_literals
 strategy_before_tasks = refl
 
 -- a throttle stands on tasks, handlers and blocks
-play_with_throttle : playbook_of (codes "[{\"hosts\":\"all\",\"throttle\":1,\"vars\":1}]") ≡ Err (NotInProfile (codes "throttle"))
+play_with_throttle : playbook_of (codes "[{\"hosts\":\"all\",\"throttle\":1,\"vars\":1}]") ≡ Err (NotInProfile (codes "throttle") (codes "0/throttle"))
 unfolding on_literals
 play_with_throttle = refl
 
@@ -236,11 +236,11 @@ unfolding on_literals
 no_throttle_of_handler = refl
 
 -- how the hosts of a task are coupled stands on tasks, handlers and blocks; a play says which failures end it for all
-play_with_run_once : playbook_of (codes "[{\"hosts\":\"all\",\"run_once\":true,\"vars\":1}]") ≡ Err (NotInProfile (codes "run_once"))
+play_with_run_once : playbook_of (codes "[{\"hosts\":\"all\",\"run_once\":true,\"vars\":1}]") ≡ Err (NotInProfile (codes "run_once") (codes "0/run_once"))
 unfolding on_literals
 play_with_run_once = refl
 
-delegated_play : playbook_of (codes "[{\"delegate_to\":\"a\",\"hosts\":1}]") ≡ Err (NotInProfile (codes "delegate_to"))
+delegated_play : playbook_of (codes "[{\"delegate_to\":\"a\",\"hosts\":1}]") ≡ Err (NotInProfile (codes "delegate_to") (codes "0/delegate_to"))
 unfolding on_literals
 delegated_play = refl
 
@@ -248,7 +248,7 @@ no_percentage_of_play : playbook_of (codes "[{\"hosts\":\"all\",\"max_fail_perce
 unfolding on_literals
 no_percentage_of_play = refl
 
-no_percentage_of_task : playbook_of (codes "[{\"hosts\":\"all\",\"tasks\":[{\"max_fail_percentage\":50,\"setup\":{}}]}]") ≡ Err (NotInProfile (codes "max_fail_percentage"))
+no_percentage_of_task : playbook_of (codes "[{\"hosts\":\"all\",\"tasks\":[{\"max_fail_percentage\":50,\"setup\":{}}]}]") ≡ Err (NotInProfile (codes "max_fail_percentage") (codes "0/tasks/0/max_fail_percentage"))
 unfolding on_literals
 no_percentage_of_task = refl
 

@@ -59,7 +59,7 @@ unfolding on_literals
 no_condition = refl
 
 -- an expression stands without braces
-condition_in_braces : read conditions (codes "[\"a\",\"{{ b }}\"]") ≡ Some (Err (Own BadExpression))
+condition_in_braces : read conditions (codes "[\"a\",\"{{ b }}\"]") ≡ Some (Err (Own (BadExpression (codes "p/1"))))
 unfolding on_literals
 condition_in_braces = refl
 
@@ -89,7 +89,7 @@ loop_over_fraction : read over (codes "[1,1.5]") ≡ Some (Err (WrongShape (code
 unfolding on_literals
 loop_over_fraction = refl
 
-loop_over_statement : read over (codes "\"{% x\"") ≡ Some (Err (Own BadExpression))
+loop_over_statement : read over (codes "\"{% x\"") ≡ Some (Err (Own (BadExpression (codes "p"))))
 unfolding on_literals
 loop_over_statement = refl
 
@@ -106,7 +106,7 @@ no_name_of_loop_variable : read control (codes "{\"loop_var\":\"a-b\"}") ≡ Som
 unfolding on_literals
 no_name_of_loop_variable = refl
 
-other_loop_control : read control (codes "{\"loop_var\":1,\"index_var\":\"i\"}") ≡ Some (Err (Own (NotInProfile (codes "index_var"))))
+other_loop_control : read control (codes "{\"loop_var\":1,\"index_var\":\"i\"}") ≡ Some (Err (Own (NotInProfile (codes "index_var") (codes "p/index_var"))))
 unfolding on_literals
 other_loop_control = refl
 
@@ -141,7 +141,7 @@ nothing_asserted : read assert (codes "{\"msg\":\"a\"}") ≡ Some (Err (WrongSha
 unfolding on_literals
 nothing_asserted = refl
 
-other_argument_of_assert : read assert (codes "{\"quiet\":true,\"that\":1}") ≡ Some (Err (Own (NotInProfile (codes "quiet"))))
+other_argument_of_assert : read assert (codes "{\"quiet\":true,\"that\":1}") ≡ Some (Err (Own (NotInProfile (codes "quiet") (codes "p/quiet"))))
 unfolding on_literals
 other_argument_of_assert = refl
 
@@ -162,7 +162,7 @@ cacheable_fact : read set_fact (codes "{\"cacheable\":true,\"a b\":1}") ≡ Some
 unfolding on_literals
 cacheable_fact = refl
 
-kept_facts : read set_fact (codes "{\"a\":1,\"cacheable\":false}") ≡ Some (Err (Own (NotInProfile (codes "cacheable"))))
+kept_facts : read set_fact (codes "{\"a\":1,\"cacheable\":false}") ≡ Some (Err (Own (NotInProfile (codes "cacheable") (codes "p/cacheable"))))
 unfolding on_literals
 kept_facts = refl
 
@@ -170,7 +170,7 @@ fact_of_fraction : read set_fact (codes "{\"a\":[1.5]}") ≡ Some (Err (WrongSha
 unfolding on_literals
 fact_of_fraction = refl
 
-fact_of_statement : read set_fact (codes "{\"a\":\"{% x\"}") ≡ Some (Err (Own BadExpression))
+fact_of_statement : read set_fact (codes "{\"a\":\"{% x\"}") ≡ Some (Err (Own (BadExpression (codes "p/a"))))
 unfolding on_literals
 fact_of_statement = refl
 
@@ -183,7 +183,7 @@ gathers : read setup (codes "{}") ≡ Some (Ok Setup)
 unfolding on_literals
 gathers = refl
 
-gathers_some : read setup (codes "{\"filter\":\"os\"}") ≡ Some (Err (Own (NotInProfile (codes "filter"))))
+gathers_some : read setup (codes "{\"filter\":\"os\"}") ≡ Some (Err (Own (NotInProfile (codes "filter") (codes "p/filter"))))
 unfolding on_literals
 gathers_some = refl
 
@@ -236,43 +236,43 @@ unfolding on_literals
 largest_size = refl
 
 -- whatever else stands there is no size
-ten_digits : read serial (codes "\"1000000000\"") ≡ Some (Err (Own BadSerial))
+ten_digits : read serial (codes "\"1000000000\"") ≡ Some (Err (Own (BadSerial (codes "p"))))
 unfolding on_literals
 ten_digits = refl
 
-fraction_of_hosts : read serial (codes "1.5") ≡ Some (Err (Own BadSerial))
+fraction_of_hosts : read serial (codes "1.5") ≡ Some (Err (Own (BadSerial (codes "p"))))
 unfolding on_literals
 fraction_of_hosts = refl
 
-size_of_nothing : read serial (codes "null") ≡ Some (Err (Own BadSerial))
+size_of_nothing : read serial (codes "null") ≡ Some (Err (Own (BadSerial (codes "p"))))
 unfolding on_literals
 size_of_nothing = refl
 
-size_of_object : read serial (codes "{}") ≡ Some (Err (Own BadSerial))
+size_of_object : read serial (codes "{}") ≡ Some (Err (Own (BadSerial (codes "p"))))
 unfolding on_literals
 size_of_object = refl
 
-word_as_size : read serial (codes "\"x\"") ≡ Some (Err (Own BadSerial))
+word_as_size : read serial (codes "\"x\"") ≡ Some (Err (Own (BadSerial (codes "p"))))
 unfolding on_literals
 word_as_size = refl
 
-no_digits : read serial (codes "\"\"") ≡ Some (Err (Own BadSerial))
+no_digits : read serial (codes "\"\"") ≡ Some (Err (Own (BadSerial (codes "p"))))
 unfolding on_literals
 no_digits = refl
 
-hundredths_of_nothing : read serial (codes "\"%\"") ≡ Some (Err (Own BadSerial))
+hundredths_of_nothing : read serial (codes "\"%\"") ≡ Some (Err (Own (BadSerial (codes "p"))))
 unfolding on_literals
 hundredths_of_nothing = refl
 
-signed_digits : read serial (codes "\"-1\"") ≡ Some (Err (Own BadSerial))
+signed_digits : read serial (codes "\"-1\"") ≡ Some (Err (Own (BadSerial (codes "p"))))
 unfolding on_literals
 signed_digits = refl
 
-behind_hundredths : read serial (codes "\"5%%\"") ≡ Some (Err (Own BadSerial))
+behind_hundredths : read serial (codes "\"5%%\"") ≡ Some (Err (Own (BadSerial (codes "p"))))
 unfolding on_literals
 behind_hundredths = refl
 
-list_of_sizes_in_list : read serial (codes "[1,[2]]") ≡ Some (Err (Own BadSerial))
+list_of_sizes_in_list : read serial (codes "[1,[2]]") ≡ Some (Err (Own (BadSerial (codes "p/1"))))
 unfolding on_literals
 list_of_sizes_in_list = refl
 
@@ -289,15 +289,15 @@ pinned_strategy : read strategy (codes "\"host_pinned\"") ≡ Some (Ok HostPinne
 unfolding on_literals
 pinned_strategy = refl
 
-strategy_in_capitals : read strategy (codes "\"Linear\"") ≡ Some (Err (Own BadStrategy))
+strategy_in_capitals : read strategy (codes "\"Linear\"") ≡ Some (Err (Own (BadStrategy (codes "p"))))
 unfolding on_literals
 strategy_in_capitals = refl
 
-strategy_with_prefix : read strategy (codes "\"ansible.builtin.free\"") ≡ Some (Err (Own BadStrategy))
+strategy_with_prefix : read strategy (codes "\"ansible.builtin.free\"") ≡ Some (Err (Own (BadStrategy (codes "p"))))
 unfolding on_literals
 strategy_with_prefix = refl
 
-number_as_strategy : read strategy (codes "1.5") ≡ Some (Err (Own BadStrategy))
+number_as_strategy : read strategy (codes "1.5") ≡ Some (Err (Own (BadStrategy (codes "p"))))
 unfolding on_literals
 number_as_strategy = refl
 

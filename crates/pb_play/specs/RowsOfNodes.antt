@@ -1,5 +1,5 @@
 -- Worked lists of nodes: what stands at the path `p`, as JSON spells it, and what it is read as.
-use Rattle.std.specs.Prelude.{◌≡◌, ⊤, ℕ, zero, suc, true, false, List, [], ◌∷◌, Option, Some, None, Ok, Err, codes, option_map, pos, refl}
+use Rattle.std.specs.Prelude.{◌≡◌, ⊤, ℕ, zero, suc, true, false, List, [], ◌∷◌, ◌++◌, Option, Some, None, Ok, Err, codes, option_map, pos, refl}
 use Rattle.std.specs.Fmt.{digits}
 use Rattle.std.specs.Str.{chars, is_utf8}
 use Rattle.std.specs.Str.Lossy.{utf8_valid_len}
@@ -75,11 +75,11 @@ without_effect_on_blocks : read (codes "[{\"block\":[],\"connection\":\"local\",
 unfolding on_literals
 without_effect_on_blocks = refl
 
-no_log_of_block : read (codes "[{\"block\":[],\"no_log\":true}]") ≡ Some (Err (Own (NotInProfile (codes "no_log"))))
+no_log_of_block : read (codes "[{\"block\":[],\"no_log\":true}]") ≡ Some (Err (Own (NotInProfile (codes "no_log") (codes "p/0/no_log"))))
 unfolding on_literals
 no_log_of_block = refl
 
-never_a_block : read (codes "[{\"block\":[],\"tags\":\"never\"}]") ≡ Some (Err (Own (NotInProfile (codes "never"))))
+never_a_block : read (codes "[{\"block\":[],\"tags\":\"never\"}]") ≡ Some (Err (Own (NotInProfile (codes "never") (codes "p/0/tags"))))
 unfolding on_literals
 never_a_block = refl
 
@@ -112,7 +112,7 @@ no_throttle_of_block : read (codes "[{\"block\":[],\"throttle\":1.5}]") ≡ Some
 unfolding on_literals
 no_throttle_of_block = refl
 
-throttle_of_meta : read (codes "[{\"meta\":\"noop\",\"throttle\":1}]") ≡ Some (Err (Own (NotInProfile (codes "throttle"))))
+throttle_of_meta : read (codes "[{\"meta\":\"noop\",\"throttle\":1}]") ≡ Some (Err (Own (NotInProfile (codes "throttle") (codes "p/0/throttle"))))
 unfolding on_literals
 throttle_of_meta = refl
 
@@ -121,7 +121,7 @@ no_delegate_of_task : read (codes "[{\"delegate_to\":1,\"run_once\":1,\"shell\":
 unfolding on_literals
 no_delegate_of_task = refl
 
-no_template_of_delegate : read (codes "[{\"block\":[],\"delegate_to\":\"{{ 1 + }}\",\"run_once\":1}]") ≡ Some (Err (Own BadExpression))
+no_template_of_delegate : read (codes "[{\"block\":[],\"delegate_to\":\"{{ 1 + }}\",\"run_once\":1}]") ≡ Some (Err (Own (BadExpression (codes "p/0/delegate_to"))))
 unfolding on_literals
 no_template_of_delegate = refl
 
@@ -138,11 +138,11 @@ unfolding on_literals
 no_switch_of_facts = refl
 
 -- a task that steers the run has none of them of its own
-meta_runs_once : read (codes "[{\"meta\":\"noop\",\"run_once\":true}]") ≡ Some (Err (Own (NotInProfile (codes "run_once"))))
+meta_runs_once : read (codes "[{\"meta\":\"noop\",\"run_once\":true}]") ≡ Some (Err (Own (NotInProfile (codes "run_once") (codes "p/0/run_once"))))
 unfolding on_literals
 meta_runs_once = refl
 
-delegated_meta : read (codes "[{\"delegate_to\":\"b\",\"meta\":\"noop\"}]") ≡ Some (Err (Own (NotInProfile (codes "delegate_to"))))
+delegated_meta : read (codes "[{\"delegate_to\":\"b\",\"meta\":\"noop\"}]") ≡ Some (Err (Own (NotInProfile (codes "delegate_to") (codes "p/0/delegate_to"))))
 unfolding on_literals
 delegated_meta = refl
 
@@ -155,24 +155,24 @@ unfolding on_literals
 no_condition_of_block = refl
 
 -- any other key of a block is refused by its name
-module_in_block : read (codes "[{\"block\":[],\"shell\":\"a\"}]") ≡ Some (Err (Own (NotInProfile (codes "shell"))))
+module_in_block : read (codes "[{\"block\":[],\"shell\":\"a\"}]") ≡ Some (Err (Own (NotInProfile (codes "shell") (codes "p/0/shell"))))
 unfolding on_literals
 module_in_block = refl
 
-meta_in_block : read (codes "[{\"block\":[],\"meta\":\"noop\"}]") ≡ Some (Err (Own (NotInProfile (codes "meta"))))
+meta_in_block : read (codes "[{\"block\":[],\"meta\":\"noop\"}]") ≡ Some (Err (Own (NotInProfile (codes "meta") (codes "p/0/meta"))))
 unfolding on_literals
 meta_in_block = refl
 
-register_of_block : read (codes "[{\"block\":[],\"register\":\"x\"}]") ≡ Some (Err (Own (NotInProfile (codes "register"))))
+register_of_block : read (codes "[{\"block\":[],\"register\":\"x\"}]") ≡ Some (Err (Own (NotInProfile (codes "register") (codes "p/0/register"))))
 unfolding on_literals
 register_of_block = refl
 
 -- only a module's name may have the prefix, and a rescue without a block is none
-block_with_prefix : read (codes "[{\"ansible.builtin.block\":[]}]") ≡ Some (Err (Own (NotInProfile (codes "ansible.builtin.block"))))
+block_with_prefix : read (codes "[{\"ansible.builtin.block\":[]}]") ≡ Some (Err (Own (NotInProfile (codes "ansible.builtin.block") (codes "p/0/ansible.builtin.block"))))
 unfolding on_literals
 block_with_prefix = refl
 
-rescue_alone : read (codes "[{\"shell\":\"a\",\"rescue\":[]}]") ≡ Some (Err (Own (NotInProfile (codes "rescue"))))
+rescue_alone : read (codes "[{\"shell\":\"a\",\"rescue\":[]}]") ≡ Some (Err (Own (NotInProfile (codes "rescue") (codes "p/0/rescue"))))
 unfolding on_literals
 rescue_alone = refl
 
@@ -185,15 +185,15 @@ unfolding on_literals
 blocks_in_each = refl
 
 -- one too many is told where it is met, before any fault in it, and behind the faults in front of it
-one_too_many : read_within 1 (codes "[{\"block\":[{\"block\":1,\"always\":1,\"zzz\":1}]}]") ≡ Some (Err (Own (TooLarge Blocks)))
+one_too_many : read_within 1 (codes "[{\"block\":[{\"block\":1,\"always\":1,\"zzz\":1}]}]") ≡ Some (Err (Own (TooLarge Blocks (codes "p/0/block/0"))))
 unfolding on_literals
 one_too_many = refl
 
-too_many_in_rescue : read_within 1 (codes "[{\"block\":[],\"rescue\":[{\"block\":[]}]}]") ≡ Some (Err (Own (TooLarge Blocks)))
+too_many_in_rescue : read_within 1 (codes "[{\"block\":[],\"rescue\":[{\"block\":[]}]}]") ≡ Some (Err (Own (TooLarge Blocks (codes "p/0/rescue/0"))))
 unfolding on_literals
 too_many_in_rescue = refl
 
-too_many_in_always : read_within 1 (codes "[{\"always\":[{\"block\":[]}],\"block\":1}]") ≡ Some (Err (Own (TooLarge Blocks)))
+too_many_in_always : read_within 1 (codes "[{\"always\":[{\"block\":[]}],\"block\":1}]") ≡ Some (Err (Own (TooLarge Blocks (codes "p/0/always/0"))))
 unfolding on_literals
 too_many_in_always = refl
 
@@ -219,7 +219,12 @@ thirty_two : node_list [] (nested 32) ≡ Ok (blocks 32)
 unfolding on_literals
 thirty_two = refl
 
-thirty_three : node_list [] (nested 33) ≡ Err (Own (TooLarge Blocks))
+-- the path of a node that stands inside of so many blocks more
+abbrev inside : ℕ → List ℕ → List ℕ
+inside zero path = path
+inside (suc n) path = inside n (path ++ codes "/block/0")
+
+thirty_three : node_list [] (nested 33) ≡ Err (Own (TooLarge Blocks (inside 32 (codes "0"))))
 unfolding on_literals
 thirty_three = refl
 
@@ -233,40 +238,40 @@ unfolding on_literals
 all_of_meta = refl
 
 -- any other value isn't read, at its key
-other_meta : read (codes "[{\"meta\":\"end_play\",\"name\":1}]") ≡ Some (Err (Own (NotInProfile (codes "meta"))))
+other_meta : read (codes "[{\"meta\":\"end_play\",\"name\":1}]") ≡ Some (Err (Own (NotInProfile (codes "meta") (codes "p/0/meta"))))
 unfolding on_literals
 other_meta = refl
 
-meta_no_text : read (codes "[{\"ansible.builtin.meta\":null,\"become\":1}]") ≡ Some (Err (Own (NotInProfile (codes "meta"))))
+meta_no_text : read (codes "[{\"ansible.builtin.meta\":null,\"become\":1}]") ≡ Some (Err (Own (NotInProfile (codes "meta") (codes "p/0/ansible.builtin.meta"))))
 unfolding on_literals
 meta_no_text = refl
 
-key_before_meta : read (codes "[{\"become\":1,\"meta\":\"end_play\"}]") ≡ Some (Err (Own (NotInProfile (codes "become"))))
+key_before_meta : read (codes "[{\"become\":1,\"meta\":\"end_play\"}]") ≡ Some (Err (Own (NotInProfile (codes "become") (codes "p/0/become"))))
 unfolding on_literals
 key_before_meta = refl
 
 -- no condition is asked where handlers run: `when` is refused at its place among the keys, whatever stands there
-condition_of_flush : read (codes "[{\"meta\":\"flush_handlers\",\"when\":true}]") ≡ Some (Err (Own (NotInProfile (codes "when"))))
+condition_of_flush : read (codes "[{\"meta\":\"flush_handlers\",\"when\":true}]") ≡ Some (Err (Own (NotInProfile (codes "when") (codes "p/0/when"))))
 unfolding on_literals
 condition_of_flush = refl
 
-no_condition_of_flush : read (codes "[{\"meta\":\"flush_handlers\",\"when\":1}]") ≡ Some (Err (Own (NotInProfile (codes "when"))))
+no_condition_of_flush : read (codes "[{\"meta\":\"flush_handlers\",\"when\":1}]") ≡ Some (Err (Own (NotInProfile (codes "when") (codes "p/0/when"))))
 unfolding on_literals
 no_condition_of_flush = refl
 
-no_expression_of_flush : read (codes "[{\"meta\":\"flush_handlers\",\"when\":\"1 +\"}]") ≡ Some (Err (Own (NotInProfile (codes "when"))))
+no_expression_of_flush : read (codes "[{\"meta\":\"flush_handlers\",\"when\":\"1 +\"}]") ≡ Some (Err (Own (NotInProfile (codes "when") (codes "p/0/when"))))
 unfolding on_literals
 no_expression_of_flush = refl
 
-key_behind_condition : read (codes "[{\"meta\":\"flush_handlers\",\"when\":true,\"zzz\":1}]") ≡ Some (Err (Own (NotInProfile (codes "when"))))
+key_behind_condition : read (codes "[{\"meta\":\"flush_handlers\",\"when\":true,\"zzz\":1}]") ≡ Some (Err (Own (NotInProfile (codes "when") (codes "p/0/when"))))
 unfolding on_literals
 key_behind_condition = refl
 
-key_before_condition : read (codes "[{\"meta\":\"flush_handlers\",\"vars\":{},\"when\":true}]") ≡ Some (Err (Own (NotInProfile (codes "vars"))))
+key_before_condition : read (codes "[{\"meta\":\"flush_handlers\",\"vars\":{},\"when\":true}]") ≡ Some (Err (Own (NotInProfile (codes "vars") (codes "p/0/vars"))))
 unfolding on_literals
 key_before_condition = refl
 
-key_before_flush : read (codes "[{\"a\":1,\"meta\":\"flush_handlers\",\"when\":true}]") ≡ Some (Err (Own (NotInProfile (codes "a"))))
+key_before_flush : read (codes "[{\"a\":1,\"meta\":\"flush_handlers\",\"when\":true}]") ≡ Some (Err (Own (NotInProfile (codes "a") (codes "p/0/a"))))
 unfolding on_literals
 key_before_flush = refl
 
@@ -275,7 +280,7 @@ no_condition_of_meta : read (codes "[{\"meta\":\"noop\",\"when\":1,\"zzz\":1}]")
 unfolding on_literals
 no_condition_of_meta = refl
 
-no_expression_of_meta : read (codes "[{\"meta\":\"end_host\",\"when\":\"1 +\"}]") ≡ Some (Err (Own BadExpression))
+no_expression_of_meta : read (codes "[{\"meta\":\"end_host\",\"when\":\"1 +\"}]") ≡ Some (Err (Own (BadExpression (codes "p/0/when"))))
 unfolding on_literals
 no_expression_of_meta = refl
 
@@ -284,19 +289,19 @@ unfolding on_literals
 no_name_of_meta = refl
 
 -- any other key is refused by its name, a module's too, and one of the two forms of `meta` beside the other
-meta_and_module : read (codes "[{\"meta\":\"noop\",\"shell\":\"a\"}]") ≡ Some (Err (Own (NotInProfile (codes "shell"))))
+meta_and_module : read (codes "[{\"meta\":\"noop\",\"shell\":\"a\"}]") ≡ Some (Err (Own (NotInProfile (codes "shell") (codes "p/0/shell"))))
 unfolding on_literals
 meta_and_module = refl
 
-loop_of_meta : read (codes "[{\"loop\":[],\"meta\":\"noop\"}]") ≡ Some (Err (Own (NotInProfile (codes "loop"))))
+loop_of_meta : read (codes "[{\"loop\":[],\"meta\":\"noop\"}]") ≡ Some (Err (Own (NotInProfile (codes "loop") (codes "p/0/loop"))))
 unfolding on_literals
 loop_of_meta = refl
 
-variables_of_meta : read (codes "[{\"meta\":\"noop\",\"vars\":{}}]") ≡ Some (Err (Own (NotInProfile (codes "vars"))))
+variables_of_meta : read (codes "[{\"meta\":\"noop\",\"vars\":{}}]") ≡ Some (Err (Own (NotInProfile (codes "vars") (codes "p/0/vars"))))
 unfolding on_literals
 variables_of_meta = refl
 
-both_forms : read (codes "[{\"ansible.builtin.meta\":\"noop\",\"meta\":\"noop\",\"name\":1}]") ≡ Some (Err (Own (NotInProfile (codes "meta"))))
+both_forms : read (codes "[{\"ansible.builtin.meta\":\"noop\",\"meta\":\"noop\",\"name\":1}]") ≡ Some (Err (Own (NotInProfile (codes "meta") (codes "p/0/meta"))))
 unfolding on_literals
 both_forms = refl
 
@@ -309,6 +314,6 @@ no_list : read (codes "{}") ≡ Some (Err (WrongShape (codes "p")))
 unfolding on_literals
 no_list = refl
 
-no_node : read (codes "[{}]") ≡ Some (Err (Own NoModule))
+no_node : read (codes "[{}]") ≡ Some (Err (Own (NoModule (codes "p/0"))))
 unfolding on_literals
 no_node = refl

@@ -84,40 +84,40 @@ number_as_until : read (codes "[{\"shell\":\"a\",\"until\":1}]") ≡ Some (Err (
 unfolding on_literals
 number_as_until = refl
 
-no_expression_at_until : read (codes "[{\"shell\":\"a\",\"until\":\"1 +\"}]") ≡ Some (Err (Own BadExpression))
+no_expression_at_until : read (codes "[{\"shell\":\"a\",\"until\":\"1 +\"}]") ≡ Some (Err (Own (BadExpression (codes "p/0/until"))))
 unfolding on_literals
 no_expression_at_until = refl
 
 -- on any other task they are refused behind all of its keys, and behind a module too few or too many; `until` first
-until_elsewhere : read (codes "[{\"retries\":1,\"setup\":{},\"until\":\"x\"}]") ≡ Some (Err (Own (NotInProfile (codes "until"))))
+until_elsewhere : read (codes "[{\"retries\":1,\"setup\":{},\"until\":\"x\"}]") ≡ Some (Err (Own (NotInProfile (codes "until") (codes "p/0/until"))))
 unfolding on_literals
 until_elsewhere = refl
 
-retries_elsewhere : read (codes "[{\"delay\":1,\"retries\":1,\"setup\":{}}]") ≡ Some (Err (Own (NotInProfile (codes "retries"))))
+retries_elsewhere : read (codes "[{\"delay\":1,\"retries\":1,\"setup\":{}}]") ≡ Some (Err (Own (NotInProfile (codes "retries") (codes "p/0/retries"))))
 unfolding on_literals
 retries_elsewhere = refl
 
-keys_first : read (codes "[{\"setup\":{},\"until\":\"x\",\"zzz\":1}]") ≡ Some (Err (Own (NotInProfile (codes "zzz"))))
+keys_first : read (codes "[{\"setup\":{},\"until\":\"x\",\"zzz\":1}]") ≡ Some (Err (Own (NotInProfile (codes "zzz") (codes "p/0/zzz"))))
 unfolding on_literals
 keys_first = refl
 
-without_a_module : read (codes "[{\"until\":\"x\"}]") ≡ Some (Err (Own NoModule))
+without_a_module : read (codes "[{\"until\":\"x\"}]") ≡ Some (Err (Own (NoModule (codes "p/0"))))
 unfolding on_literals
 without_a_module = refl
 
-with_two_modules : read (codes "[{\"setup\":{},\"shell\":\"a\",\"until\":\"x\"}]") ≡ Some (Err (Own TwoModules))
+with_two_modules : read (codes "[{\"setup\":{},\"shell\":\"a\",\"until\":\"x\"}]") ≡ Some (Err (Own (TwoModules (codes "p/0"))))
 unfolding on_literals
 with_two_modules = refl
 
 -- a block and a task that steers the run are tried once
-retries_of_block : read (codes "[{\"block\":[],\"retries\":1}]") ≡ Some (Err (Own (NotInProfile (codes "retries"))))
+retries_of_block : read (codes "[{\"block\":[],\"retries\":1}]") ≡ Some (Err (Own (NotInProfile (codes "retries") (codes "p/0/retries"))))
 unfolding on_literals
 retries_of_block = refl
 
-until_of_meta : read (codes "[{\"meta\":\"noop\",\"until\":\"x\"}]") ≡ Some (Err (Own (NotInProfile (codes "until"))))
+until_of_meta : read (codes "[{\"meta\":\"noop\",\"until\":\"x\"}]") ≡ Some (Err (Own (NotInProfile (codes "until") (codes "p/0/until"))))
 unfolding on_literals
 until_of_meta = refl
 
-delay_of_meta : read (codes "[{\"delay\":1,\"meta\":\"noop\"}]") ≡ Some (Err (Own (NotInProfile (codes "delay"))))
+delay_of_meta : read (codes "[{\"delay\":1,\"meta\":\"noop\"}]") ≡ Some (Err (Own (NotInProfile (codes "delay") (codes "p/0/delay"))))
 unfolding on_literals
 delay_of_meta = refl

@@ -9,13 +9,13 @@ use Rattle.pb_written.specs.declared.fault.LoadFault.{LoadFault}
 use Rattle.pb_written.specs.declared.fault.LoadFault.TheVariants.{BadStrategy}
 
 -- a strategy is told by its name, as it stands
-abbrev pub strategy_of : List ℕ → Reading Strategy LoadFault
-strategy_of s =
+abbrev pub strategy_of : List ℕ → List ℕ → Reading Strategy LoadFault
+strategy_of path s =
     if bytes_eq s (codes "free") then Ok Free
     else (if bytes_eq s (codes "host_pinned") then Ok HostPinned
-    else (if bytes_eq s (codes "linear") then Ok Linear else Err (Own BadStrategy)))
+    else (if bytes_eq s (codes "linear") then Ok Linear else Err (Own (BadStrategy path))))
 
 -- whatever is no such name, of whatever kind it is
 abbrev pub strategy : List ℕ → json.Data → Reading Strategy LoadFault
-strategy path (json.string s) = strategy_of s
-strategy path d = Err (Own BadStrategy)
+strategy path (json.string s) = strategy_of path s
+strategy path d = Err (Own (BadStrategy path))

@@ -74,10 +74,13 @@ impl Reads<LoadFault> for Size {
 
     ghost reads = { entry };
 
-    fn read(_alloc: Global, _path: &Text, json: &Value) -> Result<Entry, Stop<LoadFault>> {
+    fn read(_alloc: Global, path: &Text, json: &Value) -> Result<Entry, Stop<LoadFault>> {
         match entry_in(json) {
             Some(entry) => Ok(entry),
-            None => Err(Stop::Fault(LoadFault::BadSerial)),
+            None => {
+                let path = path.try_clone()?;
+                Err(Stop::Fault(LoadFault::BadSerial { path }))
+            }
         }
     }
 }

@@ -34,7 +34,7 @@ impl Others for Facts {
         json: &Value,
     ) -> Result<(), Stop<LoadFault>> {
         if key == "cacheable" {
-            return not_in_profile(alloc, key);
+            return not_in_profile(alloc, path, key);
         }
         if !is_name(key) {
             return wrong(path);

@@ -27,13 +27,14 @@ pub struct Handler {
 fn read_rest_of_handler(
     alloc: Global,
     mut keys: Keys<'_, Modules>,
+    path: &Text,
     told: Told,
 ) -> Result<Handler, Stop<LoadFault>>
-    ensures { Gives result (value_of (rest_of_handler told (ahead keys.entry))) }
+    ensures { Gives result (value_of (rest_of_handler path.now told (ahead keys.entry))) }
 {
     let listens = keys.field_or::<Texts>(alloc, "listen", Items::new(alloc))?;
     let looped = read_loop(alloc, &mut keys)?;
-    let task = read_rest(alloc, keys, told, looped)?;
+    let task = read_rest(alloc, keys, path, told, looped)?;
     Ok(Handler { task, listens })
 }
 
@@ -50,6 +51,6 @@ impl Reads<LoadFault> for Handler {
         };
         let mut keys = Keys::of(path, members, Modules::Nothing);
         let told = read_told(alloc, &mut keys)?;
-        read_rest_of_handler(alloc, keys, told)
+        read_rest_of_handler(alloc, keys, path, told)
     }
 }

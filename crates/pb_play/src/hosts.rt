@@ -3,7 +3,7 @@ ghost use Rattle.std.specs.List.{list_any};
 ghost use Rattle.serde_json.specs.View.{view};
 ghost use Rattle.pb_patterns.specs.declared.fault.PatFault.TheVariants as pattern_fault;
 ghost use Rattle.pb_reading.specs.declared.stop.Stop.TheVariants.{Memory, Fault};
-ghost use Rattle.pb_play.specs.Refusals.{GivesOf};
+ghost use Rattle.pb_play.specs.Refusals.{met_at, GivesOf};
 ghost use Rattle.pb_play.specs.Hosts.{has_braces, pattern, expressions_in, behind_commas, joined, hosts, expressions_of_hosts};
 ghost use Rattle.pb_written.specs.declared.fault.LoadFault.TheVariants.{BadPattern};
 
@@ -53,26 +53,36 @@ fn some_has_braces(texts: &[Text]) -> bool
     false
 }
 
-/// The stop of a playbook for the fault of a pattern.
-fn refusal(fault: PatFault) -> Stop<LoadFault>
-    ensures memory { fault ≡ pattern_fault.Memory → result ≡ Memory }
-    ensures fault { fault ≢ pattern_fault.Memory → result ≡ Fault BadPattern }
+/// The hosts at the path are no pattern.
+fn bad_pattern(path: &Text) -> Stop<LoadFault>
+    ensures { result ≢ Memory → result ≡ Fault (BadPattern path.now) }
 {
-    match fault {
-        PatFault::Memory => Stop::Memory,
-        _ => Stop::Fault(LoadFault::BadPattern),
+    match path.try_clone() {
+        Ok(path) => Stop::Fault(LoadFault::BadPattern { path }),
+        Err(_) => Stop::Memory,
     }
 }
 
-fn read_pattern(alloc: Global, texts: &[Text]) -> Result<Pattern, Stop<LoadFault>>
-    ensures { GivesOf result (expressions_in texts.now) (pattern texts.now) }
+/// The stop of a playbook for the fault of the pattern at the path.
+fn refusal(path: &Text, fault: PatFault) -> Stop<LoadFault>
+    ensures memory { fault ≡ pattern_fault.Memory → result ≡ Memory }
+    ensures fault { fault ≢ pattern_fault.Memory → result ≢ Memory → result ≡ Fault (BadPattern path.now) }
+{
+    match fault {
+        PatFault::Memory => Stop::Memory,
+        _ => bad_pattern(path),
+    }
+}
+
+fn read_pattern(alloc: Global, path: &Text, texts: &[Text]) -> Result<Pattern, Stop<LoadFault>>
+    ensures { GivesOf result (met_at path.now (expressions_in texts.now)) (pattern path.now texts.now) }
 {
     if some_has_braces(texts) {
-        return Err(Stop::Fault(LoadFault::BadPattern));
+        return Err(bad_pattern(path));
     }
     match Pattern::parse_all(alloc, texts) {
         Ok(pattern) => Ok(pattern),
-        Err(fault) => Err(refusal(fault)),
+        Err(fault) => Err(refusal(path, fault)),
     }
 }
 
@@ -109,7 +119,7 @@ pub(crate) fn read_hosts(
         Ok(texts) => texts,
         Err(stop) => return Err(stop),
     };
-    let pattern = match read_pattern(alloc, texts.as_slice()) {
+    let pattern = match read_pattern(alloc, path, texts.as_slice()) {
         Ok(pattern) => pattern,
         Err(stop) => return Err(stop),
     };

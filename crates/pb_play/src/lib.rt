@@ -5,7 +5,7 @@
 //! and lists from the front, the first fault met counts, and the rules over several keys of an object come after its keys.
 //! Some keys are allowed without effect, and any other key that isn't read here is refused by its name. The hosts of a play are a
 //! pattern, which `pb_patterns` reads; `expressions_of_book` lists the regular expressions that are met in them, up to the first fault. Where
-//! a playbook is read, the `regex` crate took each of these. `BadPattern` comes for the first one that it refuses; any other fault comes
+//! a playbook is read, the `regex` crate took each of these. `BadPattern` comes for the first one that it refuses, with the path of its hosts; any other fault comes
 //! only where each expression before it was taken. Want of memory may come at any point, in place of that answer.
 //!
 //! The texts of a module's arguments and of variables are templates: a text that is none is `BadExpression`. They are

@@ -21,7 +21,7 @@ use pb_value::items::Items;
 use pb_value::text::Text;
 use pb_value::val::Dict;
 use pb_written::conditions::Conditions;
-use pb_written::fault::{LoadFault, not_in_profile};
+use pb_written::fault::{LoadFault, not_in_profile, refused_below};
 use serde_json::{Map, Value};
 use std::alloc::{AllocError, Global};
 
@@ -34,8 +34,8 @@ pub(crate) enum Said {
     Flushes,
 }
 
-fn said_by(alloc: Global, word: &str) -> Result<Said, Stop<LoadFault>>
-    ensures { Gives result (said_by word.now) }
+fn said_by(alloc: Global, path: &Text, word: &str) -> Result<Said, Stop<LoadFault>>
+    ensures { Gives result (said_by path.now word.now) }
 {
     if word == "end_host" {
         Ok(Said::Does(Meta::EndHost))
@@ -44,7 +44,7 @@ fn said_by(alloc: Global, word: &str) -> Result<Said, Stop<LoadFault>>
     } else if word == "noop" {
         Ok(Said::Does(Meta::Noop))
     } else {
-        not_in_profile(alloc, "meta")
+        not_in_profile(alloc, path, "meta")
     }
 }
 
@@ -53,33 +53,45 @@ impl Reads<LoadFault> for Said {
 
     ghost reads = { said };
 
-    fn read(alloc: Global, _path: &Text, json: &Value) -> Result<Said, Stop<LoadFault>> {
+    fn read(alloc: Global, path: &Text, json: &Value) -> Result<Said, Stop<LoadFault>> {
         match json {
-            Value::String(word) => said_by(alloc, word.as_str()),
-            _ => not_in_profile(alloc, "meta"),
+            Value::String(word) => said_by(alloc, path, word.as_str()),
+            _ => not_in_profile(alloc, path, "meta"),
         }
     }
 }
 
-/// What stands at one of the two keys.
-fn one_of(alloc: Global, full: Option<Said>, short: Option<Said>) -> Result<Said, Stop<LoadFault>>
-    ensures { Gives result (one_of full short) }
+/// What stands at one of the two keys of the object at the path.
+fn one_of(
+    alloc: Global,
+    path: &Text,
+    full: Option<Said>,
+    short: Option<Said>,
+) -> Result<Said, Stop<LoadFault>>
+    ensures { Gives result (one_of path.now full short) }
 {
     match (full, short) {
         (Some(said), None) => Ok(said),
         (None, Some(said)) => Ok(said),
-        (Some(_), Some(_)) => not_in_profile(alloc, "meta"),
-        (None, None) => Err(Stop::Fault(LoadFault::NoModule)),
+        (Some(_), Some(_)) => refused_below(alloc, path, "meta"),
+        (None, None) => {
+            let path = path.try_clone()?;
+            Err(Stop::Fault(LoadFault::NoModule { path }))
+        }
     }
 }
 
-fn what_is_said(alloc: Global, keys: &mut Keys<'_, WithoutEffect>) -> Result<Said, Stop<LoadFault>>
-    ensures value { Takes (λ v. v) result (ahead keys.new) (what_is_said (ahead keys.old)) }
+fn what_is_said(
+    alloc: Global,
+    path: &Text,
+    keys: &mut Keys<'_, WithoutEffect>,
+) -> Result<Said, Stop<LoadFault>>
+    ensures value { Takes (λ v. v) result (ahead keys.new) (what_is_said path.now (ahead keys.old)) }
     ensures path { (ahead keys.new).path ≡ (ahead keys.old).path }
 {
     let full = keys.field::<Said>(alloc, "ansible.builtin.meta")?;
     let short = keys.field::<Said>(alloc, "meta")?;
-    one_of(alloc, full, short)
+    one_of(alloc, path, full, short)
 }
 
 fn meta_task(
@@ -119,8 +131,8 @@ impl Reads<LoadFault> for NoConditions {
 
     ghost reads = { no_conditions };
 
-    fn read(alloc: Global, _path: &Text, _json: &Value) -> Result<(), Stop<LoadFault>> {
-        not_in_profile(alloc, "when")
+    fn read(alloc: Global, path: &Text, _json: &Value) -> Result<(), Stop<LoadFault>> {
+        not_in_profile(alloc, path, "when")
     }
 }
 
@@ -170,6 +182,6 @@ pub(crate) fn read_meta(
     ensures { IsRead result (meta path.now (json.object (members_view members.now.entries))) }
 {
     let mut keys = Keys::of(path, members, WithoutEffect);
-    let said = what_is_said(alloc, &mut keys)?;
+    let said = what_is_said(alloc, path, &mut keys)?;
     read_rest(alloc, keys, said)
 }

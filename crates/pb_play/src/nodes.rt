@@ -161,8 +161,10 @@ fn read_inner(
     ensures { IsRead result (inner left path.now (json.object (members_view members.now.entries))) }
 {
     if left == 0 {
+        let path = path.try_clone()?;
         return Err(Stop::Fault(LoadFault::TooLarge {
             which: Limit::Blocks,
+            path,
         }));
     }
     read_block(alloc, left - 1, path, members)

@@ -1,9 +1,8 @@
 ghost use Rattle.std.specs.Prelude.{◌≡◌, ◌≢◌, ◌≤◌, length, IfOk, IfErr, OnOk, Ok, Err, nat_lt, decimal};
 ghost use Rattle.serde_json.specs.View.{view, items_view};
 ghost use Rattle.pb_value.specs.Reading.{below};
-ghost use Rattle.pb_patterns.specs.Expressions.{AreTaken, IsFirstFault};
 ghost use Rattle.pb_reading.specs.Reading.{each};
-ghost use Rattle.pb_play.specs.Refusals.{GivesOf};
+ghost use Rattle.pb_play.specs.Refusals.{AllTaken, IsFirstFaultAt, GivesOf};
 ghost use Rattle.pb_play.specs.Plays.{play, expressions_of_play};
 ghost use Rattle.pb_play.specs.Playbooks.{count, max_plays, plays, playbook_of, each_expression, expressions_of_plays, expressions_of_book};
 
@@ -31,9 +30,9 @@ impl Playbook {
     /// See Ansible's documentation, "Playbook Keywords"; the file is JSON in place of YAML.
     pub fn read(alloc: Global, bytes: &[u8]) -> Result<Playbook, LoadFault>
         ensures value { IfOk result (λ playbook. playbook_of bytes.now ≡ Ok playbook) }
-        ensures taken { OnOk result (AreTaken (expressions_of_book bytes.now)) }
+        ensures taken { OnOk result (AllTaken (expressions_of_book bytes.now)) }
         ensures limit { IfOk result (λ playbook. length playbook.plays ≤ max_plays) }
-        ensures fault { IfErr result (λ e. e ≢ LoadFault.Memory → IsFirstFault (expressions_of_book bytes.now) (playbook_of bytes.now) LoadFault.BadPattern e) }
+        ensures fault { IfErr result (λ e. e ≢ LoadFault.Memory → IsFirstFaultAt (expressions_of_book bytes.now) (playbook_of bytes.now) LoadFault.BadPattern e) }
     {
         let json = match read_json(alloc, bytes) {
             Ok(json) => json,
@@ -66,6 +65,7 @@ fn read_plays(alloc: Global, json: &Value) -> Result<Items<Play>, Stop<LoadFault
             if are_too_many(items.as_slice()) {
                 return Err(Stop::Fault(LoadFault::TooLarge {
                     which: Limit::Plays,
+                    path,
                 }));
             }
             read_each(alloc, &path, items.as_slice())

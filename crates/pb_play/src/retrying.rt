@@ -13,7 +13,7 @@ use pb_reading::stop::{Stop, required, wrong};
 use pb_value::items::Items;
 use pb_value::text::Text;
 use pb_written::conditions::Conditions;
-use pb_written::fault::{LoadFault, not_in_profile};
+use pb_written::fault::{LoadFault, refused_below};
 use serde_json::Value;
 use std::alloc::Global;
 
@@ -131,17 +131,22 @@ pub(crate) struct Tries {
 }
 
 impl Tries {
-    /// Only a program is tried more than once.
-    pub(crate) fn check(&self, alloc: Global, called: &Module) -> Result<(), Stop<LoadFault>>
-        ensures { Gives result (may_retry called.now self.now) }
+    /// Only a program is tried more than once: the task at the path does this.
+    pub(crate) fn check(
+        &self,
+        alloc: Global,
+        path: &Text,
+        called: &Module,
+    ) -> Result<(), Stop<LoadFault>>
+        ensures { Gives result (may_retry path.now called.now self.now) }
     {
         if called.is_program() {
             return Ok(());
         }
         match (&self.until, self.retries) {
             (None, None) => Ok(()),
-            (None, Some(_)) => not_in_profile(alloc, "retries"),
-            (Some(_), _) => not_in_profile(alloc, "until"),
+            (None, Some(_)) => refused_below(alloc, path, "retries"),
+            (Some(_), _) => refused_below(alloc, path, "until"),
         }
     }
 }

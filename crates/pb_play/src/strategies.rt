@@ -1,6 +1,7 @@
 ghost use Rattle.serde_json.specs.View.{view};
-ghost use Rattle.pb_reading.specs.Reading.{Gives};
+ghost use Rattle.pb_reading.specs.Reading.{Gives, Own};
 ghost use Rattle.pb_play.specs.Strategies.{strategy_of, strategy};
+ghost use Rattle.pb_written.specs.declared.fault.LoadFault.TheVariants.{BadStrategy};
 
 use pb_reading::reads::Reads;
 use pb_reading::stop::Stop;
@@ -11,8 +12,8 @@ use serde_json::Value;
 use std::alloc::Global;
 
 /// The strategy of this name.
-fn strategy_of(name: &str) -> Result<Strategy, Stop<LoadFault>>
-    ensures { Gives result (strategy_of name.now) }
+fn strategy_of(path: &Text, name: &str) -> Result<Strategy, Stop<LoadFault>>
+    ensures { Gives result (strategy_of path.now name.now) }
 {
     if name == "free" {
         Ok(Strategy::Free)
@@ -21,8 +22,16 @@ fn strategy_of(name: &str) -> Result<Strategy, Stop<LoadFault>>
     } else if name == "linear" {
         Ok(Strategy::Linear)
     } else {
-        Err(Stop::Fault(LoadFault::BadStrategy))
+        bad_strategy(path)
     }
+}
+
+/// What stands at the path is no strategy.
+fn bad_strategy(path: &Text) -> Result<Strategy, Stop<LoadFault>>
+    ensures { Gives result (Err (Own (BadStrategy path.now))) }
+{
+    let path = path.try_clone()?;
+    Err(Stop::Fault(LoadFault::BadStrategy { path }))
 }
 
 /// Reads the name of a strategy.
@@ -33,10 +42,10 @@ impl Reads<LoadFault> for StrategyName {
 
     ghost reads = { strategy };
 
-    fn read(_alloc: Global, _path: &Text, json: &Value) -> Result<Strategy, Stop<LoadFault>> {
+    fn read(_alloc: Global, path: &Text, json: &Value) -> Result<Strategy, Stop<LoadFault>> {
         match json {
-            Value::String(name) => strategy_of(name.as_str()),
-            _ => Err(Stop::Fault(LoadFault::BadStrategy)),
+            Value::String(name) => strategy_of(path, name.as_str()),
+            _ => bad_strategy(path),
         }
     }
 }

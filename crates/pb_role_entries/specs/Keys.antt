@@ -43,7 +43,7 @@ is_refused k = is_of_user k || (is_of_connection k || (is_of_running k || is_of_
 -- any other key is a parameter, and its value's texts are templates
 abbrev pub one_more_param : Telling Params LoadFault
 one_more_param told path k d =
-    if is_refused k then refused_key k else map_ok (λ v. record { params = put k v told.params }) (template_value path d)
+    if is_refused k then refused_key path k else map_ok (λ v. record { params = put k v told.params }) (template_value path d)
 
 -- a key that is no parameter
 abbrev pub key : {A : Type 0} → List ℕ → (List ℕ → json.Data → Reading A LoadFault) → Part Params LoadFault (Option A)
@@ -51,7 +51,7 @@ key = field one_more_param
 
 -- tags are read whole, and then the one is refused that is run only where it is asked for
 abbrev pub tags : List ℕ → json.Data → Reading Datum LoadFault
-tags path d = and_then (plain_value path d) (λ v. if has_never d then refused_key (codes "never") else Ok v)
+tags path d = and_then (plain_value path d) (λ v. if has_never d then refused_key path (codes "never") else Ok v)
 
 -- conditions, and what is written there
 abbrev pub asked : List ℕ → json.Data → Reading Asked LoadFault

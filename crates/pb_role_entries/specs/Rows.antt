@@ -86,7 +86,7 @@ both_keys_for_role : read (codes "{\"name\":\"app\",\"role\":\"app\"}") ≡ Some
 unfolding on_literals
 both_keys_for_role = refl
 
-keys_before_rule : read (codes "{\"name\":\"app\",\"role\":\"app\",\"throttle\":1}") ≡ Some (Err (Own (NotInProfile (codes "throttle"))))
+keys_before_rule : read (codes "{\"name\":\"app\",\"role\":\"app\",\"throttle\":1}") ≡ Some (Err (Own (NotInProfile (codes "throttle") (codes "p/throttle"))))
 unfolding on_literals
 keys_before_rule = refl
 
@@ -103,7 +103,7 @@ fraction_as_parameter : read (codes "{\"role\":\"app\",\"x\":[1,1.5]}") ≡ Some
 unfolding on_literals
 fraction_as_parameter = refl
 
-no_template_in_parameter : read (codes "{\"role\":\"app\",\"x\":\"{{ 1\"}") ≡ Some (Err (Own BadExpression))
+no_template_in_parameter : read (codes "{\"role\":\"app\",\"x\":\"{{ 1\"}") ≡ Some (Err (Own (BadExpression (codes "p/x"))))
 unfolding on_literals
 no_template_in_parameter = refl
 
@@ -115,25 +115,30 @@ fraction_as_variable : read (codes "{\"role\":\"app\",\"vars\":{\"x\":1.5}}") �
 unfolding on_literals
 fraction_as_variable = refl
 
-condition_in_braces : read (codes "{\"role\":\"app\",\"when\":\"{{ x }}\"}") ≡ Some (Err (Own BadExpression))
+condition_in_braces : read (codes "{\"role\":\"app\",\"when\":\"{{ x }}\"}") ≡ Some (Err (Own (BadExpression (codes "p/when"))))
 unfolding on_literals
 condition_in_braces = refl
+
+-- a condition of a list is told at its own path
+second_condition : read (codes "{\"role\":\"app\",\"when\":[\"x\",\"y y\"]}") ≡ Some (Err (Own (BadExpression (codes "p/when/1"))))
+unfolding on_literals
+second_condition = refl
 
 -- tags are kept, so they are read as a value, and the one is refused that is run only where it is asked for
 fraction_as_tag : read (codes "{\"role\":\"app\",\"tags\":[1.5,\"never\"]}") ≡ Some (Err (WrongShape (codes "p/tags")))
 unfolding on_literals
 fraction_as_tag = refl
 
-tag_never : read (codes "{\"role\":\"app\",\"tags\":[\"x\",\"never\"]}") ≡ Some (Err (Own (NotInProfile (codes "never"))))
+tag_never : read (codes "{\"role\":\"app\",\"tags\":[\"x\",\"never\"]}") ≡ Some (Err (Own (NotInProfile (codes "never") (codes "p/tags"))))
 unfolding on_literals
 tag_never = refl
 
 -- a key that is refused, whatever it holds; the first in the order of bytes is told
-refused : read (codes "{\"become\":1,\"async\":1.5,\"role\":\"app\"}") ≡ Some (Err (Own (NotInProfile (codes "async"))))
+refused : read (codes "{\"become\":1,\"async\":1.5,\"role\":\"app\"}") ≡ Some (Err (Own (NotInProfile (codes "async") (codes "p/async"))))
 unfolding on_literals
 refused = refl
 
-refused_though_off : read (codes "{\"ignore_errors\":false,\"role\":5}") ≡ Some (Err (Own (NotInProfile (codes "ignore_errors"))))
+refused_though_off : read (codes "{\"ignore_errors\":false,\"role\":5}") ≡ Some (Err (Own (NotInProfile (codes "ignore_errors") (codes "p/ignore_errors"))))
 unfolding on_literals
 refused_though_off = refl
 

@@ -89,7 +89,7 @@ impl Others for Params {
         json: &Value,
     ) -> Result<(), Stop<LoadFault>> {
         if is_refused(key) {
-            return not_in_profile(alloc, key);
+            return not_in_profile(alloc, path, key);
         }
         let value = TemplateValue::read(alloc, path, json)?;
         self.params.put(alloc, key, value)?;
@@ -108,7 +108,7 @@ impl Reads<LoadFault> for Tags {
     fn read(alloc: Global, path: &Text, json: &Value) -> Result<Val, Stop<LoadFault>> {
         let tags = PlainValue::read(alloc, path, json)?;
         if has_never(json) {
-            not_in_profile(alloc, "never")
+            not_in_profile(alloc, path, "never")
         } else {
             Ok(tags)
         }

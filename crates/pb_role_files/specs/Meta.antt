@@ -12,7 +12,7 @@ use Rattle.pb_role_files.specs.declared.meta.RoleMeta.{RoleMeta}
 
 -- no other key is read
 abbrev pub refuses : Telling NoOthers LoadFault
-refuses told path k d = refused_key k
+refuses told path k d = refused_key path k
 
 -- a role that doesn't say otherwise depends on none, and comes once
 abbrev pub told : Part NoOthers LoadFault RoleMeta

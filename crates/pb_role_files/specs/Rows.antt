@@ -52,7 +52,7 @@ handlers : handlers_of_file (codes "[{\"name\":\"h\",\"listen\":[\"web\"],\"setu
 unfolding on_literals
 handlers = refl
 
-block_as_handler : handlers_of_file (codes "[{\"setup\":{}},{\"block\":[]}]") ≡ Err (NotInProfile (codes "block"))
+block_as_handler : handlers_of_file (codes "[{\"setup\":{}},{\"block\":[]}]") ≡ Err (NotInProfile (codes "block") (codes "1/block"))
 unfolding on_literals
 block_as_handler = refl
 
@@ -69,7 +69,7 @@ fraction_as_variable : variables_of_file (codes "{\"x\":[1.5]}") ≡ Err (WrongS
 unfolding on_literals
 fraction_as_variable = refl
 
-no_template_in_variable : variables_of_file (codes "{\"x\":[\"{{ }}\"]}") ≡ Err BadExpression
+no_template_in_variable : variables_of_file (codes "{\"x\":[\"{{ }}\"]}") ≡ Err (BadExpression (codes "x"))
 unfolding on_literals
 no_template_in_variable = refl
 
@@ -99,7 +99,7 @@ no_role : meta_of_file (codes "{\"dependencies\":[{\"x\":1}]}") ≡ Err (WrongSh
 unfolding on_literals
 no_role = refl
 
-other_key : meta_of_file (codes "{\"author\":1,\"dependencies\":1}") ≡ Err (NotInProfile (codes "author"))
+other_key : meta_of_file (codes "{\"author\":1,\"dependencies\":1}") ≡ Err (NotInProfile (codes "author") (codes "author"))
 unfolding on_literals
 other_key = refl
 

@@ -37,11 +37,11 @@ impl Others for NoOthers {
     fn tell(
         &mut self,
         alloc: Global,
-        _path: &Text,
+        path: &Text,
         key: &str,
         _json: &Value,
     ) -> Result<(), Stop<LoadFault>> {
-        not_in_profile(alloc, key)
+        not_in_profile(alloc, path, key)
     }
 }
 

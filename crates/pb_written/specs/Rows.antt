@@ -1,12 +1,14 @@
 -- Worked examples: each is proved by computing both sides.
-use Rattle.std.specs.Prelude.{◌≡◌, ℕ, true, false, List, Ok, Err, codes, refl}
+use Rattle.std.specs.Prelude.{◌≡◌, ℕ, true, false, List, [], Some, None, Ok, Err, codes, refl}
 use Rattle.serde_json.specs.Data as json
 use Rattle.pb_expr_syntax.specs.Computed.{tree_of, tree_of_tokens}
 use Rattle.pb_reading.specs.Reading.{WrongShape}
 use Rattle.pb_template.specs.Computed.{template_of}
+use Rattle.pb_written.specs.Faults.{place_of}
 use Rattle.pb_written.specs.Simple.{switched, variable_name}
 use Rattle.pb_written.specs.Tags.{has_never}
 use Rattle.pb_written.specs.Templates.{is_template, are_templates}
+use Rattle.pb_written.specs.declared.fault.LoadFault.TheVariants as load
 
 -- a text, and a list of two values
 abbrev text : List ℕ → json.Data
@@ -69,3 +71,10 @@ all_texts = refl
 one_text : are_templates (two (two (text (codes "a")) (text (codes "{{ }}"))) json.null) ≡ false
 unfolding is_template template_of tree_of tree_of_tokens
 one_text = refl
+
+-- where faults stand: one of the whole file stands at no place in it
+place : place_of (load.NotInProfile (codes "become") (codes "0/tasks/1/become")) ≡ Some (codes "0/tasks/1/become")
+place = refl
+
+no_place : place_of (load.WrongShape []) ≡ None
+no_place = refl

@@ -2,7 +2,7 @@ ghost use Rattle.serde_json.specs.View.{view};
 ghost use Rattle.pb_reading.specs.Reading.{Gives};
 ghost use Rattle.pb_written.specs.Conditions.{expression_in, condition, conditions};
 
-use crate::fault::LoadFault;
+use crate::fault::{LoadFault, no_expression};
 use pb_expr_syntax::fault::ExprFault;
 use pb_expr_syntax::tree::{Expr, Form};
 use pb_reading::list::read_each;
@@ -13,14 +13,14 @@ use pb_value::text::Text;
 use serde_json::Value;
 use std::alloc::Global;
 
-/// The expression that a text spells, as a whole and without braces.
-pub fn read_expression(alloc: Global, text: &str) -> Result<Expr, Stop<LoadFault>>
-    ensures { Gives result (expression_in text.now) }
+/// The expression that a text at the path spells, as a whole and without braces.
+pub fn read_expression(alloc: Global, path: &Text, text: &str) -> Result<Expr, Stop<LoadFault>>
+    ensures { Gives result (expression_in path.now text.now) }
 {
     match Expr::parse(alloc, text) {
         Ok(expr) => Ok(expr),
         Err(ExprFault::Memory) => Err(Stop::Memory),
-        Err(_) => Err(Stop::Fault(LoadFault::BadExpression)),
+        Err(_) => no_expression(path),
     }
 }
 
@@ -37,7 +37,7 @@ impl Reads<LoadFault> for Condition {
             Value::Bool(holds) => Ok(Expr {
                 form: Form::Truth(*holds),
             }),
-            Value::String(text) => read_expression(alloc, text.as_str()),
+            Value::String(text) => read_expression(alloc, path, text.as_str()),
             _ => wrong(path),
         }
     }

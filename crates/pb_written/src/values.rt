@@ -2,7 +2,7 @@ ghost use Rattle.serde_json.specs.View.{view};
 ghost use Rattle.pb_reading.specs.Reading.{Gives};
 ghost use Rattle.pb_written.specs.Values.{plain_value, template_value, template_text};
 
-use crate::fault::LoadFault;
+use crate::fault::{LoadFault, no_expression};
 use crate::templates::{are_templates, is_template};
 use pb_reading::reads::Reads;
 use pb_reading::stop::{Stop, wrong};
@@ -42,7 +42,7 @@ impl Reads<LoadFault> for TemplateValue {
         if are_templates(alloc, json)? {
             Ok(value)
         } else {
-            Err(Stop::Fault(LoadFault::BadExpression))
+            no_expression(path)
         }
     }
 }
@@ -61,7 +61,7 @@ impl Reads<LoadFault> for TemplateText {
                 if is_template(alloc, text.as_str())? {
                     Ok(Text::from_str(alloc, text.as_str())?)
                 } else {
-                    Err(Stop::Fault(LoadFault::BadExpression))
+                    no_expression(path)
                 }
             }
             _ => wrong(path),

@@ -1,8 +1,9 @@
-use Rattle.std.proofs.Common.{◌≡◌, [], Ok, subst, ◌∙◌}
+use Rattle.std.proofs.Common.{◌≡◌, [], Ok, ap, subst, sym, ◌∙◌}
 use Rattle.std.specs.Prelude.{codes}
 use Rattle.pb_reading.specs.Ahead.{ahead}
 use Rattle.pb_reading.specs.Reading.{Stops}
 use Rattle.pb_play.specs.NoEffect.{key_or}
+use Rattle.pb_play.specs.Plays.{play_of}
 use Rattle.pb_play.specs.Variables.{variables}
 use Rattle.pb_play.proofs.Steps.{AreRead, stopped, variables_stop, others_stop, no_hosts_stop, play_is}
 use Rattle.pb_play.proofs.play.read_rest.Goals as goal
@@ -68,4 +69,5 @@ returns c =
     subst (λ none. key_or (codes "vars") variables none (ahead c.read_lists.new.keys) ≡ Ok (record { value = c.in_ok-vars.vars; ahead = ahead c.field_or.new.self })) c.new.ensures c.in_ok-vars.ensures.value in
     play_is c.args.path.now c.args.before c.args.hosts c.in_ok-text.field-0 (ahead c.args.keys) (ahead c.read_lists.new.keys) (ahead c.field_or.new.self) _ c.in_ok-tolerance.tolerance c.in_ok-name.name c.in_ok-lists.lists _ _ read vars
     c.in_ok-others.ensures c.in_ok-text.ensures
-    ∙ cc (c.in_ok-of.ensures, c.unwrap_or.ensures)
+    ∙ ap (λ name. Ok (play_of c.args.before name c.in_ok-text.field-0.pattern c.in_ok-vars.vars c.in_ok-tolerance.tolerance c.in_ok-lists.lists)) (sym c.unwrap_or.ensures)
+    ∙ ap Ok (sym c.in_ok-of.ensures)
