@@ -8,9 +8,7 @@ use Rattle.pb_ids.specs.declared.numbers.HostNo.{HostNo}
 use Rattle.pb_ids.specs.declared.numbers.Ticket.{Ticket}
 use Rattle.pb_strategies.specs.declared.standings.Standing.{Standing}
 use Rattle.pb_strategies.specs.Hosts.{nowhere}
-use Rattle.pb_one_host.specs.declared.turned.Turned.{Turned}
 use Rattle.pb_one_host.specs.Row.{HostRow, first_row, first_rows, is_called, is_waiting, called, left, sent}
-use Rattle.pb_one_host.specs.Turned.{turned_if}
 use Rattle.pb_sight.specs.declared.gifts.Gift.{Gift}
 use Rattle.pb_one_host.specs.Runs.{has_send}
 use Rattle.pb_all_hosts.specs.Hosts.{at_row, change}
@@ -18,7 +16,6 @@ use Rattle.pb_all_hosts.specs.Giving.{takes, given_to}
 use Rattle.pb_one_host.specs.Standing.{standing}
 use Rattle.pb_all_hosts.specs.Due.{asked_at, is_inside, IsOutside, AreOutside, IsDue}
 use Rattle.pb_all_hosts.specs.Oldest.{all_out, ticket_of, with_job, without_job}
-use Rattle.pb_all_hosts.specs.TurnMade.{with_each}
 use Rattle.pb_all_hosts.proofs.Batching.{waiting_called}
 use Rattle.pb_all_hosts.proofs.Giving.{map_same, given_map}
 use Rattle.pb_all_hosts.proofs.Outside.{out_changed, sent_out, given_told, given_out, out_first}
@@ -27,9 +24,6 @@ use Rattle.pb_all_hosts.proofs.TicketOrder.{first_order, quiet_order, sent_order
 -- a list that says something of each host is as long as the rows
 pub width_is : {A : Type 0} (of : HostRow → A) (rows : List HostRow) (told : List A) → told ≡ map of rows → length told ≡ length rows
 width_is of rows told e = ap length e ∙ length-map rows of
-
-pub same_width : {A : Type 0} (of : HostRow → A) (rows new : List HostRow) (told : List A) → told ≡ map of rows → length new ≡ length rows → length told ≡ length new
-same_width of rows new told e n = width_is of rows told e ∙ sym n
 
 pub mapped_width : {A : Type 0} (of : HostRow → A) (f : HostRow → HostRow) (rows new : List HostRow) (told : List A) → told ≡ map of rows → new ≡ map f rows → length told ≡ length new
 mapped_width of f rows new told e n = width_is of rows told e ∙ sym (ap length n ∙ length-map rows f)
@@ -130,19 +124,6 @@ given_due gifts f none same stays h sends told_sends standings told_standings ba
       outsiders = given_out gifts f h rows new keeps due.outsiders n;
       in_order = quiet_order gifts f none h jobs told_jobs rows new due.in_order n o;
     }
-
--- a turn changes nobody's waiting
-each_waits : (all : List (Option Turned)) (rows : List HostRow) → map is_waiting (with_each all rows) ≡ map is_waiting rows
-each_waits [] rows = refl
-each_waits (t ∷ all) [] = refl
-each_waits (t ∷ all) (row ∷ rows) = ap (λ (b : Bool). b ∷ map is_waiting (with_each all rows)) (if_waits t) ∙ ap (λ (rest : List Bool). row.waits ∷ rest) (each_waits all rows)
-  where
-    if_waits : (u : Option Turned) → is_waiting (turned_if u row) ≡ row.waits
-    if_waits None = refl
-    if_waits (Some made) = refl
-
-pub turned_waits : (all : List (Option Turned)) (waits : List Bool) (rows new : List HostRow) → waits ≡ map is_waiting rows → new ≡ with_each all rows → waits ≡ map is_waiting new
-turned_waits all waits rows new e n = e ∙ sym (each_waits all rows) ∙ ap (map is_waiting) (sym n)
 
 -- as a play begins those wait that are called, and those that are in a batch stay in it
 called_inside : (hosts : List Bool) (rows : List HostRow) → map is_inside (map (called hosts) rows) ≡ map is_inside rows

@@ -14,3 +14,5 @@ pub mod Overwritten
 pub mod Reported
 pub mod Members
 pub mod Outside
+pub mod Turns
+pub mod Hearing

@@ -60,7 +60,7 @@ ended F idle (row ∷ rows) out zero off = idle row rows out.0 (off zero (omega 
 ended F idle (row ∷ rows) out (suc from) off = ended F idle rows out.1 from (λ i l. off (suc i) (omega (arith, l)))
 
 -- the row of the next host, behind which the next step begins
-reached : {A : Type 0} (F : List HostRow → A) → ((row : HostRow) (rows : List HostRow) → IsOutside row → row.in_batch ≡ false → F (row ∷ rows) ≡ F rows) → (rows : List HostRow) (set : List Bool) (from h : ℕ) → set ≡ map is_inside rows
+pub reached : {A : Type 0} (F : List HostRow → A) → ((row : HostRow) (rows : List HostRow) → IsOutside row → row.in_batch ≡ false → F (row ∷ rows) ≡ F rows) → (rows : List HostRow) (set : List Bool) (from h : ℕ) → set ≡ map is_inside rows
     → AreOutside rows → IsNextFrom set from h → (row : HostRow) × (slice_get rows h ≡ Some row) × (F (drop from rows) ≡ F (row ∷ drop (h + 1) rows))
 reached F idle rows set from h e out next =
     let on = subst (λ (s : List Bool). IsNextFrom s from h) e next in
@@ -68,7 +68,7 @@ reached F idle rows set from h e out next =
     let behind : suc h ≡ h + 1 = omega arith in
     (at.0, at.1, skipped F idle rows out from h on.0 on.2 ∙ ap F (at.3 ∙ ap (λ (n : ℕ). at.0 ∷ drop n rows) behind))
 
-finished : {A : Type 0} (F : List HostRow → A) → ((row : HostRow) (rows : List HostRow) → IsOutside row → row.in_batch ≡ false → F (row ∷ rows) ≡ F rows) → (rows : List HostRow) (set : List Bool) (from : ℕ) → set ≡ map is_inside rows
+pub finished : {A : Type 0} (F : List HostRow → A) → ((row : HostRow) (rows : List HostRow) → IsOutside row → row.in_batch ≡ false → F (row ∷ rows) ≡ F rows) → (rows : List HostRow) (set : List Bool) (from : ℕ) → set ≡ map is_inside rows
     → AreOutside rows → HasNoneFrom set from → F (drop from rows) ≡ F []
 finished F idle rows set from e out none = ended F idle rows out from (subst (λ (s : List Bool). HasNoneFrom s from) e none)
 
@@ -119,10 +119,10 @@ inside_count (row ∷ rows) =
     let hosts = sum_by-cons (λ (r : HostRow). cond r.in_batch 1 0) row rows in
     omega (arith, rest, bits, hosts)
 
-at_none : (p : ℕ) (row : HostRow) → row.in_batch ≡ false → is_at p row ≡ false
+pub at_none : (p : ℕ) (row : HostRow) → row.in_batch ≡ false → is_at p row ≡ false
 at_none p row e = ap (λ (next : Option ℕ). option_map_or (λ q. q == p) next false) (next_none row e)
 
-copy_none : (inventory : InventoryOf) (play : PlayOf) (p : ℕ) (from : Option HostRow) (row : HostRow) → row.in_batch ≡ false → with_copy inventory play p from row ≡ row
+pub copy_none : (inventory : InventoryOf) (play : PlayOf) (p : ℕ) (from : Option HostRow) (row : HostRow) → row.in_batch ≡ false → with_copy inventory play p from row ≡ row
 copy_none inventory play p None row e = refl
 copy_none inventory play p (Some from) row e = by_last from.last
   where
@@ -184,7 +184,7 @@ part_none : (f : HostRow → HostRow) (n : ℕ) → part f n [] ≡ []
 part_none f zero = refl
 part_none f (suc n) = refl
 
-part_skip : (f : HostRow → HostRow) → Spares f → (rows : List HostRow) → AreOutside rows → (from h : ℕ) → from ≤ h → ((i : ℕ) → from ≤ i → i < h → is_member (map is_inside rows) i ≡ false) → part f from rows ≡ part f h rows
+pub part_skip : (f : HostRow → HostRow) → Spares f → (rows : List HostRow) → AreOutside rows → (from h : ℕ) → from ≤ h → ((i : ℕ) → from ≤ i → i < h → is_member (map is_inside rows) i ≡ false) → part f from rows ≡ part f h rows
 part_skip f spares [] out from h le off = part_none f from ∙ sym (part_none f h)
 part_skip f spares (row ∷ rows) out zero zero le off = refl
 part_skip f spares (row ∷ rows) out zero (suc h) le off =

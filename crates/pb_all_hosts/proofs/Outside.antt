@@ -34,7 +34,7 @@ out_changed f h [] keeps w = w
 out_changed f zero (row ∷ rows) keeps w = (keeps row refl w.0, w.1)
 out_changed f (suc h) (row ∷ rows) keeps w = subst AreOutside (sym (change_on row rows h f)) (w.0, out_changed f h rows keeps w.1)
 
-out_mapped : (f : HostRow → HostRow) → ((row : HostRow) → IsOutside row → IsOutside (f row)) → (rows : List HostRow) → AreOutside rows → AreOutside (map f rows)
+pub out_mapped : (f : HostRow → HostRow) → ((row : HostRow) → IsOutside row → IsOutside (f row)) → (rows : List HostRow) → AreOutside rows → AreOutside (map f rows)
 out_mapped f keeps [] w = w
 out_mapped f keeps (row ∷ rows) w = (keeps row w.0, out_mapped f keeps rows w.1)
 

@@ -14,14 +14,11 @@ use Rattle.pb_plan.specs.Plan.{PlayOf, PlanOf}
 use Rattle.pb_sight.specs.declared.gifts.Gift.{Gift}
 use Rattle.pb_cursors.specs.Walks.{PlayWalkOf}
 use Rattle.pb_one_host.specs.declared.row.Running.{Running}
-use Rattle.pb_one_host.specs.declared.turned.Turned.{Turned}
 use Rattle.pb_all_hosts.specs.Joining.{walks_behind, joined_by}
 use Rattle.pb_one_host.specs.Row.{HostRow, first_rows, left, sent, sent_running, ended, progressed, reported, reported_running, items_after}
 use Rattle.pb_one_host.specs.Runs.{has_send, has_ticket, is_out, is_ticket}
 use Rattle.pb_all_hosts.specs.Hosts.{at_row, change}
 use Rattle.pb_all_hosts.specs.Giving.{given_to}
-use Rattle.pb_one_host.specs.Turned.{turned_if}
-use Rattle.pb_all_hosts.specs.TurnMade.{with_each}
 use Rattle.pb_all_hosts.specs.Oldest.{older, out_of, out_at, oldest_from, oldest_out, ticket_of, is_before, with_job, with_ticket, out_from, all_out, is_of, without_job, is_under}
 use Rattle.pb_all_hosts.proofs.Giving.{change_on, given_map}
 use Rattle.pb_all_hosts.proofs.Preparing.{position_here, position_on}
@@ -308,20 +305,6 @@ joined_order h walks (row ∷ rows) = joined_order (h + 1) (walks_behind row.wai
 pub first_order : (h k n : ℕ) → out_from h (map ticket_of (first_rows k n)) ≡ []
 first_order h k zero = refl
 first_order h k (suc n) = first_order (h + 1) (k + 1) n
-
-if_ticket : (t : Option Turned) (row : HostRow) → ticket_of (turned_if t row) ≡ ticket_of row
-if_ticket None row = refl
-if_ticket (Some t) row = refl
-
-each_tickets : (all : List (Option Turned)) (rows : List HostRow) → map ticket_of (with_each all rows) ≡ map ticket_of rows
-each_tickets [] rows = refl
-each_tickets (t ∷ all) [] = refl
-each_tickets (t ∷ all) (row ∷ rows) =
-    ap (λ (o : Option Ticket). o ∷ map ticket_of (with_each all rows)) (if_ticket t row)
-    ∙ ap (λ (rest : List (Option Ticket)). ticket_of row ∷ rest) (each_tickets all rows)
-
-pub turned_order : (all : List (Option Turned)) (jobs : List (HostNo × Ticket)) (rows new : List HostRow) → jobs ≡ all_out rows → new ≡ with_each all rows → jobs ≡ all_out new
-turned_order all jobs rows new e n = e ∙ ap (out_from 0) (sym (each_tickets all rows)) ∙ ap all_out (sym n)
 
 -- ---- what is read of them
 -- the first of them is the oldest job

@@ -8,3 +8,4 @@ pub mod OutRows
 pub mod Due
 pub mod Giving
 pub mod TurnMade
+pub mod Heard

@@ -1,16 +1,16 @@
 -- How a batch goes on from its current place, in three parts, each on what the one before it left: what one host did for all goes to the others, hosts
 -- are halted, and the next place is the least at which one of them is (Ansible's documentation, "Controlling where tasks run", "Error handling in
 -- playbooks", and "Controlling playbook execution: strategies and more").
-use Rattle.std.specs.Prelude.{ℕ, ◌*◌, ◌==◌, nat_lt, Bool, false, ◌&&◌, ◌||◌, not, List, [], ◌∷◌, map, Option, Some, None, is_some, count_by, slice_get, if◌then◌else◌}
+use Rattle.std.specs.Prelude.{ℕ, ◌*◌, ◌==◌, nat_lt, Bool, false, ◌&&◌, ◌||◌, List, [], ◌∷◌, map, Option, Some, None, count_by, slice_get, if◌then◌else◌}
 use Rattle.std.specs.List.{list_any}
 use Rattle.std.specs.Option.{option_map_or}
 use Rattle.pb_inventory.specs.InventoryOf.{InventoryOf}
-use Rattle.pb_tree.specs.declared.answer.Kind.TheVariants.{Halted}
 use Rattle.pb_places.specs.Place.{PlaceOf}
 use Rattle.pb_plan.specs.Plan.{PlayOf}
 use Rattle.pb_one_host.specs.Ends.{breaks, plain_answer, is_settling, is_fatal}
-use Rattle.pb_one_host.specs.Row.{HostRow, next_place, is_active, answered, caught_at, runs_once_at, taught, is_at}
+use Rattle.pb_one_host.specs.Row.{HostRow, answered, caught_at, runs_once_at, taught, is_at}
 use Rattle.pb_one_host.specs.declared.row.Finish.{Finish}
+pub use Rattle.pb_one_host.specs.Turned.{may_be_halted, halted}
 
 -- the rows of a batch, and the sizes of those of its play that come behind it
 pub record BatchOf : Type 0 where
@@ -87,13 +87,6 @@ has_failed_too_often play rows = nat_lt (play.max_fail_percentage * batch_count 
 
 abbrev pub is_halting : PlayOf → ℕ → List HostRow → Bool
 is_halting play p rows = is_fatal_at play p rows || has_failed_too_often play rows
-
--- a host that is active, not broken and not at its end is halted
-abbrev pub may_be_halted : HostRow → Bool
-may_be_halted row = is_active row.status && not row.is_broken && is_some (next_place row)
-
-abbrev pub halted : HostRow → HostRow
-halted row = if may_be_halted row then answered (plain_answer Halted) row else row
 
 -- the second part: where hosts are halted, no further batch of the play opens
 abbrev pub halts : PlayOf → ℕ → BatchOf → BatchOf

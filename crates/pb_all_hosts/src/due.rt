@@ -15,15 +15,16 @@ ghost use Rattle.pb_one_host.specs.Standing.{standing};
 ghost use Rattle.pb_all_hosts.specs.Due.{asked_at, is_inside, AreOutside};
 ghost use Rattle.pb_strategies.specs.Hosts.{nowhere};
 ghost use Rattle.pb_all_hosts.specs.Oldest.{oldest_out};
-ghost use Rattle.pb_all_hosts.specs.TurnMade.{halts_at, turned_rows};
+ghost use Rattle.pb_all_hosts.specs.Heard.{with_news};
+ghost use Rattle.pb_all_hosts.specs.Turn.{is_settled};
+ghost use Rattle.pb_all_hosts.specs.TurnMade.{halts_at, turned_rows, turning_row};
 
 use crate::inside::{empty_by, least_inside, put_in, some_inside, stand_inside, stand_left};
 use crate::jobs_out::{drop_job, first_job, put_job, some_under};
 use crate::rows::{
-    self, HostRows, call_all, called_set, inside_into, join_waiting, sends_into, stand_all,
-    turn_all, walks_for,
+    self, HostRows, call_all, called_set, hear_all, join_waiting, turn_all, walks_for,
 };
-use crate::turned::turn_of;
+use crate::turned::{TurnMade, is_settled_at, turn_of};
 use pb_cursors::{LaidTree, PlayWalk};
 use pb_ids::{HostNo, Ticket};
 use pb_inventory::inventory::Inventory;
@@ -184,23 +185,6 @@ fn ask_one(rows: &HostRows, host: HostNo, sends: &mut HostSet, standings: &mut S
     }
 }
 
-/// Asks all rows anew.
-fn ask_all(rows: &HostRows, sends: &mut HostSet, standings: &mut Standings, batch: &mut HostSet)
-    requires sends { length sends.old ≡ length rows.now }
-    requires stands { length standings.old ≡ length rows.now }
-    requires batch { length batch.old ≡ length rows.now }
-    ensures sends { sends.new ≡ map has_send rows.now }
-    ensures stands { standings.new ≡ map standing rows.now }
-    ensures batch { batch.new ≡ map is_inside rows.now }
-{
-    // (there are fewer rows than host numbers)
-    let _hosts = rows.hosts();
-    let all = rows.as_slice();
-    sends_into(all, sends);
-    stand_all(all, standings);
-    inside_into(all, batch);
-}
-
 /// A batch opens with these walks: the first hosts that wait take them, one each, and no other host is in it. No host of these stood anywhere.
 fn open_batch(
     rows: &mut HostRows,
@@ -238,6 +222,16 @@ pub fn some_in(rows: &DueRows) -> bool
     ensures { result ≡ list_any is_in rows.now }
 {
     some_inside(rows.rows.as_slice(), &rows.batch)
+}
+
+/// Whether a host did the task at the current place for all, if there is one and it runs once.
+pub fn is_settled(rows: &DueRows, play: &PlanPlay, place: Option<usize>) -> bool
+    ensures { result ≡ is_settled play.now rows.now place }
+{
+    match place {
+        Some(place) => is_settled_at(play, rows.rows.as_slice(), &rows.batch, place),
+        None => false,
+    }
 }
 
 /// From now on it is kept who is at this place.
@@ -389,6 +383,33 @@ pub fn leave_all(rows: &mut DueRows)
     empty_by(&rows.sends, &mut rows.batch);
 }
 
+/// A batch goes on, whose hosts are these, as was made: hosts hear what goes to them, and each gets its answers then. It says whether hosts are halted.
+/// An `Err` changes nothing.
+fn turn_batch(
+    alloc: Global,
+    rows: &mut HostRows,
+    batch: &HostSet,
+    standings: &mut Standings,
+    made: TurnMade,
+) -> Result<bool, AllocError>
+    requires insiders { batch.now ≡ map is_inside rows.old }
+    requires outsiders { AreOutside rows.old }
+    requires stands { standings.old ≡ map standing rows.old }
+    ensures rows { OnOk result (rows.new ≡ map (turning_row made.turning) (with_news made.all.items rows.old)) }
+    ensures stands { OnOk result (standings.new ≡ map standing rows.new) }
+    ensures halts { IfOk result (λ halts. halts ≡ made.turning.halts) }
+    ensures err { OnErr result (rows.new ≡ rows.old) }
+    ensures same { OnErr result (standings.new ≡ standings.old) }
+{
+    let (all, turning) = made.parts();
+    hear_all(alloc, rows, all)?;
+    // (nobody is at its old place from here on)
+    stand_left(rows.as_slice(), batch, standings);
+    turn_all(alloc, rows, batch, turning);
+    stand_inside(rows.as_slice(), batch, standings);
+    Ok(turning.halts)
+}
+
 /// The batch goes on from a place: what one host did for all goes to the others, and hosts are halted; it says whether they are. An `Err` changes
 /// nothing.
 pub fn turn_rows(
@@ -413,14 +434,13 @@ pub fn turn_rows(
         &rows.batch,
     )? {
         Some(made) => {
-            let (all, halts) = made.parts();
-            turn_all(&mut rows.rows, all);
-            ask_all(
-                &rows.rows,
-                &mut rows.sends,
+            let halts = turn_batch(
+                alloc,
+                &mut rows.rows,
+                &rows.batch,
                 &mut rows.standings,
-                &mut rows.batch,
-            );
+                made,
+            )?;
             Ok(halts)
         }
         None => Ok(false),

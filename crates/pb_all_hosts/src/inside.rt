@@ -14,9 +14,10 @@ ghost use Rattle.pb_all_hosts.specs.Hosts.{at_row, change, least_place, one_if};
 ghost use Rattle.pb_all_hosts.specs.Turn.{batch_count, with_copy};
 ghost use Rattle.pb_all_hosts.specs.Due.{asked_at, is_inside, AreOutside};
 ghost use Rattle.pb_all_hosts.specs.Joining.{joined_by};
+ghost use Rattle.pb_all_hosts.specs.TurnMade.{turning_row};
 
 use crate::rows::lesser;
-use crate::turned::is_broken_then;
+use crate::turned::{Turning, is_broken_then};
 use pb_cursors::PlayWalk;
 use pb_ids::HostNo;
 use pb_inventory::inventory::Inventory;
@@ -24,6 +25,7 @@ use pb_one_host::Row;
 use pb_plan::PlanPlay;
 use pb_planes::HostSet;
 use pb_strategies::{Standing, Standings};
+use std::alloc::Global;
 
 /// The number behind that of a host of a set.
 #[tactic(auto, using(crate::proofs::Members::member_below))]
@@ -226,6 +228,34 @@ pub(crate) fn step_out(rows: &mut Vec<Row>, batch: &HostSet)
     let mut from = 0;
     while let Some(host) = batch.next_at(from) {
         join_at(rows, host, None);
+        from = behind(batch, host);
+    }
+}
+
+/// The batch goes on for a host.
+fn turn_at(alloc: Global, rows: &mut Vec<Row>, host: HostNo, turning: Turning)
+    ensures { rows.new.items ≡ change rows.old.items host.0 (turning_row turning) }
+{
+    if let Some(row) = rows.get_mut(host.0 as usize) {
+        row.turn(
+            alloc,
+            turning.place,
+            turning.kind,
+            turning.is_caught,
+            turning.halts,
+        );
+    }
+}
+
+/// The batch goes on for each of its hosts.
+pub(crate) fn turn_inside(alloc: Global, rows: &mut Vec<Row>, batch: &HostSet, turning: Turning)
+    requires insiders { batch.now ≡ map is_inside rows.old.items }
+    requires outsiders { AreOutside rows.old.items }
+    ensures { rows.new.items ≡ map (turning_row turning) rows.old.items }
+{
+    let mut from = 0;
+    while let Some(host) = batch.next_at(from) {
+        turn_at(alloc, rows, host, turning);
         from = behind(batch, host);
     }
 }

@@ -10,14 +10,14 @@
 
 mod due;
 mod gifts;
+mod hears;
 mod inside;
 mod jobs_out;
 mod rows;
 mod turned;
 
 pub use due::{
-    DueRows, begin_first, join_first, least_place, leave_all, report_row, send_row, some_in,
-    stand_at, start_row, turn_rows,
+    DueRows, begin_first, is_settled, join_first, least_place, leave_all, report_row, send_row,
+    some_in, stand_at, start_row, turn_rows,
 };
 pub use rows::{attempt_in, called_count, counts_of, first_play, item_in};
-pub use turned::is_settled;

@@ -8,28 +8,28 @@ ghost use Rattle.pb_one_host.specs.Ends.{IsAtMost};
 ghost use Rattle.pb_cursors.specs.Walks.{walk_from};
 ghost use Rattle.pb_all_hosts.specs.Batches.{called_count};
 ghost use Rattle.pb_all_hosts.specs.Joining.{first_walks, joined_by};
-ghost use Rattle.pb_one_host.specs.Standing.{standing};
-ghost use Rattle.pb_one_host.specs.Runs.{is_running, has_send, item_of, attempt_of};
+ghost use Rattle.pb_one_host.specs.Runs.{is_running, item_of, attempt_of};
 ghost use Rattle.pb_one_host.specs.Decides.{done_if, report_decides};
 ghost use Rattle.pb_all_hosts.specs.Hosts.{lesser, change, one_if, running_count, pending_in, first_play};
 ghost use Rattle.pb_all_hosts.specs.Giving.{given_to, gifts_at, report_gives, gives_now};
 ghost use Rattle.pb_one_host.specs.Back.{back_row, retried_row, undone, went_on, decided_now};
 ghost use Rattle.pb_all_hosts.specs.Prepared.{with_facts};
-ghost use Rattle.pb_one_host.specs.Turned.{turned_if};
-ghost use Rattle.pb_all_hosts.specs.TurnMade.{each_from, with_each};
+ghost use Rattle.pb_all_hosts.specs.Heard.{with_news};
+ghost use Rattle.pb_all_hosts.specs.TurnMade.{turning_row};
 ghost use Rattle.pb_all_hosts.specs.Due.{is_inside, AreOutside};
 
 use crate::gifts::{NewFacts, gifts_at, gives_now, with_gifts};
-use crate::inside::{empty_by, join_each, leave_inside, step_out};
+use crate::hears::hear_each;
+use crate::inside::{empty_by, join_each, leave_inside, step_out, turn_inside};
+use crate::turned::{HostNews, Turning};
 use pb_cursors::{LaidTree, PlayWalk};
 use pb_ids::{HostNo, Ticket};
 use pb_inventory::inventory::Inventory;
-use pb_one_host::{Before, CameBack, Counts, Decided, Done, Retried, Row, TaskItems, Turned};
+use pb_one_host::{Before, CameBack, Counts, Decided, Done, Retried, Row, TaskItems};
 use pb_outcome::outcome::Outcome;
 use pb_plan::PlanPlay;
 use pb_planes::HostSet;
 use pb_sight::seen::Seen;
-use pb_strategies::Standings;
 use std::alloc::{AllocError, Global};
 use std::marker::Model;
 use std::rc::Rc;
@@ -494,33 +494,26 @@ pub(crate) fn leave_all(rows: &mut HostRows, batch: &HostSet)
     rows.running = 0;
 }
 
-/// What is new of one host as its batch goes on.
-fn turn_row(rows: &mut Vec<Row>, at: usize, turned: Option<Turned>)
-    ensures { rows.new.items ≡ change rows.old.items at (turned_if turned) }
+/// Hosts hear this. An `Err` changes nothing.
+pub(crate) fn hear_all(
+    alloc: Global,
+    rows: &mut HostRows,
+    all: Vec<HostNews>,
+) -> Result<(), AllocError>
+    ensures ok { OnOk result (rows.new ≡ with_news all.items rows.old) }
+    ensures err { OnErr result (rows.new ≡ rows.old) }
 {
-    if let Some(row) = rows.get_mut(at) {
-        row.turn(turned);
-    }
+    hear_each(alloc, &mut rows.rows, all)?;
+    Ok(())
 }
 
-/// What is new of each host.
-fn turn_each(rows: &mut Vec<Row>, all: Vec<Option<Turned>>)
-    requires { length all.items < 2 ^ 32 }
-    ensures { rows.new.items ≡ each_from 0 all.items rows.old.items }
+/// The batch goes on, whose hosts are these and have heard what they hear.
+pub(crate) fn turn_all(alloc: Global, rows: &mut HostRows, batch: &HostSet, turning: Turning)
+    requires insiders { batch.now ≡ map is_inside rows.old }
+    requires outsiders { AreOutside rows.old }
+    ensures { rows.new ≡ map (turning_row turning) rows.old }
 {
-    let mut at: usize = 0;
-    for turned in all {
-        turn_row(rows, at, turned);
-        at += 1;
-    }
-}
-
-/// The batch goes on, with what is new of each host.
-pub(crate) fn turn_all(rows: &mut HostRows, all: Vec<Option<Turned>>)
-    requires { length all.items ≡ length rows.old }
-    ensures { rows.new ≡ with_each all.items rows.old }
-{
-    turn_each(&mut rows.rows, all);
+    turn_inside(alloc, &mut rows.rows, batch, turning);
 }
 
 /// The lesser of two places.
@@ -531,41 +524,6 @@ pub(crate) fn lesser(a: Option<usize>, b: Option<usize>) -> Option<usize>
         (Some(p), Some(q)) => Some(p.min(q)),
         (Some(p), None) => Some(p),
         (None, q) => q,
-    }
-}
-
-/// Puts the hosts that have a job to send into a set.
-pub fn sends_into(rows: &[Row], set: &mut HostSet)
-    requires { length set.old ≡ length rows.now }
-    ensures { set.new ≡ map has_send rows.now }
-{
-    let width = set.width();
-    for i in 0..width {
-        let is_in = rows[i as usize].has_send();
-        set.put(HostNo(i), is_in);
-    }
-}
-
-/// Puts the hosts of the batch into a set.
-pub fn inside_into(rows: &[Row], set: &mut HostSet)
-    requires { length set.old ≡ length rows.now }
-    ensures { set.new ≡ map is_inside rows.now }
-{
-    let width = set.width();
-    for i in 0..width {
-        let is_in = rows[i as usize].in_batch();
-        set.put(HostNo(i), is_in);
-    }
-}
-
-/// Puts down where each host stands.
-pub fn stand_all(rows: &[Row], standings: &mut Standings)
-    requires width { length standings.old ≡ length rows.now }
-    requires few { length rows.now < 2 ^ 32 }
-    ensures { standings.new ≡ map standing rows.now }
-{
-    for i in 0..rows.len() {
-        standings.put(HostNo(i as u32), rows[i].standing());
     }
 }
 

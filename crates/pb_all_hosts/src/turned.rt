@@ -1,54 +1,43 @@
 //! What a turn makes of the rows of a batch: what one host did for all goes to the others, and hosts are halted.
 
-ghost use Rattle.std.specs.Prelude.{◌≡◌, ◌<◌, ◌^◌, Option, Some, None, List, length, map, unwrap_or, IfOk, OnOk, false};
+ghost use Rattle.std.specs.Prelude.{◌≡◌, ◌<◌, ◌^◌, None, length, map, slice_get, IfOk, IfSome};
 ghost use Rattle.std.specs.List.{list_any};
 ghost use Rattle.std.specs.Option.{option_copied};
 ghost use Rattle.pb_facts.specs.News.{heard};
 ghost use Rattle.pb_one_host.specs.Row.{taught};
-ghost use Rattle.pb_all_hosts.specs.Turn.{any_errors_fatal_at, copied, copied_if, has_ended_fatally, has_failed_too_often, has_settled, is_fatal_at, is_halting, is_settled, is_settled_at, settler, source, with_copy};
-ghost use Rattle.pb_one_host.specs.Turned.{turned_if, with_turned};
-ghost use Rattle.pb_all_hosts.specs.TurnMade.{IsTurnOf, turned_row, with_each};
+ghost use Rattle.pb_all_hosts.specs.Hosts.{at_row};
+ghost use Rattle.pb_all_hosts.specs.Turn.{any_errors_fatal_at, copied_if, has_ended_fatally, has_failed_too_often, has_settled, is_fatal_at, is_halting, is_settled_at, settler, source, with_copy};
+ghost use Rattle.pb_all_hosts.specs.TurnMade.{IsTurnOf, copy_heard, kind_from};
+ghost use Rattle.pb_all_hosts.specs.Heard.{with_news};
 ghost use Rattle.pb_all_hosts.specs.Due.{is_inside, AreOutside};
 
-use crate::inside::{broken_inside, count_inside};
+use crate::inside::{behind, broken_inside, count_inside};
 use pb_facts::facts::Facts;
 use pb_facts::news::News;
+use pb_ids::HostNo;
 use pb_inventory::inventory::Inventory;
 use pb_one_host::{
-    Finish, Row, TaskItems, Turned, breaks, caught_at, is_fatal, is_settling, runs_once_at,
-    task_at, variable_at,
+    Finish, Row, TaskItems, breaks, caught_at, is_fatal, is_settling, runs_once_at, task_at,
+    variable_at,
 };
 use pb_outcome::registered::registered;
 use pb_plan::PlanPlay;
 use pb_planes::HostSet;
 use pb_sight::learning::taught;
+use pb_tree::Kind;
 use std::alloc::{AllocError, Global};
 
-/// What a host that knows this knows once it has heard something; nothing where that is no more than before.
-fn known_with(alloc: Global, facts: &Facts, news: News) -> Result<Option<Facts>, AllocError>
-    ensures { IfOk result (λ known. unwrap_or known facts.now ≡ heard news facts.now) }
-{
-    match &news {
-        News::Nothing => return Ok(None),
-        News::Whole(_) => {}
-        News::More(_) => {}
-    }
-    let mut known = facts.try_clone(alloc)?;
-    let _past = known.hear(alloc, news)?;
-    Ok(Some(known))
-}
-
-/// What a host knows once it gets what the task at a place left with another host, which ended it with these items, but for what that gave away; nothing
-/// where that is no more than before.
-fn known_from(
+/// What a host that knows this hears once it gets what the task at a place left with another host, which ended it with these items, but for what that
+/// gave away.
+fn news_from(
     alloc: Global,
     inventory: &Inventory,
     play: &PlanPlay,
     place: usize,
     items: &TaskItems,
     facts: &Facts,
-) -> Result<Option<Facts>, AllocError>
-    ensures { IfOk result (λ known. unwrap_or known facts.now ≡ taught inventory.now play.now place None items.now facts.now) }
+) -> Result<News, AllocError>
+    ensures { IfOk result (λ news. heard news facts.now ≡ taught inventory.now play.now place None items.now facts.now) }
 {
     let ended = task_at(play, place, items).result;
     let shown = registered(alloc, variable_at(play, place), items.as_slice())?;
@@ -63,131 +52,85 @@ fn known_from(
         items.as_slice(),
         facts,
     )?;
-    known_with(alloc, facts, news)
+    Ok(news)
 }
 
-/// What is new of a host that gets what this other one did: the answer there, and what it registered and learnt itself.
-#[tactic(auto, using(crate::proofs::Making::copy_is))]
-fn copy_from(
+/// What a host hears that gets what this other one did, where its next place is that of the task: what that one registered and learnt itself.
+fn news_there(
     alloc: Global,
     inventory: &Inventory,
     play: &PlanPlay,
     place: usize,
     finish: &Finish,
     row: &Row,
-    turned: &mut Turned,
-) -> Result<(), AllocError>
-    requires { with_turned turned.old row.now ≡ row.now }
-    ensures { OnOk result (with_turned turned.new row.now ≡ copied inventory.now play.now place finish.now row.now) }
-{
-    let known = known_from(alloc, inventory, play, place, &finish.items, row.facts())?;
-    turned.copy(alloc, finish.kind, caught_at(play, place), known)?;
-    Ok(())
-}
-
-/// The same where the host's next place is that of the task.
-fn copy_there(
-    alloc: Global,
-    inventory: &Inventory,
-    play: &PlanPlay,
-    place: usize,
-    finish: &Finish,
-    row: &Row,
-    turned: &mut Turned,
-) -> Result<(), AllocError>
-    requires { with_turned turned.old row.now ≡ row.now }
-    ensures { OnOk result (with_turned turned.new row.now ≡ copied_if inventory.now play.now place row.now finish.now) }
+) -> Result<News, AllocError>
+    ensures { IfOk result (λ news. heard news row.now.facts ≡ (copied_if inventory.now play.now place row.now finish.now).facts) }
 {
     if row.is_at(place) {
-        copy_from(alloc, inventory, play, place, finish, row, turned)
+        news_from(alloc, inventory, play, place, &finish.items, row.facts())
     } else {
-        Ok(())
+        Ok(News::Nothing)
     }
 }
 
 /// The same where a host did something for all.
-fn copy_if(
+fn news_of(
     alloc: Global,
     inventory: &Inventory,
     play: &PlanPlay,
     place: usize,
     from: Option<&Row>,
     row: &Row,
-    turned: &mut Turned,
-) -> Result<(), AllocError>
-    requires { with_turned turned.old row.now ≡ row.now }
-    ensures { OnOk result (with_turned turned.new row.now ≡ with_copy inventory.now play.now place (option_copied from.entry) row.now) }
+) -> Result<News, AllocError>
+    ensures { IfOk result (λ news. heard news row.now.facts ≡ (with_copy inventory.now play.now place (option_copied from.entry) row.now).facts) }
 {
     match from {
         Some(from) => match from.last() {
-            Some(finish) => copy_there(alloc, inventory, play, place, finish, row, turned),
-            None => Ok(()),
+            Some(finish) => news_there(alloc, inventory, play, place, finish, row),
+            None => Ok(News::Nothing),
         },
-        None => Ok(()),
+        None => Ok(News::Nothing),
     }
 }
 
-/// What is new of a host of the batch, or nothing where it takes no part in that.
-#[tactic(auto, using(crate::proofs::Making::out_stays))]
-fn turned_in(
+/// The same of the host with this number.
+fn news_at(
     alloc: Global,
     inventory: &Inventory,
     play: &PlanPlay,
     place: usize,
     from: Option<&Row>,
-    halts: bool,
-    row: &Row,
-) -> Result<Option<Turned>, AllocError>
-    ensures { IfOk result (λ turned. turned_if turned row.now ≡ turned_row inventory.now play.now place (option_copied from.entry) halts row.now) }
-{
-    match row.before_turn(alloc)? {
-        Some(before) => {
-            let mut turned = before;
-            copy_if(alloc, inventory, play, place, from, row, &mut turned)?;
-            turned.halt_if(alloc, halts)?;
-            Ok(Some(turned))
-        }
-        None => Ok(None),
-    }
-}
-
-/// The same; nothing either where a turn leaves the host as it is.
-#[tactic(auto, using(crate::proofs::Making::elsewhere_stays))]
-fn turned_of(
-    alloc: Global,
-    inventory: &Inventory,
-    play: &PlanPlay,
-    place: usize,
-    from: Option<&Row>,
-    halts: bool,
-    row: &Row,
-) -> Result<Option<Turned>, AllocError>
-    ensures { IfOk result (λ turned. turned_if turned row.now ≡ turned_row inventory.now play.now place (option_copied from.entry) halts row.now) }
-{
-    if halts || row.is_at(place) {
-        turned_in(alloc, inventory, play, place, from, halts, row)
-    } else {
-        Ok(None)
-    }
-}
-
-/// The same of each of these hosts.
-fn turned_all(
-    alloc: Global,
-    inventory: &Inventory,
-    play: &PlanPlay,
-    place: usize,
-    from: Option<&Row>,
-    halts: bool,
     rows: &[Row],
-) -> Result<Vec<Option<Turned>>, AllocError>
-    ensures each { IfOk result (λ all. with_each all.items rows.now ≡ map (turned_row inventory.now play.now place (option_copied from.entry) halts) rows.now) }
-    ensures many { IfOk result (λ all. length all.items ≡ length rows.now) }
+    host: HostNo,
+) -> Result<News, AllocError>
+    ensures { IfOk result (λ news. IfSome (slice_get rows.now host.0) (λ row. heard news row.facts ≡ (with_copy inventory.now play.now place (option_copied from.entry) row).facts)) }
+{
+    match rows.get(host.0 as usize) {
+        Some(row) => news_of(alloc, inventory, play, place, from, row),
+        None => Ok(News::Nothing),
+    }
+}
+
+/// What the hosts of the batch hear.
+fn news_inside(
+    alloc: Global,
+    inventory: &Inventory,
+    play: &PlanPlay,
+    place: usize,
+    source: Option<&Row>,
+    rows: &[Row],
+    batch: &HostSet,
+) -> Result<Vec<HostNews>, AllocError>
+    requires insiders { batch.now ≡ map is_inside rows.now }
+    requires outsiders { AreOutside rows.now }
+    ensures { IfOk result (λ all. with_news all.items rows.now ≡ map (copy_heard inventory.now play.now place (option_copied source.entry)) rows.now) }
 {
     let mut all = Vec::new(alloc);
-    for row in rows {
-        let turned = turned_of(alloc, inventory, play, place, from, halts, row)?;
-        all.push(turned)?;
+    let mut from = 0;
+    while let Some(host) = batch.next_at(from) {
+        let news = news_at(alloc, inventory, play, place, source, rows, host)?;
+        all.push(HostNews { host, news })?;
+        from = behind(batch, host);
     }
     Ok(all)
 }
@@ -202,48 +145,65 @@ fn has_settled(row: &Row, place: usize) -> bool
     }
 }
 
-/// Whether one of these hosts did.
-fn some_settled(rows: &[Row], place: usize) -> bool
-    ensures { result ≡ list_any (has_settled place) rows.now }
+/// Whether the host with this number did so.
+fn is_settler(rows: &[Row], host: HostNo, place: usize) -> bool
+    ensures { result ≡ at_row (has_settled place) rows.now host.0 }
 {
-    rows.iter().any(|row| has_settled(row, place))
-}
-
-/// Whether a host did the task at a place for all, if it runs once.
-fn is_settled_at(play: &PlanPlay, rows: &[Row], place: usize) -> bool
-    ensures { result ≡ is_settled_at play.now rows.now place }
-{
-    runs_once_at(play, place) && some_settled(rows, place)
-}
-
-/// The same of the current place, if there is one.
-pub fn is_settled(play: &PlanPlay, rows: &[Row], place: Option<usize>) -> bool
-    ensures { result ≡ is_settled play.now rows.now place }
-{
-    match place {
-        Some(place) => is_settled_at(play, rows, place),
+    match rows.get(host.0 as usize) {
+        Some(row) => has_settled(row, place),
         None => false,
     }
 }
 
-/// The first of these hosts that did so.
-fn settler(rows: &[Row], place: usize) -> Option<&Row>
+/// The host with this number.
+fn row_at(rows: &[Row], host: HostNo) -> Option<&Row>
+    ensures { option_copied result ≡ slice_get rows.now host.0 }
+{
+    rows.get(host.0 as usize)
+}
+
+/// The first of the hosts of the batch that did so: no other did.
+fn settler<'a>(rows: &'a [Row], batch: &HostSet, place: usize) -> Option<&'a Row>
+    requires insiders { batch.now ≡ map is_inside rows.now }
+    requires outsiders { AreOutside rows.now }
     ensures { option_copied result ≡ settler place rows.now }
 {
-    for row in rows {
-        if has_settled(row, place) {
-            return Some(row);
+    let mut from = 0;
+    while let Some(host) = batch.next_at(from) {
+        if is_settler(rows, host, place) {
+            return row_at(rows, host);
         }
+        from = behind(batch, host);
     }
     None
 }
 
+/// Whether one of the hosts of the batch did so: no other did.
+fn some_settled(rows: &[Row], batch: &HostSet, place: usize) -> bool
+    requires insiders { batch.now ≡ map is_inside rows.now }
+    requires outsiders { AreOutside rows.now }
+    ensures { result ≡ list_any (has_settled place) rows.now }
+{
+    settler(rows, batch, place).is_some()
+}
+
+/// Whether a host did the task at a place for all, if it runs once.
+pub(crate) fn is_settled_at(play: &PlanPlay, rows: &[Row], batch: &HostSet, place: usize) -> bool
+    requires insiders { batch.now ≡ map is_inside rows.now }
+    requires outsiders { AreOutside rows.now }
+    ensures { result ≡ is_settled_at play.now rows.now place }
+{
+    runs_once_at(play, place) && some_settled(rows, batch, place)
+}
+
 /// The host that did the task at a place for all, if it runs once.
-fn source<'a>(play: &PlanPlay, place: usize, rows: &'a [Row]) -> Option<&'a Row>
+fn source<'a>(play: &PlanPlay, place: usize, rows: &'a [Row], batch: &HostSet) -> Option<&'a Row>
+    requires insiders { batch.now ≡ map is_inside rows.now }
+    requires outsiders { AreOutside rows.now }
     ensures { option_copied result ≡ source play.now place rows.now }
 {
     if runs_once_at(play, place) {
-        settler(rows, place)
+        settler(rows, batch, place)
     } else {
         None
     }
@@ -269,18 +229,39 @@ fn has_ended_fatally(play: &PlanPlay, place: usize, row: &Row) -> bool
     }
 }
 
-/// Whether one of these hosts did.
-fn some_fatally(play: &PlanPlay, place: usize, rows: &[Row]) -> bool
+/// Whether the host with this number did.
+fn is_fatally_over(play: &PlanPlay, place: usize, rows: &[Row], host: HostNo) -> bool
+    ensures { result ≡ at_row (has_ended_fatally play.now place) rows.now host.0 }
+{
+    match rows.get(host.0 as usize) {
+        Some(row) => has_ended_fatally(play, place, row),
+        None => false,
+    }
+}
+
+/// Whether one of the hosts of the batch did: no other did.
+fn some_fatally(play: &PlanPlay, place: usize, rows: &[Row], batch: &HostSet) -> bool
+    requires insiders { batch.now ≡ map is_inside rows.now }
+    requires outsiders { AreOutside rows.now }
     ensures { result ≡ list_any (has_ended_fatally play.now place) rows.now }
 {
-    rows.iter().any(|row| has_ended_fatally(play, place, row))
+    let mut from = 0;
+    while let Some(host) = batch.next_at(from) {
+        if is_fatally_over(play, place, rows, host) {
+            return true;
+        }
+        from = behind(batch, host);
+    }
+    false
 }
 
 /// Whether one did, and failures are fatal there.
-fn is_fatal_at(play: &PlanPlay, place: usize, rows: &[Row]) -> bool
+fn is_fatal_at(play: &PlanPlay, place: usize, rows: &[Row], batch: &HostSet) -> bool
+    requires insiders { batch.now ≡ map is_inside rows.now }
+    requires outsiders { AreOutside rows.now }
     ensures { result ≡ is_fatal_at play.now place rows.now }
 {
-    any_errors_fatal_at(play, place) && some_fatally(play, place, rows)
+    any_errors_fatal_at(play, place) && some_fatally(play, place, rows, batch)
 }
 
 /// Whether a host is broken once it got what another one did for all.
@@ -342,36 +323,83 @@ fn is_halting(
     requires outsiders { AreOutside rows.now }
     ensures { result ≡ is_halting play.now place (map (with_copy inventory.now play.now place (option_copied from.entry)) rows.now) }
 {
-    is_fatal_at(play, place, rows)
+    is_fatal_at(play, place, rows, batch)
         || has_failed_too_often(inventory, play, place, from, rows, batch)
 }
 
-/// What a turn makes of all rows, of which one or the other changes.
-pub(crate) struct TurnMade {
-    pub(crate) all: Vec<Option<Turned>>,
+/// What a host hears.
+pub(crate) struct HostNews {
+    pub(crate) host: HostNo,
+    pub(crate) news: News,
+}
+
+impl Drop for HostNews {
+    fn drop(self) {
+        let HostNews { host: _, news } = self;
+        drop(news);
+    }
+}
+
+impl HostNews {
+    /// The host, and what it hears.
+    pub(crate) fn parts(self) -> (HostNo, News)
+        ensures { result ≡ (self.host, self.news) }
+    {
+        let HostNews { host, news } = self;
+        (host, news)
+    }
+}
+
+/// What a turn does to each host of a batch that goes on from a place.
+#[derive(Clone, Copy)]
+pub(crate) struct Turning {
+    pub(crate) place: usize,
+    /// What a host answered there for all, if one did.
+    pub(crate) kind: Option<Kind>,
+    /// Whether a block round the place rescues a failure.
+    pub(crate) is_caught: bool,
     /// Whether hosts are halted.
     pub(crate) halts: bool,
 }
 
+/// What a turn makes of the rows: what hosts hear, and what it does to each of them then.
+pub(crate) struct TurnMade {
+    pub(crate) all: Vec<HostNews>,
+    pub(crate) turning: Turning,
+}
+
 impl Drop for TurnMade {
     fn drop(self) {
-        let TurnMade { all, halts: _ } = self;
+        let TurnMade { all, turning: _ } = self;
         drop(all);
     }
 }
 
 impl TurnMade {
-    /// What is new of each row, and whether hosts are halted.
-    pub(crate) fn parts(self) -> (Vec<Option<Turned>>, bool)
-        ensures { result ≡ (self.all, self.halts) }
+    /// What hosts hear, and what is done to each of them.
+    pub(crate) fn parts(self) -> (Vec<HostNews>, Turning)
+        ensures { result ≡ (self.all, self.turning) }
     {
-        let TurnMade { all, halts } = self;
-        (all, halts)
+        let TurnMade { all, turning } = self;
+        (all, turning)
     }
 }
 
-/// What a turn makes of these rows, of which those of the batch are in the set, as the batch goes on from a place, or nothing where it leaves them as they are. Nothing is made of a row but where
-/// the task at the place runs once, or where hosts are halted.
+/// What the host that did something for all answered.
+fn kind_from(from: Option<&Row>) -> Option<Kind>
+    ensures { result ≡ kind_from (option_copied from.entry) }
+{
+    match from {
+        Some(from) => match from.last() {
+            Some(finish) => Some(finish.kind),
+            None => None,
+        },
+        None => None,
+    }
+}
+
+/// What a turn makes of these rows, of which those of the batch are in the set, as the batch goes on from a place, or nothing where it leaves them as
+/// they are: where the task at the place doesn't run once, and no host is halted.
 #[tactic(auto, using(crate::proofs::Making::nothing_new))]
 pub(crate) fn turn_of(
     alloc: Global,
@@ -386,11 +414,17 @@ pub(crate) fn turn_of(
     requires outsiders { AreOutside rows.now }
     ensures { IfOk result (λ made. IsTurnOf inventory.now play.now place rows.now made) }
 {
-    let from = source(play, place, rows);
+    let from = source(play, place, rows, batch);
     let halts = is_halting(inventory, play, place, from, rows, batch);
     if from.is_none() && !halts {
         return Ok(None);
     }
-    let all = turned_all(alloc, inventory, play, place, from, halts, rows)?;
-    Ok(Some(TurnMade { all, halts }))
+    let all = news_inside(alloc, inventory, play, place, from, rows, batch)?;
+    let turning = Turning {
+        place,
+        kind: kind_from(from),
+        is_caught: caught_at(play, place),
+        halts,
+    };
+    Ok(Some(TurnMade { all, turning }))
 }

@@ -1,4 +1,4 @@
-ghost use Rattle.std.specs.Prelude.{◌≡◌, ◌<◌, ◌∷◌, ◌++◌, [], IfOk, OnOk, OnErr, length, replicate, slice_set, slice_index_or};
+ghost use Rattle.std.specs.Prelude.{◌≡◌, ◌<◌, ◌∷◌, ◌++◌, [], IfOk, length, replicate, slice_set, slice_index_or};
 ghost use Rattle.pb_tree.specs.Tree.{TreeOf};
 ghost use Rattle.pb_tree.specs.Walk.{reach, marks_of, status_of};
 ghost use Rattle.pb_flat.specs.Seen.{LaysOut};
@@ -12,7 +12,7 @@ use std::alloc::{AllocError, Global};
 use std::marker::Model;
 
 /// The hosts of a play, each where its answers lead in the play's plan.
-#[derive(Debug, Drop)]
+#[derive(Drop)]
 pub struct Cursors {
     plan: FlatPlan,
     hosts: Vec<HostWalk>,
@@ -52,13 +52,12 @@ impl Cursors {
         Ok(Cursors { plan, hosts })
     }
 
-    /// A host's answer at the place where it is. An `Err` changes nothing.
-    pub fn answer(&mut self, host: usize, answer: Answer) -> Result<(), AllocError>
+    /// A host's answer at the place where it is. It takes no memory.
+    pub fn answer(&mut self, host: usize, answer: &Answer)
         requires { host < length self.old.answers }
-        ensures ok { OnOk result (self.new ≡ record { plan = self.old.plan; answers = slice_set self.old.answers host (slice_index_or self.old.answers host [] ++ answer ∷ []) }) }
-        ensures err { OnErr result (self.new ≡ self.old) }
+        ensures { self.new ≡ record { plan = self.old.plan; answers = slice_set self.old.answers host (slice_index_or self.old.answers host [] ++ answer.now ∷ []) } }
     {
-        self.hosts[host].answer(&self.plan, answer)
+        self.hosts[host].answer(&self.plan, answer);
     }
 
     /// Where a host is: at the next place, or done.
@@ -83,14 +82,6 @@ impl Cursors {
         ensures { (tree : TreeOf) → LaysOut self.now.plan tree → result.now ≡ marks_of tree (slice_index_or self.now.answers host []) }
     {
         self.hosts[host].pending()
-    }
-
-    /// A host's answers so far.
-    pub fn answers(&self, host: usize) -> &[Answer]
-        requires { host < length self.now.answers }
-        ensures { result.now ≡ slice_index_or self.now.answers host [] }
-    {
-        self.hosts[host].answers()
     }
 }
 

@@ -1,4 +1,4 @@
-ghost use Rattle.std.specs.Prelude.{◌≡◌, ◌∷◌, ◌++◌, [], IfOk, OnOk, OnErr};
+ghost use Rattle.std.specs.Prelude.{◌≡◌, IfOk};
 ghost use Rattle.pb_tree.specs.Walk.{reach, status_now, marks_of};
 
 use crate::laid::LaidTree;
@@ -8,7 +8,7 @@ use std::alloc::{AllocError, Global};
 use std::marker::Model;
 use std::rc::Rc;
 
-/// A host's walk through a play: the play's tree, which all its hosts share, and the host's answers so far.
+/// A host's walk through a play: the play's tree, which all its hosts share, and the answers of its host so far, of which a proof alone speaks.
 #[derive(Drop)]
 pub struct PlayWalk {
     laid: Rc<LaidTree>,
@@ -44,7 +44,7 @@ impl PlayWalk {
         Ok(PlayWalk { laid, walk })
     }
 
-    /// A copy of it.
+    /// A copy of it, which costs the same however many answers there were.
     pub fn try_clone(&self, alloc: Global) -> Result<PlayWalk, AllocError>
         ensures { IfOk result (λ w. w ≡ self.now) }
     {
@@ -53,19 +53,11 @@ impl PlayWalk {
         Ok(PlayWalk { laid, walk })
     }
 
-    /// Takes one answer more. It walks no tree. An `Err` changes nothing.
-    pub fn answer(&mut self, answer: Answer) -> Result<(), AllocError>
-        ensures ok { OnOk result (self.new ≡ walk_after answer self.old) }
-        ensures err { OnErr result (self.new ≡ self.old) }
+    /// Takes one answer more. It walks no tree, and takes no memory.
+    pub fn answer(&mut self, answer: &Answer)
+        ensures { self.new ≡ walk_after answer.now self.old }
     {
-        self.walk.answer(self.laid.flat(), answer)
-    }
-
-    /// The answers so far.
-    pub fn answers(&self) -> &[Answer]
-        ensures { result.now ≡ self.now.answers }
-    {
-        self.walk.answers()
+        self.walk.answer(self.laid.flat(), answer);
     }
 
     /// Where the host is: at the next place, or done.

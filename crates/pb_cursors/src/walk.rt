@@ -1,18 +1,19 @@
-ghost use Rattle.std.specs.Prelude.{◌≡◌, ◌∷◌, ◌++◌, [], IfOk, OnOk, OnErr};
+ghost use Rattle.std.specs.Prelude.{◌≡◌, ◌∷◌, ◌++◌, [], IfOk};
 ghost use Rattle.pb_tree.specs.Tree.{TreeOf};
 ghost use Rattle.pb_tree.specs.Walk.{reach, status_of, status_now, marks_of};
 ghost use Rattle.pb_flat.specs.Seen.{PlanOf, LaysOut};
 ghost use Rattle.pb_cursors.specs.Tracked.{IsTracked};
 
+use crate::answered::Answered;
 use pb_flat::{Cursor, FlatPlan};
 use pb_tree::{Answer, Reach, Status};
 use std::alloc::{AllocError, Global};
 use std::marker::Model;
 
-/// A host's answers, and the cursor that stands where they lead.
-#[derive(Debug, Drop)]
+/// A host's answers, of which a proof alone speaks, and the cursor that stands where they lead.
+#[derive(Drop)]
 pub struct HostWalk {
-    answers: Vec<Answer>,
+    answers: Answered,
     cursor: Cursor,
 }
 
@@ -21,7 +22,7 @@ impl Model for HostWalk {
 
     ghost Value = { WalkOf };
 
-    ghost view = { λ w. record { answers = w.answers.items; cursor = w.cursor } };
+    ghost view = { λ w. record { answers = w.answers.list; cursor = w.cursor } };
 }
 
 impl HostWalk {
@@ -32,39 +33,27 @@ impl HostWalk {
     {
         let cursor = Cursor::first(alloc, plan)?;
         Ok(HostWalk {
-            answers: Vec::new(alloc),
+            answers: Answered::none(),
             cursor,
         })
     }
 
-    /// A copy of it.
+    /// A copy of it, which costs the same however many answers there were.
     pub fn try_clone(&self, alloc: Global) -> Result<HostWalk, AllocError>
         ensures { IfOk result (λ w. w ≡ self.now) }
     {
-        let answers = copy_all(alloc, self.answers.as_slice())?;
         let cursor = self.cursor.try_clone(alloc)?;
+        let answers = self.answers.again();
         Ok(HostWalk { answers, cursor })
     }
 
-    /// Takes one answer more. An `Err` changes nothing.
-    pub fn answer(&mut self, plan: &FlatPlan, answer: Answer) -> Result<(), AllocError>
-        ensures ok { OnOk result (self.new.answers ≡ self.old.answers ++ answer ∷ []) }
+    /// Takes one answer more. It takes no memory.
+    pub fn answer(&mut self, plan: &FlatPlan, answer: &Answer)
+        ensures answers { self.new.answers ≡ self.old.answers ++ answer.now ∷ [] }
         ensures tracked { IsTracked plan.now self.old → IsTracked plan.now self.new }
-        ensures err { OnErr result (self.new ≡ self.old) }
     {
-        self.answers.reserve(1)?;
-        self.cursor.advance(plan, &answer);
-        match self.answers.push(answer) {
-            Ok(()) => Ok(()),
-            Err(_) => unreachable!(),
-        }
-    }
-
-    /// The answers so far.
-    pub fn answers(&self) -> &[Answer]
-        ensures { result.now ≡ self.now.answers }
-    {
-        self.answers.as_slice()
+        self.cursor.advance(plan, answer);
+        self.answers = self.answers.and(answer);
     }
 
     /// Where the host is: at the next place, or done.
@@ -94,14 +83,4 @@ impl HostWalk {
     {
         self.cursor.pending()
     }
-}
-
-fn copy_all(alloc: Global, answers: &[Answer]) -> Result<Vec<Answer>, AllocError>
-    ensures { IfOk result (λ copies. copies.items ≡ answers.now) }
-{
-    let mut copies = Vec::new(alloc);
-    for answer in answers {
-        copies.push(answer.try_clone(alloc)?)?;
-    }
-    Ok(copies)
 }

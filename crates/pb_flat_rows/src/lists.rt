@@ -108,14 +108,13 @@ fn hosts_by_themselves(rt: HostRuntime) -> Result<(), Fail> {
     let tree = PlayTree::of(alloc, nested(alloc)?, 2, false)?;
     let plan = FlatPlan::of(alloc, &tree).map_err(|_| AllocError)?;
     let mut cursors = Cursors::open(alloc, plan.try_clone(alloc)?, 2)?;
-    cursors.answer(1, Answer::plain(alloc, Kind::Good))?;
+    cursors.answer(1, &Answer::plain(alloc, Kind::Good));
     let mut copy = cursors.try_clone(alloc)?;
-    copy.answer(1, Answer::plain(alloc, Kind::Gone))?;
+    copy.answer(1, &Answer::plain(alloc, Kind::Gone));
     assert!(rt; cursors.reach(0) == pb_tree::Reach::At(2));
     assert!(rt; cursors.reach(1) == pb_tree::Reach::At(3));
     assert!(rt; cursors.status(1) == pb_tree::Status::Active);
     assert!(rt; copy.reach(0) == pb_tree::Reach::At(2));
     assert!(rt; copy.status(1) == pb_tree::Status::Gone);
-    assert!(rt; copy.answers(1).len() == 2);
     Ok(())
 }

@@ -1,13 +1,11 @@
 -- A report in its parts, in one row.
-use Rattle.std.proofs.Common.{◌≡◌, ◌∙◌, ℕ, List, sym, ap, subst}
+use Rattle.std.proofs.Common.{◌≡◌, ◌∙◌, ℕ, List, ap}
 use Rattle.std.specs.Prelude.{Option, Some, None, slice_get}
 use Rattle.std.specs.Option.{option_map_or}
 use Rattle.pb_conditions.specs.declared.attempt.Back.{Back}
 use Rattle.pb_conditions.specs.declared.attempt.Back.TheVariants.{Ends}
 use Rattle.pb_cursors.specs.Walks.{PlayWalkOf}
 use Rattle.pb_facts.specs.Facts.{FactsOf}
-use Rattle.pb_facts.specs.News.{IsPast}
-use Rattle.pb_facts.specs.declared.news.Past.{Past}
 use Rattle.pb_outcome.specs.declared.gather.ItemResult.{ItemResult}
 use Rattle.pb_outcome.specs.declared.item.Item.{Item}
 use Rattle.pb_outcome.specs.declared.job.Call.{Call}
@@ -18,7 +16,7 @@ use Rattle.pb_sight.specs.Results.{came_at}
 use Rattle.pb_one_host.specs.declared.row.Running.{Running}
 use Rattle.pb_one_host.specs.Attempts.{attempt_after}
 use Rattle.pb_one_host.specs.Back.{came_in, back_running}
-use Rattle.pb_one_host.specs.Row.{knows, HostRow, came_back}
+use Rattle.pb_one_host.specs.Row.{came_back}
 use Rattle.pb_one_host.specs.Walking.{RunsInBatch}
 
 -- an item that came back is judged, and then its attempt comes to what its task says of it
@@ -37,8 +35,3 @@ runs_back plan play h facts outcome running now walk e runs = rw e (by_running r
     by_running : (running : Option Running) → RunsInBatch running walk → RunsInBatch (back_running plan play h facts outcome running) walk
     by_running None runs = tt
     by_running (Some r) runs = runs
-
--- a host that heard something, whose answer was refused memory, knows again what it knew
-pub unheard : (past : Past) (facts : FactsOf) (row hearing after new : HostRow) → hearing ≡ knows facts row → IsPast past row.facts hearing.facts → after ≡ hearing
-    → ((was : FactsOf) → IsPast past was after.facts → new ≡ knows was after) → new ≡ row
-unheard past facts row hearing after new h p a back = back row.facts (subst (λ (r : HostRow). IsPast past row.facts r.facts) (sym a) p) ∙ ap (knows row.facts) (a ∙ h)

@@ -1,47 +1,34 @@
--- What a turn makes of one row, before the row changes: memory that is refused on the way changes nothing.
-use Rattle.std.specs.Prelude.{◌≡◌, ⊤, ◌+◌, Bool, true, false, ◌&&◌, ◌||◌, not, [], ◌∷◌, ◌++◌, Option, Some, None, is_some, unwrap_or, if◌then◌else◌}
+-- What a turn makes of one host: what another host answered for all becomes its answer, and it is halted.
+use Rattle.std.specs.Prelude.{ℕ, Bool, ◌&&◌, ◌||◌, not, Option, is_some, if◌then◌else◌}
 use Rattle.std.specs.Option.{option_map_or}
-use Rattle.pb_cursors.specs.Walks.{walk_after}
-use Rattle.pb_facts.specs.Facts.{FactsOf}
-use Rattle.pb_tree.specs.Walk.{reach, status_now}
+use Rattle.pb_facts.specs.declared.news.News.{News}
+use Rattle.pb_facts.specs.News.{heard}
 use Rattle.pb_tree.specs.declared.answer.Kind.{Kind}
 use Rattle.pb_tree.specs.declared.answer.Kind.TheVariants.{Halted}
-use Rattle.pb_one_host.specs.declared.turned.Turned.{Turned}
 use Rattle.pb_one_host.specs.Ends.{breaks, plain_answer}
-use Rattle.pb_one_host.specs.Row.{HostRow, is_active, place_of}
+use Rattle.pb_one_host.specs.Row.{HostRow, is_active, next_place, answered, knows, is_at}
 
--- a row with what is new of it
-abbrev pub with_turned : Turned → HostRow → HostRow
-with_turned t row =
-    record row {
-      tree = t.walk.tree;
-      answers = t.walk.answers;
-      in_batch = true;
-      status = t.status;
-      is_broken = t.is_broken;
-      facts = unwrap_or t.facts row.facts;
-    }
+-- a host hears this
+abbrev pub hears : News → HostRow → HostRow
+hears news row = knows (heard news row.facts) row
 
-abbrev pub turned_if : Option Turned → HostRow → HostRow
-turned_if t row = option_map_or (λ (u : Turned). with_turned u row) t row
+-- The answer of another host at a place, if that is its next place: no handler is notified, and nothing counts.
+abbrev pub answer_copied : Kind → Bool → HostRow → HostRow
+answer_copied kind is_caught row = record (answered (plain_answer kind) row) { is_broken = row.is_broken || breaks is_caught kind }
 
--- one answer more
-abbrev pub turn_answered : Kind → Turned → Turned
-turn_answered kind t =
-    record t { walk = walk_after (plain_answer kind) t.walk; status = status_now t.walk.tree (t.walk.answers ++ plain_answer kind ∷ []) }
+abbrev pub answer_copied_at : ℕ → Bool → HostRow → Kind → HostRow
+answer_copied_at p is_caught row kind = if is_at p row then answer_copied kind is_caught row else row
 
--- and another host's answer, after which the host knows this
-abbrev pub turn_copied : Kind → Bool → Option FactsOf → Turned → Turned
-turn_copied kind is_caught known t = record (turn_answered kind t) { is_broken = t.is_broken || breaks is_caught kind; facts = known }
+-- the same where a host answered something for all
+abbrev pub with_answer : ℕ → Option Kind → Bool → HostRow → HostRow
+with_answer p kind is_caught row = option_map_or (answer_copied_at p is_caught row) kind row
 
--- and a halt, where hosts are halted and this one is active, not broken and not at its end
-abbrev pub turn_may_be_halted : Turned → Bool
-turn_may_be_halted t = is_active t.status && not t.is_broken && is_some (place_of (reach t.walk.tree t.walk.answers))
+-- a host that is active, not broken and not at its end is halted
+abbrev pub may_be_halted : HostRow → Bool
+may_be_halted row = is_active row.status && not row.is_broken && is_some (next_place row)
 
-abbrev pub turn_halted : Bool → Turned → Turned
-turn_halted halts t = if halts && turn_may_be_halted t then turn_answered Halted t else t
+abbrev pub halted : HostRow → HostRow
+halted row = if may_be_halted row then answered (plain_answer Halted) row else row
 
--- only a host of the batch has something new
-abbrev pub IsOut : Option Turned → HostRow → Type 0
-IsOut None row = row.in_batch ≡ false
-IsOut (Some t) row = ⊤
+abbrev pub halted_if : Bool → HostRow → HostRow
+halted_if halts row = if halts then halted row else row

@@ -1,10 +1,8 @@
 //! What the state keeps of one host.
 
-ghost use Rattle.std.specs.Prelude.{◌≡◌, ◌<◌, ◌-◌, ◌^◌, ◌∷◌, ◌++◌, [], OnOk, OnErr, IfOk, IfSome, option_map, unwrap_or, true, false};
+ghost use Rattle.std.specs.Prelude.{◌≡◌, ◌<◌, ◌-◌, ◌^◌, ◌∷◌, ◌++◌, [], OnOk, OnErr, IfOk, option_map, unwrap_or, true, false};
 ghost use Rattle.std.specs.Option.{option_copied, option_map_or};
-ghost use Rattle.pb_tree.specs.Answer.{AnswerOf};
 ghost use Rattle.pb_tree.specs.Walk.{status_now};
-ghost use Rattle.pb_planes.specs.Set.{is_in as is_member};
 ghost use Rattle.pb_cursors.specs.Walks.{walk_after};
 ghost use Rattle.pb_facts.specs.News.{heard};
 ghost use Rattle.pb_sight.specs.Learning.{taught_by};
@@ -14,7 +12,6 @@ use crate::ends::{breaks, counted, kind_of};
 use crate::handlers::{marks_in, notified_by};
 use crate::items::{Before, CameBack, TaskItems, none_back};
 use crate::told::{done_at, runs_once_at, told_of};
-use crate::turned::Turned;
 use pb_cursors::PlayWalk;
 use pb_facts::facts::Facts;
 use pb_facts::news::{News, Past};
@@ -182,14 +179,13 @@ ghost use Rattle.pb_one_host.specs.Handlers.{notified_by};
 ghost use Rattle.pb_one_host.specs.Back.{back_running, items_run, retried_running, undone_running};
 ghost use Rattle.pb_one_host.specs.Ends.{IsAtMost};
 
-/// The walk takes one answer more. An `Err` changes nothing.
-fn go_on(walk: &mut PlayWalk, answer: Answer) -> Result<Status, AllocError>
-    ensures ok { OnOk result (walk.new ≡ walk_after answer walk.old) }
-    ensures status { IfOk result (λ status. status ≡ status_now walk.old.tree (walk.old.answers ++ answer ∷ [])) }
-    ensures err { OnErr result (walk.new ≡ walk.old) }
+/// The walk takes one answer more.
+fn go_on(walk: &mut PlayWalk, answer: &Answer) -> Status
+    ensures walk { walk.new ≡ walk_after answer.now walk.old }
+    ensures status { result ≡ status_now walk.old.tree (walk.old.answers ++ answer.now ∷ []) }
 {
-    walk.answer(answer)?;
-    Ok(walk.status_now())
+    walk.answer(answer);
+    walk.status_now()
 }
 
 /// Puts down a host's walk, where it takes part.
@@ -197,15 +193,6 @@ fn put_walk(slot: &mut Option<PlayWalk>, walk: Option<PlayWalk>)
     ensures { slot.new ≡ walk }
 {
     *slot = walk;
-}
-
-/// Puts down what a host knows, where that is more than before.
-fn put_facts(slot: &mut Facts, known: Option<Facts>)
-    ensures { slot.new ≡ unwrap_or known slot.old }
-{
-    if let Some(facts) = known {
-        *slot = facts;
-    }
 }
 
 /// The place that is reached.
@@ -306,12 +293,12 @@ fn news_after(
 
 impl Row {
     ghost use Rattle.pb_one_host.specs.Row.{first_row, answered, finished, progressed, sent, called, left, pending, knows};
-    ghost use Rattle.pb_facts.specs.Facts.{FactsOf};
-    ghost use Rattle.pb_facts.specs.News.{IsPast};
     ghost use Rattle.pb_one_host.specs.Walking.{with_walk};
     ghost use Rattle.pb_one_host.specs.Decides.{done_if};
     ghost use Rattle.pb_one_host.specs.Back.{back_row, retried_row, finish_run, settled_row, with_running, waiting, went_on, ended_now, decided_now, undone};
-    ghost use Rattle.pb_one_host.specs.Turned.{IsOut, turned_if};
+    ghost use Rattle.pb_facts.specs.Facts.{FactsOf};
+    ghost use Rattle.pb_facts.specs.News.{IsPast};
+    ghost use Rattle.pb_one_host.specs.Turned.{hears, answer_copied_at, with_answer, may_be_halted, halted_if};
 
     /// A host before the run.
     pub fn new(alloc: Global, host: HostNo) -> Row
@@ -338,22 +325,20 @@ impl Row {
         }
     }
 
-    /// The host gets one answer more. An `Err` changes nothing.
-    fn answer(&mut self, answer: Answer) -> Result<(), AllocError>
+    /// The host gets one answer more.
+    fn answer(&mut self, answer: &Answer)
         requires { self.old.in_batch ≡ true }
-        ensures ok { OnOk result (self.new ≡ answered answer self.old) }
-        ensures err { OnErr result (self.new ≡ self.old) }
+        ensures { self.new ≡ answered answer.now self.old }
     {
         let Some(walk) = &mut self.walk else {
             unreachable!();
         };
-        self.status = go_on(walk, answer)?;
-        Ok(())
+        self.status = go_on(walk, answer);
     }
 
     /// The host hears this. What was before is handed back. An `Err` changes nothing.
-    fn hear(&mut self, alloc: Global, news: News) -> Result<Past, AllocError>
-        ensures ok { OnOk result (self.new ≡ knows (heard news self.old.facts) self.old) }
+    pub fn hear(&mut self, alloc: Global, news: News) -> Result<Past, AllocError>
+        ensures ok { OnOk result (self.new ≡ hears news self.old) }
         ensures past { IfOk result (λ past. IsPast past self.old.facts self.new.facts) }
         ensures err { OnErr result (self.new ≡ self.old) }
     {
@@ -361,33 +346,27 @@ impl Row {
         Ok(past)
     }
 
-    /// Puts back what was before the host heard something.
-    fn unhear(&mut self, past: Past)
+    /// Puts back what was before the host heard something. It takes no memory.
+    pub fn unhear(&mut self, past: Past)
         ensures { (was : FactsOf) → IsPast past was self.old.facts → self.new ≡ knows was self.old }
     {
         self.facts.unhear(past);
     }
 
     /// The host hears this, and gets one answer more. An `Err` changes nothing.
-    #[tactic(auto, using(crate::proofs::Went::unheard))]
     fn hear_and_answer(
         &mut self,
         alloc: Global,
-        answer: Answer,
+        answer: &Answer,
         news: News,
     ) -> Result<(), AllocError>
         requires { self.old.in_batch ≡ true }
-        ensures ok { OnOk result (self.new ≡ answered answer (knows (heard news self.old.facts) self.old)) }
+        ensures ok { OnOk result (self.new ≡ answered answer.now (knows (heard news self.old.facts) self.old)) }
         ensures err { OnErr result (self.new ≡ self.old) }
     {
-        let past = self.hear(alloc, news)?;
-        match self.answer(answer) {
-            Ok(()) => Ok(()),
-            Err(error) => {
-                self.unhear(past);
-                Err(error)
-            }
-        }
+        let _past = self.hear(alloc, news)?;
+        self.answer(answer);
+        Ok(())
     }
 
     /// Puts down how the task at a place ended that the host runs.
@@ -418,7 +397,8 @@ impl Row {
         ensures err { OnErr result (self.new ≡ self.old) }
     {
         let notified = Vec::from_slice(alloc, notified_by(play, place, task))?;
-        self.hear_and_answer(alloc, Answer::of(kind_of(task), notified), news)?;
+        let answer = Answer::of(kind_of(task), notified);
+        self.hear_and_answer(alloc, &answer, news)?;
         self.settle(alloc, runs_once_at(play, place), place, task);
         Ok(())
     }
@@ -599,33 +579,57 @@ impl Row {
         self.facts = facts;
     }
 
-    /// What a turn finds of the host, if it takes part in the batch.
-    pub fn before_turn(&self, alloc: Global) -> Result<Option<Turned>, AllocError>
-        ensures same { IfOk result (λ turned. turned_if turned self.now ≡ self.now) }
-        ensures out { IfOk result (λ turned. IsOut turned self.now) }
+    /// The host gets what another one answered at a place, where that is its next place.
+    #[tactic(auto, using(crate::proofs::Placed::at_inside))]
+    fn copy_answer(&mut self, alloc: Global, place: usize, kind: Kind, is_caught: bool)
+        ensures { self.new ≡ answer_copied_at place is_caught self.old kind }
     {
-        match &self.walk {
-            Some(walk) => Ok(Some(Turned {
-                walk: walk.try_clone(alloc)?,
-                status: self.status,
-                is_broken: self.is_broken,
-                facts: None,
-            })),
-            None => Ok(None),
+        if self.is_at(place) {
+            self.answer(&Answer::plain(alloc, kind));
+            self.is_broken = self.is_broken || breaks(is_caught, kind);
         }
     }
 
-    /// What is new of the host as its batch goes on, if anything is.
-    pub fn turn(&mut self, turned: Option<Turned>)
-        ensures { self.new ≡ turned_if turned self.old }
+    /// The same where one answered something for all.
+    fn take_answer(&mut self, alloc: Global, place: usize, kind: Option<Kind>, is_caught: bool)
+        ensures { self.new ≡ with_answer place kind is_caught self.old }
     {
-        if let Some(turned) = turned {
-            let (walk, status, is_broken, facts) = turned.parts();
-            put_walk(&mut self.walk, Some(walk));
-            self.status = status;
-            self.is_broken = is_broken;
-            put_facts(&mut self.facts, facts);
+        if let Some(kind) = kind {
+            self.copy_answer(alloc, place, kind, is_caught);
         }
+    }
+
+    /// Whether the host is halted where hosts are: it is active, not broken, and not at its end.
+    fn may_be_halted(&self) -> bool
+        ensures { result ≡ may_be_halted self.now }
+    {
+        is_active(self.status) && !self.is_broken && self.next_place().is_some()
+    }
+
+    /// The host is halted where hosts are.
+    #[tactic(auto, using(crate::proofs::Placed::halted_inside))]
+    fn halt_if(&mut self, alloc: Global, halts: bool)
+        ensures { self.new ≡ halted_if halts self.old }
+    {
+        if halts && self.may_be_halted() {
+            self.answer(&Answer::plain(alloc, Kind::Halted));
+        }
+    }
+
+    /// The batch goes on from a place: the host gets what another one answered for all there, if one did, and is halted where hosts are. It takes no
+    /// memory.
+    pub fn turn(
+        &mut self,
+        alloc: Global,
+        place: usize,
+        kind: Option<Kind>,
+        is_caught: bool,
+        halts: bool,
+    )
+        ensures { self.new ≡ halted_if halts (with_answer place kind is_caught self.old) }
+    {
+        self.take_answer(alloc, place, kind, is_caught);
+        self.halt_if(alloc, halts);
     }
 
     /// The batch opens, in which the host takes this walk, if it takes part. What it has learnt stays where it is.

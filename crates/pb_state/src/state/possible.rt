@@ -38,7 +38,7 @@ impl EngineState {
             forks: self.forks,
             is_stopped: self.stopped,
             place: self.place,
-            is_settled: is_settled(play, self.rows.as_slice(), self.place),
+            is_settled: is_settled(&self.rows, play, self.place),
             throttles: play.throttles(),
             run_once: play.run_once(),
             hosts: self.rows.standings(),

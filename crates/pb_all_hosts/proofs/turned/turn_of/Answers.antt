@@ -4,6 +4,5 @@ use Rattle.pb_all_hosts.proofs.turned.turn_of.Goals as goal
 
 pub returns : goal.returns
 returns c =
-    let made =
-    something_new c.args.inventory.now c.args.play.now c.args.place c.args.rows.now (option_copied c.source-from.result) c.is_halting-halts.result c.in_ok-all.all.items c.source-from.ensures c.is_halting-halts.ensures c.in_ok-all.ensures.each in
-    (made.0, c.in_ok-all.ensures.many, made.1)
+    something_new c.args.inventory.now c.args.play.now c.args.place c.args.rows.now (option_copied c.source-from.result) c.kind_from.result c.caught_at.result c.is_halting-halts.result c.in_ok-all.all.items c.source-from.ensures
+    c.is_halting-halts.ensures c.kind_from.ensures c.caught_at.ensures c.in_ok-all.ensures
