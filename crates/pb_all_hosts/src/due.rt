@@ -21,9 +21,8 @@ ghost use Rattle.pb_all_hosts.specs.TurnMade.{halts_at, turned_rows, turning_row
 
 use crate::inside::{empty_by, least_inside, put_in, some_inside, stand_inside, stand_left};
 use crate::jobs_out::{drop_job, first_job, put_job, some_under};
-use crate::rows::{
-    self, HostRows, call_all, called_set, hear_all, join_waiting, turn_all, walks_for,
-};
+use crate::rows::called::{call_all, called_set};
+use crate::rows::{self, HostRows, hear_all, join_waiting, turn_all, walks_for};
 use crate::turned::{TurnMade, is_settled_at, turn_of};
 use pb_cursors::{LaidTree, PlayWalk};
 use pb_ids::{HostNo, Ticket};

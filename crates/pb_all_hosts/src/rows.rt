@@ -1,22 +1,23 @@
 //! The rows of all hosts.
 
-ghost use Rattle.std.specs.Prelude.{◌≡◌, ◌<◌, ◌≤◌, ◌+◌, ◌-◌, ◌^◌, length, map, drop, replicate, slice_get, count_by, true, false, IfOk, IfSome, OnOk, OnErr, Some, None};
+ghost use Rattle.std.specs.Prelude.{◌≡◌, ◌<◌, ◌≤◌, ◌+◌, ◌-◌, ◌^◌, length, map, replicate, slice_get, count_by, true, IfOk, IfSome, OnOk, OnErr, None};
 ghost use Rattle.std.specs.List.{list_any};
 ghost use Rattle.std.specs.Option.{option_map_or};
-ghost use Rattle.pb_one_host.specs.Row.{HostRow, first_rows, is_called, is_waiting, called, left, progressed, sent, reported, knows};
+ghost use Rattle.pb_one_host.specs.Row.{HostRow, first_rows, is_waiting, left, progressed, sent, reported, knows};
 ghost use Rattle.pb_one_host.specs.Ends.{IsAtMost};
 ghost use Rattle.pb_cursors.specs.Walks.{walk_from};
-ghost use Rattle.pb_all_hosts.specs.Batches.{called_count};
 ghost use Rattle.pb_all_hosts.specs.Joining.{first_walks, joined_by};
 ghost use Rattle.pb_one_host.specs.Runs.{is_running, item_of, attempt_of};
 ghost use Rattle.pb_one_host.specs.Decides.{done_if, report_decides};
-ghost use Rattle.pb_all_hosts.specs.Hosts.{lesser, change, one_if, running_count, pending_in, first_play};
+ghost use Rattle.pb_all_hosts.specs.Hosts.{lesser, change, one_if, running_count, pending_in};
 ghost use Rattle.pb_all_hosts.specs.Giving.{given_to, gifts_at, report_gives, gives_now};
 ghost use Rattle.pb_one_host.specs.Back.{back_row, retried_row, undone, went_on, decided_now};
 ghost use Rattle.pb_all_hosts.specs.Prepared.{with_facts};
 ghost use Rattle.pb_all_hosts.specs.Heard.{with_news};
 ghost use Rattle.pb_all_hosts.specs.TurnMade.{turning_row};
 ghost use Rattle.pb_all_hosts.specs.Due.{is_inside, AreOutside};
+
+pub(crate) mod called;
 
 use crate::gifts::{NewFacts, gifts_at, gives_now, with_gifts};
 use crate::hears::hear_each;
@@ -126,34 +127,6 @@ fn first_rows(alloc: Global, hosts: u32) -> Result<Vec<Row>, AllocError>
         rows.push(Row::new(alloc, HostNo(host)))?;
     }
     Ok(rows)
-}
-
-/// Whether a host of a set is active.
-fn some_called(rows: &[Row], hosts: &HostSet) -> bool
-    ensures { result ≡ list_any (is_called hosts.now) rows.now }
-{
-    rows.iter().any(|row| row.is_called(hosts))
-}
-
-/// How many hosts of a set are active.
-pub fn called_count(rows: &[Row], hosts: &HostSet) -> u32
-    requires { length rows.now ≤ 1048576 }
-    ensures { result ≡ called_count hosts.now rows.now }
-{
-    rows.iter().filter(|row| row.is_called(hosts)).count() as u32
-}
-
-/// The number of the first play from this one on that has hosts: some host of its own is active.
-pub fn first_play(rows: &[Row], plays: &[PlanPlay], from: usize) -> Option<usize>
-    ensures value { result ≡ first_play rows.now from (drop from plays.now) }
-    ensures least { IfSome result (λ number. from ≤ number) }
-{
-    for number in from..plays.len() {
-        if some_called(rows, plays[number].hosts()) {
-            return Some(number);
-        }
-    }
-    None
 }
 
 /// A host starts the task at a place with these items. An `Err` changes nothing.
@@ -392,31 +365,6 @@ pub fn report_row(
     }
 }
 
-/// Puts the hosts that are called to a play with these hosts of its own into a set.
-fn called_into(rows: &[Row], hosts: &HostSet, set: &mut HostSet)
-    requires { length set.old ≡ length rows.now }
-    ensures { set.new ≡ map (is_called hosts.now) rows.now }
-{
-    let width = set.width();
-    for i in 0..width {
-        let is_in = rows[i as usize].is_called(hosts);
-        set.put(HostNo(i), is_in);
-    }
-}
-
-/// The hosts that are called to a play with these hosts of its own.
-pub(crate) fn called_set(
-    alloc: Global,
-    rows: &HostRows,
-    hosts: &HostSet,
-) -> Result<HostSet, AllocError>
-    ensures { IfOk result (λ calls. calls ≡ map (is_called hosts.now) rows.now) }
-{
-    let mut calls = HostSet::empty(alloc, rows.hosts())?;
-    called_into(rows.as_slice(), hosts, &mut calls);
-    Ok(calls)
-}
-
 /// So many walks, each at the beginning of a play that has this tree.
 fn walks_of(alloc: Global, many: usize, laid: &Rc<LaidTree>) -> Result<Vec<PlayWalk>, AllocError>
     ensures { IfOk result (λ walks. walks.items ≡ replicate many (walk_from laid.now.value.tree)) }
@@ -460,28 +408,6 @@ pub(crate) fn join_waiting(
     empty_by(waits, batch);
     join_each(&mut rows.rows, walks, waits, batch);
     rows.running = 0;
-}
-
-/// A play begins that has these hosts of its own: each that is called waits for its batch.
-pub(crate) fn call_all(rows: &mut HostRows, hosts: &HostSet)
-    ensures { rows.new ≡ map (called hosts.now) rows.old }
-{
-    call_rows(&mut rows.rows, hosts);
-}
-
-fn call_rows(rows: &mut Vec<Row>, hosts: &HostSet)
-    ensures { rows.new.items ≡ map (called hosts.now) rows.old.items }
-{
-    call_each(rows.as_mut_slice(), hosts);
-}
-
-/// Each host that is called waits for its batch.
-fn call_each(rows: &mut [Row], hosts: &HostSet)
-    ensures { rows.new ≡ map (called hosts.now) rows.old }
-{
-    for row in rows.iter_mut() {
-        row.call(hosts);
-    }
 }
 
 /// Each host leaves the batch, whose hosts are these.

@@ -1,7 +1,7 @@
 use Rattle.std.proofs.Common.{◌<◌, length, arith}
 use Rattle.std.proofs.lemmas.List.Edits.{map_over_more}
 use Rattle.pb_one_host.specs.Row.{called}
-use Rattle.pb_all_hosts.proofs.rows.call_each.Goals as goal
+use Rattle.pb_all_hosts.proofs.rows.called.call_each.Goals as goal
 
 pub loop-row-preserved : goal.loop-row-preserved
 loop-row-preserved c =

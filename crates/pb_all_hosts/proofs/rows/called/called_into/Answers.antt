@@ -1,7 +1,7 @@
 use Rattle.std.proofs.Common.{◌<◌, length, arith, length-set}
 use Rattle.pb_one_host.specs.Row.{is_called}
 use Rattle.pb_all_hosts.proofs.Overwritten.{told_more}
-use Rattle.pb_all_hosts.proofs.rows.called_into.Goals as goal
+use Rattle.pb_all_hosts.proofs.rows.called.called_into.Goals as goal
 
 pub loop-i-preserved : goal.loop-i-preserved
 loop-i-preserved c =

@@ -1,6 +1,6 @@
 use Rattle.std.proofs.Common.{◌≡◌, ◌++◌, length, take, drop, map}
 use Rattle.pb_one_host.specs.Row.{is_called}
-use Rattle.pb_all_hosts.proofs.rows.called_into.Given as goal
+use Rattle.pb_all_hosts.proofs.rows.called.called_into.Given as goal
 
 abbrev pub invariant-loop-i : goal.invariant-loop-i
 invariant-loop-i l = record {

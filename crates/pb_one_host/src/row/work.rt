@@ -1,0 +1,301 @@
+//! What a host runs: a task starts, its jobs go out and come back, and it ends.
+
+ghost use Rattle.std.specs.Prelude.{◌≡◌, ◌-◌, ◌^◌, OnOk, OnErr, IfOk, true};
+ghost use Rattle.pb_facts.specs.News.{heard};
+ghost use Rattle.pb_sight.specs.Learning.{taught_by};
+ghost use Rattle.pb_one_host.specs.Row.{kept_items};
+ghost use Rattle.pb_one_host.specs.Handlers.{notified_by};
+ghost use Rattle.pb_one_host.specs.Back.{back_running, items_run, retried_running, undone_running};
+ghost use Rattle.pb_one_host.specs.Ends.{IsAtMost};
+
+use super::{Finish, Row, Running, put_last};
+use crate::decided::{Decided, Done, Retried, TaskEnd};
+use crate::ends::{breaks, counted, kind_of};
+use crate::handlers::{marks_in, notified_by};
+use crate::items::{Before, CameBack, TaskItems, none_back};
+use crate::told::{done_at, runs_once_at, told_of};
+use pb_facts::facts::Facts;
+use pb_facts::news::News;
+use pb_ids::{HostNo, Ticket};
+use pb_inventory::inventory::Inventory;
+use pb_outcome::outcome::Outcome;
+use pb_plan::PlanPlay;
+use pb_sight::learning::taught;
+use pb_sight::seen::Seen;
+use pb_tree::Answer;
+use std::alloc::{AllocError, Global};
+use std::mem;
+
+/// The items of the task that a host runs.
+fn items_run(alloc: Global, running: Option<Running>) -> TaskItems
+    ensures { result ≡ items_run running }
+{
+    match running {
+        Some(running) => running.into_items(),
+        None => TaskItems::none(alloc),
+    }
+}
+
+/// What is kept of the items of a task that ended.
+fn kept_items(alloc: Global, once: bool, items: TaskItems) -> TaskItems
+    ensures { result ≡ kept_items once items }
+{
+    if once { items } else { TaskItems::none(alloc) }
+}
+
+/// The job that is out of what a host runs came to this: its item is what the task says of it on a host that has learnt this. What the item was
+/// before is handed back, and the attempt where another one comes behind it. An `Err` changes nothing.
+fn come_back(
+    alloc: Global,
+    slot: &mut Option<Running>,
+    plan: &Seen,
+    play: &PlanPlay,
+    host: HostNo,
+    facts: &Facts,
+    outcome: &Outcome,
+) -> Result<CameBack, AllocError>
+    ensures ok { OnOk result (slot.new ≡ back_running plan.now play.now host.0 facts.now outcome.now slot.old) }
+    ensures retried { IfOk result (λ came. came.retried ≡ retried_running plan.now play.now host.0 facts.now outcome.now slot.old) }
+    ensures undo { IfOk result (λ came. undone_running came.before slot.new ≡ slot.old) }
+    ensures err { OnErr result (slot.new ≡ slot.old) }
+{
+    match slot {
+        Some(running) => {
+            let place = running.place;
+            let came = running
+                .items
+                .back(alloc, plan, play, host, facts, place, outcome)?;
+            Ok(came)
+        }
+        None => Ok(none_back()),
+    }
+}
+
+/// What a host that knows this hears once the task at a place ended there so.
+fn news_after(
+    alloc: Global,
+    inventory: &Inventory,
+    play: &PlanPlay,
+    place: usize,
+    host: HostNo,
+    done: &Done,
+    items: &TaskItems,
+    facts: &Facts,
+) -> Result<News, AllocError>
+    ensures { IfOk result (λ news. heard news facts.now ≡ taught_by inventory.now play.now place (Some host.0) done.now.task.result done.now.result items.now facts.now) }
+{
+    let ended = done.task.result;
+    taught(
+        alloc,
+        inventory,
+        play,
+        place,
+        Some(host),
+        ended,
+        &done.result,
+        items.as_slice(),
+        facts,
+    )
+}
+
+impl Row {
+    ghost use Rattle.pb_one_host.specs.Row.{finished, progressed, sent, pending};
+    ghost use Rattle.pb_one_host.specs.Decides.{done_if};
+    ghost use Rattle.pb_one_host.specs.Back.{back_row, retried_row, finish_run, settled_row, with_running, waiting, went_on, ended_now, decided_now, undone};
+
+    /// Puts down how the task at a place ended that the host runs.
+    fn settle(&mut self, alloc: Global, once: bool, place: usize, task: TaskEnd)
+        requires { IsAtMost self.old.counts (2 ^ 64 - 2) }
+        ensures { self.new ≡ settled_row once place task self.old }
+    {
+        let kind = kind_of(task);
+        let ran = mem::replace(&mut self.running, None);
+        let items = kept_items(alloc, once, items_run(alloc, ran));
+        put_last(&mut self.last, Some(Finish { place, kind, items }));
+        self.is_broken = self.is_broken || breaks(task.is_caught, kind);
+        self.counts = counted(self.counts, task);
+    }
+
+    /// The task at a place that the host runs ends, and the host hears this. An `Err` changes nothing.
+    fn finish(
+        &mut self,
+        alloc: Global,
+        play: &PlanPlay,
+        place: usize,
+        task: TaskEnd,
+        news: News,
+    ) -> Result<(), AllocError>
+        requires batch { self.old.in_batch ≡ true }
+        requires room { IsAtMost self.old.counts (2 ^ 64 - 2) }
+        ensures ok { OnOk result (self.new ≡ finished (finish_run play.now place task self.old.running) task (notified_by play.now place task) (heard news self.old.facts) self.old) }
+        ensures err { OnErr result (self.new ≡ self.old) }
+    {
+        let notified = Vec::from_slice(alloc, notified_by(play, place, task))?;
+        let answer = Answer::of(kind_of(task), notified);
+        self.hear_and_answer(alloc, &answer, news)?;
+        self.settle(alloc, runs_once_at(play, place), place, task);
+        Ok(())
+    }
+
+    /// The task at a place starts with these items: it waits for their jobs, or ends at once. An `Err` changes nothing.
+    #[tactic(auto, using(crate::proofs::Begun::begun_as))]
+    pub fn start(
+        &mut self,
+        alloc: Global,
+        inventory: &Inventory,
+        play: &PlanPlay,
+        place: usize,
+        items: TaskItems,
+    ) -> Result<Option<Done>, AllocError>
+        requires batch { self.old.in_batch ≡ true }
+        requires room { IsAtMost self.old.counts (2 ^ 64 - 2) }
+        ensures row { OnOk result (self.new ≡ progressed inventory.now play.now place items self.old) }
+        ensures done { IfOk result (λ done. done ≡ done_if play.now place (pending self.old) items) }
+        ensures err { OnErr result (self.new ≡ self.old) }
+    {
+        let before = self.put_running(Some(Running {
+            place,
+            items,
+            out: None,
+        }));
+        match self.end_if_over(alloc, inventory, play) {
+            Ok(done) => Ok(done),
+            Err(error) => {
+                self.put_running(before);
+                Err(error)
+            }
+        }
+    }
+
+    /// Puts down what the host runs, and hands back what it ran.
+    fn put_running(&mut self, running: Option<Running>) -> Option<Running>
+        requires { self.old.in_batch ≡ true }
+        ensures row { self.new ≡ with_running running self.old }
+        ensures before { result ≡ self.old.running }
+    {
+        mem::replace(&mut self.running, running)
+    }
+
+    /// A job goes out.
+    pub fn send(&mut self, ticket: Ticket)
+        ensures { self.new ≡ sent ticket self.old }
+    {
+        if let Some(running) = &mut self.running {
+            running.out = Some(ticket);
+        }
+    }
+
+    /// The job that is out came to this: its item has its result, or waits for its next attempt. What the item was before is handed back, and the attempt
+    /// where another one comes behind it. An `Err` changes nothing.
+    pub fn take_back(
+        &mut self,
+        alloc: Global,
+        plan: &Seen,
+        play: &PlanPlay,
+        outcome: &Outcome,
+    ) -> Result<CameBack, AllocError>
+        ensures ok { OnOk result (self.new ≡ back_row plan.now play.now outcome.now self.old) }
+        ensures retried { IfOk result (λ came. came.retried ≡ retried_row plan.now play.now outcome.now self.old) }
+        ensures undo { IfOk result (λ came. undone came.before self.new ≡ self.old) }
+        ensures err { OnErr result (self.new ≡ self.old) }
+    {
+        let came = come_back(
+            alloc,
+            &mut self.running,
+            plan,
+            play,
+            self.host,
+            &self.facts,
+            outcome,
+        )?;
+        Ok(came)
+    }
+
+    /// Puts an item of the task that the host runs back as it was.
+    pub fn undo(&mut self, before: Option<Before>)
+        ensures { self.new ≡ undone before self.old }
+    {
+        match &mut self.running {
+            Some(running) => running.items.undo(before),
+            None => drop(before),
+        }
+    }
+
+    /// The task that the host runs waits for its next item to be sent.
+    fn wait(&mut self)
+        ensures { self.new ≡ waiting self.old }
+    {
+        if let Some(running) = &mut self.running {
+            running.out = None;
+        }
+    }
+
+    /// What is decided of the task that the host runs, of which the item with this number came back, or this attempt at it. An `Err` changes nothing.
+    pub fn decide(
+        &mut self,
+        alloc: Global,
+        inventory: &Inventory,
+        play: &PlanPlay,
+        number: Option<u32>,
+        retried: Option<Retried>,
+    ) -> Result<Option<Decided>, AllocError>
+        requires { IsAtMost self.old.counts (2 ^ 64 - 2) }
+        ensures row { OnOk result (self.new ≡ went_on inventory.now play.now self.old) }
+        ensures decides { IfOk result (λ decided. decided ≡ decided_now play.now number retried self.old) }
+        ensures err { OnErr result (self.new ≡ self.old) }
+    {
+        match &self.running {
+            None => Ok(None),
+            Some(running) => {
+                let place = running.place;
+                let items = told_of(alloc, &running.items, number)?;
+                let done = self.end_if_over(alloc, inventory, play)?;
+                Ok(Some(Decided {
+                    place,
+                    is_new: false,
+                    items,
+                    retried,
+                    done,
+                }))
+            }
+        }
+    }
+
+    /// The task that the host runs goes on, or ends where it is over. An `Err` changes nothing.
+    fn end_if_over(
+        &mut self,
+        alloc: Global,
+        inventory: &Inventory,
+        play: &PlanPlay,
+    ) -> Result<Option<Done>, AllocError>
+        requires { IsAtMost self.old.counts (2 ^ 64 - 2) }
+        ensures row { OnOk result (self.new ≡ went_on inventory.now play.now self.old) }
+        ensures done { IfOk result (λ done. done ≡ ended_now play.now self.old) }
+        ensures err { OnErr result (self.new ≡ self.old) }
+    {
+        match &self.running {
+            None => Ok(None),
+            Some(running) => {
+                if !running.items.is_over() {
+                    self.wait();
+                    return Ok(None);
+                }
+                let place = running.place;
+                let marks = marks_in(&self.walk);
+                let done = done_at(alloc, play, place, marks, &running.items)?;
+                let news = news_after(
+                    alloc,
+                    inventory,
+                    play,
+                    place,
+                    self.host,
+                    &done,
+                    &running.items,
+                    &self.facts,
+                )?;
+                self.finish(alloc, play, place, done.task, news)?;
+                Ok(Some(done))
+            }
+        }
+    }
+}
