@@ -1,10 +1,9 @@
 //! What a run may leave where memory was refused in it.
 
-use crate::play::{NotBegun, Run};
+use crate::by_hand::wants_memory;
+use crate::play::{Break, NotBegun, Run};
+use crate::rows::Way;
 use pb_audit::trail_text;
-use pb_driver::RunFault;
-use pb_outcome::cause::Cause;
-use pb_outcome::outcome::Form;
 use pb_state::Event;
 use std::alloc::{AllocError, Global};
 
@@ -24,6 +23,12 @@ pub enum End {
     WithoutJob,
     /// In the middle, with a beginning of the same.
     BrokenOff,
+    /// In the middle, behind a job that wasn't started: memory was refused twice.
+    BrokenOffWithoutJob,
+    /// In the middle, with a beginning of the same, where a call was made twice and refused twice.
+    TwiceRefused,
+    /// A worker couldn't be started.
+    NoWorker,
     /// There was no run.
     NotBegun,
 }
@@ -35,6 +40,9 @@ impl End {
             End::Same => "the same",
             End::WithoutJob => "a job not started",
             End::BrokenOff => "broken off",
+            End::BrokenOffWithoutJob => "a job not started, and broken off",
+            End::TwiceRefused => "broken off at the second try",
+            End::NoWorker => "no worker",
             End::NotBegun => "not begun",
         }
     }
@@ -43,12 +51,7 @@ impl End {
 /// Whether the runner was refused memory for a job.
 fn is_without_memory(event: &Event) -> bool {
     match event {
-        Event::Report(report) => match report.outcome.form() {
-            Form::NotStarted {
-                cause: Cause::OutOfMemory,
-            } => true,
-            _ => false,
-        },
+        Event::Report(report) => wants_memory(&report.outcome),
         _ => false,
     }
 }
@@ -63,15 +66,47 @@ fn before_refusal(trail: &[Event]) -> &[Event] {
     trail
 }
 
-/// Whether both of a run's texts are the wanted ones.
-fn is_same(text: &[u8], bytes: &[u8], wanted: &Wanted) -> bool {
-    text == wanted.trail.as_slice() && bytes == wanted.bytes.as_slice()
+/// What is to be said of a run that began.
+#[derive(Clone, Copy)]
+struct Seen {
+    /// No job was refused memory.
+    has_jobs: bool,
+    /// There are no events and there is no output.
+    is_empty: bool,
+    /// The output is a beginning of the wanted one.
+    is_beginning: bool,
+    /// All events and all output are as wanted.
+    is_whole: bool,
 }
 
-/// The end of a run that began, if it is one that may be. A job for which the runner was refused memory counts as not started; the run goes on,
-/// and then only the events before it are known. Else a run is the wanted one, or breaks off for want of memory with a beginning of it.
+/// The end of a run by calls that were each made twice, if it is one that may be. Its jobs are run twice as well.
+fn end_by_hand(fault: Option<Break>, seen: Seen) -> Option<End> {
+    match fault {
+        None if seen.has_jobs && seen.is_whole => Some(End::Same),
+        Some(Break::Memory) if seen.has_jobs && seen.is_beginning => Some(End::TwiceRefused),
+        _ => None,
+    }
+}
+
+/// The end of a run by a driver, if it is one that may be. Where a job wasn't started for want of memory the run goes on, with more that isn't known.
+fn end_by_driver(way: Way, fault: Option<Break>, seen: Seen) -> Option<End> {
+    match fault {
+        None if !seen.has_jobs => Some(End::WithoutJob),
+        None if seen.is_whole => Some(End::Same),
+        Some(Break::Memory) if !seen.has_jobs => Some(End::BrokenOffWithoutJob),
+        Some(Break::Memory) if seen.is_beginning => Some(End::BrokenOff),
+        Some(Break::Closed) if seen.is_empty => match way {
+            Way::Pool(_) => Some(End::NoWorker),
+            _ => None,
+        },
+        _ => None,
+    }
+}
+
+/// The end of a run that began, if it is one that may be. In each case the events before the first job without memory are a beginning of the wanted ones.
 fn end_of_run(
     alloc: Global,
+    way: Way,
     run: &Run,
     bytes: &[u8],
     wanted: &Wanted,
@@ -81,19 +116,20 @@ fn end_of_run(
     if !wanted.trail.as_slice().starts_with(text.as_slice()) {
         return Ok(None);
     }
-    let is_known = before.len() == run.trail.len();
-    Ok(match run.fault {
-        None if !is_known => Some(End::WithoutJob),
-        None if is_same(text.as_slice(), bytes, wanted) => Some(End::Same),
-        Some(RunFault::Memory) if !is_known || wanted.bytes.as_slice().starts_with(bytes) => {
-            Some(End::BrokenOff)
-        }
-        _ => None,
+    let seen = Seen {
+        has_jobs: before.len() == run.trail.len(),
+        is_empty: run.trail.is_empty() && bytes.is_empty(),
+        is_beginning: wanted.bytes.as_slice().starts_with(bytes),
+        is_whole: text.as_slice() == wanted.trail.as_slice() && bytes == wanted.bytes.as_slice(),
+    };
+    Ok(match way {
+        Way::ByHand => end_by_hand(run.fault, seen),
+        _ => end_by_driver(way, run.fault, seen),
     })
 }
 
 /// Whether no run began for want of memory: each fault's words end in that.
-fn wants_memory(alloc: Global, fault: &NotBegun) -> Result<bool, AllocError> {
+fn is_for_memory(alloc: Global, fault: &NotBegun) -> Result<bool, AllocError> {
     let words = format!(in alloc; "{fault}")?;
     Ok(words.ends_with("Memory"))
 }
@@ -101,14 +137,15 @@ fn wants_memory(alloc: Global, fault: &NotBegun) -> Result<bool, AllocError> {
 /// How it ended, if that is what may come where memory was refused.
 pub fn end_of(
     alloc: Global,
+    way: Way,
     run: &Result<Run, NotBegun>,
     bytes: &[u8],
     wanted: &Wanted,
 ) -> Result<Option<End>, AllocError> {
     match run {
-        Ok(run) => end_of_run(alloc, run, bytes, wanted),
+        Ok(run) => end_of_run(alloc, way, run, bytes, wanted),
         Err(fault) => {
-            if bytes.is_empty() && wants_memory(alloc, fault)? {
+            if bytes.is_empty() && is_for_memory(alloc, fault)? {
                 Ok(Some(End::NotBegun))
             } else {
                 Ok(None)

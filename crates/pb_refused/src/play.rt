@@ -1,8 +1,10 @@
 //! The play of a row.
 
+use crate::by_hand::play_by_hand;
 use crate::kept::Kept;
-use crate::rows::Row;
-use pb_driver::{Ended, Lowest, RunFault, run_plain};
+use crate::rows::{Row, Way};
+use crate::worker::workers;
+use pb_driver::{Ended, Lowest, RunFault, run_plain, run_pool};
 use pb_roles::{RoleFile, RoleFiles};
 use pb_runner::fault::TableFault;
 use pb_runner::table::TableRunner;
@@ -10,12 +12,14 @@ use pb_state::{Bundle, BundleFault, Event, Plan};
 use pb_value::items::Items;
 use pb_value::text::Text;
 use std::alloc::{AllocError, Global};
+use std::sync::Wait;
+use std::thread::Threads;
 use thiserror::Error;
 
 /// Why no run began.
 #[derive(Debug, Drop, Error)]
 pub enum NotBegun {
-    /// The texts couldn't be copied.
+    /// The texts couldn't be copied, or no engine could be made.
     #[error("Memory")]
     Memory,
     /// The bundle makes no plan.
@@ -24,6 +28,9 @@ pub enum NotBegun {
     /// The outcomes are no table.
     #[error("{0}")]
     Table(TableFault),
+    /// There are fewer workers than forks.
+    #[error("TooFewWorkers")]
+    TooFewWorkers,
 }
 
 impl From<AllocError> for NotBegun {
@@ -37,11 +44,22 @@ impl From<AllocError> for NotBegun {
     }
 }
 
-/// A run that began: its events, and its fault where it broke off.
+/// Why a run broke off.
+#[derive(Clone, Copy)]
+pub enum Break {
+    /// Memory was refused.
+    Memory,
+    /// A worker couldn't be started.
+    Closed,
+    /// None of these.
+    Other,
+}
+
+/// A run that began: its events, and why it broke off where it did.
 #[derive(Drop)]
 pub struct Run {
     pub trail: Vec<Event>,
-    pub fault: Option<RunFault>,
+    pub fault: Option<Break>,
 }
 
 fn bytes_of(alloc: Global, text: &str) -> Result<Items<u8>, AllocError> {
@@ -74,7 +92,7 @@ fn bundle_of(alloc: Global, row: &Row) -> Result<Bundle, AllocError> {
         limit: some_text_of(alloc, row.limit)?,
         extra: some_text_of(alloc, row.extra)?,
         roles: roles_of(alloc, row.role)?,
-        forks: 2,
+        forks: row.forks(),
         has_facts_program: true,
     })
 }
@@ -87,14 +105,17 @@ fn plan_of(alloc: Global, row: &Row) -> Result<Plan, NotBegun> {
     }
 }
 
-/// Plays a row from its texts, with its lines on the writer.
-pub fn play(alloc: Global, row: &Row, out: &mut Kept) -> Result<Run, NotBegun> {
-    let plan = plan_of(alloc, row)?;
-    let mut runner = match TableRunner::read(alloc, row.outcomes.as_bytes()) {
-        Ok(runner) => runner,
-        Err(fault) => return Err(NotBegun::Table(fault)),
-    };
-    match run_plain(alloc, plan, &mut runner, &mut Lowest, &[], out) {
+/// The runner of the row's outcomes.
+fn table_of(alloc: Global, row: &Row) -> Result<TableRunner, NotBegun> {
+    match TableRunner::read(alloc, row.outcomes.as_bytes()) {
+        Ok(runner) => Ok(runner),
+        Err(fault) => Err(NotBegun::Table(fault)),
+    }
+}
+
+/// What a driver left of a run.
+fn run_of(ended: Result<Ended, (RunFault, Vec<Event>)>) -> Run {
+    match ended {
         Ok(ended) => {
             let Ended {
                 trail,
@@ -102,11 +123,57 @@ pub fn play(alloc: Global, row: &Row, out: &mut Kept) -> Result<Run, NotBegun> {
                 status: _,
             } = ended;
             drop(recap);
-            Ok(Run { trail, fault: None })
+            Run { trail, fault: None }
         }
-        Err((fault, trail)) => Ok(Run {
-            trail,
-            fault: Some(fault),
-        }),
+        Err((fault, trail)) => {
+            let fault = match fault {
+                RunFault::Memory => Break::Memory,
+                RunFault::Write => Break::Other,
+                RunFault::Closed => Break::Closed,
+            };
+            Run {
+                trail,
+                fault: Some(fault),
+            }
+        }
+    }
+}
+
+fn play_plain(alloc: Global, row: &Row, out: &mut Kept) -> Result<Run, NotBegun> {
+    let plan = plan_of(alloc, row)?;
+    let mut runner = table_of(alloc, row)?;
+    Ok(run_of(run_plain(alloc, plan, &mut runner, &mut Lowest, &[], out)))
+}
+
+fn play_in_pool<R: Threads + Wait + Sync>(
+    rt: &R,
+    alloc: Global,
+    row: &Row,
+    count: u32,
+    out: &mut Kept,
+) -> Result<Run, NotBegun> {
+    let plan = plan_of(alloc, row)?;
+    let mut runners = workers(alloc, count)?;
+    if runners.len() > 256 || plan.forks() as usize > runners.len() {
+        return Err(NotBegun::TooFewWorkers);
+    }
+    Ok(run_of(run_pool(rt, alloc, plan, &mut runners, Lowest, &[], out)))
+}
+
+/// Plays a row from its texts, with its lines on the writer, where it isn't played by hand.
+pub fn play<R: Threads + Wait + Sync>(
+    rt: &R,
+    alloc: Global,
+    row: &Row,
+    out: &mut Kept,
+) -> Result<Run, NotBegun> {
+    match row.way {
+        Way::Plain => play_plain(alloc, row, out),
+        Way::Pool(count) => play_in_pool(rt, alloc, row, count, out),
+        Way::ByHand => {
+            let plan = plan_of(alloc, row)?;
+            let runner = table_of(alloc, row)?;
+            play_by_hand(alloc, plan, runner)
+        }
     }
 }

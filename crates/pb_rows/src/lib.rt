@@ -1,5 +1,5 @@
-//! Tests alone, of what no case shows: writers that fail or take little, and the trails of such runs; files of outcomes and trails that
-//! are cut at each byte; the largest numbers in trails, bundles and files of outcomes that are taken with those that are one larger, long
+//! Tests alone, of what no case shows: writers that fail, or take little or nothing, and the trails of such runs; files of outcomes and trails that
+//! are cut at each byte; the largest numbers in trails, bundles, loops and files of outcomes that are taken with those that are one larger, long
 //! chains of roles, the events of runs in their order, by each strategy and in batches, failures that are fatal for all by each picker,
 //! reports that are refused and handed back, trails that are replayed and compared, recaps, commands, and folders of roles as the system has them.
 #![tactic(auto)]
@@ -34,6 +34,8 @@ mod reports;
 mod roles;
 #[cfg(test)]
 mod same_ends;
+#[cfg(test)]
+mod small_writers;
 #[cfg(test)]
 mod strategies;
 #[cfg(test)]

@@ -1,11 +1,11 @@
-//! The jobs of a loop: which items are sent, and under which tickets.
+//! The jobs of a loop: which items are sent, and under which tickets; and the longest loop.
 
 use crate::told::told;
 use crate::trails::plan_of;
 use pb_driver::{Silent, run_plain};
 use pb_engine::Lowest;
 use pb_runner::table::TableRunner;
-use std::alloc::Global;
+use std::alloc::{AllocError, Global};
 use std::test::Fail;
 
 /// A loop on host a alone, whose second item is skipped.
@@ -47,5 +47,40 @@ fn skipped_items_are_not_sent(rt: HostRuntime) -> Result<(), Fail> {
             "open, start 0, send 0 0 as 0, report 0 0 of 0, send 0 2 as 1, report 0 2 of 1, turn, close, "
         );
     }
+    Ok(())
+}
+
+/// A playbook of one command on host a alone, for each of so many items, but of one at least.
+fn counted(alloc: Global, items: u32) -> Result<String, AllocError> {
+    let mut text = String::from_str(
+        alloc,
+        "[{\"hosts\":\"a\",\"gather_facts\":false,\"tasks\":[{\"command\":\"run {{ item }}\",\"loop\":[0",
+    )?;
+    for item in 1..items {
+        write!(text, ",{item}")?;
+    }
+    text.push_str("]}]}]")?;
+    Ok(text)
+}
+
+/// Whether a run of so many items ends with this exit status, after so many events.
+fn ends_so(alloc: Global, items: u32, status: u8, events: usize) -> Result<bool, Fail> {
+    let Ok(mut runner) = TableRunner::read(alloc, b"{\"rows\":[]}") else {
+        return Err(Fail::new("a table"));
+    };
+    let playbook = counted(alloc, items)?;
+    let plan = plan_of(alloc, playbook.as_str(), 1)?;
+    match run_plain(alloc, plan, &mut runner, &mut Lowest, &[], &mut Silent) {
+        Ok(ended) => Ok(ended.status == status && ended.trail.len() == events),
+        Err(_) => Err(Fail::new("an end")),
+    }
+}
+
+/// Each of 10,000 items goes out and comes back. Of one more none does, and the task fails.
+#[test]
+fn the_longest_loop(rt: HostRuntime) -> Result<(), Fail> {
+    let alloc = rt.alloc();
+    assert!(rt; ends_so(alloc, 10_000, 0, 20_004)?);
+    assert!(rt; ends_so(alloc, 10_001, 2, 4)?);
     Ok(())
 }
