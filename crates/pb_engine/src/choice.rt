@@ -23,7 +23,7 @@ pub enum Choice {
 
 /// An event that the machine takes by itself, if there is one: a send or a start where a host is ready, else a turn, a
 /// close or an open. `ready` is a set of as many hosts as the state has, whose members don't matter.
-#[tactic(auto, using(pb_state::proofs::Quiet::quiet, pb_state::proofs::Quiet::finished_now, pb_state::proofs::Quiet::length_ready, crate::proofs::Picked::picked, pb_state::proofs::Stuck::over_now))]
+#[tactic(auto, using(pb_state::proofs::Quiet::length_ready))]
 pub fn choose<P: Picker>(
     plan: &Plan,
     state: &EngineState,
@@ -37,9 +37,31 @@ pub fn choose<P: Picker>(
     ensures choice { IsChoice plan.now state.now P.picks picker.old picker.new result }
     ensures width { length ready.new ≡ length state.now.rows }
 {
-    state.ready(plan, ready);
-    if !ready.is_empty() {
-        let host = picker.pick(ready);
+    match state.kept_ready(plan) {
+        Some(due) => choose_among(plan, state, due, picker),
+        None => {
+            state.ready(plan, ready);
+            choose_among(plan, state, ready, picker)
+        }
+    }
+}
+
+/// The same where these hosts are ready.
+#[tactic(auto, using(pb_state::proofs::Quiet::quiet, pb_state::proofs::Quiet::finished_now, crate::proofs::Picked::picked, pb_state::proofs::Stuck::over_now))]
+fn choose_among<P: Picker>(
+    plan: &Plan,
+    state: &EngineState,
+    due: &HostSet,
+    picker: &mut P,
+) -> Choice
+    requires due { due.now ≡ ready plan.now state.now }
+    requires placed { IsPlaced plan.now state.now }
+    requires going { IsGoing state.now }
+    requires forks { 0 < state.now.forks }
+    ensures { IsChoice plan.now state.now P.picks picker.old picker.new result }
+{
+    if !due.is_empty() {
+        let host = picker.pick(due);
         return Choice::Take(event_of(plan, state, host));
     }
     if state.may_turn(plan) {

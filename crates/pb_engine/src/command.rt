@@ -1,6 +1,8 @@
 //! What an engine may be told.
 
-ghost use Rattle.std.specs.Prelude.{◌≡◌, length};
+ghost use Rattle.std.specs.Prelude.{◌≡◌, length, not};
+ghost use Rattle.pb_planes.specs.Set.{has_some};
+ghost use Rattle.pb_state.specs.Machine.{ready};
 ghost use Rattle.pb_engine.specs.Commands.{event_for, is_in_range, is_finished};
 
 use pb_planes::HostSet;
@@ -62,15 +64,29 @@ pub(crate) fn is_in_range(pool: u32, command: Command) -> bool
     }
 }
 
-/// Whether a run is at its end. `ready` is a set of as many hosts as the state has, whose members don't matter.
+/// Whether no host is ready. `set` is one of as many hosts as the state has, whose members don't matter.
 #[tactic(auto, using(pb_state::proofs::Quiet::length_ready))]
+fn none_ready(plan: &Plan, state: &EngineState, set: &mut HostSet) -> bool
+    requires { length set.old ≡ length state.now.rows }
+    ensures value { result ≡ not (has_some (ready plan.now state.now)) }
+    ensures width { length set.new ≡ length state.now.rows }
+{
+    match state.kept_ready(plan) {
+        Some(due) => due.is_empty(),
+        None => {
+            state.ready(plan, set);
+            set.is_empty()
+        }
+    }
+}
+
+/// Whether a run is at its end. `ready` is a set of as many hosts as the state has, whose members don't matter.
 pub(crate) fn is_finished(plan: &Plan, state: &EngineState, ready: &mut HostSet) -> bool
     requires { length ready.old ≡ length state.now.rows }
     ensures value { result ≡ is_finished plan.now state.now }
     ensures width { length ready.new ≡ length state.now.rows }
 {
-    state.ready(plan, ready);
-    ready.is_empty()
+    none_ready(plan, state, ready)
         && !state.may_turn(plan)
         && !state.may_close(plan)
         && !state.may_open(plan)

@@ -1,6 +1,6 @@
 -- Who is ready: a host that has a send, or one that may start.
-use Rattle.std.proofs.Common.{◌≡◌, ℕ, zero, suc, Bool, true, false, ◌||◌, List, [], ◌∷◌, length, map, refl, sym, ◌∙◌, ap, arith, ◌⊎◌, inl, inr}
-use Rattle.std.specs.Prelude.{Some, slice_get}
+use Rattle.std.proofs.Common.{◌≡◌, ℕ, zero, suc, Bool, true, false, ◌||◌, not, List, [], ◌∷◌, length, map, refl, sym, ◌∙◌, ap, arith, ◌⊎◌, inl, inr}
+use Rattle.std.specs.Prelude.{Option, Some, None, IfSome, slice_get, replicate}
 use Rattle.std.specs.Simd.Lanes.{zip2}
 use Rattle.std.proofs.lemmas.List.{length-map}
 use Rattle.std.proofs.lemmas.List.FromFn.{length-map-range_with_len}
@@ -98,3 +98,42 @@ length_ready_in s play = by_stopped s.stopped
     by_stopped : (stopped : Bool) → length (with_sends stopped s.rows (starting (view_of s play))) ≡ length s.rows
     by_stopped true = length_starting s play
     by_stopped false = length-zip2 (λ (a b : Bool). a || b) (starting (view_of s play)) (map has_send s.rows) (widths s play) ∙ length_starting s play
+
+-- where nobody has a send, those are ready that may start; and where nobody may start, those that have a send
+or_no : (a : Bool) → (a || false) ≡ a
+or_no true = refl
+or_no false = refl
+
+starts_alone : (starts sends : List Bool) → length starts ≡ length sends → has_some sends ≡ false → zip2 (λ (a b : Bool). a || b) starts sends ≡ starts
+starts_alone [] sends e n = refl
+starts_alone (a ∷ starts) [] e n = absurd (omega (arith, e))
+starts_alone (a ∷ starts) (b ∷ sends) e n =
+    ap (λ x. (a || x) ∷ zip2 (λ (p q : Bool). p || q) starts sends) (or_left b (has_some sends) n)
+    ∙ ap (λ x. x ∷ zip2 (λ (p q : Bool). p || q) starts sends) (or_no a)
+    ∙ ap (λ rest. a ∷ rest) (starts_alone starts sends (omega (arith, e)) (or_right b (has_some sends) n))
+
+none_or : (n : ℕ) (sends : List Bool) → n ≡ length sends → zip2 (λ (a b : Bool). a || b) (replicate n false) sends ≡ sends
+none_or zero [] e = refl
+none_or zero (b ∷ sends) e = absurd (omega (arith, e))
+none_or (suc n) [] e = absurd (omega (arith, e))
+none_or (suc n) (b ∷ sends) e = ap (λ rest. b ∷ rest) (none_or n sends (omega (arith, e)))
+
+pub ready_to_start : (s : State) (play : PlayOf) (sends : List Bool) → s.stopped ≡ false → sends ≡ map has_send s.rows → has_some sends ≡ false → starting (view_of s play) ≡ ready_in s play
+ready_to_start s play sends st are none =
+    sym (ap (λ stopped. with_sends stopped s.rows (starting (view_of s play))) st ∙ starts_alone (starting (view_of s play)) (map has_send s.rows) (widths s play) (ap has_some (sym are) ∙ none))
+
+pub ready_to_send : (s : State) (play : PlayOf) (sends : List Bool) → s.stopped ≡ false → sends ≡ map has_send s.rows → starting (view_of s play) ≡ replicate (length (view_of s play).hosts) false → sends ≡ ready_in s play
+ready_to_send s play sends st are none =
+    let wide : length (view_of s play).hosts ≡ length (map has_send s.rows) = length-map s.rows standing ∙ sym (length-map s.rows has_send) in
+    are ∙ sym (ap (λ stopped. with_sends stopped s.rows (starting (view_of s play))) st
+    ∙ ap (λ starts. zip2 (λ (a b : Bool). a || b) starts (map has_send s.rows)) none
+    ∙ none_or (length (view_of s play).hosts) (map has_send s.rows) wide)
+
+-- what holds of a set that may be there
+pub if_kept : {A : Type 0} (P Q : A → Type 0) (kept : Option A) → ((x : A) → P x → Q x) → IfSome kept P → IfSome kept Q
+if_kept P Q None step p = p
+if_kept P Q (Some x) step p = step x p
+
+pub has_none : (some : Bool) → not some ≡ true → some ≡ false
+has_none true e = cc
+has_none false e = refl

@@ -13,7 +13,7 @@ use Rattle.pb_limits.specs.Counts.{LimitsOf, limits_of, runs_at, running_at}
 use Rattle.pb_strategies.specs.declared.standings.Standing.{Standing}
 use Rattle.pb_strategies.specs.declared.watched.Watched.{Watched}
 use Rattle.pb_strategies.specs.Hosts.{nowhere, same_place, is_running, has_begun, is_unended, is_next_at, is_under_way, runs_in}
-use Rattle.pb_strategies.specs.Kept.{IsWatched, with_next, IsKept}
+use Rattle.pb_strategies.specs.Kept.{IsWatched, with_next, is_idle_at, IsKept}
 use Rattle.pb_strategies.proofs.Watching.{watched_put, each_put}
 
 -- what is written where it stands already changes nothing
@@ -47,14 +47,14 @@ counts_kept hosts h old new limits mid last few e finish start places law =
 one_kept : (test : Standing → Bool) (hosts : List Standing) (h : ℕ) (new : Standing) (set told : List Bool) → set ≡ map test hosts → told ≡ slice_set set h (test new) → told ≡ map test (slice_set hosts h new)
 one_kept test hosts h new set told s t = t ∙ ap (λ xs. slice_set xs h (test new)) s ∙ sym (map-set test hosts h new)
 
-pub put_kept : (hosts : List Standing) (h : ℕ) (old new : Standing) (limits mid last : LimitsOf) (n m : ℕ) (running begun unended r b u : List Bool) (here t : Watched) (watched w : List Watched) → slice_get hosts h ≡ Some old
-    → IsKept hosts limits n running begun unended here watched
+pub put_kept : (hosts : List Standing) (h : ℕ) (old new : Standing) (limits mid last : LimitsOf) (n m : ℕ) (running begun unended r b u : List Bool) (here t : Watched) (idle i : List Bool) (watched w : List Watched) → slice_get hosts h ≡ Some old
+    → IsKept hosts limits n running begun unended here idle watched
     → ((places host : ℕ) (runs : List (Option ℕ)) → slice_get runs host ≡ Some old.runs → limits ≡ limits_of places runs → mid ≡ limits_of places (slice_set runs host None))
     → ((places host : ℕ) (runs : List (Option ℕ)) → length runs < 2 ^ 32 → slice_get runs host ≡ Some None → mid ≡ limits_of places runs → last ≡ limits_of places (slice_set runs host new.runs))
     → m ≡ count_by is_under_way (slice_set hosts h new)
-    → r ≡ slice_set running h (is_some new.runs) → b ≡ slice_set begun h new.has_begun → u ≡ slice_set unended h (is_some new.next) → t ≡ with_next h new.next here → w ≡ map (with_next h new.next) watched
-    → IsKept (slice_set hosts h new) last m r b u t w
-put_kept hosts h old new limits mid last n m running begun unended r b u here t watched w e kept finish start em er eb eu et ew =
+    → r ≡ slice_set running h (is_some new.runs) → b ≡ slice_set begun h new.has_begun → u ≡ slice_set unended h (is_some new.next) → t ≡ with_next h new.next here → i ≡ slice_set idle h (is_idle_at here.place new) → w ≡ map (with_next h new.next) watched
+    → IsKept (slice_set hosts h new) last m r b u t i w
+put_kept hosts h old new limits mid last n m running begun unended r b u here t idle i watched w e kept finish start em er eb eu et ei ew =
     let long = length-set hosts h new in
     record {
       few = omega (arith, long, kept.few);
@@ -64,6 +64,7 @@ put_kept hosts h old new limits mid last n m running begun unended r b u here t 
       have_begun = one_kept has_begun hosts h new begun b kept.have_begun eb;
       are_unended = one_kept is_unended hosts h new unended u kept.are_unended eu;
       are_here = subst (IsWatched (slice_set hosts h new)) (sym et) (watched_put hosts h new here kept.are_here);
+      are_idle = one_kept (is_idle_at here.place) hosts h new idle i kept.are_idle ei ∙ ap (λ (one : Watched). map (is_idle_at one.place) (slice_set hosts h new)) (sym et);
       are_watched = subst (All (IsWatched (slice_set hosts h new))) (sym ew) (each_put hosts h new watched kept.are_watched);
     }
 
@@ -150,10 +151,10 @@ none_under_way : (n : ℕ) → count_by is_under_way (replicate n nowhere) ≡ 0
 none_under_way zero = refl
 none_under_way (suc n) = sum_by-cons (λ (host : Standing). cond (is_under_way host) 1 0) nowhere (replicate n nowhere) ∙ ap (λ m. 0 + m) (none_under_way n)
 
-pub first_kept : (n places : ℕ) (hosts : List Standing) (limits : LimitsOf) (running begun unended : List Bool) (here : Watched) (watched : List Watched) → n < 2 ^ 32 → hosts ≡ replicate n nowhere
+pub first_kept : (n places : ℕ) (hosts : List Standing) (limits : LimitsOf) (running begun unended : List Bool) (here : Watched) (idle : List Bool) (watched : List Watched) → n < 2 ^ 32 → hosts ≡ replicate n nowhere
     → ((m : ℕ) → limits ≡ limits_of places (replicate m None))
-    → running ≡ replicate n false → begun ≡ replicate n false → unended ≡ replicate n false → here.hosts ≡ replicate n false → watched ≡ [] → IsKept hosts limits 0 running begun unended here watched
-first_kept n places hosts limits running begun unended here watched few h l r b u t w =
+    → running ≡ replicate n false → begun ≡ replicate n false → unended ≡ replicate n false → here.hosts ≡ replicate n false → idle ≡ replicate n false → watched ≡ [] → IsKept hosts limits 0 running begun unended here idle watched
+first_kept n places hosts limits running begun unended here idle watched few h l r b u t i w =
     let runs : Standing → Option ℕ = λ (one : Standing). one.runs in
     let long : length hosts ≡ n = ap length h ∙ length-replicate n nowhere in
     record {
@@ -164,5 +165,6 @@ first_kept n places hosts limits running begun unended here watched few h l r b 
       have_begun = none_at_first has_begun n hosts begun refl h b;
       are_unended = none_at_first is_unended n hosts unended refl h u;
       are_here = none_at_first (is_next_at here.place) n hosts here.hosts refl h t;
+      are_idle = none_at_first (is_idle_at here.place) n hosts idle refl h i;
       are_watched = subst (All (IsWatched hosts)) (sym w) (All-nil (IsWatched hosts));
     }

@@ -1,6 +1,6 @@
 -- Who may start, by strategy.
 use Rattle.std.proofs.Common.{◌≡◌, ◌<◌, ◌∙◌, ℕ, Bool, true, false, ◌&&◌, ◌||◌, not, List, [], ◌∷◌, Option, Some, None, map, length, nat_eq, slice_get, get_or, arith, refl, ap, sym, inl, inr, eq-eqb}
-use Rattle.std.specs.Prelude.{option_map, replicate}
+use Rattle.std.specs.Prelude.{option_map, replicate, IfSome}
 use Rattle.std.specs.Option.{option_map_or}
 use Rattle.std.specs.List.{range_with_len}
 use Rattle.std.specs.Simd.Lanes.{zip2}
@@ -232,3 +232,19 @@ within_set set at e =
       | inl lt ↦ lt
       | inr le ↦ absurd (differ (sym e ∙ get_or_past set at false le))
     ]
+
+-- where there is no room nobody may start
+pub not_full : (b : Bool) → not b ≡ true → b ≡ false
+not_full true e = cc
+not_full false e = refl
+
+pub nobody_ready : (view : ViewOf) (room : Bool) → room ≡ has_room view → not room ≡ true → ready view ≡ replicate (length view.hosts) false
+nobody_ready view room is full =
+    let n = length view.hosts in
+    let long = length-replicate n false in
+    sym (ap (λ k. replicate k false) (sym long) ∙ none_ready view (replicate n false) (replicate (length (replicate n false)) false) refl long (no_room view (sym is ∙ not_full room full)))
+
+-- what holds of something that may be there
+pub if_found : {A : Type 0} (P Q : A → Type 0) (found : Option A) → ((x : A) → P x → Q x) → IfSome found P → IfSome found Q
+if_found P Q None step p = p
+if_found P Q (Some x) step p = step x p

@@ -9,7 +9,8 @@ use Rattle.pb_planes.specs.Set.{has_some, is_in, IsNextFrom, HasNoneFrom}
 use Rattle.pb_strategies.specs.declared.standings.Standing.{Standing}
 use Rattle.pb_strategies.specs.declared.watched.Watched.{Watched}
 use Rattle.pb_strategies.specs.Hosts.{same_place, is_next_at, is_under_way}
-use Rattle.pb_strategies.specs.Kept.{IsWatched, with_next}
+use Rattle.pb_strategies.specs.Kept.{IsWatched, with_next, is_idle_at}
+use Rattle.pb_strategies.specs.Parts.{stands_at}
 use Rattle.pb_strategies.proofs.Members.{member_below}
 
 is_place : (kept : Option ℕ) (place : ℕ) → same_place kept (Some place) ≡ true → kept ≡ Some place
@@ -77,3 +78,7 @@ some_mapped test (host ∷ hosts) = ap (λ b. test host || b) (some_mapped test 
 
 pub some_first : (test : Standing → Bool) (hosts : List Standing) (n : ℕ) (set : List Bool) → set ≡ map test hosts → has_some (take n set) ≡ list_any test (take n hosts)
 some_first test hosts n set e = ap (λ xs. has_some (take n xs)) e ∙ ap has_some (take-map test n hosts) ∙ some_mapped test (take n hosts)
+
+-- who is idle at a place, where that is kept
+pub idle_here : (hosts : List Standing) (place : ℕ) (here : Option ℕ) (idle : List Bool) → same_place here (Some place) ≡ true → idle ≡ map (is_idle_at here) hosts → idle ≡ map (stands_at place) hosts
+idle_here hosts place here idle same is = is ∙ ap (λ p. map (is_idle_at p) hosts) (is_place here place same)

@@ -5,6 +5,7 @@ ghost use Rattle.std.specs.List.{list_any};
 ghost use Rattle.std.specs.Simd.Lanes.{zip2};
 ghost use Rattle.pb_limits.specs.Counts.{limits_of, running, running_at};
 ghost use Rattle.pb_planes.specs.Set.{is_in, has_some};
+ghost use Rattle.pb_strategies.specs.Kept.{is_idle_at};
 ghost use Rattle.pb_strategies.specs.Hosts.{nowhere, same_place, is_unended, is_somewhere, is_next_at, is_under_way, runs_in};
 
 mod asked;
@@ -55,6 +56,8 @@ pub struct Standings {
     unended: HostSet,
     /// Those whose next place is the one that `stand_at` named last.
     here: Watched,
+    /// Of these the ones that don't run.
+    idle: HostSet,
     /// Those whose next place is one that is watched.
     watched: Vec<Watched>,
 }
@@ -71,7 +74,7 @@ impl Model for Standings {
 
     ghost view = { λ s. s.hosts.items };
 
-    ghost invariant = { λ s. IsKept s.hosts.items s.limits s.under_way s.running s.begun s.unended s.here s.watched.items };
+    ghost invariant = { λ s. IsKept s.hosts.items s.limits s.under_way s.running s.begun s.unended s.here s.idle s.watched.items };
 }
 
 /// Whether both are the same place.
@@ -82,6 +85,13 @@ pub(crate) fn same_place(one: Option<usize>, other: Option<usize>) -> bool
         (Some(p), Some(q)) => p == q,
         _ => false,
     }
+}
+
+/// Whether this is a host's next place, and it doesn't run.
+fn is_idle_at(host: &Standing, place: Option<usize>) -> bool
+    ensures { result ≡ is_idle_at place host.now }
+{
+    same_place(host.next, place) && host.runs.is_none()
 }
 
 /// A host that ran this, if anything, runs nothing.
@@ -303,6 +313,7 @@ impl Standings {
         let begun = HostSet::empty(alloc, hosts)?;
         let unended = HostSet::empty(alloc, hosts)?;
         let here = Watched::nowhere(alloc, hosts)?;
+        let idle = HostSet::empty(alloc, hosts)?;
         let watched = Vec::new(alloc);
         Ok(Standings {
             hosts: all,
@@ -312,6 +323,7 @@ impl Standings {
             begun,
             unended,
             here,
+            idle,
             watched,
         })
     }
@@ -334,6 +346,7 @@ impl Standings {
         empty_by(&self.here.hosts, &mut self.unended);
         empty_by(&self.here.hosts, &mut self.begun);
         empty_by(&self.here.hosts, &mut self.running);
+        empty_by(&self.here.hosts, &mut self.idle);
         self.limits = limits;
         self.under_way = 0;
         self.watched.clear();
@@ -360,6 +373,7 @@ impl Standings {
             self.begun.put(host, standing.has_begun);
             self.unended.put(host, standing.next.is_some());
             self.here.put(host, standing.next);
+            self.idle.put(host, is_idle_at(&standing, self.here.place));
             watched::put_all(&mut self.watched, host, standing.next);
             self.hosts[at] = standing;
         }
@@ -375,6 +389,8 @@ impl Standings {
             &self.unended,
             &mut self.here.hosts,
         );
+        copy_into(&self.here.hosts, &mut self.idle);
+        self.idle.minus_with(&self.running);
         self.here.place = place;
     }
 

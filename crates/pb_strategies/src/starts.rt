@@ -1,6 +1,6 @@
 //! Which hosts may start their next task.
 
-ghost use Rattle.std.specs.Prelude.{◌≡◌, ◌&&◌, ◌<◌, true, false, not, length, map, replicate, Some, None, slice_get, slice_set, slice_index_or};
+ghost use Rattle.std.specs.Prelude.{◌≡◌, ◌&&◌, ◌<◌, IfSome, true, false, not, length, map, replicate, Some, None, slice_get, slice_set, slice_index_or};
 ghost use Rattle.std.specs.List.{range_with_len};
 ghost use Rattle.std.specs.Option.{option_map_or};
 ghost use Rattle.std.specs.Simd.Lanes.{zip2};
@@ -218,6 +218,51 @@ pub fn ready(view: &View, set: &mut HostSet)
         Strategy::Free => free_into(view, set),
         Strategy::HostPinned => pinned_into(view, set),
     }
+}
+
+/// The hosts that may start under `Linear` at the current place, where they are kept.
+fn linear_kept_at<'a>(view: &View<'a>, place: usize) -> Option<&'a HostSet>
+    requires room { has_room view.now ≡ true }
+    requires linear { view.now.strategy ≡ Strategy.Linear }
+    requires current { view.now.place ≡ Some place }
+    ensures { IfSome result (λ set. set.now ≡ ready view.now) }
+{
+    if has_room_at(view, place) && !runs_once(view, place) {
+        view.hosts.idle_at(place)
+    } else {
+        None
+    }
+}
+
+/// The hosts that may start under `Linear`, where they are kept.
+fn linear_kept<'a>(view: &View<'a>) -> Option<&'a HostSet>
+    requires room { has_room view.now ≡ true }
+    requires linear { view.now.strategy ≡ Strategy.Linear }
+    ensures { IfSome result (λ set. set.now ≡ ready view.now) }
+{
+    match view.place {
+        Some(place) => linear_kept_at(view, place),
+        None => None,
+    }
+}
+
+/// The hosts that may start their next task, where they are kept: under `Linear`, at a current place whose task each host runs, as long as there is
+/// room for more. Then they needn't be put into a set.
+pub fn kept<'a>(view: &View<'a>) -> Option<&'a HostSet>
+    ensures { IfSome result (λ set. set.now ≡ ready view.now) }
+{
+    if is_linear(view.strategy) && has_room(view) {
+        linear_kept(view)
+    } else {
+        None
+    }
+}
+
+/// Whether surely no host may start, since there is no room for more.
+pub fn none_may_start(view: &View) -> bool
+    ensures { result ≡ true → ready view.now ≡ replicate (length view.now.hosts) false }
+{
+    !has_room(view)
 }
 
 /// Whether the task at a place may start, where hosts stand there.

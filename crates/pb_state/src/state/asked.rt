@@ -18,7 +18,7 @@ use pb_one_host::{Counts, Decided};
 use pb_outcome::job::Job;
 use pb_plan::{Plan, PlanPlay};
 use pb_planes::HostSet;
-use pb_strategies::ready;
+use pb_strategies::{kept, none_may_start, ready};
 use std::alloc::{AllocError, Global};
 
 impl EngineState {
@@ -57,6 +57,44 @@ impl EngineState {
         ready(&view, set);
         if !self.stopped {
             set.or_with(self.rows.sends());
+        }
+    }
+
+    /// The hosts that have a job to send or may start, where they are kept as they change: where no host has a job to send and `pb_strategies::kept` says
+    /// who may start, or where there is no room for more. Then they needn't be put into a set.
+    pub fn kept_ready<'a>(&'a self, plan: &'a Plan) -> Option<&'a HostSet>
+        ensures { IfSome result (λ set. set.now ≡ ready plan.now self.now) }
+    {
+        match self.open_play(plan) {
+            Some(play) => self.kept_ready_in(play),
+            None => None,
+        }
+    }
+
+    /// The same where the batch of a play is open.
+    fn kept_ready_in<'a>(&'a self, play: &'a PlanPlay) -> Option<&'a HostSet>
+        ensures { IfSome result (λ set. set.now ≡ ready_in self.now play.now) }
+    {
+        if self.stopped {
+            None
+        } else {
+            self.kept_going_in(play)
+        }
+    }
+
+    /// The same in a run that wasn't told to stop.
+    fn kept_going_in<'a>(&'a self, play: &'a PlanPlay) -> Option<&'a HostSet>
+        requires { self.now.stopped ≡ false }
+        ensures { IfSome result (λ set. set.now ≡ ready_in self.now play.now) }
+    {
+        let view = self.view(play);
+        let sends = self.rows.sends();
+        if none_may_start(&view) {
+            Some(sends)
+        } else if sends.is_empty() {
+            kept(&view)
+        } else {
+            None
         }
     }
 

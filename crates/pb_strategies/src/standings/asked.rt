@@ -4,6 +4,7 @@ ghost use Rattle.std.specs.Prelude.{◌≡◌, ◌&&◌, Some, None, IfSome, fal
 ghost use Rattle.std.specs.List.{list_any};
 ghost use Rattle.std.specs.Simd.Lanes.{zip2};
 ghost use Rattle.pb_limits.specs.Counts.{running, running_at};
+ghost use Rattle.pb_strategies.specs.Parts.{stands_at};
 ghost use Rattle.pb_strategies.specs.Hosts.{is_running, is_next_at, is_waiting, is_under_way, has_begun, runs_in};
 
 use super::{
@@ -97,6 +98,18 @@ impl Standings {
             Some(&self.here.hosts)
         } else {
             watched::set_of(self.watched.as_slice(), place)
+        }
+    }
+
+    /// The hosts whose next place is this one and that don't run, where they are kept: at the place that `stand_at` named last.
+    pub(crate) fn idle_at(&self, place: usize) -> Option<&HostSet>
+        ensures { IfSome result (λ idle. idle.now ≡ map (stands_at place) self.now) }
+    {
+        let is_here = same_place(self.here.place, Some(place));
+        if is_here {
+            Some(&self.idle)
+        } else {
+            None
         }
     }
 

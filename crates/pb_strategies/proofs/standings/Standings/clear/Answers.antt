@@ -3,6 +3,7 @@ use Rattle.std.specs.Prelude.{replicate}
 use Rattle.std.specs.Simd.Lanes.{zip2}
 use Rattle.pb_strategies.specs.declared.standings.Standing.{Standing}
 use Rattle.pb_strategies.specs.Hosts.{is_running, has_begun, is_unended, is_somewhere}
+use Rattle.pb_strategies.specs.Kept.{is_idle_at}
 use Rattle.pb_strategies.proofs.Keeping.{first_kept}
 use Rattle.pb_strategies.proofs.Members.{are_somewhere, mapped_long, emptied_long}
 use Rattle.pb_strategies.proofs.standings.Standings.clear.Goals as goal
@@ -42,6 +43,11 @@ empty_by-requires-4 c =
     as_wide is_running c.self.inside.hosts.items c.self.inside.running c.self.inside.begun c.self.inside.unended c.unite_into.new.set c.empty_by.new.set c.self.inside.running
     c.self.invariant.are_unended c.self.invariant.have_begun c.self.invariant.are_running c.unite_into.ensures c.empty_by.ensures c.self.invariant.are_running
 
+pub empty_by-requires-5 : goal.empty_by-requires-5
+empty_by-requires-5 c =
+    as_wide (is_idle_at c.self.inside.here.place) c.self.inside.hosts.items c.self.inside.running c.self.inside.begun c.self.inside.unended c.unite_into.new.set c.empty_by.new.set c.self.inside.idle
+    c.self.invariant.are_unended c.self.invariant.have_begun c.self.invariant.are_running c.unite_into.ensures c.empty_by.ensures c.self.invariant.are_idle
+
 pub invariant_of-self : goal.invariant_of-self
 invariant_of-self c =
     let hosts = c.self.inside.hosts.items in
@@ -51,9 +57,9 @@ invariant_of-self c =
     (are_somewhere hosts c.self.inside.unended c.self.inside.begun c.self.inside.running (zip2 (λ (a b : Bool). a || b) c.self.inside.unended c.self.inside.begun) c.unite_into.new.set
     c.self.invariant.are_unended c.self.invariant.have_begun c.self.invariant.are_running refl c.unite_into.ensures) in
     first_kept (length hosts) c.args.places c.forget_each.new.hosts.items c.in_ok-limits.limits c.empty_by-4.new.set c.empty_by-3.new.set c.empty_by-2.new.set
-    (record c.self.inside.here { hosts = c.empty_by.new.set }) c.clear.new.self.items
+    (record c.self.inside.here { hosts = c.empty_by.new.set }) c.empty_by-5.new.set c.clear.new.self.items
     c.self.invariant.few c.forget_each.ensures c.in_ok-limits.ensures
     (wide is_running c.self.inside.running c.empty_by-4.new.set c.self.invariant.are_running c.empty_by-4.ensures)
     (wide has_begun c.self.inside.begun c.empty_by-3.new.set c.self.invariant.have_begun c.empty_by-3.ensures)
     (wide is_unended c.self.inside.unended c.empty_by-2.new.set c.self.invariant.are_unended c.empty_by-2.ensures)
-    (c.empty_by.ensures ∙ ap (λ k. replicate k false) united) c.clear.ensures.items
+    (c.empty_by.ensures ∙ ap (λ k. replicate k false) united) (wide (is_idle_at c.self.inside.here.place) c.self.inside.idle c.empty_by-5.new.set c.self.invariant.are_idle c.empty_by-5.ensures) c.clear.ensures.items

@@ -2,6 +2,8 @@ use Rattle.std.proofs.Common.{◌<◌, ◌∙◌, List, length, count_by, slice_
 use Rattle.std.proofs.lemmas.Option.{slice_get_read}
 use Rattle.pb_strategies.specs.declared.standings.Standing.{Standing}
 use Rattle.pb_strategies.specs.Hosts.{is_under_way}
+use Rattle.pb_strategies.specs.declared.watched.Watched.{Watched}
+use Rattle.pb_strategies.specs.Kept.{is_idle_at}
 use Rattle.pb_strategies.proofs.Keeping.{put_kept}
 use Rattle.pb_strategies.proofs.Watching.{one_wide, each_wide}
 use Rattle.pb_strategies.proofs.standings.Standings.put.Goals as goal
@@ -24,10 +26,10 @@ invariant_of-self c =
     let old = slice_get_read hosts (length hosts) host c.index.result.now refl inside c.index.ensures in
     put_kept hosts host c.index.result.now c.args.standing c.self.inside.limits c.finish_if.new.limits c.start_if.new.limits c.self.inside.under_way c.under_way_with-self-inside.result
     c.self.inside.running c.self.inside.begun c.self.inside.unended c.put.new.self c.put-then-at-len.new.self c.put-then-at-len-2.new.self
-    c.self.inside.here c.put-then-at-len-3.new.self c.self.inside.watched.items c.put_all.new.watched.items
+    c.self.inside.here c.put-then-at-len-3.new.self c.self.inside.idle c.put-then-at-len-4.new.self c.self.inside.watched.items c.put_all.new.watched.items
     old c.self.invariant c.finish_if.ensures c.start_if.ensures
     (c.under_way_with-self-inside.ensures ∙ ap (λ (hs : List Standing). count_by is_under_way (slice_set hs host c.args.standing)) c.as_slice.ensures.value)
     (c.put.ensures ∙ ap (λ b. slice_set c.self.inside.running host b) c.is_some.ensures)
     c.put-then-at-len.ensures
     (c.put-then-at-len-2.ensures ∙ ap (λ b. slice_set c.self.inside.unended host b) c.is_some-then-at-len.ensures)
-    c.put-then-at-len-3.ensures c.put_all.ensures
+    c.put-then-at-len-3.ensures (c.put-then-at-len-4.ensures ∙ ap (λ b. slice_set c.self.inside.idle host b) c.is_idle_at.ensures ∙ ap (λ (one : Watched). slice_set c.self.inside.idle host (is_idle_at one.place c.args.standing)) c.put-then-at-len-3.ensures) c.put_all.ensures
