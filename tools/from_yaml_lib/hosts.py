@@ -7,7 +7,7 @@ PORT = re.compile(r"((?:[^:\[\]]|\[[^\[\]]*\])+):([0-9]+)")
 PORT_OF_ADDRESS = re.compile(r"\[([0-9A-Fa-f.]*:[0-9A-Fa-f:.]*:[0-9A-Fa-f:.]*)\]:([0-9]+)")
 PLAIN = re.compile(r"[\w.-]*")
 # As many as the program takes.
-MOST_HOSTS = 65_536
+MOST_HOSTS = 1_048_576
 
 
 class BadPattern(Exception):

@@ -22,13 +22,13 @@ is_false false h = refl
 some_name : (listed : List Listed) (names : List (List ℕ)) → names ≡ group_names listed → 0 < length names
 some_name listed names is = rw is (some_group listed)
 
-from_ok : (listed : List Listed) (names hosts : List (List ℕ)) → length names ≤ 4096 → length hosts ≤ 65536 → has_cycle (links_of names listed) (length names) ≡ false
+from_ok : (listed : List Listed) (names hosts : List (List ℕ)) → length names ≤ 4096 → length hosts ≤ 1048576 → has_cycle (links_of names listed) (length names) ≡ false
     → graph_from names hosts listed ≡ Ok (record { hosts = hosts; groups = names; own = own_of names hosts listed; links = links_of names listed })
-from_ok listed names hosts w v ends = rw (le-leb (length names) 4096 w, le-leb (length hosts) 65536 v, ends) refl
+from_ok listed names hosts w v ends = rw (le-leb (length names) 4096 w, le-leb (length hosts) 1048576 v, ends) refl
 
-from_cycle : (listed : List Listed) (names hosts : List (List ℕ)) → length names ≤ 4096 → length hosts ≤ 65536 → has_cycle (links_of names listed) (length names) ≡ true
+from_cycle : (listed : List Listed) (names hosts : List (List ℕ)) → length names ≤ 4096 → length hosts ≤ 1048576 → has_cycle (links_of names listed) (length names) ≡ true
     → graph_from names hosts listed ≡ Err Cycle
-from_cycle listed names hosts w v ends = rw (le-leb (length names) 4096 w, le-leb (length hosts) 65536 v, ends) refl
+from_cycle listed names hosts w v ends = rw (le-leb (length names) 4096 w, le-leb (length hosts) 1048576 v, ends) refl
 
 graph_is : (listed : List Listed) (names hosts : List (List ℕ)) → names ≡ group_names listed → hosts ≡ host_names listed → graph_in listed ≡ graph_from names hosts listed
 graph_is listed names hosts n h = ap (λ g. graph_from g (host_names listed) listed) (sym n) ∙ ap (λ h. graph_from names h listed) (sym h)
@@ -40,7 +40,7 @@ moved_back : (links other : List ChildLink) (n m : ℕ) → links ≡ other → 
 moved_back links other n m l e x = rw (← l, ← e) x
 
 pub whole_ok : (listed : List Listed) (names hosts : List (List ℕ)) (own : List OwnHost) (links : List ChildLink) (n : ℕ) → names ≡ group_names listed → hosts ≡ host_names listed
-    → own ≡ own_of names hosts listed → links ≡ links_of names listed → n ≡ length names → length names ≤ 4096 → length hosts ≤ 65536 → (IsEndless links n → ⊥)
+    → own ≡ own_of names hosts listed → links ≡ links_of names listed → n ≡ length names → length names ≤ 4096 → length hosts ≤ 1048576 → (IsEndless links n → ⊥)
     → graph_in listed ≡ Ok (record { hosts = hosts; groups = names; own = own; links = links })
 whole_ok listed names hosts own links n nn hh o l e w v ends =
     graph_is listed names hosts nn hh
@@ -49,7 +49,7 @@ whole_ok listed names hosts own links n nn hh o l e w v ends =
     ∙ ap (λ l. Ok (record { hosts = hosts; groups = names; own = own; links = l })) (sym l)
 
 pub whole_cycle : (listed : List Listed) (names hosts : List (List ℕ)) (links : List ChildLink) (n : ℕ) → names ≡ group_names listed → hosts ≡ host_names listed
-    → links ≡ links_of names listed → n ≡ length names → length names ≤ 4096 → length hosts ≤ 65536 → IsEndless links n → graph_in listed ≡ Err Cycle
+    → links ≡ links_of names listed → n ≡ length names → length names ≤ 4096 → length hosts ≤ 1048576 → IsEndless links n → graph_in listed ≡ Err Cycle
 whole_cycle listed names hosts links n nn hh l e w v endless =
     graph_is listed names hosts nn hh
     ∙ from_cycle listed names hosts w v

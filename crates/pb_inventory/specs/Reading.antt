@@ -51,7 +51,7 @@ abbrev pub file_in : json.Data → Result FileEntries InvFault
 file_in d = of_reading (file [] d)
 
 abbrev pub max_hosts : ℕ
-max_hosts = 65536
+max_hosts = 1048576
 
 -- limits come after all faults of shape, and a cycle is the last
 abbrev pub graph_from : List (List ℕ) → List (List ℕ) → List Listed → Result GraphOf InvFault

@@ -18,7 +18,7 @@ pub enum InvFault {
     /// A group is, at some depth, its own child.
     #[error("3 Cycle")]
     Cycle,
-    /// There are more than 65,536 hosts.
+    /// There are more than 1,048,576 hosts.
     #[error("4 TooManyHosts")]
     TooManyHosts,
     /// There are more than 4,096 groups.

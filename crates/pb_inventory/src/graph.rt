@@ -23,7 +23,7 @@ use pb_planes::HostSet;
 use std::alloc::{AllocError, Global};
 use std::marker::Model;
 
-const MAX_HOSTS: usize = 65536;
+const MAX_HOSTS: usize = 1048576;
 
 const MAX_GROUPS: usize = 4096;
 
@@ -58,7 +58,7 @@ impl Model for Graph {
 
     ghost view = { λ i. record { hosts = i.hosts; groups = i.names; own = i.own.items; links = i.groups.links } };
 
-    ghost invariant = { λ i. (length i.hosts ≤ 65536) × (length i.names ≤ 4096)
+    ghost invariant = { λ i. (length i.hosts ≤ 1048576) × (length i.names ≤ 4096)
         × (i.groups ≡ record { hosts = length i.hosts; groups = length i.names; own = i.own.items; links = i.groups.links }) };
 }
 

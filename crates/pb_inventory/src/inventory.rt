@@ -97,7 +97,7 @@ impl Inventory {
     /// The inventory that the bytes of a file spell, or the first fault in them. The file is a
     /// JSON object whose keys are groups: lists of hosts, or objects with `hosts`, `vars` and
     /// `children`. The key `_meta` is no group: its `hostvars` has the variables of hosts. There
-    /// are at most 65,536 hosts and 4,096 groups.
+    /// are at most 1,048,576 hosts and 4,096 groups.
     #[tactic(auto, using(crate::proofs::Mentioned::groups_exactly))]
     pub fn read(alloc: Global, bytes: &[u8]) -> Result<Inventory, InvFault>
         ensures value { IfOk result (λ inventory. inventory_of bytes.now ≡ Ok inventory) }

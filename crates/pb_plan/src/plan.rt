@@ -361,10 +361,10 @@ impl Plan {
         }
     }
 
-    /// How many hosts there are: at most 65,536.
+    /// How many hosts there are: at most 1,048,576.
     pub fn host_count(&self) -> u32
         ensures value { result ≡ length self.now.inventory.hosts }
-        ensures bound { length self.now.inventory.hosts ≤ 65536 }
+        ensures bound { length self.now.inventory.hosts ≤ 1048576 }
     {
         self.inventory.hosts()
     }

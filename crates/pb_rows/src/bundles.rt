@@ -50,9 +50,9 @@ fn is_refused(seen: &Seen, told: &str) -> bool {
 
 #[test]
 fn many_hosts(rt: HostRuntime) -> Result<(), Fail> {
-    let seen = play_hosts(&rt, 65_536)?;
-    assert!(rt; is_taken(&seen));
     let seen = play_hosts(&rt, 65_537)?;
+    assert!(rt; is_taken(&seen));
+    let seen = play_hosts(&rt, 1_048_577)?;
     assert!(rt; is_refused(&seen, "pb-play: inventory: 4 TooManyHosts\n"));
     Ok(())
 }

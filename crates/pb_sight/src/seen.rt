@@ -45,7 +45,7 @@ impl<'a> Seen<'a> {
     /// How many hosts there are.
     pub fn host_count(&self) -> u32
         ensures value { result ≡ length self.now.inventory.hosts }
-        ensures bound { length self.now.inventory.hosts ≤ 65536 }
+        ensures bound { length self.now.inventory.hosts ≤ 1048576 }
     {
         self.plan.host_count()
     }

@@ -18,12 +18,12 @@ new-requires-clause-links c =
 pub returns-in-Ok-clause-value : goal.returns-in-Ok-clause-value
 returns-in-Ok-clause-value c =
     whole_ok c.args.listed.now c.in_ok-names.names c.in_ok-hosts.hosts c.in_ok-own.own.items c.in_ok-links.links.items c.len-4.result c.in_ok-names.ensures c.in_ok-hosts.ensures
-    c.in_ok-own.ensures c.in_ok-links.ensures c.len-4.ensures (few _ 4096 _ c.if-len-gt-MAX_GROUPS.false c.len.ensures) (few _ 65536 _ c.if-len-gt-MAX_HOSTS.false c.len-2.ensures)
+    c.in_ok-own.ensures c.in_ok-links.ensures c.len-4.ensures (few _ 4096 _ c.if-len-gt-MAX_GROUPS.false c.len.ensures) (few _ 1048576 _ c.if-len-gt-MAX_HOSTS.false c.len-2.ensures)
     c.in-Ok.ensures.not_endless
     ∙ ap (λ l. Ok (record { hosts = c.in_ok-hosts.hosts; groups = c.in_ok-names.names; own = c.in_ok-own.own.items; links = l })) (sym (ap (λ g. g.links) c.in-Ok.ensures.value))
 
 pub returns-in-Err-Cycle-clause-fault : goal.returns-in-Err-Cycle-clause-fault
 returns-in-Err-Cycle-clause-fault c =
     λ _. whole_cycle c.args.listed.now c.in_ok-names.names c.in_ok-hosts.hosts c.in_ok-links.links.items c.len-4.result c.in_ok-names.ensures c.in_ok-hosts.ensures
-    c.in_ok-links.ensures c.len-4.ensures (few _ 4096 _ c.if-len-gt-MAX_GROUPS.false c.len.ensures) (few _ 65536 _ c.if-len-gt-MAX_HOSTS.false c.len-2.ensures)
+    c.in_ok-links.ensures c.len-4.ensures (few _ 4096 _ c.if-len-gt-MAX_GROUPS.false c.len.ensures) (few _ 1048576 _ c.if-len-gt-MAX_HOSTS.false c.len-2.ensures)
     (rw c.in-Err-Cycle.field-0-is at c.in-Err-Cycle.ensures.fault).1
