@@ -45,7 +45,7 @@ fn write_members(members: &Dict, out: &mut Writer) -> Result<(), AllocError>
     ensures before { out.new.before ≡ out.old.before }
 {
     out.begin_object()?;
-    for (key, value) in members.map.iter() {
+    for (key, value) in members.iter() {
         out.key(key.as_str())?;
         write(value, out)?;
     }

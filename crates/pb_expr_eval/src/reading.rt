@@ -22,7 +22,6 @@ use pb_template::template::{Part, Template};
 use pb_value::text::Text;
 use pb_value::val::{Dict, Node, Val, ValList};
 use std::alloc::Global;
-use std::collections::BTreeMap;
 
 /// The value of an expression.
 #[cycle(reading)]
@@ -242,7 +241,7 @@ pub(crate) fn rendered(
     match &stored.node {
         Node::Text(text) => templated(alloc, scope, levels, text.as_str()),
         Node::List(items) => Ok(Val::list(rendered_items(alloc, scope, levels, items)?)),
-        Node::Dict(dict) => Ok(Val::dict(rendered_members(alloc, scope, levels, &dict.map)?)),
+        Node::Dict(dict) => Ok(Val::dict(rendered_members(alloc, scope, levels, dict)?)),
         _ => Ok(stored.try_clone(alloc)?),
     }
 }
@@ -290,17 +289,17 @@ fn rendered_members(
     alloc: Global,
     scope: &Scope,
     levels: u32,
-    stored: &BTreeMap<String, Val>,
+    stored: &Dict,
 ) -> Result<Dict, EvalFault>
-    ensures value { IfOk result (λ d. rendered_members (names_in scope.now levels) (members_of (named stored.now.entries)) ≡ Ok d) }
-    ensures fault { IfErr result (λ e. e ≢ fault.Memory → rendered_members (names_in scope.now levels) (members_of (named stored.now.entries)) ≡ Err e) }
+    ensures value { IfOk result (λ d. rendered_members (names_in scope.now levels) (members_of stored.now) ≡ Ok d) }
+    ensures fault { IfErr result (λ e. e ≢ fault.Memory → rendered_members (names_in scope.now levels) (members_of stored.now) ≡ Err e) }
 {
-    let mut map = BTreeMap::new(alloc);
+    let mut values = Dict::new(alloc);
     for (key, member) in stored.iter() {
         let value = rendered(alloc, scope, levels, member)?;
-        drop(map.insert(key.clone()?, value)?);
+        values.insert(key.clone()?, value)?;
     }
-    Ok(Dict { map })
+    Ok(values)
 }
 
 /// What the parts of a template give.

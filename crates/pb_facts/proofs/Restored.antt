@@ -1,47 +1,18 @@
 -- What stood under a name stands there again once it is put back.
-use Rattle.std.proofs.Common.{◌≡◌, ℕ, suc, Bool, true, false, cond, List, [], ◌∷◌, length, String, Global, Ordering, Less, Equal, Greater, string_bytes, string_cmp, nat_cmp, refl, sym, ◌∙◌, ap, arith}
-use Rattle.std.specs.Prelude.{Option, Some, None, IsSome, Result, Ok, Err, OnErr}
+use Rattle.std.proofs.Common.{◌≡◌, ℕ, cond, List, [], ◌∷◌, length, Ordering, Less, Equal, Greater, nat_cmp, refl, sym, ◌∙◌, ap, arith}
+use Rattle.std.specs.Prelude.{Option, Some, None, IsSome, Result, Ok, Err, IfOk, OnOk}
 use Rattle.std.specs.Cmp.Lexicographic.{slice_cmp}
-use Rattle.std.specs.Map.{keys_of, lookup, remove_entry}
 use Rattle.std.specs.Ordering.{is_eq, match_ordering}
-use Rattle.std.specs.BTreeMap.{insert_entry, is_at}
 use Rattle.std.proofs.lemmas.Cmp.{nat_list_cmp_total, tied_itself}
-use Rattle.pb_value.specs.Datum.{Datum, named, put, value_at}
+use Rattle.pb_value.specs.Datum.{Datum, put, value_at}
 use Rattle.pb_facts.specs.Stood.{StoodThere, without}
-use Rattle.pb_value.proofs.Named.{length-named, named-insert_entry, lookup-named}
 use Rattle.pb_value.proofs.Puts.{value_at-put}
 
--- ---- what stands in a map, with its keys as bytes
-length-keys : {K X : Type 0} (es : List (K × X)) → length (keys_of es) ≡ length es
-length-keys [] = refl
-length-keys (e ∷ es) = ap suc (length-keys es)
-
-same_length : {X : Type 0} (es fs : List (String Global × X)) → keys_of es ≡ keys_of fs → length es ≡ length fs
-same_length es fs e = sym (length-keys es) ∙ ap length e ∙ length-keys fs
-
-named-cond : {X : Type 0} (b : Bool) (xs ys : List (String Global × X)) → named (cond b xs ys) ≡ cond b (named xs) (named ys)
-named-cond true xs ys = refl
-named-cond false xs ys = refl
-
-pub named-remove_entry : {X : Type 0} (name : List ℕ) (es : List (String Global × X)) → named (remove_entry (is_at (λ k. slice_cmp nat_cmp name (string_bytes k))) es) ≡ without name (named es)
-named-remove_entry name [] = refl
-named-remove_entry {X} name (e ∷ es) =
-    let here : Bool = is_eq (slice_cmp nat_cmp name (string_bytes e.0)) in
-    named-cond here es (e ∷ remove_entry (is_at (λ k. slice_cmp nat_cmp name (string_bytes k))) es)
-    ∙ ap (λ (rest : List (List ℕ × X)). cond here (named es) ((string_bytes e.0, e.1) ∷ rest)) (named-remove_entry name es)
-
-pub stood_there : (es new : List (String Global × Datum)) (name : String Global) (value : Datum) (before : Option Datum) → before ≡ lookup (is_at (λ k. slice_cmp nat_cmp (string_bytes name) (string_bytes k))) es
-    → new ≡ insert_entry string_cmp es name value → (IsSome before → keys_of new ≡ keys_of es) → StoodThere (string_bytes name) before value (named es)
-stood_there es new name value before b n k =
-    record {
-      stood = sym (lookup-named (string_bytes name) es) ∙ sym b;
-      same = λ some. ap length (sym (named-insert_entry es name value)) ∙ ap (λ (all : List (String Global × Datum)). length (named all)) (sym n) ∙ length-named new ∙ same_length new es (k some) ∙ sym (length-named es);
-    }
-
--- what holds whatever comes, and so where an error does
-pub on_err : {T E : Type 0} {P : Type 0} (result : Result T E) → P → OnErr result P
-on_err (Ok x) p = tt
-on_err (Err e) p = p
+-- ---- what a put hands back
+pub stood_before : {E : Type 0} (result : Result (Option Datum) E) (name : List ℕ) (value : Datum) (old new : List (List ℕ × Datum)) → IfOk result (λ before. before ≡ value_at name old) → IfOk result (λ before. IsSome before → length new ≡ length old)
+    → OnOk result (new ≡ put name value old) → IfOk result (λ before. StoodThere name before value old)
+stood_before (Ok before) name value old new b s n = record { stood = sym b; same = λ some. ap length (sym n) ∙ s some }
+stood_before (Err e) name value old new b s n = tt
 
 -- ---- a value that is put back
 longer : {A : Type 0} (x : A) (xs : List A) → length (x ∷ xs) ≡ length xs → ⊥

@@ -54,7 +54,7 @@ fn push_entry(
 fn push_all(alloc: Global, entries: &mut Vec<(String, Val)>, given: &Dict) -> Result<(), AllocError>
     ensures { OnOk result (named entries.new.items ≡ named entries.old.items ++ given.now) }
 {
-    for (name, value) in given.map.iter() {
+    for (name, value) in given.iter() {
         push_entry(alloc, entries, name.as_str(), value.try_clone(alloc)?)?;
     }
     Ok(())

@@ -9,7 +9,7 @@ use std::alloc::{AllocError, Global};
 pub fn put_all(alloc: Global, known: &mut Dict, entries: &Dict) -> Result<(), AllocError>
     ensures { OnOk result (known.new ≡ put_all entries.now known.old) }
 {
-    for (name, value) in entries.map.iter() {
+    for (name, value) in entries.iter() {
         known.put(alloc, name.as_str(), value.try_clone(alloc)?)?;
     }
     Ok(())

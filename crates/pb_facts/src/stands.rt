@@ -14,8 +14,7 @@ pub(crate) fn replace(dict: &mut Dict, name: String, value: Val) -> Result<Optio
     ensures absent { OnErr result (value_at (string_bytes name) dict.old ≡ None) }
     ensures err { OnErr result (dict.new ≡ dict.old) }
 {
-    let before = dict.map.insert(name, value)?;
-    Ok(before)
+    dict.replace(name, value)
 }
 
 /// Puts a value under a name that is there, in place of the one that stands there.
@@ -33,7 +32,7 @@ fn put_over(dict: &mut Dict, name: String, value: Val)
 fn forget(dict: &mut Dict, name: &str)
     ensures { dict.new ≡ without name.now dict.old }
 {
-    drop(dict.map.remove(name));
+    dict.remove(name);
 }
 
 /// Puts back what stood under a name before a value was put there. It takes no memory.

@@ -7,3 +7,4 @@ pub mod SplitsJoins
 pub mod Told
 pub mod Idle
 pub mod Out
+pub mod Sent

@@ -15,7 +15,7 @@ pub(crate) fn facts_of(alloc: Global, facts: &Dict, scope: &Scope) -> Result<Dic
     ensures fault { IfErr result (λ e. e ≢ item.Memory → facts_of scope.now facts.now ≡ Err e) }
 {
     let mut rendered = Dict::new(alloc);
-    for (name, value) in facts.map.iter() {
+    for (name, value) in facts.iter() {
         let value = render_value(alloc, value, scope)?;
         rendered.insert(name.clone()?, value)?;
     }

@@ -35,7 +35,7 @@ pub(crate) fn items_mention(word: &str, list: &ValList) -> bool
 pub(crate) fn members_mention(word: &str, dict: &Dict) -> bool
     ensures { result ≡ members_mention word.now (members_of dict.now) }
 {
-    for (_key, value) in dict.map.iter() {
+    for (_key, value) in dict.iter() {
         if mentions(word, value) {
             return true;
         }

@@ -53,7 +53,7 @@ impl Dict {
         ensures value { result ≡ nat_le (members_depth (members_of self.now)) levels }
         ensures words { IsTrue result → members_are_words (members_of self.now) ≡ true }
     {
-        for (_key, value) in self.map.iter() {
+        for (_key, value) in self.iter() {
             if !value.is_within(levels) {
                 return false;
             }

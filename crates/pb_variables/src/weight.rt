@@ -47,7 +47,7 @@ pub fn behind_dict(dict: &Dict, room: usize) -> Option<usize>
     ensures none { IfNone result (room < members_weight (members_of dict.now)) }
 {
     let mut left = room;
-    for (name, value) in dict.map.iter() {
+    for (name, value) in dict.iter() {
         let behind_entry = left.checked_sub(64)?;
         let behind_name = behind_entry.checked_sub(name.len())?;
         left = behind_value(value, behind_name)?;

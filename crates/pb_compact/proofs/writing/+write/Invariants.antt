@@ -1,6 +1,6 @@
-use Rattle.std.proofs.Common.{◌≡◌, ◌++◌, ◌∷◌, drop}
+use Rattle.std.proofs.Common.{◌≡◌, ◌≤◌, ◌++◌, ◌∷◌, drop}
 use Rattle.json.specs.Token.{begin_array, begin_object}
-use Rattle.pb_value.specs.Datum.{items_of, members_of, named}
+use Rattle.pb_value.specs.Datum.{items_of, members_of, members_nodes, named}
 use Rattle.pb_compact.specs.Tokens.{item_tokens, member_tokens}
 use Rattle.pb_compact.proofs.writing.+write.Given as goal
 
@@ -12,4 +12,4 @@ invariant-write_items-loop-item l =
 abbrev pub invariant-write_members-loop-key : goal.invariant-write_members-loop-key
 invariant-write_members-loop-key l =
     (l.out.tokens ++ member_tokens (members_of (named l.key-iterator)) ≡ l.fn.out.tokens ++ begin_object ∷ member_tokens (members_of l.members))
-    × (l.out.before ≡ l.fn.out.before)
+    × (l.out.before ≡ l.fn.out.before) × (members_nodes (members_of (named l.key-iterator)) ≤ members_nodes (members_of l.members))

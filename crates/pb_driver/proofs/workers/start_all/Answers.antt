@@ -1,5 +1,7 @@
+use denote.Param.{param}
 use Rattle.std.proofs.Common.{arith, ◌≡◌, ◌++◌, map, reverse, sym, ◌∙◌, ap, subst}
 use Rattle.std.proofs.lemmas.Grind.{common_steps}
+use Rattle.pb_forks.proofs.Sent.{pool_sync}
 use Rattle.pb_driver.specs.Workers.{AreWorkersOf, IsStarted, began}
 use Rattle.pb_driver.proofs.Working.{last_worker, started_back, started_one}
 use Rattle.pb_driver.proofs.workers.start_all.Goals as goal
@@ -7,6 +9,9 @@ use Rattle.pb_driver.proofs.workers.start_all.Goals as goal
 pub start_one-requires-clause-seat : goal.start_one-requires-clause-seat
 start_one-requires-clause-seat g c κs within =
     (last_worker c.args.pool.now c.pop.new.self.items c.in-Some.worker (subst (AreWorkersOf c.args.pool.now) c.in-Some.ensures.items c.loop-worker.invariant.workers)).1
+
+pub start_one-requires-sync-P : goal.start_one-requires-sync-P
+start_one-requires-sync-P g c κs within = record { shared = (pool_sync (param 1 g.row.N) g.N.Allows).shared }
 
 pub loop-worker-preserved : goal.loop-worker-preserved
 loop-worker-preserved g c = record {

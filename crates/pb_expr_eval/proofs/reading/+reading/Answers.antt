@@ -4,7 +4,6 @@ use Rattle.std.specs.List.Sorted.{IsStrictlySortedBy}
 use Rattle.std.specs.Map.{keys_of}
 use Rattle.pb_value.specs.Datum.{Datum, named, items_of, members_of}
 use Rattle.pb_value.specs.Reading.{map_ok}
-use Rattle.pb_value.proofs.Named.{named-insert_entry}
 use Rattle.pb_expr_syntax.specs.Tree.{nodes}
 use Rattle.pb_layers.specs.Scope.{found, has_templates}
 use Rattle.pb_expr_eval.specs.Rendering.{rendered_members}
@@ -39,8 +38,8 @@ rendered_members-rendered-requires t c =
     let done = l.invariant.0 in
     let e : Entry = (c.in-Some.key.now, c.in-Some.member.now) in
     let left = c.next.new.self in
-    let all : c.args.stored.now.entries ≡ done ++ e ∷ left = l.invariant.1 ∙ ap (λ es. done ++ es) c.in-Some.ensures.steps in
-    let v : weight e.1 ≤ members_weight (members_of (named c.args.stored.now.entries)) = subst (λ es. weight e.1 ≤ members_weight (members_of (named es))) (sym all) (member_weight done e left) in
+    let all : c.args.stored.now ≡ named (done ++ e ∷ left) = l.invariant.1 ∙ ap (λ es. named (done ++ es)) c.in-Some.ensures.steps in
+    let v : weight e.1 ≤ members_weight (members_of c.args.stored.now) = subst (λ ms. weight e.1 ≤ members_weight (members_of ms)) (sym all) (member_weight done e left) in
     let h : spent c.args.scope.now c.args.levels + (4 * weight c.in-Some.member.now + 2) < t = omega (arith, v) in
     (h, tt)
 
@@ -55,15 +54,13 @@ rendered_members-loop-key-preserved t c =
     let named_so : string_bytes c.in_ok-clone.field-0 ≡ k = c.in_ok-clone.ensures.cases in
     let step : done ++ l.key-iterator ≡ (done ++ e ∷ []) ++ left = ap (λ es. done ++ es) c.in-Some.ensures.steps ∙ sym (append_assoc done (e ∷ []) left) in
     let sorted : IsStrictlySortedBy string_cmp (keys_of (done ++ e ∷ left)) = subst (λ es. IsStrictlySortedBy string_cmp (keys_of (done ++ es))) c.in-Some.ensures.steps l.invariant.2 in
-    let last : named c.insert.new.self.entries ≡ named l.map.entries ++ (k, x) ∷ [] =
-    ap named c.in_ok-insert.ensures.entries ∙ named-insert_entry l.map.entries c.in_ok-clone.field-0 x
-    ∙ rw named_so (put_after done (named l.map.entries) e left x l.invariant.3 sorted) in (
+    let last : c.insert.new.self ≡ l.values ++ (k, x) ∷ [] = c.in_ok-insert.ensures.ok ∙ rw named_so (put_after done l.values e left x l.invariant.3 sorted) in (
       done ++ e ∷ [],
-      l.invariant.1 ∙ step,
+      l.invariant.1 ∙ ap named step,
       subst (λ es. IsStrictlySortedBy string_cmp (keys_of es)) step l.invariant.2,
-      ap (map (λ (m : List ℕ × Datum). m.0)) last ∙ keys_join done (named l.map.entries) e x l.invariant.3,
-      l.invariant.4 ∙ ap (λ es. map_ok (λ xs. named l.map.entries ++ xs) (rendered_members (names_in c.args.scope.now c.args.levels) (members_of (named es)))) c.in-Some.ensures.steps
-          ∙ rendered_members-step (names_in c.args.scope.now c.args.levels) e left (named l.map.entries) x c.in_ok-value.ensures.value
+      ap (map (λ (m : List ℕ × Datum). m.0)) last ∙ keys_join done l.values e x l.invariant.3,
+      l.invariant.4 ∙ ap (λ es. map_ok (λ xs. l.values ++ xs) (rendered_members (names_in c.args.scope.now c.args.levels) (members_of (named es)))) c.in-Some.ensures.steps
+          ∙ rendered_members-step (names_in c.args.scope.now c.args.levels) e left l.values x c.in_ok-value.ensures.value
           ∙ ap (λ out. map_ok (λ xs. out ++ xs) (rendered_members (names_in c.args.scope.now c.args.levels) (members_of (named left)))) (sym last),
     )
 
@@ -91,14 +88,14 @@ read-returns-then-has_templates-clause-fault t c =
 pub rendered_members-loop-key-init : goal.rendered_members-loop-key-init
 rendered_members-loop-key-init t c =
     let names = names_in c.args.scope.now c.args.levels in
-    let all = rendered_members names (members_of (named c.args.stored.now.entries)) in
-    let same : c.into_iter-key-iterator.result ≡ c.args.stored.now.entries = cc (c.into_iter-key-iterator.ensures.into_iter_gives, c.iter-key-items.ensures.rest) in
-    let none : c.new-map.result.entries ≡ [] = c.new-map.ensures.empty in
-    let sorted : IsStrictlySortedBy string_cmp (keys_of c.into_iter-key-iterator.result) = subst (λ es. IsStrictlySortedBy string_cmp (keys_of es)) (sym same) c.iter-key-items.ensures.ordered in (
+    let same : c.into_iter-key-iterator.result ≡ c.iter-key-items.result = cc (c.into_iter-key-iterator.ensures.into_iter_gives) in
+    let all : c.args.stored.now ≡ named c.into_iter-key-iterator.result = sym c.iter-key-items.ensures.entries ∙ ap named (sym same) in
+    let none : c.new-values.result ≡ [] = c.new-values.ensures in (
       [],
-      sym same,
-      sorted,
-      ap (λ (es : List Entry). map (λ (m : List ℕ × Datum). m.0) (named es)) none,
-      sym (map_ok-none all) ∙ ap (λ (es : List Entry). map_ok (λ xs. named es ++ xs) all) (sym none)
-          ∙ ap (λ (es : List Entry). map_ok (λ xs. named c.new-map.result.entries ++ xs) (rendered_members names (members_of (named es)))) (sym same),
+      all,
+      subst (λ es. IsStrictlySortedBy string_cmp (keys_of es)) (sym same) c.iter-key-items.ensures.ordered,
+      ap (λ (out : List (List ℕ × Datum)). map (λ (m : List ℕ × Datum). m.0) out) none,
+      ap (λ (ms : List (List ℕ × Datum)). rendered_members names (members_of ms)) all
+          ∙ sym (map_ok-none (rendered_members names (members_of (named c.into_iter-key-iterator.result))))
+          ∙ ap (λ (out : List (List ℕ × Datum)). map_ok (λ xs. out ++ xs) (rendered_members names (members_of (named c.into_iter-key-iterator.result)))) (sym none),
     )

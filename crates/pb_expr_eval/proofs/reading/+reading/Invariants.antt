@@ -46,7 +46,7 @@ abbrev pub decreases-rendered_items : goal.decreases-rendered_items
 decreases-rendered_items l = spent l.scope.now l.levels + (4 * items_weight (items_of l.stored.now) + 3)
 
 abbrev pub decreases-rendered_members : goal.decreases-rendered_members
-decreases-rendered_members l = spent l.scope.now l.levels + (4 * members_weight (members_of (named l.stored.now.entries)) + 3)
+decreases-rendered_members l = spent l.scope.now l.levels + (4 * members_weight (members_of l.stored.now) + 3)
 
 abbrev pub decreases-rendered_parts : goal.decreases-rendered_parts
 decreases-rendered_parts l = spent l.scope.now l.levels + (4 * parts_weight l.parts.now + 3)
@@ -70,9 +70,9 @@ invariant-rendered_items-loop-item l =
 
 abbrev pub invariant-rendered_members-loop-key : goal.invariant-rendered_members-loop-key
 invariant-rendered_members-loop-key l =
-    (done : List Entry) × (l.stored.entries ≡ done ++ l.key-iterator) × IsStrictlySortedBy string_cmp (keys_of (done ++ l.key-iterator))
-    × (map (λ (m : List ℕ × Datum). m.0) (named l.map.entries) ≡ map (λ (m : Entry). string_bytes m.0) done)
-    × (rendered_members (names_in l.scope l.levels) (members_of (named l.stored.entries)) ≡ map_ok (λ xs. named l.map.entries ++ xs) (rendered_members (names_in l.scope l.levels) (members_of (named l.key-iterator))))
+    (done : List Entry) × (l.stored ≡ named (done ++ l.key-iterator)) × IsStrictlySortedBy string_cmp (keys_of (done ++ l.key-iterator))
+    × (map (λ (m : List ℕ × Datum). m.0) l.values ≡ map (λ (m : Entry). string_bytes m.0) done)
+    × (rendered_members (names_in l.scope l.levels) (members_of l.stored) ≡ map_ok (λ xs. l.values ++ xs) (rendered_members (names_in l.scope l.levels) (members_of (named l.key-iterator))))
 
 abbrev pub invariant-shown-loop-part : goal.invariant-shown-loop-part
 invariant-shown-loop-part l =

@@ -1,0 +1,65 @@
+-- What a dict is seen as, by the way in which its entries stand.
+use Rattle.std.proofs.Common.{◌≡◌, ℕ, suc, List, [], ◌∷◌, length, String, Global, Vec, Result, Ok, Err, Option, None, string_bytes, string_cmp, refl, sym, ap, subst, ◌∙◌}
+use Rattle.std.specs.Prelude.{IsSome, IfOk, OnOk, OnErr}
+use Rattle.std.specs.BTreeMap.{BTreeMap, insert_entry}
+use Rattle.std.specs.List.Sorted.{IsStrictlySortedBy}
+use Rattle.std.specs.Map.{keys_of}
+use Rattle.pb_value.proofs.Named.{length-named, named-insert_entry}
+use Rattle.pb_value.specs.Datum.{Datum, named, put, value_at}
+use Rattle.pb_value.specs.Held.{held}
+use Rattle.pb_value.specs.declared.val.Store.{Store}
+use Rattle.pb_value.specs.declared.val.Store.TheVariants.{Few, Many}
+
+abbrev pub Entry : Type 0
+Entry = String Global × Datum
+
+-- what holds whatever comes, and so where an error does
+pub on_err : {T E : Type 0} {P : Type 0} (result : Result T E) → P → OnErr result P
+on_err (Ok x) p = tt
+on_err (Err e) p = p
+
+length-keys : {K X : Type 0} (es : List (K × X)) → length (keys_of es) ≡ length es
+length-keys [] = refl
+length-keys (e ∷ es) = ap suc (length-keys es)
+
+pub same_length : {X : Type 0} (es fs : List (String Global × X)) → keys_of es ≡ keys_of fs → length es ≡ length fs
+same_length es fs e = sym (length-keys es) ∙ ap length e ∙ length-keys fs
+
+-- ---- the entries
+pub few_ordered : (store : Store) (row : Vec Entry Global) → store ≡ Few row → IsStrictlySortedBy string_cmp (keys_of (held store)) → IsStrictlySortedBy string_cmp (keys_of row.items)
+few_ordered store row is h = subst (λ (s : Store). IsStrictlySortedBy string_cmp (keys_of (held s))) is h
+
+pub few_named : (store : Store) (row : Vec Entry Global) (seen self : List (List ℕ × Datum)) → store ≡ Few row → named (held store) ≡ seen → seen ≡ self → named row.items ≡ self
+few_named store row seen self is v e = subst (λ (s : Store). named (held s) ≡ seen) is v ∙ e
+
+pub many_named : (store : Store) (tree : BTreeMap (String Global) Datum) (seen self : List (List ℕ × Datum)) → store ≡ Many tree → named (held store) ≡ seen → seen ≡ self → named tree.entries ≡ self
+many_named store tree seen self is v e = subst (λ (s : Store). named (held s) ≡ seen) is v ∙ e
+
+-- ---- a value is put under a name
+module _ {E : Type 0} (result : Result (Option Datum) E) (old new : List Entry) (self : List (List ℕ × Datum)) (name : String Global) (value : Datum) where
+  pub seen_ok : named old ≡ self → OnOk result (new ≡ insert_entry string_cmp old name value) → OnOk result (named new ≡ put (string_bytes name) value self)
+  seen_ok n h = ok result h
+    where
+      ok : (r : Result (Option Datum) E) → OnOk r (new ≡ insert_entry string_cmp old name value) → OnOk r (named new ≡ put (string_bytes name) value self)
+      ok (Ok x) h = ap named h ∙ named-insert_entry old name value ∙ ap (put (string_bytes name) value) n
+      ok (Err e) h = tt
+
+  pub seen_before : named old ≡ self → IfOk result (λ before. before ≡ value_at (string_bytes name) (named old)) → IfOk result (λ before. before ≡ value_at (string_bytes name) self)
+  seen_before n h = subst (λ (ms : List (List ℕ × Datum)). IfOk result (λ before. before ≡ value_at (string_bytes name) ms)) n h
+
+  pub seen_stays : named old ≡ self → IfOk result (λ before. IsSome before → length new ≡ length old) → IfOk result (λ before. IsSome before → length (named new) ≡ length self)
+  seen_stays n h = stays result h
+    where
+      stays : (r : Result (Option Datum) E) → IfOk r (λ before. IsSome before → length new ≡ length old) → IfOk r (λ before. IsSome before → length (named new) ≡ length self)
+      stays (Ok x) h = λ some. length-named new ∙ h some ∙ sym (length-named old) ∙ ap length n
+      stays (Err e) h = tt
+
+  pub seen_absent : named old ≡ self → OnErr result (value_at (string_bytes name) (named old) ≡ None) → OnErr result (value_at (string_bytes name) self ≡ None)
+  seen_absent n h = subst (λ (ms : List (List ℕ × Datum)). OnErr result (value_at (string_bytes name) ms ≡ None)) n h
+
+  pub seen_err : named old ≡ self → OnErr result (new ≡ old) → OnErr result (named new ≡ self)
+  seen_err n h = err result h
+    where
+      err : (r : Result (Option Datum) E) → OnErr r (new ≡ old) → OnErr r (named new ≡ self)
+      err (Ok x) h = tt
+      err (Err e) h = ap named h ∙ n

@@ -1,0 +1,11 @@
+use Rattle.std.proofs.Common.{◌+◌, ◌*◌, ◌<◌, arith}
+use Rattle.pb_value.specs.Datum.{nodes}
+use Rattle.pb_value.proofs.Falls.{entry_falls}
+use Rattle.pb_value.proofs.val.+is_within.Goals as goal
+
+pub Dict::is_within-is_within-requires : goal.Dict::is_within-is_within-requires
+Dict::is_within-is_within-requires t c =
+    let l = c.loop-key in
+    let w = entry_falls c.args.self.now l._key-iterator c.next.new.self (c.in-Some._key.now, c.in-Some.value.now) l.invariant.2 c.in-Some.ensures.steps in
+    let h : 2 * (nodes c.in-Some.value.now + 1) + 0 < t = omega (arith, w) in
+    (h, tt)
