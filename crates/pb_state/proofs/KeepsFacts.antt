@@ -20,19 +20,19 @@ use Rattle.pb_play.specs.declared.modules.Module.{Module}
 use Rattle.pb_plan.specs.Plan.{PlayOf, PlanOf}
 use Rattle.pb_sight.specs.Delegates.{kept}
 use Rattle.pb_sight.specs.Ends.{has_run}
-use Rattle.pb_sight.specs.Gifts.{gifts_from, gifts_of as gifts_with, given_by}
 use Rattle.pb_sight.specs.Learning.{gives_of, gives_if, learns_at, taught_by}
 use Rattle.pb_sight.specs.Results.{items_at}
 use Rattle.pb_sight.specs.declared.gifts.Gift.{Gift}
 use Rattle.pb_one_host.specs.declared.row.Running.{Running}
 use Rattle.pb_one_host.specs.Row.{HostRow, ended, items_after, progressed, reported, reported_running, sent, task_at}
 use Rattle.pb_all_hosts.specs.Hosts.{change}
-use Rattle.pb_all_hosts.specs.Giving.{given_to, gifts_at, gifts_by, gifts_of}
+use Rattle.pb_all_hosts.specs.Giving.{given_to, gifts_at, gifts_of}
 use Rattle.pb_state.specs.declared.event.Event.{Event}
 use Rattle.pb_state.specs.declared.event.Event.TheVariants.{Open, Start, Send, Report as Reported, Turn, Close, Stop, Forks}
 use Rattle.pb_state.specs.State.{State}
 use Rattle.pb_state.specs.Machine.{after, facts_at, learnt_by, next_at, open_play, plan_seen, reported_in, sent_in, start_at, started_in}
-use Rattle.pb_state.specs.Known.{IsKnown, gives_nothing, keeps_facts, report_keeps, start_keeps, teaches_nothing, teaches_nothing_at}
+use Rattle.pb_state.specs.Known.{IsKnown, gives_nothing, keeps_facts, report_keeps, start_keeps, teaches_alone_at, teaches_nothing, teaches_nothing_at}
+use Rattle.pb_state.proofs.Learner.{gifts_none, report_none, run_place}
 
 first_is : (a b : Bool) → (a && b) ≡ true → a ≡ true
 first_is true b e = refl
@@ -45,10 +45,6 @@ second_is false b e = cc
 none_is : (name : Option (List ℕ)) → is_none name ≡ true → name ≡ None
 none_is None e = refl
 none_is (Some name) e = cc
-
-off_is : (b : Bool) → not b ≡ true → b ≡ false
-off_is true e = cc
-off_is false e = refl
 
 -- ---- one task
 nothing_is : (gives : Gives) → gives_nothing gives ≡ true → gives ≡ Nothing
@@ -77,9 +73,6 @@ gives_none_at : (place : PlaceOf) → teaches_nothing place ≡ true → gives_n
 gives_none_at place e =
     second_is (is_none place.task.register) (gives_nothing (gives_of place.task.«module»)) (first_is (says_nothing place) (not place.delegate_facts) e)
 
-delegates_none : (place : PlaceOf) → teaches_nothing place ≡ true → place.delegate_facts ≡ false
-delegates_none place e = off_is place.delegate_facts (second_is (says_nothing place) (not place.delegate_facts) e)
-
 if_same : (b : Bool) (facts known : FactsOf) → known ≡ facts → (if b then facts else known) ≡ facts
 if_same true facts known e = refl
 if_same false facts known e = e
@@ -103,22 +96,13 @@ progressed_knows inventory play p items row e = by_over (is_over items)
     by_over true = taught_none inventory play p (Some row.host) (task_at play p items).result _ items row.facts e
     by_over false = refl
 
--- a task that doesn't delegate its facts gives nothing to other hosts
-given_none : (inventory : InventoryOf) (play : PlayOf) (p h : ℕ) (task : TaskResult) (items : List Item) → teaches_nothing_at play p ≡ true → given_by inventory play p h task items ≡ []
-unfolding given_by
-given_none inventory play p h task items e = by_place (slice_get play.places p) e
+-- and gives nothing to other hosts
+alone : (play : PlayOf) (p : ℕ) → teaches_nothing_at play p ≡ true → teaches_alone_at play p ≡ true
+alone play p e = by_place (slice_get play.places p) e
   where
-    by_place : (found : Option PlaceOf) → option_map_or teaches_nothing found true ≡ true → option_map_or (gifts_from inventory h task items) found [] ≡ []
+    by_place : (found : Option PlaceOf) → option_map_or teaches_nothing found true ≡ true → option_map_or (λ (place : PlaceOf). not place.delegate_facts) found true ≡ true
     by_place None e = refl
-    by_place (Some place) e =
-        ap (λ (away : Bool). if away && has_run task && not task.unreachable then gifts_with inventory h (gives_of place.task.«module») items else []) (delegates_none place e)
-
-gifts_none : (inventory : InventoryOf) (play : PlayOf) (p h : ℕ) (items : List Item) → teaches_nothing_at play p ≡ true → gifts_at inventory play p h items ≡ []
-gifts_none inventory play p h items e = by_over (is_over items)
-  where
-    by_over : (b : Bool) → (if b then given_by inventory play p h (task_at play p items).result items else []) ≡ []
-    by_over true = given_none inventory play p h (task_at play p items).result items e
-    by_over false = refl
+    by_place (Some place) e = second_is (says_nothing place) (not place.delegate_facts) e
 
 -- ---- the rows of all hosts
 set_knows : (rows : List HostRow) (h : ℕ) (row changed : HostRow) → slice_get rows h ≡ Some row → changed.facts ≡ row.facts → learnt_by (slice_set rows h changed) ≡ learnt_by rows
@@ -140,30 +124,25 @@ for_each P f (Some row) = f row
 start_knows : (plan : PlanOf) (s : State) (h : ℕ) (play : PlayOf) (p : ℕ) → teaches_nothing_at play p ≡ true → learnt_by (start_at plan s h play p).rows ≡ learnt_by s.rows
 start_knows plan s h play p e =
     let items = items_at (plan_seen plan s) play h (facts_at s h) p in
-    given_knows (gifts_at plan.inventory play p h items) (change s.rows h (progressed plan.inventory play p items)) s.rows (gifts_none plan.inventory play p h items e)
+    given_knows (gifts_at plan.inventory play p h items) (change s.rows h (progressed plan.inventory play p items)) s.rows (gifts_none plan.inventory play p h items (alone play p e))
     (change_knows s.rows h (progressed plan.inventory play p items) (slice_get s.rows h) refl
     (for_each (λ row. (progressed plan.inventory play p items row).facts ≡ row.facts) (λ row. progressed_knows plan.inventory play p items row e) (slice_get s.rows h)))
-
--- the place of the task that a host runs
-abbrev run_place : Option Running → Option ℕ
-run_place running = option_map_or (λ (r : Running). Some r.place) running None
 
 reported_knows : (plan : PlanOf) (play : PlayOf) (outcome : Form) (row : HostRow) (running : Option Running) → option_map_or (teaches_nothing_at play) (run_place running) true ≡ true →
     (option_map_or (reported_running plan play outcome row) running row).facts ≡ row.facts
 reported_knows plan play outcome row None e = refl
 reported_knows plan play outcome row (Some r) e = progressed_knows plan.inventory play r.place (items_after plan play row.host row.facts outcome r) row e
 
-report_none : (plan : PlanOf) (play : PlayOf) (outcome : Form) (h : ℕ) (row : HostRow) (running : Option Running) → option_map_or (teaches_nothing_at play) (run_place running) true ≡ true →
-    option_map_or (gifts_by plan play outcome h row) running [] ≡ []
-report_none plan play outcome h row None e = refl
-report_none plan play outcome h row (Some r) e = gifts_none plan.inventory play r.place h (items_after plan play row.host row.facts outcome r) e
+alone_run : (play : PlayOf) (place : Option ℕ) → option_map_or (teaches_nothing_at play) place true ≡ true → option_map_or (teaches_alone_at play) place true ≡ true
+alone_run play None e = refl
+alone_run play (Some p) e = alone play p e
 
 reports_know : (plan : PlanOf) (play : PlayOf) (outcome : Form) (rows : List HostRow) (h : ℕ) (found : Option HostRow) → slice_get rows h ≡ found →
     option_map_or (teaches_nothing_at play) (option_map_or (λ (row : HostRow). run_place row.running) found None) true ≡ true →
     learnt_by (given_to (option_map_or (gifts_of plan play outcome h) found []) (change rows h (reported plan play outcome))) ≡ learnt_by rows
 reports_know plan play outcome rows h None is e = change_knows rows h (reported plan play outcome) None is tt
 reports_know plan play outcome rows h (Some row) is e =
-    given_knows (gifts_of plan play outcome h row) (change rows h (reported plan play outcome)) rows (report_none plan play outcome h row row.running e)
+    given_knows (gifts_of plan play outcome h row) (change rows h (reported plan play outcome)) rows (report_none plan play outcome h row row.running (alone_run play (run_place row.running) e))
     (change_knows rows h (reported plan play outcome) (Some row) is (reported_knows plan play outcome row row.running e))
 
 -- ---- each event

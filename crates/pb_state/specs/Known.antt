@@ -1,11 +1,13 @@
 -- The map of `hostvars` that is kept from step to step, and which steps surely leave what the hosts know as it was
 -- (Ansible's documentation, "Discovering variables: facts and magic variables").
-use Rattle.std.specs.Prelude.{◌≡◌, ℕ, List, Bool, true, false, ◌&&◌, not, Option, Some, None, is_none, IfSome, slice_get}
+use Rattle.std.specs.Prelude.{◌≡◌, ℕ, List, Bool, true, false, ◌&&◌, not, Option, Some, None, is_none, IfSome, slice_get, if◌then◌else◌}
 use Rattle.std.specs.Option.{option_map_or}
 use Rattle.pb_value.specs.Datum.{Datum}
+use Rattle.pb_ids.specs.declared.numbers.HostNo.{HostNo}
 use Rattle.pb_facts.specs.declared.facts.Gives.{Gives}
 use Rattle.pb_facts.specs.declared.facts.Gives.TheVariants.{Nothing, Sets, Gathers}
 use Rattle.pb_variables.specs.Magic.{hostvars, hosts_magic}
+use Rattle.pb_variables.specs.Renewed.{LearnsAlone}
 use Rattle.pb_places.specs.Place.{PlaceOf}
 use Rattle.pb_plan.specs.Plan.{PlayOf, PlanOf}
 use Rattle.pb_sight.specs.Learning.{gives_of}
@@ -56,3 +58,32 @@ keeps_facts plan s Turn = false
 keeps_facts plan s Close = false
 keeps_facts plan s Stop = true
 keeps_facts plan s (Forks n) = true
+
+-- a task whose facts aren't delegated teaches its own host alone
+abbrev pub teaches_alone_at : PlayOf → ℕ → Bool
+teaches_alone_at play p = option_map_or (λ (place : PlaceOf). not place.delegate_facts) (slice_get play.places p) true
+
+abbrev pub start_alone : State → ℕ → PlayOf → Bool
+start_alone s h play = option_map_or (teaches_alone_at play) (next_at s h) true
+
+abbrev pub report_alone : State → ℕ → PlayOf → Bool
+report_alone s h play = option_map_or (teaches_alone_at play) (running_at s h) true
+
+abbrev pub if_alone : Bool → HostNo → Option HostNo
+if_alone alone host = if alone then Some host else None
+
+-- the host that alone may know more after an event; there is none where others may, too, or none does
+abbrev pub learner : PlanOf → State → Event → Option HostNo
+learner plan s Open = None
+learner plan s (Start h) = if_alone (option_map_or (start_alone s h.0) (open_play plan s) true) h
+learner plan s (Send h item attempt ticket) = None
+learner plan s (Reported r) = if_alone (option_map_or (report_alone s r.host.0) (open_play plan s) true) r.host
+learner plan s Turn = None
+learner plan s Close = None
+learner plan s Stop = None
+learner plan s (Forks n) = None
+
+-- of two states the second one's hosts have learnt what those of the first have, but for this host
+abbrev pub IsLearner : Option HostNo → State → State → Type 0
+IsLearner None old new = Unit {0}
+IsLearner (Some h) old new = LearnsAlone h.0 (learnt_by old.rows) (learnt_by new.rows)

@@ -1,9 +1,11 @@
 //! What `hostvars` stands for, with what the rows say that their hosts have learnt.
 
-ghost use Rattle.std.specs.Prelude.{◌≡◌, ℕ, true, false, Option, IfOk};
+ghost use Rattle.std.specs.Prelude.{◌≡◌, ℕ, List, true, false, Option, IfOk, IfSome};
 ghost use Rattle.pb_value.specs.Datum.{Datum, null};
 ghost use Rattle.pb_variables.specs.Learnt.{facts_in};
+ghost use Rattle.pb_facts.specs.Facts.{FactsOf};
 ghost use Rattle.pb_variables.specs.Magic.{hostvars, hosts_magic};
+ghost use Rattle.pb_variables.specs.Renewed.{IsRenewed, LearnsAlone};
 ghost use Rattle.pb_outcome.specs.declared.gather.ItemResult.{ItemResult};
 ghost use Rattle.pb_sight.specs.Results.{items_at, came_at};
 ghost use Rattle.pb_sight.specs.Seen.{with_hosts, seen_with};
@@ -16,7 +18,7 @@ use pb_plan::{Plan, PlanPlay};
 use pb_sight::hosts::{hosts_known, reads_at_start, reads_of_result};
 use pb_sight::seen::Seen;
 use pb_value::val::{Dict, Val};
-use pb_variables::hostvars::hosts_magic;
+use pb_variables::hostvars::{hosts_magic, renewed};
 use std::alloc::{AllocError, Global};
 
 /// The map of `hostvars` as a task sees it, and whether it is the one that each task may see.
@@ -43,6 +45,39 @@ fn hosts_of(alloc: Global, plan: &Plan, rows: &[Row]) -> Result<Dict, AllocError
 {
     let learnt = learnt_in(alloc, rows)?;
     hosts_known(alloc, plan, learnt.as_slice())
+}
+
+/// The variable `hostvars` with what one host has learnt put anew, where it can be.
+fn renewed_with(
+    alloc: Global,
+    plan: &Plan,
+    hosts: Dict,
+    facts: &Facts,
+    host: HostNo,
+) -> Option<Dict>
+    ensures { IfSome result (IsRenewed plan.now.inventory plan.now.extra facts.now host.0 hosts) }
+{
+    match renewed(alloc, hosts, plan.inventory(), plan.extra(), facts, host) {
+        Ok(kept) => kept,
+        Err(_) => None,
+    }
+}
+
+/// The same with what that host's row says that it has learnt.
+pub(crate) fn renewed_for(
+    alloc: Global,
+    plan: &Plan,
+    rows: &[Row],
+    hosts: Dict,
+    host: HostNo,
+) -> Option<Dict>
+    ensures { IfSome result (λ known. (before : List FactsOf) → LearnsAlone host.0 before (learnt_by rows.now) → hosts ≡ hosts_magic (hostvars plan.now.inventory plan.now.extra before)
+        → known ≡ hosts_magic (hostvars plan.now.inventory plan.now.extra (learnt_by rows.now))) }
+{
+    match rows.get(host.0 as usize) {
+        Some(row) => renewed_with(alloc, plan, hosts, row.facts(), host),
+        None => renewed_with(alloc, plan, hosts, &Facts::new(alloc), host),
+    }
 }
 
 /// The variable `hostvars` without a value, as a task may see it that doesn't look it up.

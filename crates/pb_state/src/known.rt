@@ -1,8 +1,9 @@
-//! The map of `hostvars` that is kept from step to step, and which steps leave what the hosts have learnt as it was.
+//! The map of `hostvars` that is kept from step to step, which steps leave what the hosts have learnt as it was, and after which one host alone may know more.
 
 ghost use Rattle.std.specs.Prelude.{◌≡◌, true, Option, Some, None, if◌then◌else◌};
 ghost use Rattle.pb_sight.specs.Learning.{gives_of};
 ghost use Rattle.pb_state.specs.Known.{gives_nothing, teaches_nothing, teaches_nothing_at, keeps_facts, start_keeps, report_keeps};
+ghost use Rattle.pb_state.specs.Known.{teaches_alone_at, start_alone, report_alone, if_alone, learner};
 
 use crate::event::Event;
 use crate::hosts::Shown;
@@ -12,13 +13,6 @@ use pb_places::Place;
 use pb_plan::{Plan, PlanPlay};
 use pb_play::modules::Module;
 use pb_value::val::Dict;
-
-/// Nothing is kept any more.
-pub(crate) fn forget(known: &mut Option<Dict>)
-    ensures { known.new ≡ None }
-{
-    *known = None;
-}
 
 /// What a task was shown is kept where it is what each task may see.
 pub(crate) fn keep(known: &mut Option<Dict>, shown: Shown)
@@ -68,6 +62,23 @@ fn teaches_nothing_at(play: &PlanPlay, place: usize) -> bool
     }
 }
 
+/// Whether no host but its own may know more once the task at the place with this number has ended; where there is none there is no task.
+fn teaches_alone_at(play: &PlanPlay, place: usize) -> bool
+    ensures { result ≡ teaches_alone_at play.now place }
+{
+    match play.place(place) {
+        Some(place) => !place.delegate_facts(),
+        None => true,
+    }
+}
+
+/// The host, where it is alone.
+fn if_alone(alone: bool, host: HostNo) -> Option<HostNo>
+    ensures { result ≡ if_alone alone host }
+{
+    if alone { Some(host) } else { None }
+}
+
 impl EngineState {
     /// Whether hosts know what they knew once the task that a host starts has ended.
     fn start_keeps(&self, play: &PlanPlay, host: HostNo) -> bool
@@ -104,6 +115,44 @@ impl EngineState {
             },
             Event::Send { .. } | Event::Stop | Event::Forks(_) => true,
             Event::Open | Event::Turn | Event::Close => false,
+        }
+    }
+
+    /// Whether no other host may know more once the task that a host starts has ended.
+    fn start_alone(&self, play: &PlanPlay, host: HostNo) -> bool
+        ensures { result ≡ start_alone self.now host.0 play.now }
+    {
+        match self.next_at(host) {
+            Some(place) => teaches_alone_at(play, place),
+            None => true,
+        }
+    }
+
+    /// Whether no other host may know more once the task that a host runs has ended.
+    fn report_alone(&self, play: &PlanPlay, host: HostNo) -> bool
+        ensures { result ≡ report_alone self.now host.0 play.now }
+    {
+        match self.running_at(host) {
+            Some(place) => teaches_alone_at(play, place),
+            None => true,
+        }
+    }
+
+    /// The host that alone may know more after an event, if it is one.
+    pub(crate) fn learner(&self, plan: &Plan, event: &Event) -> Option<HostNo>
+        ensures { result ≡ learner plan.now self.now event.now }
+    {
+        match event {
+            Event::Start(host) => match self.open_play(plan) {
+                Some(play) => if_alone(self.start_alone(play, *host), *host),
+                None => Some(*host),
+            },
+            Event::Report(report) => match self.open_play(plan) {
+                Some(play) => if_alone(self.report_alone(play, report.host), report.host),
+                None => Some(report.host),
+            },
+            Event::Send { .. } | Event::Stop | Event::Forks(_) => None,
+            Event::Open | Event::Turn | Event::Close => None,
         }
     }
 }

@@ -7,12 +7,12 @@ ghost use Rattle.pb_state.specs.State.{State};
 mod asked;
 mod open;
 mod possible;
+mod renew;
 mod report;
 mod start;
 mod turn;
 
 use crate::event::Event;
-use crate::known::forget;
 use crate::later::Later;
 use pb_all_hosts::DueRows;
 use pb_one_host::{Decided, decide};
@@ -177,8 +177,8 @@ impl EngineState {
         self.step_knowing(plan, event, &mut known)
     }
 
-    /// The same, where the map of `hostvars` is kept from step to step: it is made where a task may look it up and there is none, and is there until hosts
-    /// may have learnt something. An `Err` changes nothing of the state.
+    /// The same, where the map of `hostvars` is kept from step to step: it is made where a task may look it up and there is none, and is there until several
+    /// hosts may have learnt something. Where one alone may have, that host's variables in it are put anew. An `Err` changes nothing of the state.
     ///
     /// # Errors
     /// `Illegal` where the event isn't possible in this state, `Memory` where memory was refused.
@@ -212,11 +212,12 @@ impl EngineState {
             return Err(StepFault::Illegal);
         }
         let keeps = self.keeps_facts(plan, event);
+        let learner = self.learner(plan, event);
         self.apply(plan, event, known)?;
         if keeps {
             return Ok(());
         }
-        forget(known);
+        self.renew(plan, learner, known);
         Ok(())
     }
 

@@ -49,7 +49,7 @@ first_hosts_at inventory extra learnt name (suc n) =
     ∙ ap (option_or (cond (bytes_eq name (host_name inventory n)) (Some (dict (members_of (variables_of inventory extra learnt n)))) None)) (first_hosts_at inventory extra learnt name n)
     ∙ mapped_cond (λ h. dict (members_of (variables_of inventory extra learnt h))) (bytes_eq name (host_name inventory n)) n (last_number (host_name inventory) name n)
 
-entries_back : (es : List (List ℕ × Datum)) → entries_of (members_of es) ≡ es
+pub entries_back : (es : List (List ℕ × Datum)) → entries_of (members_of es) ≡ es
 entries_back [] = refl
 entries_back (e ∷ es) = ap (λ t. e ∷ t) (entries_back es)
 
@@ -62,7 +62,7 @@ groups_by_name inventory known is name =
     ap (λ k. value_in name (value_at (codes "groups") k)) is ∙ ap (value_in name) (under_groups inventory) ∙ ap (value_at name) (entries_back (groups_map inventory))
     ∙ first_groups_at inventory name (length inventory.groups)
 
-of_hosts : (inventory : InventoryOf) (extra : List (List ℕ × Datum)) (learnt : List FactsOf) → hostvars inventory extra learnt ≡ dict (members_of (hostvars_map inventory extra learnt))
+pub of_hosts : (inventory : InventoryOf) (extra : List (List ℕ × Datum)) (learnt : List FactsOf) → hostvars inventory extra learnt ≡ dict (members_of (hostvars_map inventory extra learnt))
 unfolding hostvars
 of_hosts inventory extra learnt = refl
 

@@ -3,6 +3,7 @@ pub mod Connector
 pub mod Extra
 pub mod Learnt
 pub mod Magic
+pub mod Renewed
 pub mod Rows
 pub mod Shared
 pub mod Weight

@@ -1,16 +1,18 @@
 //! The variables of all hosts.
-ghost use Rattle.std.specs.Prelude.{◌≡◌, ◌<◌, ℕ, List, Some, length, IfOk, OnOk};
-ghost use Rattle.pb_value.specs.Datum.{dict, members_of, put, value_at};
+ghost use Rattle.std.specs.Prelude.{◌≡◌, ◌≢◌, ◌<◌, ℕ, List, Some, None, length, IfOk, IfSome, OnOk};
+ghost use Rattle.pb_value.specs.Datum.{Datum, dict, members_of, put, value_at};
 ghost use Rattle.pb_facts.specs.Facts.{known_of};
 ghost use Rattle.pb_inventory.specs.Vars.{host_name, vars_from_groups, vars_of_host};
 ghost use Rattle.pb_variables.specs.Magic.{variables_of, hostvars_map, hostvars, hosts_magic};
 ghost use Rattle.pb_variables.specs.ByName.{value_in, variables_under, variable_of_host};
 ghost use Rattle.pb_variables.specs.Learnt.{facts_in};
+ghost use Rattle.pb_variables.specs.Renewed.{IsRenewed, IsRenewedMap};
+ghost use Rattle.pb_facts.specs.Facts.{FactsOf};
 
 use pb_facts::facts::Facts;
 use pb_ids::HostNo;
 use pb_inventory::inventory::Inventory;
-use pb_value::val::{Dict, Val};
+use pb_value::val::{Dict, Node, Val};
 use std::alloc::{AllocError, Global};
 
 /// Puts a host's variables under the host's name: those from its groups, over them its own, what it has learnt, and over these the extra variables.
@@ -111,4 +113,72 @@ pub fn hosts_magic(alloc: Global, hosts: Val) -> Result<Dict, AllocError>
     let mut known = Dict::new(alloc);
     known.put(alloc, "hostvars", hosts)?;
     Ok(known)
+}
+
+/// The map that a value is.
+fn map_of(value: Val) -> Option<Dict>
+    ensures { (known : List (List ℕ × Datum)) → value ≡ dict (members_of known) → result ≡ Some known }
+{
+    match value.into_node() {
+        Node::Dict(known) => Some(known),
+        _ => None,
+    }
+}
+
+/// The map that the magic variable `hostvars` stands for.
+fn hosts_in(alloc: Global, hosts: Dict) -> Result<Option<Dict>, AllocError>
+    ensures { (known : List (List ℕ × Datum)) → hosts ≡ hosts_magic (dict (members_of known)) → IfOk result (λ found. found ≡ Some known) }
+{
+    let mut hosts = hosts;
+    let name = String::from_str(alloc, "hostvars")?;
+    match hosts.replace(name, Val::null())? {
+        Some(value) => Ok(map_of(value)),
+        None => Ok(None),
+    }
+}
+
+/// The magic variable for a map in which this host's variables were put anew. A map with fewer names than there are hosts tells of two hosts with one name.
+fn map_renewed(
+    alloc: Global,
+    known: Dict,
+    inventory: &Inventory,
+    extra: &Dict,
+    facts: &Facts,
+    host: HostNo,
+) -> Result<Option<Dict>, AllocError>
+    requires { host.0 < length inventory.now.hosts }
+    ensures value { IfOk result (λ kept. IfSome kept (IsRenewedMap inventory.now extra.now facts.now host.0 known)) }
+    ensures none { IfOk result (λ kept. kept ≡ None → length known ≢ length inventory.now.hosts) }
+{
+    let mut known = known;
+    if known.len() != inventory.hosts() as usize {
+        return Ok(None);
+    }
+    put_known(alloc, &mut known, inventory, extra, facts, host)?;
+    let hosts = hosts_magic(alloc, Val::dict(known))?;
+    Ok(Some(hosts))
+}
+
+/// The magic variable `hostvars` once one host alone has learnt something, and now has learnt this: that host's variables are put anew, and those of the
+/// others stay. Nothing is answered where two hosts have one name, as in no inventory that was read. The only error is want of memory, and it leaves
+/// nothing of the variable.
+pub fn renewed(
+    alloc: Global,
+    hosts: Dict,
+    inventory: &Inventory,
+    extra: &Dict,
+    facts: &Facts,
+    host: HostNo,
+) -> Result<Option<Dict>, AllocError>
+    ensures value { IfOk result (λ kept. IfSome kept (IsRenewed inventory.now extra.now facts.now host.0 hosts)) }
+    ensures none { IfOk result (λ kept. kept ≡ None → (before : List FactsOf) → hosts ≡ hosts_magic (hostvars inventory.now extra.now before)
+        → length (hostvars_map inventory.now extra.now before) ≢ length inventory.now.hosts) }
+{
+    if host.0 >= inventory.hosts() {
+        return Ok(Some(hosts));
+    }
+    match hosts_in(alloc, hosts)? {
+        Some(known) => map_renewed(alloc, known, inventory, extra, facts, host),
+        None => Ok(None),
+    }
 }

@@ -4,7 +4,7 @@
 //! variables that they spell, or the first fault in them, both exactly as `specs/Extra.antt` says.
 //! `plan_magic`, `play_magic` and `host_magic` answer the magic variables that are the same for a
 //! whole plan, for a play and for a host (`specs/Magic.antt`), each as a dict of its own. `hostvars`
-//! answers what stands for the variables of all hosts, with what they have learnt.
+//! answers what stands for the variables of all hosts, with what they have learnt, and `renewed` puts those of one host anew (`specs/Renewed.antt`).
 //! `connector` answers the words of the program that connects to a host (`specs/Connector.antt`).
 //! `GroupShares` has what all hosts have from their groups, the variables of these and their names, made once for hosts of the same groups
 //! (`specs/Shared.antt`).
