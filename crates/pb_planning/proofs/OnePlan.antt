@@ -10,8 +10,8 @@ use Rattle.pb_layers.specs.Scope.{Map}
 use Rattle.pb_patterns.specs.Expressions.{AreTaken, behind}
 use Rattle.pb_patterns.specs.declared.element.Element.{Element}
 use Rattle.pb_patterns.specs.declared.selected.Selected.{Selected}
-use Rattle.pb_play.specs.Playbooks.{playbook_of, expressions_of_book}
-use Rattle.pb_play.specs.Refusals.{met_behind, AllTaken}
+use Rattle.pb_play_reading.specs.Playbooks.{playbook_of, expressions_of_book}
+use Rattle.pb_play_reading.specs.Refusals.{met_behind, AllTaken}
 use Rattle.pb_roles.specs.declared.sections.Expanded.{Expanded}
 use Rattle.pb_planning.specs.declared.bundle.Bundle.{Bundle}
 use Rattle.pb_planning.specs.declared.bundle.BundleFault.{BundleFault}

@@ -17,13 +17,13 @@ use Rattle.pb_patterns.specs.declared.element.Element.{Element}
 use Rattle.pb_patterns.specs.declared.selected.Selected.{Selected}
 use Rattle.pb_patterns.specs.declared.fault.PatFault.{PatFault}
 use Rattle.pb_patterns.specs.declared.fault.PatFault.TheVariants.{BadRegex}
-use Rattle.pb_play.specs.Playbooks.{playbook_of, expressions_of_book}
-use Rattle.pb_play.specs.Refusals.{AllTaken, IsFirstFaultAt}
+use Rattle.pb_play_reading.specs.Playbooks.{playbook_of, expressions_of_book}
+use Rattle.pb_play_reading.specs.Refusals.{AllTaken, IsFirstFaultAt}
 use Rattle.pb_written.specs.declared.fault.LoadFault.{LoadFault}
 use Rattle.pb_written.specs.declared.fault.LoadFault.TheVariants.{BadPattern}
 use Rattle.pb_roles.specs.Plays.{IsBuilt, expansion_of}
 use Rattle.pb_roles.specs.declared.sections.Expanded.{Expanded}
-use Rattle.pb_play.specs.declared.playbook.Playbook.{Playbook}
+use Rattle.pb_play_reading.specs.declared.playbook.Playbook.{Playbook}
 use Rattle.pb_planning.specs.declared.bundle.Bundle.{Bundle}
 use Rattle.pb_planning.specs.declared.bundle.BundleFault.{BundleFault}
 use Rattle.pb_planning.specs.declared.bundle.BundleFault.TheVariants.{Inventory, Playbook as InPlaybook, Roles, Limit, BadForks, TooLarge}

@@ -18,9 +18,9 @@ use Rattle.pb_written.specs.declared.fault.LoadFault.TheVariants.{BadPattern}
 use Rattle.pb_patterns.specs.Selection.{IsSelection}
 use Rattle.pb_patterns.specs.declared.element.Element.{Element}
 use Rattle.pb_patterns.specs.declared.selected.Selected.{Selected}
-use Rattle.pb_play.specs.declared.playbook.Playbook.{Playbook}
-use Rattle.pb_play.specs.Playbooks.{playbook_of, expressions_of_book}
-use Rattle.pb_play.specs.Refusals.{Placed, met_behind, AllTaken, IsFirstFaultAt}
+use Rattle.pb_play_reading.specs.declared.playbook.Playbook.{Playbook}
+use Rattle.pb_play_reading.specs.Playbooks.{playbook_of, expressions_of_book}
+use Rattle.pb_play_reading.specs.Refusals.{Placed, met_behind, AllTaken, IsFirstFaultAt}
 use Rattle.pb_roles.specs.Plays.{expansion_of}
 use Rattle.pb_roles.specs.declared.files.RoleFile.{RoleFile}
 use Rattle.pb_roles.specs.declared.sections.Expanded.{Expanded}

@@ -1,6 +1,6 @@
 -- Worked warnings of ignored keys.
 use Rattle.std.specs.Prelude.{◌≡◌, ℕ, true, false, List, [], ◌∷◌, Ok, codes, refl}
-use Rattle.pb_play.specs.Strategies.{strategy_of}
+use Rattle.pb_play_reading.specs.Strategies.{strategy_of}
 use Rattle.pb_planning.specs.Ignored.{ignored_lines, name_of}
 use Rattle.pb_strategies.specs.declared.strategy.Strategy.{Strategy}
 use Rattle.pb_strategies.specs.declared.strategy.Strategy.TheVariants.{Linear, Free, HostPinned}

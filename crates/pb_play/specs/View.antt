@@ -1,9 +1,6 @@
 -- What is written in the nodes of a list.
-use Rattle.std.specs.Prelude.{◌≡◌, List, [], ◌∷◌, map, Result, Ok, Err}
-use Rattle.pb_reading.specs.Reading.{Reading, Stops}
-use Rattle.pb_reading.specs.declared.stop.Stop.{Stop}
+use Rattle.std.specs.Prelude.{List, [], ◌∷◌, map}
 use Rattle.pb_play.specs.Nodes.{Written, Nothing, Task, Block, Flush}
-use Rattle.pb_written.specs.declared.fault.LoadFault.{LoadFault}
 use Rattle.pb_play.specs.declared.node.Node.{Node}
 use Rattle.pb_play.specs.declared.node.Node.TheOpen.{Node-F, Task as OneTask, Block as OneBlock, Flush as OneFlush}
 use Rattle.pb_play.specs.declared.node.Node.TheFolds.{fold-Node}
@@ -23,8 +20,3 @@ node_of = fold-Node (Written → Written) node_step
 
 abbrev pub written_of : List Node → Written
 written_of nodes = joined (map node_of nodes)
-
--- what a reader of one node returned is what its definition gives, unless memory ran out
-abbrev pub IsRead : Result Node (Stop LoadFault) → Reading Written LoadFault → Type 0
-IsRead (Ok n) r = r ≡ Ok (node_of n Nothing)
-IsRead (Err e) r = Stops e r

@@ -9,10 +9,10 @@ use Rattle.pb_written.specs.Faults.{as_load_fault}
 use Rattle.pb_written.specs.Values.{template_value}
 use Rattle.pb_written.specs.declared.fault.LoadFault.{LoadFault}
 use Rattle.pb_written.specs.declared.fault.LoadFault.TheVariants.{NotJson}
-use Rattle.pb_play.specs.Handlers.{handler}
-use Rattle.pb_play.specs.NodeLists.{node_list}
+use Rattle.pb_play_reading.specs.Handlers.{handler}
+use Rattle.pb_play_reading.specs.NodeLists.{node_list}
 use Rattle.pb_play.specs.Nodes.{Written}
-use Rattle.pb_play.specs.declared.handlers.Handler.{Handler}
+use Rattle.pb_play_reading.specs.declared.handlers.Handler.{Handler}
 use Rattle.pb_role_files.specs.Meta.{role_meta}
 use Rattle.pb_role_files.specs.declared.meta.RoleMeta.{RoleMeta}
 

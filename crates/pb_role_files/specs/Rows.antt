@@ -14,10 +14,11 @@ use Rattle.pb_written.specs.Conditions.{conditions}
 use Rattle.pb_written.specs.Templates.{is_template}
 use Rattle.pb_written.specs.declared.fault.LoadFault.TheVariants.{NotJson, WrongShape, NotInProfile, BadExpression}
 use Rattle.pb_role_entries.specs.RoleEntries.{named_alone, role_entry}
-use Rattle.pb_play.specs.Handlers.{handler}
-use Rattle.pb_play.specs.NodeLists.{nodes}
+use Rattle.pb_play_reading.specs.Handlers.{handler}
+use Rattle.pb_play_reading.specs.NodeLists.{nodes}
 use Rattle.pb_play.specs.Nodes.{Nothing, Task, Flush}
-use Rattle.pb_play.specs.Tasks.{task, tells_of_task, plain_task}
+use Rattle.pb_play.specs.Tasks.{plain_task}
+use Rattle.pb_play_reading.specs.Tasks.{task, tells_of_task}
 use Rattle.pb_play.specs.declared.modules.Module.TheVariants.{Setup}
 use Rattle.pb_role_files.specs.RoleFiles.{nodes_of_file, handlers_of_file, variables_of_file, meta_of_file}
 

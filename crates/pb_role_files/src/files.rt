@@ -4,8 +4,9 @@ ghost use Rattle.pb_reading.specs.Reading.{Gives};
 ghost use Rattle.pb_role_files.specs.RoleFiles.{file_of, nodes_of_file, handlers_of_file, variables_of_file, meta_of_file};
 
 use crate::meta::RoleMeta;
-use pb_play::handlers::Handler;
 use pb_play::node::NodeList;
+use pb_play_reading::handlers::Handler;
+use pb_play_reading::nodes::TaskList;
 use pb_reading::list::{Each, EachNamed};
 use pb_reading::reads::Reads;
 use pb_reading::stop::Stop;
@@ -48,7 +49,7 @@ pub fn read_nodes_file(alloc: Global, bytes: &[u8]) -> Result<NodeList, LoadFaul
     ensures value { IfOk result (λ v. nodes_of_file bytes.now ≡ Ok v) }
     ensures fault { IfErr result (λ e. e ≢ LoadFault.Memory → nodes_of_file bytes.now ≡ Err e) }
 {
-    read_file::<NodeList>(alloc, bytes)
+    read_file::<TaskList>(alloc, bytes)
 }
 
 /// The handlers of a role, or the first fault in the file.

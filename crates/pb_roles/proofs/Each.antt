@@ -5,7 +5,7 @@ use Rattle.std.specs.Result.{IsErrAnd}
 use Rattle.std.specs.List.{All}
 use Rattle.std.proofs.lemmas.List.{append-nil, at_drop_more, drop_all}
 use Rattle.pb_value.specs.Reading.{and_then}
-use Rattle.pb_play.specs.declared.play.Play.{Play}
+use Rattle.pb_play_reading.specs.declared.play.Play.{Play}
 use Rattle.pb_role_entries.specs.declared.entry.RoleEntry.{RoleEntry}
 use Rattle.pb_handlers.specs.Naming.{kept}
 use Rattle.pb_handlers.specs.declared.naming.HandlerNames.{HandlerNames}

@@ -6,7 +6,7 @@ use Rattle.std.proofs.lemmas.List.{append-nil, map-append}
 use Rattle.std.proofs.lemmas.List.Elements.{All-cons}
 use Rattle.std.proofs.lemmas.Bool.Decides.{nat_tests}
 use Rattle.pb_value.specs.Reading.{and_then}
-use Rattle.pb_play.specs.declared.play.Play.{Play}
+use Rattle.pb_play_reading.specs.declared.play.Play.{Play}
 use Rattle.pb_play.specs.Nodes as written
 use Rattle.pb_play.specs.Nodes.{Written}
 use Rattle.pb_tree.specs.Tree.{Nodes, Nothing, Flush, size_of}

@@ -7,7 +7,7 @@ use Rattle.pb_value.specs.Reading.{and_then, map_ok}
 use Rattle.pb_expr_syntax.specs.Tree.{Tree}
 use Rattle.pb_layers.specs.Scope.{Map}
 use Rattle.pb_facts.specs.Facts.{put_all}
-use Rattle.pb_play.specs.declared.handlers.Handler.{Handler}
+use Rattle.pb_play_reading.specs.declared.handlers.Handler.{Handler}
 use Rattle.pb_role_entries.specs.declared.entry.RoleEntry.{RoleEntry}
 use Rattle.pb_role_files.specs.declared.meta.RoleMeta.{RoleMeta}
 use Rattle.pb_roles.specs.Entries.{came_of, has_come}

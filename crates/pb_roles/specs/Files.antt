@@ -5,7 +5,7 @@ use Rattle.pb_layers.specs.Scope.{Map}
 use Rattle.pb_play.specs.Nodes.{Written, Nothing}
 use Rattle.pb_role_files.specs.RoleFiles.{nodes_of_file, handlers_of_file, variables_of_file, meta_of_file}
 use Rattle.pb_written.specs.declared.fault.LoadFault.{LoadFault}
-use Rattle.pb_play.specs.declared.handlers.Handler.{Handler}
+use Rattle.pb_play_reading.specs.declared.handlers.Handler.{Handler}
 use Rattle.pb_role_files.specs.declared.meta.RoleMeta.{RoleMeta}
 use Rattle.pb_roles.specs.declared.fault.RoleFault.{RoleFault}
 use Rattle.pb_roles.specs.declared.fault.RoleFault.TheVariants.{Load}

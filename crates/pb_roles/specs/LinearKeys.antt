@@ -4,8 +4,8 @@ use Rattle.std.specs.Prelude.{Bool, false, ◌||◌, is_some}
 use Rattle.std.specs.List.{list_any}
 use Rattle.pb_play.specs.Nodes.{Written, Nothing, Task, Block, Flush}
 use Rattle.pb_play.specs.declared.couplings.Couplings.{Couplings}
-use Rattle.pb_play.specs.declared.handlers.Handler.{Handler}
-use Rattle.pb_play.specs.declared.play.Play.{Play}
+use Rattle.pb_play_reading.specs.declared.handlers.Handler.{Handler}
+use Rattle.pb_play_reading.specs.declared.play.Play.{Play}
 use Rattle.pb_roles.specs.declared.linear_keys.CoupledKey.{CoupledKey}
 use Rattle.pb_roles.specs.declared.linear_keys.CoupledKey.TheVariants.{AnyErrorsFatal, RunOnce}
 use Rattle.pb_roles.specs.declared.met.HandlerIn.{HandlerIn}

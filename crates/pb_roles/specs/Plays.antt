@@ -5,7 +5,7 @@ use Rattle.pb_tree.specs.Tree.{TreeOf, size_of}
 use Rattle.pb_flat.specs.Deep.{always_depth}
 use Rattle.pb_places.specs.Caught.{are_caught, caught_places}
 use Rattle.pb_places.specs.Place.{PlaceOf}
-use Rattle.pb_play.specs.declared.play.Play.{Play}
+use Rattle.pb_play_reading.specs.declared.play.Play.{Play}
 use Rattle.pb_roles.specs.Building.{all_places, nodes_of, tree_of}
 use Rattle.pb_roles.specs.Expansion.{roles_of}
 use Rattle.pb_roles.specs.LinearKeys.{linear_keys_of}

@@ -5,7 +5,7 @@ use Rattle.pb_value.specs.Datum.{dict, int, no_members, text}
 use Rattle.pb_value.specs.Reading.{map_ok}
 use Rattle.pb_expr_syntax.specs.Tree.{Tree, Name}
 use Rattle.pb_layers.specs.Scope.{Map}
-use Rattle.pb_play.specs.Batches.{sizes}
+use Rattle.pb_play_reading.specs.Batches.{sizes}
 use Rattle.pb_play.specs.Couplings.{uncoupled}
 use Rattle.pb_play.specs.Nodes.{Written, Nothing, Task, Block, Flush}
 use Rattle.pb_written.specs.declared.fault.LoadFault.TheVariants.{NotJson}
@@ -13,8 +13,8 @@ use Rattle.pb_play.specs.declared.modules.Module.TheVariants.{Debug}
 use Rattle.pb_play.specs.declared.node.BlockKeys.{BlockKeys}
 use Rattle.pb_role_entries.specs.declared.entry.EntryAsWritten.{EntryAsWritten}
 use Rattle.pb_play.specs.declared.couplings.Couplings.{Couplings}
-use Rattle.pb_play.specs.declared.handlers.Handler.{Handler}
-use Rattle.pb_play.specs.declared.play.Play.{Play}
+use Rattle.pb_play_reading.specs.declared.handlers.Handler.{Handler}
+use Rattle.pb_play_reading.specs.declared.play.Play.{Play}
 use Rattle.pb_role_entries.specs.declared.entry.RoleEntry.{RoleEntry}
 use Rattle.pb_play.specs.declared.task.Task.{Task as OneTask}
 use Rattle.pb_places.specs.Place.{PlaceOf, bare_task, no_role, place_of}

@@ -2,7 +2,7 @@
 -- running operations on change").
 use Rattle.std.specs.Prelude.{List, [], ◌∷◌, ◌++◌, map}
 use Rattle.pb_play.specs.Nodes.{Written}
-use Rattle.pb_play.specs.declared.play.Play.{Play}
+use Rattle.pb_play_reading.specs.declared.play.Play.{Play}
 use Rattle.pb_handlers.specs.Naming.{counting, kept}
 use Rattle.pb_handlers.specs.declared.naming.HandlerNames.{HandlerNames}
 use Rattle.pb_roles.specs.Expansion.{handlers_in}

@@ -21,10 +21,10 @@ use crate::roles::{push_handlers, roles_of};
 use crate::sections::{Expanded, Head, PlayKeys, Sections};
 use crate::unknown::unknown_with;
 use pb_handlers::{Handlers, counting};
-use pb_play::handlers::Handler;
 use pb_play::node::NodeList;
-use pb_play::play::Play;
-use pb_play::playbook::Playbook;
+use pb_play_reading::handlers::Handler;
+use pb_play_reading::play::Play;
+use pb_play_reading::playbook::Playbook;
 use pb_value::items::Items;
 use std::alloc::{AllocError, Global};
 

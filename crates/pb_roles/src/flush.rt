@@ -10,7 +10,7 @@ use crate::round::Round;
 use crate::sections::PlayKeys;
 use pb_handlers::{HandlerNames, Handlers};
 use pb_places::Place;
-use pb_play::handlers::Handler;
+use pb_play_reading::handlers::Handler;
 use pb_value::items::Items;
 use pb_value::text::Text;
 use std::alloc::{AllocError, Global};

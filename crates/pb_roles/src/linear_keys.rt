@@ -9,9 +9,9 @@ use crate::met::{HandlerIn, Met, Section};
 use crate::nodes::nodes_in;
 use crate::sections::LinearKeys;
 use pb_play::couplings::Couplings;
-use pb_play::handlers::Handler;
 use pb_play::node::Node;
-use pb_play::play::Play;
+use pb_play_reading::handlers::Handler;
+use pb_play_reading::play::Play;
 
 /// A key that a play, its blocks and its tasks may have, and that linear plays alone heed.
 #[derive(Clone, Copy, Debug, PartialEq, Eq)]

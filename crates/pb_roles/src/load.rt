@@ -7,8 +7,8 @@ ghost use Rattle.pb_roles.specs.Files.{file_of, loaded, no_meta};
 
 use crate::fault::RoleFault;
 use crate::files::{RoleFile, RoleFiles, file_of};
-use pb_play::handlers::Handler;
 use pb_play::node::NodeList;
+use pb_play_reading::handlers::Handler;
 use pb_role_files::files::{
     read_handlers_file, read_meta_file, read_nodes_file, read_variables_file,
 };

@@ -1,8 +1,8 @@
 //! What has come of a play's roles.
 use crate::came::Came;
 use crate::origin::Origin;
-use pb_play::handlers::Handler;
 use pb_play::node::NodeList;
+use pb_play_reading::handlers::Handler;
 use pb_value::items::Items;
 
 /// A list of nodes with where they come from.

@@ -3,8 +3,8 @@ ghost use Rattle.std.specs.Prelude.{◌≡◌};
 
 use crate::line::Line;
 use crate::origin::Origin;
-use pb_play::handlers::Handler;
 use pb_play::node::NodeList;
+use pb_play_reading::handlers::Handler;
 use pb_role_entries::entry::RoleEntry;
 use pb_value::items::Items;
 use pb_value::text::Text;

@@ -13,7 +13,7 @@ use crate::met::{HandlerIn, Met, Section};
 use crate::opened::OpenRole;
 use crate::origin::Origin;
 use pb_expr_syntax::tree::Expr;
-use pb_play::handlers::Handler;
+use pb_play_reading::handlers::Handler;
 use pb_role_entries::entry::RoleEntry;
 use pb_value::items::Items;
 use pb_value::text::Text;

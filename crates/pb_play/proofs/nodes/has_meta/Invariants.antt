@@ -1,7 +1,0 @@
-use Rattle.std.proofs.Common.{◌≡◌}
-use Rattle.serde_json.specs.View.{members_view}
-use Rattle.pb_play.specs.NodeLists.{has, names_meta}
-use Rattle.pb_play.proofs.nodes.has_meta.Given as goal
-
-abbrev pub invariant-loop-name : goal.invariant-loop-name
-invariant-loop-name l = has names_meta (members_view l.members.entries) ≡ has names_meta (members_view l.name-iterator)

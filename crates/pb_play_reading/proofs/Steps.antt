@@ -1,0 +1,217 @@
+-- Readers of objects, once their first parts are read: what stops a part stops the reader, and what is read is handed on.
+use Rattle.std.proofs.Common.{◌≡◌, ℕ, Bool, true, List, [], Result, Ok, Err, refl, ap, sym, subst, ◌∙◌}
+use Rattle.std.specs.Prelude.{Option, codes, unwrap_or}
+use Rattle.std.specs.Result.{IsErrAnd}
+use Rattle.pb_value.specs.Datum.{Datum}
+use Rattle.pb_value.specs.Reading.{and_then, map_ok}
+use Rattle.pb_reading.specs.Ahead.{Takes}
+use Rattle.pb_reading.specs.Fields.{Ahead, Read, field_or, others, rule, value_of}
+use Rattle.pb_reading.specs.Reading.{Reading, Stops, Gives, each_of, required}
+use Rattle.pb_reading.specs.Simple.{text}
+use Rattle.pb_reading.specs.declared.stop.Stop.{Stop}
+use Rattle.pb_reading.specs.declared.stop.Stop.TheVariants as stop
+use Rattle.pb_written.specs.Simple.{switched}
+use Rattle.pb_written.specs.Texts.{texts}
+use Rattle.pb_play_reading.specs.Arguments.{argument}
+use Rattle.pb_play_reading.specs.Assert.{said}
+use Rattle.pb_play_reading.specs.Handlers.{handler, rest_of_handler}
+use Rattle.pb_play_reading.specs.NoEffect.{has_no_effect, key, key_or}
+use Rattle.pb_play_reading.specs.Plays.{on_failure, before_hosts, tolerance, lists, play_of, rest_of_play}
+use Rattle.pb_written.specs.Values.{template_value}
+use Rattle.pb_play_reading.specs.Tasks.{tells_of_task, looping, rest_of_task}
+use Rattle.pb_play_reading.specs.Variables.{variables}
+use Rattle.pb_play_reading.specs.declared.assert.Said.{Said}
+use Rattle.pb_written.specs.declared.fault.LoadFault.{LoadFault}
+use Rattle.pb_play_reading.specs.declared.handlers.Handler.{Handler}
+use Rattle.pb_play_reading.specs.declared.hosts.PlayHosts.{PlayHosts}
+use Rattle.pb_play.specs.declared.loops.Loop.{Loop}
+use Rattle.pb_play_reading.specs.declared.other_keys.NoArguments.{NoArguments}
+use Rattle.pb_play_reading.specs.declared.other_keys.WithoutEffect.{WithoutEffect}
+use Rattle.pb_play_reading.specs.declared.play.BeforeHosts.{BeforeHosts}
+use Rattle.pb_play_reading.specs.declared.play.Lists.{Lists}
+use Rattle.pb_play_reading.specs.declared.play.OnFailure.{OnFailure}
+use Rattle.pb_play_reading.specs.declared.play.Tolerance.{Tolerance}
+use Rattle.pb_play_reading.specs.declared.play.Play.{Play}
+use Rattle.pb_play_reading.specs.declared.task.Modules.{Modules}
+use Rattle.pb_play.specs.declared.task.Task.{Task}
+use Rattle.pb_play_reading.specs.declared.task.Told.{Told}
+
+-- what a stop is handed out as
+pub stopped : {A : Type 0} (result : Result A (Stop LoadFault)) (s : Stop LoadFault) (r : Reading A LoadFault) → IsErrAnd result (λ e. e ≡ s) → Stops s r → Gives result r
+stopped (Ok x) s r same stops = absurd same
+stopped (Err e) s r same stops = subst (λ e. Stops e r) (sym same) stops
+
+pub part_stopped : {A S : Type 0} (result : Result A (Stop LoadFault)) (s : Stop LoadFault) (after : Ahead S) (r : Reading (Read A S) LoadFault) → IsErrAnd result (λ e. e ≡ s) → Stops s r
+    → Takes (λ v. v) result after r
+part_stopped (Ok x) s after r same stops = absurd same
+part_stopped (Err e) s after r same stops = subst (λ e. Stops e r) (sym same) stops
+
+-- what stops a part stops what follows it
+stops_then : {A B : Type 0} (s : Stop LoadFault) (first : Reading A LoadFault) (next : A → Reading B LoadFault) → Stops s first → Stops s (and_then first next)
+stops_then stop.Memory first next stops = stops
+stops_then (stop.WrongShape path) first next stops = ap (λ r. and_then r next) stops
+stops_then (stop.Fault f) first next stops = ap (λ r. and_then r next) stops
+
+stops_value : {A S : Type 0} (s : Stop LoadFault) (r : Reading (Read A S) LoadFault) → Stops s r → Stops s (value_of r)
+stops_value stop.Memory r stops = stops
+stops_value (stop.WrongShape path) r stops = ap value_of stops
+stops_value (stop.Fault f) r stops = ap value_of stops
+
+stops_rule : {A S : Type 0} (s : Stop LoadFault) (r : Reading A LoadFault) (a : Ahead S) → Stops s r → Stops s (rule r a)
+stops_rule stop.Memory r a stops = stops
+stops_rule (stop.WrongShape path) r a stops = ap (λ r. rule r a) stops
+stops_rule (stop.Fault f) r a stops = ap (λ r. rule r a) stops
+
+-- what `assert` says, behind `msg`
+abbrev with_messages : Option Datum → Option Datum → Read (Option Datum) NoArguments → Reading (Read Said NoArguments) LoadFault
+with_messages fail_msg msg x = rule (Ok (record { fail_msg = fail_msg; msg = msg; success_msg = x.value })) x.ahead
+
+behind_msg : (a b d : Ahead NoArguments) (fail_msg msg : Option Datum) → argument (codes "fail_msg") template_value a ≡ Ok (record { value = fail_msg; ahead = b })
+    → argument (codes "msg") template_value b ≡ Ok (record { value = msg; ahead = d }) → said a ≡ and_then (argument (codes "success_msg") template_value d) (with_messages fail_msg msg)
+behind_msg a b d fail_msg msg e f =
+    ap (λ r. and_then r (λ x. and_then (argument (codes "msg") template_value x.ahead) (λ y. and_then (argument (codes "success_msg") template_value y.ahead) (with_messages x.value y.value)))) e
+    ∙ ap (λ r. and_then r (λ y. and_then (argument (codes "success_msg") template_value y.ahead) (with_messages fail_msg y.value))) f
+
+pub success_msg_stops : (a b d : Ahead NoArguments) (fail_msg msg : Option Datum) (s : Stop LoadFault) → argument (codes "fail_msg") template_value a ≡ Ok (record { value = fail_msg; ahead = b })
+    → argument (codes "msg") template_value b ≡ Ok (record { value = msg; ahead = d }) → Stops s (argument (codes "success_msg") template_value d) → Stops s (said a)
+success_msg_stops a b d fail_msg msg s e f stops =
+    subst (Stops s) (sym (behind_msg a b d fail_msg msg e f)) (stops_then s (argument (codes "success_msg") template_value d) (with_messages fail_msg msg) stops)
+
+pub said_is : (a b d g : Ahead NoArguments) (fail_msg msg success_msg : Option Datum) → argument (codes "fail_msg") template_value a ≡ Ok (record { value = fail_msg; ahead = b })
+    → argument (codes "msg") template_value b ≡ Ok (record { value = msg; ahead = d }) → argument (codes "success_msg") template_value d ≡ Ok (record { value = success_msg; ahead = g })
+    → said a ≡ Ok (record { value = record { fail_msg = fail_msg; msg = msg; success_msg = success_msg }; ahead = g })
+said_is a b d g fail_msg msg success_msg e f h = behind_msg a b d fail_msg msg e f ∙ ap (λ r. and_then r (with_messages fail_msg msg)) h
+
+-- what a play says in front of its hosts, behind what comes of a failure
+abbrev with_handlers : OnFailure → Bool → Read (List Handler) WithoutEffect → Reading (Read BeforeHosts WithoutEffect) LoadFault
+with_handlers failure gathers x = rule (Ok (record { on_failure = failure; gathers = gathers; handlers = x.value })) x.ahead
+
+abbrev with_gathers : OnFailure → Read Bool WithoutEffect → Reading (Read BeforeHosts WithoutEffect) LoadFault
+with_gathers failure x = and_then (key_or (codes "handlers") (each_of handler) [] x.ahead) (with_handlers failure x.value)
+
+behind_failure : (a b : Ahead WithoutEffect) (failure : OnFailure) → on_failure a ≡ Ok (record { value = failure; ahead = b })
+    → before_hosts a ≡ and_then (key_or (codes "gather_facts") switched true b) (with_gathers failure)
+behind_failure a b failure e = ap (λ r. and_then r (λ x. and_then (key_or (codes "gather_facts") switched true x.ahead) (with_gathers x.value))) e
+
+behind_gathers : (a b d : Ahead WithoutEffect) (failure : OnFailure) (gathers : Bool) → on_failure a ≡ Ok (record { value = failure; ahead = b })
+    → key_or (codes "gather_facts") switched true b ≡ Ok (record { value = gathers; ahead = d })
+    → before_hosts a ≡ and_then (key_or (codes "handlers") (each_of handler) [] d) (with_handlers failure gathers)
+behind_gathers a b d failure gathers e f = behind_failure a b failure e ∙ ap (λ r. and_then r (with_gathers failure)) f
+
+pub gathers_stop : (a b : Ahead WithoutEffect) (failure : OnFailure) (s : Stop LoadFault) → on_failure a ≡ Ok (record { value = failure; ahead = b })
+    → Stops s (key_or (codes "gather_facts") switched true b) → Stops s (before_hosts a)
+gathers_stop a b failure s e stops =
+    subst (Stops s) (sym (behind_failure a b failure e)) (stops_then s (key_or (codes "gather_facts") switched true b) (with_gathers failure) stops)
+
+pub handlers_stop : (a b d : Ahead WithoutEffect) (failure : OnFailure) (gathers : Bool) (s : Stop LoadFault) → on_failure a ≡ Ok (record { value = failure; ahead = b })
+    → key_or (codes "gather_facts") switched true b ≡ Ok (record { value = gathers; ahead = d })
+    → Stops s (key_or (codes "handlers") (each_of handler) [] d) → Stops s (before_hosts a)
+handlers_stop a b d failure gathers s e f stops =
+    subst (Stops s) (sym (behind_gathers a b d failure gathers e f))
+    (stops_then s (key_or (codes "handlers") (each_of handler) [] d) (with_handlers failure gathers) stops)
+
+pub before_is : (a b d g : Ahead WithoutEffect) (failure : OnFailure) (gathers : Bool) (handlers : List Handler)
+    → on_failure a ≡ Ok (record { value = failure; ahead = b })
+    → key_or (codes "gather_facts") switched true b ≡ Ok (record { value = gathers; ahead = d })
+    → key_or (codes "handlers") (each_of handler) [] d ≡ Ok (record { value = handlers; ahead = g })
+    → before_hosts a ≡ Ok (record { value = record { on_failure = failure; gathers = gathers; handlers = handlers }; ahead = g })
+before_is a b d g failure gathers handlers e f h = behind_gathers a b d failure gathers e f ∙ ap (λ r. and_then r (with_handlers failure gathers)) h
+
+-- a play behind its lists of tasks: its variables, then its other keys, then the rules over what was read
+abbrev with_hosts : BeforeHosts → Tolerance → Option (List ℕ) → Lists → List (List ℕ × Datum) → Read PlayHosts WithoutEffect → Reading (Read Play WithoutEffect) LoadFault
+with_hosts before borne name ls vars x = rule (Ok (play_of before (unwrap_or name x.value.text) x.value.pattern vars borne ls)) x.ahead
+
+abbrev with_others : List ℕ → BeforeHosts → Option PlayHosts → Tolerance → Option (List ℕ) → Lists → List (List ℕ × Datum) → Read WithoutEffect WithoutEffect → Reading (Read Play WithoutEffect) LoadFault
+with_others path before hosts borne name ls vars x = and_then (rule (required path hosts) x.ahead) (with_hosts before borne name ls vars)
+
+abbrev with_variables : List ℕ → BeforeHosts → Option PlayHosts → Tolerance → Option (List ℕ) → Lists → Read (List (List ℕ × Datum)) WithoutEffect → Reading (Read Play WithoutEffect) LoadFault
+with_variables path before hosts borne name ls x = and_then (others has_no_effect x.ahead) (with_others path before hosts borne name ls x.value)
+
+-- what is read up to them
+pub record AreRead (a : Ahead WithoutEffect) (borne : Tolerance) (name : Option (List ℕ)) (ls : Lists) (after : Ahead WithoutEffect) : Type 0 where
+  pub second : Ahead WithoutEffect
+  pub third : Ahead WithoutEffect
+  pub tolerated : tolerance a ≡ Ok (record { value = borne; ahead = second })
+  pub named : key (codes "name") text second ≡ Ok (record { value = name; ahead = third })
+  pub listed : lists third ≡ Ok (record { value = ls; ahead = after })
+
+behind_lists : (path : List ℕ) (before : BeforeHosts) (hosts : Option PlayHosts) (a b : Ahead WithoutEffect) (borne : Tolerance) (name : Option (List ℕ)) (ls : Lists) → AreRead a borne name ls b
+    → rest_of_play path before hosts a ≡ and_then (key_or (codes "vars") variables [] b) (with_variables path before hosts borne name ls)
+behind_lists path before hosts a b borne name ls e =
+    ap (λ r. and_then r (λ x. and_then (key (codes "name") text x.ahead) (λ y. and_then (lists y.ahead) (λ z. and_then (key_or (codes "vars") variables [] z.ahead) (with_variables path before hosts x.value y.value z.value))))) e.tolerated
+    ∙ ap (λ r. and_then r (λ y. and_then (lists y.ahead) (λ z. and_then (key_or (codes "vars") variables [] z.ahead) (with_variables path before hosts borne y.value z.value)))) e.named
+    ∙ ap (λ r. and_then r (λ z. and_then (key_or (codes "vars") variables [] z.ahead) (with_variables path before hosts borne name z.value))) e.listed
+
+behind_variables : (path : List ℕ) (before : BeforeHosts) (hosts : Option PlayHosts) (a b d : Ahead WithoutEffect) (borne : Tolerance) (name : Option (List ℕ)) (ls : Lists) (vars : List (List ℕ × Datum)) → AreRead a borne name ls b
+    → key_or (codes "vars") variables [] b ≡ Ok (record { value = vars; ahead = d })
+    → rest_of_play path before hosts a ≡ and_then (others has_no_effect d) (with_others path before hosts borne name ls vars)
+behind_variables path before hosts a b d borne name ls vars e f = behind_lists path before hosts a b borne name ls e ∙ ap (λ r. and_then r (with_variables path before hosts borne name ls)) f
+
+behind_others : (path : List ℕ) (before : BeforeHosts) (hosts : Option PlayHosts) (a b d g : Ahead WithoutEffect) (borne : Tolerance) (name : Option (List ℕ)) (ls : Lists) (vars : List (List ℕ × Datum)) (none : WithoutEffect)
+    → AreRead a borne name ls b → key_or (codes "vars") variables [] b ≡ Ok (record { value = vars; ahead = d }) → others has_no_effect d ≡ Ok (record { value = none; ahead = g })
+    → rest_of_play path before hosts a ≡ and_then (rule (required path hosts) g) (with_hosts before borne name ls vars)
+behind_others path before hosts a b d g borne name ls vars none e f o = behind_variables path before hosts a b d borne name ls vars e f ∙ ap (λ r. and_then r (with_others path before hosts borne name ls vars)) o
+
+pub variables_stop : (path : List ℕ) (before : BeforeHosts) (hosts : Option PlayHosts) (a b : Ahead WithoutEffect) (borne : Tolerance) (name : Option (List ℕ)) (ls : Lists) (s : Stop LoadFault) → AreRead a borne name ls b
+    → Stops s (key_or (codes "vars") variables [] b) → Stops s (value_of (rest_of_play path before hosts a))
+variables_stop path before hosts a b borne name ls s e stops =
+    stops_value s (rest_of_play path before hosts a)
+    (subst (Stops s) (sym (behind_lists path before hosts a b borne name ls e)) (stops_then s (key_or (codes "vars") variables [] b) (with_variables path before hosts borne name ls) stops))
+
+pub others_stop : (path : List ℕ) (before : BeforeHosts) (hosts : Option PlayHosts) (a b d : Ahead WithoutEffect) (borne : Tolerance) (name : Option (List ℕ)) (ls : Lists) (vars : List (List ℕ × Datum)) (s : Stop LoadFault)
+    → AreRead a borne name ls b → key_or (codes "vars") variables [] b ≡ Ok (record { value = vars; ahead = d }) → Stops s (others has_no_effect d) → Stops s (value_of (rest_of_play path before hosts a))
+others_stop path before hosts a b d borne name ls vars s e f stops =
+    stops_value s (rest_of_play path before hosts a)
+    (subst (Stops s) (sym (behind_variables path before hosts a b d borne name ls vars e f)) (stops_then s (others has_no_effect d) (with_others path before hosts borne name ls vars) stops))
+
+pub no_hosts_stop : (path : List ℕ) (before : BeforeHosts) (hosts : Option PlayHosts) (a b d g : Ahead WithoutEffect) (borne : Tolerance) (name : Option (List ℕ)) (ls : Lists) (vars : List (List ℕ × Datum)) (none : WithoutEffect) (s : Stop LoadFault)
+    → AreRead a borne name ls b → key_or (codes "vars") variables [] b ≡ Ok (record { value = vars; ahead = d }) → others has_no_effect d ≡ Ok (record { value = none; ahead = g })
+    → Stops s (required path hosts) → Stops s (value_of (rest_of_play path before hosts a))
+no_hosts_stop path before hosts a b d g borne name ls vars none s e f o stops =
+    stops_value s (rest_of_play path before hosts a)
+    (subst (Stops s) (sym (behind_others path before hosts a b d g borne name ls vars none e f o)) (stops_then s (rule (required path hosts) g) (with_hosts before borne name ls vars) (stops_rule s (required path hosts) g stops)))
+
+-- once the hosts are there
+behind_hosts : (path : List ℕ) (before : BeforeHosts) (hosts : Option PlayHosts) (h : PlayHosts) (g : Ahead WithoutEffect) (borne : Tolerance) (name : Option (List ℕ)) (ls : Lists) (vars : List (List ℕ × Datum)) → required {F = LoadFault} path hosts ≡ Ok h
+    → and_then (rule (required path hosts) g) (with_hosts before borne name ls vars) ≡ with_hosts before borne name ls vars (record { value = h; ahead = g })
+behind_hosts path before hosts h g borne name ls vars e = ap (λ r. and_then (rule r g) (with_hosts before borne name ls vars)) e
+
+pub play_is : (path : List ℕ) (before : BeforeHosts) (hosts : Option PlayHosts) (h : PlayHosts) (a b d g : Ahead WithoutEffect) (borne : Tolerance) (name : Option (List ℕ)) (ls : Lists) (vars : List (List ℕ × Datum)) (none : WithoutEffect)
+    → AreRead a borne name ls b → key_or (codes "vars") variables [] b ≡ Ok (record { value = vars; ahead = d }) → others has_no_effect d ≡ Ok (record { value = none; ahead = g })
+    → required {F = LoadFault} path hosts ≡ Ok h → value_of (rest_of_play path before hosts a) ≡ Ok (play_of before (unwrap_or name h.text) h.pattern vars borne ls)
+play_is path before hosts h a b d g borne name ls vars none e f o at =
+    ap value_of (behind_others path before hosts a b d g borne name ls vars none e f o ∙ behind_hosts path before hosts h g borne name ls vars at)
+
+-- a value that is made of what a part gives
+value_made : {A B S : Type 0} (f : A → B) (r : Reading (Read A S) LoadFault) → value_of (and_then r (λ x. rule (Ok (f x.value)) x.ahead)) ≡ map_ok f (value_of r)
+value_made f (Ok x) = refl
+value_made f (Err e) = refl
+
+stops_made : {A B : Type 0} (s : Stop LoadFault) (f : A → B) (r : Reading A LoadFault) → Stops s r → Stops s (map_ok f r)
+stops_made stop.Memory f r stops = stops
+stops_made (stop.WrongShape path) f r stops = ap (map_ok f) stops
+stops_made (stop.Fault fault) f r stops = ap (map_ok f) stops
+
+-- a handler behind its topics and its loop
+abbrev listening : List (List ℕ) → Task → Handler
+listening topics task = record { task = task; listens = topics }
+
+abbrev with_task : List (List ℕ) → Read Task Modules → Reading (Read Handler Modules) LoadFault
+with_task topics x = rule (Ok (record { task = x.value; listens = topics })) x.ahead
+
+handler_behind : (path : List ℕ) (t : Told) (a b d : Ahead Modules) (topics : List (List ℕ)) (repeated : Option Loop) → field_or tells_of_task (codes "listen") texts [] a ≡ Ok (record { value = topics; ahead = b })
+    → looping b ≡ Ok (record { value = repeated; ahead = d }) → value_of (rest_of_handler path t a) ≡ map_ok (listening topics) (value_of (rest_of_task path t repeated d))
+handler_behind path t a b d topics repeated e f =
+    ap (λ r. value_of (and_then r (λ x. and_then (looping x.ahead) (λ y. and_then (rest_of_task path t y.value y.ahead) (with_task x.value))))) e
+    ∙ ap (λ r. value_of (and_then r (λ y. and_then (rest_of_task path t y.value y.ahead) (with_task topics)))) f
+    ∙ value_made (listening topics) (rest_of_task path t repeated d)
+
+pub handler_stops : (path : List ℕ) (t : Told) (a b d : Ahead Modules) (topics : List (List ℕ)) (repeated : Option Loop) (s : Stop LoadFault)
+    → field_or tells_of_task (codes "listen") texts [] a ≡ Ok (record { value = topics; ahead = b }) → looping b ≡ Ok (record { value = repeated; ahead = d })
+    → Stops s (value_of (rest_of_task path t repeated d)) → Stops s (value_of (rest_of_handler path t a))
+handler_stops path t a b d topics repeated s e f stops = subst (Stops s) (sym (handler_behind path t a b d topics repeated e f)) (stops_made s (listening topics) (value_of (rest_of_task path t repeated d)) stops)
+
+pub handler_is : (path : List ℕ) (t : Told) (a b d : Ahead Modules) (topics : List (List ℕ)) (repeated : Option Loop) (task : Task)
+    → field_or tells_of_task (codes "listen") texts [] a ≡ Ok (record { value = topics; ahead = b }) → looping b ≡ Ok (record { value = repeated; ahead = d })
+    → value_of (rest_of_task path t repeated d) ≡ Ok task → value_of (rest_of_handler path t a) ≡ Ok (record { task = task; listens = topics })
+handler_is path t a b d topics repeated task e f is = handler_behind path t a b d topics repeated e f ∙ ap (map_ok (listening topics)) is

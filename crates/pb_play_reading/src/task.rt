@@ -1,0 +1,275 @@
+ghost use Rattle.std.specs.Prelude.{◌≡◌, true, false};
+ghost use Rattle.serde_json.specs.Data as json;
+ghost use Rattle.serde_json.specs.View.{view, members_view};
+ghost use Rattle.pb_reading.specs.Ahead.{ahead, Takes};
+ghost use Rattle.pb_reading.specs.Fields.{value_of};
+ghost use Rattle.pb_reading.specs.Reading.{Gives};
+ghost use Rattle.pb_play_reading.specs.Tasks.{one_more, tells_of_task, the_module, first_keys, failing, told_of, told, looping, rest_of_task, task};
+
+use crate::couplings::{Delegation, Runs, coupled, read_delegation};
+use crate::loops::{Control, Over, looped};
+use crate::modules::ModuleKey;
+use crate::no_effect::check_without_effect;
+use crate::retrying::{Delay, Tries, read_tries, retrying_of};
+use pb_expr_syntax::tree::Expr;
+use pb_play::loops::Loop;
+use pb_play::modules::Module;
+use pb_play::task::Task;
+use pb_reading::keys::{Keys, Others};
+use pb_reading::list::EachNamed;
+use pb_reading::simple::PlainText;
+use pb_reading::stop::Stop;
+use pb_value::items::Items;
+use pb_value::text::Text;
+use pb_value::val::Dict;
+use pb_written::conditions::Conditions;
+use pb_written::fault::LoadFault;
+use pb_written::simple::{Switch, VariableName};
+use pb_written::texts::Texts;
+use pb_written::values::TemplateValue;
+use serde_json::{Map, Value};
+use std::alloc::Global;
+use std::mem;
+
+/// The modules that a task names.
+#[derive(Drop)]
+pub(crate) enum Modules {
+    Nothing,
+    One(Module),
+    Several,
+}
+
+impl Modules {
+    fn and(self, module: Module) -> Modules
+        ensures { result ≡ one_more self «module» }
+    {
+        match self {
+            Modules::Nothing => Modules::One(module),
+            others => {
+                drop(others);
+                drop(module);
+                Modules::Several
+            }
+        }
+    }
+
+    /// The module of the task at the path.
+    fn the_one(self, path: &Text) -> Result<Module, Stop<LoadFault>>
+        ensures { Gives result (the_module path.now self) }
+    {
+        match self {
+            Modules::Nothing => {
+                let path = path.try_clone()?;
+                Err(Stop::Fault(LoadFault::NoModule { path }))
+            }
+            Modules::One(module) => Ok(module),
+            Modules::Several => {
+                let path = path.try_clone()?;
+                Err(Stop::Fault(LoadFault::TwoModules { path }))
+            }
+        }
+    }
+}
+
+impl Others for Modules {
+    type Fault = LoadFault;
+
+    ghost tells = { tells_of_task };
+
+    #[tactic(auto, unfolding(crate::specs::Tasks::tells_of_task))]
+    fn tell(
+        &mut self,
+        alloc: Global,
+        path: &Text,
+        key: &str,
+        json: &Value,
+    ) -> Result<(), Stop<LoadFault>> {
+        match ModuleKey::of(key) {
+            Some(named) => {
+                let module = named.read(alloc, path, json)?;
+                let before = mem::replace(self, Modules::Nothing);
+                *self = before.and(module);
+                Ok(())
+            }
+            None => check_without_effect(alloc, path, key, json),
+        }
+    }
+}
+
+/// Whether a task's failure ends the play for all hosts, when the task has changed something, and how many seconds lie between two attempts at it.
+#[derive(Drop)]
+pub(crate) struct FirstKeys {
+    any_errors_fatal: Option<bool>,
+    changed_when: Option<Items<Expr>>,
+    delay: Option<u32>,
+}
+
+/// When a task has failed, and whether its failure is ignored.
+#[derive(Drop)]
+pub(crate) struct Failing {
+    failed_when: Option<Items<Expr>>,
+    ignore_errors: Option<bool>,
+}
+
+/// What a task says of the result of its module, and of the host that runs it.
+#[derive(Drop)]
+pub(crate) struct Told {
+    first: FirstKeys,
+    delegation: Delegation,
+    failing: Failing,
+}
+
+impl Told {
+    /// The task of which this is told.
+    fn of(
+        self,
+        name: Text,
+        notify: Items<Text>,
+        vars: Dict,
+        module: Module,
+        conditions: Items<Expr>,
+        looped: Option<Loop>,
+        register: Option<Text>,
+        tries: Tries,
+    ) -> Task
+        ensures { result ≡ told_of self name notify vars «module» conditions looped register tries }
+    {
+        let Told {
+            first,
+            delegation,
+            failing,
+        } = self;
+        let FirstKeys {
+            any_errors_fatal,
+            changed_when,
+            delay,
+        } = first;
+        let Failing {
+            failed_when,
+            ignore_errors,
+        } = failing;
+        let Tries {
+            retries,
+            runs,
+            until,
+        } = tries;
+        let Runs { run_once, throttle } = runs;
+        Task {
+            name,
+            vars,
+            module,
+            conditions,
+            looped,
+            register,
+            changed_when,
+            failed_when,
+            ignore_errors,
+            throttle,
+            couplings: coupled(any_errors_fatal, delegation, run_once),
+            notify,
+            retrying: retrying_of(until, retries, delay),
+        }
+    }
+}
+
+fn read_first_keys(
+    alloc: Global,
+    keys: &mut Keys<'_, Modules>,
+) -> Result<FirstKeys, Stop<LoadFault>>
+    ensures value { Takes (λ v. v) result (ahead keys.new) (first_keys (ahead keys.old)) }
+    ensures path { (ahead keys.new).path ≡ (ahead keys.old).path }
+{
+    let any_errors_fatal = keys.field::<Switch>(alloc, "any_errors_fatal")?;
+    let changed_when = keys.field::<Conditions>(alloc, "changed_when")?;
+    let delay = keys.field::<Delay>(alloc, "delay")?;
+    Ok(FirstKeys {
+        any_errors_fatal,
+        changed_when,
+        delay,
+    })
+}
+
+fn read_failing(alloc: Global, keys: &mut Keys<'_, Modules>) -> Result<Failing, Stop<LoadFault>>
+    ensures value { Takes (λ v. v) result (ahead keys.new) (failing (ahead keys.old)) }
+    ensures path { (ahead keys.new).path ≡ (ahead keys.old).path }
+{
+    let failed_when = keys.field::<Conditions>(alloc, "failed_when")?;
+    let ignore_errors = keys.field::<Switch>(alloc, "ignore_errors")?;
+    Ok(Failing {
+        failed_when,
+        ignore_errors,
+    })
+}
+
+pub(crate) fn read_told(
+    alloc: Global,
+    keys: &mut Keys<'_, Modules>,
+) -> Result<Told, Stop<LoadFault>>
+    ensures value { Takes (λ v. v) result (ahead keys.new) (told (ahead keys.old)) }
+    ensures path { (ahead keys.new).path ≡ (ahead keys.old).path }
+{
+    let first = read_first_keys(alloc, keys)?;
+    let delegation = read_delegation(alloc, keys)?;
+    let failing = read_failing(alloc, keys)?;
+    Ok(Told {
+        first,
+        delegation,
+        failing,
+    })
+}
+
+pub(crate) fn read_loop(
+    alloc: Global,
+    keys: &mut Keys<'_, Modules>,
+) -> Result<Option<Loop>, Stop<LoadFault>>
+    ensures value { Takes (λ v. v) result (ahead keys.new) (looping (ahead keys.old)) }
+    ensures path { (ahead keys.new).path ≡ (ahead keys.old).path }
+{
+    let over = keys.field::<Over>(alloc, "loop")?;
+    let item = Text::from_str(alloc, "item")?;
+    let variable = keys.field_or::<Control>(alloc, "loop_control", item)?;
+    Ok(looped(over, variable))
+}
+
+/// The task, whose keys up to `loop_control` have told this.
+pub(crate) fn read_rest(
+    alloc: Global,
+    mut keys: Keys<'_, Modules>,
+    path: &Text,
+    told: Told,
+    looped: Option<Loop>,
+) -> Result<Task, Stop<LoadFault>>
+    ensures { Gives result (value_of (rest_of_task path.now told looped (ahead keys.entry))) }
+{
+    let name = keys.field::<PlainText>(alloc, "name")?;
+    let notify = keys.field_or::<Texts>(alloc, "notify", Items::new(alloc))?;
+    let register = keys.field::<VariableName>(alloc, "register")?;
+    let tries = read_tries(alloc, &mut keys)?;
+    let vars = keys.field_or::<EachNamed<TemplateValue>>(alloc, "vars", Dict::new(alloc))?;
+    let conditions = keys.field_or::<Conditions>(alloc, "when", Items::new(alloc))?;
+    let modules = keys.others(alloc)?;
+    let module = modules.the_one(path)?;
+    tries.check(alloc, path, &module)?;
+    let name = match name {
+        Some(name) => name,
+        None => Text::from_str(alloc, module.name())?,
+    };
+    Ok(told.of(
+        name, notify, vars, module, conditions, looped, register, tries,
+    ))
+}
+
+/// A task, as the members of an object spell it.
+#[tactic(auto, unfolding(crate::specs::Tasks::task))]
+pub(crate) fn read_task(
+    alloc: Global,
+    path: &Text,
+    members: &Map<String, Value>,
+) -> Result<Task, Stop<LoadFault>>
+    ensures { Gives result (task path.now (json.object (members_view members.now.entries))) }
+{
+    let mut keys = Keys::of(path, members, Modules::Nothing);
+    let told = read_told(alloc, &mut keys)?;
+    let looped = read_loop(alloc, &mut keys)?;
+    read_rest(alloc, keys, path, told, looped)
+}
