@@ -1,3 +1,4 @@
+pub mod InBlocks
 pub mod Bounds
 pub mod Cycles
 pub mod Entries

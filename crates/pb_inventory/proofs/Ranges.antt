@@ -1,8 +1,8 @@
 -- The numbers below a limit, one after another.
-use Rattle.std.proofs.Common.{◌≡◌, ◌+◌, ◌<◌, ◌≤◌, ℕ, zero, suc, Bool, true, false, cond, map, length, take, List, [], ◌∷◌, ◌++◌, arith, refl, ap, ◌∙◌}
+use Rattle.std.proofs.Common.{◌≡◌, ◌+◌, ◌-◌, ◌<◌, ◌≤◌, ℕ, zero, suc, Bool, true, false, cond, map, length, take, List, [], ◌∷◌, ◌++◌, arith, refl, ap, sym, ◌∙◌}
 use Rattle.std.specs.Prelude.{filter, not, ◌==◌, slice_index_or}
 use Rattle.pb_inventory.specs.Graph.{is_unmarked, missing}
-use Rattle.std.proofs.lemmas.List.{take_all, map-append}
+use Rattle.std.proofs.lemmas.List.{append-nil, take_all, map-append}
 use Rattle.std.specs.List.{range_with_len, list_any}
 use Rattle.std.proofs.lemmas.List.Elements.{filter-append}
 
@@ -35,3 +35,19 @@ map_one f n false = refl
 -- a filter of these numbers, and what stands for each
 pub map_next : {X : Type 0} (f : ℕ → X) (p : ℕ → Bool) (n m : ℕ) → m ≡ n + 1 → map f (filter p (range_with_len 0 m)) ≡ map f (filter p (range_with_len 0 n)) ++ cond (p n) (f n ∷ []) []
 map_next f p n m is = ap (map f) (filter_next p n m is) ∙ map-append f (filter p (range_with_len 0 n)) (cond (p n) (n ∷ []) []) ∙ ap (λ t. map f (filter p (range_with_len 0 n)) ++ t) (map_one f n (p n))
+
+-- what none of the numbers between passes adds nothing
+skipped : (p : ℕ → Bool) (from n : ℕ) → ((i : ℕ) → from ≤ i → i < from + n → p i ≡ false) → filter p (range_with_len 0 (from + n)) ≡ filter p (range_with_len 0 from)
+skipped p from zero none = ap (λ k. filter p (range_with_len 0 k)) (omega arith)
+skipped p from (suc n) none =
+    filter_next p (from + n) (from + suc n) (omega arith) ∙ rw (none (from + n) (omega arith) (omega arith), skipped p from n (λ i low high. none i low (omega (arith, high)))) (append-nil (filter p (range_with_len 0 from)))
+
+pub filter_skips : (p : ℕ → Bool) (from to : ℕ) → from ≤ to → ((i : ℕ) → from ≤ i → i < to → p i ≡ false) → filter p (range_with_len 0 to) ≡ filter p (range_with_len 0 from)
+filter_skips p from to less none =
+    let is : from + (to - from) ≡ to = omega (arith, less) in
+    ap (λ k. filter p (range_with_len 0 k)) (sym is) ∙ skipped p from (to - from) (λ i low high. none i low (omega (arith, high, less)))
+
+-- the next number that passes goes to the end, with what stands for it
+pub next_joins : {X : Type 0} (f : ℕ → X) (p : ℕ → Bool) (from at behind : ℕ) → from ≤ at → p at ≡ true → ((i : ℕ) → from ≤ i → i < at → p i ≡ false) → behind ≡ at + 1
+    → map f (filter p (range_with_len 0 behind)) ≡ map f (filter p (range_with_len 0 from)) ++ f at ∷ []
+next_joins f p from at behind less is none next = map_next f p at behind next ∙ rw (is, filter_skips p from at less none) refl

@@ -1,3 +1,4 @@
+pub mod ByBlock
 pub mod Graph
 pub mod Group
 pub mod GraphOf

@@ -8,6 +8,7 @@ ghost use Rattle.pb_inventory.specs.Reading.{inventory_of, max_hosts, limited, w
 ghost use Rattle.pb_inventory.specs.MemberSets.{members_in};
 ghost use Rattle.pb_inventory.specs.Mentioned.{AreGroupsIn};
 
+use crate::blocks::blocks_of;
 use crate::fault::InvFault;
 use crate::graph::Graph;
 use crate::listed::FileEntries;
@@ -17,6 +18,7 @@ use crate::vars::GroupVars;
 use pb_groups::OwnHost;
 use pb_ids::{GroupNo, HostNo};
 use pb_planes::HostSet;
+use pb_value::items::Items;
 use pb_value::read_json::{JsonFault, read_json};
 use pb_value::val::Dict;
 use std::alloc::{AllocError, Global};
@@ -34,8 +36,8 @@ pub struct Inventory {
 pub struct AllVars {
     pub group_vars: Named<GroupVars>,
     pub host_vars: Named<Dict>,
-    /// All groups in the order in which their variables merge.
-    pub order: Vec<GroupNo>,
+    /// Of each 64 hosts the groups that have one of them, in the order in which their variables merge.
+    pub blocks: Vec<Items<GroupNo>>,
     /// What is lent for a host without variables.
     pub no_vars: Dict,
 }
@@ -45,39 +47,39 @@ impl Drop for AllVars {
         let AllVars {
             group_vars,
             host_vars,
-            order,
+            blocks,
             no_vars,
         } = self;
         drop(group_vars);
         drop(host_vars);
-        drop(order);
+        drop(blocks);
         drop(no_vars);
     }
 }
 
 impl AllVars {
-    fn of(alloc: Global, file: FileEntries, order: Vec<GroupNo>) -> AllVars
+    fn of(alloc: Global, file: FileEntries, blocks: Vec<Items<GroupNo>>) -> AllVars
         ensures groups { result.group_vars ≡ file.group_vars }
         ensures hosts { result.host_vars ≡ file.host_vars }
-        ensures order { result.order ≡ order }
+        ensures blocks { result.blocks ≡ blocks }
         ensures no_vars { result.no_vars ≡ [] }
     {
         let (group_vars, host_vars) = file.into_vars();
         AllVars {
             group_vars,
             host_vars,
-            order,
+            blocks,
             no_vars: Dict::new(alloc),
         }
     }
 }
 
 impl Model for Inventory {
-    ghost use Rattle.std.specs.Prelude.{◌≡◌, ◌<◌, [], length};
-    ghost use Rattle.std.specs.List.{All};
+    ghost use Rattle.std.specs.Prelude.{◌≡◌, []};
     ghost use Rattle.std.specs.Coded.{codes};
     ghost use Rattle.pb_value.specs.contracts.val.Val as val;
     ghost use Rattle.pb_groups.specs.Merging.{in_order};
+    ghost use Rattle.pb_inventory.specs.ByBlock.{AreBlocks};
     ghost use Rattle.pb_inventory.specs.GraphOf.{numbered};
     ghost use Rattle.pb_inventory.specs.InventoryOf.{InventoryOf};
     ghost use Rattle.pb_inventory.specs.Vars.{priorities_in};
@@ -88,8 +90,7 @@ impl Model for Inventory {
 
     ghost view = { λ i. record { hosts = i.graph.value.hosts; groups = i.graph.value.groups; own = i.graph.value.own; links = i.graph.value.links; group_vars = i.vars.value.group_vars; host_vars = i.vars.value.host_vars } };
 
-    ghost invariant = { λ i. (i.vars.value.order.items ≡ in_order (numbered i.graph.value) (priorities_in i.vars.value.group_vars i.graph.value.groups))
-        × All (λ g. g.0 < length i.graph.value.groups) i.vars.value.order.items
+    ghost invariant = { λ i. AreBlocks (numbered i.graph.value) (in_order (numbered i.graph.value) (priorities_in i.vars.value.group_vars i.graph.value.groups)) i.vars.value.blocks.items
         × (i.vars.value.no_vars ≡ []) };
 }
 
@@ -133,7 +134,8 @@ impl Inventory {
         ensures { IfOk result (λ inventory. inventory ≡ with_vars graph file.group_vars file.host_vars) }
     {
         let order = graph.in_order(alloc, &file.group_vars)?;
-        let vars = AllVars::of(alloc, file, order);
+        let blocks = blocks_of(alloc, &graph, order.as_slice())?;
+        let vars = AllVars::of(alloc, file, blocks);
         Ok(Inventory {
             graph: Box::new(alloc, graph)?,
             vars: Box::new(alloc, vars)?,

@@ -9,6 +9,7 @@
 //! the order of depth, priority and name, and its own.
 #![tactic(auto)]
 
+mod blocks;
 pub mod fault;
 mod graph;
 mod group;

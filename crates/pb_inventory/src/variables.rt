@@ -1,8 +1,7 @@
-ghost use Rattle.std.specs.Prelude.{◌≡◌, ◌<◌, [], ◌∷◌, ◌++◌, ℕ, List, not, if◌then◌else◌, length, map, filter, slice_index_or, IfOk, OnOk};
-ghost use Rattle.std.specs.List.{All, range_with_len};
+ghost use Rattle.std.specs.Prelude.{◌≡◌, ◌<◌, [], ◌∷◌, ◌++◌, ℕ, List, not, if◌then◌else◌, length, filter, IfOk, OnOk};
+ghost use Rattle.std.specs.List.{All};
 ghost use Rattle.pb_value.specs.Datum.{value_at};
-ghost use Rattle.pb_inventory.specs.Vars.{groups_of_host, vars_from_groups, last_given, vars_of_host, vars_under, group_name, put_vars, put_groups, strangers, is_host, is_named, names_of_groups, names_of_hosts, host_name, graph_of};
-ghost use Rattle.pb_groups.specs.Merging.{has_member};
+ghost use Rattle.pb_inventory.specs.Vars.{groups_of_host, vars_from_groups, last_given, vars_of_host, vars_under, group_name, put_vars, put_groups, strangers, is_host, is_named, names_of_groups, names_of_hosts};
 
 use crate::inventory::Inventory;
 use crate::vars::put_vars;
@@ -31,10 +30,8 @@ impl Inventory {
         ensures value { IfOk result (λ order. order.items ≡ groups_of_host self.now host.0) }
         ensures below { IfOk result (λ order. All (λ g. g.0 < length self.now.groups) order.items) }
     {
-        Ok(
-            self.graph
-                .with_host(alloc, self.vars.order.as_slice(), host)?,
-        )
+        let block = &self.vars.blocks[host.0 as usize / 64];
+        Ok(self.graph.with_host(alloc, block.as_slice(), host)?)
     }
 
     /// The variables that a host has from its groups: of each name the value of the last group, in
@@ -154,27 +151,15 @@ impl Inventory {
         requires { group.0 < length self.now.groups }
         ensures { IfOk result (λ names. names ≡ names_of_hosts self.now group.0) }
     {
+        // (how many hosts there may be is known to the proof once they are counted)
+        let _hosts = self.hosts();
+        let members = self.members(group);
         let mut names = Items::new(alloc);
-        for n in 0..self.hosts() {
-            self.push_host_name(alloc, &mut names, group, HostNo(n))?;
+        let mut from = 0;
+        while let Some(host) = members.next_at(from) {
+            names.push(Text::from_str(alloc, self.name(host))?)?;
+            from = host.0 + 1;
         }
         Ok(names)
-    }
-
-    fn push_host_name(
-        &self,
-        alloc: Global,
-        names: &mut Items<Text>,
-        group: GroupNo,
-        host: HostNo,
-    ) -> Result<(), AllocError>
-        requires group { group.0 < length self.now.groups }
-        requires host { host.0 < length self.now.hosts }
-        ensures { OnOk result (names.new ≡ names.old ++ (if has_member (graph_of self.now) group.0 host.0 then host_name self.now host.0 ∷ [] else [])) }
-    {
-        if self.graph.has(group, host) {
-            names.push(Text::from_str(alloc, self.name(host))?)?;
-        }
-        Ok(())
     }
 }
