@@ -4,4 +4,5 @@
 //! `specs/CommandLine.antt`, or why they ask for no play.
 #![tactic(auto)]
 
+mod arguments;
 pub mod words;

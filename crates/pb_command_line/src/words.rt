@@ -3,8 +3,9 @@ ghost use Rattle.std.specs.Prelude.{◌≡◌, ◌⊎◌, IfOk, IfErr, map, code
 ghost use Rattle.clap.specs.Words.{app_of, kind_of, found_of, first_value};
 ghost use Rattle.pb_command_line.specs.CommandLine.{file_program, run_program, limited_program, gathering_program, stopping_program, recording_program, choosing_program, warning_program, program, is_true, purpose_of, AskFor, AreRefused, Asks, IsCount, IsNoCount, AreForks, NoForks, IsStop, NoStop, IsSameUnder, IsReportCount, IsNoReportCount, IsBadNumber, IsRefused, TellsKind};
 
+use crate::arguments;
 use clap::error::ErrorKind;
-use clap::{Arg, ArgAction, ArgMatches, Command, Error};
+use clap::{ArgMatches, Command, Error};
 use pb_value::text::Text;
 use std::alloc::{AllocError, Global};
 
@@ -84,131 +85,78 @@ impl From<AllocError> for WordsFault {
 fn file_words<'a>(alloc: Global) -> Result<Command<'a>, AllocError>
     ensures { IfOk result (λ c. app_of c ≡ file_program) }
 {
-    let inventory = Arg::new(alloc, "inventory")
-        .short('i')
-        .value_name("FILE")
-        .help("The inventory, a JSON file")
-        .required(true);
-    let playbook = Arg::new(alloc, "playbook")
-        .value_name("PLAYBOOK")
-        .help("The playbook, a JSON file")
-        .required(true);
-    Command::new(alloc, "pb-play").arg(inventory)?.arg(playbook)
+    Command::new(alloc, "pb-play")
+        .arg(arguments::inventory(alloc))?
+        .arg(arguments::playbook(alloc))
 }
 
 /// The program with its files and what a run takes.
 fn run_words<'a>(alloc: Global) -> Result<Command<'a>, AllocError>
     ensures { IfOk result (λ c. app_of c ≡ run_program) }
 {
-    let forks = Arg::new(alloc, "forks")
-        .short('f')
-        .value_name("N")
-        .help("How many hosts run at once, 1 to 256; 5 if not given");
-    let outcomes = Arg::new(alloc, "outcomes")
-        .long("outcomes")
-        .value_name("FILE")
-        .help("What comes of the jobs, a JSON file; no program is run then");
-    file_words(alloc)?.arg(forks)?.arg(outcomes)
+    file_words(alloc)?
+        .arg(arguments::forks(alloc))?
+        .arg(arguments::outcomes(alloc))
 }
 
 /// The program with its files, what a run takes, the limit and the extra variables.
 fn limited_words<'a>(alloc: Global) -> Result<Command<'a>, AllocError>
     ensures { IfOk result (λ c. app_of c ≡ limited_program) }
 {
-    let limit = Arg::new(alloc, "limit")
-        .short('l')
-        .value_name("PATTERN")
-        .help("The hosts that the plays are limited to");
-    let extra = Arg::new(alloc, "extra")
-        .short('e')
-        .value_name("JSON")
-        .help("Variables over all others, a JSON object");
-    run_words(alloc)?.arg(limit)?.arg(extra)
+    run_words(alloc)?
+        .arg(arguments::limit(alloc))?
+        .arg(arguments::extra(alloc))
 }
 
 /// The program with its files, what a run takes, the limit, the extra variables, the roles and the facts program.
 fn gathering_words<'a>(alloc: Global) -> Result<Command<'a>, AllocError>
     ensures { IfOk result (λ c. app_of c ≡ gathering_program) }
 {
-    let roles = Arg::new(alloc, "roles")
-        .long("roles")
-        .value_name("DIR")
-        .help("The folder that the roles stand in");
-    let facts_program = Arg::new(alloc, "facts_program")
-        .long("facts-program")
-        .value_name("PATH")
-        .help("The program that prints a host's facts, a JSON object");
-    limited_words(alloc)?.arg(roles)?.arg(facts_program)
+    limited_words(alloc)?
+        .arg(arguments::roles(alloc))?
+        .arg(arguments::facts_program(alloc))
 }
 
 /// The program with what stands above, after how many reports the run is stopped, and with how many forks it is done once more.
 fn stopping_words<'a>(alloc: Global) -> Result<Command<'a>, AllocError>
     ensures { IfOk result (λ c. app_of c ≡ stopping_program) }
 {
-    let stop_after = Arg::new(alloc, "stop_after")
-        .long("stop-after")
-        .value_name("N")
-        .help("After how many reports of jobs the run is stopped");
-    let same_under = Arg::new(alloc, "same_under")
-        .long("same-under")
-        .value_name("M")
-        .help("Run it once more with M forks, and tell whether that ends in the same");
-    gathering_words(alloc)?.arg(stop_after)?.arg(same_under)
+    gathering_words(alloc)?
+        .arg(arguments::stop_after(alloc))?
+        .arg(arguments::same_under(alloc))
 }
 
 /// The program with what stands above, and the files that are written once a run is over.
 fn recording_words<'a>(alloc: Global) -> Result<Command<'a>, AllocError>
     ensures { IfOk result (λ c. app_of c ≡ recording_program) }
 {
-    let failed = Arg::new(alloc, "failed")
-        .long("failed")
-        .value_name("FILE")
-        .help("The file that the hosts that didn't get through are written to, as -l takes them");
-    let trail = Arg::new(alloc, "trail")
-        .long("trail")
-        .value_name("FILE")
-        .help("The file that the run's events are written to, a line each");
-    stopping_words(alloc)?.arg(failed)?.arg(trail)
+    stopping_words(alloc)?
+        .arg(arguments::failed(alloc))?
+        .arg(arguments::trail(alloc))
 }
 
 /// The program with all its arguments but the last three.
 fn choosing_words<'a>(alloc: Global) -> Result<Command<'a>, AllocError>
     ensures { IfOk result (λ c. app_of c ≡ choosing_program) }
 {
-    let audit = Arg::new(alloc, "audit")
-        .long("audit")
-        .value_name("TRAIL")
-        .help("Runs nothing: tells whether the events in this file are a legal run");
-    let syntax_check = Arg::new(alloc, "syntax_check")
-        .long("syntax-check")
-        .action(ArgAction::SetTrue)
-        .help("Runs nothing: tells whether the files are a plan");
-    recording_words(alloc)?.arg(audit)?.arg(syntax_check)
+    recording_words(alloc)?
+        .arg(arguments::audit(alloc))?
+        .arg(arguments::syntax_check(alloc))
 }
 
 /// The program with all its arguments but the last one.
 fn warning_words<'a>(alloc: Global) -> Result<Command<'a>, AllocError>
     ensures { IfOk result (λ c. app_of c ≡ warning_program) }
 {
-    let list_hosts = Arg::new(alloc, "list_hosts")
-        .long("list-hosts")
-        .action(ArgAction::SetTrue)
-        .help("Runs nothing: lists the hosts of each play");
-    let strict = Arg::new(alloc, "strict")
-        .long("strict")
-        .action(ArgAction::SetTrue)
-        .help("Runs nothing where there is a warning");
-    choosing_words(alloc)?.arg(list_hosts)?.arg(strict)
+    choosing_words(alloc)?
+        .arg(arguments::list_hosts(alloc))?
+        .arg(arguments::strict(alloc))
 }
 
 fn command<'a>(alloc: Global) -> Result<Command<'a>, AllocError>
     ensures { IfOk result (λ c. app_of c ≡ program) }
 {
-    let places = Arg::new(alloc, "where")
-        .long("where")
-        .action(ArgAction::SetTrue)
-        .help("Tells the place of a fault in the playbook or in a role's file");
-    warning_words(alloc)?.arg(places)
+    warning_words(alloc)?.arg(arguments::places(alloc))
 }
 
 fn fault(alloc: Global, error: &Error) -> WordsFault
