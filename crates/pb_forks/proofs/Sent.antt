@@ -50,6 +50,7 @@ pub seat_send : IsSend ForkSeat.the_row
 seat_send = declared_send ForkSeat.the_type (seat.the_send (Option.the_row Parcel.the_row) View.the_row slot_send, (search sendable, tt))
 
 pub pool_sync : (A : RattleType) (g : Allows.Ghosts A.Denot) → IsSync (Pool.the_row A g)
-pool_sync A g = declared_sync (Pool.the_type A g)
-    (table.the_sync (Option.the_row Parcel.the_row) View.the_row u32 (Mailboxes.the_row A) Global.the_row (rule.ghosts A g rule.no_dict) heap.ghosts slot_send std.send std.sync std.frees,
-    (search sendable, (search (std.crosses, sendable) depth 20, tt)))
+pool_sync A g = declared_sync (Pool.the_type A g) (
+  table.the_sync (Option.the_row Parcel.the_row) View.the_row u32 (Mailboxes.the_row A) Global.the_row (rule.ghosts A g rule.no_dict) heap.ghosts slot_send std.send std.sync std.frees,
+  (search sendable, (search (std.crosses, sendable) depth 20, tt)),
+)

@@ -106,11 +106,7 @@ impl Standings {
         ensures { IfSome result (λ idle. idle.now ≡ map (stands_at place) self.now) }
     {
         let is_here = same_place(self.here.place, Some(place));
-        if is_here {
-            Some(&self.idle)
-        } else {
-            None
-        }
+        if is_here { Some(&self.idle) } else { None }
     }
 
     /// Puts the hosts whose next place is this one into a set.
