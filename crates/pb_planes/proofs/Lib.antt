@@ -4,3 +4,4 @@ mod Lowest
 mod Walked
 mod Put
 mod Sets
+mod Spans

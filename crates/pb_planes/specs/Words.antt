@@ -1,5 +1,5 @@
 -- A set of numbers below a width as words of 64 bits.
-use Rattle.std.specs.Prelude.{ℕ, ◌/◌, ◌%◌, ◌==◌, List, Bool, map, count_by, slice_index, bit_and, bit_or, bit_xor, ◌&&◌, ◌||◌, not}
+use Rattle.std.specs.Prelude.{◌≡◌, ◌<◌, ◌≤◌, ◌*◌, ℕ, ◌/◌, ◌%◌, ◌==◌, true, List, Bool, map, count_by, slice_index, bit_and, bit_or, bit_xor, ◌&&◌, ◌||◌, not}
 use Rattle.std.specs.Int.{bit_at}
 use Rattle.std.specs.List.{range_with_len}
 use Rattle.pb_planes.specs.declared.words.Combine.{Combine}
@@ -36,3 +36,7 @@ bits_below word at = map (λ j. bit_at word j == 1) (range_with_len 0 at)
 -- how many of a word's bits below a place are set
 abbrev pub ones_below : ℕ → ℕ → ℕ
 ones_below word at = count_by (λ b. b) (bits_below word at)
+
+-- each bit that is set lies in a word from the first on and below the second
+abbrev pub AreBetween : List ℕ → ℕ → ℕ → Type 0
+AreBetween words low high = (i : ℕ) → has_at words i ≡ true → (64 * low ≤ i) × (i < 64 * high)

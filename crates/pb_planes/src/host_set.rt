@@ -4,6 +4,7 @@ ghost use Rattle.std.specs.Simd.Lanes.{zip2};
 ghost use Rattle.pb_planes.specs.Words.{bools, combined_bits, has_at};
 ghost use Rattle.pb_planes.specs.Set.{has_some, is_in, IsNextFrom, HasNoneFrom, IsMemberAfter};
 
+use crate::span::{Span, begin, of_both, tightened, with_word};
 use crate::words::{self, Combine};
 use pb_ids::HostNo;
 use std::alloc::{AllocError, Global};
@@ -14,18 +15,22 @@ use std::marker::Model;
 pub struct HostSet {
     words: Vec<u64>,
     width: u32,
+    /// The words outside of it have no host, so that a walk needn't look at them.
+    span: Span,
 }
 
 impl Model for HostSet {
     ghost use Rattle.std.specs.Prelude.{ℕ, List, Bool, ◌≡◌, ◌≤◌, ◌<◌, ◌^◌, ◌+◌, ◌/◌, false, vec_len};
-    ghost use Rattle.pb_planes.specs.Words.{bools, has_at};
+    ghost use Rattle.pb_planes.specs.Words.{bools, has_at, AreBetween};
 
     ghost Value = { List Bool };
 
     ghost view = { λ s. bools s.words.items s.width };
 
     ghost invariant = { λ s. (s.width < 2 ^ 32) × (vec_len s.words ≡ (s.width + 63) / 64)
-        × ((i : ℕ) → s.width ≤ i → has_at s.words.items i ≡ false) };
+        × ((i : ℕ) → s.width ≤ i → has_at s.words.items i ≡ false)
+        × (s.span.high ≤ vec_len s.words)
+        × AreBetween s.words.items s.span.low s.span.high };
 }
 
 /// How many words of 64 bits hold so many bits.
@@ -52,7 +57,12 @@ impl HostSet {
         requires past { (i : ℕ) → width ≤ i → has_at words.items i ≡ false }
         ensures { result ≡ bools words.items width }
     {
-        HostSet { words, width }
+        let all = Span {
+            low: 0,
+            high: words.len(),
+        };
+        let span = tightened(words.as_slice(), all);
+        HostSet { words, width, span }
     }
 
     /// No host, of this many.
@@ -77,7 +87,8 @@ impl HostSet {
     {
         let words = Vec::from_slice(alloc, self.words.as_slice())?;
         let width = self.width;
-        Ok(HostSet { words, width })
+        let span = self.span;
+        Ok(HostSet { words, width, span })
     }
 
     /// How many hosts there are, in the set or not.
@@ -107,7 +118,8 @@ impl HostSet {
         requires { host.0 < length self.old }
         ensures { self.new ≡ slice_set self.old host.0 true }
     {
-        self.put(host, true);
+        words::put_bit(self.words.as_mut_slice(), host.0, true);
+        self.span = with_word(self.span, host.0 as usize / 64);
     }
 
     /// Takes a host out.
@@ -115,7 +127,8 @@ impl HostSet {
         requires { host.0 < length self.old }
         ensures { self.new ≡ slice_set self.old host.0 false }
     {
-        self.put(host, false);
+        words::put_bit(self.words.as_mut_slice(), host.0, false);
+        self.span = tightened(self.words.as_slice(), self.span);
     }
 
     /// Adds a host or takes it out.
@@ -123,7 +136,11 @@ impl HostSet {
         requires { host.0 < length self.old }
         ensures { self.new ≡ slice_set self.old host.0 is_in }
     {
-        words::put_bit(self.words.as_mut_slice(), host.0, is_in);
+        if is_in {
+            self.insert(host);
+        } else {
+            self.remove(host);
+        }
     }
 
     /// The 64 hosts from 64 times this number on, all of which lie below the width, are those whose bits are set in the word.
@@ -134,6 +151,8 @@ impl HostSet {
         ensures others { (i : ℕ) → i / 64 ≢ index → is_in self.new i ≡ is_in self.old i }
     {
         words::put_word(self.words.as_mut_slice(), index as usize, word);
+        let span = with_word(self.span, index as usize);
+        self.span = tightened(self.words.as_slice(), span);
     }
 
     /// Adds the hosts of the other set.
@@ -166,6 +185,8 @@ impl HostSet {
         ensures { self.new ≡ zip2 (combined_bits how) self.old other.now }
     {
         words::combine_words(how, self.words.as_mut_slice(), other.words.as_slice());
+        let span = of_both(self.span, other.span);
+        self.span = tightened(self.words.as_slice(), span);
     }
 
     /// How many hosts are in the set.
@@ -183,7 +204,7 @@ impl HostSet {
     {
         // (the width's range is known to the proof once it is read)
         let _width = self.width;
-        match words::next_in(self.words.as_slice(), 0) {
+        match words::next_in(self.words.as_slice(), self.span.low, 0, self.span.high) {
             Some(_) => false,
             None => true,
         }
@@ -196,7 +217,8 @@ impl HostSet {
     {
         // (the width's range is known to the proof once it is read)
         let _width = self.width;
-        match words::next_in(self.words.as_slice(), from) {
+        let (first, place) = begin(self.span, from);
+        match words::next_in(self.words.as_slice(), first, place, self.span.high) {
             Some(at) => Some(HostNo(at)),
             None => None,
         }

@@ -6,6 +6,7 @@
 #![tactic(auto)]
 
 pub mod host_set;
+mod span;
 mod words;
 
 pub use host_set::HostSet;

@@ -189,16 +189,17 @@ pub(crate) fn count_in(words: &[u64]) -> u64
     count
 }
 
-/// The least bit of the words from `from` on.
-pub(crate) fn next_in(words: &[u64], from: u32) -> Option<u32>
-    requires { 64 * length words.now ≤ 2 ^ 32 }
-    ensures some { IfSome result (λ h. (from ≤ h) × (has_at words.now h ≡ true)
-        × ((i : ℕ) → from ≤ i → i < h → has_at words.now i ≡ false)) }
-    ensures none { IfNone result ((i : ℕ) → from ≤ i → has_at words.now i ≡ false) }
+/// The least bit of the words from a place of the first one on and below the end.
+pub(crate) fn next_in(words: &[u64], first: usize, place: u32, end: usize) -> Option<u32>
+    requires small { 64 * length words.now ≤ 2 ^ 32 }
+    requires place { place < 64 }
+    requires within { end ≤ length words.now }
+    ensures some { IfSome result (λ h. (64 * first + place ≤ h) × (has_at words.now h ≡ true)
+        × ((i : ℕ) → 64 * first + place ≤ i → i < h → has_at words.now i ≡ false)) }
+    ensures none { IfNone result ((i : ℕ) → 64 * first + place ≤ i → i < 64 * end → has_at words.now i ≡ false) }
 {
-    let first = (from / 64) as usize;
-    let mut start = from % 64;
-    for index in first..words.len() {
+    let mut start = place;
+    for index in first..end {
         if let Some(bit) = first_from(words[index], start) {
             return Some(index as u32 * 64 + bit);
         }

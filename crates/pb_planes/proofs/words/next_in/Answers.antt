@@ -1,5 +1,5 @@
 use Rattle.std.proofs.Common.{rules, arith, ◌+◌, ◌*◌}
-use Rattle.pb_planes.proofs.Walked.{clear_on, clear_past, shown_true}
+use Rattle.pb_planes.proofs.Walked.{clear_on, shown_true}
 use Rattle.pb_planes.proofs.words.next_in.Goals as goal
 
 pub loop-index-init : goal.loop-index-init
@@ -14,16 +14,16 @@ returns-in-Some-clause-some c =
     let inv = c.loop-index.invariant in (
       omega arith,
       shown_true c.args.words.now c.loop-index.index c.in-Some.bit found.1 found.2,
-      clear_on c.args.words.now c.args.from c.loop-index.index c.loop-index.start c.in-Some.bit (omega arith) found.3 inv.2,
+      clear_on c.args.words.now (64 * c.args.first + c.args.place) c.loop-index.index c.loop-index.start c.in-Some.bit (omega arith) found.3 inv.2,
     )
 
 pub loop-index-preserved : goal.loop-index-preserved
 loop-index-preserved c =
     let inv = c.loop-index.invariant in
-    let next = clear_on c.args.words.now c.args.from c.loop-index.index c.loop-index.start 64 (omega arith) (search rules) inv.2 in
+    let next = clear_on c.args.words.now (64 * c.args.first + c.args.place) c.loop-index.index c.loop-index.start 64 (omega arith) (search rules) inv.2 in
     (omega arith, omega arith, λ i low high. next i low (omega arith))
 
 pub returns-clause-none : goal.returns-clause-none
 returns-clause-none c =
     let inv = c.loop-index.invariant in
-    clear_past c.args.words.now c.args.from c.loop-index.index c.loop-index.start (omega arith) inv.2
+    λ i low high. inv.2 i low (omega arith)

@@ -4,5 +4,5 @@ use Rattle.pb_planes.proofs.words.next_in.Given as goal
 
 abbrev pub invariant-loop-index : goal.invariant-loop-index
 invariant-loop-index l =
-    (l.start < 64) × (l.from ≤ l.index * 64 + l.start)
-    × ((i : ℕ) → l.from ≤ i → i < l.index * 64 + l.start → has_at l.words i ≡ false)
+    (l.start < 64) × (64 * l.first + l.place ≤ l.index * 64 + l.start)
+    × ((i : ℕ) → 64 * l.first + l.place ≤ i → i < l.index * 64 + l.start → has_at l.words i ≡ false)

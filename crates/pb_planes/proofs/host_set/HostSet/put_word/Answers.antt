@@ -2,6 +2,7 @@ use Rattle.std.proofs.Common.{arith, ◌≡◌, ◌≢◌, ◌∙◌, ◌+◌, �
 use Rattle.pb_planes.specs.Set.{is_in}
 use Rattle.pb_planes.specs.Words.{has_at}
 use Rattle.pb_planes.proofs.Sets.{width_is, has_bools, written_back}
+use Rattle.pb_planes.proofs.Spans.{word_within}
 use Rattle.pb_planes.proofs.host_set.HostSet.put_word.Goals as goal
 
 pub put_word-requires : goal.put_word-requires
@@ -11,6 +12,12 @@ put_word-requires c =
     let long = c.as_mut_slice.ensures.len in
     let held = c.self.invariant.1 in
     omega arith
+
+pub tightened-self-inside-requires : goal.tightened-self-inside-requires
+tightened-self-inside-requires c =
+    let wide = width_is c.self.inside.words.items c.self.inside.width c.args.self.now c.self.view_is in
+    let within = c.with_word-span.ensures.within c.self.inside.words.len c.self.invariant.3 (omega (arith, c.requires, wide, c.self.invariant.1)) in
+    omega (arith, c.as_slice.ensures.len, within)
 
 pub invariant_of-self : goal.invariant_of-self
 invariant_of-self c =
@@ -25,6 +32,12 @@ invariant_of-self c =
           let was : has_at new i ≡ has_at c.as_mut_slice.result.now i = c.put_word.ensures.others i other in
           let out : has_at c.as_mut_slice.result.now i ≡ false = rw (c.as_mut_slice.ensures.value) (c.self.invariant.2 i le) in
           rw back (was ∙ out),
+      omega (arith, c.as_slice.ensures.len, c.tightened-self-inside.ensures.within),
+      rw (← c.as_slice.ensures.value)
+          (c.tightened-self-inside.ensures.span
+          (rw (c.as_slice.ensures.value, back)
+          (word_within c.as_mut_slice.result.now new c.self.inside.span.low c.self.inside.span.high _ _ c.args.index c.put_word.ensures.others c.with_word-span.ensures.low c.with_word-span.ensures.high c.with_word-span.ensures.all
+          (rw (c.as_mut_slice.ensures.value) (c.self.invariant.4))))),
     )
 
 pub returns-clause-inside : goal.returns-clause-inside
