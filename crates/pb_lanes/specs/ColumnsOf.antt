@@ -55,6 +55,16 @@ bumped Skipped host columns = record columns { skipped = one_more host columns.s
 bumped Rescued host columns = record columns { rescued = one_more host columns.rescued }
 bumped Ignored host columns = record columns { ignored = one_more host columns.ignored }
 
+-- so many tasks of a host, under a kind
+abbrev pub with_count : CountKind → ℕ → ℕ → ColumnsOf → ColumnsOf
+with_count Okay host count columns = record columns { ok = slice_set columns.ok host count }
+with_count Changed host count columns = record columns { changed = slice_set columns.changed host count }
+with_count Unreachable host count columns = record columns { unreachable = slice_set columns.unreachable host count }
+with_count Failed host count columns = record columns { failed = slice_set columns.failed host count }
+with_count Skipped host count columns = record columns { skipped = slice_set columns.skipped host count }
+with_count Rescued host count columns = record columns { rescued = slice_set columns.rescued host count }
+with_count Ignored host count columns = record columns { ignored = slice_set columns.ignored host count }
+
 -- whether a count isn't 0
 abbrev pub is_some_count : ℕ → Bool
 is_some_count count = not (nat_eq count 0)

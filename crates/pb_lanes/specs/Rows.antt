@@ -6,7 +6,7 @@ use Rattle.pb_tree.specs.declared.tree.Status.TheVariants.{Active, Failed, Halte
 use Rattle.pb_lanes.specs.declared.kind.CountKind.TheVariants.{Okay, Changed, Skipped, Failed as HasFailed}
 use Rattle.pb_lanes.specs.Codes.{code_of, status_of, is_status}
 use Rattle.pb_lanes.specs.Bytes.{is_byte}
-use Rattle.pb_lanes.specs.ColumnsOf.{ColumnsOf, hosts_in, column, no_counts, bumped, has_some}
+use Rattle.pb_lanes.specs.ColumnsOf.{ColumnsOf, hosts_in, column, no_counts, bumped, with_count, has_some}
 
 -- four hosts
 abbrev four : List Status
@@ -59,3 +59,13 @@ some_okay = refl
 
 none_failed : has_some (column HasFailed two_okay) ≡ false
 none_failed = refl
+
+-- a count that is put down replaces the one that was there, and no other
+put_skipped : column Skipped (with_count Skipped 1 7 two_okay) ≡ 0 ∷ 7 ∷ 0 ∷ []
+put_skipped = refl
+
+put_okay : column Okay (with_count Okay 2 7 two_okay) ≡ 0 ∷ 0 ∷ 7 ∷ []
+put_okay = refl
+
+others_stay : column Okay (with_count Skipped 2 7 two_okay) ≡ column Okay two_okay
+others_stay = refl

@@ -2,7 +2,7 @@
 
 ghost use Rattle.std.specs.Prelude.{◌≡◌, ◌<◌, ◌+◌, ◌-◌, ◌^◌, length, replicate, slice_get, slice_set, slice_index, Some, IfOk};
 ghost use Rattle.std.specs.List.{sum};
-ghost use Rattle.pb_lanes.specs.ColumnsOf.{hosts_in, column, no_counts, bumped, has_some};
+ghost use Rattle.pb_lanes.specs.ColumnsOf.{AreOfHosts, hosts_in, column, no_counts, bumped, with_count, has_some};
 
 use crate::kind::CountKind;
 use crate::sums::sum_of;
@@ -65,6 +65,14 @@ fn one_more(column: &mut Vec<u32>, host: HostNo)
     column[host.0 as usize] += 1;
 }
 
+/// So many tasks of a host.
+fn set_count(column: &mut Vec<u32>, host: HostNo, count: u32)
+    requires { host.0 < length column.old.items }
+    ensures { column.new.items ≡ slice_set column.old.items host.0 count }
+{
+    column[host.0 as usize] = count;
+}
+
 impl Columns {
     /// Columns of this many hosts, of which no task counts yet. The only error is want of memory.
     pub fn new(alloc: Global, hosts: u32) -> Result<Columns, AllocError>
@@ -81,9 +89,10 @@ impl Columns {
         })
     }
 
-    /// How many hosts there are.
+    /// How many hosts there are. Each column has a count for each of them.
     pub fn hosts(&self) -> u32
-        ensures { result ≡ hosts_in self.now }
+        ensures count { result ≡ hosts_in self.now }
+        ensures columns { AreOfHosts self.now }
     {
         self.ok.len() as u32
     }
@@ -102,6 +111,22 @@ impl Columns {
             CountKind::Skipped => one_more(&mut self.skipped, host),
             CountKind::Rescued => one_more(&mut self.rescued, host),
             CountKind::Ignored => one_more(&mut self.ignored, host),
+        }
+    }
+
+    /// So many tasks of a host count under a kind from now on, however many did before.
+    pub fn put(&mut self, host: HostNo, kind: CountKind, count: u32)
+        requires { host.0 < hosts_in self.old }
+        ensures { self.new ≡ with_count kind host.0 count self.old }
+    {
+        match kind {
+            CountKind::Okay => set_count(&mut self.ok, host, count),
+            CountKind::Changed => set_count(&mut self.changed, host, count),
+            CountKind::Unreachable => set_count(&mut self.unreachable, host, count),
+            CountKind::Failed => set_count(&mut self.failed, host, count),
+            CountKind::Skipped => set_count(&mut self.skipped, host, count),
+            CountKind::Rescued => set_count(&mut self.rescued, host, count),
+            CountKind::Ignored => set_count(&mut self.ignored, host, count),
         }
     }
 

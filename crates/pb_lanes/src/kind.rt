@@ -1,7 +1,7 @@
 //! The kinds under which tasks count.
 
-/// What a finished task counts as (Ansible's documentation, "Return Values" and "Error handling in playbooks"). The
-/// counts of pb_recap have the same seven kinds, in the same order.
+/// What a finished task counts as (Ansible's documentation, "Return Values" and "Error handling in playbooks"). Which
+/// tasks count under each kind is said in pb_recap.
 #[derive(Clone, Copy, Debug, PartialEq, Eq)]
 pub enum CountKind {
     /// It went well.
