@@ -503,6 +503,20 @@ pub room_at : (batch : ℕ) (later : List ℕ) (play sends h : ℕ) (is_open : B
 room_at batch later play sends h true rows o b = room_in (has_later later) play h rows b.plays b.counts
 room_at batch later play sends h false rows o b = cc
 
+-- a count fits 32 bits, whether a batch is open or not
+few_in : (is_open goes_on : Bool) (play h : ℕ) (rows : List HostRow) (row : HostRow) → play ≤ 256 → AllWithin is_open goes_on play rows → slice_get rows h ≡ Some row → IsAtMost row.counts (2 ^ 32 - 2)
+few_in is_open goes_on play h [] row b w e = cc
+few_in true goes_on play zero (first ∷ rows) row b w e =
+    let same : first ≡ row = cc in
+    subst (λ (r : HostRow). IsAtMost r.counts (2 ^ 32 - 2)) same (at_most_to first.counts _ _ (omega (arith, b, w.0.1, behind_most true play first)) w.0.0)
+few_in false goes_on play zero (first ∷ rows) row b w e =
+    let same : first ≡ row = cc in
+    subst (λ (r : HostRow). IsAtMost r.counts (2 ^ 32 - 2)) same (at_most_to first.counts _ _ (omega (arith, b, behind_most goes_on play first)) w.0)
+few_in is_open goes_on play (suc h) (first ∷ rows) row b w e = few_in is_open goes_on play h rows row b w.1 e
+
+pub few_at : (batch : ℕ) (later : List ℕ) (play sends h : ℕ) (is_open : Bool) (rows : List HostRow) (row : HostRow) → IsBounded is_open batch later play sends rows → slice_get rows h ≡ Some row → IsAtMost row.counts (2 ^ 32 - 2)
+few_at batch later play sends h is_open rows row b e = few_in is_open (has_later later) play h rows row b.plays b.counts e
+
 -- an open: a host that joins was one that waited
 joined_size : (tree : TreeOf) (b : Bool) → size_of tree ≤ 16384 → size_of (if b then tree else no_tree) ≤ 16384
 joined_size tree true s = s

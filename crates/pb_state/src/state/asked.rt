@@ -1,9 +1,9 @@
 //! What is asked of a state.
 
-ghost use Rattle.std.specs.Prelude.{◌≡◌, ◌≤◌, ◌<◌, length, map, IfOk, IfSome, IfNone, slice_get, option_map, true, false};
-ghost use Rattle.std.specs.Prelude.{◌^◌};
+ghost use Rattle.std.specs.Prelude.{◌≡◌, ◌≤◌, ◌<◌, ◌-◌, ◌^◌, length, map, IfOk, IfSome, IfNone, Some, slice_get, option_map, true, false};
 ghost use Rattle.std.specs.List.{list_any};
 ghost use Rattle.std.specs.Option.{option_copied};
+ghost use Rattle.pb_one_host.specs.Ends.{IsAtMost};
 ghost use Rattle.pb_one_host.specs.Row.{HostRow};
 ghost use Rattle.pb_state.specs.Machine.{facts_at, pending_at};
 ghost use Rattle.pb_state.specs.Through.{got_through};
@@ -30,9 +30,10 @@ impl EngineState {
     ghost use Rattle.pb_ids.specs.declared.numbers.Ticket.{Ticket};
     ghost use Rattle.pb_all_hosts.specs.Oldest.{oldest_out};
 
-    /// How many hosts there are.
+    /// How many hosts there are: at most 1,048,576.
     pub fn hosts(&self) -> usize
-        ensures { result ≡ length self.now.rows }
+        ensures value { result ≡ length self.now.rows }
+        ensures bound { length self.now.rows ≤ 1048576 }
     {
         self.rows.as_slice().len()
     }
@@ -252,6 +253,16 @@ impl EngineState {
             Some(row) => is_done(row) && !is_selected(plan.plays(), first_unbegun, host),
             None => false,
         }
+    }
+
+    /// How the finished tasks of a host count. Each count is below 2^32 - 1.
+    pub fn host_counts(&self, host: HostNo) -> Counts
+        requires { host.0 < length self.now.rows }
+        ensures value { slice_get (map (λ (row : HostRow). row.counts) self.now.rows) host.0 ≡ Some result }
+        ensures few { IsAtMost result (2 ^ 32 - 2) }
+    {
+        let row = &self.rows.as_slice()[host.0 as usize];
+        row.counts()
     }
 
     /// How each host's finished tasks count, in the order of hosts. The only error is want of memory.
