@@ -10,8 +10,7 @@ use Rattle.pb_state.specs.declared.event.Event.{Event}
 use Rattle.pb_one_host.specs.declared.row.Counts.{Counts}
 use Rattle.pb_audit.specs.Audit.{is_legal}
 use Rattle.pb_audit.specs.Larger.{LargerPoolsAllow}
-use Rattle.pb_recap.specs.Kinds.{status_of, has}
-use Rattle.pb_recap.specs.declared.kind.CountKind.TheVariants.{Failed, Unreachable}
+use Rattle.pb_recap.specs.Kinds.{Failed, Unreachable, status_of, has}
 use Rattle.pb_recap.specs.Recap.{recap}
 use Rattle.pb_driver.specs.declared.driver.RunFault.{RunFault}
 use Rattle.pb_driver.specs.Laws.{RunsKeepLaws}

@@ -29,9 +29,7 @@ use Rattle.pb_state.specs.Run.{legal_from}
 use Rattle.pb_state.specs.State.{State}
 use Rattle.pb_state.proofs.Once.{and_left, and_right, start_place}
 use Rattle.pb_state.proofs.Stands.{both}
-use Rattle.pb_recap.specs.declared.kind.CountKind.{CountKind}
-use Rattle.pb_recap.specs.declared.kind.CountKind.TheVariants.{Okay, Unreachable, Failed, Skipped, Rescued}
-use Rattle.pb_recap.specs.Kinds.{has, status_of}
+use Rattle.pb_recap.specs.Kinds.{CountKind, Okay, Unreachable, Failed, Skipped, Rescued, has, status_of}
 use Rattle.pb_recap.specs.Recap.{by_host, ended_by, finishes, result_counts, counted, count_from, hosts_from, recap}
 use Rattle.pb_laws.specs.History.{HostTask, Happening, MayRun, Starts, Sends, Reports, at_place, ended_in, ends_if, given_in, told, history_from, history}
 use Rattle.pb_laws.specs.Laws.{so_far, counts, tasks_ended, add_up, has_trouble, status_tells, RecapAddsUp}

@@ -24,9 +24,8 @@ use Rattle.pb_state.specs.Machine.{first_state}
 use Rattle.pb_one_host.specs.Ends.{answer_of, kind_of, plain_answer}
 use Rattle.pb_one_host.specs.Row.{place_of, no_tree}
 use Rattle.pb_state.specs.Run.{IsFinished, legal_from, state_from}
-use Rattle.pb_recap.specs.Kinds.{has, status_of}
+use Rattle.pb_recap.specs.Kinds.{Failed, Unreachable, has, status_of}
 use Rattle.pb_recap.specs.Recap.{recap}
-use Rattle.pb_recap.specs.declared.kind.CountKind.TheVariants.{Failed, Unreachable}
 use Rattle.pb_laws.specs.History.{HostTask, Happening, MayRun, Opens, Starts, Sends, Reports, Ends, Given, Closes, Stops, history}
 
 -- ---- what a law says of runs

@@ -115,7 +115,7 @@ fn are_ok(ended: &Ended, hosts: u32, tasks: u64) -> bool {
     let all = tasks.wrapping_mul(hosts as u64);
     ended.status == 0
         && sends(ended.trail.as_slice(), 0, u32::MAX) == all
-        && ended.recap.total(CountKind::Okay) == all as u128
+        && ended.recap.total(CountKind::Okay) == all
 }
 
 #[test]

@@ -32,8 +32,8 @@ use Rattle.pb_state.proofs.Stands.{stands_at, start_stands}
 use Rattle.pb_all_hosts.proofs.FirstRows.{length-first}
 use Rattle.pb_state.proofs.Opening.{open_case, rows_case}
 use Rattle.pb_all_hosts.proofs.Turning.{Goes, goes_counts, turned_by_case, turned_hosts as length-turned}
-use Rattle.pb_recap.specs.declared.kind.CountKind.{CountKind}
-use Rattle.pb_recap.specs.declared.kind.CountKind.TheVariants.{Okay, Changed, Unreachable, Failed, Skipped, Rescued, Ignored}
+use Rattle.pb_lanes.specs.declared.kind.CountKind.{CountKind}
+use Rattle.pb_lanes.specs.declared.kind.CountKind.TheVariants.{Okay, Changed, Unreachable, Failed, Skipped, Rescued, Ignored}
 use Rattle.pb_recap.specs.Kinds.{count_of}
 use Rattle.pb_recap.specs.Recap.{by_host, ended_by, ended_in, finishes, counts_under, counted, count_from, counts_from, hosts_from, recap}
 use Rattle.pb_recap.proofs.Formed.{one, none_more, task_counts}

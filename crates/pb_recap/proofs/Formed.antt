@@ -11,8 +11,8 @@ use Rattle.pb_play.specs.declared.modules.Meta.{Meta}
 use Rattle.pb_one_host.specs.declared.decided.TaskEnd.{TaskEnd}
 use Rattle.pb_one_host.specs.declared.row.Counts.{Counts}
 use Rattle.pb_one_host.specs.Ends.{more, counted, counted_result, is_okay}
-use Rattle.pb_recap.specs.declared.kind.CountKind.{CountKind}
-use Rattle.pb_recap.specs.declared.kind.CountKind.TheVariants.{Okay, Changed, Unreachable, Failed, Skipped, Rescued, Ignored}
+use Rattle.pb_lanes.specs.declared.kind.CountKind.{CountKind}
+use Rattle.pb_lanes.specs.declared.kind.CountKind.TheVariants.{Okay, Changed, Unreachable, Failed, Skipped, Rescued, Ignored}
 use Rattle.pb_recap.specs.Kinds.{count_of}
 use Rattle.pb_recap.specs.Recap.{went_well, is_ignored, result_counts, counts_under}
 

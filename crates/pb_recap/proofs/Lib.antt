@@ -4,3 +4,4 @@ pub mod Formed
 pub mod Counted
 pub mod Finishing
 pub mod Recounted
+pub mod InColumns

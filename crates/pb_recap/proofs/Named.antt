@@ -2,40 +2,47 @@
 use Rattle.std.proofs.Common.{◌≡◌, ℕ, List, [], ◌∷◌, ◌++◌, Bor, Less, Equal, Greater, Ordering, nat_cmp, map, refl, ap, ◌∙◌, append_assoc, codes, decimal}
 use Rattle.std.specs.BTreeMap.{insert_entry}
 use Rattle.std.specs.Cmp.Lexicographic.{slice_cmp}
-use Rattle.std.specs.Map.Iter.{deref_pair}
 use Rattle.std.specs.Ordering.{match_ordering}
 use Rattle.json.specs.Print.{print}
 use Rattle.json.specs.Token.{Token}
 use Rattle.json.specs.Tree.{json_tokens, members_tokens}
-use Rattle.serde_json.specs.Data.{Members, no_members, member, put}
+use Rattle.serde_json.specs.Data.{Data, Members, no_members, member, put}
 use Rattle.serde_json.specs.Written.{outline, members_outline, compact_text}
 use Rattle.serde_json.proofs.Texts.{print-outline}
+use Rattle.pb_ids.specs.declared.numbers.HostNo.{HostNo}
+use Rattle.pb_lanes.specs.ColumnsOf.{ColumnsOf}
 use Rattle.pb_one_host.specs.declared.row.Counts.{Counts}
+use Rattle.pb_recap.specs.InColumns.{counts_of}
 use Rattle.pb_recap.specs.Hosts.{hosts_with_count}
-use Rattle.pb_recap.specs.Named.{members_of, line_with}
+use Rattle.pb_recap.specs.Named.{line_with, members_of, named_in}
 use Rattle.pb_recap.specs.Stats.{stats_line, line_data, with_hosts, counts_data}
 
 abbrev Hosts : Type 0
-Hosts = List (Bor (List ℕ) × Bor Counts)
+Hosts = List (Bor (List ℕ) × HostNo)
 
-abbrev listed : Hosts → Members
-listed hosts = members_of (map deref_pair hosts)
+-- these hosts, each with its counts in the columns
+abbrev pub listed : ColumnsOf → Hosts → Members
+listed all hosts = members_of (map (named_in all) hosts)
 
-abbrev in_order : Hosts → Bor (List ℕ) → Bor Counts → Hosts
+abbrev in_order : Hosts → Bor (List ℕ) → HostNo → Hosts
 in_order = insert_entry (λ x y. slice_cmp nat_cmp x.now y.now)
 
-placed : (o : Ordering) (name : Bor (List ℕ)) (counts : Bor Counts) (host : Bor (List ℕ) × Bor Counts) (hosts : Hosts)
-    → listed (in_order hosts name counts) ≡ put name.now (counts_data counts.now) (listed hosts)
-    → listed (match_ordering o ((name, counts) ∷ host ∷ hosts) ((host.0, counts) ∷ hosts) (host ∷ in_order hosts name counts))
-    ≡ match_ordering o (member name.now (counts_data counts.now) (listed (host ∷ hosts))) (member host.0.now (counts_data counts.now) (listed hosts))
-    (member host.0.now (counts_data host.1.now) (put name.now (counts_data counts.now) (listed hosts)))
-placed Less name counts host hosts same = refl
-placed Equal name counts host hosts same = refl
-placed Greater name counts host hosts same = ap (member host.0.now (counts_data host.1.now)) same
+-- what is written of a host
+abbrev told : ColumnsOf → HostNo → Data
+told all host = counts_data (counts_of all host.0)
 
-pub put_in_order : (hosts : Hosts) (name : Bor (List ℕ)) (counts : Bor Counts) → listed (in_order hosts name counts) ≡ put name.now (counts_data counts.now) (listed hosts)
-put_in_order [] name counts = refl
-put_in_order (host ∷ hosts) name counts = placed (slice_cmp nat_cmp name.now host.0.now) name counts host hosts (put_in_order hosts name counts)
+placed : (all : ColumnsOf) (o : Ordering) (name : Bor (List ℕ)) (host : HostNo) (first : Bor (List ℕ) × HostNo) (hosts : Hosts)
+    → listed all (in_order hosts name host) ≡ put name.now (told all host) (listed all hosts)
+    → listed all (match_ordering o ((name, host) ∷ first ∷ hosts) ((first.0, host) ∷ hosts) (first ∷ in_order hosts name host))
+    ≡ match_ordering o (member name.now (told all host) (listed all (first ∷ hosts))) (member first.0.now (told all host) (listed all hosts))
+    (member first.0.now (told all first.1) (put name.now (told all host) (listed all hosts)))
+placed all Less name host first hosts same = refl
+placed all Equal name host first hosts same = refl
+placed all Greater name host first hosts same = ap (member first.0.now (told all first.1)) same
+
+pub put_in_order : (all : ColumnsOf) (hosts : Hosts) (name : Bor (List ℕ)) (host : HostNo) → listed all (in_order hosts name host) ≡ put name.now (told all host) (listed all hosts)
+put_in_order all [] name host = refl
+put_in_order all (first ∷ hosts) name host = placed all (slice_cmp nat_cmp name.now first.0.now) name host first hosts (put_in_order all hosts name host)
 
 six_joined : (old a b c d e f : List Token) → (((((old ++ a) ++ b) ++ c) ++ d) ++ e) ++ f ≡ old ++ (a ++ (b ++ (c ++ (d ++ (e ++ f)))))
 six_joined old a b c d e f = simp append_assoc
@@ -44,15 +51,16 @@ nine_joined : (old a b c d e f g h i : List Token)
     → ((((((((old ++ a) ++ b) ++ c) ++ d) ++ e) ++ f) ++ g) ++ h) ++ i ≡ old ++ (a ++ (b ++ (c ++ (d ++ (e ++ (f ++ (g ++ (h ++ i))))))))
 nine_joined old a b c d e f g h i = simp append_assoc
 
-abbrev tokens_of : Hosts → List Token
-tokens_of hosts = members_tokens (members_outline (listed hosts))
+abbrev tokens_of : ColumnsOf → Hosts → List Token
+tokens_of all hosts = members_tokens (members_outline (listed all hosts))
 
-pub host_written : (old keyed written : List Token) (name : Bor (List ℕ)) (counts : Bor Counts) (rest : Hosts)
-    → keyed ≡ old ++ Token.key name.now ∷ [] → written ≡ keyed ++ json_tokens (outline (counts_data counts.now))
-    → written ++ tokens_of rest ≡ old ++ tokens_of ((name, counts) ∷ rest)
-host_written old keyed written name counts rest e f =
-    let told = json_tokens (outline (counts_data counts.now)) in
-    ap (λ ts. ts ++ tokens_of rest) (f ∙ ap (λ ts. ts ++ told) e) ∙ append_assoc (old ++ Token.key name.now ∷ []) told (tokens_of rest) ∙ append_assoc old (Token.key name.now ∷ []) (told ++ tokens_of rest)
+pub host_written : (all : ColumnsOf) (old keyed written : List Token) (name : Bor (List ℕ)) (host : HostNo) (rest : Hosts)
+    → keyed ≡ old ++ Token.key name.now ∷ [] → written ≡ keyed ++ json_tokens (outline (told all host))
+    → written ++ tokens_of all rest ≡ old ++ tokens_of all ((name, host) ∷ rest)
+host_written all old keyed written name host rest e f =
+    let ts = json_tokens (outline (told all host)) in
+    let after = tokens_of all rest in
+    ap (λ us. us ++ after) (f ∙ ap (λ us. us ++ ts) e) ∙ append_assoc (old ++ Token.key name.now ∷ []) ts after ∙ append_assoc old (Token.key name.now ∷ []) (ts ++ after)
 
 pub line_written : (old begun event name stats written new : List Token) (ms : Members)
     → begun ≡ old ++ Token.begin_object ∷ [] → event ≡ begun ++ Token.key (codes "event") ∷ [] → name ≡ event ++ Token.string (codes "playbook_on_stats") ∷ []

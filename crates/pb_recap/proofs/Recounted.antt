@@ -12,8 +12,8 @@ use Rattle.pb_one_host.specs.Row.{none_counted}
 use Rattle.pb_state.specs.State.{State}
 use Rattle.pb_state.specs.Machine.{after, first_state}
 use Rattle.pb_state.specs.Run.{state_from, IsRun, IsStep}
-use Rattle.pb_recap.specs.declared.kind.CountKind.{CountKind}
-use Rattle.pb_recap.specs.declared.kind.CountKind.TheVariants.{Okay, Changed, Unreachable, Failed, Skipped, Rescued, Ignored}
+use Rattle.pb_lanes.specs.declared.kind.CountKind.{CountKind}
+use Rattle.pb_lanes.specs.declared.kind.CountKind.TheVariants.{Okay, Changed, Unreachable, Failed, Skipped, Rescued, Ignored}
 use Rattle.pb_recap.specs.Counting.{with_task, with_finished}
 use Rattle.pb_recap.specs.Recap.{FinishedTask, finished_in, finishes, counts_under, counted, count_from, counts_from, hosts_from, recap}
 use Rattle.pb_recap.proofs.Counted.{seven}

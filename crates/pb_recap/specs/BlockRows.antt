@@ -6,7 +6,7 @@ use Rattle.pb_one_host.specs.declared.decided.TaskEnd.{TaskEnd}
 use Rattle.pb_state.specs.BlockRows.{says, refuses, rescued_by, rescued_run, failed_run, lost_run, always_fails, always_fails_run, two_plays, ending_run, left_out, does_nothing, goes_on_run, ends_after, ends_after_run, unread_rescued, unread_rescued_run, unread_alone, unread_run}
 use Rattle.pb_one_host.specs.FactRows.{on_facts}
 use Rattle.pb_one_host.specs.Row.{none_counted}
-use Rattle.pb_recap.specs.declared.kind.CountKind.TheVariants.{Okay, Failed, Rescued, Ignored}
+use Rattle.pb_lanes.specs.declared.kind.CountKind.TheVariants.{Okay, Failed, Rescued, Ignored}
 use Rattle.pb_recap.specs.Kinds.{status_of}
 use Rattle.pb_recap.specs.Recap.{recap, counts_under}
 

@@ -9,14 +9,14 @@ use Rattle.pb_state.specs.declared.event.Event.TheVariants.{Open, Start, Send, R
 use Rattle.pb_one_host.specs.declared.row.Counts.{Counts}
 use Rattle.pb_one_host.specs.Ends.{more}
 use Rattle.pb_state.specs.State.{State}
-use Rattle.pb_recap.specs.declared.kind.CountKind.TheVariants.{Okay, Changed, Unreachable, Failed, Skipped, Rescued, Ignored}
+use Rattle.pb_lanes.specs.declared.kind.CountKind.TheVariants.{Okay, Changed, Unreachable, Failed, Skipped, Rescued, Ignored}
 use Rattle.pb_recap.specs.Recap.{FinishedTask, counts_under}
 
--- none of the counts is the largest that there can be
+-- none of the counts is the largest that a column holds
 abbrev pub HasRoom : Counts → Type 0
 HasRoom c =
-    (c.ok < 2 ^ 64 - 1) × (c.changed < 2 ^ 64 - 1) × (c.unreachable < 2 ^ 64 - 1) × (c.failed < 2 ^ 64 - 1) × (c.skipped < 2 ^ 64 - 1) × (c.rescued < 2 ^ 64 - 1)
-    × (c.ignored < 2 ^ 64 - 1)
+    (c.ok < 2 ^ 32 - 1) × (c.changed < 2 ^ 32 - 1) × (c.unreachable < 2 ^ 32 - 1) × (c.failed < 2 ^ 32 - 1) × (c.skipped < 2 ^ 32 - 1) × (c.rescued < 2 ^ 32 - 1)
+    × (c.ignored < 2 ^ 32 - 1)
 
 -- a host's counts with a finished task
 abbrev pub with_task : TaskEnd → Counts → Counts

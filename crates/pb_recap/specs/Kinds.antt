@@ -1,10 +1,10 @@
--- The counts of a host by their kinds, and the exit status.
+-- The counts of a host by their kinds, and the exit status. The kinds are those of pb_lanes.
+pub use Rattle.pb_lanes.specs.declared.kind.CountKind.{CountKind}
+pub use Rattle.pb_lanes.specs.declared.kind.CountKind.TheVariants.{Okay, Changed, Unreachable, Failed, Skipped, Rescued, Ignored}
 use Rattle.std.specs.Prelude.{ℕ, nat_lt, Bool, ◌||◌, List, slice_get, if◌then◌else◌}
 use Rattle.std.specs.List.{list_any}
 use Rattle.std.specs.Option.{option_map_or}
 use Rattle.pb_one_host.specs.declared.row.Counts.{Counts}
-use Rattle.pb_recap.specs.declared.kind.CountKind.{CountKind}
-use Rattle.pb_recap.specs.declared.kind.CountKind.TheVariants.{Okay, Changed, Unreachable, Failed, Skipped, Rescued, Ignored}
 
 abbrev pub count_of : CountKind → Counts → ℕ
 count_of Okay counts = counts.ok

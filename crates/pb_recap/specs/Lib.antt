@@ -1,4 +1,5 @@
 pub mod Kinds
+pub mod InColumns
 pub mod Recap
 pub mod Hosts
 pub mod Text

@@ -12,8 +12,8 @@ use Rattle.pb_one_host.specs.declared.row.Counts.{Counts}
 use Rattle.pb_plan.specs.Plan.{PlanOf}
 use Rattle.pb_state.specs.State.{State}
 use Rattle.pb_state.specs.Machine.{after, first_state}
-use Rattle.pb_recap.specs.declared.kind.CountKind.{CountKind}
-use Rattle.pb_recap.specs.declared.kind.CountKind.TheVariants.{Okay, Changed, Unreachable, Failed, Skipped, Rescued, Ignored}
+use Rattle.pb_lanes.specs.declared.kind.CountKind.{CountKind}
+use Rattle.pb_lanes.specs.declared.kind.CountKind.TheVariants.{Okay, Changed, Unreachable, Failed, Skipped, Rescued, Ignored}
 
 -- a finished task: the host's number, and how the task ended there
 pub record FinishedTask : Type 0 where

@@ -16,8 +16,10 @@ use Rattle.pb_plan.specs.Plan.{PlanOf, bare_play, bare_plan, bare_tree}
 use Rattle.pb_state.specs.Machine.{first_state}
 use Rattle.pb_one_host.specs.Row.{none_counted}
 use Rattle.pb_state.specs.Run.{legal_from}
-use Rattle.pb_recap.specs.declared.kind.CountKind.TheVariants.{Okay, Changed, Unreachable, Failed, Ignored}
-use Rattle.pb_recap.specs.Kinds.{status_of}
+use Rattle.pb_lanes.specs.declared.kind.CountKind.TheVariants.{Okay, Changed, Unreachable, Failed, Ignored}
+use Rattle.pb_lanes.specs.ColumnsOf.{ColumnsOf, bumped, no_counts}
+use Rattle.pb_recap.specs.InColumns.{counts_of, rows_of, with_counts}
+use Rattle.pb_recap.specs.Kinds.{count_of, status_of}
 use Rattle.pb_recap.specs.Recap.{recap, counts_under}
 use Rattle.pb_recap.specs.Text.{recap_text}
 use Rattle.pb_recap.specs.Stats.{stats_line, line_data}
@@ -85,6 +87,27 @@ status_of_loss = refl
 
 status_of_good : status_of (one_okay ∷ none_counted ∷ []) ≡ 0
 status_of_good = refl
+
+-- columns of three hosts, of which the last one has a task that went well and the one before it a failure
+abbrev three_hosts : ColumnsOf
+three_hosts = bumped Failed 1 (bumped Okay 2 (no_counts 3))
+
+rows_of_three : rows_of three_hosts ≡ none_counted ∷ one_failed ∷ one_okay ∷ []
+rows_of_three = refl
+
+rows_of_none : rows_of (no_counts 0) ≡ []
+rows_of_none = refl
+
+-- what is put down of a host stands in its row alone
+rows_with_loss : rows_of (with_counts 1 one_lost three_hosts) ≡ none_counted ∷ one_lost ∷ one_okay ∷ []
+rows_with_loss = refl
+
+count_of_the_last : count_of Okay (counts_of three_hosts 2) ≡ 1
+count_of_the_last = refl
+
+-- a number that is no host's has no counts
+counts_past : counts_of three_hosts 3 ≡ none_counted
+counts_past = refl
 
 -- a command on both hosts, and then a message
 abbrev commanded : PlanOf

@@ -6,71 +6,64 @@ ghost use Rattle.pb_one_host.specs.Row.{HostRow, none_counted};
 ghost use Rattle.pb_state.specs.Run.{IsRun, IsStep};
 ghost use Rattle.pb_state.specs.State.{State};
 ghost use Rattle.pb_state.specs.declared.event.Event.{Event};
-ghost use Rattle.pb_recap.specs.Kinds.{count_of, count_at, has, status_of};
-ghost use Rattle.std.specs.List.{list_any};
+ghost use Rattle.pb_recap.specs.Kinds.{count_of, count_at, status_of};
 ghost use Rattle.pb_recap.specs.Counting.{HasRoom, with_finished};
 ghost use Rattle.pb_recap.specs.Recap.{recap, finished_in};
 ghost use Rattle.pb_recap.specs.Text.{recap_text};
 ghost use Rattle.pb_recap.specs.Stats.{stats_line};
 
+use crate::columns::{columns_of, some_has, total};
 use crate::counting::count_event;
-use crate::kind::CountKind;
 use crate::{stats, text};
 use pb_ids::HostNo;
-use pb_state::{Counts, EngineState, Event, Plan};
+use pb_lanes::{Columns, CountKind};
+use pb_state::{EngineState, Event, Plan};
 use std::alloc::{AllocError, Global};
 use std::marker::Model;
 
-/// The counts of each host, by the hosts' numbers.
+/// The counts of each host, by the hosts' numbers. Each is at most 2^32 - 1.
 #[derive(Debug, Drop)]
 pub struct Recap {
-    counts: Vec<Counts>,
+    counts: Columns,
 }
 
 impl Model for Recap {
     ghost use Rattle.std.specs.Prelude.{List};
     ghost use Rattle.pb_one_host.specs.declared.row.Counts.{Counts};
+    ghost use Rattle.pb_recap.specs.InColumns.{rows_of};
 
     ghost Value = { List Counts };
 
-    ghost view = { λ r. r.counts.items };
+    ghost view = { λ r. rows_of r.counts };
 }
 
 impl Recap {
     /// The recap of a state. Of the state at the end of a run it is the count, from scratch, of the tasks that the
-    /// run's events finished.
+    /// run's events finished. The only error is want of memory.
     #[tactic(auto, using(crate::proofs::Counted::recap_of_run))]
     pub fn of(alloc: Global, state: &EngineState) -> Result<Recap, AllocError>
         ensures counts { IfOk result (λ r. r ≡ map (λ (row : HostRow). row.counts) state.now.rows) }
         ensures scratch { IfOk result (λ r. (plan : PlanOf) (pool : ℕ) (trail : List Event) → IsRun plan pool trail state.now → r ≡ recap plan pool trail) }
     {
         Ok(Recap {
-            counts: state.counts(alloc)?,
+            counts: columns_of(alloc, state)?,
         })
     }
 
-    /// No counts: no host has finished a task. It is the recap of a run before its first event.
-    #[tactic(auto, using(crate::proofs::Recounted::new_is_recap))]
+    /// No counts: no host has finished a task. It is the recap of a run before its first event. The only error is want
+    /// of memory.
+    #[tactic(auto, using(crate::proofs::Recounted::new_is_recap, crate::proofs::InColumns::none_yet))]
     pub fn new(alloc: Global, plan: &Plan) -> Result<Recap, AllocError>
         ensures none { IfOk result (λ r. r ≡ replicate (length plan.now.inventory.hosts) none_counted) }
         ensures scratch { IfOk result (λ r. (pool : ℕ) → r ≡ recap plan.now pool []) }
     {
-        let none = Counts {
-            ok: 0,
-            changed: 0,
-            unreachable: 0,
-            failed: 0,
-            skipped: 0,
-            rescued: 0,
-            ignored: 0,
-        };
         Ok(Recap {
-            counts: vec![in alloc; none; plan.host_count() as usize]?,
+            counts: Columns::new(alloc, plan.host_count())?,
         })
     }
 
     /// Counts the task that an event finished, by the state after the event. Counting the events of a run one after
-    /// another gives the recap of the run. Limit: each count is below 2^64 - 1.
+    /// another gives the recap of the run. It takes no memory. Limit: each count is below 2^32 - 1.
     pub fn count(&mut self, plan: &Plan, state: &EngineState, event: &Event)
         requires { (h : ℕ) → IfSome (slice_get self.old h) HasRoom }
         ensures finished { self.new ≡ with_finished (finished_in state.now event.now) self.old }
@@ -79,19 +72,19 @@ impl Recap {
     {
         // (what only the clauses speak of)
         let _plan = plan;
-        count_event(self.counts.as_mut_slice(), state, event);
+        count_event(&mut self.counts, state, event);
     }
 
-    /// How many finished tasks of a host count under a kind.
+    /// How many finished tasks of a host count under a kind: at most 2^32 - 1.
     pub fn get(&self, host: HostNo, kind: CountKind) -> u64
         requires { host.0 < length self.now }
         ensures { result ≡ count_at kind self.now host.0 }
     {
-        kind.of(&self.counts[host.0 as usize])
+        u64::from(self.counts.get(host, kind))
     }
 
     /// How many finished tasks of all hosts count under a kind.
-    pub fn total(&self, kind: CountKind) -> u128
+    pub fn total(&self, kind: CountKind) -> u64
         ensures { result ≡ sum_by (count_of kind) self.now }
     {
         total(&self.counts, kind)
@@ -123,22 +116,4 @@ impl Recap {
     {
         stats::line_of(alloc, plan, &self.counts)
     }
-}
-
-/// Whether some host has a count of a kind.
-fn some_has(counts: &[Counts], kind: CountKind) -> bool
-    ensures { result ≡ list_any (has kind) counts.now }
-{
-    counts.iter().any(|host| kind.of(host) > 0)
-}
-
-/// The sum of the counts of a kind.
-fn total(counts: &[Counts], kind: CountKind) -> u128
-    ensures { result ≡ sum_by (count_of kind) counts.now }
-{
-    let mut total = 0;
-    for host in counts {
-        total += u128::from(kind.of(host));
-    }
-    total
 }

@@ -1,18 +1,19 @@
 //! The text of the recap.
 
 ghost use Rattle.std.specs.Prelude.{◌≡◌, ◌++◌, IfOk, codes, string_bytes};
-ghost use Rattle.std.specs.Option.{option_copied};
+ghost use Rattle.pb_recap.specs.InColumns.{rows_of};
 ghost use Rattle.pb_recap.specs.Hosts.{hosts_with_count, host_if_counted};
 ghost use Rattle.pb_recap.specs.Text.{recap_text, host_lines, host_line, shown};
 
-use crate::kind::{counts_at, has_count};
+use crate::columns::{counts_at, has_count};
 use pb_ids::HostNo;
+use pb_lanes::Columns;
 use pb_state::{Counts, Plan};
 use std::alloc::{AllocError, Global};
 
 /// The heading, and the lines of the hosts that have a count.
-pub fn text_of(alloc: Global, plan: &Plan, counts: &[Counts]) -> Result<String, AllocError>
-    ensures { IfOk result (λ s. string_bytes s ≡ recap_text plan.now.inventory.hosts counts.now) }
+pub fn text_of(alloc: Global, plan: &Plan, counts: &Columns) -> Result<String, AllocError>
+    ensures { IfOk result (λ s. string_bytes s ≡ recap_text plan.now.inventory.hosts (rows_of counts.now)) }
 {
     let mut text = String::from_str(alloc, "PLAY RECAP\n")?;
     push_hosts(alloc, &mut text, plan, counts)?;
@@ -23,9 +24,9 @@ fn push_hosts(
     alloc: Global,
     text: &mut String,
     plan: &Plan,
-    counts: &[Counts],
+    counts: &Columns,
 ) -> Result<(), AllocError>
-    ensures { IfOk result (λ _. string_bytes text.new ≡ string_bytes text.old ++ host_lines (hosts_with_count plan.now.inventory.hosts counts.now)) }
+    ensures { IfOk result (λ _. string_bytes text.new ≡ string_bytes text.old ++ host_lines (hosts_with_count plan.now.inventory.hosts (rows_of counts.now))) }
 {
     for host in 0..plan.host_count() {
         let name = plan.host_name(HostNo(host));
@@ -39,13 +40,13 @@ fn push_host(
     alloc: Global,
     text: &mut String,
     name: &str,
-    counts: Option<&Counts>,
+    counts: Option<Counts>,
 ) -> Result<(), AllocError>
-    ensures { IfOk result (λ _. string_bytes text.new ≡ string_bytes text.old ++ host_lines (host_if_counted name.now (option_copied counts.entry))) }
+    ensures { IfOk result (λ _. string_bytes text.new ≡ string_bytes text.old ++ host_lines (host_if_counted name.now counts)) }
 {
     match counts {
-        Some(counts) if has_count(counts) => {
-            text.push_str(host_line(alloc, name, counts)?.as_str())?;
+        Some(counts) if has_count(&counts) => {
+            text.push_str(host_line(alloc, name, &counts)?.as_str())?;
             Ok(())
         }
         _ => Ok(()),
