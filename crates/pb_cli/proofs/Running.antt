@@ -69,6 +69,19 @@ run_in_pool answers plan pool commands trail before after status laws lines larg
   audited = (larger plan plan.forks pool 256 trail few run.legal).0;
 }
 
+-- of the events as they are handed out
+pub run_handed : (allows gives : Job → Form → Type 0) (has_run : List (Job × Form) → Type 0) (plan : PlanOf) (commands : List Given) (trail handed : List Event) (before after : Option (List ℕ)) (status : ℕ)
+    → handed ≡ trail → RunsKeepLaws → LinesStandBehindEvents → IsWholeRun allows gives has_run plan 256 commands trail before after → status ≡ status_of (recap plan 256 trail)
+    → IsRunBy (IsAnswer allows gives) plan 256 commands handed before after status
+run_handed allows gives has_run plan commands trail handed before after status same laws lines run told =
+    subst (λ (events : List Event). IsRunBy (IsAnswer allows gives) plan 256 commands events before after status) (sym same) (run_by allows gives has_run plan commands trail before after status laws lines run told)
+
+pub pool_handed : (answers : Answers) (plan : PlanOf) (pool : ℕ) (commands : List Given) (trail handed : List Event) (before after : Option (List ℕ)) (status : ℕ)
+    → handed ≡ trail → RunsKeepLaws → LinesStandBehindEvents → LargerPoolsAllow → pool ≤ 256 → IsWhole answers plan pool commands trail before after → status ≡ status_of (recap plan pool trail)
+    → IsRunBy answers plan pool commands handed before after status
+pool_handed answers plan pool commands trail handed before after status same laws lines larger few run told =
+    subst (λ (events : List Event). IsRunBy answers plan pool commands events before after status) (sym same) (run_in_pool answers plan pool commands trail before after status laws lines larger few run told)
+
 -- the same of one that couldn't go on, of the events as they are handed out
 cut_by : (answers : Answers) (plan : PlanOf) (pool : ℕ) (commands : List Given) (trail : List Event) (before after : Option (List ℕ))
     → RunsKeepLaws → LinesStandBehindEvents → is_legal plan trail ≡ true → IsBegunBy answers plan pool commands trail → IsCut plan pool trail before after → IsCutBy answers plan pool commands trail before after
