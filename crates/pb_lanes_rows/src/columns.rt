@@ -47,6 +47,12 @@ fn columns_of(alloc: Global, width: u32) -> Result<Columns, Fail> {
     Ok(columns)
 }
 
+fn put(columns: &mut Columns, number: u32, kind: CountKind, count: u32) {
+    if number < columns.hosts() {
+        columns.put(HostNo(number), kind, count);
+    }
+}
+
 /// Whether each host has the counts that it was given.
 fn has_the_same(columns: &Columns, width: u32) -> bool {
     for number in 0..columns.hosts() {
@@ -78,6 +84,24 @@ fn every_kind(rt: HostRuntime) -> Result<(), Fail> {
     let alloc = rt.alloc();
     for width in WIDTHS {
         let columns = columns_of(alloc, width)?;
+        assert!(rt; has_the_same(&columns, width), "{width}");
+        assert!(rt; sums_the_same(&columns, width), "{width}");
+    }
+    Ok(())
+}
+
+/// Counts that are put down replace those that were there, of each kind alone.
+#[test]
+fn counts_are_put_down(rt: HostRuntime) -> Result<(), Fail> {
+    let alloc = rt.alloc();
+    for width in WIDTHS {
+        let mut columns = columns_of(alloc, width)?;
+        for number in 0..width {
+            put(&mut columns, number, CountKind::Skipped, number);
+        }
+        for number in 0..width {
+            put(&mut columns, number, CountKind::Skipped, 1);
+        }
         assert!(rt; has_the_same(&columns, width), "{width}");
         assert!(rt; sums_the_same(&columns, width), "{width}");
     }

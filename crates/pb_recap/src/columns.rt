@@ -93,7 +93,7 @@ pub(crate) fn has_count(counts: &Counts) -> bool
 pub(crate) fn some_has(columns: &Columns, kind: CountKind) -> bool
     ensures { result ≡ list_any (has kind) (rows_of columns.now) }
 {
-    // (that the columns are of one length is known to the proof once it is asked how many hosts there are)
+    // (the proof needs to know that the columns are of one length)
     let _hosts = columns.hosts();
     columns.nonzero(kind)
 }
@@ -102,6 +102,7 @@ pub(crate) fn some_has(columns: &Columns, kind: CountKind) -> bool
 pub(crate) fn total(columns: &Columns, kind: CountKind) -> u64
     ensures { result ≡ sum_by (count_of kind) (rows_of columns.now) }
 {
+    // (as above)
     let _hosts = columns.hosts();
     columns.total(kind)
 }
