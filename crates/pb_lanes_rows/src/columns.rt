@@ -53,6 +53,13 @@ fn put(columns: &mut Columns, number: u32, kind: CountKind, count: u32) {
     }
 }
 
+/// Puts down so many skipped tasks of each host.
+fn put_skipped(columns: &mut Columns, width: u32, count: u32) {
+    for number in 0..width {
+        put(columns, number, CountKind::Skipped, count);
+    }
+}
+
 /// Whether each host has the counts that it was given.
 fn has_the_same(columns: &Columns, width: u32) -> bool {
     for number in 0..columns.hosts() {
@@ -96,12 +103,8 @@ fn counts_are_put_down(rt: HostRuntime) -> Result<(), Fail> {
     let alloc = rt.alloc();
     for width in WIDTHS {
         let mut columns = columns_of(alloc, width)?;
-        for number in 0..width {
-            put(&mut columns, number, CountKind::Skipped, number);
-        }
-        for number in 0..width {
-            put(&mut columns, number, CountKind::Skipped, 1);
-        }
+        put_skipped(&mut columns, width, 7);
+        put_skipped(&mut columns, width, 1);
         assert!(rt; has_the_same(&columns, width), "{width}");
         assert!(rt; sums_the_same(&columns, width), "{width}");
     }
