@@ -1,10 +1,9 @@
 -- What items are read from, from its parts.
-use Rattle.std.proofs.Common.{◌≡◌, ◌∙◌, ℕ, Bool, List, [], ◌++◌, ap, subst}
+use Rattle.std.proofs.Common.{◌≡◌, ◌∙◌, ℕ, Bool, List, [], ◌++◌, refl, ap}
 use Rattle.pb_facts.specs.Facts.{FactsOf, gathered_layer}
 use Rattle.pb_layers.specs.Scope.{Map, layers}
 use Rattle.pb_inventory.specs.InventoryOf.{InventoryOf}
 use Rattle.pb_inventory.specs.Vars.{vars_from_groups, vars_of_host}
-use Rattle.pb_items.specs.Items.{StartOf}
 use Rattle.pb_places.specs.Place.{PlaceOf, no_role}
 use Rattle.pb_places.specs.declared.surroundings.Role.{Role}
 use Rattle.pb_play.specs.declared.task.Task.{Task}
@@ -30,16 +29,14 @@ layered plan play h facts place own inventory role task blocks groups hosts gath
     rw (r (ap (λ (w : Own). w.no_role) o), b (ap (λ (w : Own). w.none) o), t)
     (same plan play h facts place.role place.block_vars place.task.vars inventory groups hosts gathered plays set extra i (g ∙ ap (λ (w : Own). w.groups.variables) o) v f p s x)
 
-pub magic_is : (plan : PlanOf) (play : PlayOf) (h : ℕ) (own : Own) (plays plans : Map) → own ≡ own_of plan h → plays ≡ play.magic → plans ≡ plan.magic → own.magic ++ plays ++ plans ≡ magic_of plan play h
+magic_is : (plan : PlanOf) (play : PlayOf) (h : ℕ) (own : Own) (plays plans : Map) → own ≡ own_of plan h → plays ≡ play.magic → plans ≡ plan.magic → own.magic ++ plays ++ plans ≡ magic_of plan play h
 magic_is plan play h own plays plans o p q = rw (p, q) (ap (λ (w : Own). w.magic ++ play.magic ++ plan.magic) o)
 
 -- and all of it
-pub started : (P : StartOf → Type 0) (plan : PlanOf) (play : PlayOf) (h : ℕ) (facts : FactsOf) (place : PlaceOf) (program : Bool) (seen : List Map) (magic : Map) (start : StartOf)
-    → start ≡ start_with program place seen magic → program ≡ plan.has_facts_program → seen ≡ layers_within plan play h facts place.role place.block_vars place.task.vars → magic ≡ magic_of plan play h
-    → P start → P (start_of plan play h facts place)
-started P plan play h facts place program seen magic start s f l m held =
-    subst P
-    (s ∙ ap (λ (v : Bool). start_with v place seen magic) f
+pub sighted : (plan : PlanOf) (play : PlayOf) (h : ℕ) (facts : FactsOf) (place : PlaceOf) (own : Own) (program : Bool) (seen : List Map) (plays magic : Map)
+    → own ≡ own_of plan h → program ≡ plan.has_facts_program → seen ≡ layers_within plan play h facts place.role place.block_vars place.task.vars → plays ≡ play.magic → magic ≡ own.magic ++ plays ++ plan.magic
+    → start_with program place seen magic ≡ start_of plan play h facts place
+sighted plan play h facts place own program seen plays magic o f l p m =
+    ap (λ (v : Bool). start_with v place seen magic) f
     ∙ ap (λ (v : List Map). start_with plan.has_facts_program place v magic) l
-    ∙ ap (λ (v : Map). start_with plan.has_facts_program place (layers_within plan play h facts place.role place.block_vars place.task.vars) v) m)
-    held
+    ∙ ap (λ (v : Map). start_with plan.has_facts_program place (layers_within plan play h facts place.role place.block_vars place.task.vars) v) (m ∙ magic_is plan play h own plays plan.magic o p refl)

@@ -11,9 +11,9 @@ use Rattle.pb_facts.specs.Facts.{FactsOf}
 use Rattle.pb_layers.specs.Scope.{Map}
 use Rattle.pb_conditions.specs.declared.attempt.Back.TheVariants.{Ends}
 use Rattle.pb_expr_syntax.specs.Tree.{Tree}
-use Rattle.pb_items.specs.Items.{items_of, attempted_item}
+use Rattle.pb_items.specs.Items.{StartOf, items_of, attempted_item}
 use Rattle.pb_play.specs.declared.task.Task.{Task}
-use Rattle.pb_reach.specs.Reach.{start_from}
+use Rattle.pb_reach.specs.Reach.{start_from, with_magic}
 use Rattle.pb_outcome.specs.declared.gather.ItemResult.{ItemResult}
 use Rattle.pb_outcome.specs.declared.item.Item.{Item}
 use Rattle.pb_outcome.specs.declared.item.Planned.TheVariants.{Decided as DecidedItem}
@@ -21,7 +21,7 @@ use Rattle.pb_places.specs.Place.{PlaceOf}
 use Rattle.pb_plan.specs.Plan.{PlayOf, PlanOf}
 use Rattle.pb_reach.specs.Apart.{SameBut}
 use Rattle.pb_variables.specs.Magic.{host_magic, hostvars, hosts_magic}
-use Rattle.pb_sight.specs.Results.{start_with, magic_of, nothing, place_for, items_for, items_at, came_for, came_at}
+use Rattle.pb_sight.specs.Results.{start_with, start_of, magic_of, nothing, place_for, items_for, items_at, came_for, came_at}
 use Rattle.pb_sight.specs.Seen.{with_hosts, seen_with}
 use Rattle.pb_sight.specs.Unread.{ItemsUnread, ToldUnread}
 
@@ -79,6 +79,42 @@ pub told_of_place : (program : Bool) (place : PlaceOf) (seen : List Map) (task :
     attempted_item (start_with program place seen one) value attempt item ≡ attempted_item (start_with program place seen other) value attempt item
 unfolding start_with
 told_of_place program place seen task one other value attempt item t same = rw (sym t) same
+
+-- a task by what it sees
+pub items_unseen : (start : StartOf) (program : Bool) (place : PlaceOf) (seen : List Map) (magic : Map) (task : Task) (conditions : List Tree) (delegate_to : Option (List ℕ)) (one other : Map) →
+    start_with program place seen magic ≡ start → task ≡ place.task → conditions ≡ place.conditions → delegate_to ≡ place.delegate_to →
+    items_of (start_from task conditions delegate_to program seen one) ≡ items_of (start_from task conditions delegate_to program seen other) →
+    items_of (with_magic start one) ≡ items_of (with_magic start other)
+unfolding start_with
+items_unseen start program place seen magic task conditions delegate_to one other is t c d same =
+    subst (λ (s : StartOf). items_of (with_magic s one) ≡ items_of (with_magic s other)) is (items_of_place program place seen task conditions delegate_to one other t c d same)
+
+pub told_unseen : (start : StartOf) (program : Bool) (place : PlaceOf) (seen : List Map) (magic : Map) (task : Task) (one other : Map) (value : Option Datum) (attempt : ℕ) (item : ItemResult) →
+    start_with program place seen magic ≡ start → task ≡ place.task →
+    attempted_item (start_from task place.conditions place.delegate_to program seen one) value attempt item
+    ≡ attempted_item (start_from task place.conditions place.delegate_to program seen other) value attempt item →
+    attempted_item (with_magic start one) value attempt item ≡ attempted_item (with_magic start other) value attempt item
+unfolding start_with
+told_unseen start program place seen magic task one other value attempt item is t same =
+    subst (λ (s : StartOf). attempted_item (with_magic s one) value attempt item ≡ attempted_item (with_magic s other) value attempt item) is
+    (told_of_place program place seen task one other value attempt item t same)
+
+-- what the task at a place sees
+pub items_seeing : (plan : PlanOf) (play : PlayOf) (h : ℕ) (facts : FactsOf) (place : PlaceOf) (start : StartOf) → start ≡ start_of plan play h facts place →
+    ((one other : Map) → SameBut (codes "hostvars") one other → items_of (with_magic start one) ≡ items_of (with_magic start other)) → ItemsUnread plan play h facts (Some place)
+unfolding start_with
+items_seeing plan play h facts place start is unread =
+    subst (λ (s : StartOf). (one other : Map) → SameBut (codes "hostvars") one other → items_of (with_magic s one) ≡ items_of (with_magic s other)) is unread
+
+pub told_seeing : (plan : PlanOf) (play : PlayOf) (h : ℕ) (facts : FactsOf) (place : PlaceOf) (start : StartOf) → start ≡ start_of plan play h facts place →
+    ((one other : Map) (value : Option Datum) (attempt : ℕ) (item : ItemResult) → SameBut (codes "hostvars") one other →
+    attempted_item (with_magic start one) value attempt item ≡ attempted_item (with_magic start other) value attempt item) → ToldUnread plan play h facts (Some place)
+unfolding start_with
+told_seeing plan play h facts place start is unread =
+    subst
+    (λ (s : StartOf). (one other : Map) (value : Option Datum) (attempt : ℕ) (item : ItemResult) → SameBut (codes "hostvars") one other →
+    attempted_item (with_magic s one) value attempt item ≡ attempted_item (with_magic s other) value attempt item)
+    is unread
 
 -- where the value is the same, so is the rest
 pub items_known : (plan : PlanOf) (play : PlayOf) (h : ℕ) (facts : FactsOf) (p : ℕ) (hosts others : Map) → hosts ≡ others →

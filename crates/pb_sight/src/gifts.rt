@@ -5,7 +5,7 @@ ghost use Rattle.std.specs.Option.{option_copied, option_map};
 ghost use Rattle.pb_sight.specs.Delegates.{delegate_of};
 ghost use Rattle.pb_sight.specs.Gifts.{facts_of, gift_then, gifts_of, gives_away, gifts_from, given_by};
 
-use crate::ends::has_run;
+use crate::ends::{Ended, has_run};
 use crate::learning::gives_of;
 use pb_facts::facts::Gives;
 use pb_facts::reading::facts_in;
@@ -14,7 +14,6 @@ use pb_inventory::inventory::Inventory;
 use pb_outcome::gather::TaskResult;
 use pb_outcome::item::{Item, Planned};
 use pb_places::Place;
-use pb_plan::PlanPlay;
 use pb_value::val::Dict;
 use std::alloc::{AllocError, Global};
 
@@ -109,40 +108,32 @@ fn gives_away(place: &Place, ended: TaskResult) -> bool
     place.delegate_facts() && has_run(ended) && !ended.unreachable
 }
 
-fn gifts_from(
-    alloc: Global,
-    inventory: &Inventory,
-    host: HostNo,
-    ended: TaskResult,
-    items: &[Item],
-    place: &Place,
-) -> Result<Vec<Gift>, AllocError>
-    ensures { IfOk result (λ gifts. gifts.items ≡ gifts_from inventory.now host.0 ended items.now place.now) }
-{
-    if !gives_away(place, ended) {
-        return Ok(Vec::new(alloc));
+impl<'a> Ended<'a> {
+    fn gifts_from(
+        &self,
+        alloc: Global,
+        host: HostNo,
+        place: &Place,
+    ) -> Result<Vec<Gift>, AllocError>
+        ensures { IfOk result (λ gifts. gifts.items ≡ gifts_from self.now.inventory.now host.0 self.now.result self.now.items.now place.now) }
+    {
+        if !gives_away(place, self.result) {
+            return Ok(Vec::new(alloc));
+        }
+        let gives = gives_of(&place.task().module);
+        gifts_of(alloc, self.inventory, host, gives, self.items)
     }
-    let gives = gives_of(&place.task().module);
-    gifts_of(alloc, inventory, host, gives, items)
-}
 
-/// What the task at a place gives to other hosts, that ended so on this host with these items: where its facts are delegated, those of an item go to the
-/// host that the item is delegated to, and a name that is no host's is given nothing. The only error is want of memory. See Ansible's documentation,
-/// "Controlling where tasks run", "Delegating facts".
-#[tactic(auto, unfolding(crate::specs::Gifts::given_by))]
-pub fn given_by(
-    alloc: Global,
-    inventory: &Inventory,
-    play: &PlanPlay,
-    place: usize,
-    host: HostNo,
-    ended: TaskResult,
-    items: &[Item],
-) -> Result<Vec<Gift>, AllocError>
-    ensures { IfOk result (λ gifts. gifts.items ≡ given_by inventory.now play.now place host.0 ended items.now) }
-{
-    match play.place(place) {
-        Some(place) => gifts_from(alloc, inventory, host, ended, items, place),
-        None => Ok(Vec::new(alloc)),
+    /// What the task gives to other hosts than this one, which started it: where its facts are delegated, those of an item go to the host that the item is
+    /// delegated to, and a name that is no host's is given nothing. The only error is want of memory. See Ansible's documentation, "Controlling where tasks
+    /// run", "Delegating facts".
+    #[tactic(auto, unfolding(crate::specs::Gifts::given_by))]
+    pub fn gives(&self, alloc: Global, host: HostNo) -> Result<Vec<Gift>, AllocError>
+        ensures { IfOk result (λ gifts. gifts.items ≡ given_by self.now.inventory.now self.now.play.now self.now.place host.0 self.now.result self.now.items.now) }
+    {
+        match self.play.place(self.place) {
+            Some(place) => self.gifts_from(alloc, host, place),
+            None => Ok(Vec::new(alloc)),
+        }
     }
 }

@@ -3,18 +3,16 @@
 ghost use Rattle.std.specs.Prelude.{◌≡◌, IfOk, option_map};
 ghost use Rattle.pb_facts.specs.News.{heard};
 ghost use Rattle.pb_sight.specs.Delegates.{host_number};
+ghost use Rattle.pb_sight.specs.Ends.{has_run};
 ghost use Rattle.pb_sight.specs.Learning.{gives_of, gives_if, learns, learns_at, taught_by};
 
 use crate::delegates::staying;
-use crate::ends::has_run;
+use crate::ends::{Ended, has_run};
 use pb_facts::facts::{Facts, Gives};
 use pb_facts::news::{News, news_of};
 use pb_ids::HostNo;
-use pb_inventory::inventory::Inventory;
-use pb_outcome::gather::TaskResult;
 use pb_outcome::item::Item;
 use pb_places::Place;
-use pb_plan::PlanPlay;
 use pb_play::modules::Module;
 use pb_play::task::Task;
 use pb_value::val::Val;
@@ -73,62 +71,50 @@ fn learns(
     }
 }
 
-/// The same of the task at a place, which this host started, or another one for all: where facts are delegated, those of an item that is delegated to
-/// another host don't stay, and what was done for all has no facts of a delegated item.
-fn learns_at(
-    alloc: Global,
-    inventory: &Inventory,
-    starter: Option<HostNo>,
-    shown: &Val,
-    went_well: bool,
-    items: &[Item],
-    facts: &Facts,
-    place: &Place,
-) -> Result<News, AllocError>
-    ensures { IfOk result (λ news. heard news facts.now ≡ learns_at inventory.now (option_map host_number starter) shown.now went_well items.now facts.now place.now) }
-{
-    if place.delegate_facts() {
-        let stay = staying(alloc, inventory, starter, items)?;
-        learns(
-            alloc,
-            shown,
-            went_well,
-            stay.as_slice(),
-            facts,
-            place.task(),
-        )
-    } else {
-        learns(alloc, shown, went_well, items, facts, place.task())
-    }
-}
-
-/// What a host that knows this hears once the task at a place ended there with this result, which is shown so, and these items: what it knows then is
-/// what it learns. It is the host that started the task; or there is none, and a host learns what another one did for all. A host that is out of reach learns nothing, nor do
-/// the facts of an item stay that go to another host (`given_by`). The only error is want of memory.
-#[tactic(auto, unfolding(crate::specs::Learning::taught_by))]
-pub fn taught(
-    alloc: Global,
-    inventory: &Inventory,
-    play: &PlanPlay,
-    place: usize,
-    starter: Option<HostNo>,
-    ended: TaskResult,
-    shown: &Val,
-    items: &[Item],
-    facts: &Facts,
-) -> Result<News, AllocError>
-    ensures { IfOk result (λ news. heard news facts.now ≡ taught_by inventory.now play.now place (option_map host_number starter) ended shown.now items.now facts.now) }
-{
-    if ended.unreachable {
-        return Ok(News::Nothing);
-    }
-    match play.place(place) {
-        Some(place) => {
-            let went_well = has_run(ended);
-            learns_at(
-                alloc, inventory, starter, shown, went_well, items, facts, place,
-            )
+impl<'a> Ended<'a> {
+    /// What a host that knows this hears of the task at a place, which this host started, or another one for all: where facts are delegated, those of an
+    /// item that is delegated to another host don't stay, and what was done for all has no facts of a delegated item.
+    fn learns_at(
+        &self,
+        alloc: Global,
+        starter: Option<HostNo>,
+        shown: &Val,
+        facts: &Facts,
+        place: &Place,
+    ) -> Result<News, AllocError>
+        ensures { IfOk result (λ news. heard news facts.now
+            ≡ learns_at self.now.inventory.now (option_map host_number starter) shown.now (has_run self.now.result) self.now.items.now facts.now place.now) }
+    {
+        let went_well = has_run(self.result);
+        let task = place.task();
+        if place.delegate_facts() {
+            let stay = staying(alloc, self.inventory, starter, self.items)?;
+            learns(alloc, shown, went_well, stay.as_slice(), facts, task)
+        } else {
+            learns(alloc, shown, went_well, self.items, facts, task)
         }
-        None => Ok(News::Nothing),
+    }
+
+    /// What a host that knows this hears of the task, whose result is shown so: what it knows then is what it learns. It is the host that started the task; or
+    /// there is none, and a host learns what another one did for all. A host that is out of reach learns nothing, nor do the facts of an item stay that go to
+    /// another host (`gives`). The only error is want of memory.
+    #[tactic(auto, unfolding(crate::specs::Learning::taught_by))]
+    pub fn teaches(
+        &self,
+        alloc: Global,
+        starter: Option<HostNo>,
+        shown: &Val,
+        facts: &Facts,
+    ) -> Result<News, AllocError>
+        ensures { IfOk result (λ news. heard news facts.now
+            ≡ taught_by self.now.inventory.now self.now.play.now self.now.place (option_map host_number starter) self.now.result shown.now self.now.items.now facts.now) }
+    {
+        if self.result.unreachable {
+            return Ok(News::Nothing);
+        }
+        match self.play.place(self.place) {
+            Some(place) => self.learns_at(alloc, starter, shown, facts, place),
+            None => Ok(News::Nothing),
+        }
     }
 }

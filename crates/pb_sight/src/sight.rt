@@ -1,0 +1,124 @@
+//! What tasks see.
+
+ghost use Rattle.std.specs.Prelude.{◌≡◌, ◌<◌, ℕ, false, codes, length, Option};
+ghost use Rattle.pb_value.specs.Datum.{Datum};
+ghost use Rattle.pb_layers.specs.Scope.{Map};
+ghost use Rattle.pb_outcome.specs.declared.gather.ItemResult.{ItemResult};
+ghost use Rattle.pb_items.specs.Items.{attempted_item, items_of};
+ghost use Rattle.pb_reach.specs.Apart.{SameBut};
+ghost use Rattle.pb_reach.specs.Reach.{with_magic};
+ghost use Rattle.pb_sight.specs.Own.{own_of};
+ghost use Rattle.pb_sight.specs.Results.{start_of};
+
+use crate::own::Own;
+use crate::seen::Seen;
+use pb_facts::facts::Facts;
+use pb_ids::HostNo;
+use pb_items::start::Start;
+use pb_layers::layers::{Layers, Magic};
+use pb_places::Place;
+use pb_plan::PlanPlay;
+use pb_reach::reach::{may_read, may_read_of_result};
+use std::marker::Model;
+
+/// What a task sees.
+#[derive(Drop)]
+pub(crate) struct Sight<'a> {
+    has_facts_program: bool,
+    place: &'a Place,
+    layers: Layers<'a>,
+    magic: Magic<'a>,
+}
+
+impl<'a> Model for Sight<'a> {
+    ghost use Rattle.std.specs.Coded.{codes};
+    ghost use Rattle.pb_value.specs.contracts.val.Val as val;
+    ghost use Rattle.pb_value.specs.contracts.val.Dict as dict;
+    ghost use Rattle.pb_expr_syntax.specs.contracts.tree.Expr as expr;
+    ghost use Rattle.pb_places.specs.contracts.place.Place as the_place;
+    ghost use Rattle.pb_items.specs.Items.{StartOf};
+    ghost use Rattle.pb_sight.specs.Results.{start_with};
+
+    ghost Value = { StartOf };
+
+    ghost coded = { Prim.hlevel (codes, val.the_row.coded, dict.the_row.coded, expr.the_row.coded, the_place.the_row.coded) };
+
+    ghost view = { λ s. start_with s.has_facts_program s.place.now s.layers s.magic };
+}
+
+impl<'a> Sight<'a> {
+    /// What the task at a place sees on a host that has this of its own: beside the variables of the host and its own those of its role and of its blocks, and
+    /// what the host has learnt.
+    pub(crate) fn of(
+        plan: &'a Seen<'a>,
+        play: &'a PlanPlay,
+        host: HostNo,
+        facts: &'a Facts,
+        place: &'a Place,
+        own: &'a Own,
+    ) -> Sight<'a>
+        requires there { host.0 < length plan.now.inventory.hosts }
+        requires own { own.now ≡ own_of plan.now host.0 }
+        ensures { result ≡ start_of plan.now play.now host.0 facts.now place.now }
+    {
+        let inventory = plan.inventory();
+        let role = place.role(&own.no_role);
+        let block_variables = place.block_vars(&own.none);
+        let task = place.task();
+        let layers = Layers {
+            role_defaults: &role.defaults,
+            group_variables: own.groups.variables(),
+            host_variables: inventory.host_vars(host),
+            host_facts: facts.gathered_layer(),
+            play_variables: play.vars(),
+            role_variables: &role.vars,
+            block_variables,
+            task_variables: &task.vars,
+            set_facts: facts.set_layer(),
+            role_parameters: &role.params,
+            extra_variables: plan.extra(),
+        };
+        Sight {
+            has_facts_program: plan.has_facts_program(),
+            place,
+            layers,
+            magic: plan.magic(&own.magic, play.magic()),
+        }
+    }
+
+    /// What the task's items are read from.
+    #[tactic(auto, unfolding(crate::specs::Results::start_with))]
+    pub(crate) fn start(&'a self) -> Start<'a>
+        ensures { result ≡ self.now }
+    {
+        Start {
+            task: self.place.task(),
+            conditions: self.place.conditions(),
+            delegate_to: self.place.delegate_to(),
+            has_facts_program: self.has_facts_program,
+            layers: &self.layers,
+            magic: &self.magic,
+        }
+    }
+
+    /// Whether the task's items may look `hostvars` up.
+    pub(crate) fn is_read_at_start(&self) -> bool
+        ensures { result ≡ false → (one other : Map) → SameBut (codes "hostvars") one other → items_of (with_magic self.now one) ≡ items_of (with_magic self.now other) }
+    {
+        may_read(
+            "hostvars",
+            self.place.task(),
+            self.place.conditions(),
+            self.place.delegate_to(),
+            &self.layers,
+        )
+    }
+
+    /// Whether the task may look `hostvars` up where it says something of a result.
+    pub(crate) fn is_read_of_result(&self) -> bool
+        ensures { result ≡ false → (one other : Map) (value : Option Datum) (attempt : ℕ) (item : ItemResult) → SameBut (codes "hostvars") one other →
+            attempted_item (with_magic self.now one) value attempt item ≡ attempted_item (with_magic self.now other) value attempt item }
+    {
+        may_read_of_result("hostvars", self.place.task(), &self.layers)
+    }
+}
