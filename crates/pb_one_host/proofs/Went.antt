@@ -1,10 +1,9 @@
--- A report in its parts, in one row.
+-- What comes back of an attempt, in its parts.
 use Rattle.std.proofs.Common.{◌≡◌, ◌∙◌, ℕ, List, ap}
 use Rattle.std.specs.Prelude.{Option, Some, None, slice_get}
 use Rattle.std.specs.Option.{option_map_or}
 use Rattle.pb_conditions.specs.declared.attempt.Back.{Back}
 use Rattle.pb_conditions.specs.declared.attempt.Back.TheVariants.{Ends}
-use Rattle.pb_cursors.specs.Walks.{PlayWalkOf}
 use Rattle.pb_facts.specs.Facts.{FactsOf}
 use Rattle.pb_outcome.specs.declared.gather.ItemResult.{ItemResult}
 use Rattle.pb_outcome.specs.declared.item.Item.{Item}
@@ -13,11 +12,9 @@ use Rattle.pb_outcome.specs.declared.outcome.Form.{Form}
 use Rattle.pb_outcome.specs.Results.{judged}
 use Rattle.pb_plan.specs.Plan.{PlayOf, PlanOf}
 use Rattle.pb_sight.specs.Results.{came_at}
-use Rattle.pb_one_host.specs.declared.row.Running.{Running}
 use Rattle.pb_one_host.specs.Attempts.{attempt_after}
-use Rattle.pb_one_host.specs.Back.{came_in, back_running}
+use Rattle.pb_one_host.specs.Back.{came_in}
 use Rattle.pb_one_host.specs.Row.{came_back}
-use Rattle.pb_one_host.specs.Walking.{RunsInBatch}
 
 -- an item that came back is judged, and then its attempt comes to what its task says of it
 pub came_as : (plan : PlanOf) (play : PlayOf) (h : ℕ) (facts : FactsOf) (p : ℕ) (outcome : Form) (items : List Item) (n : ℕ) (item : Item) (call : Call) (result : ItemResult) (back : Back)
@@ -26,12 +23,3 @@ came_as plan play h facts p outcome items n item call result back j s there =
     s
     ∙ ap (λ (found : Option Item). option_map_or (λ (i : Item). came_at plan play h facts p i.value (attempt_after i.tried) result) found (Ends result)) there
     ∙ ap (λ (r : ItemResult). came_at plan play h facts p item.value (attempt_after item.tried) r) j
-
--- a host that runs is in the batch still
-pub runs_back : (plan : PlanOf) (play : PlayOf) (h : ℕ) (facts : FactsOf) (outcome : Form) (running now : Option Running) (walk : Option PlayWalkOf)
-    → now ≡ back_running plan play h facts outcome running → RunsInBatch running walk → RunsInBatch now walk
-runs_back plan play h facts outcome running now walk e runs = rw e (by_running running runs)
-  where
-    by_running : (running : Option Running) → RunsInBatch running walk → RunsInBatch (back_running plan play h facts outcome running) walk
-    by_running None runs = tt
-    by_running (Some r) runs = runs

@@ -14,17 +14,13 @@ ghost use Rattle.pb_one_host.specs.Back.{came_in, undone_by, undone_items};
 
 use crate::decided::Retried;
 use pb_conditions::attempt::Back;
-use pb_facts::facts::Facts;
-use pb_ids::HostNo;
 use pb_outcome::gather::ItemResult;
 use pb_outcome::item::{Item, Planned};
 use pb_outcome::items::has_unreachable;
 use pb_outcome::job::Call;
 use pb_outcome::judge::judge;
 use pb_outcome::outcome::Outcome;
-use pb_plan::PlanPlay;
-use pb_sight::seen::Seen;
-use pb_sight::settling::came_at;
+use pb_sight::site::Site;
 use pb_value::items::Items;
 use pb_value::text::Text;
 use std::alloc::{AllocError, Global};
@@ -144,34 +140,20 @@ fn call_in(items: &[Item], number: u32) -> Option<&Call>
     }
 }
 
-/// What an attempt with this result at the item with this number comes to, as the task at a place says of it on a host that has learnt this.
+/// What an attempt with this result at the item with this number comes to, as the task at hand says of it.
 fn came_in(
     alloc: Global,
-    plan: &Seen,
-    play: &PlanPlay,
-    host: HostNo,
-    facts: &Facts,
-    place: usize,
+    site: &Site,
     items: &[Item],
     number: u32,
     judged: ItemResult,
 ) -> Result<Back, AllocError>
-    ensures { IfOk result (λ back. back ≡ came_in plan.now play.now host.0 facts.now place items.now number judged) }
+    ensures { IfOk result (λ back. back ≡ came_in site.now.plan.now site.now.play.now site.now.host.0 site.now.facts.now site.now.place items.now number judged) }
 {
     match items.get(number as usize) {
         Some(item) => {
             let attempt = attempt_after(item.tried);
-            came_at(
-                alloc,
-                plan,
-                play,
-                host,
-                facts,
-                place,
-                &item.value,
-                attempt,
-                judged,
-            )
+            site.came(alloc, &item.value, attempt, judged)
         }
         None => Ok(Back::Ends(judged)),
     }
@@ -411,47 +393,29 @@ impl TaskItems {
         }
     }
 
-    /// What an attempt with this result at the item with this number comes to, as the task at a place says of it on a host that has learnt this.
+    /// What an attempt with this result at the item with this number comes to, as the task at hand says of it.
     fn came(
         &self,
         alloc: Global,
-        plan: &Seen,
-        play: &PlanPlay,
-        host: HostNo,
-        facts: &Facts,
-        place: usize,
+        site: &Site,
         number: u32,
         judged: ItemResult,
     ) -> Result<Back, AllocError>
-        ensures { IfOk result (λ back. back ≡ came_in plan.now play.now host.0 facts.now place self.now number judged) }
+        ensures { IfOk result (λ back. back ≡ came_in site.now.plan.now site.now.play.now site.now.host.0 site.now.facts.now site.now.place self.now number judged) }
     {
-        came_in(
-            alloc,
-            plan,
-            play,
-            host,
-            facts,
-            place,
-            &self.items,
-            number,
-            judged,
-        )
+        came_in(alloc, site, &self.items, number, judged)
     }
 
-    /// The job of the next item came to this: it is judged, and then the attempt comes to what the task at this place says of it on a host that has learnt
-    /// this. What the item was before is handed back, and the attempt where another one comes behind it. An `Err` changes nothing.
+    /// The job of the next item came to this: it is judged, and then the attempt comes to what the task at hand says of it. What the item was before is
+    /// handed back, and the attempt where another one comes behind it. An `Err` changes nothing.
     pub(crate) fn back(
         &mut self,
         alloc: Global,
-        plan: &Seen,
-        play: &PlanPlay,
-        host: HostNo,
-        facts: &Facts,
-        place: usize,
+        site: &Site,
         outcome: &Outcome,
     ) -> Result<CameBack, AllocError>
-        ensures ok { OnOk result (self.new ≡ back_in (came_back plan.now play.now host.0 facts.now place outcome.now) self.old) }
-        ensures retried { IfOk result (λ came. came.retried ≡ retried_in (came_back plan.now play.now host.0 facts.now place outcome.now) self.old) }
+        ensures ok { OnOk result (self.new ≡ back_in (came_back site.now.plan.now site.now.play.now site.now.host.0 site.now.facts.now site.now.place outcome.now) self.old) }
+        ensures retried { IfOk result (λ came. came.retried ≡ retried_in (came_back site.now.plan.now site.now.play.now site.now.host.0 site.now.facts.now site.now.place outcome.now) self.old) }
         ensures undo { IfOk result (λ came. undone_items came.before self.new ≡ self.old) }
         ensures err { OnErr result (self.new ≡ self.old) }
     {
@@ -462,7 +426,7 @@ impl TaskItems {
             return Ok(none_back());
         };
         let judged = judge(alloc, call, outcome)?;
-        let back = self.came(alloc, plan, play, host, facts, place, number, judged)?;
+        let back = self.came(alloc, site, number, judged)?;
         Ok(self.take(number, back))
     }
 

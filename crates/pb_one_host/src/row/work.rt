@@ -2,10 +2,9 @@
 
 ghost use Rattle.std.specs.Prelude.{◌≡◌, ◌-◌, ◌^◌, OnOk, OnErr, IfOk, true};
 ghost use Rattle.pb_facts.specs.News.{heard};
-ghost use Rattle.pb_sight.specs.Learning.{taught_by};
 ghost use Rattle.pb_one_host.specs.Row.{kept_items};
 ghost use Rattle.pb_one_host.specs.Handlers.{notified_by};
-ghost use Rattle.pb_one_host.specs.Back.{back_running, items_run, retried_running, undone_running};
+ghost use Rattle.pb_one_host.specs.Back.{items_run};
 ghost use Rattle.pb_one_host.specs.Ends.{IsAtMost};
 
 use super::{Finish, Row, Running, put_last};
@@ -14,14 +13,14 @@ use crate::ends::{breaks, counted, kind_of};
 use crate::handlers::{marks_in, notified_by};
 use crate::items::{Before, CameBack, TaskItems, none_back};
 use crate::told::{done_at, runs_once_at, told_of};
-use pb_facts::facts::Facts;
 use pb_facts::news::News;
-use pb_ids::{HostNo, Ticket};
+use pb_ids::Ticket;
 use pb_inventory::inventory::Inventory;
 use pb_outcome::outcome::Outcome;
 use pb_plan::PlanPlay;
-use pb_sight::learning::taught;
+use pb_sight::ends::Ended;
 use pb_sight::seen::Seen;
+use pb_sight::site::Site;
 use pb_tree::Answer;
 use std::alloc::{AllocError, Global};
 use std::mem;
@@ -41,61 +40,6 @@ fn kept_items(alloc: Global, once: bool, items: TaskItems) -> TaskItems
     ensures { result ≡ kept_items once items }
 {
     if once { items } else { TaskItems::none(alloc) }
-}
-
-/// The job that is out of what a host runs came to this: its item is what the task says of it on a host that has learnt this. What the item was
-/// before is handed back, and the attempt where another one comes behind it. An `Err` changes nothing.
-fn come_back(
-    alloc: Global,
-    slot: &mut Option<Running>,
-    plan: &Seen,
-    play: &PlanPlay,
-    host: HostNo,
-    facts: &Facts,
-    outcome: &Outcome,
-) -> Result<CameBack, AllocError>
-    ensures ok { OnOk result (slot.new ≡ back_running plan.now play.now host.0 facts.now outcome.now slot.old) }
-    ensures retried { IfOk result (λ came. came.retried ≡ retried_running plan.now play.now host.0 facts.now outcome.now slot.old) }
-    ensures undo { IfOk result (λ came. undone_running came.before slot.new ≡ slot.old) }
-    ensures err { OnErr result (slot.new ≡ slot.old) }
-{
-    match slot {
-        Some(running) => {
-            let place = running.place;
-            let came = running
-                .items
-                .back(alloc, plan, play, host, facts, place, outcome)?;
-            Ok(came)
-        }
-        None => Ok(none_back()),
-    }
-}
-
-/// What a host that knows this hears once the task at a place ended there so.
-fn news_after(
-    alloc: Global,
-    inventory: &Inventory,
-    play: &PlanPlay,
-    place: usize,
-    host: HostNo,
-    done: &Done,
-    items: &TaskItems,
-    facts: &Facts,
-) -> Result<News, AllocError>
-    ensures { IfOk result (λ news. heard news facts.now ≡ taught_by inventory.now play.now place (Some host.0) done.now.task.result done.now.result items.now facts.now) }
-{
-    let ended = done.task.result;
-    taught(
-        alloc,
-        inventory,
-        play,
-        place,
-        Some(host),
-        ended,
-        &done.result,
-        items.as_slice(),
-        facts,
-    )
 }
 
 impl Row {
@@ -199,16 +143,19 @@ impl Row {
         ensures undo { IfOk result (λ came. undone came.before self.new ≡ self.old) }
         ensures err { OnErr result (self.new ≡ self.old) }
     {
-        let came = come_back(
-            alloc,
-            &mut self.running,
-            plan,
-            play,
-            self.host,
-            &self.facts,
-            outcome,
-        )?;
-        Ok(came)
+        match &mut self.running {
+            Some(running) => {
+                let site = Site {
+                    plan,
+                    play,
+                    host: self.host,
+                    facts: &self.facts,
+                    place: running.place,
+                };
+                running.items.back(alloc, &site, outcome)
+            }
+            None => Ok(none_back()),
+        }
     }
 
     /// Puts an item of the task that the host runs back as it was.
@@ -283,16 +230,14 @@ impl Row {
                 let place = running.place;
                 let marks = marks_in(&self.walk);
                 let done = done_at(alloc, play, place, marks, &running.items)?;
-                let news = news_after(
-                    alloc,
+                let ended = Ended {
                     inventory,
                     play,
                     place,
-                    self.host,
-                    &done,
-                    &running.items,
-                    &self.facts,
-                )?;
+                    result: done.task.result,
+                    items: running.items.as_slice(),
+                };
+                let news = ended.teaches(alloc, Some(self.host), &done.result, &self.facts)?;
                 self.finish(alloc, play, place, done.task, news)?;
                 Ok(Some(done))
             }
