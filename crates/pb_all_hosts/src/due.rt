@@ -240,27 +240,31 @@ pub fn stand_at(rows: &mut DueRows, place: Option<usize>)
     rows.standings.stand_at(place);
 }
 
-/// A host starts the task at a place with these items; where it ends at once, what it gives to other hosts is theirs. An `Err` changes nothing.
-pub fn start_row(
-    alloc: Global,
-    rows: &mut DueRows,
-    host: HostNo,
-    inventory: &Inventory,
-    play: &PlanPlay,
-    place: usize,
-    items: TaskItems,
-) -> Result<Option<Done>, AllocError>
-    requires there { host.0 < length rows.old }
-    requires batch { IfSome (slice_get rows.old host.0) (λ row. row.in_batch ≡ true) }
-    requires room { IfSome (slice_get rows.old host.0) (λ row. IsAtMost row.counts (2 ^ 64 - 2)) }
-    ensures rows { OnOk result (rows.new ≡ given_to (gifts_at inventory.now play.now place host.0 items) (change rows.old host.0 (progressed inventory.now play.now place items))) }
-    ensures done { IfOk result (λ done. done ≡ done_if play.now place (pending_in rows.old host.0) items) }
-    ensures err { OnErr result (rows.new ≡ rows.old) }
-{
-    let done = rows::start_row(alloc, &mut rows.rows, host, inventory, play, place, items)?;
-    drop_job(&mut rows.out, host);
-    ask_one(&rows.rows, host, &mut rows.sends, &mut rows.standings);
-    Ok(done)
+impl DueRows {
+    /// A host starts the task at a place with these items; where it ends at once, what it gives to other hosts is theirs. An `Err` changes nothing.
+    pub fn start_row(
+        &mut self,
+        alloc: Global,
+        host: HostNo,
+        inventory: &Inventory,
+        play: &PlanPlay,
+        place: usize,
+        items: TaskItems,
+    ) -> Result<Option<Done>, AllocError>
+        requires there { host.0 < length self.old }
+        requires batch { IfSome (slice_get self.old host.0) (λ row. row.in_batch ≡ true) }
+        requires room { IfSome (slice_get self.old host.0) (λ row. IsAtMost row.counts (2 ^ 64 - 2)) }
+        ensures rows { OnOk result (self.new ≡ given_to (gifts_at inventory.now play.now place host.0 items) (change self.old host.0 (progressed inventory.now play.now place items))) }
+        ensures done { IfOk result (λ done. done ≡ done_if play.now place (pending_in self.old host.0) items) }
+        ensures err { OnErr result (self.new ≡ self.old) }
+    {
+        let done = self
+            .rows
+            .start_row(alloc, host, inventory, play, place, items)?;
+        drop_job(&mut self.out, host);
+        ask_one(&self.rows, host, &mut self.sends, &mut self.standings);
+        Ok(done)
+    }
 }
 
 /// The job of a host goes out that has one to send. An `Err` changes nothing.

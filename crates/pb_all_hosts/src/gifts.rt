@@ -9,7 +9,8 @@ use pb_ids::HostNo;
 use pb_inventory::inventory::Inventory;
 use pb_one_host::{Row, TaskItems, task_at};
 use pb_plan::PlanPlay;
-use pb_sight::gifts::{Gift, given_by};
+use pb_sight::ends::Ended;
+use pb_sight::gifts::Gift;
 use std::alloc::{AllocError, Global};
 
 /// What the task at a place gives to other hosts than this one, which started it, once these items end it.
@@ -26,16 +27,14 @@ pub(crate) fn gifts_at(
     if !items.is_over() {
         return Ok(Vec::new(alloc));
     }
-    let task = task_at(play, place, items);
-    given_by(
-        alloc,
+    let ended = Ended {
         inventory,
         play,
         place,
-        host,
-        task.result,
-        items.as_slice(),
-    )
+        result: task_at(play, place, items).result,
+        items: items.as_slice(),
+    };
+    ended.gives(alloc, host)
 }
 
 /// The same of the task that this host runs.

@@ -17,12 +17,10 @@ ghost use Rattle.pb_all_hosts.specs.Joining.{joined_by};
 ghost use Rattle.pb_all_hosts.specs.TurnMade.{turning_row};
 
 use crate::rows::lesser;
-use crate::turned::{Turning, is_broken_then};
+use crate::turned::{Copied, Turning};
 use pb_cursors::PlayWalk;
 use pb_ids::HostNo;
-use pb_inventory::inventory::Inventory;
 use pb_one_host::Row;
-use pb_plan::PlanPlay;
 use pb_planes::HostSet;
 use pb_strategies::{Standing, Standings};
 use std::alloc::Global;
@@ -101,18 +99,11 @@ pub(crate) fn count_inside(rows: &[Row], batch: &HostSet) -> usize
 }
 
 /// Whether a host is broken once it got what another one did for all.
-fn is_broken_at(
-    inventory: &Inventory,
-    play: &PlanPlay,
-    place: usize,
-    from: Option<&Row>,
-    rows: &[Row],
-    host: HostNo,
-) -> bool
-    ensures { result ≡ at_row (λ (row : HostRow). (with_copy inventory.now play.now place (option_copied from.entry) row).is_broken) rows.now host.0 }
+fn is_broken_at(copied: &Copied, rows: &[Row], host: HostNo) -> bool
+    ensures { result ≡ at_row (λ (row : HostRow). (with_copy copied.now.inventory.now copied.now.play.now copied.now.place (option_copied copied.now.from) row).is_broken) rows.now host.0 }
 {
     match rows.get(host.0 as usize) {
-        Some(row) => is_broken_then(inventory, play, place, from, row),
+        Some(row) => copied.is_broken_then(row),
         None => false,
     }
 }
@@ -126,22 +117,15 @@ fn one_more(count: usize, is: bool) -> usize
 }
 
 /// How many hosts are broken then: none is outside of the batch.
-pub(crate) fn broken_inside(
-    inventory: &Inventory,
-    play: &PlanPlay,
-    place: usize,
-    source: Option<&Row>,
-    rows: &[Row],
-    batch: &HostSet,
-) -> usize
+pub(crate) fn broken_inside(copied: &Copied, rows: &[Row], batch: &HostSet) -> usize
     requires insiders { batch.now ≡ map is_inside rows.now }
     requires outsiders { AreOutside rows.now }
-    ensures { result ≡ count_by (λ (row : HostRow). (with_copy inventory.now play.now place (option_copied source.entry) row).is_broken) rows.now }
+    ensures { result ≡ count_by (λ (row : HostRow). (with_copy copied.now.inventory.now copied.now.play.now copied.now.place (option_copied copied.now.from) row).is_broken) rows.now }
 {
     let mut count = 0;
     let mut from = 0;
     while let Some(host) = batch.next_at(from) {
-        let is_broken = is_broken_at(inventory, play, place, source, rows, host);
+        let is_broken = is_broken_at(copied, rows, host);
         count = one_more(count, is_broken);
         from = behind(batch, host);
     }

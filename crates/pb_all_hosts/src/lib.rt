@@ -18,7 +18,7 @@ mod turned;
 
 pub use due::{
     DueRows, begin_first, is_settled, join_first, least_place, leave_all, report_row, send_row,
-    some_in, stand_at, start_row, turn_rows,
+    some_in, stand_at, turn_rows,
 };
 pub use rows::called::{called_count, first_play};
 pub use rows::{attempt_in, counts_of, item_in};

@@ -129,35 +129,6 @@ fn first_rows(alloc: Global, hosts: u32) -> Result<Vec<Row>, AllocError>
     Ok(rows)
 }
 
-/// A host starts the task at a place with these items. An `Err` changes nothing.
-fn start_one(
-    alloc: Global,
-    rows: &mut HostRows,
-    host: HostNo,
-    inventory: &Inventory,
-    play: &PlanPlay,
-    place: usize,
-    items: TaskItems,
-) -> Result<Option<Done>, AllocError>
-    requires there { host.0 < length rows.old }
-    requires batch { IfSome (slice_get rows.old host.0) (λ row. row.in_batch ≡ true) }
-    requires room { IfSome (slice_get rows.old host.0) (λ row. IsAtMost row.counts (2 ^ 64 - 2)) }
-    ensures rows { OnOk result (rows.new ≡ change rows.old host.0 (progressed inventory.now play.now place items)) }
-    ensures done { IfOk result (λ done. done ≡ done_if play.now place (pending_in rows.old host.0) items) }
-    ensures err { OnErr result (rows.new ≡ rows.old) }
-{
-    match rows.rows.get_mut(host.0 as usize) {
-        Some(row) => {
-            let was = row.is_running();
-            let done = row.start(alloc, inventory, play, place, items)?;
-            let runs = row.is_running();
-            rows.running = recounted(rows.running, was, runs);
-            Ok(done)
-        }
-        None => unreachable!(),
-    }
-}
-
 /// What a host knows from now on.
 fn know_row(rows: &mut HostRows, known: NewFacts)
     ensures { rows.new ≡ change rows.old known.host.0 (knows known.facts) }
@@ -192,28 +163,108 @@ fn know_all(rows: &mut HostRows, all: Vec<NewFacts>)
     }
 }
 
-/// A host starts the task at a place with these items; where it ends at once, what it gives to other hosts is theirs. An `Err` changes nothing.
-pub fn start_row(
-    alloc: Global,
-    rows: &mut HostRows,
-    host: HostNo,
-    inventory: &Inventory,
-    play: &PlanPlay,
-    place: usize,
-    items: TaskItems,
-) -> Result<Option<Done>, AllocError>
-    requires there { host.0 < length rows.old }
-    requires batch { IfSome (slice_get rows.old host.0) (λ row. row.in_batch ≡ true) }
-    requires room { IfSome (slice_get rows.old host.0) (λ row. IsAtMost row.counts (2 ^ 64 - 2)) }
-    ensures rows { OnOk result (rows.new ≡ given_to (gifts_at inventory.now play.now place host.0 items) (change rows.old host.0 (progressed inventory.now play.now place items))) }
-    ensures done { IfOk result (λ done. done ≡ done_if play.now place (pending_in rows.old host.0) items) }
-    ensures err { OnErr result (rows.new ≡ rows.old) }
-{
-    let gifts = gifts_at(alloc, inventory, play, place, host, &items)?;
-    let known = with_gifts(alloc, rows.as_slice(), gifts.as_slice())?;
-    let done = start_one(alloc, rows, host, inventory, play, place, items)?;
-    know_all(rows, known);
-    Ok(done)
+impl HostRows {
+    /// A host starts the task at a place with these items. An `Err` changes nothing.
+    fn start_one(
+        &mut self,
+        alloc: Global,
+        host: HostNo,
+        inventory: &Inventory,
+        play: &PlanPlay,
+        place: usize,
+        items: TaskItems,
+    ) -> Result<Option<Done>, AllocError>
+        requires there { host.0 < length self.old }
+        requires batch { IfSome (slice_get self.old host.0) (λ row. row.in_batch ≡ true) }
+        requires room { IfSome (slice_get self.old host.0) (λ row. IsAtMost row.counts (2 ^ 64 - 2)) }
+        ensures rows { OnOk result (self.new ≡ change self.old host.0 (progressed inventory.now play.now place items)) }
+        ensures done { IfOk result (λ done. done ≡ done_if play.now place (pending_in self.old host.0) items) }
+        ensures err { OnErr result (self.new ≡ self.old) }
+    {
+        match self.rows.get_mut(host.0 as usize) {
+            Some(row) => {
+                let was = row.is_running();
+                let done = row.start(alloc, inventory, play, place, items)?;
+                let runs = row.is_running();
+                self.running = recounted(self.running, was, runs);
+                Ok(done)
+            }
+            None => unreachable!(),
+        }
+    }
+
+    /// A host starts the task at a place with these items; where it ends at once, what it gives to other hosts is theirs. An `Err` changes nothing.
+    pub fn start_row(
+        &mut self,
+        alloc: Global,
+        host: HostNo,
+        inventory: &Inventory,
+        play: &PlanPlay,
+        place: usize,
+        items: TaskItems,
+    ) -> Result<Option<Done>, AllocError>
+        requires there { host.0 < length self.old }
+        requires batch { IfSome (slice_get self.old host.0) (λ row. row.in_batch ≡ true) }
+        requires room { IfSome (slice_get self.old host.0) (λ row. IsAtMost row.counts (2 ^ 64 - 2)) }
+        ensures rows { OnOk result (self.new ≡ given_to (gifts_at inventory.now play.now place host.0 items) (change self.old host.0 (progressed inventory.now play.now place items))) }
+        ensures done { IfOk result (λ done. done ≡ done_if play.now place (pending_in self.old host.0) items) }
+        ensures err { OnErr result (self.new ≡ self.old) }
+    {
+        let gifts = gifts_at(alloc, inventory, play, place, host, &items)?;
+        let known = with_gifts(alloc, self.as_slice(), gifts.as_slice())?;
+        let done = self.start_one(alloc, host, inventory, play, place, items)?;
+        know_all(self, known);
+        Ok(done)
+    }
+
+    /// What is decided of the task that a host runs, of which the item with this number came back, or this attempt at it. An `Err` changes nothing.
+    fn decide_one(
+        &mut self,
+        alloc: Global,
+        host: HostNo,
+        inventory: &Inventory,
+        play: &PlanPlay,
+        number: Option<u32>,
+        retried: Option<Retried>,
+    ) -> Result<Option<Decided>, AllocError>
+        requires { IfSome (slice_get self.old host.0) (λ row. IsAtMost row.counts (2 ^ 64 - 2)) }
+        ensures rows { OnOk result (self.new ≡ change self.old host.0 (went_on inventory.now play.now)) }
+        ensures decides { IfOk result (λ decided. decided ≡ option_map_or (decided_now play.now number retried) (slice_get self.old host.0) None) }
+        ensures err { OnErr result (self.new ≡ self.old) }
+    {
+        match self.rows.get_mut(host.0 as usize) {
+            Some(row) => {
+                let was = row.is_running();
+                let decided = row.decide(alloc, inventory, play, number, retried)?;
+                let goes_on = row.is_running();
+                self.running = recounted(self.running, was, goes_on);
+                Ok(decided)
+            }
+            None => Ok(None),
+        }
+    }
+
+    /// The same; where the task ends, what it gives to other hosts is theirs. An `Err` changes nothing.
+    fn decide_row(
+        &mut self,
+        alloc: Global,
+        host: HostNo,
+        inventory: &Inventory,
+        play: &PlanPlay,
+        number: Option<u32>,
+        retried: Option<Retried>,
+    ) -> Result<Option<Decided>, AllocError>
+        requires { IfSome (slice_get self.old host.0) (λ row. IsAtMost row.counts (2 ^ 64 - 2)) }
+        ensures rows { OnOk result (self.new ≡ given_to (gives_now inventory.now play.now host.0 self.old) (change self.old host.0 (went_on inventory.now play.now))) }
+        ensures decides { IfOk result (λ decided. decided ≡ option_map_or (decided_now play.now number retried) (slice_get self.old host.0) None) }
+        ensures err { OnErr result (self.new ≡ self.old) }
+    {
+        let gifts = gives_now(alloc, inventory, play, self.as_slice(), host)?;
+        let known = with_gifts(alloc, self.as_slice(), gifts.as_slice())?;
+        let decided = self.decide_one(alloc, host, inventory, play, number, retried)?;
+        know_all(self, known);
+        Ok(decided)
+    }
 }
 
 /// A job of a host goes out.
@@ -270,55 +321,6 @@ fn undo(rows: &mut HostRows, host: HostNo, before: Option<Before>)
     }
 }
 
-/// What is decided of the task that a host runs, of which the item with this number came back, or this attempt at it. An `Err` changes nothing.
-fn decide_one(
-    alloc: Global,
-    rows: &mut HostRows,
-    host: HostNo,
-    inventory: &Inventory,
-    play: &PlanPlay,
-    number: Option<u32>,
-    retried: Option<Retried>,
-) -> Result<Option<Decided>, AllocError>
-    requires { IfSome (slice_get rows.old host.0) (λ row. IsAtMost row.counts (2 ^ 64 - 2)) }
-    ensures rows { OnOk result (rows.new ≡ change rows.old host.0 (went_on inventory.now play.now)) }
-    ensures decides { IfOk result (λ decided. decided ≡ option_map_or (decided_now play.now number retried) (slice_get rows.old host.0) None) }
-    ensures err { OnErr result (rows.new ≡ rows.old) }
-{
-    match rows.rows.get_mut(host.0 as usize) {
-        Some(row) => {
-            let was = row.is_running();
-            let decided = row.decide(alloc, inventory, play, number, retried)?;
-            let goes_on = row.is_running();
-            rows.running = recounted(rows.running, was, goes_on);
-            Ok(decided)
-        }
-        None => Ok(None),
-    }
-}
-
-/// The same; where the task ends, what it gives to other hosts is theirs. An `Err` changes nothing.
-fn decide_row(
-    alloc: Global,
-    rows: &mut HostRows,
-    host: HostNo,
-    inventory: &Inventory,
-    play: &PlanPlay,
-    number: Option<u32>,
-    retried: Option<Retried>,
-) -> Result<Option<Decided>, AllocError>
-    requires { IfSome (slice_get rows.old host.0) (λ row. IsAtMost row.counts (2 ^ 64 - 2)) }
-    ensures rows { OnOk result (rows.new ≡ given_to (gives_now inventory.now play.now host.0 rows.old) (change rows.old host.0 (went_on inventory.now play.now))) }
-    ensures decides { IfOk result (λ decided. decided ≡ option_map_or (decided_now play.now number retried) (slice_get rows.old host.0) None) }
-    ensures err { OnErr result (rows.new ≡ rows.old) }
-{
-    let gifts = gives_now(alloc, inventory, play, rows.as_slice(), host)?;
-    let known = with_gifts(alloc, rows.as_slice(), gifts.as_slice())?;
-    let decided = decide_one(alloc, rows, host, inventory, play, number, retried)?;
-    know_all(rows, known);
-    Ok(decided)
-}
-
 /// The number of the item that a host sends next, or whose job is out.
 pub fn item_in(rows: &[Row], host: HostNo) -> Option<u32>
     ensures { result ≡ option_map_or item_of (slice_get rows.now host.0) None }
@@ -356,7 +358,7 @@ pub fn report_row(
     let number = item_in(rows.rows.as_slice(), host);
     let came = take_back(alloc, rows, host, plan, play, outcome)?;
     let (before, retried) = came.parts();
-    match decide_row(alloc, rows, host, plan.inventory(), play, number, retried) {
+    match rows.decide_row(alloc, host, plan.inventory(), play, number, retried) {
         Ok(decided) => Ok(decided),
         Err(error) => {
             undo(rows, host, before);

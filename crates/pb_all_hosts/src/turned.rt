@@ -23,116 +23,131 @@ use pb_one_host::{
 use pb_outcome::registered::registered;
 use pb_plan::PlanPlay;
 use pb_planes::HostSet;
-use pb_sight::learning::taught;
+use pb_sight::ends::Ended;
 use pb_tree::Kind;
 use std::alloc::{AllocError, Global};
 
-/// What a host that knows this hears once it gets what the task at a place left with another host, which ended it with these items, but for what that
-/// gave away.
-fn news_from(
-    alloc: Global,
-    inventory: &Inventory,
-    play: &PlanPlay,
-    place: usize,
-    items: &TaskItems,
-    facts: &Facts,
-) -> Result<News, AllocError>
-    ensures { IfOk result (λ news. heard news facts.now ≡ taught inventory.now play.now place None items.now facts.now) }
-{
-    let ended = task_at(play, place, items).result;
-    let shown = registered(alloc, variable_at(play, place), items.as_slice())?;
-    let news = taught(
-        alloc,
-        inventory,
-        play,
-        place,
-        None,
-        ended,
-        &shown,
-        items.as_slice(),
-        facts,
-    )?;
-    Ok(news)
+/// What one host did at a place for all, which goes to the other hosts of its batch.
+#[derive(Drop)]
+pub(crate) struct Copied<'a> {
+    pub(crate) inventory: &'a Inventory,
+    pub(crate) play: &'a PlanPlay,
+    pub(crate) place: usize,
+    /// The host that did it, if one did.
+    pub(crate) from: Option<&'a Row>,
 }
 
-/// What a host hears that gets what this other one did, where its next place is that of the task: what that one registered and learnt itself.
-fn news_there(
-    alloc: Global,
-    inventory: &Inventory,
-    play: &PlanPlay,
-    place: usize,
-    finish: &Finish,
-    row: &Row,
-) -> Result<News, AllocError>
-    ensures { IfOk result (λ news. heard news row.now.facts ≡ (copied_if inventory.now play.now place row.now finish.now).facts) }
-{
-    if row.is_at(place) {
-        news_from(alloc, inventory, play, place, &finish.items, row.facts())
-    } else {
-        Ok(News::Nothing)
+impl<'a> Copied<'a> {
+    /// What a host that knows this hears once it gets what the task left with another host, which ended it with these items, but for what that gave away.
+    fn news_from(&self, alloc: Global, items: &TaskItems, facts: &Facts) -> Result<News, AllocError>
+        ensures { IfOk result (λ news. heard news facts.now ≡ taught self.now.inventory.now self.now.play.now self.now.place None items.now facts.now) }
+    {
+        let ended = Ended {
+            inventory: self.inventory,
+            play: self.play,
+            place: self.place,
+            result: task_at(self.play, self.place, items).result,
+            items: items.as_slice(),
+        };
+        let shown = registered(alloc, variable_at(self.play, self.place), items.as_slice())?;
+        let news = ended.teaches(alloc, None, &shown, facts)?;
+        Ok(news)
     }
-}
 
-/// The same where a host did something for all.
-fn news_of(
-    alloc: Global,
-    inventory: &Inventory,
-    play: &PlanPlay,
-    place: usize,
-    from: Option<&Row>,
-    row: &Row,
-) -> Result<News, AllocError>
-    ensures { IfOk result (λ news. heard news row.now.facts ≡ (with_copy inventory.now play.now place (option_copied from.entry) row.now).facts) }
-{
-    match from {
-        Some(from) => match from.last() {
-            Some(finish) => news_there(alloc, inventory, play, place, finish, row),
+    /// What a host hears that gets what this other one did, where its next place is that of the task: what that one registered and learnt itself.
+    fn news_there(&self, alloc: Global, finish: &Finish, row: &Row) -> Result<News, AllocError>
+        ensures { IfOk result (λ news. heard news row.now.facts ≡ (copied_if self.now.inventory.now self.now.play.now self.now.place row.now finish.now).facts) }
+    {
+        if row.is_at(self.place) {
+            self.news_from(alloc, &finish.items, row.facts())
+        } else {
+            Ok(News::Nothing)
+        }
+    }
+
+    /// The same where a host did something for all.
+    fn news_of(&self, alloc: Global, row: &Row) -> Result<News, AllocError>
+        ensures { IfOk result (λ news. heard news row.now.facts ≡ (with_copy self.now.inventory.now self.now.play.now self.now.place (option_copied self.now.from) row.now).facts) }
+    {
+        match self.from {
+            Some(from) => match from.last() {
+                Some(finish) => self.news_there(alloc, finish, row),
+                None => Ok(News::Nothing),
+            },
             None => Ok(News::Nothing),
-        },
-        None => Ok(News::Nothing),
+        }
     }
-}
 
-/// The same of the host with this number.
-fn news_at(
-    alloc: Global,
-    inventory: &Inventory,
-    play: &PlanPlay,
-    place: usize,
-    from: Option<&Row>,
-    rows: &[Row],
-    host: HostNo,
-) -> Result<News, AllocError>
-    ensures { IfOk result (λ news. IfSome (slice_get rows.now host.0) (λ row. heard news row.facts ≡ (with_copy inventory.now play.now place (option_copied from.entry) row).facts)) }
-{
-    match rows.get(host.0 as usize) {
-        Some(row) => news_of(alloc, inventory, play, place, from, row),
-        None => Ok(News::Nothing),
+    /// The same of the host with this number.
+    fn news_at(&self, alloc: Global, rows: &[Row], host: HostNo) -> Result<News, AllocError>
+        ensures { IfOk result (λ news. IfSome (slice_get rows.now host.0) (λ row. heard news row.facts ≡ (with_copy self.now.inventory.now self.now.play.now self.now.place (option_copied self.now.from) row).facts)) }
+    {
+        match rows.get(host.0 as usize) {
+            Some(row) => self.news_of(alloc, row),
+            None => Ok(News::Nothing),
+        }
     }
-}
 
-/// What the hosts of the batch hear.
-fn news_inside(
-    alloc: Global,
-    inventory: &Inventory,
-    play: &PlanPlay,
-    place: usize,
-    source: Option<&Row>,
-    rows: &[Row],
-    batch: &HostSet,
-) -> Result<Vec<HostNews>, AllocError>
-    requires insiders { batch.now ≡ map is_inside rows.now }
-    requires outsiders { AreOutside rows.now }
-    ensures { IfOk result (λ all. with_news all.items rows.now ≡ map (copy_heard inventory.now play.now place (option_copied source.entry)) rows.now) }
-{
-    let mut all = Vec::new(alloc);
-    let mut from = 0;
-    while let Some(host) = batch.next_at(from) {
-        let news = news_at(alloc, inventory, play, place, source, rows, host)?;
-        all.push(HostNews { host, news })?;
-        from = behind(batch, host);
+    /// What the hosts of the batch hear.
+    fn news_inside(
+        &self,
+        alloc: Global,
+        rows: &[Row],
+        batch: &HostSet,
+    ) -> Result<Vec<HostNews>, AllocError>
+        requires insiders { batch.now ≡ map is_inside rows.now }
+        requires outsiders { AreOutside rows.now }
+        ensures { IfOk result (λ all. with_news all.items rows.now ≡ map (copy_heard self.now.inventory.now self.now.play.now self.now.place (option_copied self.now.from)) rows.now) }
+    {
+        let mut all = Vec::new(alloc);
+        let mut from = 0;
+        while let Some(host) = batch.next_at(from) {
+            let news = self.news_at(alloc, rows, host)?;
+            all.push(HostNews { host, news })?;
+            from = behind(batch, host);
+        }
+        Ok(all)
     }
-    Ok(all)
+
+    /// Whether a host is broken once it got what another one did for all.
+    pub(crate) fn is_broken_then(&self, row: &Row) -> bool
+        ensures { result ≡ (with_copy self.now.inventory.now self.now.play.now self.now.place (option_copied self.now.from) row.now).is_broken }
+    {
+        match self.from {
+            Some(from) => match from.last() {
+                Some(finish) => {
+                    let breaks_it = breaks(caught_at(self.play, self.place), finish.kind);
+                    row.is_broken() || (row.is_at(self.place) && breaks_it)
+                }
+                None => row.is_broken(),
+            },
+            None => row.is_broken(),
+        }
+    }
+
+    /// Whether more of them are broken then than the play allows.
+    #[tactic(auto, using(crate::proofs::Making::broken_map, crate::proofs::Making::batch_map))]
+    fn has_failed_too_often(&self, rows: &[Row], batch: &HostSet) -> bool
+        requires few { length rows.now < 2 ^ 32 }
+        requires insiders { batch.now ≡ map is_inside rows.now }
+        requires outsiders { AreOutside rows.now }
+        ensures { result ≡ has_failed_too_often self.now.play.now (map (with_copy self.now.inventory.now self.now.play.now self.now.place (option_copied self.now.from)) rows.now) }
+    {
+        let all = count_inside(rows, batch) as u64;
+        let broken = broken_inside(self, rows, batch) as u64;
+        self.play.max_fail_percentage() as u64 * all < 100 * broken
+    }
+
+    /// Whether hosts are halted then.
+    #[tactic(auto, using(crate::proofs::Making::fatal_map))]
+    fn is_halting(&self, rows: &[Row], batch: &HostSet) -> bool
+        requires few { length rows.now < 2 ^ 32 }
+        requires insiders { batch.now ≡ map is_inside rows.now }
+        requires outsiders { AreOutside rows.now }
+        ensures { result ≡ is_halting self.now.play.now self.now.place (map (with_copy self.now.inventory.now self.now.play.now self.now.place (option_copied self.now.from)) rows.now) }
+    {
+        is_fatal_at(self.play, self.place, rows, batch) || self.has_failed_too_often(rows, batch)
+    }
 }
 
 /// Whether a host finished the task at a place, other than by being out of reach.
@@ -264,69 +279,6 @@ fn is_fatal_at(play: &PlanPlay, place: usize, rows: &[Row], batch: &HostSet) -> 
     any_errors_fatal_at(play, place) && some_fatally(play, place, rows, batch)
 }
 
-/// Whether a host is broken once it got what another one did for all.
-pub(crate) fn is_broken_then(
-    inventory: &Inventory,
-    play: &PlanPlay,
-    place: usize,
-    from: Option<&Row>,
-    row: &Row,
-) -> bool
-    ensures { result ≡ (with_copy inventory.now play.now place (option_copied from.entry) row.now).is_broken }
-{
-    // (what only the clause speaks of)
-    let _inventory = inventory;
-    match from {
-        Some(from) => match from.last() {
-            Some(finish) => {
-                let breaks_it = breaks(caught_at(play, place), finish.kind);
-                row.is_broken() || (row.is_at(place) && breaks_it)
-            }
-            None => row.is_broken(),
-        },
-        None => row.is_broken(),
-    }
-}
-
-/// Whether more of them are broken then than the play allows.
-#[tactic(auto, using(crate::proofs::Making::broken_map, crate::proofs::Making::batch_map))]
-fn has_failed_too_often(
-    inventory: &Inventory,
-    play: &PlanPlay,
-    place: usize,
-    from: Option<&Row>,
-    rows: &[Row],
-    batch: &HostSet,
-) -> bool
-    requires few { length rows.now < 2 ^ 32 }
-    requires insiders { batch.now ≡ map is_inside rows.now }
-    requires outsiders { AreOutside rows.now }
-    ensures { result ≡ has_failed_too_often play.now (map (with_copy inventory.now play.now place (option_copied from.entry)) rows.now) }
-{
-    let all = count_inside(rows, batch) as u64;
-    let broken = broken_inside(inventory, play, place, from, rows, batch) as u64;
-    play.max_fail_percentage() as u64 * all < 100 * broken
-}
-
-/// Whether hosts are halted then.
-#[tactic(auto, using(crate::proofs::Making::fatal_map))]
-fn is_halting(
-    inventory: &Inventory,
-    play: &PlanPlay,
-    place: usize,
-    from: Option<&Row>,
-    rows: &[Row],
-    batch: &HostSet,
-) -> bool
-    requires few { length rows.now < 2 ^ 32 }
-    requires insiders { batch.now ≡ map is_inside rows.now }
-    requires outsiders { AreOutside rows.now }
-    ensures { result ≡ is_halting play.now place (map (with_copy inventory.now play.now place (option_copied from.entry)) rows.now) }
-{
-    is_fatal_at(play, place, rows, batch)
-        || has_failed_too_often(inventory, play, place, from, rows, batch)
-}
-
 /// What a host hears.
 pub(crate) struct HostNews {
     pub(crate) host: HostNo,
@@ -401,12 +353,12 @@ fn kind_from(from: Option<&Row>) -> Option<Kind>
 /// What a turn makes of these rows, of which those of the batch are in the set, as the batch goes on from a place, or nothing where it leaves them as
 /// they are: where the task at the place doesn't run once, and no host is halted.
 #[tactic(auto, using(crate::proofs::Making::nothing_new))]
-pub(crate) fn turn_of(
+pub(crate) fn turn_of<'a>(
     alloc: Global,
-    inventory: &Inventory,
-    play: &PlanPlay,
+    inventory: &'a Inventory,
+    play: &'a PlanPlay,
     place: usize,
-    rows: &[Row],
+    rows: &'a [Row],
     batch: &HostSet,
 ) -> Result<Option<TurnMade>, AllocError>
     requires few { length rows.now < 2 ^ 32 }
@@ -415,11 +367,17 @@ pub(crate) fn turn_of(
     ensures { IfOk result (λ made. IsTurnOf inventory.now play.now place rows.now made) }
 {
     let from = source(play, place, rows, batch);
-    let halts = is_halting(inventory, play, place, from, rows, batch);
+    let copied = Copied {
+        inventory,
+        play,
+        place,
+        from,
+    };
+    let halts = copied.is_halting(rows, batch);
     if from.is_none() && !halts {
         return Ok(None);
     }
-    let all = news_inside(alloc, inventory, play, place, from, rows, batch)?;
+    let all = copied.news_inside(alloc, rows, batch)?;
     let turning = Turning {
         place,
         kind: kind_from(from),

@@ -1,22 +1,18 @@
 //! What `hostvars` stands for, with what the rows say that their hosts have learnt.
 
-ghost use Rattle.std.specs.Prelude.{◌≡◌, ℕ, List, true, false, Option, IfOk, IfSome};
-ghost use Rattle.pb_value.specs.Datum.{Datum, null};
+ghost use Rattle.std.specs.Prelude.{◌≡◌, List, false, IfOk, IfSome};
+ghost use Rattle.pb_value.specs.Datum.{null};
 ghost use Rattle.pb_variables.specs.Learnt.{facts_in};
 ghost use Rattle.pb_facts.specs.Facts.{FactsOf};
 ghost use Rattle.pb_variables.specs.Magic.{hostvars, hosts_magic};
 ghost use Rattle.pb_variables.specs.Renewed.{IsRenewed, LearnsAlone};
-ghost use Rattle.pb_outcome.specs.declared.gather.ItemResult.{ItemResult};
-ghost use Rattle.pb_sight.specs.Results.{items_at, came_at};
-ghost use Rattle.pb_sight.specs.Seen.{with_hosts, seen_with};
 ghost use Rattle.pb_state.specs.Machine.{learnt_by};
 
 use pb_facts::facts::Facts;
 use pb_ids::HostNo;
 use pb_one_host::Row;
-use pb_plan::{Plan, PlanPlay};
-use pb_sight::hosts::{hosts_known, reads_at_start, reads_of_result};
-use pb_sight::seen::Seen;
+use pb_plan::Plan;
+use pb_sight::hosts::hosts_known;
 use pb_value::val::{Dict, Val};
 use pb_variables::hostvars::{hosts_magic, renewed};
 use std::alloc::{AllocError, Global};
@@ -40,7 +36,7 @@ fn learnt_in<'a>(alloc: Global, rows: &'a [Row]) -> Result<Vec<&'a Facts>, Alloc
 }
 
 /// The variable `hostvars`, with what the hosts have learnt.
-fn hosts_of(alloc: Global, plan: &Plan, rows: &[Row]) -> Result<Dict, AllocError>
+pub(crate) fn hosts_of(alloc: Global, plan: &Plan, rows: &[Row]) -> Result<Dict, AllocError>
     ensures { IfOk result (λ hosts. hosts ≡ hosts_magic (hostvars plan.now.inventory plan.now.extra (learnt_by rows.now))) }
 {
     let learnt = learnt_in(alloc, rows)?;
@@ -89,59 +85,4 @@ pub(crate) fn unread(alloc: Global) -> Result<Shown, AllocError>
         hosts,
         is_whole: false,
     })
-}
-
-/// The variable `hostvars` as the task at a place may see it as it starts on a host that has learnt this: with what all hosts have learnt where the task
-/// may look it up then, and else without a value, which is the same to the task's items.
-pub(crate) fn hosts_at_start(
-    alloc: Global,
-    plan: &Plan,
-    rows: &[Row],
-    play: &PlanPlay,
-    host: HostNo,
-    facts: &Facts,
-    place: usize,
-) -> Result<Shown, AllocError>
-    ensures same { IfOk result (λ shown. items_at (with_hosts plan.now shown.hosts) play.now host.0 facts.now place
-        ≡ items_at (seen_with plan.now (learnt_by rows.now)) play.now host.0 facts.now place) }
-    ensures whole { IfOk result (λ shown. shown.is_whole ≡ true → shown.hosts ≡ hosts_magic (hostvars plan.now.inventory plan.now.extra (learnt_by rows.now))) }
-{
-    let none = Dict::new(alloc);
-    let seen = Seen::new(plan, &none);
-    let reads = reads_at_start(alloc, &seen, play, host, facts, place)?;
-    if reads {
-        let hosts = hosts_of(alloc, plan, rows)?;
-        return Ok(Shown {
-            hosts,
-            is_whole: true,
-        });
-    }
-    unread(alloc)
-}
-
-/// The same as a report comes in: where what the task says of an attempt doesn't look it up, it has no value, which is the same to what the task says.
-pub(crate) fn hosts_at_report(
-    alloc: Global,
-    plan: &Plan,
-    rows: &[Row],
-    play: &PlanPlay,
-    host: HostNo,
-    facts: &Facts,
-    place: usize,
-) -> Result<Shown, AllocError>
-    ensures same { IfOk result (λ shown. (value : Option Datum) (attempt : ℕ) (item : ItemResult) → came_at (with_hosts plan.now shown.hosts) play.now host.0 facts.now place value attempt item
-        ≡ came_at (seen_with plan.now (learnt_by rows.now)) play.now host.0 facts.now place value attempt item) }
-    ensures whole { IfOk result (λ shown. shown.is_whole ≡ true → shown.hosts ≡ hosts_magic (hostvars plan.now.inventory plan.now.extra (learnt_by rows.now))) }
-{
-    let none = Dict::new(alloc);
-    let seen = Seen::new(plan, &none);
-    let reads = reads_of_result(alloc, &seen, play, host, facts, place)?;
-    if reads {
-        let hosts = hosts_of(alloc, plan, rows)?;
-        return Ok(Shown {
-            hosts,
-            is_whole: true,
-        });
-    }
-    unread(alloc)
 }

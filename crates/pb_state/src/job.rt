@@ -13,6 +13,21 @@ use pb_value::items::Items;
 use pb_value::text::Text;
 use std::alloc::{AllocError, Global};
 
+/// Of which play and which host a job is, and under which ticket.
+#[derive(Clone, Copy)]
+pub(crate) struct Head {
+    pub(crate) play: PlayNo,
+    pub(crate) host: HostNo,
+    pub(crate) ticket: Ticket,
+}
+
+/// The name of the host on which a job runs, and the words that connect to it.
+#[derive(Drop)]
+pub(crate) struct Target {
+    name: Text,
+    connector: Items<Text>,
+}
+
 /// Which attempt at which item a job is, and how many seconds lie before it.
 #[derive(Clone, Copy)]
 pub(crate) struct Attempt {
@@ -67,18 +82,16 @@ fn target_of(alloc: Global, delegate: Option<&Text>, name: &str) -> Result<Text,
     }
 }
 
-/// The job of the next item of the task that a host runs: it runs on the host itself, or on the one that the item is delegated to, by that host's
-/// connector, under this ticket.
+/// The job of the next item of the task that a host runs, under this head: it runs on the host itself, or on the one that the item is delegated to, by that
+/// host's connector.
 pub(crate) fn job_in(
     alloc: Global,
     plan: &Plan,
-    number: PlayNo,
     play: &PlanPlay,
     row: &Row,
-    host: HostNo,
-    ticket: Ticket,
+    head: Head,
 ) -> Result<Option<Job>, AllocError>
-    ensures { IfOk result (λ job. job ≡ row_job plan.now number.0 host ticket play.now row.now) }
+    ensures { IfOk result (λ job. job ≡ row_job plan.now head.play.0 head.host head.ticket play.now row.now) }
 {
     let Some(running) = row.running() else {
         return Ok(None);
@@ -92,13 +105,15 @@ pub(crate) fn job_in(
     let Some(place) = play.tree().place(running.place) else {
         return Ok(None);
     };
-    if plan.host_count() <= host.0 {
+    if plan.host_count() <= head.host.0 {
         return Ok(None);
     }
-    let name = plan.host_name(host);
+    let name = plan.host_name(head.host);
     let delegate = running.items.delegate(item);
-    let target = target_of(alloc, delegate, name)?;
-    let connector = connector_for(alloc, plan, host, delegate)?;
+    let target = Target {
+        name: target_of(alloc, delegate, name)?,
+        connector: connector_for(alloc, plan, head.host, delegate)?,
+    };
     let attempt = running.items.attempt();
     let delay = delay_at(play, running.place, attempt);
     let item = Attempt {
@@ -106,38 +121,40 @@ pub(crate) fn job_in(
         attempt,
         delay,
     };
-    let job = job_with(
-        alloc, number, host, ticket, item, call, name, target, connector, place,
-    )?;
+    let job = head.job(alloc, item, call, name, target, place)?;
     Ok(Some(job))
 }
 
-/// The job of an item that is sent at a place, for a host with this name, on the host of that name with this connector.
-fn job_with(
-    alloc: Global,
-    number: PlayNo,
-    host: HostNo,
-    ticket: Ticket,
-    item: Attempt,
-    call: &Call,
-    name: &str,
-    target: Text,
-    connector: Items<Text>,
-    place: &Place,
-) -> Result<Job, AllocError>
-    ensures { IfOk result (λ job. job ≡ job_with number.0 host ticket (record { item = item.item; attempt = item.attempt; delay = item.delay }) call.now name.now target connector place.now) }
-{
-    Ok(Job {
-        ticket,
-        host,
-        name: Text::from_str(alloc, name)?,
-        play: number,
-        place: place.try_clone()?,
-        item: item.item,
-        attempt: item.attempt,
-        delay: item.delay,
-        target,
-        connector,
-        call: call.try_clone(alloc)?,
-    })
+impl Head {
+    /// The job of an item that is sent at a place, for a host with this name.
+    fn job(
+        self,
+        alloc: Global,
+        item: Attempt,
+        call: &Call,
+        name: &str,
+        target: Target,
+        place: &Place,
+    ) -> Result<Job, AllocError>
+        ensures { IfOk result (λ job. job
+            ≡ job_with self.play.0 self.host self.ticket (record { item = item.item; attempt = item.attempt; delay = item.delay }) call.now name.now target.name target.connector place.now) }
+    {
+        let Target {
+            name: target,
+            connector,
+        } = target;
+        Ok(Job {
+            ticket: self.ticket,
+            host: self.host,
+            name: Text::from_str(alloc, name)?,
+            play: self.play,
+            place: place.try_clone()?,
+            item: item.item,
+            attempt: item.attempt,
+            delay: item.delay,
+            target,
+            connector,
+            call: call.try_clone(alloc)?,
+        })
+    }
 }

@@ -9,7 +9,7 @@ ghost use Rattle.pb_state.specs.Machine.{facts_at, pending_at};
 ghost use Rattle.pb_state.specs.Through.{got_through};
 
 use super::EngineState;
-use crate::job::job_in;
+use crate::job::{Head, job_in};
 use crate::through::{is_done, is_selected};
 use pb_all_hosts::{attempt_in, counts_of, item_in};
 use pb_facts::facts::Facts;
@@ -186,15 +186,12 @@ impl EngineState {
             self.rows.as_slice().get(host.0 as usize),
         ) {
             (Some(play), Some(row)) => {
-                job_in(
-                    alloc,
-                    plan,
-                    PlayNo(self.play as u32),
-                    play,
-                    row,
+                let head = Head {
+                    play: PlayNo(self.play as u32),
                     host,
                     ticket,
-                )
+                };
+                job_in(alloc, plan, play, row, head)
             }
             _ => Ok(None),
         }

@@ -1,7 +1,10 @@
 //! How a job goes out, and how its report comes in.
 
-ghost use Rattle.std.specs.Prelude.{◌≡◌, OnOk, OnErr, IfOk, IfSome, slice_get, true, false};
+ghost use Rattle.std.specs.Prelude.{◌≡◌, ℕ, Option, OnOk, OnErr, IfOk, IfSome, slice_get, true, false};
 ghost use Rattle.std.specs.Option.{option_map_or};
+ghost use Rattle.pb_value.specs.Datum.{Datum};
+ghost use Rattle.pb_outcome.specs.declared.gather.ItemResult.{ItemResult};
+ghost use Rattle.pb_sight.specs.Results.{came_at};
 ghost use Rattle.pb_sight.specs.Seen.{with_hosts};
 ghost use Rattle.pb_state.specs.Machine.{plan_seen};
 ghost use Rattle.pb_state.specs.Known.{IsKnown, hosts_now};
@@ -9,14 +12,16 @@ ghost use Rattle.pb_one_host.specs.Back.{SameTold};
 
 use super::EngineState;
 use crate::event::Event;
-use crate::hosts::{Shown, hosts_at_report, unread};
+use crate::hosts::{Shown, hosts_of, unread};
 use crate::known::keep;
 use pb_all_hosts::{report_row, send_row};
+use pb_facts::facts::Facts;
 use pb_ids::{HostNo, Ticket};
 use pb_one_host::decide;
 use pb_outcome::job::Report;
 use pb_plan::{Plan, PlanPlay};
 use pb_sight::seen::Seen;
+use pb_sight::site::Site;
 use pb_value::val::Dict;
 use std::alloc::AllocError;
 
@@ -101,15 +106,41 @@ impl EngineState {
         let Some(running) = row.running() else {
             return unread(self.alloc);
         };
-        hosts_at_report(
-            self.alloc,
-            plan,
-            rows,
+        self.hosts_at_report(plan, play, row.host(), row.facts(), running.place)
+    }
+
+    /// The variable `hostvars` as the task at a place may see it as a report comes in of a host that has learnt this: where what the task says of an attempt
+    /// doesn't look it up, it has no value, which is the same to what the task says.
+    pub(crate) fn hosts_at_report(
+        &self,
+        plan: &Plan,
+        play: &PlanPlay,
+        host: HostNo,
+        facts: &Facts,
+        place: usize,
+    ) -> Result<Shown, AllocError>
+        ensures same { IfOk result (λ shown. (value : Option Datum) (attempt : ℕ) (item : ItemResult) → came_at (with_hosts plan.now shown.hosts) play.now host.0 facts.now place value attempt item
+            ≡ came_at (plan_seen plan.now self.now) play.now host.0 facts.now place value attempt item) }
+        ensures whole { IfOk result (λ shown. shown.is_whole ≡ true → shown.hosts ≡ hosts_now plan.now self.now) }
+    {
+        let none = Dict::new(self.alloc);
+        let seen = Seen::new(plan, &none);
+        let site = Site {
+            plan: &seen,
             play,
-            row.host(),
-            row.facts(),
-            running.place,
-        )
+            host,
+            facts,
+            place,
+        };
+        let reads = site.reads_of_result(self.alloc)?;
+        if reads {
+            let hosts = hosts_of(self.alloc, plan, self.rows.as_slice())?;
+            return Ok(Shown {
+                hosts,
+                is_whole: true,
+            });
+        }
+        unread(self.alloc)
     }
 
     pub(crate) fn report_in(

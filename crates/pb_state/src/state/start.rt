@@ -6,20 +6,20 @@ ghost use Rattle.std.specs.Option.{option_map_or};
 ghost use Rattle.pb_planes.specs.Set.{is_in as is_member};
 ghost use Rattle.pb_sight.specs.Results.{items_at};
 ghost use Rattle.pb_state.specs.Machine.{facts_at, plan_seen};
-ghost use Rattle.pb_state.specs.Known.{IsKnown, running_at};
+ghost use Rattle.pb_sight.specs.Seen.{with_hosts};
+ghost use Rattle.pb_state.specs.Known.{IsKnown, hosts_now, running_at};
 
 use super::EngineState;
 use crate::event::Event;
-use crate::hosts::hosts_at_start;
+use crate::hosts::{Shown, hosts_of, unread};
 use crate::known::keep;
-use pb_all_hosts::start_row;
 use pb_facts::facts::Facts;
 use pb_ids::HostNo;
 use pb_inventory::inventory::Inventory;
 use pb_one_host::{Decided, TaskItems, decide, numbered};
 use pb_plan::{Plan, PlanPlay};
-use pb_sight::planned::items_at;
 use pb_sight::seen::Seen;
+use pb_sight::site::Site;
 use pb_value::val::Dict;
 use std::alloc::AllocError;
 
@@ -126,15 +126,61 @@ impl EngineState {
     {
         if let Some(hosts) = known.as_ref() {
             let seen = Seen::new(plan, hosts);
-            let items = items_at(self.alloc, &seen, play, host, facts, place)?;
+            let site = Site {
+                plan: &seen,
+                play,
+                host,
+                facts,
+                place,
+            };
+            let items = site.items(self.alloc)?;
             return Ok(TaskItems::of(items));
         }
-        let rows = self.rows.as_slice();
-        let shown = hosts_at_start(self.alloc, plan, rows, play, host, facts, place)?;
+        let shown = self.hosts_at_start(plan, play, host, facts, place)?;
         let seen = Seen::new(plan, &shown.hosts);
-        let items = items_at(self.alloc, &seen, play, host, facts, place)?;
+        let site = Site {
+            plan: &seen,
+            play,
+            host,
+            facts,
+            place,
+        };
+        let items = site.items(self.alloc)?;
         keep(known, shown);
         Ok(TaskItems::of(items))
+    }
+
+    /// The variable `hostvars` as the task at a place may see it as it starts on a host that has learnt this: with what all hosts have learnt where the task
+    /// may look it up then, and else without a value, which is the same to the task's items.
+    pub(crate) fn hosts_at_start(
+        &self,
+        plan: &Plan,
+        play: &PlanPlay,
+        host: HostNo,
+        facts: &Facts,
+        place: usize,
+    ) -> Result<Shown, AllocError>
+        ensures same { IfOk result (λ shown. items_at (with_hosts plan.now shown.hosts) play.now host.0 facts.now place ≡ items_at (plan_seen plan.now self.now) play.now host.0 facts.now place) }
+        ensures whole { IfOk result (λ shown. shown.is_whole ≡ true → shown.hosts ≡ hosts_now plan.now self.now) }
+    {
+        let none = Dict::new(self.alloc);
+        let seen = Seen::new(plan, &none);
+        let site = Site {
+            plan: &seen,
+            play,
+            host,
+            facts,
+            place,
+        };
+        let reads = site.reads_at_start(self.alloc)?;
+        if reads {
+            let hosts = hosts_of(self.alloc, plan, self.rows.as_slice())?;
+            return Ok(Shown {
+                hosts,
+                is_whole: true,
+            });
+        }
+        unread(self.alloc)
     }
 
     /// The task at a place starts on a host with these items.
@@ -152,15 +198,9 @@ impl EngineState {
         ensures err { OnErr result (self.new ≡ self.old) }
     {
         let told = numbered(self.alloc, &items)?;
-        let done = start_row(
-            self.alloc,
-            &mut self.rows,
-            host,
-            inventory,
-            play,
-            place,
-            items,
-        )?;
+        let done = self
+            .rows
+            .start_row(self.alloc, host, inventory, play, place, items)?;
         let is_new = !has_place(self.begun.as_slice(), place);
         begin_at_place(self.begun.as_mut_slice(), place);
         decide(

@@ -8,8 +8,8 @@ use Rattle.pb_all_hosts.proofs.inside.broken_inside.Given as goal
 abbrev pub invariant-loop-host : goal.invariant-loop-host
 invariant-loop-host l = record {
   counted :
-      l.count + count_by (λ (row : HostRow). (with_copy l.inventory l.play l.place (option_copied l.source) row).is_broken) (drop l.from l.rows)
-      ≡ count_by (λ (row : HostRow). (with_copy l.inventory l.play l.place (option_copied l.source) row).is_broken) l.rows;
+      l.count + count_by (λ (row : HostRow). (with_copy l.copied.inventory.now l.copied.play.now l.copied.place (option_copied l.copied.from) row).is_broken) (drop l.from l.rows)
+      ≡ count_by (λ (row : HostRow). (with_copy l.copied.inventory.now l.copied.play.now l.copied.place (option_copied l.copied.from) row).is_broken) l.rows;
   few : l.count ≤ l.from;
 }
 

@@ -14,8 +14,8 @@ use Rattle.pb_all_hosts.proofs.rows.report_row.Goals as goal
 
 pub returns-in-Ok-clause-rows : goal.returns-in-Ok-clause-rows
 returns-in-Ok-clause-rows c =
-    reported_in c.args.plan.now c.args.play.now c.args.outcome.now c.args.host.0 c.args.rows.now c.take_back.new.rows c.decide_row.new.rows c.in_ok-came.ensures.ok
-    (subst (λ (inventory : InventoryOf). c.decide_row.new.rows ≡ given_to (gives_now inventory c.args.play.now c.args.host.0 c.take_back.new.rows) (change c.take_back.new.rows c.args.host.0 (went_on inventory c.args.play.now)))
+    reported_in c.args.plan.now c.args.play.now c.args.outcome.now c.args.host.0 c.args.rows.now c.take_back.new.rows c.decide_row.new.self c.in_ok-came.ensures.ok
+    (subst (λ (inventory : InventoryOf). c.decide_row.new.self ≡ given_to (gives_now inventory c.args.play.now c.args.host.0 c.take_back.new.rows) (change c.take_back.new.rows c.args.host.0 (went_on inventory c.args.play.now)))
     c.inventory.ensures c.in-Ok.ensures.rows)
 
 pub returns-in-Ok-clause-decides : goal.returns-in-Ok-clause-decides

@@ -24,7 +24,7 @@ start_row-requires-clause-room c =
 pub invariant_of-self-2 : goal.invariant_of-self-2
 invariant_of-self-2 c =
     start_bounded c.self.inside.batch c.self.inside.later c.self.inside.play c.self.inside.sends c.args.host.0 c.self.inside.is_open (next_at c.args.self.now c.args.host.0) c.args.inventory.now c.args.play.now c.args.place c.args.items (gifts_at c.args.inventory.now c.args.play.now c.args.place c.args.host.0 c.args.items) c.self.inside.rows
-    c.start_row.new.rows c.numbered.ensures.most
+    c.start_row.new.self c.numbered.ensures.most
     c.self.invariant
     (subst (λ (v : State). v.is_open ≡ true) (sym c.self.view_is) c.requires.open)
     (subst (λ (v : State). at_row (stands_at (next_at c.args.self.now c.args.host.0)) v.rows c.args.host.0 ≡ true) (sym c.self.view_is) (start_stands c.args.self.now c.args.host.0 c.args.play.now c.requires.may))

@@ -6,29 +6,29 @@ use Rattle.pb_all_hosts.specs.Giving.{gifts_at}
 use Rattle.pb_all_hosts.proofs.Asked.{given_due}
 use Rattle.pb_all_hosts.proofs.Outside.{progressed_inside, progressed_waits, progressed_out}
 use Rattle.pb_all_hosts.proofs.TicketOrder.{progressed_quiet}
-use Rattle.pb_all_hosts.proofs.due.start_row.Goals as goal
+use Rattle.pb_all_hosts.proofs.due.DueRows.start_row.Goals as goal
 
 pub start_row-requires-clause-there : goal.start_row-requires-clause-there
-start_row-requires-clause-there c = subst (λ (all : List HostRow). c.args.host.0 < length all) (sym c.rows.view_is) c.requires.there
+start_row-requires-clause-there c = subst (λ (all : List HostRow). c.args.host.0 < length all) (sym c.self.view_is) c.requires.there
 
 pub start_row-requires-clause-batch : goal.start_row-requires-clause-batch
 start_row-requires-clause-batch c =
-    subst (λ (all : List HostRow). IfSome (slice_get all c.args.host.0) (λ (row : HostRow). row.in_batch ≡ true)) (sym c.rows.view_is) c.requires.batch
+    subst (λ (all : List HostRow). IfSome (slice_get all c.args.host.0) (λ (row : HostRow). row.in_batch ≡ true)) (sym c.self.view_is) c.requires.batch
 
 pub start_row-requires-clause-room : goal.start_row-requires-clause-room
 start_row-requires-clause-room c =
-    subst (λ (all : List HostRow). IfSome (slice_get all c.args.host.0) (λ (row : HostRow). IsAtMost row.counts (2 ^ 64 - 2))) (sym c.rows.view_is) c.requires.room
+    subst (λ (all : List HostRow). IfSome (slice_get all c.args.host.0) (λ (row : HostRow). IsAtMost row.counts (2 ^ 64 - 2))) (sym c.self.view_is) c.requires.room
 
-pub invariant_of-rows-2 : goal.invariant_of-rows-2
-invariant_of-rows-2 c =
+pub invariant_of-self-2 : goal.invariant_of-self-2
+invariant_of-self-2 c =
     given_due (gifts_at c.args.inventory.now c.args.play.now c.args.place c.args.host.0 c.args.items) (progressed c.args.inventory.now c.args.play.now c.args.place c.args.items)
     (progressed_quiet c.args.inventory.now c.args.play.now c.args.place c.args.items)
     (progressed_inside c.args.inventory.now c.args.play.now c.args.place c.args.items)
-    (progressed_waits c.args.inventory.now c.args.play.now c.args.place c.args.items) c.args.host.0 c.rows.inside.sends c.ask_one.new.sends c.rows.inside.standings c.ask_one.new.standings c.rows.inside.batch c.rows.inside.waits c.rows.inside.out.items c.drop_job.new.all.items
-    c.rows.inside.rows c.start_row.new.rows
-    (progressed_out c.args.inventory.now c.args.play.now c.args.place c.args.items c.rows.inside.rows c.args.host.0
-    (subst (λ (all : List HostRow). IfSome (slice_get all c.args.host.0) (λ (row : HostRow). row.in_batch ≡ true)) (sym c.rows.view_is) c.requires.batch))
-    c.rows.invariant
+    (progressed_waits c.args.inventory.now c.args.play.now c.args.place c.args.items) c.args.host.0 c.self.inside.sends c.ask_one.new.sends c.self.inside.standings c.ask_one.new.standings c.self.inside.batch c.self.inside.waits c.self.inside.out.items c.drop_job.new.all.items
+    c.self.inside.rows c.start_row.new.self
+    (progressed_out c.args.inventory.now c.args.play.now c.args.place c.args.items c.self.inside.rows c.args.host.0
+    (subst (λ (all : List HostRow). IfSome (slice_get all c.args.host.0) (λ (row : HostRow). row.in_batch ≡ true)) (sym c.self.view_is) c.requires.batch))
+    c.self.invariant
     c.in_ok-done.ensures.rows
     c.ask_one.ensures.sends
     c.ask_one.ensures.stands
