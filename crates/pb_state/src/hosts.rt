@@ -1,6 +1,6 @@
 //! What `hostvars` stands for, with what the rows say that their hosts have learnt.
 
-ghost use Rattle.std.specs.Prelude.{◌≡◌, List, false, IfOk, IfSome};
+ghost use Rattle.std.specs.Prelude.{◌≡◌, List, true, false, IfOk, IfSome};
 ghost use Rattle.pb_value.specs.Datum.{null};
 ghost use Rattle.pb_variables.specs.Learnt.{facts_in};
 ghost use Rattle.pb_facts.specs.Facts.{FactsOf};
@@ -35,12 +35,17 @@ fn learnt_in<'a>(alloc: Global, rows: &'a [Row]) -> Result<Vec<&'a Facts>, Alloc
     Ok(learnt)
 }
 
-/// The variable `hostvars`, with what the hosts have learnt.
-pub(crate) fn hosts_of(alloc: Global, plan: &Plan, rows: &[Row]) -> Result<Dict, AllocError>
-    ensures { IfOk result (λ hosts. hosts ≡ hosts_magic (hostvars plan.now.inventory plan.now.extra (learnt_by rows.now))) }
+/// The variable `hostvars` with what the hosts have learnt, as each task may see it.
+pub(crate) fn whole(alloc: Global, plan: &Plan, rows: &[Row]) -> Result<Shown, AllocError>
+    ensures hosts { IfOk result (λ shown. shown.hosts ≡ hosts_magic (hostvars plan.now.inventory plan.now.extra (learnt_by rows.now))) }
+    ensures whole { IfOk result (λ shown. shown.is_whole ≡ true) }
 {
     let learnt = learnt_in(alloc, rows)?;
-    hosts_known(alloc, plan, learnt.as_slice())
+    let hosts = hosts_known(alloc, plan, learnt.as_slice())?;
+    Ok(Shown {
+        hosts,
+        is_whole: true,
+    })
 }
 
 /// The variable `hostvars` with what one host has learnt put anew, where it can be.

@@ -12,7 +12,7 @@ ghost use Rattle.pb_one_host.specs.Back.{SameTold};
 
 use super::EngineState;
 use crate::event::Event;
-use crate::hosts::{Shown, hosts_of, unread};
+use crate::hosts::{Shown, unread, whole};
 use crate::known::keep;
 use pb_all_hosts::{report_row, send_row};
 use pb_facts::facts::Facts;
@@ -134,11 +134,8 @@ impl EngineState {
         };
         let reads = site.reads_of_result(self.alloc)?;
         if reads {
-            let hosts = hosts_of(self.alloc, plan, self.rows.as_slice())?;
-            return Ok(Shown {
-                hosts,
-                is_whole: true,
-            });
+            let shown = whole(self.alloc, plan, self.rows.as_slice())?;
+            return Ok(shown);
         }
         unread(self.alloc)
     }

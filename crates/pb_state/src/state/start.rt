@@ -11,7 +11,7 @@ ghost use Rattle.pb_state.specs.Known.{IsKnown, hosts_now, running_at};
 
 use super::EngineState;
 use crate::event::Event;
-use crate::hosts::{Shown, hosts_of, unread};
+use crate::hosts::{Shown, unread, whole};
 use crate::known::keep;
 use pb_facts::facts::Facts;
 use pb_ids::HostNo;
@@ -174,11 +174,8 @@ impl EngineState {
         };
         let reads = site.reads_at_start(self.alloc)?;
         if reads {
-            let hosts = hosts_of(self.alloc, plan, self.rows.as_slice())?;
-            return Ok(Shown {
-                hosts,
-                is_whole: true,
-            });
+            let shown = whole(self.alloc, plan, self.rows.as_slice())?;
+            return Ok(shown);
         }
         unread(self.alloc)
     }
