@@ -117,21 +117,16 @@ told_seeing plan play h facts place start is unread =
     is unread
 
 -- where the value is the same, so is the rest
-pub items_known : (plan : PlanOf) (play : PlayOf) (h : ℕ) (facts : FactsOf) (p : ℕ) (hosts others : Map) → hosts ≡ others →
-    items_at (with_hosts plan hosts) play h facts p ≡ items_at (with_hosts plan others) play h facts p
-items_known plan play h facts p hosts others is = ap (λ (m : Map). items_at (with_hosts plan m) play h facts p) is
-
-pub told_known : (plan : PlanOf) (play : PlayOf) (h : ℕ) (facts : FactsOf) (p : ℕ) (hosts others : Map) (value : Option Datum) (attempt : ℕ) (item : ItemResult) → hosts ≡ others →
+told_known : (plan : PlanOf) (play : PlayOf) (h : ℕ) (facts : FactsOf) (p : ℕ) (hosts others : Map) (value : Option Datum) (attempt : ℕ) (item : ItemResult) → hosts ≡ others →
     came_at (with_hosts plan hosts) play h facts p value attempt item ≡ came_at (with_hosts plan others) play h facts p value attempt item
 told_known plan play h facts p hosts others value attempt item is = ap (λ (m : Map). came_at (with_hosts plan m) play h facts p value attempt item) is
 
--- a plan whose `hostvars` has no value, to a task that doesn't look it up
-pub items_not_read : (plan seen : PlanOf) (play : PlayOf) (h : ℕ) (facts : FactsOf) (p : ℕ) (learnt : List FactsOf) (none hosts : Map) (reads : Bool) (value : Datum) → seen ≡ with_hosts plan none →
-    reads ≡ false → (reads ≡ false → ItemsUnread seen play h facts (place_for seen play h p)) → hosts ≡ hosts_magic value →
-    items_at (with_hosts plan hosts) play h facts p ≡ items_at (seen_with plan learnt) play h facts p
-items_not_read plan seen play h facts p learnt none hosts reads value s not_read unread is =
-    items_known plan play h facts p hosts (hosts_magic value) is
-    ∙ items_unread plan play h facts p value (hostvars plan.inventory plan.extra learnt) (subst (λ (q : PlanOf). ItemsUnread q play h facts (place_for q play h p)) s (unread not_read))
+-- a plan whose `hostvars` has another value, to a task that doesn't look it up
+pub items_not_read : (plan seen : PlanOf) (play : PlayOf) (h : ℕ) (facts : FactsOf) (p : ℕ) (learnt : List FactsOf) (hosts : Map) (value : Datum) → seen ≡ with_hosts plan hosts → hosts ≡ hosts_magic value →
+    ItemsUnread seen play h facts (place_for seen play h p) → items_at seen play h facts p ≡ items_at (seen_with plan learnt) play h facts p
+items_not_read plan seen play h facts p learnt hosts value s is unread =
+    ap (λ (q : PlanOf). items_at q play h facts p) s ∙ ap (λ (m : Map). items_at (with_hosts plan m) play h facts p) is
+    ∙ items_unread plan play h facts p value (hostvars plan.inventory plan.extra learnt) (subst (λ (q : PlanOf). ItemsUnread q play h facts (place_for q play h p)) s unread)
 
 pub told_not_read : (plan seen : PlanOf) (play : PlayOf) (h : ℕ) (facts : FactsOf) (p : ℕ) (learnt : List FactsOf) (none hosts : Map) (reads : Bool) (value : Datum) → seen ≡ with_hosts plan none →
     reads ≡ false → (reads ≡ false → ToldUnread seen play h facts (place_for seen play h p)) → hosts ≡ hosts_magic value → (told : Option Datum) (attempt : ℕ) (item : ItemResult) →

@@ -1,18 +1,23 @@
 //! What `hostvars` stands for where a task may look it up.
 
-ghost use Rattle.std.specs.Prelude.{◌≡◌, ◌<◌, false, length, Some, IfOk};
+ghost use Rattle.std.specs.Prelude.{◌≡◌, ◌<◌, ◌≤◌, false, length, Some, IfOk, IfSome};
 ghost use Rattle.pb_variables.specs.Learnt.{facts_in};
 ghost use Rattle.pb_variables.specs.Magic.{hostvars, hosts_magic};
-ghost use Rattle.pb_sight.specs.Results.{place_for};
+ghost use Rattle.pb_items.specs.Loops.{max_items};
+ghost use Rattle.pb_sight.specs.Results.{items_at, items_for, place_for};
 ghost use Rattle.pb_sight.specs.Unread.{ItemsUnread, ToldUnread};
 
 use crate::own::Own;
+use crate::planned::no_task;
 use crate::sight::Sight;
 use crate::site::Site;
 use pb_facts::facts::Facts;
+use pb_items::items::items;
+use pb_outcome::item::Item;
 use pb_places::Place;
 use pb_plan::Plan;
 use pb_reach::reach::tells;
+use pb_value::items::Items;
 use pb_value::val::Dict;
 use pb_variables::hostvars::{hosts_magic, hostvars};
 use std::alloc::{AllocError, Global};
@@ -26,25 +31,40 @@ pub fn hosts_known(alloc: Global, plan: &Plan, learnt: &[&Facts]) -> Result<Dict
 }
 
 impl<'a> Site<'a> {
-    /// Whether the items of the task at a place may look `hostvars` up.
-    fn start_reads(&self, alloc: Global, place: &Place) -> Result<bool, AllocError>
+    /// The items of the task at a place as it starts, where they may not look `hostvars` up.
+    fn unread_items_for(
+        &self,
+        alloc: Global,
+        place: &Place,
+    ) -> Result<Option<Items<Item>>, AllocError>
         requires { self.now.host.0 < length self.now.plan.now.inventory.hosts }
-        ensures { IfOk result (λ reads. reads ≡ false → ItemsUnread self.now.plan.now self.now.play.now self.now.host.0 self.now.facts.now (Some place.now)) }
+        ensures value { IfOk result (λ found. IfSome found (λ items. items ≡ items_for self.now.plan.now self.now.play.now self.now.host.0 self.now.facts.now place.now)) }
+        ensures unread { IfOk result (λ found. IfSome found (λ _. ItemsUnread self.now.plan.now self.now.play.now self.now.host.0 self.now.facts.now (Some place.now))) }
+        ensures few { IfOk result (λ found. IfSome found (λ items. length items ≤ max_items)) }
     {
         let own = Own::of(alloc, self.plan, self.host)?;
         let sight = Sight::of(self.plan, self.play, self.host, self.facts, place, &own);
-        Ok(sight.is_read_at_start())
+        if sight.is_read_at_start() {
+            return Ok(None);
+        }
+        let items = items(alloc, &sight.start())?;
+        Ok(Some(items))
     }
 
-    /// Whether the task may look `hostvars` up as it starts. Where it may not, it has the same items whatever `hostvars` stands for. The only error is want
-    /// of memory.
-    pub fn reads_at_start(&self, alloc: Global) -> Result<bool, AllocError>
-        ensures { IfOk result (λ reads. reads ≡ false → ItemsUnread self.now.plan.now self.now.play.now self.now.host.0 self.now.facts.now
-            (place_for self.now.plan.now self.now.play.now self.now.host.0 self.now.place)) }
+    /// The items of the task as it starts, where they may not look `hostvars` up: they are the same whatever it stands for. The only error is want of memory.
+    #[tactic(auto, unfolding(crate::specs::Results::items_at))]
+    pub fn unread_items(&self, alloc: Global) -> Result<Option<Items<Item>>, AllocError>
+        ensures value { IfOk result (λ found. IfSome found (λ items. items ≡ items_at self.now.plan.now self.now.play.now self.now.host.0 self.now.facts.now self.now.place)) }
+        ensures unread { IfOk result (λ found. IfSome found (λ _. ItemsUnread self.now.plan.now self.now.play.now self.now.host.0 self.now.facts.now
+            (place_for self.now.plan.now self.now.play.now self.now.host.0 self.now.place))) }
+        ensures few { IfOk result (λ found. IfSome found (λ items. length items ≤ max_items)) }
     {
         match self.found() {
-            Some(place) => self.start_reads(alloc, place),
-            None => Ok(false),
+            Some(place) => self.unread_items_for(alloc, place),
+            None => {
+                let items = no_task(alloc)?;
+                Ok(Some(items))
+            }
         }
     }
 

@@ -2,8 +2,8 @@
 //!
 //! For the layer above: `Seen` is a plan as tasks see it, with `hostvars` behind its magic variables, and a `Site` is the task at hand: its `items` are
 //! those with which it starts on its host, and `came` says what an attempt at an item comes to whose job came back, by what the task tells
-//! (`specs/Results.antt`): a task without `changed_when`, `failed_when` and retries tells nothing, and no scope is made for it. `reads_at_start` tells
-//! whether its items may look `hostvars` up, which `hosts_known` makes, and `reads_of_result` whether what it tells of a result may
+//! (`specs/Results.antt`): a task without `changed_when`, `failed_when` and retries tells nothing, and no scope is made for it. `unread_items`
+//! are its items where they may not look `hostvars` up, which `hosts_known` makes, and `reads_of_result` says whether what it tells of a result may
 //! (`specs/Unread.antt`). An `Ended` is a task that ended: what a host knows then is what it `teaches` it (`specs/Learning.antt`), and it `gives` facts to
 //! other hosts (`specs/Gifts.antt`). Nothing here knows of events or of what a host runs. Only want of memory may come in place of an answer.
 #![tactic(auto)]

@@ -17,7 +17,7 @@ use pb_value::val::{Node, Val};
 use std::alloc::{AllocError, Global};
 
 /// The one item of a place without a task, which has nothing to run.
-fn no_task(alloc: Global) -> Result<Items<Item>, AllocError>
+pub(crate) fn no_task(alloc: Global) -> Result<Items<Item>, AllocError>
     ensures value { IfOk result (λ items. items ≡ record { value = None; delegate = None; tried = 0; step = Decided nothing } ∷ []) }
     ensures few { IfOk result (λ items. length items ≤ max_items) }
 {

@@ -17,7 +17,11 @@ use Rattle.pb_outcome.specs.Results.{judged}
 use Rattle.pb_inventory.specs.InventoryOf.{InventoryOf}
 use Rattle.pb_plan.specs.Plan.{PlayOf, PlanOf}
 use Rattle.pb_variables.specs.Learnt.{facts_in}
-use Rattle.pb_sight.specs.Results.{came_at}
+use Rattle.pb_variables.specs.Magic.{hosts_magic}
+use Rattle.pb_sight.specs.Results.{came_at, items_at, place_for}
+use Rattle.pb_sight.specs.Seen.{with_hosts, seen_with}
+use Rattle.pb_sight.specs.Unread.{ItemsUnread}
+use Rattle.pb_sight.proofs.ReadHosts.{items_not_read}
 use Rattle.pb_one_host.specs.declared.decided.Decided.{Decided}
 use Rattle.pb_one_host.specs.declared.row.Running.{Running}
 use Rattle.pb_one_host.specs.Attempts.{attempt_after, back_in}
@@ -109,3 +113,10 @@ seen_same seen other s r play one is inv same =
     (rows_same one other inv play r.outcome s.rows r.host.0 (slice_get s.rows r.host.0) refl same)
     ∙ ap (λ (d : Option Decided). record s { rows = given_to (report_gives other play r.outcome r.host.0 s.rows) (change s.rows r.host.0 (reported other play r.outcome)); decided = d })
     (decides_same one other play r.outcome (slice_get s.rows r.host.0) same)
+
+-- the items of a task that doesn't look `hostvars` up, where these are found
+pub found_unread : (plan seen : PlanOf) (play : PlayOf) (h : ℕ) (facts : FactsOf) (p : ℕ) (learnt : List FactsOf) (hosts : List (List ℕ × Datum)) (value : Datum) (found : Option (List Item)) → seen ≡ with_hosts plan hosts → hosts ≡ hosts_magic value →
+    IfSome found (λ items. items ≡ items_at seen play h facts p) → IfSome found (λ (items : List Item). ItemsUnread seen play h facts (place_for seen play h p)) →
+    IfSome found (λ items. items ≡ items_at (seen_with plan learnt) play h facts p)
+found_unread plan seen play h facts p learnt hosts value None s m is unread = tt
+found_unread plan seen play h facts p learnt hosts value (Some items) s m is unread = is ∙ items_not_read plan seen play h facts p learnt hosts value s m unread

@@ -1,25 +1,26 @@
 //! How the task at a place starts on a host.
 
-ghost use Rattle.std.specs.Prelude.{◌≡◌, OnOk, OnErr, IfOk, true, false, Some};
+ghost use Rattle.std.specs.Prelude.{◌≡◌, ◌≤◌, OnOk, OnErr, IfOk, IfSome, length, true, false, Some};
 ghost use Rattle.std.specs.Prelude.{slice_set};
 ghost use Rattle.std.specs.Option.{option_map_or};
 ghost use Rattle.pb_planes.specs.Set.{is_in as is_member};
 ghost use Rattle.pb_sight.specs.Results.{items_at};
 ghost use Rattle.pb_state.specs.Machine.{facts_at, plan_seen};
-ghost use Rattle.pb_sight.specs.Seen.{with_hosts};
-ghost use Rattle.pb_state.specs.Known.{IsKnown, hosts_now, running_at};
+ghost use Rattle.pb_state.specs.Known.{IsKnown, running_at};
 
 use super::EngineState;
 use crate::event::Event;
-use crate::hosts::{Shown, unread, whole};
+use crate::hosts::{unread, whole};
 use crate::known::keep;
 use pb_facts::facts::Facts;
 use pb_ids::HostNo;
 use pb_inventory::inventory::Inventory;
 use pb_one_host::{Decided, TaskItems, decide, numbered};
+use pb_outcome::item::Item;
 use pb_plan::{Plan, PlanPlay};
 use pb_sight::seen::Seen;
 use pb_sight::site::Site;
+use pb_value::items::Items;
 use pb_value::val::Dict;
 use std::alloc::AllocError;
 
@@ -136,7 +137,10 @@ impl EngineState {
             let items = site.items(self.alloc)?;
             return Ok(TaskItems::of(items));
         }
-        let shown = self.hosts_at_start(plan, play, host, facts, place)?;
+        if let Some(items) = self.unread_items(plan, play, host, facts, place)? {
+            return Ok(TaskItems::of(items));
+        }
+        let shown = whole(self.alloc, plan, self.rows.as_slice())?;
         let seen = Seen::new(plan, &shown.hosts);
         let site = Site {
             plan: &seen,
@@ -150,21 +154,20 @@ impl EngineState {
         Ok(TaskItems::of(items))
     }
 
-    /// The variable `hostvars` as the task at a place may see it as it starts on a host that has learnt this: with what all hosts have learnt where the task
-    /// may look it up then, and else without a value, which is the same to the task's items.
-    pub(crate) fn hosts_at_start(
+    /// The same where they may not look `hostvars` up, which has no value then.
+    pub(crate) fn unread_items(
         &self,
         plan: &Plan,
         play: &PlanPlay,
         host: HostNo,
         facts: &Facts,
         place: usize,
-    ) -> Result<Shown, AllocError>
-        ensures same { IfOk result (λ shown. items_at (with_hosts plan.now shown.hosts) play.now host.0 facts.now place ≡ items_at (plan_seen plan.now self.now) play.now host.0 facts.now place) }
-        ensures whole { IfOk result (λ shown. shown.is_whole ≡ true → shown.hosts ≡ hosts_now plan.now self.now) }
+    ) -> Result<Option<Items<Item>>, AllocError>
+        ensures items { IfOk result (λ found. IfSome found (λ items. items ≡ items_at (plan_seen plan.now self.now) play.now host.0 facts.now place)) }
+        ensures few { IfOk result (λ found. IfSome found (λ items. length items ≤ 10000)) }
     {
-        let none = Dict::new(self.alloc);
-        let seen = Seen::new(plan, &none);
+        let shown = unread(self.alloc)?;
+        let seen = Seen::new(plan, &shown.hosts);
         let site = Site {
             plan: &seen,
             play,
@@ -172,12 +175,8 @@ impl EngineState {
             facts,
             place,
         };
-        let reads = site.reads_at_start(self.alloc)?;
-        if reads {
-            let shown = whole(self.alloc, plan, self.rows.as_slice())?;
-            return Ok(shown);
-        }
-        unread(self.alloc)
+        let found = site.unread_items(self.alloc)?;
+        Ok(found)
     }
 
     /// The task at a place starts on a host with these items.
