@@ -127,30 +127,37 @@ impl EngineState {
     {
         if let Some(hosts) = known.as_ref() {
             let seen = Seen::new(plan, hosts);
-            let site = Site {
-                plan: &seen,
-                play,
-                host,
-                facts,
-                place,
-            };
-            let items = site.items(self.alloc)?;
-            return Ok(TaskItems::of(items));
+            return self.items_seeing(&seen, play, host, facts, place);
         }
         if let Some(items) = self.unread_items(plan, play, host, facts, place)? {
             return Ok(TaskItems::of(items));
         }
         let shown = whole(self.alloc, plan, self.rows.as_slice())?;
         let seen = Seen::new(plan, &shown.hosts);
+        let items = self.items_seeing(&seen, play, host, facts, place)?;
+        keep(known, shown);
+        Ok(items)
+    }
+
+    /// The items of the task at a place as it starts on a host that has learnt this, where it sees the plan so.
+    pub(crate) fn items_seeing(
+        &self,
+        plan: &Seen,
+        play: &PlanPlay,
+        host: HostNo,
+        facts: &Facts,
+        place: usize,
+    ) -> Result<TaskItems, AllocError>
+        ensures { IfOk result (λ items. items ≡ items_at plan.now play.now host.0 facts.now place) }
+    {
         let site = Site {
-            plan: &seen,
+            plan,
             play,
             host,
             facts,
             place,
         };
         let items = site.items(self.alloc)?;
-        keep(known, shown);
         Ok(TaskItems::of(items))
     }
 
