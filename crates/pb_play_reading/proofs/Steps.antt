@@ -5,7 +5,7 @@ use Rattle.std.specs.Result.{IsErrAnd}
 use Rattle.pb_value.specs.Datum.{Datum}
 use Rattle.pb_value.specs.Reading.{and_then, map_ok}
 use Rattle.pb_reading.specs.Ahead.{Takes}
-use Rattle.pb_reading.specs.Fields.{Ahead, Read, field_or, others, rule, value_of}
+use Rattle.pb_reading.specs.Fields.{Ahead, Part, Read, field_or, others, rule, value_of}
 use Rattle.pb_reading.specs.Reading.{Reading, Stops, Gives, each_of, required}
 use Rattle.pb_reading.specs.Simple.{text}
 use Rattle.pb_reading.specs.declared.stop.Stop.{Stop}
@@ -61,6 +61,23 @@ stops_rule : {A S : Type 0} (s : Stop LoadFault) (r : Reading A LoadFault) (a : 
 stops_rule stop.Memory r a stops = stops
 stops_rule (stop.WrongShape path) r a stops = ap (λ r. rule r a) stops
 stops_rule (stop.Fault f) r a stops = ap (λ r. rule r a) stops
+
+-- two parts, one behind the other, and what is made of them
+abbrev pub both_parts : {S A B C : Type 0} → (A → B → C) → Part S LoadFault A → Part S LoadFault B → Part S LoadFault C
+both_parts made first second a = and_then (first a) (λ x. and_then (second x.ahead) (λ y. rule (Ok (made x.value y.value)) y.ahead))
+
+behind_first : {S A B C : Type 0} (made : A → B → C) (first : Part S LoadFault A) (second : Part S LoadFault B) (a b : Ahead S) (x : A) → first a ≡ Ok (record { value = x; ahead = b })
+    → both_parts made first second a ≡ and_then (second b) (λ y. rule (Ok (made x y.value)) y.ahead)
+behind_first made first second a b x e = ap (λ r. and_then r (λ x. and_then (second x.ahead) (λ y. rule (Ok (made x.value y.value)) y.ahead))) e
+
+pub second_stops : {S A B C : Type 0} (made : A → B → C) (first : Part S LoadFault A) (second : Part S LoadFault B) (a b : Ahead S) (x : A) (s : Stop LoadFault) → first a ≡ Ok (record { value = x; ahead = b })
+    → Stops s (second b) → Stops s (both_parts made first second a)
+second_stops made first second a b x s e stops =
+    subst (Stops s) (sym (behind_first made first second a b x e)) (stops_then s (second b) (λ y. rule (Ok (made x y.value)) y.ahead) stops)
+
+pub both_are : {S A B C : Type 0} (made : A → B → C) (first : Part S LoadFault A) (second : Part S LoadFault B) (a b d : Ahead S) (x : A) (y : B) → first a ≡ Ok (record { value = x; ahead = b })
+    → second b ≡ Ok (record { value = y; ahead = d }) → both_parts made first second a ≡ Ok (record { value = made x y; ahead = d })
+both_are made first second a b d x y e f = behind_first made first second a b x e ∙ ap (λ r. and_then r (λ y. rule (Ok (made x y.value)) y.ahead)) f
 
 -- what `assert` says, behind `msg`
 abbrev with_messages : Option Datum → Option Datum → Read (Option Datum) NoArguments → Reading (Read Said NoArguments) LoadFault

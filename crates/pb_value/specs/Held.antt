@@ -1,10 +1,16 @@
--- The entries of a dict, in whichever way they stand.
-use Rattle.std.specs.Prelude.{List, String}
+-- The entries of a dict, and the bytes of a text, in whichever way they stand.
+use Rattle.std.specs.Prelude.{ℕ, List, String, string_bytes}
 use Rattle.std.specs.declared.alloc.Global.{Global}
 use Rattle.pb_value.specs.Datum.{Datum}
 use Rattle.pb_value.specs.declared.val.Store.{Store}
 use Rattle.pb_value.specs.declared.val.Store.TheVariants.{Few, Many}
+use Rattle.pb_value.specs.declared.text.Bytes.{Bytes}
+use Rattle.pb_value.specs.declared.text.Bytes.TheVariants.{Short, Long}
 
 abbrev pub held : Store → List (String Global × Datum)
 held (Few row) = row.items
 held (Many map) = map.entries
+
+abbrev pub bytes_of : Bytes → List ℕ
+bytes_of (Short s) = s.bytes
+bytes_of (Long s) = string_bytes s
