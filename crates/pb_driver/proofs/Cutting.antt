@@ -35,6 +35,16 @@ part_none t bytes = (0, none_more t)
 pub part_as : (t u : Option (List ℕ)) (bytes lines : List ℕ) → bytes ≡ lines → IsPart t u bytes → IsPart t u lines
 part_as t u bytes lines is part = rw (← is) part
 
+-- of two texts a front of the first was written, or the first whole and a front of the second, or both
+pub part_front : (t u : Option (List ℕ)) (a b : List ℕ) → IsPart t u a → IsPart t u (a ++ b)
+part_front t u a b part = (min part.0 (length a), part.1 ∙ ap (λ l. with_more t l) (sym (take_min part.0 a) ∙ sym (take-append-le (min part.0 (length a)) a b (omega arith))))
+
+pub part_behind : (t m u : Option (List ℕ)) (a b : List ℕ) → m ≡ with_more t a → IsPart m u b → IsPart t u (a ++ b)
+part_behind t m u a b mid part = (length a + part.0, part.1 ∙ ap (λ w. with_more w (take part.0 b)) mid ∙ more_more t a (take part.0 b) ∙ ap (λ l. with_more t l) (sym (take_behind part.0 a b)))
+
+pub took_both : (t m u : Option (List ℕ)) (a b : List ℕ) → m ≡ with_more t a → u ≡ with_more m b → u ≡ with_more t (a ++ b)
+took_both t m u a b mid end = end ∙ ap (λ w. with_more w b) mid ∙ more_more t a b
+
 -- fewer events have no more lines
 fewer_lines : (plan : PlanOf) (s : State) (k : ℕ) (es : List Event) → length (lines_from plan s (take k es)) ≤ length (lines_from plan s es)
 fewer_lines plan s zero es = omega arith

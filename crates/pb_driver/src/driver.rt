@@ -1,6 +1,6 @@
 //! The driver.
 
-ghost use Rattle.std.specs.Prelude.{◌≡◌, ◌≢◌, ◌<◌, ◌≤◌, ◌-◌, ◌⊎◌, ◌++◌, [], ℕ, List, drop, length, slice_get, IfOk, IfErr, OnOk, OnErr, Ok, Err, true, false};
+ghost use Rattle.std.specs.Prelude.{◌≡◌, ◌≢◌, ◌<◌, ◌≤◌, ◌-◌, ◌⊎◌, [], ℕ, List, drop, length, slice_get, IfOk, IfErr, OnOk, OnErr, Ok, Err, true, false};
 ghost use Rattle.std.specs.List.{list_any};
 ghost use Rattle.pb_state.specs.Run.{IsQuiet};
 ghost use Rattle.std.specs.Option.{option_map_or};
@@ -8,21 +8,22 @@ ghost use Rattle.pb_one_host.specs.Runs.{is_out};
 ghost use Rattle.pb_engine.specs.Commands.{event_for};
 ghost use Rattle.pb_engine.specs.EngineOf.{EngineOf, LessWork, IsSound, Takes, engine_of};
 ghost use Rattle.pb_recap.specs.Recap.{recap};
-ghost use Rattle.pb_driver.specs.Taken.{with_more, one_more};
-ghost use Rattle.pb_driver.specs.Output.{output, end_lines};
+ghost use Rattle.pb_driver.specs.Taken.{one_more};
+ghost use Rattle.pb_driver.specs.Output.{output};
 ghost use Rattle.pb_driver.specs.Crews.{FitsSince, HasFitEnd};
-ghost use Rattle.pb_driver.specs.Cut.{IsPart, IsCut, Breaks};
+ghost use Rattle.pb_driver.specs.Cut.{IsCut, Breaks};
 ghost use Rattle.pb_driver.specs.Mails.{GoesAlong, GoesOver, HasGoneTo, mails_of};
 ghost use Rattle.pb_driver.specs.Ran.{IsRanTo};
 ghost use Rattle.pb_driver.specs.Commanded.{IsAlong, IsObeyed, IsObeyedTo, count_report, is_taken, none_due};
-ghost use Rattle.pb_driver.specs.Driven.{IsSame, Keeps, TakesOne, TakesAtMost, TakesCommands, TakesOwn, HasBegun, HasEnded, last_lines, IsWhole, IsWholeRun, IsBegun, IsBegunBy, IsTold, IsFresh};
+ghost use Rattle.pb_driver.specs.Driven.{IsSame, Keeps, TakesOne, TakesAtMost, TakesCommands, TakesOwn, HasBegun, HasEnded, IsWhole, IsWholeRun, IsBegun, IsBegunBy, IsTold, IsFresh};
 
 use crate::alone::Alone;
 use crate::crew::Crew;
+use crate::emitting::{emit, emit_end};
 use crate::given::{Given, Told, count_last, next_due};
 use crate::line_out::{Failed, LineOut, put_all};
 use pb_engine::{CommandFault, Engine, EngineFault, Next, Picker, Refusal};
-use pb_events::{lines_of, start_line};
+use pb_events::start_line;
 use pb_recap::Recap;
 use pb_runner::runner::Runner;
 use pb_state::{Event, Plan};
@@ -87,22 +88,6 @@ pub struct Ended {
     pub recap: Recap,
     /// 0 where no task failed and no host was out of reach, 2 where a task failed, else 4.
     pub status: u8,
-}
-
-/// Writes the lines of the last event.
-#[tactic(auto, using(crate::proofs::Cutting::part_none, crate::proofs::Cutting::part_as))]
-fn emit<W: LineOut>(alloc: Global, engine: &Engine, writer: &mut W) -> Result<(), RunFault>
-    ensures took { OnOk result (W.taken writer.new ≡ with_more (W.taken writer.old) (last_lines engine.now)) }
-    ensures part { OnErr result (IsPart (W.taken writer.old) (W.taken writer.new) (last_lines engine.now)) }
-    ensures quiet { OnOk result (W.failures writer.new ≡ W.failures writer.old) }
-    ensures failed { IfErr result (λ e. e ≡ RunFault.Write → W.failures writer.new ≡ one_more (W.failures writer.old)) }
-    ensures opened { IfErr result (λ e. e ≢ RunFault.Closed) }
-{
-    if let Some(event) = engine.last() {
-        let text = lines_of(alloc, engine.plan(), engine.state(), event)?;
-        put_all(writer, &text)?;
-    }
-    Ok(())
 }
 
 /// Takes the report of a job that is out.
@@ -289,27 +274,6 @@ fn turn<H, C: Crew<H>, P: Picker, W: LineOut>(
         count(engine, told);
     }
     Ok(more)
-}
-
-/// Writes the statistics and the recap of a finished run.
-#[tactic(auto, using(crate::proofs::Cutting::part_none, crate::proofs::Cutting::part_as))]
-fn emit_end<W: LineOut>(
-    alloc: Global,
-    engine: &Engine,
-    recap: &Recap,
-    writer: &mut W,
-) -> Result<(), RunFault>
-    ensures took { OnOk result (W.taken writer.new ≡ with_more (W.taken writer.old) (end_lines engine.now.plan recap.now)) }
-    ensures part { OnErr result (IsPart (W.taken writer.old) (W.taken writer.new) (end_lines engine.now.plan recap.now)) }
-    ensures quiet { OnOk result (W.failures writer.new ≡ W.failures writer.old) }
-    ensures failed { IfErr result (λ e. e ≡ RunFault.Write → W.failures writer.new ≡ one_more (W.failures writer.old)) }
-    ensures opened { IfErr result (λ e. e ≢ RunFault.Closed) }
-{
-    let mut text = recap.stats_line(alloc, engine.plan())?;
-    let recap_text = recap.text(alloc, engine.plan())?;
-    text.push_str(recap_text.as_str())?;
-    put_all(writer, text.as_bytes())?;
-    Ok(())
 }
 
 /// Takes events, with their lines, and gives the commands where they are due, until nothing is possible.

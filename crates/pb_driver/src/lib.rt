@@ -20,6 +20,7 @@ mod alone;
 mod comparing;
 mod crew;
 mod driver;
+mod emitting;
 mod given;
 mod line_out;
 mod pooled;

@@ -1,0 +1,93 @@
+//! What a run writes of its events, and at its end.
+
+ghost use Rattle.std.specs.Prelude.{◌≡◌, ◌≢◌, IfErr, OnOk, OnErr};
+ghost use Rattle.pb_recap.specs.Stats.{stats_line};
+ghost use Rattle.pb_recap.specs.Text.{recap_text};
+ghost use Rattle.pb_driver.specs.Taken.{with_more, one_more};
+ghost use Rattle.pb_driver.specs.Output.{end_lines};
+ghost use Rattle.pb_driver.specs.Cut.{IsPart};
+ghost use Rattle.pb_driver.specs.Driven.{last_lines};
+
+use crate::driver::RunFault;
+use crate::line_out::{LineOut, put_all};
+use pb_engine::Engine;
+use pb_events::lines_of;
+use pb_recap::Recap;
+use std::alloc::Global;
+
+/// Writes the lines of the last event.
+#[tactic(auto, using(crate::proofs::Cutting::part_none, crate::proofs::Cutting::part_as))]
+pub(crate) fn emit<W: LineOut>(
+    alloc: Global,
+    engine: &Engine,
+    writer: &mut W,
+) -> Result<(), RunFault>
+    ensures took { OnOk result (W.taken writer.new ≡ with_more (W.taken writer.old) (last_lines engine.now)) }
+    ensures part { OnErr result (IsPart (W.taken writer.old) (W.taken writer.new) (last_lines engine.now)) }
+    ensures quiet { OnOk result (W.failures writer.new ≡ W.failures writer.old) }
+    ensures failed { IfErr result (λ e. e ≡ RunFault.Write → W.failures writer.new ≡ one_more (W.failures writer.old)) }
+    ensures opened { IfErr result (λ e. e ≢ RunFault.Closed) }
+{
+    if let Some(event) = engine.last() {
+        let text = lines_of(alloc, engine.plan(), engine.state(), event)?;
+        put_all(writer, &text)?;
+    }
+    Ok(())
+}
+
+/// Writes the line of the statistics.
+#[tactic(auto, using(crate::proofs::Cutting::part_none, crate::proofs::Cutting::part_as))]
+fn emit_stats<W: LineOut>(
+    alloc: Global,
+    engine: &Engine,
+    recap: &Recap,
+    writer: &mut W,
+) -> Result<(), RunFault>
+    ensures took { OnOk result (W.taken writer.new ≡ with_more (W.taken writer.old) (stats_line engine.now.plan.inventory.hosts recap.now)) }
+    ensures part { OnErr result (IsPart (W.taken writer.old) (W.taken writer.new) (stats_line engine.now.plan.inventory.hosts recap.now)) }
+    ensures quiet { OnOk result (W.failures writer.new ≡ W.failures writer.old) }
+    ensures failed { IfErr result (λ e. e ≡ RunFault.Write → W.failures writer.new ≡ one_more (W.failures writer.old)) }
+    ensures opened { IfErr result (λ e. e ≢ RunFault.Closed) }
+{
+    let text = recap.stats_line(alloc, engine.plan())?;
+    put_all(writer, text.as_bytes())?;
+    Ok(())
+}
+
+/// Writes the recap.
+#[tactic(auto, using(crate::proofs::Cutting::part_none, crate::proofs::Cutting::part_as))]
+fn emit_recap<W: LineOut>(
+    alloc: Global,
+    engine: &Engine,
+    recap: &Recap,
+    writer: &mut W,
+) -> Result<(), RunFault>
+    ensures took { OnOk result (W.taken writer.new ≡ with_more (W.taken writer.old) (recap_text engine.now.plan.inventory.hosts recap.now)) }
+    ensures part { OnErr result (IsPart (W.taken writer.old) (W.taken writer.new) (recap_text engine.now.plan.inventory.hosts recap.now)) }
+    ensures quiet { OnOk result (W.failures writer.new ≡ W.failures writer.old) }
+    ensures failed { IfErr result (λ e. e ≡ RunFault.Write → W.failures writer.new ≡ one_more (W.failures writer.old)) }
+    ensures opened { IfErr result (λ e. e ≢ RunFault.Closed) }
+{
+    let text = recap.text(alloc, engine.plan())?;
+    put_all(writer, text.as_bytes())?;
+    Ok(())
+}
+
+/// Writes the statistics and the recap of a finished run, one behind the other, so that the text of the one is let go before that of the other is made.
+#[tactic(auto, using(crate::proofs::Cutting::took_both, crate::proofs::Cutting::part_front))]
+pub(crate) fn emit_end<W: LineOut>(
+    alloc: Global,
+    engine: &Engine,
+    recap: &Recap,
+    writer: &mut W,
+) -> Result<(), RunFault>
+    ensures took { OnOk result (W.taken writer.new ≡ with_more (W.taken writer.old) (end_lines engine.now.plan recap.now)) }
+    ensures part { OnErr result (IsPart (W.taken writer.old) (W.taken writer.new) (end_lines engine.now.plan recap.now)) }
+    ensures quiet { OnOk result (W.failures writer.new ≡ W.failures writer.old) }
+    ensures failed { IfErr result (λ e. e ≡ RunFault.Write → W.failures writer.new ≡ one_more (W.failures writer.old)) }
+    ensures opened { IfErr result (λ e. e ≢ RunFault.Closed) }
+{
+    emit_stats(alloc, engine, recap, writer)?;
+    emit_recap(alloc, engine, recap, writer)?;
+    Ok(())
+}
