@@ -116,12 +116,12 @@ fn calls_that_fail(alloc: Global, texts: &[&str; 2]) -> Result<u64, Fail> {
     Err(Fail::new("an end"))
 }
 
-/// A writer is called once for the first line, for each event that has lines, and for the recap.
+/// A writer is called once for the first line, for each event that has lines, for the line of the statistics, and for the recap.
 #[test]
 fn writers_that_fail_at_each_call(rt: HostRuntime) -> Result<(), Fail> {
     let alloc = rt.alloc();
-    assert_eq!(rt; calls_that_fail(alloc, &HELLO)?, 5);
-    assert_eq!(rt; calls_that_fail(alloc, &HANDLERS)?, 9);
+    assert_eq!(rt; calls_that_fail(alloc, &HELLO)?, 6);
+    assert_eq!(rt; calls_that_fail(alloc, &HANDLERS)?, 10);
     Ok(())
 }
 
