@@ -6,6 +6,7 @@ pub mod ItemRows
 pub mod Items
 pub mod Limits
 pub mod Output
+pub mod Putting
 pub mod Reading
 pub mod Results
 pub mod Rows

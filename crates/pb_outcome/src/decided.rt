@@ -1,7 +1,9 @@
-ghost use Rattle.std.specs.Prelude.{◌≡◌, IfOk};
+ghost use Rattle.std.specs.Prelude.{◌≡◌, IfOk, OnOk, false, codes};
+ghost use Rattle.pb_value.specs.Datum.{boolean, put};
 ghost use Rattle.pb_outcome.specs.Decided.{said, faulty_result, debug_result, shown_result, fail_result};
 
 use crate::gather::{Ending, ItemResult};
+use crate::members::{flagged, put_flags};
 use pb_value::text::Text;
 use pb_value::val::{Dict, Val};
 use std::alloc::{AllocError, Global};
@@ -9,9 +11,7 @@ use std::alloc::{AllocError, Global};
 fn said(alloc: Global, failed: bool, msg: Val) -> Result<Val, AllocError>
     ensures { IfOk result (λ v. v ≡ said failed msg) }
 {
-    let mut members = Dict::new(alloc);
-    members.put(alloc, "changed", Val::boolean(false))?;
-    members.put(alloc, "failed", Val::boolean(failed))?;
+    let mut members = flagged(alloc, false, failed)?;
     members.put(alloc, "msg", msg)?;
     Ok(Val::dict(members))
 }
@@ -41,15 +41,22 @@ pub fn debug_result(alloc: Global, msg: &Val) -> Result<ItemResult, AllocError>
     })
 }
 
+/// Puts a value under a name, and that nothing was changed and nothing failed.
+fn put_shown(alloc: Global, members: &mut Dict, name: &str, value: Val) -> Result<(), AllocError>
+    ensures { OnOk result (members.new ≡ put (codes "failed") (boolean false) (put (codes "changed") (boolean false) (put name.now value members.old))) }
+{
+    members.put(alloc, name, value)?;
+    put_flags(alloc, members, false, false)
+}
+
 /// The result of an item of `debug` that shows a value under a name, as `var` does: where the name is `changed` or
 /// `failed`, the result's own wins. See Ansible's documentation of `ansible.builtin.debug`.
 pub fn shown_result(alloc: Global, name: &str, value: &Val) -> Result<ItemResult, AllocError>
     ensures { IfOk result (λ r. r ≡ shown_result name.now value.now) }
 {
+    let value = value.try_clone(alloc)?;
     let mut members = Dict::new(alloc);
-    members.put(alloc, name, value.try_clone(alloc)?)?;
-    members.put(alloc, "changed", Val::boolean(false))?;
-    members.put(alloc, "failed", Val::boolean(false))?;
+    put_shown(alloc, &mut members, name, value)?;
     Ok(ItemResult {
         ending: Ending::Ran {
             changed: false,

@@ -1,10 +1,12 @@
-ghost use Rattle.std.specs.Prelude.{◌≡◌, IfOk, true};
-ghost use Rattle.pb_value.specs.Datum.{text, list, dict, items_of, members_of};
+ghost use Rattle.std.specs.Prelude.{◌≡◌, IfOk, OnOk, true, codes};
+ghost use Rattle.pb_value.specs.Datum.{boolean, text, list, dict, items_of, members_of, put};
 ghost use Rattle.pb_outcome.specs.Output.{stripped, line_values};
+ghost use Rattle.pb_outcome.specs.Putting.{put_end};
 ghost use Rattle.pb_outcome.specs.Results.{is_nonzero, rc_message, shown_lines, ran_members, ran_result, unanswered, does_not_fit, lost, facts_result, gathered_facts, facts_ran, judged_command, judged_setup, judged};
 
 use crate::gather::{Ending, ItemResult};
 use crate::job::Call;
+use crate::members::{flagged, put_text};
 use crate::outcome::{Form, Outcome};
 use crate::output::{lines, stripped};
 use pb_value::text::Text;
@@ -57,18 +59,12 @@ fn is_nonzero(rc: i64) -> bool
     rc != 0
 }
 
-/// A text as a value.
-fn text_value(alloc: Global, words: &str) -> Result<Val, AllocError>
-    ensures { IfOk result (λ v. v ≡ text words.now) }
+/// Puts the lines of a text under a key.
+fn put_lines(alloc: Global, members: &mut Dict, key: &str, words: &str) -> Result<(), AllocError>
+    ensures { OnOk result (members.new ≡ put key.now (shown_lines words.now) members.old) }
 {
-    Ok(Val::text(Text::from_str(alloc, words)?))
-}
-
-/// The lines of a text as a value.
-fn lines_value(alloc: Global, words: &str) -> Result<Val, AllocError>
-    ensures { IfOk result (λ v. v ≡ shown_lines words.now) }
-{
-    Ok(Val::list(lines(alloc, words)?))
+    let value = Val::list(lines(alloc, words)?);
+    members.put(alloc, key, value)
 }
 
 fn rc_message(rc: i64) -> &'static str
@@ -81,6 +77,24 @@ fn rc_message(rc: i64) -> &'static str
     }
 }
 
+/// Puts in what a program wrote, and with which status it ended.
+fn put_end(
+    alloc: Global,
+    members: &mut Dict,
+    rc: i64,
+    out: &str,
+    err: &str,
+) -> Result<(), AllocError>
+    ensures { OnOk result (members.new ≡ put_end rc out.now err.now members.old) }
+{
+    put_text(alloc, members, "msg", rc_message(rc))?;
+    members.put(alloc, "rc", Val::int(rc))?;
+    put_text(alloc, members, "stderr", err)?;
+    put_lines(alloc, members, "stderr_lines", err)?;
+    put_text(alloc, members, "stdout", out)?;
+    put_lines(alloc, members, "stdout_lines", out)
+}
+
 /// The members of the result of a program that ran.
 fn ran_members(
     alloc: Global,
@@ -91,17 +105,8 @@ fn ran_members(
 ) -> Result<Dict, AllocError>
     ensures { IfOk result (λ d. d ≡ ran_members changed rc out.now err.now) }
 {
-    let out = stripped(out);
-    let err = stripped(err);
-    let mut members = Dict::new(alloc);
-    members.put(alloc, "changed", Val::boolean(changed))?;
-    members.put(alloc, "failed", Val::boolean(is_nonzero(rc)))?;
-    members.put(alloc, "msg", text_value(alloc, rc_message(rc))?)?;
-    members.put(alloc, "rc", Val::int(rc))?;
-    members.put(alloc, "stderr", text_value(alloc, err)?)?;
-    members.put(alloc, "stderr_lines", lines_value(alloc, err)?)?;
-    members.put(alloc, "stdout", text_value(alloc, out)?)?;
-    members.put(alloc, "stdout_lines", lines_value(alloc, out)?)?;
+    let mut members = flagged(alloc, changed, is_nonzero(rc))?;
+    put_end(alloc, &mut members, rc, stripped(out), stripped(err))?;
     Ok(members)
 }
 
@@ -125,10 +130,8 @@ fn ran_result(
 fn unanswered(alloc: Global, msg: &str) -> Result<ItemResult, AllocError>
     ensures { IfOk result (λ r. r ≡ unanswered msg.now) }
 {
-    let mut members = Dict::new(alloc);
-    members.put(alloc, "changed", Val::boolean(false))?;
-    members.put(alloc, "failed", Val::boolean(true))?;
-    members.put(alloc, "msg", text_value(alloc, msg)?)?;
+    let mut members = flagged(alloc, false, true)?;
+    put_text(alloc, &mut members, "msg", msg)?;
     Ok(ItemResult {
         ending: Ending::NotStarted,
         result: Val::dict(members),
@@ -141,14 +144,19 @@ fn does_not_fit(alloc: Global) -> Result<ItemResult, AllocError>
     unanswered(alloc, "outcome does not fit the module")
 }
 
+/// Puts in what a connector says of a target that it doesn't reach.
+fn put_lost(alloc: Global, members: &mut Dict, msg: &str) -> Result<(), AllocError>
+    ensures { OnOk result (members.new ≡ put (codes "unreachable") (boolean true) (put (codes "msg") (text msg.now) members.old)) }
+{
+    put_text(alloc, members, "msg", msg)?;
+    members.put(alloc, "unreachable", Val::boolean(true))
+}
+
 fn lost(alloc: Global, msg: &Text) -> Result<ItemResult, AllocError>
     ensures { IfOk result (λ r. r ≡ lost msg.now) }
 {
-    let mut members = Dict::new(alloc);
-    members.put(alloc, "changed", Val::boolean(false))?;
-    members.put(alloc, "failed", Val::boolean(false))?;
-    members.put(alloc, "msg", text_value(alloc, msg.as_str())?)?;
-    members.put(alloc, "unreachable", Val::boolean(true))?;
+    let mut members = flagged(alloc, false, false)?;
+    put_lost(alloc, &mut members, msg.as_str())?;
     Ok(ItemResult {
         ending: Ending::Unreachable,
         result: Val::dict(members),
@@ -168,10 +176,8 @@ fn gathered_facts(alloc: Global, facts: &Val) -> Result<ItemResult, AllocError>
 pub fn facts_result(alloc: Global, facts: Val) -> Result<ItemResult, AllocError>
     ensures { IfOk result (λ r. r ≡ facts_result facts) }
 {
-    let mut members = Dict::new(alloc);
+    let mut members = flagged(alloc, false, false)?;
     members.put(alloc, "ansible_facts", facts)?;
-    members.put(alloc, "changed", Val::boolean(false))?;
-    members.put(alloc, "failed", Val::boolean(false))?;
     Ok(ItemResult {
         ending: Ending::Ran {
             changed: false,

@@ -15,6 +15,7 @@ pub mod item;
 pub mod items;
 pub mod job;
 pub mod judge;
+mod members;
 pub mod outcome;
 pub mod output;
 pub mod reading;

@@ -1,11 +1,12 @@
 //! What a task shows and registers.
-ghost use Rattle.std.specs.Prelude.{◌≡◌, IfOk};
+ghost use Rattle.std.specs.Prelude.{◌≡◌, IfOk, OnOk};
 ghost use Rattle.pb_value.specs.Datum.{text, list, dict, items_of, members_of};
+ghost use Rattle.pb_outcome.specs.Putting.{put_no_items, put_results};
 ghost use Rattle.pb_outcome.specs.Items.{ended, lost_in, no_items_result, under_variable, members_in, loop_message, loop_result, result_of, shown_then};
 
 use crate::item::{Item, Planned};
 use crate::items::{are_skipped, has_changed, has_failed, has_unreachable};
-use pb_value::text::Text;
+use crate::members::{flagged, put_text};
 use pb_value::val::{Dict, Node, Val, ValList};
 use std::alloc::{AllocError, Global};
 
@@ -23,21 +24,22 @@ fn lost_in(alloc: Global, items: &[Item]) -> Result<Val, AllocError>
     Ok(Val::null())
 }
 
+/// Puts in that a loop's list was empty.
+fn put_no_items(alloc: Global, members: &mut Dict) -> Result<(), AllocError>
+    ensures { OnOk result (members.new ≡ put_no_items members.old) }
+{
+    let results = Val::list(ValList::from_vec(Vec::new(alloc)));
+    members.put(alloc, "results", results)?;
+    members.put(alloc, "skipped", Val::boolean(true))?;
+    put_text(alloc, members, "skipped_reason", "No items in the list")
+}
+
 /// The result of a loop over an empty list.
 fn no_items_result(alloc: Global) -> Result<Val, AllocError>
     ensures { IfOk result (λ v. v ≡ no_items_result) }
 {
-    let reason = Text::from_str(alloc, "No items in the list")?;
-    let mut members = Dict::new(alloc);
-    members.put(alloc, "changed", Val::boolean(false))?;
-    members.put(alloc, "failed", Val::boolean(false))?;
-    members.put(
-        alloc,
-        "results",
-        Val::list(ValList::from_vec(Vec::new(alloc))),
-    )?;
-    members.put(alloc, "skipped", Val::boolean(true))?;
-    members.put(alloc, "skipped_reason", Val::text(reason))?;
+    let mut members = flagged(alloc, false, false)?;
+    put_no_items(alloc, &mut members)?;
     Ok(Val::dict(members))
 }
 
@@ -95,20 +97,26 @@ fn loop_message(items: &[Item]) -> &'static str
     }
 }
 
+/// Puts in what the items of a loop came to.
+fn put_results(
+    alloc: Global,
+    members: &mut Dict,
+    variable: &str,
+    items: &[Item],
+) -> Result<(), AllocError>
+    ensures { OnOk result (members.new ≡ put_results (ended items.now) (members_in variable.now items.now) members.old) }
+{
+    put_text(alloc, members, "msg", loop_message(items))?;
+    let results = Val::list(members_in(alloc, variable, items)?);
+    members.put(alloc, "results", results)
+}
+
 /// The result of a loop over items.
 fn loop_result(alloc: Global, variable: &str, items: &[Item]) -> Result<Val, AllocError>
     ensures { IfOk result (λ v. v ≡ loop_result (ended items.now) (members_in variable.now items.now)) }
 {
-    let message = Text::from_str(alloc, loop_message(items))?;
-    let mut members = Dict::new(alloc);
-    members.put(alloc, "changed", Val::boolean(has_changed(items)))?;
-    members.put(alloc, "failed", Val::boolean(has_failed(items)))?;
-    members.put(alloc, "msg", Val::text(message))?;
-    members.put(
-        alloc,
-        "results",
-        Val::list(members_in(alloc, variable, items)?),
-    )?;
+    let mut members = flagged(alloc, has_changed(items), has_failed(items))?;
+    put_results(alloc, &mut members, variable, items)?;
     if are_skipped(items) {
         members.put(alloc, "skipped", Val::boolean(true))?;
     }

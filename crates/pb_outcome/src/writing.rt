@@ -1,6 +1,6 @@
-ghost use Rattle.std.specs.Prelude.{◌≡◌, ℕ, List, IfOk, Ok};
-ghost use Rattle.serde_json.specs.Data.{string, object, member, no_members};
-ghost use Rattle.serde_json.specs.View.{view};
+ghost use Rattle.std.specs.Prelude.{◌≡◌, ℕ, List, IfOk, OnOk, Ok};
+ghost use Rattle.serde_json.specs.Data.{string, object, member, no_members, put as with_member};
+ghost use Rattle.serde_json.specs.View.{view, members_view};
 ghost use Rattle.pb_outcome.specs.declared.outcome.Form.TheVariants.{Ran};
 ghost use Rattle.pb_outcome.specs.Reading.{outcome_of};
 ghost use Rattle.pb_outcome.specs.Writing.{outcome_json};
@@ -41,6 +41,19 @@ fn text_json(alloc: Global, text: &Text) -> Result<Value, AllocError>
     Value::try_from_str(alloc, text.as_str())
 }
 
+/// Puts a text under a key.
+fn put_text(
+    alloc: Global,
+    members: &mut Map<String, Value>,
+    key: &str,
+    text: &Text,
+) -> Result<(), AllocError>
+    ensures { OnOk result (members_view members.new.entries ≡ with_member key.now (string text.now) (members_view members.old.entries)) }
+{
+    let value = text_json(alloc, text)?;
+    put(members, alloc, key, value)
+}
+
 /// The object with a key alone.
 fn one_member(alloc: Global, key: &str, value: Value) -> Result<Value, AllocError>
     ensures { IfOk result (λ j. view j ≡ object (member key.now (view value) no_members)) }
@@ -50,13 +63,27 @@ fn one_member(alloc: Global, key: &str, value: Value) -> Result<Value, AllocErro
     Ok(Value::Object(members))
 }
 
+/// Puts in how a program ended.
+fn put_end(
+    alloc: Global,
+    members: &mut Map<String, Value>,
+    rc: i64,
+    out: &Text,
+    err: &Text,
+) -> Result<(), AllocError>
+    requires { members_view members.old.entries ≡ no_members }
+    ensures { OnOk result (object (members_view members.new.entries) ≡ outcome_json (Ran rc out.now err.now)) }
+{
+    put_text(alloc, members, "err", err)?;
+    put_text(alloc, members, "out", out)?;
+    put(members, alloc, "rc", Value::from(rc))
+}
+
 /// A program's end as JSON.
 fn ran_json(alloc: Global, rc: i64, out: &Text, err: &Text) -> Result<Value, AllocError>
     ensures { IfOk result (λ j. view j ≡ outcome_json (Ran rc out.now err.now)) }
 {
     let mut members = Map::new(alloc);
-    put(&mut members, alloc, "err", text_json(alloc, err)?)?;
-    put(&mut members, alloc, "out", text_json(alloc, out)?)?;
-    put(&mut members, alloc, "rc", Value::from(rc))?;
+    put_end(alloc, &mut members, rc, out, err)?;
     Ok(Value::Object(members))
 }
