@@ -25,6 +25,7 @@ use Rattle.pb_play_reading.specs.declared.modules.ModuleKey.{ModuleKey}
 use Rattle.pb_play_reading.specs.declared.retrying.Tries.{Tries}
 use Rattle.pb_play.specs.declared.task.Task.{Task}
 use Rattle.pb_play_reading.specs.declared.task.Told.{Told}
+use Rattle.pb_play_reading.specs.declared.task.Begun.{Begun}
 use Rattle.pb_play_reading.specs.declared.task.FirstKeys.{FirstKeys}
 use Rattle.pb_play_reading.specs.declared.task.Failing.{Failing}
 use Rattle.pb_play_reading.specs.declared.task.Modules.{Modules}
@@ -102,6 +103,16 @@ looping = do
   over ← key (codes "loop") over
   variable ← key_or (codes "loop_control") control item
   rule (Ok (looped over variable))
+
+-- a task behind its keys up to `until`; one without a name has its module's
+abbrev pub last_of_task : List ℕ → Begun → Option (List ℕ) → Part Modules LoadFault Task
+last_of_task path begun name = do
+  vars ← key_or (codes "vars") variables []
+  conditions ← key_or (codes "when") conditions []
+  modules ← others tells_of_task
+  m ← rule (the_module path modules)
+  _ ← rule (may_retry path m begun.tries)
+  rule (Ok (told_of begun.told (unwrap_or name (module_name m)) begun.notify vars m conditions begun.looped begun.register begun.tries))
 
 -- a task behind these; one without a name has its module's, and one that says nothing has no variables and no conditions, and notifies no handler
 abbrev pub rest_of_task : List ℕ → Told → Option Loop → Part Modules LoadFault Task

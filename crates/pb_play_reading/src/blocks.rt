@@ -25,11 +25,23 @@ use pb_written::values::TemplateValue;
 use std::alloc::Global;
 
 /// The parts of a block whose keys come first.
-#[derive(Drop)]
 pub(crate) struct Early {
     pub(crate) always: NodeList,
     pub(crate) any_errors_fatal: Option<bool>,
     pub(crate) body: NodeList,
+}
+
+// (by hand: it is then dropped by one call, and not part by part at each exit)
+impl Drop for Early {
+    fn drop(self) {
+        let Early {
+            always,
+            any_errors_fatal: _,
+            body,
+        } = self;
+        drop(always);
+        drop(body);
+    }
 }
 
 /// What a block says of the host that runs its tasks, and whether it ignores failures, where it says so.
@@ -70,11 +82,8 @@ pub(crate) fn read_rest(
     let vars = keys.field_or::<EachNamed<TemplateValue>>(alloc, "vars", Dict::new(alloc))?;
     let conditions = keys.field_or::<Conditions>(alloc, "when", Items::new(alloc))?;
     keys.others(alloc)?;
-    Ok(block_of(
-        told.of(early.any_errors_fatal, runs, vars, conditions),
-        early,
-        rescue,
-    ))
+    let keys = told.of(early.any_errors_fatal, runs, vars, conditions);
+    Ok(early.of(keys, rescue))
 }
 
 impl ToldOfBlock {
@@ -103,22 +112,24 @@ impl ToldOfBlock {
     }
 }
 
-/// A block of these parts.
-fn block_of(keys: BlockKeys, early: Early, rescue: NodeList) -> Node
-    ensures { node_of result Nothing ≡ Block keys early.body rescue early.always Nothing }
-{
-    let Early {
-        always,
-        any_errors_fatal: _,
-        body,
-    } = early;
-    let NodeList { nodes: always } = always;
-    let NodeList { nodes: body } = body;
-    let NodeList { nodes: rescue } = rescue;
-    Node::Block {
-        keys,
-        body,
-        rescue,
-        always,
+impl Early {
+    /// The block of these parts.
+    fn of(self, keys: BlockKeys, rescue: NodeList) -> Node
+        ensures { node_of result Nothing ≡ Block keys self.body rescue self.always Nothing }
+    {
+        let Early {
+            always,
+            any_errors_fatal: _,
+            body,
+        } = self;
+        let NodeList { nodes: always } = always;
+        let NodeList { nodes: body } = body;
+        let NodeList { nodes: rescue } = rescue;
+        Node::Block {
+            keys,
+            body,
+            rescue,
+            always,
+        }
     }
 }

@@ -35,8 +35,8 @@ pub(crate) fn coupled(
 /// Which host runs a task in place of its own, and whether the facts are that host's, where a task or a block says so.
 #[derive(Drop)]
 pub(crate) struct Delegation {
-    delegate_facts: Option<bool>,
-    delegate_to: Option<Text>,
+    pub(crate) delegate_facts: Option<bool>,
+    pub(crate) delegate_to: Option<Text>,
 }
 
 pub(crate) fn read_delegation<O: Others<Fault = LoadFault>>(

@@ -16,7 +16,7 @@ use serde_json::Value;
 use std::alloc::Global;
 
 /// A module by its name.
-#[derive(Clone, Copy, Debug, PartialEq, Eq)]
+#[derive(Clone, Copy)]
 pub(crate) enum ModuleKey {
     Assert,
     Command,

@@ -4,7 +4,7 @@ ghost use Rattle.serde_json.specs.View.{view, members_view};
 ghost use Rattle.pb_reading.specs.Ahead.{ahead, Takes};
 ghost use Rattle.pb_reading.specs.Fields.{value_of};
 ghost use Rattle.pb_reading.specs.Reading.{Gives};
-ghost use Rattle.pb_play_reading.specs.Tasks.{one_more, tells_of_task, the_module, first_keys, failing, told_of, told, looping, rest_of_task, task};
+ghost use Rattle.pb_play_reading.specs.Tasks.{one_more, tells_of_task, the_module, first_keys, failing, told_of, told, looping, last_of_task, rest_of_task, task};
 
 use crate::couplings::{Delegation, Runs, coupled, read_delegation};
 use crate::loops::{Control, Over, looped};
@@ -32,11 +32,20 @@ use std::alloc::Global;
 use std::mem;
 
 /// The modules that a task names.
-#[derive(Drop)]
 pub(crate) enum Modules {
     Nothing,
     One(Module),
     Several,
+}
+
+// (by hand, as below: it is then dropped by one call, and not part by part at each exit)
+impl Drop for Modules {
+    fn drop(self) {
+        match self {
+            Modules::Nothing | Modules::Several => {}
+            Modules::One(module) => drop(module),
+        }
+    }
 }
 
 impl Modules {
@@ -112,11 +121,85 @@ pub(crate) struct Failing {
 }
 
 /// What a task says of the result of its module, and of the host that runs it.
-#[derive(Drop)]
 pub(crate) struct Told {
     first: FirstKeys,
     delegation: Delegation,
     failing: Failing,
+}
+
+impl Drop for Told {
+    fn drop(self) {
+        let Told {
+            first,
+            delegation,
+            failing,
+        } = self;
+        let FirstKeys {
+            any_errors_fatal: _,
+            changed_when,
+            delay: _,
+        } = first;
+        let Delegation {
+            delegate_facts: _,
+            delegate_to,
+        } = delegation;
+        let Failing {
+            failed_when,
+            ignore_errors: _,
+        } = failing;
+        drop(changed_when);
+        drop(delegate_to);
+        drop(failed_when);
+    }
+}
+
+/// What a task's keys up to `until` say, but for its name.
+pub(crate) struct Begun {
+    told: Told,
+    looped: Option<Loop>,
+    notify: Items<Text>,
+    register: Option<Text>,
+    tries: Tries,
+}
+
+impl Drop for Begun {
+    fn drop(self) {
+        let Begun {
+            told,
+            looped,
+            notify,
+            register,
+            tries,
+        } = self;
+        let Tries {
+            retries: _,
+            runs: _,
+            until,
+        } = tries;
+        drop(told);
+        drop(looped);
+        drop(notify);
+        drop(register);
+        drop(until);
+    }
+}
+
+impl Begun {
+    /// The task that begins with this.
+    fn of(self, name: Text, vars: Dict, module: Module, conditions: Items<Expr>) -> Task
+        ensures { result ≡ told_of self.told name self.notify vars «module» conditions self.looped self.register self.tries }
+    {
+        let Begun {
+            told,
+            looped,
+            notify,
+            register,
+            tries,
+        } = self;
+        told.of(
+            name, notify, vars, module, conditions, looped, register, tries,
+        )
+    }
 }
 
 impl Told {
@@ -245,18 +328,36 @@ pub(crate) fn read_rest(
     let notify = keys.field_or::<Texts>(alloc, "notify", Items::new(alloc))?;
     let register = keys.field::<VariableName>(alloc, "register")?;
     let tries = read_tries(alloc, &mut keys)?;
+    let begun = Begun {
+        told,
+        looped,
+        notify,
+        register,
+        tries,
+    };
+    read_last(alloc, keys, path, begun, name)
+}
+
+/// The task, whose keys up to `until` have told this.
+fn read_last(
+    alloc: Global,
+    mut keys: Keys<'_, Modules>,
+    path: &Text,
+    begun: Begun,
+    name: Option<Text>,
+) -> Result<Task, Stop<LoadFault>>
+    ensures { Gives result (value_of (last_of_task path.now begun name (ahead keys.entry))) }
+{
     let vars = keys.field_or::<EachNamed<TemplateValue>>(alloc, "vars", Dict::new(alloc))?;
     let conditions = keys.field_or::<Conditions>(alloc, "when", Items::new(alloc))?;
     let modules = keys.others(alloc)?;
     let module = modules.the_one(path)?;
-    tries.check(alloc, path, &module)?;
+    begun.tries.check(alloc, path, &module)?;
     let name = match name {
         Some(name) => name,
         None => Text::from_str(alloc, module.name())?,
     };
-    Ok(told.of(
-        name, notify, vars, module, conditions, looped, register, tries,
-    ))
+    Ok(begun.of(name, vars, module, conditions))
 }
 
 /// A task, as the members of an object spell it.
