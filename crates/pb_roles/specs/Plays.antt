@@ -17,6 +17,7 @@ use Rattle.pb_roles.specs.declared.files.RoleFiles.{RoleFiles}
 use Rattle.pb_roles.specs.declared.met.Met.{Met}
 use Rattle.pb_roles.specs.declared.sections.Expanded.{Expanded}
 use Rattle.pb_roles.specs.declared.sections.Head.{Head}
+use Rattle.pb_roles.specs.declared.sections.LinearKeys.{LinearKeys}
 use Rattle.pb_roles.specs.declared.sections.Sections.{Sections}
 
 -- a play has at most so many places, and always parts stand in one another at most so deep
@@ -43,6 +44,19 @@ head_of play met =
       serial = play.serial;
       max_fail_percentage = unwrap_or play.max_fail_percentage 100;
       linear_keys = linear_keys_of play met;
+    }
+
+-- the same of a play that has these keys, which linear plays alone heed
+abbrev pub head_with : Play → LinearKeys → Head
+head_with play linear_keys =
+    record {
+      name = play.name;
+      hosts = play.hosts;
+      vars = play.vars;
+      strategy = play.strategy;
+      serial = play.serial;
+      max_fail_percentage = unwrap_or play.max_fail_percentage 100;
+      linear_keys = linear_keys;
     }
 
 abbrev pub with_tree : Head → TreeOf → List PlaceOf → Expanded

@@ -1,6 +1,6 @@
 -- What stands in a play, with its roles, in the order in which it runs (Ansible's documentation, "Roles", Using roles at the play level, and "Handlers:
 -- running operations on change").
-use Rattle.std.specs.Prelude.{List, [], ◌∷◌, ◌++◌, map}
+use Rattle.std.specs.Prelude.{Bool, List, [], ◌∷◌, ◌++◌, map}
 use Rattle.pb_play.specs.Nodes.{Written}
 use Rattle.pb_play_reading.specs.declared.play.Play.{Play}
 use Rattle.pb_handlers.specs.Naming.{counting, kept}
@@ -10,6 +10,8 @@ use Rattle.pb_roles.specs.Origins.{from_play}
 use Rattle.pb_roles.specs.declared.met.HandlerIn.{HandlerIn}
 use Rattle.pb_roles.specs.declared.met.Met.{Met}
 use Rattle.pb_roles.specs.declared.met.Section.{Section}
+use Rattle.pb_roles.specs.declared.sections.Own.{Own}
+use Rattle.pb_roles.specs.declared.sections.PlayKeys.{PlayKeys}
 use Rattle.pb_roles.specs.declared.sections.Sections.{Sections}
 
 -- nodes that stand in the play itself
@@ -23,6 +25,22 @@ names_of handler = record { name = handler.handler.task.name; listens = handler.
 -- of handlers with one name the last counts, at its own position
 abbrev pub counted : List HandlerIn → List HandlerIn
 counted handlers = kept (counting (map names_of handlers)) handlers
+
+-- what stands in the play itself
+abbrev pub own_of : Play → Own
+own_of play = record { pre = play.pre_tasks; tasks = play.tasks; post = play.post_tasks; handlers = play.handlers }
+
+-- the same with what its roles brought, in a play that hands this down
+abbrev pub with_roles : Met → PlayKeys → Bool → Own → Sections
+with_roles met keys force_handlers o =
+    record {
+      keys = keys;
+      pre = own o.pre ∷ [];
+      tasks = met.sections ++ own o.tasks ∷ [];
+      post = own o.post ∷ [];
+      handlers = counted (met.handlers ++ handlers_in from_play o.handlers);
+      force_handlers = force_handlers;
+    }
 
 -- the roles stand between the play's pre_tasks and its own tasks, and their handlers in front of its own
 abbrev pub sections_of : Play → Met → Sections

@@ -95,29 +95,20 @@ fn came_of(alloc: Global, entry: &RoleEntry) -> Result<Came, AllocError>
     })
 }
 
-/// Where all that a role brings comes from.
+/// Where all that a role brings comes from, which has the variables of its files and no parameters yet.
 fn origin_of(
     alloc: Global,
     outer: &[Expr],
     entry: &RoleEntry,
-    defaults: Dict,
-    vars: Dict,
+    role: Role,
 ) -> Result<Origin, AllocError>
-    ensures { IfOk result (λ origin. origin ≡ origin_of outer.now entry.now defaults vars) }
+    ensures { IfOk result (λ origin. origin ≡ origin_of outer.now entry.now role.defaults role.vars) }
 {
-    let mut vars = vars;
-    put_all(alloc, &mut vars, &entry.vars)?;
+    let mut role = role;
+    put_all(alloc, &mut role.vars, &entry.vars)?;
+    role.params = entry.params.try_clone(alloc)?;
     let conditions = joined(alloc, outer, entry.conditions.as_slice())?;
-    let params = entry.params.try_clone(alloc)?;
-    Origin::of_role(
-        alloc,
-        Role {
-            defaults,
-            vars,
-            params,
-        },
-        conditions,
-    )
+    Origin::of_role(alloc, role, conditions)
 }
 
 /// The role that an entry names, open: its files are read.
@@ -136,10 +127,15 @@ fn open_role(
 {
     let defaults = load_variables(alloc, files, &entry.name, "defaults")?;
     let vars = load_variables(alloc, files, &entry.name, "vars")?;
+    let role = Role {
+        defaults,
+        vars,
+        params: Dict::new(alloc),
+    };
     let nodes = load_nodes(alloc, files, &entry.name)?;
     let handlers = load_handlers(alloc, files, &entry.name)?;
     let name = entry.name.try_clone()?;
-    let origin = origin_of(alloc, outer, entry, defaults, vars)?;
+    let origin = origin_of(alloc, outer, entry, role)?;
     Ok(OpenRole {
         left,
         name,

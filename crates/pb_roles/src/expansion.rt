@@ -1,12 +1,12 @@
 //! The plays of a playbook, with their roles.
-ghost use Rattle.std.specs.Prelude.{◌≡◌, ◌≢◌, ◌++◌, ◌∷◌, [], map, length, IfOk, IfErr, Ok, Err, if◌then◌else◌};
+ghost use Rattle.std.specs.Prelude.{◌≡◌, ◌≢◌, ◌++◌, ◌∷◌, [], map, length, IfOk, IfErr, OnOk, Ok, Err, if◌then◌else◌};
 ghost use Rattle.std.specs.List.{All};
 ghost use Rattle.pb_handlers.specs.Naming.{kept};
 ghost use Rattle.pb_roles.specs.Answers.{Gives};
 ghost use Rattle.pb_roles.specs.Expansion.{handlers_in};
 ghost use Rattle.pb_roles.specs.Origins.{from_play};
-ghost use Rattle.pb_roles.specs.Plays.{built, checked, expanded, expansion_of, has_too_many_places, head_of, is_too_deep, IsBuilt};
-ghost use Rattle.pb_roles.specs.Sections.{counted, names_of, own, sections_of};
+ghost use Rattle.pb_roles.specs.Plays.{built, checked, expanded, expansion_of, has_too_many_places, head_of, head_with, is_too_deep, IsBuilt};
+ghost use Rattle.pb_roles.specs.Sections.{counted, names_of, own, own_of, sections_of};
 
 use crate::fault::RoleFault;
 use crate::files::RoleFiles;
@@ -16,9 +16,8 @@ use crate::linear_keys::linear_keys_of;
 use crate::met::{HandlerIn, Met, Section};
 use crate::nodes::{is_part_deeper, part_left, tree_of};
 use crate::origin::Origin;
-use crate::placing::all_places;
 use crate::roles::{push_handlers, roles_of};
-use crate::sections::{Expanded, Head, PlayKeys, Sections};
+use crate::sections::{Expanded, Head, LinearKeys, Own, PlayKeys, Sections};
 use crate::unknown::unknown_with;
 use pb_handlers::{Handlers, counting};
 use pb_play::node::NodeList;
@@ -75,32 +74,19 @@ fn counted(alloc: Global, handlers: Items<HandlerIn>) -> Result<Items<HandlerIn>
     kept(alloc, marks.as_slice(), handlers)
 }
 
-/// Nodes that stand in the play itself, as its only section there.
-fn one_section(alloc: Global, nodes: NodeList) -> Result<Items<Section>, AllocError>
-    ensures { IfOk result (λ sections. sections ≡ own nodes ∷ []) }
+/// Nodes that stand in the play itself are its last section there.
+pub(crate) fn push_own(sections: &mut Items<Section>, nodes: NodeList) -> Result<(), AllocError>
+    ensures { OnOk result (sections.new ≡ sections.old ++ own nodes ∷ []) }
 {
-    let mut sections = Items::new(alloc);
     sections.push(Section {
         origin: Origin::from_play(),
         nodes,
     })?;
-    Ok(sections)
-}
-
-/// What the roles bring, and behind it the play's own tasks.
-fn with_tasks(sections: Items<Section>, tasks: NodeList) -> Result<Items<Section>, AllocError>
-    ensures { IfOk result (λ all. all ≡ sections ++ own tasks ∷ []) }
-{
-    let mut all = sections;
-    all.push(Section {
-        origin: Origin::from_play(),
-        nodes: tasks,
-    })?;
-    Ok(all)
+    Ok(())
 }
 
 /// The handlers of the roles and of the play that count.
-fn with_handlers(
+pub(crate) fn with_handlers(
     alloc: Global,
     of_roles: Items<HandlerIn>,
     handlers: Items<Handler>,
@@ -112,39 +98,60 @@ fn with_handlers(
     counted(alloc, all)
 }
 
+/// A play in two: what stays of it as it is, and what stands in it.
+fn parted(play: Play, linear_keys: LinearKeys) -> (Head, Own)
+    ensures head { result.0 ≡ head_with play linear_keys }
+    ensures own { result.1 ≡ own_of play }
+{
+    let Play {
+        name,
+        hosts,
+        vars,
+        any_errors_fatal: _,
+        ignore_errors: _,
+        max_fail_percentage,
+        pre_tasks: pre,
+        tasks,
+        post_tasks: post,
+        roles,
+        handlers,
+        force_handlers: _,
+        strategy,
+        serial,
+    } = play;
+    drop(roles);
+    let head = Head {
+        name,
+        hosts,
+        vars,
+        strategy,
+        serial,
+        max_fail_percentage: max_fail_percentage.unwrap_or(100),
+        linear_keys,
+    };
+    let own = Own {
+        pre,
+        tasks,
+        post,
+        handlers,
+    };
+    (head, own)
+}
+
 /// A play whose roles brought this: what stays of it as it is, and what stands in it.
 fn sections_of(alloc: Global, play: Play, met: Met) -> Result<(Head, Sections), AllocError>
     ensures head { IfOk result (λ r. r.0 ≡ head_of play met) }
     ensures sections { IfOk result (λ r. r.1 ≡ sections_of play met) }
 {
     let linear_keys = linear_keys_of(&play, &met);
-    let pre = one_section(alloc, play.pre_tasks)?;
-    let tasks = with_tasks(met.sections, play.tasks)?;
-    let post = one_section(alloc, play.post_tasks)?;
-    let handlers = with_handlers(alloc, met.handlers, play.handlers)?;
-    let head = Head {
-        name: play.name,
-        hosts: play.hosts,
-        vars: play.vars,
-        strategy: play.strategy,
-        serial: play.serial,
-        max_fail_percentage: play.max_fail_percentage.unwrap_or(100),
-        linear_keys,
+    let keys = PlayKeys {
+        any_errors_fatal: play.any_errors_fatal,
+        ignore_errors: play.ignore_errors,
     };
-    Ok((
-        head,
-        Sections {
-            keys: PlayKeys {
-                any_errors_fatal: play.any_errors_fatal,
-                ignore_errors: play.ignore_errors,
-            },
-            pre,
-            tasks,
-            post,
-            handlers,
-            force_handlers: play.force_handlers,
-        },
-    ))
+    let force_handlers = play.force_handlers;
+    let (head, own) = parted(play, linear_keys);
+    let sections = met.with_own(alloc, keys, force_handlers, own)?;
+    Ok((head, sections))
 }
 
 /// What the handlers are notified by. So many that 32 bits can't number them are too large for memory.
@@ -195,7 +202,7 @@ fn built(alloc: Global, head: Head, names: Handlers, play: Sections) -> Result<E
     ensures { IfOk result (λ e. e ≡ built head play) }
 {
     let tree = tree_of(alloc, &play)?;
-    let places = all_places(alloc, names, play)?;
+    let places = play.all_places(alloc, names)?;
     Ok(head.with(tree, places))
 }
 

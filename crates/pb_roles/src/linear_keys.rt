@@ -14,7 +14,7 @@ use pb_play_reading::handlers::Handler;
 use pb_play_reading::play::Play;
 
 /// A key that a play, its blocks and its tasks may have, and that linear plays alone heed.
-#[derive(Clone, Copy, Debug, PartialEq, Eq)]
+#[derive(Clone, Copy)]
 pub enum CoupledKey {
     AnyErrorsFatal,
     RunOnce,

@@ -1,16 +1,15 @@
 //! What stands at the places of a play, from the nodes that are written in it and in its roles.
 
-ghost use Rattle.std.specs.Prelude.{◌≡◌, ◌||◌, not, ◌++◌, ◌∷◌, [], false, None, map, IfOk};
+ghost use Rattle.std.specs.Prelude.{◌≡◌, ◌||◌, not, ◌++◌, ◌∷◌, [], false, None, IfOk};
 ghost use Rattle.pb_play.specs.Nodes.{Nothing};
 ghost use Rattle.pb_play.specs.View.{node_of, written_of};
-ghost use Rattle.pb_roles.specs.Building.{all_places, is_nothing, part_places, places_of, placed, round_of};
-ghost use Rattle.pb_roles.specs.Sections.{names_of};
+ghost use Rattle.pb_roles.specs.Building.{is_nothing, part_places, places_of, placed, round_of};
 
-use crate::flush::{all_tasks, push_flush};
+use crate::flush::push_flush;
 use crate::met::Section;
 use crate::ready::Flushes;
 use crate::round::Round;
-use crate::sections::{PlayKeys, Sections};
+use crate::sections::PlayKeys;
 use pb_handlers::Handlers;
 use pb_places::Place;
 use pb_play::node::Node;
@@ -18,34 +17,8 @@ use pb_play::task::Task;
 use pb_value::items::Items;
 use std::alloc::{AllocError, Global};
 
-/// What stands at the places of a play, whose handlers are notified by these names. Every task outside of handlers has one place, to which it is moved.
-pub(crate) fn all_places(
-    alloc: Global,
-    names: Handlers,
-    play: Sections,
-) -> Result<Items<Place>, AllocError>
-    requires { names ≡ map names_of play.handlers }
-    ensures { IfOk result (λ all. all ≡ all_places play) }
-{
-    let Sections {
-        keys,
-        pre,
-        tasks,
-        post,
-        handlers,
-        force_handlers: _,
-    } = play;
-    let handlers = all_tasks(alloc, keys, handlers)?;
-    let flushes = Flushes { names, handlers };
-    let mut places = Vec::new(alloc);
-    push_part(alloc, &mut places, &flushes, keys, pre)?;
-    push_part(alloc, &mut places, &flushes, keys, tasks)?;
-    push_part(alloc, &mut places, &flushes, keys, post)?;
-    Ok(Items::from_vec(places))
-}
-
 /// Adds the places of some sections, and of the Flush behind them.
-fn push_part(
+pub(crate) fn push_part(
     alloc: Global,
     places: &mut Vec<Place>,
     flushes: &Flushes,

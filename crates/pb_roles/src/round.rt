@@ -102,10 +102,10 @@ impl Round {
     pub(crate) fn inside(&self, alloc: Global, keys: &BlockKeys) -> Result<Round, AllocError>
         ensures { IfOk result (λ round. round ≡ inside self.now keys.now) }
     {
+        let couplings = inner_couplings(&self.couplings, &keys.couplings)?;
         let conditions = conditions_inside(alloc, &self.conditions, &keys.conditions)?;
         let block_vars = vars_inside(alloc, &self.block_vars, &keys.vars)?;
         let role = sharing(&self.role)?;
-        let couplings = inner_couplings(&self.couplings, &keys.couplings)?;
         Ok(Round {
             conditions,
             ignore_errors: inner(keys.ignore_errors, self.ignore_errors),
@@ -179,13 +179,13 @@ impl Round {
     ) -> Result<Surroundings, AllocError>
         ensures { IfOk result (λ given. stands_in task.now given ≡ placed names.now self.now is_caught handler task.now) }
     {
+        let own = &task.couplings;
+        let outer = &self.couplings;
+        let notifies = notified(alloc, names, task)?;
+        let delegate_to = inner_delegate(&own.delegate_to, &outer.delegate_to)?;
         let conditions = conditions_at(alloc, &self.conditions, &task.conditions)?;
         let block_vars = sharing(&self.block_vars)?;
         let role = sharing(&self.role)?;
-        let notifies = notified(alloc, names, task)?;
-        let own = &task.couplings;
-        let outer = &self.couplings;
-        let delegate_to = inner_delegate(&own.delegate_to, &outer.delegate_to)?;
         Ok(Surroundings {
             conditions,
             block_vars,

@@ -1,19 +1,28 @@
 //! What stands in a play, with its roles.
-ghost use Rattle.std.specs.Prelude.{◌≡◌};
+ghost use Rattle.std.specs.Prelude.{◌≡◌, map, IfOk};
+ghost use Rattle.pb_roles.specs.Building.{all_places};
 ghost use Rattle.pb_roles.specs.Plays.{with_tree};
+ghost use Rattle.pb_roles.specs.Sections.{names_of};
 
+use crate::flush::all_tasks;
 use crate::met::{HandlerIn, Section};
+use crate::placing::push_part;
+use crate::ready::Flushes;
 use pb_batches::Serial;
+use pb_handlers::Handlers;
 use pb_patterns::pattern::Pattern;
 use pb_places::Place;
+use pb_play::node::NodeList;
+use pb_play_reading::handlers::Handler;
 use pb_strategies::Strategy;
 use pb_tree::PlayTree;
 use pb_value::items::Items;
 use pb_value::text::Text;
 use pb_value::val::Dict;
+use std::alloc::{AllocError, Global};
 
 /// What a play says of failures in all its tasks and handlers, where nothing inside says so.
-#[derive(Clone, Copy, Debug, PartialEq, Eq)]
+#[derive(Clone, Copy)]
 pub struct PlayKeys {
     /// Whether one on a host ends the play for all.
     pub any_errors_fatal: Option<bool>,
@@ -30,7 +39,6 @@ pub struct LinearKeys {
 }
 
 /// The lists of nodes of a play, in the order in which they run, and its handlers.
-#[derive(Drop)]
 pub struct Sections {
     /// What it hands down to what stands in it.
     pub keys: PlayKeys,
@@ -44,6 +52,52 @@ pub struct Sections {
     pub handlers: Items<HandlerIn>,
     /// Whether its handlers run after a failure too.
     pub force_handlers: bool,
+}
+
+// (by hand, as below: it is then dropped by one call, and not part by part at each exit)
+impl Drop for Sections {
+    fn drop(self) {
+        let Sections {
+            keys: _,
+            pre,
+            tasks,
+            post,
+            handlers,
+            force_handlers: _,
+        } = self;
+        drop(pre);
+        drop(tasks);
+        drop(post);
+        drop(handlers);
+    }
+}
+
+impl Sections {
+    /// What stands at the places of a play, whose handlers are notified by these names. Every task outside of handlers has one place, to which it is moved.
+    pub(crate) fn all_places(
+        self,
+        alloc: Global,
+        names: Handlers,
+    ) -> Result<Items<Place>, AllocError>
+        requires { names ≡ map names_of self.handlers }
+        ensures { IfOk result (λ all. all ≡ all_places self) }
+    {
+        let Sections {
+            keys,
+            pre,
+            tasks,
+            post,
+            handlers,
+            force_handlers: _,
+        } = self;
+        let handlers = all_tasks(alloc, keys, handlers)?;
+        let flushes = Flushes { names, handlers };
+        let mut places = Vec::new(alloc);
+        push_part(alloc, &mut places, &flushes, keys, pre)?;
+        push_part(alloc, &mut places, &flushes, keys, tasks)?;
+        push_part(alloc, &mut places, &flushes, keys, post)?;
+        Ok(Items::from_vec(places))
+    }
 }
 
 /// A play with its tree and what stands at each place of the tree, in the order of places.
@@ -67,8 +121,16 @@ pub struct Expanded {
     pub places: Items<Place>,
 }
 
-/// What stays of a play as it is.
+/// What stands in a play itself.
 #[derive(Drop)]
+pub(crate) struct Own {
+    pub(crate) pre: NodeList,
+    pub(crate) tasks: NodeList,
+    pub(crate) post: NodeList,
+    pub(crate) handlers: Items<Handler>,
+}
+
+/// What stays of a play as it is.
 pub(crate) struct Head {
     pub(crate) name: Text,
     pub(crate) hosts: Pattern,
@@ -77,6 +139,24 @@ pub(crate) struct Head {
     pub(crate) serial: Serial,
     pub(crate) max_fail_percentage: u32,
     pub(crate) linear_keys: LinearKeys,
+}
+
+impl Drop for Head {
+    fn drop(self) {
+        let Head {
+            name,
+            hosts,
+            vars,
+            strategy: _,
+            serial,
+            max_fail_percentage: _,
+            linear_keys: _,
+        } = self;
+        drop(name);
+        drop(hosts);
+        drop(vars);
+        drop(serial);
+    }
 }
 
 impl Head {
