@@ -10,6 +10,15 @@ use pb_ids::HostNo;
 use pb_planes::HostSet;
 use std::alloc::{AllocError, Global};
 
+/// What stands of some groups: who is whose child, their own hosts, how deep each of them lies, and how many hosts there are.
+#[derive(Drop)]
+struct Ranks<'a> {
+    links: &'a [ChildLink],
+    own: &'a [OwnHost],
+    depths: &'a [u32],
+    hosts: u32,
+}
+
 /// The members of each group, from the deepest groups up.
 pub fn members_of(
     alloc: Global,
@@ -26,17 +35,15 @@ pub fn members_of(
 {
     let mut planes = empty_planes(alloc, depths.len(), hosts)?;
     insert_own(own, hosts, planes.as_mut_slice());
+    let ranks = Ranks {
+        links,
+        own,
+        depths,
+        hosts,
+    };
     for above in 0..depths.len() {
         let depth = depths.len() - 1 - above;
-        join_children(
-            alloc,
-            links,
-            own,
-            depths,
-            depth as u32,
-            hosts,
-            planes.as_mut_slice(),
-        )?;
+        join_children(alloc, &ranks, depth as u32, planes.as_mut_slice())?;
     }
     Ok(planes)
 }
@@ -64,20 +71,17 @@ fn insert_own(own: &[OwnHost], hosts: u32, planes: &mut [HostSet])
 /// Adds to each group of this depth the members of its children.
 fn join_children(
     alloc: Global,
-    links: &[ChildLink],
-    own: &[OwnHost],
-    depths: &[u32],
+    ranks: &Ranks<'_>,
     depth: u32,
-    hosts: u32,
     planes: &mut [HostSet],
 ) -> Result<(), AllocError>
-    requires within { AreLinksBelow links.now (length depths.now) }
-    requires depths { AreDepths links.now (length depths.now) depths.now }
-    requires filled { AreFilledFrom links.now own.now depths.now hosts (depth + 1) planes.old }
-    ensures { OnOk result (AreFilledFrom links.now own.now depths.now hosts depth planes.new) }
+    requires within { AreLinksBelow ranks.now.links.now (length ranks.now.depths.now) }
+    requires depths { AreDepths ranks.now.links.now (length ranks.now.depths.now) ranks.now.depths.now }
+    requires filled { AreFilledFrom ranks.now.links.now ranks.now.own.now ranks.now.depths.now ranks.now.hosts (depth + 1) planes.old }
+    ensures { OnOk result (AreFilledFrom ranks.now.links.now ranks.now.own.now ranks.now.depths.now ranks.now.hosts depth planes.new) }
 {
-    for link in links {
-        if depths[link.parent.0 as usize] == depth {
+    for link in ranks.links {
+        if ranks.depths[link.parent.0 as usize] == depth {
             join(alloc, planes, link.parent.0 as usize, link.child.0 as usize)?;
         }
     }

@@ -237,18 +237,17 @@ fn first_lines(
 /// The plan of what a bundle says.
 fn plan_with(
     alloc: Global,
-    forks: u32,
-    has_facts_program: bool,
+    bundle: &Bundle,
     inventory: Inventory,
     extra: Dict,
     plays: Items<Expanded>,
     limit: &Option<Pattern>,
 ) -> Result<Plan, BundleFault>
-    requires some { 0 < forks }
-    requires bound { forks ≤ 256 }
+    requires some { 0 < bundle.now.forks }
+    requires bound { bundle.now.forks ≤ 256 }
     requires plays { length plays ≤ 256 }
     requires built { All IsBuilt plays }
-    ensures value { IfOk result (λ plan. IsPlanIn inventory extra limit.now forks has_facts_program plays plan) }
+    ensures value { IfOk result (λ plan. IsPlanIn inventory extra limit.now bundle.now.forks bundle.now.has_facts_program plays plan) }
     ensures fault { IfErr result (λ e. e ≡ BundleFault.Memory) }
 {
     let selected = limit_selects(alloc, &inventory, limit)?;
@@ -259,8 +258,8 @@ fn plan_with(
     Ok(Plan::from_parts(
         inventory,
         plays,
-        forks,
-        has_facts_program,
+        bundle.forks,
+        bundle.has_facts_program,
         lines,
         extra,
         magic,
@@ -303,15 +302,7 @@ fn plan_of(alloc: Global, bundle: &Bundle) -> Result<Plan, BundleFault>
         Ok(plays) => plays,
         Err(fault) => return Err(fault),
     };
-    plan_with(
-        alloc,
-        forks,
-        bundle.has_facts_program,
-        inventory,
-        extra,
-        plays,
-        &limit,
-    )
+    plan_with(alloc, bundle, inventory, extra, plays, &limit)
 }
 
 impl Planned for Bundle {
