@@ -1,7 +1,7 @@
 -- An engine that took commands, and nothing else: its run, its lines, its answers and what is left to do are as before.
 use Rattle.std.proofs.Common.{◌≡◌, ℕ, Bool, true, false, List, [], ◌∷◌, ◌++◌, refl, sym, ◌∙◌, ap, subst, append_assoc}
 use Rattle.std.proofs.lemmas.List.{append-nil}
-use Rattle.std.specs.Prelude.{Option, Result, Ok, Err, IfErr, ◌<◌}
+use Rattle.std.specs.Prelude.{Option, ◌<◌}
 use Rattle.pb_state.specs.declared.event.Event.{Event}
 use Rattle.pb_state.specs.declared.event.Event.TheVariants.{Open, Start, Send, Report as Reported, Turn, Close, Stop, Forks}
 use Rattle.pb_plan.specs.Plan.{PlanOf}
@@ -16,18 +16,17 @@ use Rattle.pb_engine.specs.Commands.{event_for}
 use Rattle.pb_engine.specs.EngineOf.{EngineOf, Takes, IsSound, LessWork}
 use Rattle.pb_engine.proofs.Runs.{once_in_run}
 use Rattle.pb_events.specs.Lines.{lines_of}
-use Rattle.pb_driver.specs.declared.driver.RunFault.{RunFault}
 use Rattle.pb_driver.specs.declared.given.Given.{Given}
 use Rattle.pb_driver.specs.Taken.{with_more}
 use Rattle.pb_driver.specs.Output.{lines_from}
 use Rattle.pb_driver.specs.Cut.{Breaks}
 use Rattle.pb_engine.specs.Laws.{has_mail}
-use Rattle.pb_driver.specs.Mails.{Mail, mail_in, mails_from, mails_in, GoesAlong, GoesOver}
+use Rattle.pb_driver.specs.Mails.{Mail, mail_in, mails_from, mails_in, GoesAlong}
 use Rattle.pb_driver.specs.Commanded.{is_taken}
-use Rattle.pb_driver.specs.Driven.{Answers, IsAnswered, HasBegun, IsSame, Keeps, AreCommands, TakesCommands, lines_of_trail}
+use Rattle.pb_driver.specs.Driven.{Answers, IsAnswered, HasBegun, Keeps, AreCommands, TakesCommands, lines_of_trail}
 use Rattle.pb_driver.proofs.Driving.{no_report}
 use Rattle.pb_driver.proofs.Cutting.{all_short}
-use Rattle.pb_driver.proofs.Going.{no_mail, over_along}
+use Rattle.pb_driver.proofs.Going.{no_mail}
 
 -- a command is no report, has no lines, and leaves as much to do as before
 pub is_for : (command : Command) → is_command (event_for command) ≡ true
@@ -134,32 +133,14 @@ work_same old new sound took =
     ∙ work_behind old.plan old.state took.events took.commands)
 
 -- one event more behind commands
-pub same_behind : (old mid new : EngineOf) → TakesCommands old mid → IsSame mid new → IsSame old new
-same_behind old mid new took same = record { plan = same.plan ∙ took.same.plan; pool = same.pool ∙ took.same.pool; run = same.run }
-
 pub keeps_behind : (old mid new : EngineOf) (t u : Option (List ℕ)) → TakesCommands old mid → Keeps mid new t u → Keeps old new t u
 keeps_behind old mid new t u took keeps = λ base before. keeps base (before ∙ ap (λ l. with_more base l) (sym (lines_same old mid took)))
-
-pub breaks_behind : (old mid new : EngineOf) (t u : Option (List ℕ)) → TakesCommands old mid → Breaks mid new t u → Breaks old new t u
-breaks_behind old mid new t u took breaks = λ base before. breaks base (before ∙ ap (λ l. with_more base l) (sym (lines_same old mid took)))
 
 pub breaks_told : (old new : EngineOf) (t : Option (List ℕ)) → TakesCommands old new → Breaks old new t t
 breaks_told old new t took = λ base before. all_short new base t (before ∙ ap (λ l. with_more base l) (sym (lines_same old new took)))
 
 pub along_behind : {H : Type 0} (went : H → List Mail → H → Type 0) (old mid new : EngineOf) (r s : H) → TakesCommands old mid → GoesAlong went mid new r s → GoesAlong went old new r s
 along_behind {H} went old mid new r s took along = λ base was. along base (subst (λ mails. went base mails r) (sym (mails_same old mid took)) was)
-
-pub over_behind : {H : Type 0} (answers : Answers) (went : H → List Mail → H → Type 0) (old mid new : EngineOf) (r s : H) (fault : RunFault) → TakesCommands old mid → GoesOver answers went mid new r s fault
-    → GoesOver answers went old new r s fault
-over_behind {H} answers went old mid new r s fault took over = λ base was. over base (subst (λ mails. went base mails r) (sym (mails_same old mid took)) was)
-
-over_none : {H : Type 0} (answers : Answers) (went : H → List Mail → H → Type 0) (old new : EngineOf) (r : H) (fault : RunFault) → TakesCommands old new → GoesOver answers went old new r r fault
-over_none {H} answers went old new r fault took = over_along answers went old new r r fault (λ base was. subst (λ mails. went base mails r) (sym (mails_same old new took)) was)
-
-pub over_told : {H A : Type 0} (answers : Answers) (went : H → List Mail → H → Type 0) (old new : EngineOf) (r : H) (result : Result A RunFault) → TakesCommands old new
-    → IfErr result (λ fault. GoesOver answers went old new r r fault)
-over_told {H} {A} answers went old new r (Ok v) took = tt
-over_told {H} {A} answers went old new r (Err fault) took = over_none answers went old new r fault took
 
 pub less_behind : (old mid new : EngineOf) → IsSound old → TakesCommands old mid → LessWork mid new → LessWork old new
 less_behind old mid new sound took less = subst (λ (n : ℕ). work new.plan new.state < n) (work_same old mid sound took) less

@@ -1,14 +1,14 @@
 -- What is written where a run breaks off.
 use Rattle.std.proofs.Common.{◌≡◌, ℕ, ◌+◌, ◌-◌, ◌≤◌, List, [], ◌∷◌, ◌++◌, length, take, refl, sym, ◌∙◌, ap, subst, arith, length-append}
 use Rattle.std.proofs.lemmas.List.{append-nil, take_all, take_min, take-append-le}
-use Rattle.std.specs.Prelude.{min, suc, zero, Option, Ok}
+use Rattle.std.specs.Prelude.{min, suc, zero, Option}
 use Rattle.pb_state.specs.declared.event.Event.{Event}
 use Rattle.pb_one_host.specs.declared.row.Counts.{Counts}
 use Rattle.pb_plan.specs.Plan.{PlanOf}
 use Rattle.pb_state.specs.State.{State}
 use Rattle.pb_state.specs.Machine.{after, first_state}
 use Rattle.pb_state.specs.Run.{IsFinished}
-use Rattle.pb_engine.specs.EngineOf.{EngineOf, taken, IsSound, engine_of}
+use Rattle.pb_engine.specs.EngineOf.{EngineOf, taken, IsSound}
 use Rattle.pb_events.specs.Lines.{start_line}
 use Rattle.pb_recap.specs.Recap.{recap}
 use Rattle.pb_driver.specs.Taken.{with_more}
@@ -16,7 +16,7 @@ use Rattle.pb_driver.specs.Output.{lines_from, end_lines}
 use Rattle.pb_driver.specs.Driven.{Answers, IsSame, IsFresh, Keeps, TakesOne, last_lines, lines_of_trail}
 use Rattle.pb_driver.specs.Cut.{all_but_last, IsPart, lines_to, least_written, IsCut, IsShort, Breaks}
 use Rattle.pb_driver.proofs.Pieces.{more_more}
-use Rattle.pb_driver.proofs.Driving.{lines_more, last_at, none_more, fresh_lines, made_of}
+use Rattle.pb_driver.proofs.Driving.{lines_more, last_at, none_more, fresh_lines}
 
 -- fronts of lists
 pub take_behind : (n : ℕ) (a b : List ℕ) → take (length a + n) (a ++ b) ≡ a ++ take n b
@@ -62,9 +62,6 @@ all_short engine base t before = record {
 
 pub breaks_same : (old new : EngineOf) (t : Option (List ℕ)) → new ≡ old → Breaks old new t t
 breaks_same old new t same = rw same (λ base before. all_short old base t before)
-
-pub breaks_keeps : (old new : EngineOf) (t u : Option (List ℕ)) → Keeps old new t u → Breaks old new t u
-breaks_keeps old new t u keeps = λ base before. all_short new base u (keeps base before)
 
 pub breaks_after : (a b c : EngineOf) (t u v : Option (List ℕ)) → Keeps a b t u → Breaks b c u v → Breaks a c t v
 breaks_after a b c t u v keeps breaks = λ base before. breaks base (keeps base before)
@@ -163,9 +160,3 @@ cut_end old new t u v w counts fresh started keeps ended same counted part =
 -- nothing of a fresh engine's run was written, or a front of its first line
 pub cut_fresh : (old : EngineOf) (t u : Option (List ℕ)) → IsFresh old → IsPart t u (start_line (length old.plan.plays)) → IsCut old.plan old.pool old.trail t u
 cut_fresh old t u fresh part = rw fresh.1 (cut_start old.plan old.pool t u part)
-
--- as the plan's run
-pub cut_of : (plan : PlanOf) (pool : ℕ) (engine : EngineOf) (new_trail trail : List Event) (t u : Option (List ℕ)) → engine_of plan pool ≡ Ok engine → IsCut engine.plan engine.pool new_trail t u → trail ≡ new_trail → IsCut plan pool trail t u
-cut_of plan pool engine new_trail trail t u made cut is =
-    let from = made_of plan pool engine made in
-    rw (is, ← from.0, ← from.1) cut

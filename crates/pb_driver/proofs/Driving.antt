@@ -34,7 +34,7 @@ use Rattle.pb_recap.specs.Recap.{recap}
 use Rattle.pb_driver.specs.Taken.{with_more}
 use Rattle.pb_driver.specs.Output.{lines_from, end_lines}
 use Rattle.pb_driver.specs.declared.given.Given.{Given}
-use Rattle.pb_driver.specs.Commanded.{IsObeyed, IsObeyedTo, run_with}
+use Rattle.pb_driver.specs.Commanded.{IsObeyed, run_with}
 use Rattle.pb_driver.specs.Driven.{Answers, IsAnswerAt, IsAnswered, TakesOne, TakesOwn, HasBegun, IsSame, IsFresh, IsBegunBy, HasEnded, IsWhole, Keeps, last_lines, lines_of_trail}
 use Rattle.pb_driver.proofs.Pieces.{more_more}
 
@@ -234,19 +234,6 @@ small_by plan pool fault made false is le e = let wrong : true ≡ false = ap is
 
 pub not_small : (plan : PlanOf) (pool : ℕ) (fault : EngineFault) → plan.forks ≤ pool → engine_of plan pool ≡ Err fault → ⊥
 not_small plan pool fault le e = small_by plan pool fault (record { plan = plan; pool = pool; state = first_state plan plan.forks pool; trail = [] }) (nat_lt pool plan.forks) refl le e
-
--- as the plan's run
-pub whole_of : (answers : Answers) (commands : List Given) (plan : PlanOf) (pool : ℕ) (engine : EngineOf) (new_trail trail : List Event) (t u : Option (List ℕ)) → engine_of plan pool ≡ Ok engine → IsWhole answers engine.plan engine.pool commands new_trail t u → trail ≡ new_trail → IsWhole answers plan pool commands trail t u
-whole_of answers commands plan pool engine new_trail trail t u made run is =
-    let from = made_of plan pool engine made in
-    rw (is, ← from.0, ← from.1) run
-
--- the events of an engine that couldn't go on
-pub begun_of : (answers : Answers) (commands : List Given) (plan : PlanOf) (pool : ℕ) (engine new : EngineOf) (trail : List Event) → engine_of plan pool ≡ Ok engine → IsSame engine new → HasBegun answers new → IsObeyedTo engine.plan engine.pool commands new.trail → trail ≡ new.trail → IsBegunBy answers plan pool commands trail
-begun_of answers commands plan pool engine new trail made same begun obeyed is =
-    let from = made_of plan pool engine made in
-    rw (is, ← from.0, ← from.1, ← same.plan, ← same.pool)
-    (record { legal = begun.legal; eager = begun.eager; once = begun.once; answered = begun.answered; obeyed = rw (same.plan, same.pool) obeyed })
 
 -- where a job is out in a run, the oldest one is there, its job is, and its report is taken
 pub oldest_found : (s : State) → oldest_out s.rows ≡ None → list_any is_out s.rows ≡ true → ⊥

@@ -14,7 +14,7 @@ use Rattle.pb_state.specs.State.{State}
 use Rattle.pb_state.specs.Machine.{after, first_state}
 use Rattle.pb_state.specs.Jobs.{job_of}
 use Rattle.pb_state.specs.Run.{state_from}
-use Rattle.pb_engine.specs.EngineOf.{EngineOf, Takes, taken, IsSound, engine_of}
+use Rattle.pb_engine.specs.EngineOf.{EngineOf, Takes, taken, IsSound}
 use Rattle.pb_engine.specs.Choice.{NextIs, answer_of}
 use Rattle.pb_engine.specs.declared.engine.Next.TheVariants.{Sent as ToSend, Moved, Waiting}
 use Rattle.pb_driver.specs.declared.driver.RunFault.{RunFault}
@@ -22,7 +22,6 @@ use Rattle.pb_driver.specs.declared.driver.RunFault.TheVariants.{Memory}
 use Rattle.pb_driver.specs.Driven.{Answers, IsSame, IsFresh}
 use Rattle.pb_engine.specs.Laws.{has_mail}
 use Rattle.pb_driver.specs.Mails.{Mail, Goes, Comes, mail_in, mails_from, mails_of, mails_in, HasGoneTo, GoesAlong, GoesOver}
-use Rattle.pb_driver.proofs.Driving.{made_of}
 
 -- mail that went and came, and then more: the law of a crew
 abbrev pub WentMore : {H : Type 0} → (H → List Mail → H → Type 0) → Type 0
@@ -189,19 +188,6 @@ gone_along {H} went old new before after fresh none along same = rw (← same.pl
 pub gone_over : {H : Type 0} (answers : Answers) (went : H → List Mail → H → Type 0) (old new : EngineOf) (before after : H) (fault : RunFault) → IsFresh old → went before [] before
     → GoesOver answers went old new before after fault → IsSame old new → HasGoneTo answers (λ mails. went before mails after) old.plan old.pool new.trail fault
 gone_over {H} answers went old new before after fault fresh none over same = rw (← same.plan, ← same.pool) (over before (fresh_gone went old before fresh none))
-
--- as the plan's run
-pub gone_of : (has_gone : List Mail → Type 0) (plan : PlanOf) (pool : ℕ) (engine : EngineOf) (new_trail trail : List Event) → engine_of plan pool ≡ Ok engine
-    → has_gone (mails_of engine.plan engine.pool new_trail) → trail ≡ new_trail → has_gone (mails_of plan pool trail)
-gone_of has_gone plan pool engine new_trail trail made gone is =
-    let from = made_of plan pool engine made in
-    rw (is, ← from.0, ← from.1) gone
-
-pub gone_to_of : (answers : Answers) (has_gone : List Mail → Type 0) (plan : PlanOf) (pool : ℕ) (engine : EngineOf) (new_trail trail : List Event) (fault : RunFault) → engine_of plan pool ≡ Ok engine
-    → HasGoneTo answers has_gone engine.plan engine.pool new_trail fault → trail ≡ new_trail → HasGoneTo answers has_gone plan pool trail fault
-gone_to_of answers has_gone plan pool engine new_trail trail fault made over is =
-    let from = made_of plan pool engine made in
-    rw (is, ← from.0, ← from.1) over
 
 -- where a run couldn't go on before its first event, or behind its last
 pub fresh_over : {H : Type 0} (answers : Answers) (went : H → List Mail → H → Type 0) (old : EngineOf) (hand : H) (fault : RunFault) → IsFresh old → went hand [] hand

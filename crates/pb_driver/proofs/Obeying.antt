@@ -186,9 +186,6 @@ obeyed_end commands now engine so none =
     ∙ ap (λ l. engine.trail ++ l) (with_end engine.plan engine.pool engine.state now.reports (drop now.given commands) none) ∙ append-nil engine.trail
     )
 
-pub obeyed_fresh : (commands : List Given) (engine : EngineOf) → IsFresh engine → IsObeyedTo engine.plan engine.pool commands engine.trail
-obeyed_fresh commands engine fresh = obeyed_to commands (record { given = 0; reports = 0 }) engine (along_first commands engine fresh)
-
 -- a whole run is a front of itself, with the same plan
 pub obeyed_as : (commands : List Given) (old new : EngineOf) → IsSame old new → IsObeyedTo new.plan new.pool commands new.trail → IsObeyedTo old.plan old.pool commands new.trail
 obeyed_as commands old new same obeyed = rw (← same.plan, ← same.pool) obeyed

@@ -1,5 +1,5 @@
 -- Workers that are started, do their work and come back.
-use Rattle.std.proofs.Common.{◌≡◌, ℕ, zero, suc, ◌<◌, List, [], ◌∷◌, ◌++◌, map, reverse, length, refl, sym, ◌∙◌, ap, subst, arith, append_assoc, length-append}
+use Rattle.std.proofs.Common.{◌≡◌, ℕ, zero, suc, ◌<◌, Bool, true, false, List, [], ◌∷◌, ◌++◌, map, reverse, length, refl, sym, ◌∙◌, ap, subst, arith, append_assoc, length-append}
 use Rattle.std.proofs.lemmas.List.{append-nil, map-append, length-map, length-reverse, reverse-append, reverse-reverse}
 use Rattle.std.proofs.lemmas.List.Sorted.{IsPermutation-refl}
 use Rattle.std.specs.Prelude.{All, IsPermutation, Some, slice_get, slice_index_or}
@@ -15,7 +15,7 @@ use Rattle.pb_forks.specs.declared.views.Lodged.TheVariants.{Here}
 use Rattle.pb_forks.specs.Ends.{end_view, end_word, IsJoined, IsTold, EndedShut, HasEqualLists}
 use Rattle.pb_forks.specs.Logs.{offers_of, collects_of, IsBeginning}
 use Rattle.pb_forks.specs.Mailbox.{HasLists}
-use Rattle.pb_forks.specs.Seats.{fork_view, main_view, number, forks_of, IsForkOf, IsFreshOf, IsEachOnce}
+use Rattle.pb_forks.specs.Seats.{fork_view, main_view, number, forks_of, IsForkOf, IsFreshOf, IsEachOnce, IsMainOf}
 use Rattle.pb_forks.specs.Views.{fresh, upto}
 use Rattle.pb_outcome.specs.declared.job.Job.{Job}
 use Rattle.pb_outcome.specs.declared.job.Report.{Report}
@@ -23,7 +23,7 @@ use Rattle.pb_outcome.specs.declared.outcome.Form.{Form}
 use Rattle.pb_runner.specs.Served.{HasServed}
 use Rattle.pb_driver.specs.declared.workers.Back.{Back}
 use Rattle.pb_driver.specs.declared.workers.Worker.{Worker}
-use Rattle.pb_driver.specs.Workers.{AreFresh, AreWorks, AreWorkersOf, ArePaired, HasItsShare, HaveShares, IsLeft, IsStarted, IsWorkOf, began, runner_of, seat_of}
+use Rattle.pb_driver.specs.Workers.{AllShut, AreFresh, AreWorks, AreWorkersOf, ArePaired, HasItsShare, HaveShares, IsLeft, IsStarted, IsWorkOf, began, runner_of, seat_of}
 
 -- ---- lists
 pub reverse_snoc : {X : Type 0} (xs : List X) (x : X) → reverse (xs ++ x ∷ []) ≡ x ∷ reverse xs
@@ -133,6 +133,11 @@ last_worker pool (v ∷ rest) w are = let more = last_worker pool rest w are.1 i
 pub fresh_of : {N : Type 0} (pool : Pool N) (ws : List (Worker N)) → AreFresh pool ws → AreWorkersOf pool ws
 fresh_of pool [] are = tt
 fresh_of pool (w ∷ ws) are = (are.0.0, fresh_of pool ws are.1)
+
+-- whether all workers were started, or all forks were shut: the main seat stays the pool's
+pub main_stays : {N : Type 0} (pool : Pool N) (old new : MainSeat) (started : Bool) → IsMainOf pool old → (started ≡ true → new ≡ old) → (started ≡ false → AllShut pool old new) → IsMainOf pool new
+main_stays pool old new true main all refused = subst (λ (m : MainSeat). IsMainOf pool m) (sym (all refl)) main
+main_stays pool old new false main all refused = (refused refl).0 ∙ main
 
 pub none_left : {X : Type 0} (xs : List X) (n : ℕ) → n ≡ length xs → n ≡ 0 → xs ≡ []
 none_left [] n e none = refl

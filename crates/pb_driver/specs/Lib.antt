@@ -11,6 +11,7 @@ pub mod Driven
 pub mod Crews
 pub mod FitsPool
 pub mod Cut
+pub mod Turning
 pub mod Written
 pub mod WrittenRows
 pub mod Workers

@@ -1,8 +1,17 @@
 //! Who runs a run's jobs.
 
+use crate::given::Given;
 use pb_engine::Engine;
 use pb_outcome::job::{Job, Report};
 use std::alloc::{AllocError, Global};
+
+/// What stays the same from the beginning of a run to its end: who runs its jobs, and the commands that it is given.
+#[derive(Drop)]
+pub(crate) struct Desk<'a, C> {
+    pub alloc: Global,
+    pub crew: &'a C,
+    pub commands: &'a [Given],
+}
 
 /// Runs the jobs of a run: it is given each job that is sent, and gives a report where the machine waits for one. What changes
 /// as it does so is its hand, of the type `H`.

@@ -1,6 +1,6 @@
 //! The driver.
 
-ghost use Rattle.std.specs.Prelude.{◌≡◌, ◌≢◌, ◌<◌, ◌≤◌, ◌-◌, ◌⊎◌, [], ℕ, List, drop, length, slice_get, IfOk, IfErr, OnOk, OnErr, Ok, Err, true, false};
+ghost use Rattle.std.specs.Prelude.{◌≡◌, ◌≢◌, ◌<◌, ◌≤◌, ◌-◌, drop, length, slice_get, IfOk, IfErr, OnOk, OnErr, Ok, true, false};
 ghost use Rattle.std.specs.List.{list_any};
 ghost use Rattle.pb_state.specs.Run.{IsQuiet};
 ghost use Rattle.std.specs.Option.{option_map_or};
@@ -9,21 +9,20 @@ ghost use Rattle.pb_engine.specs.Commands.{event_for};
 ghost use Rattle.pb_engine.specs.EngineOf.{EngineOf, LessWork, IsSound, Takes, engine_of};
 ghost use Rattle.pb_recap.specs.Recap.{recap};
 ghost use Rattle.pb_driver.specs.Taken.{one_more};
-ghost use Rattle.pb_driver.specs.Output.{output};
-ghost use Rattle.pb_driver.specs.Crews.{FitsSince, HasFitEnd};
-ghost use Rattle.pb_driver.specs.Cut.{IsCut, Breaks};
-ghost use Rattle.pb_driver.specs.Mails.{GoesAlong, GoesOver, HasGoneTo, mails_of};
+ghost use Rattle.pb_driver.specs.Crews.{FitsSince};
+ghost use Rattle.pb_driver.specs.Cut.{IsCut};
+ghost use Rattle.pb_driver.specs.Turning.{Stands, GoesOn, BreaksOff, RunsOut, RunsTo};
+ghost use Rattle.pb_driver.specs.Mails.{GoesAlong, GoesOver};
 ghost use Rattle.pb_driver.specs.Ran.{IsRanTo};
 ghost use Rattle.pb_driver.specs.Commanded.{IsAlong, IsObeyed, IsObeyedTo, count_report, is_taken, none_due};
-ghost use Rattle.pb_driver.specs.Driven.{IsSame, Keeps, TakesOne, TakesAtMost, TakesCommands, TakesOwn, HasBegun, HasEnded, IsWhole, IsWholeRun, IsBegun, IsBegunBy, IsTold, IsFresh};
+ghost use Rattle.pb_driver.specs.Driven.{TakesOne, TakesAtMost, TakesCommands, TakesOwn, HasEnded, IsWholeRun, IsBegun, IsTold, IsFresh};
 
 use crate::alone::Alone;
-use crate::crew::Crew;
-use crate::emitting::{emit, emit_end};
+use crate::crew::{Crew, Desk};
+use crate::emitting::{emit, emit_start, end_run};
 use crate::given::{Given, Told, count_last, next_due};
-use crate::line_out::{Failed, LineOut, put_all};
+use crate::line_out::{Failed, LineOut};
 use pb_engine::{CommandFault, Engine, EngineFault, Next, Picker, Refusal};
-use pb_events::start_line;
 use pb_recap::Recap;
 use pb_runner::runner::Runner;
 use pb_state::{Event, Plan};
@@ -157,37 +156,26 @@ fn advance<H, C: Crew<H>, P: Picker>(
 }
 
 /// One event, with its lines. It answers whether there was one to take.
-#[tactic(auto, using(crate::proofs::Driving::keeps_one, crate::proofs::Driving::keeps_same, crate::proofs::Driving::same_one, crate::proofs::Driving::same_same, crate::proofs::Driving::begun_one, crate::proofs::Driving::begun_same, crate::proofs::Cutting::breaks_same, crate::proofs::Going::over_along, crate::proofs::Driving::takes_own))]
 fn take_one<H, C: Crew<H>, P: Picker, W: LineOut>(
-    alloc: Global,
+    desk: &Desk<'_, C>,
     engine: &mut Engine,
-    crew: &C,
     hand: &mut H,
     picker: &mut P,
     writer: &mut W,
 ) -> Result<bool, RunFault>
-    requires since { FitsSince (C.fits crew.now hand.old) engine.old }
-    requires begun { HasBegun (C.answers crew.now) engine.old }
-    ensures own { result ≡ Ok true → TakesOwn engine.old engine.new }
-    ensures still { result ≡ Ok false → engine.new ≡ engine.old }
-    ensures most { TakesAtMost engine.old engine.new }
-    ensures same { IsSame engine.old engine.new }
-    ensures begun { HasBegun (C.answers crew.now) engine.new }
-    ensures keeps { OnOk result (Keeps engine.old engine.new (W.taken writer.old) (W.taken writer.new)) }
-    ensures breaks { OnErr result (Breaks engine.old engine.new (W.taken writer.old) (W.taken writer.new)) }
-    ensures since { OnOk result (FitsSince (C.fits crew.now hand.new) engine.new) }
-    ensures went { OnOk result (GoesAlong C.went engine.old engine.new hand.old hand.new) }
-    ensures lost { IfErr result (λ e. GoesOver (C.answers crew.now) C.went engine.old engine.new hand.old hand.new e) }
-    ensures more { result ≡ Ok true → LessWork engine.old engine.new }
-    ensures over { result ≡ Ok false → HasEnded engine.new.plan engine.new.state }
-    ensures quiet { OnOk result (W.failures writer.new ≡ W.failures writer.old) }
-    ensures failed { IfErr result (λ e. e ≡ RunFault.Write → W.failures writer.new ≡ one_more (W.failures writer.old)) }
-    ensures opened { IfErr result (λ e. e ≢ RunFault.Closed) }
+    requires { Stands (C.answers desk.now.crew.now) (C.fits desk.now.crew.now hand.old) engine.old }
+    ensures stands { OnOk result (Stands (C.answers desk.now.crew.now) (C.fits desk.now.crew.now hand.new) engine.new) }
+    ensures on { OnOk result (GoesOn C.went engine.old engine.new hand.old hand.new (W.taken writer.old) (W.taken writer.new) (W.failures writer.old) (W.failures writer.new)) }
+    ensures off { IfErr result (λ e. BreaksOff (C.answers desk.now.crew.now) C.went engine.old engine.new hand.old hand.new (W.taken writer.old) (W.taken writer.new) (W.failures writer.old) (W.failures writer.new) e) }
+    ensures most { OnErr result (TakesAtMost engine.old engine.new) }
+    ensures own { result ≡ Ok true → TakesOwn engine.old engine.new × LessWork engine.old engine.new }
+    ensures over { result ≡ Ok false → (engine.new ≡ engine.old) × HasEnded engine.old.plan engine.old.state }
 {
-    if !advance(alloc, engine, crew, hand, picker)? {
+    let more = advance(desk.alloc, engine, desk.crew, hand, picker)?;
+    if !more {
         return Ok(false);
     }
-    emit(alloc, engine, writer)?;
+    emit(desk.alloc, engine, writer)?;
     Ok(true)
 }
 
@@ -238,38 +226,26 @@ fn count(engine: &Engine, told: &mut Told)
 }
 
 /// Gives the commands that are due, and takes one event, with its lines. It answers whether there was one to take.
-#[tactic(auto, using(crate::proofs::Commanding::begun_behind, crate::proofs::Commanding::same_behind, crate::proofs::Commanding::keeps_behind, crate::proofs::Commanding::breaks_behind, crate::proofs::Commanding::breaks_told, crate::proofs::Commanding::along_behind, crate::proofs::Commanding::over_behind, crate::proofs::Commanding::over_told, crate::proofs::Commanding::less_behind, crate::proofs::Crewing::since_told, crate::proofs::Obeying::along_own, crate::proofs::Obeying::along_as, crate::proofs::Obeying::own_counts, crate::proofs::Obeying::obeyed_to, crate::proofs::Obeying::obeyed_most))]
 fn turn<H, C: Crew<H>, P: Picker, W: LineOut>(
-    alloc: Global,
+    desk: &Desk<'_, C>,
     engine: &mut Engine,
-    crew: &C,
     hand: &mut H,
     picker: &mut P,
-    commands: &[Given],
     told: &mut Told,
     writer: &mut W,
 ) -> Result<bool, RunFault>
-    requires since { FitsSince (C.fits crew.now hand.old) engine.old }
-    requires begun { HasBegun (C.answers crew.now) engine.old }
-    requires along { IsAlong commands.now told.old engine.old }
-    ensures along { OnOk result (IsAlong commands.now told.new engine.new) }
-    ensures obeyed { OnErr result (IsObeyedTo engine.new.plan engine.new.pool commands.now engine.new.trail) }
-    ensures none { result ≡ Ok false → none_due told.new.reports (drop told.new.given commands.now) ≡ true }
-    ensures same { IsSame engine.old engine.new }
-    ensures begun { HasBegun (C.answers crew.now) engine.new }
-    ensures keeps { OnOk result (Keeps engine.old engine.new (W.taken writer.old) (W.taken writer.new)) }
-    ensures breaks { OnErr result (Breaks engine.old engine.new (W.taken writer.old) (W.taken writer.new)) }
-    ensures since { OnOk result (FitsSince (C.fits crew.now hand.new) engine.new) }
-    ensures went { OnOk result (GoesAlong C.went engine.old engine.new hand.old hand.new) }
-    ensures lost { IfErr result (λ e. GoesOver (C.answers crew.now) C.went engine.old engine.new hand.old hand.new e) }
-    ensures more { result ≡ Ok true → LessWork engine.old engine.new }
-    ensures over { result ≡ Ok false → HasEnded engine.new.plan engine.new.state }
-    ensures quiet { OnOk result (W.failures writer.new ≡ W.failures writer.old) }
-    ensures failed { IfErr result (λ e. e ≡ RunFault.Write → W.failures writer.new ≡ one_more (W.failures writer.old)) }
-    ensures opened { IfErr result (λ e. e ≢ RunFault.Closed) }
+    requires stands { Stands (C.answers desk.now.crew.now) (C.fits desk.now.crew.now hand.old) engine.old }
+    requires along { IsAlong desk.now.commands.now told.old engine.old }
+    ensures stands { OnOk result (Stands (C.answers desk.now.crew.now) (C.fits desk.now.crew.now hand.new) engine.new) }
+    ensures along { OnOk result (IsAlong desk.now.commands.now told.new engine.new) }
+    ensures on { OnOk result (GoesOn C.went engine.old engine.new hand.old hand.new (W.taken writer.old) (W.taken writer.new) (W.failures writer.old) (W.failures writer.new)) }
+    ensures off { IfErr result (λ e. BreaksOff (C.answers desk.now.crew.now) C.went engine.old engine.new hand.old hand.new (W.taken writer.old) (W.taken writer.new) (W.failures writer.old) (W.failures writer.new) e) }
+    ensures front { OnErr result (IsObeyedTo engine.new.plan engine.new.pool desk.now.commands.now engine.new.trail) }
+    ensures less { result ≡ Ok true → LessWork engine.old engine.new }
+    ensures over { result ≡ Ok false → HasEnded engine.new.plan engine.new.state × (none_due told.new.reports (drop told.new.given desk.now.commands.now) ≡ true) }
 {
-    give_due(engine, commands, told)?;
-    let more = take_one(alloc, engine, crew, hand, picker, writer)?;
+    give_due(engine, desk.commands, told)?;
+    let more = take_one(desk, engine, hand, picker, writer)?;
     if more {
         count(engine, told);
     }
@@ -277,117 +253,81 @@ fn turn<H, C: Crew<H>, P: Picker, W: LineOut>(
 }
 
 /// Takes events, with their lines, and gives the commands where they are due, until nothing is possible.
-#[tactic(auto, using(crate::proofs::Going::along_both, crate::proofs::Going::over_both, crate::proofs::Going::along_same, crate::proofs::Obeying::obeyed_end))]
 fn turn_all<H, C: Crew<H>, P: Picker, W: LineOut>(
-    alloc: Global,
+    desk: &Desk<'_, C>,
     engine: &mut Engine,
-    crew: &C,
     hand: &mut H,
     picker: &mut P,
-    commands: &[Given],
     told: &mut Told,
     writer: &mut W,
 ) -> Result<(), RunFault>
-    requires since { FitsSince (C.fits crew.now hand.old) engine.old }
-    requires begun { HasBegun (C.answers crew.now) engine.old }
-    requires along { IsAlong commands.now told.old engine.old }
-    ensures obeyed { OnOk result (IsObeyed engine.new.plan engine.new.pool commands.now engine.new.trail) }
-    ensures front { OnErr result (IsObeyedTo engine.new.plan engine.new.pool commands.now engine.new.trail) }
-    ensures same { IsSame engine.old engine.new }
-    ensures begun { HasBegun (C.answers crew.now) engine.new }
-    ensures keeps { OnOk result (Keeps engine.old engine.new (W.taken writer.old) (W.taken writer.new)) }
-    ensures breaks { OnErr result (Breaks engine.old engine.new (W.taken writer.old) (W.taken writer.new)) }
-    ensures since { OnOk result (FitsSince (C.fits crew.now hand.new) engine.new) }
-    ensures went { OnOk result (GoesAlong C.went engine.old engine.new hand.old hand.new) }
-    ensures lost { IfErr result (λ e. GoesOver (C.answers crew.now) C.went engine.old engine.new hand.old hand.new e) }
+    requires stands { Stands (C.answers desk.now.crew.now) (C.fits desk.now.crew.now hand.old) engine.old }
+    requires along { IsAlong desk.now.commands.now told.old engine.old }
+    ensures stands { OnOk result (Stands (C.answers desk.now.crew.now) (C.fits desk.now.crew.now hand.new) engine.new) }
+    ensures on { OnOk result (GoesOn C.went engine.old engine.new hand.old hand.new (W.taken writer.old) (W.taken writer.new) (W.failures writer.old) (W.failures writer.new)) }
+    ensures off { IfErr result (λ e. BreaksOff (C.answers desk.now.crew.now) C.went engine.old engine.new hand.old hand.new (W.taken writer.old) (W.taken writer.new) (W.failures writer.old) (W.failures writer.new) e) }
+    ensures front { OnErr result (IsObeyedTo engine.new.plan engine.new.pool desk.now.commands.now engine.new.trail) }
     ensures over { OnOk result (HasEnded engine.new.plan engine.new.state) }
-    ensures quiet { OnOk result (W.failures writer.new ≡ W.failures writer.old) }
-    ensures failed { IfErr result (λ e. e ≡ RunFault.Write → W.failures writer.new ≡ one_more (W.failures writer.old)) }
-    ensures opened { IfErr result (λ e. e ≢ RunFault.Closed) }
+    ensures obeyed { OnOk result (IsObeyed engine.new.plan engine.new.pool desk.now.commands.now engine.new.trail) }
 {
     'turns: loop {
-        let more = turn(alloc, engine, crew, hand, picker, commands, told, writer)?;
+        let more = turn(desk, engine, hand, picker, told, writer)?;
         if !more {
-            break;
+            return Ok(());
         }
     }
-    Ok(())
 }
 
 /// Takes a fresh engine through its whole run, with its output.
-#[tactic(auto, using(crate::proofs::Driving::whole, crate::proofs::Driving::fresh_begun, crate::proofs::Driving::empty_begun, crate::proofs::Crewing::since_now, crate::proofs::Crewing::fit_end, crate::proofs::Going::gone_along, crate::proofs::Going::gone_over, crate::proofs::Going::fresh_over, crate::proofs::Going::done_over, crate::proofs::Obeying::along_first, crate::proofs::Obeying::obeyed_fresh, crate::proofs::Obeying::obeyed_as, crate::proofs::Obeying::obeyed_front))]
 fn run_engine<H, C: Crew<H>, P: Picker, W: LineOut>(
-    alloc: Global,
+    desk: &Desk<'_, C>,
     engine: &mut Engine,
-    crew: &C,
     hand: &mut H,
     picker: &mut P,
-    commands: &[Given],
     writer: &mut W,
 ) -> Result<Recap, RunFault>
     requires sound { IsSound engine.old }
     requires fresh { IsFresh engine.old }
-    requires fits { C.fits crew.now hand.old engine.old }
-    ensures whole { OnOk result (IsWhole (C.answers crew.now) engine.old.plan engine.old.pool commands.now engine.new.trail (W.taken writer.old) (W.taken writer.new)) }
+    requires fits { C.fits desk.now.crew.now hand.old engine.old }
+    ensures run { OnOk result (RunsOut (C.answers desk.now.crew.now) (C.fits desk.now.crew.now hand.new) C.went engine.old.plan engine.old.pool desk.now.commands.now engine.new.trail hand.old hand.new (W.taken writer.old) (W.taken writer.new) (W.failures writer.old) (W.failures writer.new)) }
     ensures recap { IfOk result (λ r. r ≡ recap engine.old.plan engine.old.pool engine.new.trail) }
-    ensures last { OnOk result (HasFitEnd (C.fits crew.now hand.new)) }
-    ensures same { IsSame engine.old engine.new }
-    ensures begun { HasBegun (C.answers crew.now) engine.new }
-    ensures obeyed { OnErr result (IsObeyedTo engine.old.plan engine.old.pool commands.now engine.new.trail) }
-    ensures cut { OnErr result (IsCut engine.old.plan engine.old.pool engine.new.trail (W.taken writer.old) (W.taken writer.new)) }
-    ensures went { OnOk result (C.went hand.old (mails_of engine.old.plan engine.old.pool engine.new.trail) hand.new) }
-    ensures lost { IfErr result (λ e. HasGoneTo (C.answers crew.now) (λ mails. C.went hand.old mails hand.new) engine.old.plan engine.old.pool engine.new.trail e) }
-    ensures quiet { OnOk result (W.failures writer.new ≡ W.failures writer.old) }
-    ensures failed { IfErr result (λ e. e ≡ RunFault.Write → W.failures writer.new ≡ one_more (W.failures writer.old)) }
-    ensures opened { IfErr result (λ e. e ≢ RunFault.Closed) }
+    ensures stopped { IfErr result (λ e. RunsTo (C.answers desk.now.crew.now) C.went engine.old.plan engine.old.pool desk.now.commands.now engine.new.trail hand.old hand.new (W.taken writer.old) (W.taken writer.new) (W.failures writer.old) (W.failures writer.new) e) }
 {
-    let start = start_line(alloc, engine.plan().plays().len() as u32)?;
-    put_all(writer, &start)?;
+    emit_start(desk.alloc, engine, writer)?;
     let mut told = Told {
         given: 0,
         reports: 0,
     };
-    turn_all(
-        alloc, engine, crew, hand, picker, commands, &mut told, writer,
-    )?;
-    let recap = Recap::of(alloc, engine.state())?;
-    emit_end(alloc, engine, &recap, writer)?;
+    turn_all(desk, engine, hand, picker, &mut told, writer)?;
+    let recap = end_run(desk.alloc, engine, writer)?;
     Ok(recap)
 }
 
 /// Runs a plan to its end, with its output on the writer. The crew runs its jobs, and has room for so many at once. Else it is
 /// as `run_plain` says.
-#[tactic(auto, using(crate::proofs::Cutting::cut_none, crate::proofs::Driving::not_small))]
+#[tactic(auto, using(crate::proofs::Driving::not_small))]
 pub(crate) fn run_crew<H, C: Crew<H>, P: Picker, W: LineOut>(
-    alloc: Global,
+    desk: &Desk<'_, C>,
     plan: Plan,
     pool: u32,
-    crew: &C,
     hand: &mut H,
     picker: &mut P,
-    commands: &[Given],
     writer: &mut W,
 ) -> Result<Ended, (RunFault, Vec<Event>)>
     requires pool { (pool ≤ 256) × (plan.forks ≤ pool) }
-    requires fits { (engine : EngineOf) → engine_of plan pool ≡ Ok engine → C.fits crew.now hand.old engine }
-    ensures run { IfOk result (λ ended. IsWhole (C.answers crew.now) plan pool commands.now ended.trail.items (W.taken writer.old) (W.taken writer.new)) }
+    requires fits { (engine : EngineOf) → engine_of plan pool ≡ Ok engine → C.fits desk.now.crew.now hand.old engine }
+    ensures run { IfOk result (λ ended. RunsOut (C.answers desk.now.crew.now) (C.fits desk.now.crew.now hand.new) C.went plan pool desk.now.commands.now ended.trail.items hand.old hand.new (W.taken writer.old) (W.taken writer.new) (W.failures writer.old) (W.failures writer.new)) }
     ensures told { IfOk result (λ ended. IsTold plan pool ended.trail.items ended.recap ended.status) }
-    ensures went { IfOk result (λ ended. C.went hand.old (mails_of plan pool ended.trail.items) hand.new) }
-    ensures last { OnOk result (HasFitEnd (C.fits crew.now hand.new)) }
-    ensures begun { IfErr result (λ e. IsBegunBy (C.answers crew.now) plan pool commands.now e.1.items) }
-    ensures cut { IfErr result (λ e. IsCut plan pool e.1.items (W.taken writer.old) (W.taken writer.new)) }
-    ensures lost { IfErr result (λ e. HasGoneTo (C.answers crew.now) (λ mails. C.went hand.old mails hand.new) plan pool e.1.items e.0) }
-    ensures quiet { OnOk result (W.failures writer.new ≡ W.failures writer.old) }
-    ensures write { IfErr result (λ e. e.0 ≡ RunFault.Write → W.failures writer.new ≡ one_more (W.failures writer.old)) }
-    ensures opened { IfErr result (λ e. e.0 ≢ RunFault.Closed) }
+    ensures stopped { IfErr result (λ e. RunsTo (C.answers desk.now.crew.now) C.went plan pool desk.now.commands.now e.1.items hand.old hand.new (W.taken writer.old) (W.taken writer.new) (W.failures writer.old) (W.failures writer.new) e.0) }
 {
     pb_engine::runs_end_as_fixed();
+    let alloc = desk.alloc;
     let mut engine = match Engine::new(alloc, plan, pool) {
         Ok(engine) => engine,
         Err(EngineFault::Memory) => return Err((RunFault::Memory, Vec::new(alloc))),
         Err(EngineFault::PoolTooSmall) => unreachable!(),
     };
-    match run_engine(alloc, &mut engine, crew, hand, picker, commands, writer) {
+    match run_engine(desk, &mut engine, hand, picker, writer) {
         Ok(recap) => {
             let status = recap.status();
             Ok(Ended {
@@ -410,7 +350,7 @@ pub(crate) fn run_crew<H, C: Crew<H>, P: Picker, W: LineOut>(
 /// the beginning of such a run. What was written is then a beginning of the output of these events, with the lines of all but
 /// the last whole. What was run is then the jobs of these events' reports, or these and the oldest one that is out, where memory
 /// was refused for its report.
-#[tactic(auto, using(crate::proofs::RunsAlone::gives_self, crate::proofs::RunsAlone::whole_run, crate::proofs::RunsAlone::begun_run, crate::proofs::RunsAlone::ran_to))]
+#[tactic(auto, using(crate::proofs::RunsAlone::gives_self))]
 pub fn run_plain<R: Runner, P: Picker, W: LineOut>(
     alloc: Global,
     plan: Plan,
@@ -432,7 +372,12 @@ pub fn run_plain<R: Runner, P: Picker, W: LineOut>(
     let crew = Alone {
         first: Snapshot::of(&*runner),
     };
-    match run_crew(alloc, plan, POOL, &crew, runner, picker, commands, writer) {
+    let desk = Desk {
+        alloc,
+        crew: &crew,
+        commands,
+    };
+    match run_crew(&desk, plan, POOL, runner, picker, writer) {
         Ok(ended) => Ok(ended),
         Err(stopped) => Err(stopped),
     }

@@ -1,6 +1,8 @@
 //! What a run writes of its events, and at its end.
 
-ghost use Rattle.std.specs.Prelude.{◌≡◌, ◌≢◌, IfErr, OnOk, OnErr};
+ghost use Rattle.std.specs.Prelude.{◌≡◌, ◌≢◌, length, IfOk, IfErr, OnOk, OnErr};
+ghost use Rattle.pb_events.specs.Lines.{start_line};
+ghost use Rattle.pb_recap.specs.Recap.{recap};
 ghost use Rattle.pb_recap.specs.Stats.{stats_line};
 ghost use Rattle.pb_recap.specs.Text.{recap_text};
 ghost use Rattle.pb_driver.specs.Taken.{with_more, one_more};
@@ -11,9 +13,27 @@ ghost use Rattle.pb_driver.specs.Driven.{last_lines};
 use crate::driver::RunFault;
 use crate::line_out::{LineOut, put_all};
 use pb_engine::Engine;
-use pb_events::lines_of;
+use pb_events::{lines_of, start_line};
 use pb_recap::Recap;
 use std::alloc::Global;
+
+/// Writes the first line.
+#[tactic(auto, using(crate::proofs::Cutting::part_none, crate::proofs::Cutting::part_as))]
+pub(crate) fn emit_start<W: LineOut>(
+    alloc: Global,
+    engine: &Engine,
+    writer: &mut W,
+) -> Result<(), RunFault>
+    ensures took { OnOk result (W.taken writer.new ≡ with_more (W.taken writer.old) (start_line (length engine.now.plan.plays))) }
+    ensures part { OnErr result (IsPart (W.taken writer.old) (W.taken writer.new) (start_line (length engine.now.plan.plays))) }
+    ensures quiet { OnOk result (W.failures writer.new ≡ W.failures writer.old) }
+    ensures failed { IfErr result (λ e. e ≡ RunFault.Write → W.failures writer.new ≡ one_more (W.failures writer.old)) }
+    ensures opened { IfErr result (λ e. e ≢ RunFault.Closed) }
+{
+    let start = start_line(alloc, engine.plan().plays().len() as u32)?;
+    put_all(writer, &start)?;
+    Ok(())
+}
 
 /// Writes the lines of the last event.
 #[tactic(auto, using(crate::proofs::Cutting::part_none, crate::proofs::Cutting::part_as))]
@@ -75,7 +95,7 @@ fn emit_recap<W: LineOut>(
 
 /// Writes the statistics and the recap of a finished run, one behind the other, so that the text of the one is let go before that of the other is made.
 #[tactic(auto, using(crate::proofs::Cutting::took_both, crate::proofs::Cutting::part_front))]
-pub(crate) fn emit_end<W: LineOut>(
+fn emit_end<W: LineOut>(
     alloc: Global,
     engine: &Engine,
     recap: &Recap,
@@ -90,4 +110,23 @@ pub(crate) fn emit_end<W: LineOut>(
     emit_stats(alloc, engine, recap, writer)?;
     emit_recap(alloc, engine, recap, writer)?;
     Ok(())
+}
+
+/// Makes the recap of a finished run, and writes what stands at its end.
+#[tactic(auto, using(crate::proofs::Cutting::part_none))]
+pub(crate) fn end_run<W: LineOut>(
+    alloc: Global,
+    engine: &Engine,
+    writer: &mut W,
+) -> Result<Recap, RunFault>
+    ensures recap { IfOk result (λ r. r ≡ recap engine.now.plan engine.now.pool engine.now.trail) }
+    ensures took { IfOk result (λ r. W.taken writer.new ≡ with_more (W.taken writer.old) (end_lines engine.now.plan r)) }
+    ensures part { OnErr result (IsPart (W.taken writer.old) (W.taken writer.new) (end_lines engine.now.plan (recap engine.now.plan engine.now.pool engine.now.trail))) }
+    ensures quiet { OnOk result (W.failures writer.new ≡ W.failures writer.old) }
+    ensures failed { IfErr result (λ e. e ≡ RunFault.Write → W.failures writer.new ≡ one_more (W.failures writer.old)) }
+    ensures opened { IfErr result (λ e. e ≢ RunFault.Closed) }
+{
+    let recap = Recap::of(alloc, engine.state())?;
+    emit_end(alloc, engine, &recap, writer)?;
+    Ok(recap)
 }

@@ -18,7 +18,7 @@ ghost use Rattle.pb_driver.specs.FitsPool.{FitsPool};
 ghost use Rattle.pb_driver.specs.Mails.{Goes, Comes, AreMails, AreWithin, HasDrained};
 ghost use Rattle.pb_driver.specs.Taken.{one_more};
 
-use crate::crew::Crew;
+use crate::crew::{Crew, Desk};
 use crate::driver::{Ended, RunFault, run_crew};
 use crate::given::Given;
 use crate::line_out::LineOut;
@@ -118,7 +118,6 @@ fn settle<N: Allows, R: Wait>(rt: &R, pool: &Pool<N>, main: &mut MainSeat)
 ///
 /// # Errors
 /// As those of `run_plain`. The reports of jobs that are still out are waited for then, and dropped.
-#[tactic(auto, using(crate::proofs::Posting::posted_all, crate::proofs::Posting::gone_later, crate::proofs::Posting::gone_same, crate::proofs::Posting::none_out, crate::proofs::Posting::fits_first))]
 pub fn drive<N: Runner, R: Wait, P: Picker, W: LineOut>(
     rt: &R,
     alloc: Global,
@@ -147,7 +146,12 @@ pub fn drive<N: Runner, R: Wait, P: Picker, W: LineOut>(
 {
     let forks = pool.forks();
     let crew = Workers { rt, pool };
-    match run_crew(alloc, plan, forks, &crew, main, picker, commands, writer) {
+    let desk = Desk {
+        alloc,
+        crew: &crew,
+        commands,
+    };
+    match run_crew(&desk, plan, forks, main, picker, writer) {
         Ok(ended) => {
             settle(rt, pool, main);
             Ok(ended)

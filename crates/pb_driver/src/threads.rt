@@ -15,7 +15,7 @@ use crate::driver::{Ended, RunFault};
 use crate::given::Given;
 use crate::line_out::LineOut;
 use crate::pooled::drive;
-use crate::workers::{Back, Worker, join_all, pair_all, part_all, start_all};
+use crate::workers::{Back, Hall, Worker, join_all, pair_all, part_all, start_all};
 use pb_engine::Picker;
 use pb_forks::{ForkSeat, MainSeat, Pool};
 use pb_runner::runner::Runner;
@@ -44,31 +44,37 @@ struct Left<'w, N, W> {
 
 /// Drives the run, if all workers were started; else all forks are shut, and nothing is done.
 fn drive_if<N: Runner, R: Wait, P: Picker, W: LineOut>(
+    hall: &Hall<'_, N, R>,
     started: bool,
-    rt: &R,
-    alloc: Global,
-    pool: &Pool<N>,
     main: &mut MainSeat,
     plan: Plan,
     picker: &mut P,
-    commands: &[Given],
     writer: &mut W,
 ) -> Result<Ended, (RunFault, Vec<Event>)>
-    requires main { IsMainOf pool.now main.old }
-    requires unused { started ≡ true → IsUnused (forks_of pool.now) (main_view main.old) }
-    requires shut { started ≢ true → AreShut (forks_of pool.now) (main_view main.old) × ((main_view main.old).log ≡ []) }
-    requires forks { plan.forks ≤ forks_of pool.now }
+    requires main { IsMainOf hall.now.pool.now main.old }
+    requires unused { started ≡ true → IsUnused (forks_of hall.now.pool.now) (main_view main.old) }
+    requires shut { started ≢ true → AreShut (forks_of hall.now.pool.now) (main_view main.old) × ((main_view main.old).log ≡ []) }
+    requires forks { plan.forks ≤ forks_of hall.now.pool.now }
     ensures seat { IsSameMain main.old main.new }
-    ensures shut { AreShut (forks_of pool.now) (main_view main.new) }
-    ensures within { AreWithin (forks_of pool.now) (main_view main.new).log }
-    ensures run { IfOk result (λ e. IsRunInPool N.allows plan (forks_of pool.now) commands.now e.trail.items e.recap e.status (main_view main.new).log (W.taken writer.old) (W.taken writer.new)) }
-    ensures stopped { IfErr result (λ e. IsStoppedInPool N.allows plan (forks_of pool.now) commands.now e.0 e.1.items (main_view main.new).log (W.taken writer.old) (W.taken writer.new) (W.failures writer.old) (W.failures writer.new)) }
+    ensures shut { AreShut (forks_of hall.now.pool.now) (main_view main.new) }
+    ensures within { AreWithin (forks_of hall.now.pool.now) (main_view main.new).log }
+    ensures run { IfOk result (λ e. IsRunInPool N.allows plan (forks_of hall.now.pool.now) hall.now.commands.now e.trail.items e.recap e.status (main_view main.new).log (W.taken writer.old) (W.taken writer.new)) }
+    ensures stopped { IfErr result (λ e. IsStoppedInPool N.allows plan (forks_of hall.now.pool.now) hall.now.commands.now e.0 e.1.items (main_view main.new).log (W.taken writer.old) (W.taken writer.new) (W.failures writer.old) (W.failures writer.new)) }
     ensures quiet { OnOk result (W.failures writer.new ≡ W.failures writer.old) }
 {
     if !started {
-        return Err((RunFault::Closed, Vec::new(alloc)));
+        return Err((RunFault::Closed, Vec::new(hall.alloc)));
     }
-    match drive(rt, alloc, pool, main, plan, picker, commands, writer) {
+    match drive(
+        hall.rt,
+        hall.alloc,
+        hall.pool,
+        main,
+        plan,
+        picker,
+        hall.commands,
+        writer,
+    ) {
         Ok(ended) => Ok(ended),
         Err(stopped) => Err(stopped),
     }
@@ -84,22 +90,19 @@ fn supervise<
     P: Picker,
     W: LineOut,
 >(
-    rt: &'s R,
+    hall: &Hall<'s, N, R>,
     scope: &Scope<'s, E>,
-    alloc: Global,
-    pool: &'s Pool<N>,
     staff: Staff<N>,
     plan: Plan,
     picker: &mut P,
-    commands: &[Given],
     writer: &'w mut W,
 ) -> Left<'w, N, W>
-    requires staff { IsReady pool.now staff }
-    requires forks { plan.forks ≤ forks_of pool.now }
+    requires staff { IsReady hall.now.pool.now staff }
+    requires forks { plan.forks ≤ forks_of hall.now.pool.now }
     ensures same { result.writer.ghost_name ≡ writer.entry.ghost_name }
-    ensures left { IsLeft N.ran pool.now staff.workers.items result.main result.workers.items }
-    ensures run { IfOk result.ended (λ e. IsRunInPool N.allows plan (forks_of pool.now) commands.now e.trail.items e.recap e.status (main_view result.main).log (W.taken writer.entry.now) (W.taken result.writer.now)) }
-    ensures stopped { IfErr result.ended (λ e. IsStoppedInPool N.allows plan (forks_of pool.now) commands.now e.0 e.1.items (main_view result.main).log (W.taken writer.entry.now) (W.taken result.writer.now) (W.failures writer.entry.now) (W.failures result.writer.now)) }
+    ensures left { IsLeft N.ran hall.now.pool.now staff.workers.items result.main result.workers.items }
+    ensures run { IfOk result.ended (λ e. IsRunInPool N.allows plan (forks_of hall.now.pool.now) hall.now.commands.now e.trail.items e.recap e.status (main_view result.main).log (W.taken writer.entry.now) (W.taken result.writer.now)) }
+    ensures stopped { IfErr result.ended (λ e. IsStoppedInPool N.allows plan (forks_of hall.now.pool.now) hall.now.commands.now e.0 e.1.items (main_view result.main).log (W.taken writer.entry.now) (W.taken result.writer.now) (W.failures writer.entry.now) (W.failures result.writer.now)) }
     ensures quiet { OnOk result.ended (W.failures result.writer.now ≡ W.failures writer.entry.now) }
 {
     let Staff {
@@ -110,19 +113,9 @@ fn supervise<
     let mut main = main;
     let mut workers = workers;
     let mut handles = handles;
-    let started = start_all(
-        rt,
-        alloc,
-        scope,
-        pool,
-        &mut main,
-        &mut workers,
-        &mut handles,
-    );
-    let ended = drive_if(
-        started, rt, alloc, pool, &mut main, plan, picker, commands, writer,
-    );
-    join_all(rt, handles, &mut workers);
+    let started = start_all(hall, scope, &mut main, &mut workers, &mut handles);
+    let ended = drive_if(hall, started, &mut main, plan, picker, writer);
+    join_all(hall.rt, handles, &mut workers);
     Left {
         ended,
         main,
@@ -131,48 +124,36 @@ fn supervise<
     }
 }
 
+/// Runs the workers in a scope of threads.
 fn spread<'w, N: Runner + Send + Drop, R: Threads + Wait + Sync, P: Picker + Drop, W: LineOut>(
-    rt: &R,
-    alloc: Global,
-    pool: &Pool<N>,
+    hall: &Hall<'_, N, R>,
     staff: Staff<N>,
     plan: Plan,
     picker: P,
-    commands: &[Given],
     writer: &'w mut W,
 ) -> Left<'w, N, W>
-    requires staff { IsReady pool.now staff }
-    requires forks { plan.forks ≤ forks_of pool.now }
+    requires staff { IsReady hall.now.pool.now staff }
+    requires forks { plan.forks ≤ forks_of hall.now.pool.now }
     ensures same { result.writer.ghost_name ≡ writer.entry.ghost_name }
-    ensures left { IsLeft N.ran pool.now staff.workers.items result.main result.workers.items }
-    ensures run { IfOk result.ended (λ e. IsRunInPool N.allows plan (forks_of pool.now) commands.now e.trail.items e.recap e.status (main_view result.main).log (W.taken writer.entry.now) (W.taken result.writer.now)) }
-    ensures stopped { IfErr result.ended (λ e. IsStoppedInPool N.allows plan (forks_of pool.now) commands.now e.0 e.1.items (main_view result.main).log (W.taken writer.entry.now) (W.taken result.writer.now) (W.failures writer.entry.now) (W.failures result.writer.now)) }
+    ensures left { IsLeft N.ran hall.now.pool.now staff.workers.items result.main result.workers.items }
+    ensures run { IfOk result.ended (λ e. IsRunInPool N.allows plan (forks_of hall.now.pool.now) hall.now.commands.now e.trail.items e.recap e.status (main_view result.main).log (W.taken writer.entry.now) (W.taken result.writer.now)) }
+    ensures stopped { IfErr result.ended (λ e. IsStoppedInPool N.allows plan (forks_of hall.now.pool.now) hall.now.commands.now e.0 e.1.items (main_view result.main).log (W.taken writer.entry.now) (W.taken result.writer.now) (W.failures writer.entry.now) (W.failures result.writer.now)) }
     ensures quiet { OnOk result.ended (W.failures result.writer.now ≡ W.failures writer.entry.now) }
 {
     thread::scope(
         thread::scope_env(),
-        rt,
+        hall.rt,
         |scope| -> Left<'_, N, W>
-            requires staff { IsReady pool.now staff }
-            requires forks { plan.forks ≤ forks_of pool.now }
+            requires staff { IsReady hall.now.pool.now staff }
+            requires forks { plan.forks ≤ forks_of hall.now.pool.now }
             ensures same { result.writer.ghost_name ≡ writer.entry.ghost_name }
-            ensures left { IsLeft N.ran pool.entry.now staff.workers.items result.main result.workers.items }
-            ensures run { IfOk result.ended (λ e. IsRunInPool N.allows plan (forks_of pool.entry.now) commands.entry.now e.trail.items e.recap e.status (main_view result.main).log (W.taken writer.entry.now) (W.taken result.writer.now)) }
-            ensures stopped { IfErr result.ended (λ e. IsStoppedInPool N.allows plan (forks_of pool.entry.now) commands.entry.now e.0 e.1.items (main_view result.main).log (W.taken writer.entry.now) (W.taken result.writer.now) (W.failures writer.entry.now) (W.failures result.writer.now)) }
+            ensures left { IsLeft N.ran hall.entry.now.pool.now staff.workers.items result.main result.workers.items }
+            ensures run { IfOk result.ended (λ e. IsRunInPool N.allows plan (forks_of hall.entry.now.pool.now) hall.entry.now.commands.now e.trail.items e.recap e.status (main_view result.main).log (W.taken writer.entry.now) (W.taken result.writer.now)) }
+            ensures stopped { IfErr result.ended (λ e. IsStoppedInPool N.allows plan (forks_of hall.entry.now.pool.now) hall.entry.now.commands.now e.0 e.1.items (main_view result.main).log (W.taken writer.entry.now) (W.taken result.writer.now) (W.failures writer.entry.now) (W.failures result.writer.now)) }
             ensures quiet { OnOk result.ended (W.failures result.writer.now ≡ W.failures writer.entry.now) }
         {
             let mut picker = picker;
-            supervise(
-                rt,
-                scope,
-                alloc,
-                pool,
-                staff,
-                plan,
-                &mut picker,
-                commands,
-                writer,
-            )
+            supervise(hall, scope, staff, plan, &mut picker, writer)
         },
     )
 }
@@ -255,7 +236,18 @@ pub fn run_pool<N: Runner + Send + Drop, R: Threads + Wait + Sync, P: Picker + D
         main,
         workers,
         writer: lines,
-    } = spread(rt, alloc, &pool, staff, plan, picker, commands, writer);
+    } = spread(
+        &Hall {
+            rt,
+            alloc,
+            pool: &pool,
+            commands,
+        },
+        staff,
+        plan,
+        picker,
+        writer,
+    );
     // (the writer is given back)
     let _ = &*lines;
     dismiss(pool, main, workers, seats, runners);

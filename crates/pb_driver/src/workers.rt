@@ -4,6 +4,7 @@ ghost use Rattle.pb_forks.specs.Seats.{IsForkOf};
 ghost use Rattle.pb_driver.specs.declared.workers.Worker.{Worker};
 ghost use Rattle.pb_driver.specs.Workers.{AllShut, AreWorks, AreWorkersOf, IsIdleMain, IsStarted, IsWorkOf, runner_of, seat_of};
 
+use crate::given::Given;
 use pb_forks::{ForkSeat, MainSeat, Pool};
 use pb_runner::runner::Runner;
 use pb_runner::serve::serve;
@@ -17,6 +18,15 @@ use std::thread::{Promise, PromisedHandle, Scope, SpawnError, Threads};
 pub struct Worker<N> {
     pub seat: ForkSeat,
     pub runner: N,
+}
+
+/// Where a run's workers work, and what the run is told: it stays the same from its beginning to its end.
+#[derive(Drop)]
+pub(crate) struct Hall<'s, N: Runner, R> {
+    pub rt: &'s R,
+    pub alloc: Global,
+    pub pool: &'s Pool<N>,
+    pub commands: &'s [Given],
 }
 
 /// A pool as its workers see it: what a worker's thread does.
@@ -123,24 +133,22 @@ fn start_one<'s, E: 's, N: Runner + Send + Drop + 's, P: Workplace<N> + Sync, R:
 /// Starts a thread for each worker, the last one first, and puts their handles into a list with room; a worker that has a thread leaves the
 /// list of workers. False where no thread could be made for one: all forks are shut then, and it is back in its place.
 pub(crate) fn start_all<'s, E: 's, N: Runner + Send + Drop + 's, R: Wait + Sync>(
-    rt: &'s R,
-    alloc: Global,
+    hall: &Hall<'s, N, R>,
     scope: &Scope<'s, E>,
-    pool: &'s Pool<N>,
     main: &mut MainSeat,
     workers: &mut Vec<Worker<N>>,
     handles: &mut Vec<PromisedHandle<Worker<N>, Back<N>>>,
 ) -> bool
-    requires main { IsIdleMain pool.now main.old }
-    requires workers { AreWorkersOf pool.now workers.old.items }
+    requires main { IsIdleMain hall.now.pool.now main.old }
+    requires workers { AreWorkersOf hall.now.pool.now workers.old.items }
     requires room { (handles.old.items ≡ []) × (length workers.old.items ≤ vec_capacity handles.old) }
     ensures split { IsStarted N.ran workers.old.items workers.new.items handles.new.items }
     ensures room { (vec_capacity workers.new ≡ vec_capacity workers.old) × (length workers.new.items + length handles.new.items ≤ length workers.old.items) }
     ensures all { result ≡ true → main.new ≡ main.old }
-    ensures refused { result ≡ false → AllShut pool.now main.old main.new }
+    ensures refused { result ≡ false → AllShut hall.now.pool.now main.old main.new }
 {
     while let Some(worker) = workers.pop() {
-        match start_one(rt, alloc, scope, pool, main, worker) {
+        match start_one(hall.rt, hall.alloc, scope, hall.pool, main, worker) {
             Ok(handle) => handles.push_reserved(handle),
             Err(worker) => {
                 workers.push_reserved(worker);
