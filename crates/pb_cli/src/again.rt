@@ -14,7 +14,8 @@ ghost use Rattle.pb_cli.specs.Again.{same_text, IsCompared, IsToldAgain, ForksCh
 ghost use Rattle.pb_cli.specs.Played.{IsRunBy, commands_for};
 ghost use Rattle.std.specs.Prelude.{Option};
 
-use crate::playing::{Wanted, run_by};
+use crate::playing::Wanted;
+use crate::runs::run_by;
 use pb_driver::{LineOut, RoundRobin, Silent, put_all, same_end};
 use pb_ids::HostNo;
 use pb_runner::table::TableRunner;

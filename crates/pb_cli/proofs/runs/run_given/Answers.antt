@@ -1,5 +1,5 @@
 use Rattle.pb_cli.proofs.Running.{run_handed, cut_handed}
-use Rattle.pb_cli.proofs.playing.run_given.Goals as goal
+use Rattle.pb_cli.proofs.runs.run_given.Goals as goal
 
 pub returns-in-Ok-clause-run : goal.returns-in-Ok-clause-run
 returns-in-Ok-clause-run g c =

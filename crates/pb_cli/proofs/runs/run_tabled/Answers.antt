@@ -1,6 +1,6 @@
 use Rattle.std.proofs.Common.{◌≡◌, Some}
 use Rattle.pb_cli.proofs.Running.{tabled_to}
-use Rattle.pb_cli.proofs.playing.run_tabled.Goals as goal
+use Rattle.pb_cli.proofs.runs.run_tabled.Goals as goal
 
 pub returns-clause-cut : goal.returns-clause-cut
 returns-clause-cut g c = λ fault trail h.
