@@ -1,1 +1,2 @@
 mod Connected
+mod Marks

@@ -1,6 +1,6 @@
 //! What the machine reads of a bundle.
 
-ghost use Rattle.std.specs.Prelude.{◌≡◌, ◌<◌, ◌≤◌, ℕ, List, length, slice_get, option_map, IfOk, Some};
+ghost use Rattle.std.specs.Prelude.{◌≡◌, ◌<◌, ◌≤◌, ℕ, List, false, length, slice_get, option_map, IfOk, Some};
 ghost use Rattle.std.specs.Option.{option_copied};
 ghost use Rattle.pb_value.specs.Datum.{value_at};
 ghost use Rattle.pb_inventory.specs.Vars.{groups_of_host, last_given};
@@ -8,6 +8,7 @@ ghost use Rattle.pb_tree.specs.Tree.{size_of};
 ghost use Rattle.pb_variables.specs.Connector.{connector_of};
 ghost use Rattle.pb_variables.specs.Shared.{from_groups, AreKept};
 ghost use Rattle.pb_plan.specs.Plan.{throttles_of, run_once_of};
+ghost use Rattle.pb_plan.specs.Hostvars.{IsFreeAt, AreFreePlaces, IsFreeHost, AreFreeHosts};
 
 use pb_batches::Serial;
 use pb_cursors::LaidTree;
@@ -37,6 +38,8 @@ pub struct PlanPlay {
     throttles: Vec<u32>,
     /// Whether the first host of a batch runs the task at each place for all.
     run_once: Vec<bool>,
+    /// The places that are marked have no variable in whose text `hostvars` stands.
+    free_places: Vec<bool>,
     hosts: HostSet,
     strategy: Strategy,
     serial: Serial,
@@ -53,6 +56,7 @@ impl Drop for PlanPlay {
             places,
             throttles,
             run_once,
+            free_places,
             hosts,
             strategy: _,
             serial,
@@ -65,6 +69,7 @@ impl Drop for PlanPlay {
         drop(places);
         drop(throttles);
         drop(run_once);
+        drop(free_places);
         drop(hosts);
         drop(serial);
         drop(vars);
@@ -99,8 +104,10 @@ impl Model for PlanPlay {
     ghost use Rattle.std.specs.Prelude.{◌≡◌, ◌≤◌, length};
     ghost use Rattle.pb_tree.specs.Tree.{size_of};
     ghost use Rattle.pb_plan.specs.Plan.{throttles_of, run_once_of};
+    ghost use Rattle.pb_plan.specs.Hostvars.{AreFreePlaces};
 
-    ghost invariant = { λ p. (size_of p.laid.value.tree ≤ 16384) × (length p.places ≡ size_of p.laid.value.tree) × (p.throttles.items ≡ throttles_of p.places) × (p.run_once.items ≡ run_once_of p.places) };
+    ghost invariant = { λ p. (size_of p.laid.value.tree ≤ 16384) × (length p.places ≡ size_of p.laid.value.tree) × (p.throttles.items ≡ throttles_of p.places) × (p.run_once.items ≡ run_once_of p.places)
+        × AreFreePlaces p.vars p.places p.free_places.items };
 }
 
 impl PlanPlay {
@@ -111,6 +118,7 @@ impl PlanPlay {
         places: Items<Place>,
         throttles: Vec<u32>,
         run_once: Vec<bool>,
+        free_places: Vec<bool>,
         hosts: HostSet,
         strategy: Strategy,
         serial: Serial,
@@ -122,6 +130,7 @@ impl PlanPlay {
         requires places { length places ≡ size_of laid.value.tree }
         requires throttles { throttles.items ≡ throttles_of places }
         requires once { run_once.items ≡ run_once_of places }
+        requires free { AreFreePlaces vars places free_places.items }
         ensures { result ≡ record {
           name = name;
           tree = laid.value.tree;
@@ -140,6 +149,7 @@ impl PlanPlay {
             places,
             throttles,
             run_once,
+            free_places,
             hosts,
             strategy,
             serial,
@@ -191,6 +201,16 @@ impl PlanPlay {
         ensures { result.now ≡ run_once_of self.now.places }
     {
         self.run_once.as_slice()
+    }
+
+    /// Whether `hostvars` may stand in a text of the variables of the task at a place, of its role, its blocks or the play.
+    pub fn may_read_hosts(&self, place: usize) -> bool
+        ensures { result ≡ false → IsFreeAt self.now.vars self.now.places place }
+    {
+        match self.free_places.as_slice().get(place) {
+            Some(is_free) => !*is_free,
+            None => true,
+        }
     }
 
     /// How the hosts of a batch go through the play's tasks.
@@ -270,6 +290,8 @@ pub struct Plan {
     magic: Dict,
     /// What hosts have from their groups, made once for all hosts of the same groups.
     shares: GroupShares,
+    /// The hosts that are marked have no variable in whose text `hostvars` stands.
+    free_hosts: Vec<bool>,
 }
 
 impl Drop for Plan {
@@ -283,6 +305,7 @@ impl Drop for Plan {
             extra,
             magic,
             shares,
+            free_hosts,
         } = self;
         drop(inventory);
         drop(plays);
@@ -290,6 +313,7 @@ impl Drop for Plan {
         drop(extra);
         drop(magic);
         drop(shares);
+        drop(free_hosts);
     }
 }
 
@@ -317,8 +341,9 @@ impl Model for Plan {
 
     ghost use Rattle.std.specs.Prelude.{◌<◌, ◌≤◌, length};
     ghost use Rattle.pb_variables.specs.Shared.{AreKept};
+    ghost use Rattle.pb_plan.specs.Hostvars.{AreFreeHosts};
 
-    ghost invariant = { λ p. (length p.plays ≤ 256) × (0 < p.forks) × (p.forks ≤ 256) × AreKept p.inventory p.shares };
+    ghost invariant = { λ p. (length p.plays ≤ 256) × (0 < p.forks) × (p.forks ≤ 256) × AreKept p.inventory p.shares × AreFreeHosts p.inventory p.extra p.free_hosts.items };
 }
 
 impl Plan {
@@ -334,11 +359,13 @@ impl Plan {
         extra: Dict,
         magic: Dict,
         shares: GroupShares,
+        free_hosts: Vec<bool>,
     ) -> Plan
         requires plays { length plays ≤ 256 }
         requires some { 0 < forks }
         requires bound { forks ≤ 256 }
         requires kept { AreKept inventory shares }
+        requires free { AreFreeHosts inventory extra free_hosts.items }
         ensures { result ≡ record {
           plays = plays;
           forks = forks;
@@ -358,6 +385,7 @@ impl Plan {
             extra,
             magic,
             shares,
+            free_hosts,
         }
     }
 
@@ -426,6 +454,16 @@ impl Plan {
         ensures last { IfOk result (λ of. (name : List ℕ) → value_at name of.variables ≡ last_given self.now.inventory name (groups_of_host self.now.inventory host.0)) }
     {
         self.shares.of_groups(alloc, &self.inventory, host)
+    }
+
+    /// Whether `hostvars` may stand in a text of the variables of a host, of its groups, or of the extra ones.
+    pub fn may_read_hosts(&self, host: HostNo) -> bool
+        ensures { result ≡ false → IsFreeHost self.now.inventory self.now.extra host.0 }
+    {
+        match self.free_hosts.as_slice().get(host.0 as usize) {
+            Some(is_free) => !*is_free,
+            None => true,
+        }
     }
 
     /// The words that connect to a host, as its inventory variable `pb_connector` has them. The only error is want of memory.

@@ -11,6 +11,7 @@ use pb_flat::FlatFault;
 use pb_inventory::fault::InvFault;
 use pb_inventory::inventory::Inventory;
 use pb_patterns::fault::PatFault;
+use pb_plan::hostvars::free_places;
 use pb_plan::plan::{PlanPlay, run_once_of, throttles_of};
 use pb_planes::HostSet;
 use pb_roles::{Expanded, RoleFault, RoleFile, RoleFiles};
@@ -124,12 +125,14 @@ pub(crate) fn play_with(
     let magic = play_magic(alloc, inventory, &hosts)?;
     let throttles = throttles_of(alloc, play.places.as_slice())?;
     let run_once = run_once_of(alloc, play.places.as_slice())?;
+    let free_places = free_places(alloc, &play.vars, play.places.as_slice())?;
     Ok(PlanPlay::new(
         play.name,
         laid,
         play.places,
         throttles,
         run_once,
+        free_places,
         hosts,
         play.strategy,
         play.serial,

@@ -18,6 +18,7 @@ use pb_inventory::inventory::Inventory;
 use pb_patterns::fault::PatFault;
 use pb_patterns::pattern::Pattern;
 use pb_patterns::selected::Selected;
+use pb_plan::hostvars::free_hosts;
 use pb_plan::{Plan, PlanPlay, Planned};
 use pb_planes::HostSet;
 use pb_play_reading::playbook::Playbook;
@@ -255,6 +256,7 @@ fn plan_with(
     let plays = plan_plays(alloc, &inventory, &selected.hosts, plays, &mut lines)?;
     let magic = plan_magic(alloc, &inventory)?;
     let shares = GroupShares::of(alloc, &inventory)?;
+    let free_hosts = free_hosts(alloc, &inventory, &shares, &extra)?;
     Ok(Plan::from_parts(
         inventory,
         plays,
@@ -264,6 +266,7 @@ fn plan_with(
         extra,
         magic,
         shares,
+        free_hosts,
     ))
 }
 

@@ -9,3 +9,4 @@ pub mod OwnItems
 pub mod Still
 pub mod Unreached
 pub mod Told
+pub mod Alone

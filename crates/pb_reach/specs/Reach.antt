@@ -59,6 +59,10 @@ maps_mention word (m ∷ below) = (has_templates (length below + 1) && members_m
 abbrev pub layers_mention : List ℕ → List Map → Bool
 layers_mention word layers = not (nat_eq (length layers) 11) || maps_mention word layers
 
+-- what a task has of texts and expressions beside its variables
+abbrev pub own_texts_mention : List ℕ → Task → List Tree → Option (List ℕ) → Bool
+own_texts_mention word task conditions delegate_to = (task_mentions word task || in_trees word (trees_of conditions)) || delegate_mentions word delegate_to
+
 abbrev pub may_read : List ℕ → Task → List Tree → Option (List ℕ) → List Map → Bool
 may_read word task conditions delegate_to layers =
     (task_mentions word task || in_trees word (trees_of conditions)) || (delegate_mentions word delegate_to || layers_mention word layers)

@@ -8,7 +8,7 @@ use Rattle.pb_play.specs.declared.task.Task.{Task}
 use Rattle.pb_play.specs.Tasks.{plain_task}
 use Rattle.pb_reach.specs.Mentions.{has_inside, mentions}
 use Rattle.pb_reach.specs.Named.{in_tree}
-use Rattle.pb_reach.specs.Reach.{may_read, may_read_of_result}
+use Rattle.pb_reach.specs.Reach.{own_texts_mention, may_read, may_read_of_result}
 use Rattle.pb_reach.specs.Told.{tells}
 
 -- the bytes are searched, whatever they mean
@@ -44,6 +44,16 @@ by_a_variable = refl
 
 by_a_fact : may_read (codes "x") (plain_task (codes "t") [] (Debug (text (codes "{{ y }}")))) [] None (layers [] [] [] [] [] [] [] [] ((codes "y", text (codes "{{ x }}")) ∷ []) [] []) ≡ false
 by_a_fact = refl
+
+-- beside its variables a task has what it does, its conditions, and its delegate
+by_what_it_does : own_texts_mention (codes "x") (plain_task (codes "t") [] (Debug (text (codes "{{ x }}")))) [] None ≡ true
+by_what_it_does = refl
+
+by_its_delegate : own_texts_mention (codes "x") (plain_task (codes "t") [] (Debug (text (codes "{{ y }}")))) [] (Some (codes "{{ x }}")) ≡ true
+by_its_delegate = refl
+
+by_its_variables : own_texts_mention (codes "x") (plain_task (codes "t") ((codes "y", text (codes "{{ x }}")) ∷ []) (Debug (text (codes "{{ y }}")))) [] None ≡ false
+by_its_variables = refl
 
 -- of a result a task may read what its own conditions of results and its variables name, and not what its module does
 abbrev shows_x : Task

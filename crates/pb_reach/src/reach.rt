@@ -1,5 +1,5 @@
 //! What a task can look up.
-ghost use Rattle.std.specs.Prelude.{◌≡◌, ◌<◌, ◌≤◌, ℕ, Bool, false, length, Option};
+ghost use Rattle.std.specs.Prelude.{◌≡◌, ◌<◌, ◌≤◌, ℕ, Bool, false, List, length, Option};
 ghost use Rattle.std.specs.Option.{option_copied};
 ghost use Rattle.pb_value.specs.Datum.{Datum};
 ghost use Rattle.pb_layers.specs.Found.{maps_in};
@@ -7,7 +7,7 @@ ghost use Rattle.pb_layers.specs.Scope.{Map};
 ghost use Rattle.pb_outcome.specs.declared.gather.ItemResult.{ItemResult};
 ghost use Rattle.pb_items.specs.Items.{StartOf, attempted_item, items_of};
 ghost use Rattle.pb_reach.specs.Apart.{SameBut};
-ghost use Rattle.pb_reach.specs.Reach.{words_mention, module_mentions, loop_mentions, conditions_name, told_names, conditions_reach, told_reaches, task_mentions, delegate_mentions, each_mentions, layers_mention, may_read, may_read_of_result, start_from, with_magic};
+ghost use Rattle.pb_reach.specs.Reach.{words_mention, module_mentions, loop_mentions, conditions_name, told_names, conditions_reach, told_reaches, task_mentions, delegate_mentions, own_texts_mention, each_mentions, layers_mention, may_read, may_read_of_result, start_from, with_magic};
 ghost use Rattle.pb_reach.specs.Told.{tells, until_of, LeavesResults};
 
 use crate::exprs::{has_name, some_names, some_reach};
@@ -199,6 +199,37 @@ fn reads(
         || (delegate_mentions(word, delegate_to) || layers_mention(word, layers))
 }
 
+/// Whether a name can be looked up while the items of a task are read, where it stands in no template among the variables that the task sees: these
+/// aren't searched.
+pub fn may_read_by_itself(
+    word: &str,
+    task: &Task,
+    conditions: &[Expr],
+    delegate_to: Option<&Text>,
+) -> bool
+    requires { 0 < length word.now }
+    ensures value { result ≡ own_texts_mention word.now task.now conditions.now (option_copied delegate_to.entry) }
+
+    // Over variables without the name it then has the same items whatever stands under it.
+    ensures items { result ≡ false → (layers : List Map) → layers_mention word.now layers ≡ false → (program : Bool) (magic other : Map) → SameBut word.now magic other →
+        items_of (start_from task.now conditions.now (option_copied delegate_to.entry) program layers magic)
+        ≡ items_of (start_from task.now conditions.now (option_copied delegate_to.entry) program layers other) }
+{
+    own_texts_mention(word, task, conditions, delegate_to)
+}
+
+fn own_texts_mention(
+    word: &str,
+    task: &Task,
+    conditions: &[Expr],
+    delegate_to: Option<&Text>,
+) -> bool
+    ensures { result ≡ own_texts_mention word.now task.now conditions.now (option_copied delegate_to.entry) }
+{
+    (task_mentions(word, task) || some_names(word, conditions))
+        || delegate_mentions(word, delegate_to)
+}
+
 /// Whether a task says itself of a result whether it changed something, whether it failed, or whether the task is tried again. See Ansible's
 /// documentation, "Error handling in playbooks" and "Retrying a task until a condition is met".
 pub fn tells(task: &Task) -> bool
@@ -236,4 +267,17 @@ fn reads_of_result(word: &str, task: &Task, layers: &Layers) -> bool
     ensures { result ≡ may_read_of_result word.now task.now layers.now }
 {
     told_names(word, task) || (told_reaches(layers, task) && layers_mention(word, layers))
+}
+
+/// The same where the name stands in no template among the variables that the task sees: these aren't searched.
+pub fn may_read_of_result_by_itself(word: &str, task: &Task) -> bool
+    requires { 0 < length word.now }
+    ensures value { result ≡ told_names word.now task.now }
+
+    // Over variables without the name each attempt then comes to the same whatever stands under it.
+    ensures told { result ≡ false → (start : StartOf) (other : Map) (value : Option Datum) (attempt : ℕ) (item : ItemResult) →
+        start.task ≡ task.now → layers_mention word.now start.layers ≡ false → SameBut word.now start.magic other →
+        attempted_item start value attempt item ≡ attempted_item (with_magic start other) value attempt item }
+{
+    told_names(word, task)
 }

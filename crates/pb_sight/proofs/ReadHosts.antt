@@ -13,7 +13,7 @@ use Rattle.pb_conditions.specs.declared.attempt.Back.TheVariants.{Ends}
 use Rattle.pb_expr_syntax.specs.Tree.{Tree}
 use Rattle.pb_items.specs.Items.{StartOf, items_of, attempted_item}
 use Rattle.pb_play.specs.declared.task.Task.{Task}
-use Rattle.pb_reach.specs.Reach.{start_from, with_magic}
+use Rattle.pb_reach.specs.Reach.{layers_mention, start_from, with_magic}
 use Rattle.pb_outcome.specs.declared.gather.ItemResult.{ItemResult}
 use Rattle.pb_outcome.specs.declared.item.Item.{Item}
 use Rattle.pb_outcome.specs.declared.item.Planned.TheVariants.{Decided as DecidedItem}
@@ -23,48 +23,49 @@ use Rattle.pb_reach.specs.Apart.{SameBut}
 use Rattle.pb_variables.specs.Magic.{host_magic, hostvars, hosts_magic}
 use Rattle.pb_sight.specs.Results.{start_with, start_of, magic_of, nothing, place_for, items_for, items_at, came_for, came_at}
 use Rattle.pb_sight.specs.Seen.{with_hosts, seen_with}
-use Rattle.pb_sight.specs.Unread.{ItemsUnread, ToldUnread}
+use Rattle.pb_sight.specs.Unread.{IsSettled, ItemsUnread, ToldUnread}
 
 -- entries in front of others
 behind : (test : List ℕ → Bool) (front xs ys : Map) → lookup test xs ≡ lookup test ys → lookup test (front ++ xs) ≡ lookup test (front ++ ys)
 behind test [] xs ys same = same
 behind test (e ∷ front) xs ys same = ap (λ (o : Option Datum). cond (test e.0) (Some e.1) o) (behind test front xs ys same)
 
-one_entry : (test : List ℕ → Bool) (key : List ℕ) (v w : Datum) → test key ≡ false → lookup test ((key, v) ∷ []) ≡ lookup test ((key, w) ∷ [])
-one_entry test key v w other =
-    ap (λ (b : Bool). cond b (Some v) None) other ∙ sym (ap (λ (b : Bool). cond b (Some w) None) other)
+-- magic variables that differ in what stands under `hostvars`, behind others
+same_but : (front plan hosts others : Map) → SameBut (codes "hostvars") hosts others → SameBut (codes "hostvars") (front ++ (plan ++ hosts)) (front ++ (plan ++ others))
+same_but front plan hosts others same name n =
+    behind (is_at (slice_cmp nat_cmp name)) front (plan ++ hosts) (plan ++ others) (behind (is_at (slice_cmp nat_cmp name)) plan hosts others (same name n))
 
--- magic variables that differ in what `hostvars` stands for
-same_but : (front plan : Map) (v w : Datum) → SameBut (codes "hostvars") (front ++ (plan ++ hosts_magic v)) (front ++ (plan ++ hosts_magic w))
-same_but front plan v w name n =
-    behind (is_at (slice_cmp nat_cmp name)) front (plan ++ hosts_magic v) (plan ++ hosts_magic w)
-    (behind (is_at (slice_cmp nat_cmp name)) plan (hosts_magic v) (hosts_magic w)
-    (one_entry (is_at (slice_cmp nat_cmp name)) (codes "hostvars") v w (is_eq-slice_cmp name (codes "hostvars") ∙ n)))
+-- one of them where it isn't there
+no_entry : (test : List ℕ → Bool) (key : List ℕ) (w : Datum) → test key ≡ false → lookup test [] ≡ lookup test ((key, w) ∷ [])
+no_entry test key w other = sym (ap (λ (b : Bool). cond b (Some w) None) other)
 
-items_found : (plan : PlanOf) (play : PlayOf) (h : ℕ) (facts : FactsOf) (v w : Datum) (none : List Item) (found : Option PlaceOf) → ItemsUnread plan play h facts found →
-    option_map_or (items_for (with_hosts plan (hosts_magic v)) play h facts) found none ≡ option_map_or (items_for (with_hosts plan (hosts_magic w)) play h facts) found none
-items_found plan play h facts v w none None unread = refl
-items_found plan play h facts v w none (Some place) unread =
-    unread (magic_of (with_hosts plan (hosts_magic v)) play h) (magic_of (with_hosts plan (hosts_magic w)) play h)
-    (same_but (host_magic plan.inventory h ++ play.magic) plan.magic v w)
+by_none : (hosts : Map) (w : Datum) → hosts ≡ [] → SameBut (codes "hostvars") hosts (hosts_magic w)
+by_none hosts w is =
+    subst (λ (m : Map). SameBut (codes "hostvars") m (hosts_magic w)) (sym is)
+    (λ name n. no_entry (is_at (slice_cmp nat_cmp name)) (codes "hostvars") w (is_eq-slice_cmp name (codes "hostvars") ∙ n))
 
-pub items_unread : (plan : PlanOf) (play : PlayOf) (h : ℕ) (facts : FactsOf) (p : ℕ) (v w : Datum) → ItemsUnread plan play h facts (place_for plan play h p) →
-    items_at (with_hosts plan (hosts_magic v)) play h facts p ≡ items_at (with_hosts plan (hosts_magic w)) play h facts p
+items_found : (plan : PlanOf) (play : PlayOf) (h : ℕ) (facts : FactsOf) (hosts others : Map) → SameBut (codes "hostvars") hosts others → (none : List Item) (found : Option PlaceOf) →
+    ItemsUnread plan play h facts found → option_map_or (items_for (with_hosts plan hosts) play h facts) found none ≡ option_map_or (items_for (with_hosts plan others) play h facts) found none
+items_found plan play h facts hosts others same none None unread = refl
+items_found plan play h facts hosts others same none (Some place) unread =
+    unread (magic_of (with_hosts plan hosts) play h) (magic_of (with_hosts plan others) play h) (same_but (host_magic plan.inventory h ++ play.magic) plan.magic hosts others same)
+
+items_unread : (plan : PlanOf) (play : PlayOf) (h : ℕ) (facts : FactsOf) (p : ℕ) (hosts others : Map) → SameBut (codes "hostvars") hosts others → ItemsUnread plan play h facts (place_for plan play h p) →
+    items_at (with_hosts plan hosts) play h facts p ≡ items_at (with_hosts plan others) play h facts p
 unfolding items_at
-items_unread plan play h facts p v w unread =
-    items_found plan play h facts v w (record { value = None; delegate = None; tried = 0; step = DecidedItem nothing } ∷ []) (place_for plan play h p) unread
+items_unread plan play h facts p hosts others same unread =
+    items_found plan play h facts hosts others same (record { value = None; delegate = None; tried = 0; step = DecidedItem nothing } ∷ []) (place_for plan play h p) unread
 
-told_found : (plan : PlanOf) (play : PlayOf) (h : ℕ) (facts : FactsOf) (v w : Datum) (value : Option Datum) (attempt : ℕ) (item : ItemResult) (found : Option PlaceOf) → ToldUnread plan play h facts found →
-    option_map_or (came_for (with_hosts plan (hosts_magic v)) play h facts value attempt item) found (Ends item) ≡ option_map_or (came_for (with_hosts plan (hosts_magic w)) play h facts value attempt item) found (Ends item)
-told_found plan play h facts v w value attempt item None unread = refl
-told_found plan play h facts v w value attempt item (Some place) unread =
-    unread (magic_of (with_hosts plan (hosts_magic v)) play h) (magic_of (with_hosts plan (hosts_magic w)) play h) value attempt item
-    (same_but (host_magic plan.inventory h ++ play.magic) plan.magic v w)
+told_found : (plan : PlanOf) (play : PlayOf) (h : ℕ) (facts : FactsOf) (hosts others : Map) → SameBut (codes "hostvars") hosts others → (value : Option Datum) (attempt : ℕ) (item : ItemResult) (found : Option PlaceOf) →
+    ToldUnread plan play h facts found → option_map_or (came_for (with_hosts plan hosts) play h facts value attempt item) found (Ends item) ≡ option_map_or (came_for (with_hosts plan others) play h facts value attempt item) found (Ends item)
+told_found plan play h facts hosts others same value attempt item None unread = refl
+told_found plan play h facts hosts others same value attempt item (Some place) unread =
+    unread (magic_of (with_hosts plan hosts) play h) (magic_of (with_hosts plan others) play h) value attempt item (same_but (host_magic plan.inventory h ++ play.magic) plan.magic hosts others same)
 
-pub told_unread : (plan : PlanOf) (play : PlayOf) (h : ℕ) (facts : FactsOf) (p : ℕ) (v w : Datum) (value : Option Datum) (attempt : ℕ) (item : ItemResult) → ToldUnread plan play h facts (place_for plan play h p) →
-    came_at (with_hosts plan (hosts_magic v)) play h facts p value attempt item ≡ came_at (with_hosts plan (hosts_magic w)) play h facts p value attempt item
+told_unread : (plan : PlanOf) (play : PlayOf) (h : ℕ) (facts : FactsOf) (p : ℕ) (hosts others : Map) → SameBut (codes "hostvars") hosts others → (value : Option Datum) (attempt : ℕ) (item : ItemResult) →
+    ToldUnread plan play h facts (place_for plan play h p) → came_at (with_hosts plan hosts) play h facts p value attempt item ≡ came_at (with_hosts plan others) play h facts p value attempt item
 unfolding came_at
-told_unread plan play h facts p v w value attempt item unread = told_found plan play h facts v w value attempt item (place_for plan play h p) unread
+told_unread plan play h facts p hosts others same value attempt item unread = told_found plan play h facts hosts others same value attempt item (place_for plan play h p) unread
 
 -- a task by its parts
 pub items_of_place : (program : Bool) (place : PlaceOf) (seen : List Map) (task : Task) (conditions : List Tree) (delegate_to : Option (List ℕ)) (one other : Map) → task ≡ place.task → conditions ≡ place.conditions →
@@ -99,7 +100,18 @@ told_unseen start program place seen magic task one other value attempt item is 
     subst (λ (s : StartOf). attempted_item (with_magic s one) value attempt item ≡ attempted_item (with_magic s other) value attempt item) is
     (told_of_place program place seen task one other value attempt item t same)
 
+-- its layers
+pub layers_in : (start : StartOf) (program : Bool) (place : PlaceOf) (seen : List Map) (magic : Map) → start_with program place seen magic ≡ start → layers_mention (codes "hostvars") start.layers ≡ false →
+    layers_mention (codes "hostvars") seen ≡ false
+unfolding start_with
+layers_in start program place seen magic is none = subst (λ (s : StartOf). layers_mention (codes "hostvars") s.layers ≡ false) (sym is) none
+
 -- what the task at a place sees
+pub layers_seeing : (plan : PlanOf) (play : PlayOf) (h : ℕ) (facts : FactsOf) (place : PlaceOf) (start : StartOf) → start ≡ start_of plan play h facts place → IsSettled plan play h facts (Some place) →
+    layers_mention (codes "hostvars") start.layers ≡ false
+unfolding start_with
+layers_seeing plan play h facts place start is none = subst (λ (s : StartOf). layers_mention (codes "hostvars") s.layers ≡ false) (sym is) none
+
 pub items_seeing : (plan : PlanOf) (play : PlayOf) (h : ℕ) (facts : FactsOf) (place : PlaceOf) (start : StartOf) → start ≡ start_of plan play h facts place →
     ((one other : Map) → SameBut (codes "hostvars") one other → items_of (with_magic start one) ≡ items_of (with_magic start other)) → ItemsUnread plan play h facts (Some place)
 unfolding start_with
@@ -116,21 +128,17 @@ told_seeing plan play h facts place start is unread =
     attempted_item (with_magic s one) value attempt item ≡ attempted_item (with_magic s other) value attempt item)
     is unread
 
--- where the value is the same, so is the rest
-told_known : (plan : PlanOf) (play : PlayOf) (h : ℕ) (facts : FactsOf) (p : ℕ) (hosts others : Map) (value : Option Datum) (attempt : ℕ) (item : ItemResult) → hosts ≡ others →
-    came_at (with_hosts plan hosts) play h facts p value attempt item ≡ came_at (with_hosts plan others) play h facts p value attempt item
-told_known plan play h facts p hosts others value attempt item is = ap (λ (m : Map). came_at (with_hosts plan m) play h facts p value attempt item) is
-
--- a plan whose `hostvars` has another value, to a task that doesn't look it up
-pub items_not_read : (plan seen : PlanOf) (play : PlayOf) (h : ℕ) (facts : FactsOf) (p : ℕ) (learnt : List FactsOf) (hosts : Map) (value : Datum) → seen ≡ with_hosts plan hosts → hosts ≡ hosts_magic value →
+-- a plan without `hostvars`, to a task that doesn't look it up
+pub items_not_read : (plan seen : PlanOf) (play : PlayOf) (h : ℕ) (facts : FactsOf) (p : ℕ) (learnt : List FactsOf) (hosts : Map) → seen ≡ with_hosts plan hosts → hosts ≡ [] →
     ItemsUnread seen play h facts (place_for seen play h p) → items_at seen play h facts p ≡ items_at (seen_with plan learnt) play h facts p
-items_not_read plan seen play h facts p learnt hosts value s is unread =
-    ap (λ (q : PlanOf). items_at q play h facts p) s ∙ ap (λ (m : Map). items_at (with_hosts plan m) play h facts p) is
-    ∙ items_unread plan play h facts p value (hostvars plan.inventory plan.extra learnt) (subst (λ (q : PlanOf). ItemsUnread q play h facts (place_for q play h p)) s unread)
+items_not_read plan seen play h facts p learnt hosts s is unread =
+    ap (λ (q : PlanOf). items_at q play h facts p) s
+    ∙ items_unread plan play h facts p hosts (hosts_magic (hostvars plan.inventory plan.extra learnt)) (by_none hosts (hostvars plan.inventory plan.extra learnt) is)
+    (subst (λ (q : PlanOf). ItemsUnread q play h facts (place_for q play h p)) s unread)
 
-pub told_not_read : (plan seen : PlanOf) (play : PlayOf) (h : ℕ) (facts : FactsOf) (p : ℕ) (learnt : List FactsOf) (none hosts : Map) (reads : Bool) (value : Datum) → seen ≡ with_hosts plan none →
-    reads ≡ false → (reads ≡ false → ToldUnread seen play h facts (place_for seen play h p)) → hosts ≡ hosts_magic value → (told : Option Datum) (attempt : ℕ) (item : ItemResult) →
+pub told_not_read : (plan seen : PlanOf) (play : PlayOf) (h : ℕ) (facts : FactsOf) (p : ℕ) (learnt : List FactsOf) (none hosts : Map) (reads : Bool) → seen ≡ with_hosts plan none →
+    reads ≡ false → (reads ≡ false → ToldUnread seen play h facts (place_for seen play h p)) → hosts ≡ [] → (told : Option Datum) (attempt : ℕ) (item : ItemResult) →
     came_at (with_hosts plan hosts) play h facts p told attempt item ≡ came_at (seen_with plan learnt) play h facts p told attempt item
-told_not_read plan seen play h facts p learnt none hosts reads value s not_read unread is told attempt item =
-    told_known plan play h facts p hosts (hosts_magic value) told attempt item is
-    ∙ told_unread plan play h facts p value (hostvars plan.inventory plan.extra learnt) told attempt item (subst (λ (q : PlanOf). ToldUnread q play h facts (place_for q play h p)) s (unread not_read))
+told_not_read plan seen play h facts p learnt none hosts reads s not_read unread is told attempt item =
+    told_unread plan play h facts p hosts (hosts_magic (hostvars plan.inventory plan.extra learnt)) (by_none hosts (hostvars plan.inventory plan.extra learnt) is) told attempt item
+    (subst (λ (q : PlanOf). ToldUnread q play h facts (place_for q play h p)) s (unread not_read))

@@ -1,5 +1,5 @@
 -- What holds of a task that doesn't read `hostvars`: where there is none, nothing has to hold.
-use Rattle.std.specs.Prelude.{◌≡◌, ⊤, ℕ, Option, Some, None, codes}
+use Rattle.std.specs.Prelude.{◌≡◌, ⊤, ℕ, false, Option, Some, None, codes}
 use Rattle.pb_value.specs.Datum.{Datum}
 use Rattle.pb_facts.specs.Facts.{FactsOf}
 use Rattle.pb_items.specs.Items.{items_of, attempted_item}
@@ -8,7 +8,13 @@ use Rattle.pb_outcome.specs.declared.gather.ItemResult.{ItemResult}
 use Rattle.pb_places.specs.Place.{PlaceOf}
 use Rattle.pb_plan.specs.Plan.{PlayOf, PlanOf}
 use Rattle.pb_reach.specs.Apart.{SameBut}
+use Rattle.pb_reach.specs.Reach.{layers_mention}
 use Rattle.pb_sight.specs.Results.{start_with, layers_within}
+
+-- the word stands in no text of the variables that it sees, but for what its host has learnt
+abbrev pub IsSettled : PlanOf → PlayOf → ℕ → FactsOf → Option PlaceOf → Type 0
+IsSettled plan play h facts None = ⊤
+IsSettled plan play h facts (Some place) = layers_mention (codes "hostvars") (layers_within plan play h facts place.role place.block_vars place.task.vars) ≡ false
 
 -- it has the same items, whatever stands for it
 abbrev pub ItemsUnread : PlanOf → PlayOf → ℕ → FactsOf → Option PlaceOf → Type 0

@@ -1,11 +1,11 @@
 //! What `hostvars` stands for where a task may look it up.
 
-ghost use Rattle.std.specs.Prelude.{◌≡◌, ◌<◌, ◌≤◌, false, length, Some, IfOk, IfSome};
+ghost use Rattle.std.specs.Prelude.{◌≡◌, ◌<◌, ◌≤◌, true, false, length, Some, IfOk, IfSome};
 ghost use Rattle.pb_variables.specs.Learnt.{facts_in};
 ghost use Rattle.pb_variables.specs.Magic.{hostvars, hosts_magic};
 ghost use Rattle.pb_items.specs.Loops.{max_items};
 ghost use Rattle.pb_sight.specs.Results.{items_at, items_for, place_for};
-ghost use Rattle.pb_sight.specs.Unread.{ItemsUnread, ToldUnread};
+ghost use Rattle.pb_sight.specs.Unread.{IsSettled, ItemsUnread, ToldUnread};
 
 use crate::own::Own;
 use crate::planned::no_task;
@@ -16,7 +16,7 @@ use pb_items::items::items;
 use pb_outcome::item::Item;
 use pb_places::Place;
 use pb_plan::Plan;
-use pb_reach::reach::tells;
+use pb_reach::reach::{may_read_of_result_by_itself, tells};
 use pb_value::items::Items;
 use pb_value::val::Dict;
 use pb_variables::hostvars::{hosts_magic, hostvars};
@@ -31,20 +31,31 @@ pub fn hosts_known(alloc: Global, plan: &Plan, learnt: &[&Facts]) -> Result<Dict
 }
 
 impl<'a> Site<'a> {
+    /// Whether the plan has settled that `hostvars` stands in no variable that the task sees, but for what the host has learnt.
+    #[tactic(auto, using(crate::proofs::Settled::settled_at))]
+    fn is_settled(&self) -> bool
+        ensures { result ≡ true → IsSettled self.now.plan.now self.now.play.now self.now.host.0 self.now.facts.now
+            (place_for self.now.plan.now self.now.play.now self.now.host.0 self.now.place) }
+    {
+        !self.plan.may_read_hosts(self.host) && !self.play.may_read_hosts(self.place)
+    }
+
     /// The items of the task at a place as it starts, where they may not look `hostvars` up.
     fn unread_items_for(
         &self,
         alloc: Global,
         place: &Place,
+        settled: bool,
     ) -> Result<Option<Items<Item>>, AllocError>
-        requires { self.now.host.0 < length self.now.plan.now.inventory.hosts }
+        requires there { self.now.host.0 < length self.now.plan.now.inventory.hosts }
+        requires settled { settled ≡ true → IsSettled self.now.plan.now self.now.play.now self.now.host.0 self.now.facts.now (Some place.now) }
         ensures value { IfOk result (λ found. IfSome found (λ items. items ≡ items_for self.now.plan.now self.now.play.now self.now.host.0 self.now.facts.now place.now)) }
         ensures unread { IfOk result (λ found. IfSome found (λ _. ItemsUnread self.now.plan.now self.now.play.now self.now.host.0 self.now.facts.now (Some place.now))) }
         ensures few { IfOk result (λ found. IfSome found (λ items. length items ≤ max_items)) }
     {
         let own = Own::of(alloc, self.plan, self.host)?;
         let sight = Sight::of(self.plan, self.play, self.host, self.facts, place, &own);
-        if sight.is_read_at_start() {
+        if sight.is_read_at_start(settled) {
             return Ok(None);
         }
         let items = items(alloc, &sight.start())?;
@@ -59,8 +70,9 @@ impl<'a> Site<'a> {
             (place_for self.now.plan.now self.now.play.now self.now.host.0 self.now.place))) }
         ensures few { IfOk result (λ found. IfSome found (λ items. length items ≤ max_items)) }
     {
+        let settled = self.is_settled();
         match self.found() {
-            Some(place) => self.unread_items_for(alloc, place),
+            Some(place) => self.unread_items_for(alloc, place, settled),
             None => {
                 let items = no_task(alloc)?;
                 Ok(Some(items))
@@ -68,13 +80,19 @@ impl<'a> Site<'a> {
         }
     }
 
-    /// Whether the task at a place may look `hostvars` up as it says something of a result. Where it says nothing it sees nothing, and no layers are made.
-    fn result_reads(&self, alloc: Global, place: &Place) -> Result<bool, AllocError>
-        requires { self.now.host.0 < length self.now.plan.now.inventory.hosts }
+    /// Whether the task at a place may look `hostvars` up as it says something of a result. Where it says nothing it sees nothing, and no layers are made;
+    /// nor are they where it is settled that it stands in none of the variables.
+    fn result_reads(&self, alloc: Global, place: &Place, settled: bool) -> Result<bool, AllocError>
+        requires there { self.now.host.0 < length self.now.plan.now.inventory.hosts }
+        requires settled { settled ≡ true → IsSettled self.now.plan.now self.now.play.now self.now.host.0 self.now.facts.now (Some place.now) }
         ensures { IfOk result (λ reads. reads ≡ false → ToldUnread self.now.plan.now self.now.play.now self.now.host.0 self.now.facts.now (Some place.now)) }
     {
-        if !tells(place.task()) {
+        let task = place.task();
+        if !tells(task) {
             return Ok(false);
+        }
+        if settled {
+            return Ok(may_read_of_result_by_itself("hostvars", task));
         }
         let own = Own::of(alloc, self.plan, self.host)?;
         let sight = Sight::of(self.plan, self.play, self.host, self.facts, place, &own);
@@ -87,8 +105,9 @@ impl<'a> Site<'a> {
         ensures { IfOk result (λ reads. reads ≡ false → ToldUnread self.now.plan.now self.now.play.now self.now.host.0 self.now.facts.now
             (place_for self.now.plan.now self.now.play.now self.now.host.0 self.now.place)) }
     {
+        let settled = self.is_settled();
         match self.found() {
-            Some(place) => self.result_reads(alloc, place),
+            Some(place) => self.result_reads(alloc, place, settled),
             None => Ok(false),
         }
     }

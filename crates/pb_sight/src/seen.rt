@@ -1,6 +1,7 @@
 //! A plan as tasks see it.
 
-ghost use Rattle.std.specs.Prelude.{◌≡◌, ◌<◌, ◌≤◌, ◌++◌, length, IfOk};
+ghost use Rattle.std.specs.Prelude.{◌≡◌, ◌<◌, ◌≤◌, ◌++◌, false, length, IfOk};
+ghost use Rattle.pb_plan.specs.Hostvars.{IsFreeHost};
 ghost use Rattle.pb_variables.specs.Shared.{from_groups};
 ghost use Rattle.pb_sight.specs.Seen.{with_hosts};
 
@@ -70,6 +71,13 @@ impl<'a> Seen<'a> {
         ensures { IfOk result (λ of. of ≡ from_groups self.now.inventory host.0) }
     {
         self.plan.of_groups(alloc, host)
+    }
+
+    /// Whether `hostvars` may stand in a text of the variables of a host, of its groups, or of the extra ones.
+    pub fn may_read_hosts(&self, host: HostNo) -> bool
+        ensures { result ≡ false → IsFreeHost self.now.inventory self.now.extra host.0 }
+    {
+        self.plan.may_read_hosts(host)
     }
 
     /// The extra variables, as they are given.

@@ -1,12 +1,12 @@
 //! What tasks see.
 
-ghost use Rattle.std.specs.Prelude.{◌≡◌, ◌<◌, ℕ, false, codes, length, Option};
+ghost use Rattle.std.specs.Prelude.{◌≡◌, ◌<◌, ℕ, true, false, codes, length, Option};
 ghost use Rattle.pb_value.specs.Datum.{Datum};
 ghost use Rattle.pb_layers.specs.Scope.{Map};
 ghost use Rattle.pb_outcome.specs.declared.gather.ItemResult.{ItemResult};
 ghost use Rattle.pb_items.specs.Items.{attempted_item, items_of};
 ghost use Rattle.pb_reach.specs.Apart.{SameBut};
-ghost use Rattle.pb_reach.specs.Reach.{with_magic};
+ghost use Rattle.pb_reach.specs.Reach.{layers_mention, with_magic};
 ghost use Rattle.pb_sight.specs.Own.{own_of};
 ghost use Rattle.pb_sight.specs.Results.{start_of};
 
@@ -18,7 +18,7 @@ use pb_items::start::Start;
 use pb_layers::layers::{Layers, Magic};
 use pb_places::Place;
 use pb_plan::PlanPlay;
-use pb_reach::reach::{may_read, may_read_of_result};
+use pb_reach::reach::{may_read, may_read_by_itself, may_read_of_result};
 use std::marker::Model;
 
 /// What a task sees.
@@ -101,17 +101,18 @@ impl<'a> Sight<'a> {
         }
     }
 
-    /// Whether the task's items may look `hostvars` up.
-    pub(crate) fn is_read_at_start(&self) -> bool
+    /// Whether the task's items may look `hostvars` up. Where it is settled that it stands in none of the variables these aren't searched.
+    pub(crate) fn is_read_at_start(&self, settled: bool) -> bool
+        requires { settled ≡ true → layers_mention (codes "hostvars") self.now.layers ≡ false }
         ensures { result ≡ false → (one other : Map) → SameBut (codes "hostvars") one other → items_of (with_magic self.now one) ≡ items_of (with_magic self.now other) }
     {
-        may_read(
-            "hostvars",
-            self.place.task(),
-            self.place.conditions(),
-            self.place.delegate_to(),
-            &self.layers,
-        )
+        let task = self.place.task();
+        let conditions = self.place.conditions();
+        let delegate_to = self.place.delegate_to();
+        if settled {
+            return may_read_by_itself("hostvars", task, conditions, delegate_to);
+        }
+        may_read("hostvars", task, conditions, delegate_to, &self.layers)
     }
 
     /// Whether the task may look `hostvars` up where it says something of a result.

@@ -17,7 +17,6 @@ use Rattle.pb_outcome.specs.Results.{judged}
 use Rattle.pb_inventory.specs.InventoryOf.{InventoryOf}
 use Rattle.pb_plan.specs.Plan.{PlayOf, PlanOf}
 use Rattle.pb_variables.specs.Learnt.{facts_in}
-use Rattle.pb_variables.specs.Magic.{hosts_magic}
 use Rattle.pb_sight.specs.Results.{came_at, items_at, place_for}
 use Rattle.pb_sight.specs.Seen.{with_hosts, seen_with}
 use Rattle.pb_sight.specs.Unread.{ItemsUnread}
@@ -115,8 +114,8 @@ seen_same seen other s r play one is inv same =
     (decides_same one other play r.outcome (slice_get s.rows r.host.0) same)
 
 -- the items of a task that doesn't look `hostvars` up, where these are found
-pub found_unread : (plan seen : PlanOf) (play : PlayOf) (h : ℕ) (facts : FactsOf) (p : ℕ) (learnt : List FactsOf) (hosts : List (List ℕ × Datum)) (value : Datum) (found : Option (List Item)) → seen ≡ with_hosts plan hosts → hosts ≡ hosts_magic value →
+pub found_unread : (plan seen : PlanOf) (play : PlayOf) (h : ℕ) (facts : FactsOf) (p : ℕ) (learnt : List FactsOf) (hosts : List (List ℕ × Datum)) (found : Option (List Item)) → seen ≡ with_hosts plan hosts → hosts ≡ [] →
     IfSome found (λ items. items ≡ items_at seen play h facts p) → IfSome found (λ (items : List Item). ItemsUnread seen play h facts (place_for seen play h p)) →
     IfSome found (λ items. items ≡ items_at (seen_with plan learnt) play h facts p)
-found_unread plan seen play h facts p learnt hosts value None s m is unread = tt
-found_unread plan seen play h facts p learnt hosts value (Some items) s m is unread = is ∙ items_not_read plan seen play h facts p learnt hosts value s m unread
+found_unread plan seen play h facts p learnt hosts None s m is unread = tt
+found_unread plan seen play h facts p learnt hosts (Some items) s m is unread = is ∙ items_not_read plan seen play h facts p learnt hosts s m unread

@@ -1,7 +1,6 @@
 //! What `hostvars` stands for, with what the rows say that their hosts have learnt.
 
-ghost use Rattle.std.specs.Prelude.{◌≡◌, List, true, false, IfOk, IfSome};
-ghost use Rattle.pb_value.specs.Datum.{null};
+ghost use Rattle.std.specs.Prelude.{◌≡◌, List, [], true, false, IfOk, IfSome};
 ghost use Rattle.pb_variables.specs.Learnt.{facts_in};
 ghost use Rattle.pb_facts.specs.Facts.{FactsOf};
 ghost use Rattle.pb_variables.specs.Magic.{hostvars, hosts_magic};
@@ -13,8 +12,8 @@ use pb_ids::HostNo;
 use pb_one_host::Row;
 use pb_plan::Plan;
 use pb_sight::hosts::hosts_known;
-use pb_value::val::{Dict, Val};
-use pb_variables::hostvars::{hosts_magic, renewed};
+use pb_value::val::Dict;
+use pb_variables::hostvars::renewed;
 use std::alloc::{AllocError, Global};
 
 /// The map of `hostvars` as a task sees it, and whether it is the one that each task may see.
@@ -81,13 +80,12 @@ pub(crate) fn renewed_for(
     }
 }
 
-/// The variable `hostvars` without a value, as a task may see it that doesn't look it up.
-pub(crate) fn unread(alloc: Global) -> Result<Shown, AllocError>
-    ensures { IfOk result (λ shown. shown ≡ record { hosts = hosts_magic null; is_whole = false }) }
+/// No variable `hostvars`, as a task may see it that doesn't look it up.
+pub(crate) fn unread(alloc: Global) -> Shown
+    ensures { result ≡ record { hosts = []; is_whole = false } }
 {
-    let hosts = hosts_magic(alloc, Val::null())?;
-    Ok(Shown {
-        hosts,
+    Shown {
+        hosts: Dict::new(alloc),
         is_whole: false,
-    })
+    }
 }

@@ -264,8 +264,8 @@ impl GroupShares {
         Ok(GroupShares { of_host })
     }
 
-    /// What is kept for a host.
-    fn kept(&self, host: HostNo) -> Option<&SharedGroups>
+    /// What is kept for a host, where something is.
+    pub fn kept(&self, host: HostNo) -> Option<&SharedGroups>
         ensures { IfSome result (λ shared. slice_get self.now host.0 ≡ Some (Some shared.now)) }
     {
         match self.of_host.as_slice().get(host.0 as usize) {

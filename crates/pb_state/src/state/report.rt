@@ -101,16 +101,16 @@ impl EngineState {
     {
         let rows = self.rows.as_slice();
         let Some(row) = rows.get(host.0 as usize) else {
-            return unread(self.alloc);
+            return Ok(unread(self.alloc));
         };
         let Some(running) = row.running() else {
-            return unread(self.alloc);
+            return Ok(unread(self.alloc));
         };
         self.hosts_at_report(plan, play, row.host(), row.facts(), running.place)
     }
 
     /// The variable `hostvars` as the task at a place may see it as a report comes in of a host that has learnt this: where what the task says of an attempt
-    /// doesn't look it up, it has no value, which is the same to what the task says.
+    /// doesn't look it up, it isn't there, which is the same to what the task says.
     pub(crate) fn hosts_at_report(
         &self,
         plan: &Plan,
@@ -137,7 +137,7 @@ impl EngineState {
             let shown = whole(self.alloc, plan, self.rows.as_slice())?;
             return Ok(shown);
         }
-        unread(self.alloc)
+        Ok(unread(self.alloc))
     }
 
     pub(crate) fn report_in(

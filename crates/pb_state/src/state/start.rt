@@ -10,7 +10,7 @@ ghost use Rattle.pb_state.specs.Known.{IsKnown, running_at};
 
 use super::EngineState;
 use crate::event::Event;
-use crate::hosts::{unread, whole};
+use crate::hosts::whole;
 use crate::known::keep;
 use pb_facts::facts::Facts;
 use pb_ids::HostNo;
@@ -161,7 +161,7 @@ impl EngineState {
         Ok(TaskItems::of(items))
     }
 
-    /// The same where they may not look `hostvars` up, which has no value then.
+    /// The same where they may not look `hostvars` up, which isn't there then.
     pub(crate) fn unread_items(
         &self,
         plan: &Plan,
@@ -173,8 +173,8 @@ impl EngineState {
         ensures items { IfOk result (λ found. IfSome found (λ items. items ≡ items_at (plan_seen plan.now self.now) play.now host.0 facts.now place)) }
         ensures few { IfOk result (λ found. IfSome found (λ items. length items ≤ 10000)) }
     {
-        let shown = unread(self.alloc)?;
-        let seen = Seen::new(plan, &shown.hosts);
+        let none = Dict::new(self.alloc);
+        let seen = Seen::new(plan, &none);
         let site = Site {
             plan: &seen,
             play,

@@ -1,4 +1,6 @@
-use Rattle.std.proofs.Common.{◌≤◌, ◌∙◌, ap, subst, sym}
+use Rattle.std.proofs.Common.{◌≤◌, ◌∙◌, List, ap, subst, sym}
+use Rattle.pb_places.specs.Place.{PlaceOf}
+use Rattle.pb_plan.specs.Hostvars.{AreFreePlaces}
 use Rattle.pb_tree.specs.Tree.{TreeOf, size_of}
 use Rattle.pb_planning.proofs.bundle.play_with.Goals as goal
 
@@ -10,3 +12,6 @@ new-requires-clause-bound c = subst (λ (t : TreeOf). size_of t ≤ 16384) (sym 
 
 pub new-requires-clause-places : goal.new-requires-clause-places
 new-requires-clause-places c = c.requires.built.places ∙ ap size_of (sym c.in_ok-laid.ensures.value)
+
+pub new-requires-clause-free : goal.new-requires-clause-free
+new-requires-clause-free c = subst (λ (places : List PlaceOf). AreFreePlaces c.args.play.vars places c.in_ok-free_places.free_places.items) c.as_slice-3.ensures c.in_ok-free_places.ensures

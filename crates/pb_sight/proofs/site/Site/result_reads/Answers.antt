@@ -1,5 +1,7 @@
+use Rattle.std.proofs.Common.{refl}
+use Rattle.pb_reach.specs.Reach.{start_from}
 use Rattle.pb_sight.specs.Results.{layers_within}
-use Rattle.pb_sight.proofs.ReadHosts.{told_seeing}
+use Rattle.pb_sight.proofs.ReadHosts.{told_of_place, told_seeing}
 use Rattle.pb_sight.proofs.Untold.{told_alike}
 use Rattle.pb_sight.proofs.site.Site.result_reads.Goals as goal
 
@@ -8,7 +10,16 @@ returns-then-not-tells c = λ unread one other value attempt item same.
     let site = c.args.self.now in
     let place = c.args.place.now in
     told_alike site.plan.now.has_facts_program place (layers_within site.plan.now site.play.now site.host.0 site.facts.now place.role place.block_vars place.task.vars)
-    c.task.result.now one other value attempt item c.task.ensures (c.tells.ensures.silent c.if-not-tells.true)
+    c.task-task.result.now one other value attempt item c.task-task.ensures (c.tells.ensures.silent c.if-not-tells.true)
+
+pub returns-then-settled : goal.returns-then-settled
+returns-then-settled c = λ unread one other value attempt item same.
+    let site = c.args.self.now in
+    let place = c.args.place.now in
+    let seen = layers_within site.plan.now site.play.now site.host.0 site.facts.now place.role place.block_vars place.task.vars in
+    told_of_place site.plan.now.has_facts_program place seen c.task-task.result.now one other value attempt item c.task-task.ensures
+    (c.may_read_of_result_by_itself.ensures.told unread (start_from c.task-task.result.now place.conditions place.delegate_to site.plan.now.has_facts_program seen one) other value attempt item refl
+    (c.requires.settled c.if-settled.true) same)
 
 pub returns : goal.returns
 returns c = λ unread.
