@@ -184,6 +184,16 @@ impl Drop for Begun {
     }
 }
 
+/// What a task says beside what is told of it, its loop and its module.
+struct Rest {
+    name: Text,
+    notify: Items<Text>,
+    register: Option<Text>,
+    tries: Tries,
+    vars: Dict,
+    conditions: Items<Expr>,
+}
+
 impl Begun {
     /// The task that begins with this.
     fn of(self, name: Text, vars: Dict, module: Module, conditions: Items<Expr>) -> Task
@@ -196,27 +206,31 @@ impl Begun {
             register,
             tries,
         } = self;
-        told.of(
-            name, notify, vars, module, conditions, looped, register, tries,
-        )
+        let rest = Rest {
+            name,
+            notify,
+            register,
+            tries,
+            vars,
+            conditions,
+        };
+        told.of(rest, looped, module)
     }
 }
 
 impl Told {
     /// The task of which this is told.
-    fn of(
-        self,
-        name: Text,
-        notify: Items<Text>,
-        vars: Dict,
-        module: Module,
-        conditions: Items<Expr>,
-        looped: Option<Loop>,
-        register: Option<Text>,
-        tries: Tries,
-    ) -> Task
-        ensures { result ≡ told_of self name notify vars «module» conditions looped register tries }
+    fn of(self, rest: Rest, looped: Option<Loop>, module: Module) -> Task
+        ensures { result ≡ told_of self rest.name rest.notify rest.vars «module» rest.conditions looped rest.register rest.tries }
     {
+        let Rest {
+            name,
+            notify,
+            register,
+            tries,
+            vars,
+            conditions,
+        } = rest;
         let Told {
             first,
             delegation,
