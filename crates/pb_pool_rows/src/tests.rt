@@ -17,6 +17,15 @@ const COMMAND: &str =
 const TWO_COMMANDS: &str =
     "[{\"hosts\":\"all\",\"gather_facts\":false,\"tasks\":[{\"command\":\"run it\"},{\"command\":\"run more\"}]}]";
 
+/// A playbook on so many hosts with so many workers, each of which answers only once so many of them have begun.
+#[derive(Clone, Copy)]
+struct Pool {
+    playbook: &'static str,
+    hosts: u32,
+    workers: u32,
+    together: u64,
+}
+
 /// So many workers, each of which answers only once so many of them have begun.
 fn gates<'a>(
     alloc: Global,
@@ -34,25 +43,22 @@ fn gates<'a>(
     Ok(runners)
 }
 
-/// A run of so many hosts by so many workers, with what is written on the writer, and how many jobs were run.
+/// A run by a pool, with what is written on the writer, and how many jobs were run.
 fn held_with<R: Threads + Wait + Sync, W: LineOut>(
     rt: &R,
     alloc: Global,
-    playbook: &str,
-    hosts: u32,
-    workers: u32,
-    together: u64,
+    pool: Pool,
     commands: &[Given],
     writer: &mut W,
 ) -> Result<(Result<Ended, (RunFault, Vec<Event>)>, u64), Fail> {
     let begun = AtomicU64::new(0);
-    let mut runners = gates(alloc, workers, &begun, together)?;
-    let plan = plan_of(alloc, hosts, playbook, workers)?;
+    let mut runners = gates(alloc, pool.workers, &begun, pool.together)?;
+    let plan = plan_of(alloc, pool.hosts, pool.playbook, pool.workers)?;
     if runners.len() > 256 || plan.forks() as usize > runners.len() {
         return Err("runners")?;
     }
     let ended = run_pool(rt, alloc, plan, &mut runners, Lowest, commands, writer);
-    if runners.len() != workers as usize {
+    if runners.len() != pool.workers as usize {
         return Err("a runner is lost")?;
     }
     Ok((ended, begun.load(Ordering::SeqCst)))
@@ -62,27 +68,25 @@ fn held_with<R: Threads + Wait + Sync, W: LineOut>(
 fn held<R: Threads + Wait + Sync>(
     rt: &R,
     alloc: Global,
-    playbook: &str,
-    hosts: u32,
-    workers: u32,
-    together: u64,
+    pool: Pool,
     commands: &[Given],
 ) -> Result<Ended, Fail> {
     let mut writer = Silent;
-    let (ended, _) = held_with(
-        rt,
-        alloc,
-        playbook,
-        hosts,
-        workers,
-        together,
-        commands,
-        &mut writer,
-    )?;
+    let (ended, _) = held_with(rt, alloc, pool, commands, &mut writer)?;
     match ended {
         Ok(ended) => Ok(ended),
         Err((RunFault::Closed, _)) => Err("a worker couldn't be started")?,
         Err(_) => Err("an end")?,
+    }
+}
+
+/// So many workers, which answer once all of them have begun.
+fn all_at_once(playbook: &'static str, hosts: u32, workers: u32) -> Pool {
+    Pool {
+        playbook,
+        hosts,
+        workers,
+        together: workers as u64,
     }
 }
 
@@ -120,21 +124,21 @@ fn are_ok(ended: &Ended, hosts: u32, tasks: u64) -> bool {
 
 #[test]
 fn two_workers_are_held(rt: HostRuntime) -> Result<(), Fail> {
-    let ended = held(&rt, rt.alloc(), COMMAND, 2, 2, 2, &[])?;
+    let ended = held(&rt, rt.alloc(), all_at_once(COMMAND, 2, 2), &[])?;
     assert!(rt; are_ok(&ended, 2, 1));
     Ok(())
 }
 
 #[test]
 fn eight_workers_are_held(rt: HostRuntime) -> Result<(), Fail> {
-    let ended = held(&rt, rt.alloc(), COMMAND, 8, 8, 8, &[])?;
+    let ended = held(&rt, rt.alloc(), all_at_once(COMMAND, 8, 8), &[])?;
     assert!(rt; are_ok(&ended, 8, 1));
     Ok(())
 }
 
 #[test]
 fn more_hosts_than_workers(rt: HostRuntime) -> Result<(), Fail> {
-    let ended = held(&rt, rt.alloc(), TWO_COMMANDS, 20, 4, 4, &[])?;
+    let ended = held(&rt, rt.alloc(), all_at_once(TWO_COMMANDS, 20, 4), &[])?;
     assert!(rt; are_ok(&ended, 20, 2));
     Ok(())
 }
@@ -145,20 +149,26 @@ fn a_stop_collects_what_is_out(rt: HostRuntime) -> Result<(), Fail> {
         after: 1,
         command: Command::Stop,
     };
-    let ended = held(&rt, rt.alloc(), TWO_COMMANDS, 4, 4, 4, &[stop])?;
+    let ended = held(&rt, rt.alloc(), all_at_once(TWO_COMMANDS, 4, 4), &[stop])?;
     assert!(rt; are_ok(&ended, 4, 1));
     Ok(())
 }
 
 #[test]
 fn a_writer_that_fails_waits_for_what_is_out(rt: HostRuntime) -> Result<(), Fail> {
+    let pool = Pool {
+        playbook: TWO_COMMANDS,
+        hosts: 8,
+        workers: 4,
+        together: 1,
+    };
     let mut failed: u32 = 0;
     for calls in 0..24u32 {
         let mut writer = Failing {
             left: calls,
             failures: 0,
         };
-        let (ended, begun) = held_with(&rt, rt.alloc(), TWO_COMMANDS, 8, 4, 1, &[], &mut writer)?;
+        let (ended, begun) = held_with(&rt, rt.alloc(), pool, &[], &mut writer)?;
         match ended {
             Ok(ended) => assert!(rt; are_ok(&ended, 8, 2)),
             Err((RunFault::Write, trail)) => {
