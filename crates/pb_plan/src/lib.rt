@@ -6,6 +6,7 @@
 #![tactic(auto)]
 
 pub mod hostvars;
+pub mod parts;
 pub mod plan;
 mod planned;
 

@@ -10,6 +10,7 @@ ghost use Rattle.pb_variables.specs.Shared.{from_groups, AreKept};
 ghost use Rattle.pb_plan.specs.Plan.{throttles_of, run_once_of};
 ghost use Rattle.pb_plan.specs.Hostvars.{IsFreeAt, AreFreePlaces, IsFreeHost, AreFreeHosts};
 
+use crate::parts::{AtPlaces, PlanHosts, PlayHead};
 use pb_batches::Serial;
 use pb_cursors::LaidTree;
 use pb_ids::{HostNo, PlayNo};
@@ -112,37 +113,39 @@ impl Model for PlanPlay {
 
 impl PlanPlay {
     /// A play of these parts.
-    pub fn new(
-        name: Text,
-        laid: Rc<LaidTree>,
-        places: Items<Place>,
-        throttles: Vec<u32>,
-        run_once: Vec<bool>,
-        free_places: Vec<bool>,
-        hosts: HostSet,
-        strategy: Strategy,
-        serial: Serial,
-        max_fail_percentage: u32,
-        vars: Dict,
-        magic: Dict,
-    ) -> PlanPlay
+    pub fn new(head: PlayHead, laid: Rc<LaidTree>, at_places: AtPlaces) -> PlanPlay
         requires bound { size_of laid.value.tree ≤ 16384 }
-        requires places { length places ≡ size_of laid.value.tree }
-        requires throttles { throttles.items ≡ throttles_of places }
-        requires once { run_once.items ≡ run_once_of places }
-        requires free { AreFreePlaces vars places free_places.items }
+        requires places { length at_places.places ≡ size_of laid.value.tree }
+        requires throttles { at_places.throttles.items ≡ throttles_of at_places.places }
+        requires once { at_places.run_once.items ≡ run_once_of at_places.places }
+        requires free { AreFreePlaces head.vars at_places.places at_places.free_places.items }
         ensures { result ≡ record {
-          name = name;
+          name = head.name;
           tree = laid.value.tree;
-          places = places;
-          hosts = hosts;
-          strategy = strategy;
-          serial = serial.entries;
-          max_fail_percentage = max_fail_percentage;
-          vars = vars;
-          magic = magic;
+          places = at_places.places;
+          hosts = head.hosts;
+          strategy = head.strategy;
+          serial = head.serial.entries;
+          max_fail_percentage = head.max_fail_percentage;
+          vars = head.vars;
+          magic = head.magic;
         } }
     {
+        let PlayHead {
+            name,
+            hosts,
+            strategy,
+            serial,
+            max_fail_percentage,
+            vars,
+            magic,
+        } = head;
+        let AtPlaces {
+            places,
+            throttles,
+            run_once,
+            free_places,
+        } = at_places;
         PlanPlay {
             name,
             laid,
@@ -351,31 +354,34 @@ impl Plan {
 
     /// A plan of these parts.
     pub fn from_parts(
-        inventory: Inventory,
+        hosts: PlanHosts,
         plays: Items<PlanPlay>,
         forks: u32,
         has_facts_program: bool,
         warnings: Items<Text>,
-        extra: Dict,
         magic: Dict,
-        shares: GroupShares,
-        free_hosts: Vec<bool>,
     ) -> Plan
         requires plays { length plays ≤ 256 }
         requires some { 0 < forks }
         requires bound { forks ≤ 256 }
-        requires kept { AreKept inventory shares }
-        requires free { AreFreeHosts inventory extra free_hosts.items }
+        requires kept { AreKept hosts.inventory hosts.shares }
+        requires free { AreFreeHosts hosts.inventory hosts.extra hosts.free_hosts.items }
         ensures { result ≡ record {
           plays = plays;
           forks = forks;
           has_facts_program = has_facts_program;
           warnings = warnings;
-          inventory = inventory;
-          extra = extra;
+          inventory = hosts.inventory;
+          extra = hosts.extra;
           magic = magic;
         } }
     {
+        let PlanHosts {
+            inventory,
+            extra,
+            shares,
+            free_hosts,
+        } = hosts;
         Plan {
             inventory,
             plays,

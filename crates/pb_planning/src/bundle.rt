@@ -12,6 +12,7 @@ use pb_inventory::fault::InvFault;
 use pb_inventory::inventory::Inventory;
 use pb_patterns::fault::PatFault;
 use pb_plan::hostvars::free_places;
+use pb_plan::parts::{AtPlaces, PlayHead};
 use pb_plan::plan::{PlanPlay, run_once_of, throttles_of};
 use pb_planes::HostSet;
 use pb_roles::{Expanded, RoleFault, RoleFile, RoleFiles};
@@ -126,20 +127,22 @@ pub(crate) fn play_with(
     let throttles = throttles_of(alloc, play.places.as_slice())?;
     let run_once = run_once_of(alloc, play.places.as_slice())?;
     let free_places = free_places(alloc, &play.vars, play.places.as_slice())?;
-    Ok(PlanPlay::new(
-        play.name,
-        laid,
-        play.places,
+    let head = PlayHead {
+        name: play.name,
+        hosts,
+        strategy: play.strategy,
+        serial: play.serial,
+        max_fail_percentage: play.max_fail_percentage,
+        vars: play.vars,
+        magic,
+    };
+    let at_places = AtPlaces {
+        places: play.places,
         throttles,
         run_once,
         free_places,
-        hosts,
-        play.strategy,
-        play.serial,
-        play.max_fail_percentage,
-        play.vars,
-        magic,
-    ))
+    };
+    Ok(PlanPlay::new(head, laid, at_places))
 }
 
 /// How many bytes a text has that may be given.

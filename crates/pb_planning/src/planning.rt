@@ -19,6 +19,7 @@ use pb_patterns::fault::PatFault;
 use pb_patterns::pattern::Pattern;
 use pb_patterns::selected::Selected;
 use pb_plan::hostvars::free_hosts;
+use pb_plan::parts::PlanHosts;
 use pb_plan::{Plan, PlanPlay, Planned};
 use pb_planes::HostSet;
 use pb_play_reading::playbook::Playbook;
@@ -257,16 +258,19 @@ fn plan_with(
     let magic = plan_magic(alloc, &inventory)?;
     let shares = GroupShares::of(alloc, &inventory)?;
     let free_hosts = free_hosts(alloc, &inventory, &shares, &extra)?;
-    Ok(Plan::from_parts(
+    let hosts = PlanHosts {
         inventory,
+        extra,
+        shares,
+        free_hosts,
+    };
+    Ok(Plan::from_parts(
+        hosts,
         plays,
         bundle.forks,
         bundle.has_facts_program,
         lines,
-        extra,
         magic,
-        shares,
-        free_hosts,
     ))
 }
 

@@ -1,0 +1,53 @@
+//! What plays and plans are made of.
+
+use pb_batches::Serial;
+use pb_inventory::inventory::Inventory;
+use pb_places::Place;
+use pb_planes::HostSet;
+use pb_strategies::Strategy;
+use pb_value::items::Items;
+use pb_value::text::Text;
+use pb_value::val::Dict;
+use pb_variables::shared::GroupShares;
+
+/// What a play is, but for its tree and what stands at the tree's places.
+pub struct PlayHead {
+    /// Its name, as it is printed.
+    pub name: Text,
+    /// The hosts that are its own.
+    pub hosts: HostSet,
+    /// How the hosts of a batch go through its tasks.
+    pub strategy: Strategy,
+    /// What it says of the sizes of its batches.
+    pub serial: Serial,
+    /// How many of a batch's hosts in a hundred may fail.
+    pub max_fail_percentage: u32,
+    /// Its variables, as they are written.
+    pub vars: Dict,
+    /// The variables that it gives by itself.
+    pub magic: Dict,
+}
+
+/// What stands at each place of a play's tree, in the order of places, and what is settled of it once for all hosts.
+pub struct AtPlaces {
+    /// What stands there.
+    pub places: Items<Place>,
+    /// How many hosts may run the task there at once.
+    pub throttles: Vec<u32>,
+    /// Whether the first host of a batch runs the task there for all.
+    pub run_once: Vec<bool>,
+    /// The places that are marked have no variable in whose text `hostvars` stands.
+    pub free_places: Vec<bool>,
+}
+
+/// The hosts of a plan, with the variables that don't depend on the play, and what is settled of them once for all plays.
+pub struct PlanHosts {
+    /// The hosts, their groups, and the variables of both.
+    pub inventory: Inventory,
+    /// The extra variables, as they are given.
+    pub extra: Dict,
+    /// What hosts have from their groups, made once for all hosts of the same groups.
+    pub shares: GroupShares,
+    /// The hosts that are marked have no variable in whose text `hostvars` stands.
+    pub free_hosts: Vec<bool>,
+}
