@@ -15,7 +15,7 @@ use Rattle.pb_state.specs.declared.event.Event.TheVariants.{Open, Start, Send, R
 use Rattle.pb_state.specs.Machine.{possible, after, first_state, open_play, next_play, next_at, opened_by, goes_on, begins, begins_at, start_at, started_in, sent_in, reported_in, turned_in}
 use Rattle.pb_state.specs.Run.{legal_from, state_from}
 use Rattle.pb_state.specs.State.{State}
-use Rattle.pb_state.proofs.Once.{and_left, and_right}
+use Rattle.pb_state.proofs.StepNumbers.{and_left, and_right}
 use Rattle.pb_state.proofs.Stands.{both}
 use Rattle.pb_state.proofs.Steps.{pool_stays}
 use Rattle.pb_audit.specs.Larger.{in_pool, LargerPoolsAllow}

@@ -23,7 +23,7 @@ use Rattle.pb_state.specs.Over.{IsGoing, IsOver, IsPlaced}
 use Rattle.pb_state.specs.Run.{IsFinished, IsQuiet, is_move}
 use Rattle.pb_state.specs.State.{State}
 use Rattle.pb_state.specs.Strategies.{view_of}
-use Rattle.pb_state.proofs.Once.{and_left, and_right}
+use Rattle.pb_state.proofs.StepNumbers.{and_left, and_right}
 use Rattle.pb_state.proofs.Quiet.{no_item_at, quiet, sends_now}
 use Rattle.pb_state.proofs.Readies.{ready_either, widths}
 use Rattle.pb_state.proofs.Stuck.{over_now}

@@ -27,7 +27,8 @@ use Rattle.pb_state.specs.Once.{place_run_by}
 use Rattle.pb_one_host.specs.Row.{HostRow, pending, ignores_at, caught_at, meta_at, items_after}
 use Rattle.pb_state.specs.Run.{legal_from}
 use Rattle.pb_state.specs.State.{State}
-use Rattle.pb_state.proofs.Once.{and_left, and_right, start_place}
+use Rattle.pb_state.proofs.StepNumbers.{and_left, and_right}
+use Rattle.pb_state.proofs.Once.{start_place}
 use Rattle.pb_state.proofs.Stands.{both}
 use Rattle.pb_recap.specs.Kinds.{CountKind, Okay, Unreachable, Failed, Skipped, Rescued, has, status_of}
 use Rattle.pb_recap.specs.Recap.{by_host, ended_by, finishes, result_counts, counted, count_from, hosts_from, recap}

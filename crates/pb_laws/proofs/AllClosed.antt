@@ -27,7 +27,7 @@ use Rattle.pb_state.specs.State.{State}
 use Rattle.pb_state.specs.Strategies.{view_of}
 use Rattle.pb_state.proofs.Idle.{turn_linear, turn_idle, turns, others_done}
 use Rattle.pb_one_host.proofs.InOrder.{goes_on_at}
-use Rattle.pb_state.proofs.Once.{and_left, and_right}
+use Rattle.pb_state.proofs.StepNumbers.{and_left, and_right}
 use Rattle.pb_state.proofs.Opening.{open_case}
 use Rattle.pb_state.proofs.Stands.{both, linear_place}
 use Rattle.pb_all_hosts.proofs.Turning.{turned_idle}

@@ -12,7 +12,7 @@ use Rattle.pb_one_host.specs.Attempts.{tried_next, attempt_after, attempt_next}
 use Rattle.pb_one_host.specs.Kept.{first_waiting}
 use Rattle.pb_one_host.specs.Row.{first_rows}
 use Rattle.pb_one_host.proofs.InOrder.{next_is}
-use Rattle.pb_state.proofs.Once.{and_right}
+use Rattle.pb_state.proofs.StepNumbers.{and_right}
 use Rattle.pb_state.proofs.Stands.{both}
 use Rattle.pb_laws.specs.History.{HostTask, Happening, Starts, Sends}
 use Rattle.pb_laws.specs.Laws.{Always, holds_from, so_far, is_same_task, attempts_at, last_sent, follows_in_item, is_awaited, attempts_in_order}

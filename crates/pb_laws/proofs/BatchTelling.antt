@@ -24,7 +24,8 @@ use Rattle.pb_one_host.specs.Ends.{plain_answer}
 use Rattle.pb_all_hosts.specs.Turn.{turned_by}
 use Rattle.pb_state.specs.Walks.{AreNumbered}
 use Rattle.pb_all_hosts.proofs.Batching.{joins_waits}
-use Rattle.pb_state.proofs.Once.{IsSound, and_left, and_right, open_of}
+use Rattle.pb_state.proofs.StepNumbers.{and_left, and_right}
+use Rattle.pb_state.proofs.Moves.{IsSound, open_of}
 use Rattle.pb_state.proofs.Opening.{GoesOn, Begins, open_case}
 use Rattle.pb_state.proofs.Idle.{turn_linear}
 use Rattle.pb_all_hosts.proofs.Turning.{Goes, IsGiven, turned_by_case, goes_tree, goes_inside, goes_waits, goes_running}

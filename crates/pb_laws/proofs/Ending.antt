@@ -10,7 +10,8 @@ use Rattle.pb_tree.specs.Walk.{WalkerOf, Passage, Stopped, Through, on_good, unl
 use Rattle.pb_tree.specs.declared.answer.Kind.{Kind}
 use Rattle.pb_tree.specs.declared.answer.Kind.TheVariants.{Good, Bad, Halted, Gone, Ended}
 use Rattle.pb_one_host.specs.Row.{place_of}
-use Rattle.pb_laws.proofs.Leaving.{outs, Leaves, leaves}
+use Rattle.pb_laws.proofs.Stopping.{outs}
+use Rattle.pb_laws.proofs.Leaving.{Leaves, leaves}
 
 abbrev pub is_ended : Kind → Bool
 is_ended Ended = true

@@ -6,7 +6,9 @@ use Rattle.pb_state.specs.Machine.{possible, after, first_state}
 use Rattle.pb_state.specs.Run.{legal_from, state_from}
 use Rattle.pb_state.specs.State.{State}
 use Rattle.pb_state.specs.Walks.{AreNumbered}
-use Rattle.pb_state.proofs.Once.{IsSound, first_sound, sound_kept, moves, and_left, and_right}
+use Rattle.pb_state.proofs.StepNumbers.{and_left, and_right}
+use Rattle.pb_state.proofs.Moves.{IsSound, sound_kept, moves}
+use Rattle.pb_state.proofs.Once.{first_sound}
 use Rattle.pb_state.proofs.Stands.{both}
 use Rattle.pb_state.proofs.Trails.{state_both}
 use Rattle.pb_state.proofs.Walks.{IsOfPlan, step_of, rows_stay}

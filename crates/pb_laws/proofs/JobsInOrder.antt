@@ -14,7 +14,7 @@ use Rattle.pb_one_host.specs.Runs.{is_out as has_job_out}
 use Rattle.pb_state.specs.Machine.{first_state}
 use Rattle.pb_one_host.specs.Row.{HostRow, first_rows}
 use Rattle.pb_state.specs.Run.{state_from}
-use Rattle.pb_state.proofs.Once.{and_left, and_right}
+use Rattle.pb_state.proofs.StepNumbers.{and_left, and_right}
 use Rattle.pb_state.proofs.Stands.{both}
 use Rattle.pb_laws.specs.History.{HostTask, Happening, Starts, Sends, Reports, Ends, history}
 use Rattle.pb_laws.specs.Laws.{Always, AtTheEnd, holds_from, so_far, jobs_sent, is_same_task, runs, is_out, jobs_in_order, is_answered, answered_below, all_answered}

@@ -11,6 +11,7 @@ pub mod AddingUp
 pub mod InOrder
 pub mod RisingPlaces
 pub mod AllClosed
+pub mod Stopping
 pub mod Leaving
 pub mod Ending
 pub mod StayingOut

@@ -21,7 +21,9 @@ use Rattle.pb_state.specs.Once.{place_run_by}
 use Rattle.pb_state.specs.Run.{IsRun, legal_from, state_from}
 use Rattle.pb_state.specs.State.{State}
 use Rattle.pb_state.specs.Walks.{AreNumbered}
-use Rattle.pb_state.proofs.Once.{IsSound, first_sound, sound_kept, moves, and_left, and_right}
+use Rattle.pb_state.proofs.StepNumbers.{and_left, and_right}
+use Rattle.pb_state.proofs.Moves.{IsSound, sound_kept, moves}
+use Rattle.pb_state.proofs.Once.{first_sound}
 use Rattle.pb_state.proofs.Steps.{pool_stays}
 use Rattle.pb_state.proofs.Trails.{state_both}
 use Rattle.pb_state.proofs.Walks.{IsOfPlan, step_of, first_of, rows_stay}

@@ -12,7 +12,8 @@ use Rattle.pb_state.specs.Once.{StartOf, starts_from, place_run_by}
 use Rattle.pb_state.specs.Rising.{IsBeforeAll, DoRise}
 use Rattle.pb_state.specs.Run.{legal_from}
 use Rattle.pb_state.specs.State.{State}
-use Rattle.pb_state.proofs.Once.{and_left, and_right, start_place}
+use Rattle.pb_state.proofs.StepNumbers.{and_left, and_right}
+use Rattle.pb_state.proofs.Once.{start_place}
 use Rattle.pb_state.proofs.Rising.{starts_rise}
 use Rattle.pb_state.proofs.Stands.{both}
 use Rattle.pb_laws.specs.History.{HostTask, Happening, MayRun, Starts, Sends, Reports, at_place, ended_in, ends_if, told, history_from}

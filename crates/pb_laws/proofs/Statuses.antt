@@ -28,7 +28,7 @@ use Rattle.pb_state.specs.declared.event.Event.TheVariants.{Open, Start, Send, R
 use Rattle.pb_state.specs.Machine.{after, after_open, batch_of, facts_at, first_state, may_start_in, next_at, open_play, opened_by, plan_seen, possible, reported_in, sent_in, start_at, started_in, turned_in}
 use Rattle.pb_state.specs.Run.{legal_from, state_from}
 use Rattle.pb_state.specs.State.{State}
-use Rattle.pb_state.proofs.Once.{and_left, and_right}
+use Rattle.pb_state.proofs.StepNumbers.{and_left, and_right}
 use Rattle.pb_state.proofs.Opening.{open_case, rows_case}
 use Rattle.pb_state.proofs.Stands.{stands_at, start_stands}
 use Rattle.pb_state.proofs.Walked.{in_if, stands_in}

@@ -26,7 +26,8 @@ use Rattle.pb_laws.proofs.Telling.{Seen, AreGiven, one_given, AreInside, AreLed,
 use Rattle.pb_laws.proofs.Holding.{given_holds, always}
 use Rattle.pb_laws.proofs.JobsInOrder.{put_get, same_self, apart}
 use Rattle.pb_laws.proofs.InOrder.{AreAnswers, answers_of, first_answers, rest_answers, given_answers, answered_next, counts_all, first_fresh}
-use Rattle.pb_laws.proofs.Leaving.{is_bad, is_over, outs, Follows, Leaves, leaves, through_none}
+use Rattle.pb_laws.proofs.Stopping.{is_bad, is_over, outs}
+use Rattle.pb_laws.proofs.Leaving.{Follows, Leaves, leaves, through_none}
 use Rattle.pb_laws.proofs.Ending.{is_ended, ends_as, last_ends}
 
 -- ---- one answer

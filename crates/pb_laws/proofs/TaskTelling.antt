@@ -38,7 +38,9 @@ use Rattle.pb_state.specs.State.{State}
 use Rattle.pb_one_host.specs.Standing.{standing}
 use Rattle.pb_state.specs.Strategies.{view_of}
 use Rattle.pb_all_hosts.proofs.Giving.{map_same}
-use Rattle.pb_state.proofs.Once.{FoundFrom, RunsFrom, IsSound, and_left, and_right, open_of, start_place}
+use Rattle.pb_state.proofs.StepNumbers.{FoundFrom, RunsFrom, and_left, and_right}
+use Rattle.pb_state.proofs.Moves.{IsSound, open_of}
+use Rattle.pb_state.proofs.Once.{start_place}
 use Rattle.pb_state.proofs.Stands.{stands_at, start_stands, linear_is}
 use Rattle.pb_all_hosts.proofs.Turning.{at_is}
 use Rattle.pb_state.proofs.Walked.{stands_in, same_is}

@@ -22,7 +22,7 @@ use Rattle.pb_state.specs.State.{State}
 use Rattle.pb_state.specs.Work.{work}
 use Rattle.pb_state.proofs.HasJob.{runs_job}
 use Rattle.pb_state.proofs.Held.{IsHeld, going_run, held_run}
-use Rattle.pb_state.proofs.Once.{and_left, and_right}
+use Rattle.pb_state.proofs.StepNumbers.{and_left, and_right}
 use Rattle.pb_state.proofs.Quiet.{over_at}
 use Rattle.pb_state.proofs.Stands.{both}
 use Rattle.pb_state.proofs.Steps.{forks_stay}

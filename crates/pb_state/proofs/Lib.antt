@@ -10,8 +10,12 @@ pub mod Opening
 pub mod Steps
 pub mod Walked
 pub mod NextAttempt
+pub mod BatchWork
 pub mod WorkFalls
 pub mod Within
+pub mod BatchBounds
+pub mod StepNumbers
+pub mod Moves
 pub mod Once
 pub mod Rising
 pub mod Walks

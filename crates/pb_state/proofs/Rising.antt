@@ -10,7 +10,9 @@ use Rattle.pb_state.specs.Machine.{possible, after, open_play, may_start_in, nex
 use Rattle.pb_state.specs.Run.{legal_from}
 use Rattle.pb_state.specs.Once.{StartOf, starts_from}
 use Rattle.pb_state.specs.Rising.{IsBefore, IsRise, IsBeforeAll, DoRise, StartsRise}
-use Rattle.pb_state.proofs.Once.{and_left, and_right, FoundFrom, IsSound, IsPast, open_of, past_kept, sound_kept, moves, start_place, start_raises, start_least, first_sound}
+use Rattle.pb_state.proofs.StepNumbers.{and_left, and_right, FoundFrom}
+use Rattle.pb_state.proofs.Moves.{IsSound, IsPast, open_of, past_kept, sound_kept, moves}
+use Rattle.pb_state.proofs.Once.{start_place, start_raises, start_least, first_sound}
 
 before : (a b : Option ℕ) (p q : ℕ) → a ≡ Some p → b ≡ Some q → p < q → IsBefore a b
 before (Some a) (Some b) p q e f l = let one : a ≡ p = cc in let two : b ≡ q = cc in omega (arith, one, two, l)

@@ -2,7 +2,7 @@ use Rattle.std.proofs.Common.{◌≡◌, ◌≤◌, ℕ, true, false, List, subs
 use Rattle.pb_state.specs.Bounds.{IsBounded}
 use Rattle.pb_all_hosts.specs.Batches.{has_later}
 use Rattle.pb_state.specs.State.{State}
-use Rattle.pb_state.proofs.Within.{begin_bounded}
+use Rattle.pb_state.proofs.BatchBounds.{begin_bounded}
 use Rattle.pb_state.proofs.state.EngineState.begin_with.Goals as goal
 
 pub invariant_of-self-2 : goal.invariant_of-self-2

@@ -1,7 +1,7 @@
 use Rattle.std.proofs.Common.{◌≡◌, ◌∙◌, Bool, true, subst, sym, ap}
 use Rattle.pb_state.specs.State.{State}
 use Rattle.pb_state.specs.Machine.{play_behind}
-use Rattle.pb_state.proofs.Within.{close_bounded}
+use Rattle.pb_state.proofs.BatchBounds.{close_bounded}
 use Rattle.pb_state.proofs.state.EngineState.close.Goals as goal
 
 pub invariant_of-self : goal.invariant_of-self

@@ -1,5 +1,5 @@
 use Rattle.std.proofs.Common.{arith}
-use Rattle.pb_state.proofs.Within.{first_bounded}
+use Rattle.pb_state.proofs.BatchBounds.{first_bounded}
 use Rattle.pb_state.proofs.state.EngineState.first.Goals as goal
 
 pub invariant_of-result : goal.invariant_of-result

@@ -2,7 +2,7 @@ use Rattle.std.proofs.Common.{◌≡◌, ℕ, ◌+◌, true, false, List, subst,
 use Rattle.pb_state.specs.Bounds.{IsBounded}
 use Rattle.pb_all_hosts.specs.Batches.{has_later}
 use Rattle.pb_state.specs.State.{State}
-use Rattle.pb_state.proofs.Within.{go_on_bounded, batch_below}
+use Rattle.pb_state.proofs.BatchBounds.{go_on_bounded, batch_below}
 use Rattle.pb_state.proofs.state.EngineState.go_on_in.Goals as goal
 
 pub overflow_add-self : goal.overflow_add-self

@@ -3,7 +3,7 @@ use Rattle.std.proofs.lemmas.Option.{slice_get_read}
 use Rattle.pb_one_host.specs.declared.row.Counts.{Counts}
 use Rattle.pb_one_host.specs.Ends.{IsAtMost}
 use Rattle.pb_state.specs.State.{State}
-use Rattle.pb_state.proofs.Within.{few_at}
+use Rattle.pb_state.proofs.BatchBounds.{few_at}
 use Rattle.pb_state.proofs.state.EngineState.host_counts.Goals as goal
 
 pub returns-clause-few : goal.returns-clause-few

@@ -2,7 +2,8 @@ use Rattle.std.proofs.Common.{◌≡◌, true, subst, sym}
 use Rattle.pb_state.specs.State.{State}
 use Rattle.pb_all_hosts.specs.Giving.{report_gives}
 use Rattle.pb_state.specs.Machine.{may_report_in}
-use Rattle.pb_state.proofs.Within.{room_at, report_bounded}
+use Rattle.pb_state.proofs.Within.{report_bounded}
+use Rattle.pb_state.proofs.BatchBounds.{room_at}
 use Rattle.pb_state.proofs.state.EngineState.report_seen.Goals as goal
 
 pub report_row-requires : goal.report_row-requires

@@ -3,7 +3,8 @@ use Rattle.pb_state.specs.State.{State}
 use Rattle.pb_one_host.specs.Runs.{has_send}
 use Rattle.pb_all_hosts.specs.Hosts.{at_row}
 use Rattle.pb_state.specs.Machine.{may_send_in}
-use Rattle.pb_state.proofs.Within.{sends_below, send_bounded}
+use Rattle.pb_state.proofs.Within.{send_bounded}
+use Rattle.pb_state.proofs.BatchBounds.{sends_below}
 use Rattle.pb_state.proofs.MaySend.{may_has_send}
 use Rattle.pb_state.proofs.state.EngineState.send_in.Goals as goal
 

@@ -1,6 +1,6 @@
 use Rattle.std.proofs.Common.{ap, ◌∙◌}
 use Rattle.pb_state.specs.State.{State}
-use Rattle.pb_state.proofs.Within.{sends_below}
+use Rattle.pb_state.proofs.BatchBounds.{sends_below}
 use Rattle.pb_state.proofs.state.EngineState.sends.Goals as goal
 
 pub returns-clause-few : goal.returns-clause-few

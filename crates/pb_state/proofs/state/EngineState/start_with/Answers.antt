@@ -4,7 +4,8 @@ use Rattle.pb_all_hosts.specs.Hosts.{at_row}
 use Rattle.pb_all_hosts.specs.Giving.{gifts_at}
 use Rattle.pb_state.specs.Machine.{next_at}
 use Rattle.pb_state.proofs.Stands.{stands_at, start_stands}
-use Rattle.pb_state.proofs.Within.{room_at, start_there, start_in_batch, start_bounded}
+use Rattle.pb_state.proofs.Within.{start_there, start_in_batch, start_bounded}
+use Rattle.pb_state.proofs.BatchBounds.{room_at}
 use Rattle.pb_state.proofs.state.EngineState.start_with.Goals as goal
 
 pub start_row-requires-clause-there : goal.start_row-requires-clause-there

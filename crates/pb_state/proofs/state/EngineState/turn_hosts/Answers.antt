@@ -4,7 +4,7 @@ use Rattle.std.specs.List.{list_any}
 use Rattle.pb_state.specs.State.{State}
 use Rattle.pb_one_host.specs.Runs.{is_running}
 use Rattle.pb_state.proofs.TurnedBatch.{rows_turned, with_turn}
-use Rattle.pb_state.proofs.Within.{turn_bounded}
+use Rattle.pb_state.proofs.BatchBounds.{turn_bounded}
 use Rattle.pb_state.proofs.state.EngineState.turn_hosts.Goals as goal
 
 pub invariant_of-self-then-halts : goal.invariant_of-self-then-halts
