@@ -1,6 +1,6 @@
 //! The program, but for its words' and its streams' making.
 
-ghost use Rattle.std.specs.Prelude.{◌≡◌, ◌≢◌, ◌⊎◌, ◌<◌, ◌≤◌, ◌+◌, IfOk, IfErr, IfSome, OnErr, Some, is_some, length, map, true, string_bytes};
+ghost use Rattle.std.specs.Prelude.{◌≡◌, ◌≢◌, ◌⊎◌, ◌<◌, ◌≤◌, ◌+◌, ◌-◌, IfOk, IfErr, IfSome, OnErr, Some, is_some, length, map, true, string_bytes};
 ghost use Rattle.pb_value.specs.Limits.{max_bytes};
 ghost use Rattle.pb_cli.specs.Again.{IsPut, IsToldAgain};
 ghost use Rattle.pb_cli.specs.Done.{IsBundleOf, IsWantedBy, is_too_long, IsShownAs, IsDone, IsUntouched, IsCutOrUnkept, IsBroken, IsHelped, IsAnswered, IsUnended};
@@ -257,56 +257,64 @@ fn read_files<R: Files + AllocGlobal>(rt: &R, request: Request) -> Result<Asked,
     ensures failed { IfOk result (λ asked. asked.failed ≡ request.failed) }
     ensures places { IfOk result (λ asked. asked.places ≡ request.places) }
 {
-    let Request {
+    let Parts {
         inventory,
         playbook,
-        forks,
-        outcomes: outcomes_path,
-        limit,
-        extra,
         roles,
-        facts_program,
-        stop_after,
-        same_under,
-        failed,
-        trail,
-        audit,
-        strict,
-        places,
-        purpose,
-    } = request;
-    let inventory = read_named(rt, inventory.as_str(), MAX_BYTES)?;
-    let room = MAX_BYTES.saturating_sub(inventory.len());
-    let playbook = read_named(rt, playbook.as_str(), room)?;
-    let room = room.saturating_sub(playbook.len());
-    let roles = read_roles(rt, &roles, room)?;
-    let outcomes = read_outcomes(rt, &outcomes_path)?;
-    let audited = read_audited(rt, &audit)?;
+    } = read_parts(rt, &request)?;
+    let outcomes = read_outcomes(rt, &request.outcomes)?;
+    let audited = read_audited(rt, &request.audit)?;
     let bundle = Bundle {
-        inventory: Items::from_vec(inventory),
-        playbook: Items::from_vec(playbook),
-        limit,
-        extra,
+        inventory,
+        playbook,
+        limit: request.limit,
+        extra: request.extra,
         roles,
-        forks,
-        has_facts_program: facts_program.is_some(),
+        forks: request.forks,
+        has_facts_program: request.facts_program.is_some(),
     };
     let wanted = Wanted {
-        purpose,
-        strict,
-        stop_after,
-        facts_program,
+        purpose: request.purpose,
+        strict: request.strict,
+        stop_after: request.stop_after,
+        facts_program: request.facts_program,
         outcomes,
         audited,
     };
     Ok(Asked {
         bundle,
         wanted,
-        outcomes_path,
-        failed,
-        trail,
-        same_under,
-        places,
+        outcomes_path: request.outcomes,
+        failed: request.failed,
+        trail: request.trail,
+        same_under: request.same_under,
+        places: request.places,
+    })
+}
+
+/// The bytes of the files that a bundle is made of.
+#[derive(Drop)]
+struct Parts {
+    inventory: Items<u8>,
+    playbook: Items<u8>,
+    roles: RoleFiles,
+}
+
+/// The files of the bundle. Those of roles have the room that the inventory and the playbook leave.
+fn read_parts<R: Files + AllocGlobal>(rt: &R, request: &Request) -> Result<Parts, FileFault>
+    ensures inventory { IfOk result (λ parts. length parts.inventory ≤ max_bytes + 1) }
+    ensures playbook { IfOk result (λ parts. length parts.playbook ≤ max_bytes - length parts.inventory + 1) }
+    ensures roles { IfOk result (λ parts. AreRolesIn (max_bytes - length parts.inventory - length parts.playbook) request.now.roles parts.roles.files) }
+{
+    let inventory = read_named(rt, request.inventory.as_str(), MAX_BYTES)?;
+    let room = MAX_BYTES.saturating_sub(inventory.len());
+    let playbook = read_named(rt, request.playbook.as_str(), room)?;
+    let room = room.saturating_sub(playbook.len());
+    let roles = read_roles(rt, &request.roles, room)?;
+    Ok(Parts {
+        inventory: Items::from_vec(inventory),
+        playbook: Items::from_vec(playbook),
+        roles,
     })
 }
 
