@@ -17,10 +17,27 @@ use pb_variables::hostvars::renewed;
 use std::alloc::{AllocError, Global};
 
 /// The map of `hostvars` as a task sees it, and whether it is the one that each task may see.
-#[derive(Drop)]
 pub(crate) struct Shown {
     pub(crate) hosts: Dict,
     pub(crate) is_whole: bool,
+}
+
+// (by hand: it is then let go by one call, and not by the kind of its map at each exit)
+impl Drop for Shown {
+    fn drop(self) {
+        let Shown { hosts, is_whole: _ } = self;
+        drop(hosts);
+    }
+}
+
+impl Shown {
+    /// The map itself.
+    pub(crate) fn into_hosts(self) -> Dict
+        ensures { result ≡ self.hosts }
+    {
+        let Shown { hosts, is_whole: _ } = self;
+        hosts
+    }
 }
 
 /// What each host has learnt, by its number.
@@ -76,7 +93,12 @@ pub(crate) fn renewed_for(
 {
     match rows.get(host.0 as usize) {
         Some(row) => renewed_with(alloc, plan, hosts, row.facts(), host),
-        None => renewed_with(alloc, plan, hosts, &Facts::new(alloc), host),
+        None => {
+            let none = Facts::new(alloc);
+            let kept = renewed_with(alloc, plan, hosts, &none, host);
+            drop(none);
+            kept
+        }
     }
 }
 

@@ -2,10 +2,10 @@
 
 ghost use Rattle.std.specs.Prelude.{◌≡◌, ◌<◌, IfOk, slice_get, unwrap_or, length};
 ghost use Rattle.std.specs.Option.{option_copied, option_map_or};
-ghost use Rattle.pb_state.specs.Jobs.{connector_named, connector_for, delay_at, row_job, job_with};
+ghost use Rattle.pb_state.specs.Jobs.{connector_named, connector_for, delay_at, item_job, named_job, row_job, job_with};
 
 use pb_ids::{HostNo, Place, PlayNo, Ticket};
-use pb_one_host::Row;
+use pb_one_host::{Row, Running};
 use pb_outcome::job::{Call, Job};
 use pb_plan::{Plan, PlanPlay};
 use pb_play::retrying::delay_before;
@@ -77,8 +77,8 @@ fn target_of(alloc: Global, delegate: Option<&Text>, name: &str) -> Result<Text,
     ensures { IfOk result (λ target. target ≡ unwrap_or (option_copied delegate.entry) name.now) }
 {
     match delegate {
-        Some(target) => Ok(target.try_clone()?),
-        None => Ok(Text::from_str(alloc, name)?),
+        Some(target) => target.try_clone(),
+        None => Text::from_str(alloc, name),
     }
 }
 
@@ -99,33 +99,62 @@ pub(crate) fn job_in(
     let Some(item) = running.items.next() else {
         return Ok(None);
     };
-    let Some(call) = running.items.call(item) else {
-        return Ok(None);
-    };
-    let Some(place) = play.tree().place(running.place) else {
-        return Ok(None);
-    };
-    if plan.host_count() <= head.host.0 {
-        return Ok(None);
-    }
-    let name = plan.host_name(head.host);
-    let delegate = running.items.delegate(item);
-    let target = Target {
-        name: target_of(alloc, delegate, name)?,
-        connector: connector_for(alloc, plan, head.host, delegate)?,
-    };
-    let attempt = running.items.attempt();
-    let delay = delay_at(play, running.place, attempt);
-    let item = Attempt {
-        item,
-        attempt,
-        delay,
-    };
-    let job = head.job(alloc, item, call, name, target, place)?;
-    Ok(Some(job))
+    head.item_job(alloc, plan, play, running, item)
 }
 
 impl Head {
+    /// The job of the item with this number of a task that a host runs.
+    fn item_job(
+        self,
+        alloc: Global,
+        plan: &Plan,
+        play: &PlanPlay,
+        running: &Running,
+        item: u32,
+    ) -> Result<Option<Job>, AllocError>
+        ensures { IfOk result (λ job. job ≡ item_job plan.now self.play.0 self.host self.ticket play.now running.now item) }
+    {
+        let Some(call) = running.items.call(item) else {
+            return Ok(None);
+        };
+        let Some(place) = play.tree().place(running.place) else {
+            return Ok(None);
+        };
+        let attempt = running.items.attempt();
+        let next = Attempt {
+            item,
+            attempt,
+            delay: delay_at(play, running.place, attempt),
+        };
+        let delegate = running.items.delegate(item);
+        self.named_job(alloc, plan, next, delegate, call, place)
+    }
+
+    /// The job of an attempt at an item that is delegated to the host of this name, if it is, and that sends this at a place.
+    fn named_job(
+        self,
+        alloc: Global,
+        plan: &Plan,
+        item: Attempt,
+        delegate: Option<&Text>,
+        call: &Call,
+        place: &Place,
+    ) -> Result<Option<Job>, AllocError>
+        ensures { IfOk result (λ job. job
+            ≡ named_job plan.now self.play.0 self.host self.ticket (record { item = item.item; attempt = item.attempt; delay = item.delay }) (option_copied delegate.entry) call.now place.now) }
+    {
+        if plan.host_count() <= self.host.0 {
+            return Ok(None);
+        }
+        let name = plan.host_name(self.host);
+        let target = Target {
+            name: target_of(alloc, delegate, name)?,
+            connector: connector_for(alloc, plan, self.host, delegate)?,
+        };
+        let job = self.job(alloc, item, call, name, target, place)?;
+        Ok(Some(job))
+    }
+
     /// The job of an item that is sent at a place, for a host with this name.
     fn job(
         self,

@@ -13,13 +13,14 @@ use pb_places::Place;
 use pb_plan::{Plan, PlanPlay};
 use pb_play::modules::Module;
 use pb_value::val::Dict;
+use std::mem;
 
 /// What a task was shown is kept where it is what each task may see.
 pub(crate) fn keep(known: &mut Option<Dict>, shown: Shown)
     ensures { known.new ≡ (if shown.is_whole then Some shown.hosts else known.old) }
 {
     if shown.is_whole {
-        *known = Some(shown.hosts);
+        drop(mem::replace(known, Some(shown.into_hosts())));
     }
 }
 

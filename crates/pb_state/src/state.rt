@@ -174,7 +174,9 @@ impl EngineState {
         ensures forks { 0 < self.old.forks → 0 < self.new.forks }
     {
         let mut known = None;
-        self.step_knowing(plan, event, &mut known)
+        let stepped = self.step_knowing(plan, event, &mut known);
+        drop(known);
+        stepped
     }
 
     /// The same, where the map of `hostvars` is kept from step to step: it is made where a task may look it up and there is none, and is there until several
@@ -182,7 +184,6 @@ impl EngineState {
     ///
     /// # Errors
     /// `Illegal` where the event isn't possible in this state, `Memory` where memory was refused.
-    #[tactic(auto, using(crate::proofs::Steps::hosts_stay, crate::proofs::Steps::forks_stay, crate::proofs::WorkFalls::falls_if, crate::proofs::Local::is_local, crate::proofs::Local::moves_by_place))]
     pub fn step_knowing(
         &mut self,
         plan: &Plan,

@@ -14,7 +14,7 @@ use crate::through::{is_done, is_selected};
 use pb_all_hosts::{attempt_in, counts_of, item_in};
 use pb_facts::facts::Facts;
 use pb_ids::{HostNo, PlayNo, Ticket};
-use pb_one_host::{Counts, Decided};
+use pb_one_host::{Counts, Decided, Row};
 use pb_outcome::job::Job;
 use pb_plan::{Plan, PlanPlay};
 use pb_planes::HostSet;
@@ -36,6 +36,13 @@ impl EngineState {
         ensures bound { length self.now.rows ≤ 1048576 }
     {
         self.rows.as_slice().len()
+    }
+
+    /// The row of a host, if there is such a host.
+    pub(crate) fn row_at(&self, host: HostNo) -> Option<&Row>
+        ensures { option_copied result ≡ slice_get self.now.rows host.0 }
+    {
+        self.rows.as_slice().get(host.0 as usize)
     }
 
     /// The hosts that have a job to send or may start.
@@ -181,10 +188,7 @@ impl EngineState {
     ) -> Result<Option<Job>, AllocError>
         ensures { IfOk result (λ job. job ≡ job_of plan.now self.now host ticket) }
     {
-        match (
-            self.open_play(plan),
-            self.rows.as_slice().get(host.0 as usize),
-        ) {
+        match (self.open_play(plan), self.row_at(host)) {
             (Some(play), Some(row)) => {
                 let head = Head {
                     play: PlayNo(self.play as u32),
@@ -222,7 +226,7 @@ impl EngineState {
     pub fn in_batch(&self, host: HostNo) -> Option<bool>
         ensures { result ≡ option_map (λ (row : HostRow). row.in_batch) (slice_get self.now.rows host.0) }
     {
-        match self.rows.as_slice().get(host.0 as usize) {
+        match self.row_at(host) {
             Some(row) => Some(row.in_batch()),
             None => None,
         }
@@ -246,7 +250,7 @@ impl EngineState {
         } else {
             self.play
         };
-        match self.rows.as_slice().get(host.0 as usize) {
+        match self.row_at(host) {
             Some(row) => is_done(row) && !is_selected(plan.plays(), first_unbegun, host),
             None => false,
         }

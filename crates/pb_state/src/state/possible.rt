@@ -93,7 +93,7 @@ impl EngineState {
     pub(crate) fn may_send_item(&self, host: HostNo, item: u32, attempt: u32) -> bool
         ensures { result ≡ at_row (may_send_item item attempt) self.now.rows host.0 }
     {
-        match self.rows.as_slice().get(host.0 as usize) {
+        match self.row_at(host) {
             Some(row) => row.may_send_item(item, attempt),
             None => false,
         }
@@ -122,7 +122,7 @@ impl EngineState {
     pub fn awaits(&self, host: HostNo, item: u32, attempt: u32, ticket: Ticket) -> bool
         ensures { result ≡ at_row (awaits ticket item attempt) self.now.rows host.0 }
     {
-        match self.rows.as_slice().get(host.0 as usize) {
+        match self.row_at(host) {
             Some(row) => row.awaits(ticket, item, attempt),
             None => false,
         }

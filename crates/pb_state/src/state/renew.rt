@@ -20,8 +20,10 @@ impl EngineState {
             return;
         };
         let Some(host) = learner else {
+            drop(hosts);
             return;
         };
-        *known = renewed_for(self.alloc, plan, self.rows.as_slice(), hosts, host);
+        let renewed = renewed_for(self.alloc, plan, self.rows.as_slice(), hosts, host);
+        drop(mem::replace(known, renewed));
     }
 }

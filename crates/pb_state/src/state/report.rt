@@ -99,8 +99,7 @@ impl EngineState {
             (λ row. SameTold (with_hosts plan.now shown.hosts) (plan_seen plan.now self.now) play.now row row.running)) }
         ensures whole { IfOk result (λ shown. shown.is_whole ≡ true → shown.hosts ≡ hosts_now plan.now self.now) }
     {
-        let rows = self.rows.as_slice();
-        let Some(row) = rows.get(host.0 as usize) else {
+        let Some(row) = self.row_at(host) else {
             return Ok(unread(self.alloc));
         };
         let Some(running) = row.running() else {
@@ -123,8 +122,8 @@ impl EngineState {
             ≡ came_at (plan_seen plan.now self.now) play.now host.0 facts.now place value attempt item) }
         ensures whole { IfOk result (λ shown. shown.is_whole ≡ true → shown.hosts ≡ hosts_now plan.now self.now) }
     {
-        let none = Dict::new(self.alloc);
-        let seen = Seen::new(plan, &none);
+        let none = unread(self.alloc);
+        let seen = Seen::new(plan, &none.hosts);
         let site = Site {
             plan: &seen,
             play,
@@ -137,7 +136,7 @@ impl EngineState {
             let shown = whole(self.alloc, plan, self.rows.as_slice())?;
             return Ok(shown);
         }
-        Ok(unread(self.alloc))
+        Ok(none)
     }
 
     pub(crate) fn report_in(

@@ -10,7 +10,7 @@ ghost use Rattle.pb_state.specs.Known.{IsKnown, running_at};
 
 use super::EngineState;
 use crate::event::Event;
-use crate::hosts::whole;
+use crate::hosts::{unread, whole};
 use crate::known::keep;
 use pb_facts::facts::Facts;
 use pb_ids::HostNo;
@@ -50,7 +50,7 @@ impl EngineState {
     pub(crate) fn running_at(&self, host: HostNo) -> Option<usize>
         ensures { result ≡ running_at self.now host.0 }
     {
-        match self.rows.as_slice().get(host.0 as usize) {
+        match self.row_at(host) {
             Some(row) => match row.running() {
                 Some(running) => Some(running.place),
                 None => None,
@@ -63,7 +63,7 @@ impl EngineState {
     pub(crate) fn next_at(&self, host: HostNo) -> Option<usize>
         ensures { result ≡ next_at self.now host.0 }
     {
-        match self.rows.as_slice().get(host.0 as usize) {
+        match self.row_at(host) {
             Some(row) => row.next_place(),
             None => None,
         }
@@ -102,11 +102,13 @@ impl EngineState {
         ensures items { IfOk result (λ items. items ≡ items_at (plan_seen plan.now self.now) play.now host.0 (facts_at self.now host.0) place) }
         ensures known { IsKnown plan.now self.now known.new }
     {
-        match self.rows.as_slice().get(host.0 as usize) {
+        match self.row_at(host) {
             Some(row) => self.items_on(plan, play, host, row.facts(), place, known),
             None => {
                 let none = Facts::new(self.alloc);
-                self.items_on(plan, play, host, &none, place, known)
+                let items = self.items_on(plan, play, host, &none, place, known);
+                drop(none);
+                items
             }
         }
     }
@@ -173,8 +175,8 @@ impl EngineState {
         ensures items { IfOk result (λ found. IfSome found (λ items. items ≡ items_at (plan_seen plan.now self.now) play.now host.0 facts.now place)) }
         ensures few { IfOk result (λ found. IfSome found (λ items. length items ≤ 10000)) }
     {
-        let none = Dict::new(self.alloc);
-        let seen = Seen::new(plan, &none);
+        let none = unread(self.alloc);
+        let seen = Seen::new(plan, &none.hosts);
         let site = Site {
             plan: &seen,
             play,

@@ -7,4 +7,4 @@ use Rattle.pb_state.proofs.state.EngineState.hosts_at_report.Goals as goal
 pub returns-clause-same : goal.returns-clause-same
 returns-clause-same c = λ value attempt item.
     told_not_read c.args.plan.now c.new-seen.result c.args.play.now c.args.host.0 c.args.facts.now c.args.place (learnt_by c.args.self.now.rows) _ _ c.in_ok-reads.reads c.new-seen.ensures c.if-reads.false
-    c.in_ok-reads.ensures (ap (λ (s : Shown). s.hosts) c.unread.ensures) value attempt item
+    c.in_ok-reads.ensures (ap (λ (s : Shown). s.hosts) c.unread-none.ensures) value attempt item
