@@ -28,11 +28,22 @@ use std::marker::Model;
 use std::mem;
 
 /// The items of a task, at most 10,000. The number of the next one to be sent is kept beside them, so that no item is gone over twice.
-#[derive(Drop)]
 pub struct TaskItems {
     items: Vec<Item>,
     next: Option<u32>,
     lost: bool,
+}
+
+// (by hand: the crates above then let them go by one call, and know nothing of what an item is made of)
+impl Drop for TaskItems {
+    fn drop(self) {
+        let TaskItems {
+            items,
+            next: _,
+            lost: _,
+        } = self;
+        drop(items);
+    }
 }
 
 impl Model for TaskItems {

@@ -18,9 +18,10 @@ use pb_ids::{HostNo, Ticket};
 use pb_tree::{Answer, Kind, Reach, Status};
 use std::alloc::{AllocError, Global};
 use std::marker::Model;
+use std::mem;
 
 /// How a host's finished tasks count in the recap (Ansible's documentation, "Return Values").
-#[derive(Clone, Copy, Debug, PartialEq, Eq)]
+#[derive(Clone, Copy, PartialEq, Eq)]
 pub struct Counts {
     /// Tasks that were neither failed, skipped nor unreachable, and failed ones that were ignored.
     pub ok: u64,
@@ -277,7 +278,8 @@ impl Row {
         ensures ok { OnOk result (self.new ≡ answered answer.now (knows (heard news self.old.facts) self.old)) }
         ensures err { OnErr result (self.new ≡ self.old) }
     {
-        let _past = self.hear(alloc, news)?;
+        let past = self.hear(alloc, news)?;
+        drop(past);
         self.answer(answer);
         Ok(())
     }
@@ -286,6 +288,6 @@ impl Row {
     pub fn know(&mut self, facts: Facts)
         ensures { self.new ≡ knows facts self.old }
     {
-        self.facts = facts;
+        drop(mem::replace(&mut self.facts, facts));
     }
 }

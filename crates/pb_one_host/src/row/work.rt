@@ -5,7 +5,7 @@ ghost use Rattle.pb_facts.specs.News.{heard};
 ghost use Rattle.pb_one_host.specs.Row.{kept_items};
 ghost use Rattle.pb_one_host.specs.Handlers.{notified_by};
 ghost use Rattle.pb_one_host.specs.Back.{items_run};
-ghost use Rattle.pb_one_host.specs.Ends.{IsAtMost};
+ghost use Rattle.pb_one_host.specs.Ends.{answer_of, IsAtMost};
 
 use super::{Finish, Row, Running, put_last};
 use crate::decided::{Decided, Done, Retried, TaskEnd};
@@ -33,6 +33,19 @@ fn items_run(alloc: Global, running: Option<Running>) -> TaskItems
         Some(running) => running.into_items(),
         None => TaskItems::none(alloc),
     }
+}
+
+/// What a host answers as the task at a place ends so.
+fn answer_of(
+    alloc: Global,
+    play: &PlanPlay,
+    place: usize,
+    task: TaskEnd,
+) -> Result<Answer, AllocError>
+    ensures { IfOk result (λ answer. answer ≡ answer_of task (notified_by play.now place task)) }
+{
+    let notified = Vec::from_slice(alloc, notified_by(play, place, task))?;
+    Ok(Answer::of(kind_of(task), notified))
 }
 
 /// What is kept of the items of a task that ended.
@@ -74,11 +87,17 @@ impl Row {
         ensures ok { OnOk result (self.new ≡ finished (finish_run play.now place task self.old.running) task (notified_by play.now place task) (heard news self.old.facts) self.old) }
         ensures err { OnErr result (self.new ≡ self.old) }
     {
-        let notified = Vec::from_slice(alloc, notified_by(play, place, task))?;
-        let answer = Answer::of(kind_of(task), notified);
-        self.hear_and_answer(alloc, &answer, news)?;
-        self.settle(alloc, runs_once_at(play, place), place, task);
-        Ok(())
+        match answer_of(alloc, play, place, task) {
+            Ok(answer) => {
+                self.hear_and_answer(alloc, &answer, news)?;
+                self.settle(alloc, runs_once_at(play, place), place, task);
+                Ok(())
+            }
+            Err(error) => {
+                drop(news);
+                Err(error)
+            }
+        }
     }
 
     /// The task at a place starts with these items: it waits for their jobs, or ends at once. An `Err` changes nothing.
