@@ -83,7 +83,6 @@ pub leads_first : (first log : List (HostNo × Past)) (rows now : List HostRow) 
 leads_first first log rows now e came = came rows (subst (λ (all : List (HostNo × Past)). LeadsTo all rows rows) (sym e) refl)
 
 -- one host of those that hear something
-pub news_step : (all rest : List HostNews) (heard : HostNews) (parts : HostNo × News) (rows now whole : List HostRow) → all ≡ heard ∷ rest → parts ≡ (heard.host, heard.news) → now ≡ change rows parts.0.0 (hears parts.1) → with_news all rows ≡ whole
+pub news_step : (all rest : List HostNews) (heard : HostNews) (rows now whole : List HostRow) → all ≡ heard ∷ rest → now ≡ change rows heard.host.0 (hears heard.news) → with_news all rows ≡ whole
     → with_news rest now ≡ whole
-news_step all rest heard parts rows now whole a p n w =
-    ap (with_news rest) (n ∙ ap (λ (given : HostNo × News). change rows given.0.0 (hears given.1)) p) ∙ subst (λ (ns : List HostNews). with_news ns rows ≡ whole) a w
+news_step all rest heard rows now whole a n w = ap (with_news rest) n ∙ subst (λ (ns : List HostNews). with_news ns rows ≡ whole) a w

@@ -22,7 +22,7 @@ ghost use Rattle.pb_all_hosts.specs.TurnMade.{halts_at, turned_rows, turning_row
 use crate::inside::{empty_by, least_inside, put_in, some_inside, stand_inside, stand_left};
 use crate::jobs_out::{drop_job, first_job, put_job, some_under};
 use crate::rows::called::{call_all, called_set};
-use crate::rows::{self, HostRows, hear_all, join_waiting, turn_all, walks_for};
+use crate::rows::{self, HostRows, hear_all, join_waiting, row_at, turn_all, walks_for};
 use crate::turned::{TurnMade, is_settled_at, turn_of};
 use pb_cursors::{LaidTree, PlayWalk};
 use pb_ids::{HostNo, Ticket};
@@ -93,10 +93,11 @@ impl DueRows {
         ensures { IfOk result (λ rows. rows ≡ first_rows 0 hosts) }
     {
         let sends = HostSet::empty(alloc, hosts)?;
-        let standings = Standings::new(alloc, hosts, 0)?;
         let batch = HostSet::empty(alloc, hosts)?;
         let waits = HostSet::empty(alloc, hosts)?;
         let rows = HostRows::first(alloc, hosts)?;
+        // (last: they are of many parts, each of which is let go at an exit)
+        let standings = Standings::new(alloc, hosts, 0)?;
         let out = Vec::new(alloc);
         Ok(DueRows {
             rows,
@@ -178,7 +179,7 @@ fn ask_one(rows: &HostRows, host: HostNo, sends: &mut HostSet, standings: &mut S
     ensures sends { sends.new ≡ asked_at has_send rows.now host.0 sends.old }
     ensures stands { standings.new ≡ asked_at standing rows.now host.0 standings.old }
 {
-    if let Some(row) = rows.as_slice().get(host.0 as usize) {
+    if let Some(row) = row_at(rows.as_slice(), host) {
         put_in(sends, host, row.has_send());
         standings.put(host, row.standing());
     }

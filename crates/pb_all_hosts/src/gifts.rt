@@ -4,6 +4,7 @@ ghost use Rattle.std.specs.Prelude.{◌≡◌, ◌++◌, [], position, IfOk, OnO
 ghost use Rattle.pb_all_hosts.specs.Giving.{gives_now, gifts_at};
 ghost use Rattle.pb_all_hosts.specs.Prepared.{given_first, is_for, more_at, with_gift, with_gifts};
 
+use crate::rows::row_at;
 use pb_facts::facts::Facts;
 use pb_ids::HostNo;
 use pb_inventory::inventory::Inventory;
@@ -47,7 +48,7 @@ pub(crate) fn gives_now(
 ) -> Result<Vec<Gift>, AllocError>
     ensures { IfOk result (λ gifts. gifts.items ≡ gives_now inventory.now play.now host.0 rows.now) }
 {
-    let Some(row) = rows.get(host.0 as usize) else {
+    let Some(row) = row_at(rows, host) else {
         return Ok(Vec::new(alloc));
     };
     match row.running() {
@@ -112,12 +113,12 @@ fn take_first(
 {
     match rows.get(gift.host.0 as usize) {
         Some(row) => {
-            let mut facts = row.facts().try_clone(alloc)?;
-            facts.take(alloc, gift.gives, &gift.facts)?;
-            all.push(NewFacts {
+            let mut known = NewFacts {
                 host: gift.host,
-                facts,
-            })?;
+                facts: row.facts().try_clone(alloc)?,
+            };
+            known.facts.take(alloc, gift.gives, &gift.facts)?;
+            all.push(known)?;
             Ok(())
         }
         None => Ok(()),

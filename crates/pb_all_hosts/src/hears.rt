@@ -23,7 +23,10 @@ fn hear_at(alloc: Global, rows: &mut Vec<Row>, host: HostNo, news: News) -> Resu
             let past = row.hear(alloc, news)?;
             Ok(past)
         }
-        None => Ok(Past::Nothing),
+        None => {
+            drop(news);
+            Ok(Past::Nothing)
+        }
     }
 }
 
@@ -43,13 +46,14 @@ fn hear_one(
     alloc: Global,
     rows: &mut Vec<Row>,
     log: &mut Vec<(HostNo, Past)>,
-    host: HostNo,
-    news: News,
+    heard: HostNews,
 ) -> Result<(), AllocError>
-    ensures ok { OnOk result (rows.new.items ≡ change rows.old.items host.0 (hears news)) }
+    ensures ok { OnOk result (rows.new.items ≡ change rows.old.items heard.host.0 (hears heard.news)) }
     ensures log { (was : List HostRow) → LeadsTo log.old.items was rows.old.items → LeadsTo log.new.items was rows.new.items }
 {
     log.reserve(1)?;
+    let host = heard.host;
+    let news = heard.into_news();
     let past = hear_at(alloc, rows, host, news)?;
     match log.push((host, past)) {
         Ok(()) => Ok(()),
@@ -69,8 +73,7 @@ fn hear_some(
     ensures log { (was : List HostRow) → LeadsTo log.old.items was rows.old.items → LeadsTo log.new.items was rows.new.items }
 {
     for heard in all {
-        let (host, news) = heard.parts();
-        hear_one(alloc, rows, log, host, news)?;
+        hear_one(alloc, rows, log, heard)?;
     }
     Ok(())
 }

@@ -16,7 +16,7 @@ ghost use Rattle.pb_all_hosts.specs.Due.{asked_at, is_inside, AreOutside};
 ghost use Rattle.pb_all_hosts.specs.Joining.{joined_by};
 ghost use Rattle.pb_all_hosts.specs.TurnMade.{turning_row};
 
-use crate::rows::lesser;
+use crate::rows::{lesser, row_at};
 use crate::turned::{Copied, Turning};
 use pb_cursors::PlayWalk;
 use pb_ids::HostNo;
@@ -40,7 +40,7 @@ pub(crate) fn behind(set: &HostSet, host: HostNo) -> u32
 fn place_at(rows: &[Row], host: HostNo) -> Option<usize>
     ensures { result ≡ option_map_or next_place (slice_get rows.now host.0) None }
 {
-    match rows.get(host.0 as usize) {
+    match row_at(rows, host) {
         Some(row) => row.next_place(),
         None => None,
     }
@@ -65,7 +65,7 @@ pub(crate) fn least_inside(rows: &[Row], batch: &HostSet) -> Option<usize>
 fn is_in_at(rows: &[Row], host: HostNo) -> bool
     ensures { result ≡ at_row is_in rows.now host.0 }
 {
-    match rows.get(host.0 as usize) {
+    match row_at(rows, host) {
         Some(row) => row.is_in(),
         None => false,
     }
@@ -102,7 +102,7 @@ pub(crate) fn count_inside(rows: &[Row], batch: &HostSet) -> usize
 fn is_broken_at(copied: &Copied, rows: &[Row], host: HostNo) -> bool
     ensures { result ≡ at_row (λ (row : HostRow). (with_copy copied.now.inventory.now copied.now.play.now copied.now.place (option_copied copied.now.from) row).is_broken) rows.now host.0 }
 {
-    match rows.get(host.0 as usize) {
+    match row_at(rows, host) {
         Some(row) => copied.is_broken_then(row),
         None => false,
     }
@@ -152,7 +152,7 @@ pub(crate) fn stand_left(rows: &[Row], batch: &HostSet, standings: &mut Standing
 fn stand_one(rows: &[Row], host: HostNo, standings: &mut Standings)
     ensures { standings.new ≡ asked_at standing rows.now host.0 standings.old }
 {
-    if let Some(row) = rows.get(host.0 as usize) {
+    if let Some(row) = row_at(rows, host) {
         standings.put(host, row.standing());
     }
 }
@@ -198,8 +198,9 @@ pub(crate) fn leave_inside(rows: &mut Vec<Row>, batch: &HostSet)
 fn join_at(rows: &mut Vec<Row>, host: HostNo, walk: Option<PlayWalk>)
     ensures { rows.new.items ≡ change rows.old.items host.0 (with_walk walk) }
 {
-    if let Some(row) = rows.get_mut(host.0 as usize) {
-        row.join(walk);
+    match rows.get_mut(host.0 as usize) {
+        Some(row) => row.join(walk),
+        None => drop(walk),
     }
 }
 

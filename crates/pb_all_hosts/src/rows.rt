@@ -2,14 +2,14 @@
 
 ghost use Rattle.std.specs.Prelude.{◌≡◌, ◌<◌, ◌≤◌, ◌+◌, ◌-◌, ◌^◌, length, map, replicate, slice_get, count_by, true, IfOk, IfSome, OnOk, OnErr, None};
 ghost use Rattle.std.specs.List.{list_any};
-ghost use Rattle.std.specs.Option.{option_map_or};
+ghost use Rattle.std.specs.Option.{option_copied, option_map_or};
 ghost use Rattle.pb_one_host.specs.Row.{HostRow, first_rows, is_waiting, left, progressed, sent, reported, knows};
 ghost use Rattle.pb_one_host.specs.Ends.{IsAtMost};
 ghost use Rattle.pb_cursors.specs.Walks.{walk_from};
 ghost use Rattle.pb_all_hosts.specs.Joining.{first_walks, joined_by};
 ghost use Rattle.pb_one_host.specs.Runs.{is_running, item_of, attempt_of};
 ghost use Rattle.pb_one_host.specs.Decides.{done_if, report_decides};
-ghost use Rattle.pb_all_hosts.specs.Hosts.{lesser, change, one_if, running_count, pending_in};
+ghost use Rattle.pb_all_hosts.specs.Hosts.{lesser, change, one_if, pending_in};
 ghost use Rattle.pb_all_hosts.specs.Giving.{given_to, gifts_at, report_gives, gives_now};
 ghost use Rattle.pb_one_host.specs.Back.{back_row, retried_row, undone, went_on, decided_now};
 ghost use Rattle.pb_all_hosts.specs.Prepared.{with_facts};
@@ -81,13 +81,6 @@ impl HostRows {
         self.rows.as_slice()
     }
 
-    /// How many hosts run.
-    pub fn running(&self) -> usize
-        ensures { result ≡ running_count self.now }
-    {
-        self.running
-    }
-
     /// Whether a host runs.
     pub fn some_running(&self) -> bool
         ensures { result ≡ list_any is_running self.now }
@@ -118,7 +111,6 @@ fn recounted(running: usize, was: bool, is: bool) -> usize
 }
 
 /// A row for each host.
-#[tactic(auto, using(crate::proofs::FirstRows::first_more))]
 fn first_rows(alloc: Global, hosts: u32) -> Result<Vec<Row>, AllocError>
     ensures { IfOk result (λ rows. rows.items ≡ first_rows 0 hosts) }
 {
@@ -134,11 +126,14 @@ fn know_row(rows: &mut HostRows, known: NewFacts)
     ensures { rows.new ≡ change rows.old known.host.0 (knows known.facts) }
 {
     let (host, facts) = known.parts();
-    if let Some(row) = rows.rows.get_mut(host.0 as usize) {
-        let was = row.is_running();
-        row.know(facts);
-        let runs = row.is_running();
-        rows.running = recounted(rows.running, was, runs);
+    match rows.rows.get_mut(host.0 as usize) {
+        Some(row) => {
+            let was = row.is_running();
+            row.know(facts);
+            let runs = row.is_running();
+            rows.running = recounted(rows.running, was, runs);
+        }
+        None => drop(facts),
     }
 }
 
@@ -321,11 +316,18 @@ fn undo(rows: &mut HostRows, host: HostNo, before: Option<Before>)
     }
 }
 
+/// The host with this number.
+pub(crate) fn row_at(rows: &[Row], host: HostNo) -> Option<&Row>
+    ensures { option_copied result ≡ slice_get rows.now host.0 }
+{
+    rows.get(host.0 as usize)
+}
+
 /// The number of the item that a host sends next, or whose job is out.
 pub fn item_in(rows: &[Row], host: HostNo) -> Option<u32>
     ensures { result ≡ option_map_or item_of (slice_get rows.now host.0) None }
 {
-    match rows.get(host.0 as usize) {
+    match row_at(rows, host) {
         Some(row) => row.item(),
         None => None,
     }
@@ -335,7 +337,7 @@ pub fn item_in(rows: &[Row], host: HostNo) -> Option<u32>
 pub fn attempt_in(rows: &[Row], host: HostNo) -> u32
     ensures { result ≡ option_map_or attempt_of (slice_get rows.now host.0) 1 }
 {
-    match rows.get(host.0 as usize) {
+    match row_at(rows, host) {
         Some(row) => row.attempt(),
         None => 1,
     }

@@ -12,6 +12,7 @@ ghost use Rattle.pb_all_hosts.specs.Heard.{with_news};
 ghost use Rattle.pb_all_hosts.specs.Due.{is_inside, AreOutside};
 
 use crate::inside::{behind, broken_inside, count_inside};
+use crate::rows::row_at;
 use pb_facts::facts::Facts;
 use pb_facts::news::News;
 use pb_ids::HostNo;
@@ -82,7 +83,7 @@ impl<'a> Copied<'a> {
     fn news_at(&self, alloc: Global, rows: &[Row], host: HostNo) -> Result<News, AllocError>
         ensures { IfOk result (λ news. IfSome (slice_get rows.now host.0) (λ row. heard news row.facts ≡ (with_copy self.now.inventory.now self.now.play.now self.now.place (option_copied self.now.from) row).facts)) }
     {
-        match rows.get(host.0 as usize) {
+        match row_at(rows, host) {
             Some(row) => self.news_of(alloc, row),
             None => Ok(News::Nothing),
         }
@@ -164,17 +165,10 @@ fn has_settled(row: &Row, place: usize) -> bool
 fn is_settler(rows: &[Row], host: HostNo, place: usize) -> bool
     ensures { result ≡ at_row (has_settled place) rows.now host.0 }
 {
-    match rows.get(host.0 as usize) {
+    match row_at(rows, host) {
         Some(row) => has_settled(row, place),
         None => false,
     }
-}
-
-/// The host with this number.
-fn row_at(rows: &[Row], host: HostNo) -> Option<&Row>
-    ensures { option_copied result ≡ slice_get rows.now host.0 }
-{
-    rows.get(host.0 as usize)
 }
 
 /// The first of the hosts of the batch that did so: no other did.
@@ -248,7 +242,7 @@ fn has_ended_fatally(play: &PlanPlay, place: usize, row: &Row) -> bool
 fn is_fatally_over(play: &PlanPlay, place: usize, rows: &[Row], host: HostNo) -> bool
     ensures { result ≡ at_row (has_ended_fatally play.now place) rows.now host.0 }
 {
-    match rows.get(host.0 as usize) {
+    match row_at(rows, host) {
         Some(row) => has_ended_fatally(play, place, row),
         None => false,
     }
@@ -293,12 +287,12 @@ impl Drop for HostNews {
 }
 
 impl HostNews {
-    /// The host, and what it hears.
-    pub(crate) fn parts(self) -> (HostNo, News)
-        ensures { result ≡ (self.host, self.news) }
+    /// What it hears.
+    pub(crate) fn into_news(self) -> News
+        ensures { result ≡ self.news }
     {
-        let HostNews { host, news } = self;
-        (host, news)
+        let HostNews { host: _, news } = self;
+        news
     }
 }
 
