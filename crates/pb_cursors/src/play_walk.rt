@@ -9,10 +9,18 @@ use std::marker::Model;
 use std::rc::Rc;
 
 /// A host's walk through a play: the play's tree, which all its hosts share, and the answers of its host so far, of which a proof alone speaks.
-#[derive(Drop)]
 pub struct PlayWalk {
     laid: Rc<LaidTree>,
     walk: HostWalk,
+}
+
+// (by hand: the crates above then let it go by one call, and know nothing of what a walk is made of)
+impl Drop for PlayWalk {
+    fn drop(self) {
+        let PlayWalk { laid, walk } = self;
+        drop(laid);
+        drop(walk);
+    }
 }
 
 impl Model for PlayWalk {
