@@ -16,10 +16,11 @@ use Rattle.pb_one_host.specs.Runs.{is_running}
 use Rattle.pb_state.specs.declared.event.Event.{Event}
 use Rattle.pb_state.specs.declared.event.Event.TheVariants.{Open, Send, Report as Reported}
 use Rattle.pb_state.specs.BlockRows.{runs}
-use Rattle.pb_state.specs.BatchRows.{start, send, threes, all_three, led_to, is_legal, may}
+use Rattle.pb_state.specs.BatchRows.{start, send, threes, all_three, led_to, may}
 use Rattle.pb_state.specs.Jobs.{delay_at, job_of}
 use Rattle.pb_state.specs.Machine.{first_state}
 use Rattle.pb_state.specs.Once.{SendOf, sends_from, NoTwice}
+use Rattle.pb_state.specs.Run.{IsLegal}
 
 -- a command that may be tried again three times, after five seconds each time
 abbrev tries : PlaceOf
@@ -150,7 +151,7 @@ counts_nothing_yet = refl
 abbrev succeeded : List Event
 succeeded = failed_once ++ goes 2 1 ∷ succeeds 2 1 ∷ []
 
-ends_with_the_second : is_legal lone succeeded ≡ true
+ends_with_the_second : IsLegal lone 256 succeeded
 unfolding on_facts
 ends_with_the_second = refl
 
@@ -178,7 +179,7 @@ failed_thrice = failed_once ++ goes 2 1 ∷ fails 2 1 ∷ goes 3 2 ∷ fails 3 2
 abbrev failed_always : List Event
 failed_always = failed_thrice ++ goes 4 3 ∷ fails 4 3 ∷ []
 
-four_in_all : is_legal lone failed_always ≡ true
+four_in_all : IsLegal lone 256 failed_always
 unfolding on_facts
 four_in_all = refl
 

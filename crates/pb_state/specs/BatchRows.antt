@@ -16,7 +16,7 @@ use Rattle.pb_one_host.specs.FactRows.{on_facts}
 use Rattle.pb_state.specs.Machine.{first_state, possible, ready}
 use Rattle.pb_state.specs.Once.{StartOf, starts_from}
 use Rattle.pb_one_host.specs.Row.{HostRow}
-use Rattle.pb_state.specs.Run.{legal_from, state_from}
+use Rattle.pb_state.specs.Run.{IsLegal, state_after}
 use Rattle.pb_state.specs.State.{State}
 
 abbrev pub start : ℕ → Event
@@ -37,10 +37,7 @@ abbrev pub all_three : List Bool
 all_three = true ∷ true ∷ true ∷ []
 
 abbrev pub led_to : PlanOf → List Event → State
-led_to plan events = state_from plan (first_state plan plan.forks 256) events
-
-abbrev pub is_legal : PlanOf → List Event → Bool
-is_legal plan events = legal_from plan (first_state plan plan.forks 256) events
+led_to plan events = state_after plan 256 events
 
 abbrev batch_of : PlanOf → List Event → List Bool
 batch_of plan events = map (λ (row : HostRow). row.in_batch) (led_to plan events).rows
@@ -59,7 +56,7 @@ said = threes 5 (by_two says ∷ [])
 abbrev first_two : List Event
 first_two = Open ∷ start 0 ∷ start 1 ∷ Turn ∷ Close ∷ []
 
-two_batches : is_legal said (first_two ++ Open ∷ start 2 ∷ Turn ∷ Close ∷ []) ≡ true
+two_batches : IsLegal said 256 (first_two ++ Open ∷ start 2 ∷ Turn ∷ Close ∷ [])
 unfolding on_facts
 two_batches = refl
 
@@ -88,7 +85,7 @@ none_behind = refl
 abbrev refused : PlanOf
 refused = threes 5 (by_two refuses ∷ by_two says ∷ [])
 
-first_batch_fails : is_legal refused first_two ≡ true
+first_batch_fails : IsLegal refused 256 first_two
 unfolding on_facts
 first_batch_fails = refl
 
@@ -141,7 +138,7 @@ one_runs_it_freely = refl
 abbrev freely : PlanOf
 freely = threes 5 (record (bare_play (codes "all") (bare_tree 0 2 0) (says ∷ says ∷ []) (true ∷ true ∷ [])) { strategy = Free } ∷ [])
 
-far_ahead : is_legal freely (Open ∷ start 0 ∷ start 0 ∷ start 1 ∷ start 1 ∷ Close ∷ []) ≡ true
+far_ahead : IsLegal freely 256 (Open ∷ start 0 ∷ start 0 ∷ start 1 ∷ start 1 ∷ Close ∷ [])
 unfolding on_facts
 far_ahead = refl
 
@@ -182,7 +179,7 @@ third_begins = refl
 abbrev one_fork : PlanOf
 one_fork = threes 1 (bare_play (codes "all") (bare_tree 0 1 0) (runs ∷ []) all_three ∷ [])
 
-comes_late : is_legal one_fork (Open ∷ start 0 ∷ send 0 0 ∷ Stop ∷ went 0 0 ∷ []) ≡ true
+comes_late : IsLegal one_fork 256 (Open ∷ start 0 ∷ send 0 0 ∷ Stop ∷ went 0 0 ∷ [])
 unfolding on_facts
 comes_late = refl
 
@@ -196,5 +193,5 @@ unfolding on_facts
 more_forks = refl
 
 -- a play without tasks closes without a turn
-closes_at_once : is_legal (threes 5 (bare_play (codes "all") (bare_tree 0 0 0) [] all_three ∷ [])) (Open ∷ Close ∷ []) ≡ true
+closes_at_once : IsLegal (threes 5 (bare_play (codes "all") (bare_tree 0 0 0) [] all_three ∷ [])) 256 (Open ∷ Close ∷ [])
 closes_at_once = refl

@@ -17,7 +17,7 @@ use Rattle.pb_one_host.specs.FactRows.{on_facts}
 use Rattle.pb_state.specs.Machine.{first_state}
 use Rattle.pb_state.specs.Once.{StartOf, starts_from}
 use Rattle.pb_one_host.specs.Row.{HostRow}
-use Rattle.pb_state.specs.Run.{legal_from, state_from}
+use Rattle.pb_state.specs.Run.{IsLegalUnder, state_after_under}
 use Rattle.pb_state.specs.State.{State}
 
 abbrev pub says : PlaceOf
@@ -57,7 +57,7 @@ abbrev pub comes : Form → Event
 comes outcome = Reported (record { ticket = record { 0 = 0 }; host = record { 0 = 0 }; item = 0; attempt = 1; outcome = outcome })
 
 abbrev pub after_of : PlanOf → List Event → State
-after_of plan events = state_from plan (first_state plan 5 5) events
+after_of plan events = state_after_under plan 5 5 events
 
 abbrev pub statuses : PlanOf → List Event → List Status
 statuses plan events = map (λ (row : HostRow). row.status) (after_of plan events).rows
@@ -81,7 +81,7 @@ body_comes outcome rest = body_ends outcome ++ Turn ∷ rest
 abbrev pub rescued_run : List Event
 rescued_run = body_comes (Ran (pos 1) [] []) (start ∷ Turn ∷ start ∷ Turn ∷ start ∷ Turn ∷ Close ∷ [])
 
-may_be_rescued : legal_from (rescued_by says) (first_state (rescued_by says) 5 5) rescued_run ≡ true
+may_be_rescued : IsLegalUnder (rescued_by says) 5 5 rescued_run
 unfolding on_facts
 may_be_rescued = refl
 
@@ -98,7 +98,7 @@ rescued_at = refl
 abbrev pub failed_run : List Event
 failed_run = body_comes (Ran (pos 1) [] []) (start ∷ Turn ∷ start ∷ Turn ∷ Close ∷ [])
 
-may_fail : legal_from (rescued_by refuses) (first_state (rescued_by refuses) 5 5) failed_run ≡ true
+may_fail : IsLegalUnder (rescued_by refuses) 5 5 failed_run
 unfolding on_facts
 may_fail = refl
 
@@ -115,7 +115,7 @@ still_active = refl
 abbrev pub lost_run : List Event
 lost_run = body_comes (NoAnswer (codes "no route")) (Close ∷ [])
 
-may_be_lost : legal_from (rescued_by says) (first_state (rescued_by says) 5 5) lost_run ≡ true
+may_be_lost : IsLegalUnder (rescued_by says) 5 5 lost_run
 unfolding on_facts
 may_be_lost = refl
 
@@ -130,7 +130,7 @@ always_fails = alone (a_play (Block (Task Nothing) Nothing (Task Nothing) (Task 
 abbrev pub always_fails_run : List Event
 always_fails_run = Open ∷ start ∷ Turn ∷ start ∷ Turn ∷ Close ∷ []
 
-may_fail_in_always : legal_from always_fails (first_state always_fails 5 5) always_fails_run ≡ true
+may_fail_in_always : IsLegalUnder always_fails 5 5 always_fails_run
 unfolding on_facts
 may_fail_in_always = refl
 
@@ -149,7 +149,7 @@ two_plays = alone (ends_between ends ∷ ends_between ends ∷ [])
 abbrev pub ending_run : List Event
 ending_run = Open ∷ start ∷ Turn ∷ start ∷ Turn ∷ Close ∷ Open ∷ start ∷ Turn ∷ start ∷ Turn ∷ Close ∷ []
 
-may_end_twice : legal_from two_plays (first_state two_plays 5 5) ending_run ≡ true
+may_end_twice : IsLegalUnder two_plays 5 5 ending_run
 unfolding on_facts
 may_end_twice = refl
 
@@ -164,14 +164,14 @@ goes_on_run = Open ∷ start ∷ Turn ∷ start ∷ Turn ∷ start ∷ Turn ∷ 
 abbrev pub left_out : PlanOf
 left_out = alone (ends_between (record ends { conditions = tree.Truth false ∷ [] }) ∷ [])
 
-may_be_left_out : legal_from left_out (first_state left_out 5 5) goes_on_run ≡ true
+may_be_left_out : IsLegalUnder left_out 5 5 goes_on_run
 unfolding on_facts
 may_be_left_out = refl
 
 abbrev pub does_nothing : PlanOf
 does_nothing = alone (ends_between (bare_place (codes "meta") (CalledMeta Noop)) ∷ [])
 
-may_do_nothing : legal_from does_nothing (first_state does_nothing 5 5) goes_on_run ≡ true
+may_do_nothing : IsLegalUnder does_nothing 5 5 goes_on_run
 unfolding on_facts
 may_do_nothing = refl
 
@@ -193,7 +193,7 @@ unread_rescued = alone (a_play (Block (Task Nothing) (Task Nothing) Nothing last
 abbrev pub unread_rescued_run : List Event
 unread_rescued_run = Open ∷ start ∷ Turn ∷ start ∷ Turn ∷ Close ∷ []
 
-may_read_nothing : legal_from unread_rescued (first_state unread_rescued 5 5) unread_rescued_run ≡ true
+may_read_nothing : IsLegalUnder unread_rescued 5 5 unread_rescued_run
 unfolding on_facts
 may_read_nothing = refl
 

@@ -14,7 +14,7 @@ use Rattle.pb_play.specs.declared.modules.Module.TheVariants.{DebugVar, SetFact}
 use Rattle.pb_tree.specs.Tree.{Nodes, Nothing, Task, Block, Flush}
 use Rattle.pb_tree.specs.declared.tree.Status.{Status}
 use Rattle.pb_tree.specs.declared.tree.Status.TheVariants.{Active, Failed, Halted, Gone as Lost}
-use Rattle.pb_state.specs.BatchRows.{start, send, went, threes, all_three, led_to, is_legal, may, is_second}
+use Rattle.pb_state.specs.BatchRows.{start, send, went, threes, all_three, led_to, may, is_second}
 use Rattle.pb_state.specs.BlockRows.{says, runs, refuses, ends, caught, last}
 use Rattle.pb_state.specs.HandlerRows.{flush}
 use Rattle.pb_one_host.specs.declared.decided.Decided.{Decided}
@@ -25,6 +25,7 @@ use Rattle.pb_one_host.specs.declared.row.Counts.{Counts}
 use Rattle.pb_one_host.specs.FactRows.{on_facts}
 use Rattle.pb_state.specs.Machine.{first_state, pending_at}
 use Rattle.pb_state.specs.Once.{StartOf, starts_from}
+use Rattle.pb_state.specs.Run.{IsLegal}
 use Rattle.pb_one_host.specs.Row.{HostRow, none_counted}
 
 -- a job comes to this
@@ -88,11 +89,11 @@ goes_on_run = two_fail ++ start 1 ∷ start 3 ∷ Turn ∷ Close ∷ []
 abbrev two_done : Counts
 two_done = record none_counted { ok = 2; changed = 1 }
 
-half_may_fail : (is_legal (limited 50) goes_on_run ≡ true) × (counts_of (limited 50) goes_on_run ≡ one_failed ∷ two_done ∷ one_failed ∷ two_done ∷ [])
+half_may_fail : IsLegal (limited 50) 256 goes_on_run × (counts_of (limited 50) goes_on_run ≡ one_failed ∷ two_done ∷ one_failed ∷ two_done ∷ [])
 unfolding on_facts
 half_may_fail = (refl, refl)
 
-less_than_half : (is_legal (limited 49) (two_fail ++ Close ∷ []) ≡ true) × (counts_of (limited 49) two_fail ≡ one_failed ∷ one_done ∷ one_failed ∷ one_done ∷ [])
+less_than_half : IsLegal (limited 49) 256 (two_fail ++ Close ∷ []) × (counts_of (limited 49) two_fail ≡ one_failed ∷ one_done ∷ one_failed ∷ one_done ∷ [])
     × (statuses_of (limited 49) two_fail ≡ Failed ∷ Halted ∷ Failed ∷ Halted ∷ [])
 unfolding on_facts
 less_than_half = (refl, refl, refl)
@@ -117,7 +118,7 @@ first_batch = Open ∷ start 0 ∷ send 0 0 ∷ comes 0 0 (writes (codes "A")) �
 abbrev second_batch : List Event
 second_batch = first_batch ++ Turn ∷ Close ∷ Open ∷ start 2 ∷ send 2 1 ∷ comes 2 1 (writes (codes "C")) ∷ Turn ∷ start 2 ∷ []
 
-runs_once : (is_legal for_all (second_batch ++ Turn ∷ Close ∷ []) ≡ true) × (counts_of for_all second_batch ≡ two_done ∷ record none_counted { ok = 1 } ∷ two_done ∷ [])
+runs_once : IsLegal for_all 256 (second_batch ++ Turn ∷ Close ∷ []) × (counts_of for_all second_batch ≡ two_done ∷ record none_counted { ok = 1 } ∷ two_done ∷ [])
 unfolding on_facts
 runs_once = (refl, refl)
 
@@ -143,7 +144,7 @@ all_end = twos (both (Task (Task last)) (once ends ∷ says ∷ []) ∷ [])
 abbrev all_end_run : List Event
 all_end_run = Open ∷ start 0 ∷ Turn ∷ Close ∷ []
 
-ends_for_all : (is_legal all_end all_end_run ≡ true) × (counts_of all_end all_end_run ≡ none_counted ∷ none_counted ∷ []) × (statuses_of all_end all_end_run ≡ Active ∷ Active ∷ [])
+ends_for_all : IsLegal all_end 256 all_end_run × (counts_of all_end all_end_run ≡ none_counted ∷ none_counted ∷ []) × (statuses_of all_end all_end_run ≡ Active ∷ Active ∷ [])
 unfolding on_facts
 ends_for_all = (refl, refl, refl)
 
@@ -159,7 +160,7 @@ handler_once = with_handlers false 1 (once says ∷ []) (record runs { notifies 
 abbrev handler_run : List Event
 handler_run = both_run (writes []) ++ start 0 ∷ Turn ∷ []
 
-handler_copied : (is_legal handler_once (handler_run ++ Close ∷ []) ≡ true) × (pending_at (led_to handler_once handler_run) 1 ≡ false ∷ [])
+handler_copied : IsLegal handler_once 256 (handler_run ++ Close ∷ []) × (pending_at (led_to handler_once handler_run) 1 ≡ false ∷ [])
     × (counts_of handler_once handler_run ≡ two_done ∷ one_done ∷ [])
 unfolding on_facts
 handler_copied = (refl, refl, refl)
@@ -181,7 +182,7 @@ before_turn = Open ∷ start 0 ∷ send 0 0 ∷ start 1 ∷ send 1 1 ∷ start 2
 abbrev all_at_once : List Event
 all_at_once = before_turn ++ Turn ∷ Close ∷ []
 
-fatal_alike : (is_legal (fatal_for_all 1) one_by_one ≡ true) × (counts_of (fatal_for_all 1) one_by_one ≡ fatal_counts) × (is_legal (fatal_for_all 256) all_at_once ≡ true)
+fatal_alike : IsLegal (fatal_for_all 1) 256 one_by_one × (counts_of (fatal_for_all 1) one_by_one ≡ fatal_counts) × IsLegal (fatal_for_all 256) 256 all_at_once
     × (counts_of (fatal_for_all 256) all_at_once ≡ fatal_counts)
 unfolding on_facts
 fatal_alike = (refl, refl, refl, refl)
@@ -197,7 +198,7 @@ fatal_block = twos (both (Block (Task (Task Nothing)) Nothing (Task Nothing) (Ta
 abbrev block_run : List Event
 block_run = both_run badly ++ start 0 ∷ start 1 ∷ Turn ∷ Close ∷ []
 
-block_halts : (is_legal fatal_block block_run ≡ true) × (counts_of fatal_block block_run ≡ record none_counted { ok = 1; failed = 1 } ∷ two_done ∷ [])
+block_halts : IsLegal fatal_block 256 block_run × (counts_of fatal_block block_run ≡ record none_counted { ok = 1; failed = 1 } ∷ two_done ∷ [])
     × (statuses_of fatal_block block_run ≡ Failed ∷ Halted ∷ [])
 unfolding on_facts
 block_halts = (refl, refl, refl)
@@ -209,7 +210,7 @@ fatal_handler = with_handlers true 2 (fatal runs ∷ says ∷ []) (record runs {
 abbrev fatal_handler_run : List Event
 fatal_handler_run = both_run (writes []) ++ start 0 ∷ send 0 2 ∷ start 1 ∷ send 1 3 ∷ failed 0 2 ∷ went 1 3 ∷ Turn ∷ start 0 ∷ start 1 ∷ Turn ∷ Close ∷ []
 
-handlers_forced : (is_legal fatal_handler fatal_handler_run ≡ true)
+handlers_forced : IsLegal fatal_handler 256 fatal_handler_run
     × (counts_of fatal_handler fatal_handler_run ≡ record none_counted { ok = 2; changed = 1; failed = 1 } ∷ record none_counted { ok = 3; changed = 2 } ∷ [])
 unfolding on_facts
 handlers_forced = (refl, refl)
@@ -230,13 +231,13 @@ drops =
     (record (bare_play (codes "all") (record { nodes = Flush (Block (Task Nothing) (Task Nothing) Nothing (Task last)); handlers = 0; force_handlers = false })
     (caught (fatal runs) ∷ says ∷ says ∷ []) all_three) { serial = Number (pos 2) ∷ [] } ∷ [])
 
-gone_is_fatal : (is_legal drops (both_run (NoAnswer []) ++ Close ∷ []) ≡ true) × (statuses_of drops (both_run (NoAnswer [])) ≡ Lost ∷ Halted ∷ Active ∷ [])
+gone_is_fatal : IsLegal drops 256 (both_run (NoAnswer []) ++ Close ∷ []) × (statuses_of drops (both_run (NoAnswer [])) ≡ Lost ∷ Halted ∷ Active ∷ [])
     × (may drops (both_run (NoAnswer []) ++ Close ∷ []) Open ≡ false)
 unfolding on_facts
 gone_is_fatal = (refl, refl, refl)
 
 -- a failure that is caught isn't fatal: the batch goes on, and the next one opens
-caught_isnt : (is_legal drops (both_run badly ++ start 0 ∷ Turn ∷ start 0 ∷ start 1 ∷ Turn ∷ Close ∷ Open ∷ start 2 ∷ []) ≡ true)
+caught_isnt : IsLegal drops 256 (both_run badly ++ start 0 ∷ Turn ∷ start 0 ∷ start 1 ∷ Turn ∷ Close ∷ Open ∷ start 2 ∷ [])
     × (statuses_of drops (both_run badly) ≡ Active ∷ Active ∷ Active ∷ [])
 unfolding on_facts
 caught_isnt = (refl, refl)
@@ -251,7 +252,7 @@ drops_rest =
 abbrev dropped_run : List Event
 dropped_run = Open ∷ start 0 ∷ start 1 ∷ Turn ∷ start 0 ∷ Turn ∷ Close ∷ []
 
-drops_later : (is_legal drops_rest (dropped_run ++ Open ∷ start 1 ∷ start 2 ∷ Turn ∷ Close ∷ []) ≡ true) × ((led_to drops_rest (dropped_run ++ Open ∷ [])).play ≡ 1)
+drops_later : IsLegal drops_rest 256 (dropped_run ++ Open ∷ start 1 ∷ start 2 ∷ Turn ∷ Close ∷ []) × ((led_to drops_rest (dropped_run ++ Open ∷ [])).play ≡ 1)
     × (statuses_of drops_rest dropped_run ≡ Failed ∷ Active ∷ Active ∷ [])
 unfolding on_facts
 drops_later = (refl, refl, refl)
@@ -263,7 +264,7 @@ copies_break = twos (both (Block (Task Nothing) Nothing (Task (Task Nothing)) la
 abbrev copies_run : List Event
 copies_run = Open ∷ start 0 ∷ Turn ∷ start 0 ∷ start 1 ∷ Turn ∷ start 0 ∷ start 1 ∷ Turn ∷ Close ∷ []
 
-copies_broken : (is_legal copies_break copies_run ≡ true) × (statuses_of copies_break copies_run ≡ Failed ∷ Failed ∷ [])
+copies_broken : IsLegal copies_break 256 copies_run × (statuses_of copies_break copies_run ≡ Failed ∷ Failed ∷ [])
     × (counts_of copies_break copies_run ≡ record none_counted { ok = 2; failed = 1 } ∷ record none_counted { ok = 2 } ∷ [])
 unfolding on_facts
 copies_broken = (refl, refl, refl)
@@ -275,7 +276,7 @@ limited_block = twos (record (both (Block (Task (Task Nothing)) Nothing (Task (T
 abbrev halted_run : List Event
 halted_run = both_run badly ++ start 0 ∷ start 1 ∷ Turn ∷ start 0 ∷ start 1 ∷ Turn ∷ Close ∷ []
 
-halted_anew : (is_legal limited_block halted_run ≡ true) × (counts_of limited_block halted_run ≡ record none_counted { ok = 2; failed = 1 } ∷ record none_counted { ok = 3; changed = 1 } ∷ [])
+halted_anew : IsLegal limited_block 256 halted_run × (counts_of limited_block halted_run ≡ record none_counted { ok = 2; failed = 1 } ∷ record none_counted { ok = 3; changed = 1 } ∷ [])
     × (statuses_of limited_block halted_run ≡ Failed ∷ Halted ∷ [])
 unfolding on_facts
 halted_anew = (refl, refl, refl)
@@ -284,7 +285,7 @@ halted_anew = (refl, refl, refl)
 abbrev fatal_always : PlanOf
 fatal_always = twos (both (Block Nothing Nothing (Task (Task Nothing)) last) (fatal runs ∷ says ∷ []) ∷ [])
 
-halted_within : (is_legal fatal_always (both_run badly ++ Close ∷ []) ≡ true) × (counts_of fatal_always (both_run badly) ≡ one_failed ∷ one_done ∷ [])
+halted_within : IsLegal fatal_always 256 (both_run badly ++ Close ∷ []) × (counts_of fatal_always (both_run badly) ≡ one_failed ∷ one_done ∷ [])
     × (statuses_of fatal_always (both_run badly) ≡ Failed ∷ Halted ∷ [])
 unfolding on_facts
 halted_within = (refl, refl, refl)
@@ -320,7 +321,7 @@ delegated_run = both_show ++ Turn ∷ Close ∷ []
 abbrev x_is : Datum → Option Datum
 x_is v = Some (shown_result (codes "x") v).result
 
-delegates_facts : (is_legal delegates delegated_run ≡ true)
+delegates_facts : IsLegal delegates 256 delegated_run
     × (counts_of delegates delegated_run ≡ record none_counted { ok = 2 } ∷ record none_counted { ok = 1; skipped = 1 } ∷ [])
     × (told_by delegates first_shows ≡ x_is (text (codes "VARIABLE IS NOT DEFINED!"))) × (told_by delegates both_show ≡ x_is (int (pos 1)))
 unfolding on_facts

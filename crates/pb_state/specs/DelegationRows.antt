@@ -11,9 +11,8 @@ use Rattle.pb_play.specs.declared.task.Task.{Task}
 use Rattle.pb_state.specs.declared.event.Event.TheVariants.{Open, Start}
 use Rattle.pb_one_host.specs.FactRows.{on_facts}
 use Rattle.pb_state.specs.Jobs.{job_of}
-use Rattle.pb_state.specs.Machine.{first_state}
 use Rattle.pb_one_host.specs.Row.{HostRow}
-use Rattle.pb_state.specs.Run.{state_from}
+use Rattle.pb_state.specs.Run.{state_after_under}
 use Rattle.pb_state.specs.State.{State}
 
 -- a play of one task for the first of two hosts, which connects to the second by a program
@@ -27,7 +26,7 @@ plan_of place =
     }
 
 abbrev started : PlaceOf → State
-started place = state_from (plan_of place) (first_state (plan_of place) 5 5) (Open ∷ Start (record { 0 = 0 }) ∷ [])
+started place = state_after_under (plan_of place) 5 5 (Open ∷ Start (record { 0 = 0 }) ∷ [])
 
 abbrev to : List ℕ → PlaceOf → PlaceOf
 to name place = record place { delegate_to = Some name }

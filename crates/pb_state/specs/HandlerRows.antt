@@ -14,9 +14,9 @@ use Rattle.pb_state.specs.declared.event.Event.{Event}
 use Rattle.pb_state.specs.declared.event.Event.TheVariants.{Open, Send, Report as Reported, Turn, Close}
 use Rattle.pb_one_host.specs.declared.row.Counts.{Counts}
 use Rattle.pb_one_host.specs.FactRows.{on_facts}
-use Rattle.pb_state.specs.Machine.{first_state, pending_at}
+use Rattle.pb_state.specs.Machine.{pending_at}
 use Rattle.pb_one_host.specs.Row.{HostRow, none_counted}
-use Rattle.pb_state.specs.Run.{legal_from}
+use Rattle.pb_state.specs.Run.{IsLegalUnder}
 
 -- a play's handlers, of which each Flush has a place for each
 abbrev handlers_from : ℕ → List PlaceOf → List PlaceOf
@@ -37,9 +37,6 @@ command_to ticket outcome =
 
 abbrev pub command : ℕ → List Event
 command ticket = command_to ticket (Ran (pos 0) [] [])
-
-abbrev pub is_legal : PlanOf → List Event → Bool
-is_legal plan events = legal_from plan (first_state plan 5 5) events
 
 abbrev pub counts_of : PlanOf → List Event → List Counts
 counts_of plan events = map (λ (row : HostRow). row.counts) (after_of plan events).rows
@@ -70,7 +67,7 @@ two_commands = first_command ++ Turn ∷ command 1
 abbrev pub notified_run : List Event
 notified_run = two_commands ++ Turn ∷ start ∷ Turn ∷ start ∷ Turn ∷ Close ∷ []
 
-each_runs_once : (is_legal notified notified_run ≡ true) × (counts_of notified notified_run ≡ record none_counted { ok = 4; changed = 2 } ∷ [])
+each_runs_once : IsLegalUnder notified 5 5 notified_run × (counts_of notified notified_run ≡ record none_counted { ok = 4; changed = 2 } ∷ [])
 unfolding on_facts
 each_runs_once = (refl, refl)
 
@@ -99,7 +96,7 @@ failing force = with_nodes force (Task (Task (Task last))) 2 (shown ++ notifies 
 abbrev pub failing_run : List Event
 failing_run = two_commands ++ Turn ∷ start ∷ Turn ∷ Close ∷ []
 
-fails_unforced : (is_legal (failing false) failing_run ≡ true) × (counts_of (failing false) failing_run ≡ record none_counted { ok = 2; changed = 2; failed = 1 } ∷ [])
+fails_unforced : IsLegalUnder (failing false) 5 5 failing_run × (counts_of (failing false) failing_run ≡ record none_counted { ok = 2; changed = 2; failed = 1 } ∷ [])
     × (pending_of (failing false) failing_run ≡ [])
 unfolding on_facts
 fails_unforced = (refl, refl, refl)
@@ -107,7 +104,7 @@ fails_unforced = (refl, refl, refl)
 abbrev pub forced_run : List Event
 forced_run = two_commands ++ Turn ∷ start ∷ Turn ∷ start ∷ Turn ∷ start ∷ Turn ∷ Close ∷ []
 
-fails_forced : (is_legal (failing true) forced_run ≡ true) × (counts_of (failing true) forced_run ≡ record none_counted { ok = 4; changed = 2; failed = 1 } ∷ [])
+fails_forced : IsLegalUnder (failing true) 5 5 forced_run × (counts_of (failing true) forced_run ≡ record none_counted { ok = 4; changed = 2; failed = 1 } ∷ [])
 unfolding on_facts
 fails_forced = (refl, refl)
 
@@ -129,7 +126,7 @@ flushes =
 abbrev pub flushes_run : List Event
 flushes_run = first_command ++ Turn ∷ start ∷ Turn ∷ start ∷ Turn ∷ Close ∷ []
 
-flush_is_rescued : (is_legal flushes flushes_run ≡ true) × (counts_of flushes flushes_run ≡ record none_counted { ok = 2; changed = 1; rescued = 1 } ∷ [])
+flush_is_rescued : IsLegalUnder flushes 5 5 flushes_run × (counts_of flushes flushes_run ≡ record none_counted { ok = 2; changed = 1; rescued = 1 } ∷ [])
     × (statuses flushes flushes_run ≡ Active ∷ [])
 unfolding on_facts
 flush_is_rescued = (refl, refl, refl)
@@ -150,7 +147,7 @@ notes_itself = refl
 abbrev pub itself_run : List Event
 itself_run = ran_once ++ Turn ∷ command 2 ++ Turn ∷ Close ∷ []
 
-runs_itself : (is_legal itself itself_run ≡ true) × (counts_of itself itself_run ≡ record none_counted { ok = 3; changed = 3 } ∷ [])
+runs_itself : IsLegalUnder itself 5 5 itself_run × (counts_of itself itself_run ≡ record none_counted { ok = 3; changed = 3 } ∷ [])
 unfolding on_facts
 runs_itself = (refl, refl)
 
@@ -164,7 +161,7 @@ passes_on = with_nodes false (Task last) 3 (between ++ notifies (1 ∷ []) ∷ b
 abbrev pub passes_on_run : List Event
 passes_on_run = first_command ++ Turn ∷ command 1 ++ Turn ∷ start ∷ Turn ∷ start ∷ Turn ∷ Close ∷ []
 
-passed_on_at : (is_legal passes_on passes_on_run ≡ true) × (starts_at passes_on passes_on_run ≡ Some 3 ∷ Some 5 ∷ Some 6 ∷ Some 7 ∷ [])
+passed_on_at : IsLegalUnder passes_on 5 5 passes_on_run × (starts_at passes_on passes_on_run ≡ Some 3 ∷ Some 5 ∷ Some 6 ∷ Some 7 ∷ [])
 unfolding on_facts
 passed_on_at = (refl, refl)
 
@@ -175,7 +172,7 @@ ignoring = with_nodes false (Task last) 2 (shown ++ record (notifies (0 ∷ 1 �
 abbrev pub ignored_run : List Event
 ignored_run = Open ∷ command_to 0 (Ran (pos 1) [] []) ++ Turn ∷ Close ∷ []
 
-ignored_is_silent : (is_legal ignoring ignored_run ≡ true) × (counts_of ignoring ignored_run ≡ record none_counted { ok = 1; changed = 1; ignored = 1 } ∷ [])
+ignored_is_silent : IsLegalUnder ignoring 5 5 ignored_run × (counts_of ignoring ignored_run ≡ record none_counted { ok = 1; changed = 1; ignored = 1 } ∷ [])
     × (noted_by ignoring (Open ∷ command_to 0 (Ran (pos 1) [] [])) ≡ [])
 unfolding on_facts
 ignored_is_silent = (refl, refl, refl)

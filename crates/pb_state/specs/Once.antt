@@ -1,6 +1,6 @@
 -- Nothing is run twice: each task starts once on each host of a play's batch, and each attempt at an item of it is sent once. An item may be sent
 -- again, but then as another attempt (Ansible's documentation, "Controlling playbook execution: strategies", "Retrying a task until a condition is met").
-use Rattle.std.specs.Prelude.{◌≡◌, ◌≢◌, ℕ, true, List, [], ◌∷◌, ◌++◌, Option, None, option_map, slice_get}
+use Rattle.std.specs.Prelude.{◌≢◌, ℕ, List, [], ◌∷◌, ◌++◌, Option, None, option_map, slice_get}
 use Rattle.std.specs.Option.{option_map_or}
 use Rattle.pb_ids.specs.declared.numbers.HostNo.{HostNo}
 use Rattle.pb_state.specs.declared.event.Event.{Event}
@@ -10,7 +10,7 @@ use Rattle.pb_plan.specs.Plan.{PlanOf}
 use Rattle.pb_one_host.specs.Row.{HostRow}
 use Rattle.pb_state.specs.State.{State}
 use Rattle.pb_state.specs.Machine.{after, next_at, first_state}
-use Rattle.pb_state.specs.Run.{legal_from}
+use Rattle.pb_state.specs.Run.{IsLegalUnder}
 
 -- a host starts the task at a place of a play
 pub record StartOf : Type 0 where
@@ -71,4 +71,4 @@ pub record IsOnce (plan : PlanOf) (s : State) (trail : List Event) : Type 0 wher
 abbrev pub NothingTwice : Type 0
 NothingTwice =
     (plan : PlanOf) (forks pool : ℕ) (trail : List Event) →
-    legal_from plan (first_state plan forks pool) trail ≡ true → IsOnce plan (first_state plan forks pool) trail
+    IsLegalUnder plan forks pool trail → IsOnce plan (first_state plan forks pool) trail

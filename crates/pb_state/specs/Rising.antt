@@ -1,11 +1,11 @@
 -- No host goes back in a play: the places at which it starts there rise strictly, through blocks, their rescues and their always parts
 -- (Ansible's documentation, "Blocks").
-use Rattle.std.specs.Prelude.{◌≡◌, ◌<◌, ℕ, true, List, [], ◌∷◌, Option, Some, None}
+use Rattle.std.specs.Prelude.{◌≡◌, ◌<◌, ℕ, List, [], ◌∷◌, Option, Some, None}
 use Rattle.pb_state.specs.declared.event.Event.{Event}
 use Rattle.pb_plan.specs.Plan.{PlanOf}
 use Rattle.pb_state.specs.Machine.{first_state}
 use Rattle.pb_state.specs.Once.{StartOf, starts_from}
-use Rattle.pb_state.specs.Run.{legal_from}
+use Rattle.pb_state.specs.Run.{IsLegalUnder}
 
 -- a place that stands before another
 abbrev pub IsBefore : Option ℕ → Option ℕ → Type 0
@@ -29,4 +29,4 @@ DoRise (first ∷ rest) = IsBeforeAll first rest × DoRise rest
 abbrev pub StartsRise : Type 0
 StartsRise =
     (plan : PlanOf) (forks pool : ℕ) (trail : List Event) →
-    legal_from plan (first_state plan forks pool) trail ≡ true → DoRise (starts_from plan (first_state plan forks pool) trail)
+    IsLegalUnder plan forks pool trail → DoRise (starts_from plan (first_state plan forks pool) trail)

@@ -11,8 +11,8 @@ use Rattle.pb_plan.specs.Plan.{PlayOf, PlanOf, bare_play, bare_plan, bare_tree}
 use Rattle.pb_one_host.specs.Row.{HostRow, first_row}
 use Rattle.pb_state.specs.State.{State}
 use Rattle.pb_all_hosts.specs.Hosts.{first_play}
-use Rattle.pb_state.specs.Machine.{possible, first_state}
-use Rattle.pb_state.specs.Run.{legal_from, state_from}
+use Rattle.pb_state.specs.Machine.{possible}
+use Rattle.pb_state.specs.Run.{IsLegalUnder, state_after_under}
 
 -- a play with one task
 abbrev play_on : List Bool → PlayOf
@@ -22,8 +22,8 @@ play_on hosts = bare_play (codes "p") (bare_tree 0 1 0) (bare_place (codes "hi")
 abbrev three_plays : PlanOf
 three_plays = bare_plan (codes "a" ∷ codes "b" ∷ []) (play_on (true ∷ []) ∷ play_on (false ∷ false ∷ []) ∷ play_on (false ∷ true ∷ []) ∷ [])
 
-abbrev start : State
-start = first_state three_plays 5 5
+abbrev led_to : List Event → State
+led_to events = state_after_under three_plays 5 5 events
 
 abbrev a : Event
 a = Start (record { 0 = 0 })
@@ -37,29 +37,29 @@ batch_of s = map (λ (row : HostRow). row.in_batch) s.rows
 abbrev whole : List Event
 whole = Open ∷ a ∷ Turn ∷ Close ∷ Open ∷ b ∷ Turn ∷ Close ∷ []
 
-is_whole_run : legal_from three_plays start whole ≡ true
+is_whole_run : IsLegalUnder three_plays 5 5 whole
 unfolding on_tasks
 is_whole_run = refl
 
 -- the second host isn't in the first play
-first_batch : batch_of (state_from three_plays start (Open ∷ [])) ≡ true ∷ false ∷ []
+first_batch : batch_of (led_to (Open ∷ [])) ≡ true ∷ false ∷ []
 unfolding on_tasks
 first_batch = refl
 
-starts_outside : possible three_plays (state_from three_plays start (Open ∷ [])) b ≡ false
+starts_outside : possible three_plays (led_to (Open ∷ [])) b ≡ false
 unfolding on_tasks
 starts_outside = refl
 
 -- the second play is passed over
-passes_over : (state_from three_plays start (Open ∷ a ∷ Turn ∷ Close ∷ Open ∷ [])).play ≡ 2
+passes_over : (led_to (Open ∷ a ∷ Turn ∷ Close ∷ Open ∷ [])).play ≡ 2
 unfolding on_tasks
 passes_over = refl
 
-last_batch : batch_of (state_from three_plays start (Open ∷ a ∷ Turn ∷ Close ∷ Open ∷ [])) ≡ false ∷ true ∷ []
+last_batch : batch_of (led_to (Open ∷ a ∷ Turn ∷ Close ∷ Open ∷ [])) ≡ false ∷ true ∷ []
 unfolding on_tasks
 last_batch = refl
 
-no_play_left : possible three_plays (state_from three_plays start whole) Open ≡ false
+no_play_left : possible three_plays (led_to whole) Open ≡ false
 unfolding on_tasks
 no_play_left = refl
 

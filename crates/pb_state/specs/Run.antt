@@ -22,6 +22,21 @@ abbrev pub state_from : PlanOf → State → List Event → State
 state_from plan s [] = s
 state_from plan s (e ∷ es) = state_from plan (after plan s e) es
 
+-- a trail is legal: from the plan's first state on, with this many forks and workers, each of its events is possible where it stands
+abbrev pub IsLegalUnder : PlanOf → (forks pool : ℕ) → List Event → Type 0
+IsLegalUnder plan forks pool trail = legal_from plan (first_state plan forks pool) trail ≡ true
+
+-- the state in which it ends
+abbrev pub state_after_under : PlanOf → (forks pool : ℕ) → List Event → State
+state_after_under plan forks pool trail = state_from plan (first_state plan forks pool) trail
+
+-- with the plan's own forks
+abbrev pub IsLegal : PlanOf → (pool : ℕ) → List Event → Type 0
+IsLegal plan pool trail = IsLegalUnder plan plan.forks pool trail
+
+abbrev pub state_after : PlanOf → (pool : ℕ) → List Event → State
+state_after plan pool trail = state_after_under plan plan.forks pool trail
+
 -- the events that the machine takes by itself
 abbrev pub is_move : Event → Bool
 is_move Open = true
@@ -66,8 +81,8 @@ pub record IsFinished (plan : PlanOf) (s : State) : Type 0 where
 
 -- a list of events is a run of the plan, with the plan's forks, that ends in this state
 pub record IsRun (plan : PlanOf) (pool : ℕ) (trail : List Event) (s : State) : Type 0 where
-  pub legal : legal_from plan (first_state plan plan.forks pool) trail ≡ true
-  pub ends : state_from plan (first_state plan plan.forks pool) trail ≡ s
+  pub legal : IsLegal plan pool trail
+  pub ends : state_after plan pool trail ≡ s
 
 -- where a report stands, nothing that the machine takes by itself was possible
 abbrev pub IsEager : PlanOf → State → List Event → Type 0

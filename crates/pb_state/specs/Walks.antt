@@ -7,8 +7,8 @@ use Rattle.pb_state.specs.declared.event.Event.{Event}
 use Rattle.pb_plan.specs.Plan.{PlayOf, PlanOf}
 use Rattle.pb_one_host.specs.Row.{HostRow, place_of, next_place}
 use Rattle.pb_state.specs.State.{State}
-use Rattle.pb_state.specs.Machine.{open_play, first_state}
-use Rattle.pb_state.specs.Run.{state_from}
+use Rattle.pb_state.specs.Machine.{open_play}
+use Rattle.pb_state.specs.Run.{state_after_under}
 
 abbrev pub walks_in : TreeOf → HostRow → Option ℕ
 walks_in tree row = place_of (reach tree row.answers)
@@ -34,7 +34,7 @@ AreNumbered h (row ∷ rows) = (row.host ≡ h) × AreNumbered (h + 1) rows
 
 -- wherever events lead from the first state on
 abbrev pub RowsStay : Type 0
-RowsStay = (plan : PlanOf) (forks pool : ℕ) (trail : List Event) → AreNumbered 0 (state_from plan (first_state plan forks pool) trail).rows
+RowsStay = (plan : PlanOf) (forks pool : ℕ) (trail : List Event) → AreNumbered 0 (state_after_under plan forks pool trail).rows
 
 abbrev pub WalksLead : Type 0
-WalksLead = (plan : PlanOf) (forks pool : ℕ) (trail : List Event) → IsTracked plan (state_from plan (first_state plan forks pool) trail)
+WalksLead = (plan : PlanOf) (forks pool : ℕ) (trail : List Event) → IsTracked plan (state_after_under plan forks pool trail)
