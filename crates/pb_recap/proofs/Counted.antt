@@ -25,7 +25,7 @@ use Rattle.pb_one_host.specs.Decides.{done_at, done_if, report_decides, decided_
 use Rattle.pb_all_hosts.specs.Hosts.{change, at_row}
 use Rattle.pb_all_hosts.specs.Giving.{takes, given_to, gifts_at, report_gives}
 use Rattle.pb_state.specs.Machine.{open_play, possible, after, first_state, after_open, started_in, facts_at, plan_seen, start_at, start_with, sent_in, reported_in, pending_at, batch_of, turned_in, may_start_in, next_at, may_report_in, same_place}
-use Rattle.pb_state.specs.Run.{legal_from, state_from, IsRun}
+use Rattle.pb_state.specs.Run.{legal_from, state_from, IsLegal, state_after, IsRun}
 use Rattle.pb_all_hosts.proofs.Batching.{length-joined}
 use Rattle.pb_all_hosts.proofs.Giving.{length-given}
 use Rattle.pb_state.proofs.Stands.{stands_at, start_stands}
@@ -321,8 +321,8 @@ each_host plan s trail (row ∷ rows) (host ∷ hosts) h e f =
     λ k kind b. f (suc k) kind (omega (arith, b)) ∙ ap (λ n. count_from plan s trail n kind) (let at : h + suc k ≡ (h + 1) + k = omega arith in at) in
     rw (of_counts row.counts plan s trail h here, each_host plan s trail rows hosts (h + 1) (omega (arith, e)) later) refl
 
-run_counts : (plan : PlanOf) (pool : ℕ) (trail : List Event) → legal_from plan (first_state plan plan.forks pool) trail ≡ true
-    → map (λ (row : HostRow). row.counts) (state_from plan (first_state plan plan.forks pool) trail).rows ≡ recap plan pool trail
+run_counts : (plan : PlanOf) (pool : ℕ) (trail : List Event) → IsLegal plan pool trail
+    → map (λ (row : HostRow). row.counts) (state_after plan pool trail).rows ≡ recap plan pool trail
 run_counts plan pool trail legal =
     let s : State = first_state plan plan.forks pool in
     let hosts : length (state_from plan s trail).rows ≡ length plan.inventory.hosts = trail_hosts plan s trail ∙ length-first 0 (length plan.inventory.hosts) in

@@ -11,7 +11,7 @@ use Rattle.pb_one_host.specs.Ends.{more}
 use Rattle.pb_one_host.specs.Row.{none_counted}
 use Rattle.pb_state.specs.State.{State}
 use Rattle.pb_state.specs.Machine.{after, first_state}
-use Rattle.pb_state.specs.Run.{state_from, IsRun, IsStep}
+use Rattle.pb_state.specs.Run.{state_from, IsStep, state_after, IsRun}
 use Rattle.pb_lanes.specs.declared.kind.CountKind.{CountKind}
 use Rattle.pb_lanes.specs.declared.kind.CountKind.TheVariants.{Okay, Changed, Unreachable, Failed, Skipped, Rescued, Ignored}
 use Rattle.pb_recap.specs.Counting.{with_task, with_finished}
@@ -118,6 +118,6 @@ by_finished plan s es e hosts (Some t) is = hosts_rise plan s es e t.host 0 t.ho
 pub counts_one_more : (plan : PlanOf) (s : State) (e : Event) (old new : List Counts) → new ≡ with_finished (finished_in s e) old
     → (pool : ℕ) (trail : List Event) (before : State) → IsRun plan pool trail before → IsStep plan before e s → old ≡ recap plan pool trail → new ≡ recap plan pool (trail ++ e ∷ [])
 counts_one_more plan s e old new counts pool trail before run step is =
-    let same : s ≡ after plan (state_from plan (first_state plan plan.forks pool) trail) e = step.1 ∙ ap (λ (b : State). after plan b e) (sym run.ends) in
-    counts ∙ ap (λ (t : State). with_finished (finished_in t e) old) same ∙ ap (λ all. with_finished (finishes plan (state_from plan (first_state plan plan.forks pool) trail) e) all) is
-    ∙ by_finished plan (first_state plan plan.forks pool) trail e plan.inventory.hosts (finishes plan (state_from plan (first_state plan plan.forks pool) trail) e) refl
+    let same : s ≡ after plan (state_after plan pool trail) e = step.1 ∙ ap (λ (b : State). after plan b e) (sym run.ends) in
+    counts ∙ ap (λ (t : State). with_finished (finished_in t e) old) same ∙ ap (λ all. with_finished (finishes plan (state_after plan pool trail) e) all) is
+    ∙ by_finished plan (first_state plan plan.forks pool) trail e plan.inventory.hosts (finishes plan (state_after plan pool trail) e) refl

@@ -13,9 +13,8 @@ use Rattle.pb_state.specs.declared.event.Event.TheVariants.{Open, Start, Send, R
 use Rattle.pb_one_host.specs.declared.row.Counts.{Counts}
 use Rattle.pb_places.specs.Place.{bare_place}
 use Rattle.pb_plan.specs.Plan.{PlanOf, bare_play, bare_plan, bare_tree}
-use Rattle.pb_state.specs.Machine.{first_state}
 use Rattle.pb_one_host.specs.Row.{none_counted}
-use Rattle.pb_state.specs.Run.{legal_from}
+use Rattle.pb_state.specs.Run.{IsLegalUnder}
 use Rattle.pb_lanes.specs.declared.kind.CountKind.TheVariants.{Okay, Changed, Unreachable, Failed, Ignored}
 use Rattle.pb_lanes.specs.ColumnsOf.{ColumnsOf, bumped, no_counts}
 use Rattle.pb_recap.specs.InColumns.{counts_of, rows_of, with_counts}
@@ -126,7 +125,7 @@ ends_so outcome =
     Open ∷ Start (record { 0 = 0 }) ∷ Send (record { 0 = 0 }) 0 1 (record { 0 = 0 }) ∷ Start (record { 0 = 1 }) ∷ Send (record { 0 = 1 }) 0 1 (record { 0 = 1 })
     ∷ comes 0 (Ran (pos 0) [] []) ∷ comes 1 outcome ∷ Turn ∷ Start (record { 0 = 0 }) ∷ Turn ∷ Close ∷ []
 
-may_end_so : legal_from commanded (first_state commanded 5 5) (ends_so (Ran (pos 1) [] [])) ≡ true
+may_end_so : IsLegalUnder commanded 5 5 (ends_so (Ran (pos 1) [] []))
 unfolding on_tasks
 may_end_so = refl
 
