@@ -13,7 +13,7 @@ use Rattle.pb_plan.specs.Plan.{PlayOf, PlanOf}
 use Rattle.pb_state.specs.declared.event.Event.{Event}
 use Rattle.pb_state.specs.declared.event.Event.TheVariants.{Open, Start, Send, Report as Reported, Turn, Close, Stop, Forks}
 use Rattle.pb_state.specs.Machine.{possible, after, first_state, open_play, next_play, next_at, opened_by, goes_on, begins, begins_at, start_at, started_in, sent_in, reported_in, turned_in}
-use Rattle.pb_state.specs.Run.{legal_from, state_from}
+use Rattle.pb_state.specs.Run.{legal_from, state_from, IsLegalUnder}
 use Rattle.pb_state.specs.State.{State}
 use Rattle.pb_state.proofs.StepNumbers.{and_left, and_right}
 use Rattle.pb_state.proofs.Stands.{both}
@@ -94,7 +94,7 @@ legal_in plan n s (e ∷ es) le legal =
     let rest = legal_in plan n (after plan s e) es (omega (arith, le, pool_stays plan s e)) (and_right (possible plan s e) _ legal) in
     both (possible plan (in_pool n s) e) (legal_from plan (after plan (in_pool n s) e) es) (possible_in plan n s e le may) (subst (λ (t : State). legal_from plan t es ≡ true) (sym (after_in plan n s e)) rest)
 
-pub legal_in_larger : (plan : PlanOf) (forks k n : ℕ) (trail : List Event) → k ≤ n → legal_from plan (first_state plan forks k) trail ≡ true → legal_from plan (first_state plan forks n) trail ≡ true
+pub legal_in_larger : (plan : PlanOf) (forks k n : ℕ) (trail : List Event) → k ≤ n → IsLegalUnder plan forks k trail → IsLegalUnder plan forks n trail
 legal_in_larger plan forks k n trail le legal = legal_in plan n (first_state plan forks k) trail le legal
 
 -- and leads to the same state, but for the pool
