@@ -20,7 +20,7 @@ use Rattle.pb_all_hosts.specs.Hosts.{at_row, has_hosts, first_play, lesser, leas
 use Rattle.pb_state.specs.declared.event.Event.{Event}
 use Rattle.pb_state.specs.declared.event.Event.TheVariants.{Open, Start, Send, Report as Reported, Turn, Close, Stop, Forks}
 use Rattle.pb_state.specs.Machine.{possible, after, open_play, is_left, next_play, may_start_in, may_send_in, may_report_in, may_turn_in, may_close_in, started_in, sent_in, reported_in, turned_in, first_state}
-use Rattle.pb_state.specs.Run.{IsFinished, legal_from, state_from}
+use Rattle.pb_state.specs.Run.{legal_from, state_from, state_after_under, IsFinished}
 use Rattle.pb_state.specs.State.{State}
 use Rattle.pb_state.specs.Strategies.{view_of}
 use Rattle.pb_state.proofs.Idle.{turns}
@@ -29,7 +29,7 @@ use Rattle.pb_state.specs.Jobs.{job_of}
 use Rattle.pb_confluence.specs.Fixed.{Fixed, outcome_of, IsFixedAt, IsFixed}
 use Rattle.pb_confluence.proofs.Along.{IsAlong, along_next, along_first, told_fixed}
 use Rattle.pb_confluence.specs.Together.{at_plays, in_play, together}
-use Rattle.pb_confluence.specs.Confluence.{end_of, IsWhole, EndsTogether}
+use Rattle.pb_confluence.specs.Confluence.{IsWhole, EndsTogether}
 use Rattle.pb_independence.specs.Apart.{AreApart}
 use Rattle.pb_independence.proofs.Tests.{and_left, and_right, none_false}
 use Rattle.pb_confluence.proofs.Lists.{or_right_true, both_ways, Every, every_at}
@@ -227,11 +227,11 @@ all_linear (first ∷ plays) e zero play there =
     subst (λ (p : PlayOf). is_linear p.strategy ≡ true) same (and_left (is_linear first.strategy) (list_all (λ (p : PlayOf). is_linear p.strategy) plays) e)
 all_linear (first ∷ plays) e (suc n) play there = all_linear plays (and_right (is_linear first.strategy) (list_all (λ (p : PlayOf). is_linear p.strategy) plays) e) n play there
 
-pub ends_by : (plan : PlanOf) (f : Fixed) (forks pool : ℕ) (trail : List Event) → AreLinear plan → AreApart plan → IsWhole plan f forks pool trail → (end_of plan forks pool trail).rows ≡ together plan f
+pub ends_by : (plan : PlanOf) (f : Fixed) (forks pool : ℕ) (trail : List Event) → AreLinear plan → AreApart plan → IsWhole plan f forks pool trail → (state_after_under plan forks pool trail).rows ≡ together plan f
 ends_by plan f forks pool trail linear apart run =
     let first : IsGood plan (first_state plan forks pool) = (first_idle 0 (length plan.inventory.hosts), along_first plan forks pool run.some) in
     let kept = trail_keeps plan f (first_state plan forks pool) trail linear apart first run.legal run.is_fixed in
-    sym (end_value plan f (end_of plan forks pool trail) (open_play plan (end_of plan forks pool trail)) linear refl run.finished run.unstopped kept.0.0) ∙ kept.1
+    sym (end_value plan f (state_after_under plan forks pool trail) (open_play plan (state_after_under plan forks pool trail)) linear refl run.finished run.unstopped kept.0.0) ∙ kept.1
 
 pub ends_together : EndsTogether
 ends_together plan f forks pool trail linear independent run = ends_by plan f forks pool trail (all_linear plan.plays linear) (apart_of plan independent) run

@@ -10,10 +10,10 @@ use Rattle.pb_recap.proofs.Counted.{recap_of_run}
 use Rattle.pb_state.specs.declared.event.Event.{Event}
 use Rattle.pb_state.specs.declared.event.Event.TheVariants.{Open, Start, Send, Report as Reported, Turn, Close, Stop, Forks}
 use Rattle.pb_state.specs.Machine.{possible, after, first_state}
-use Rattle.pb_state.specs.Run.{IsFinished, legal_from, state_from}
+use Rattle.pb_state.specs.Run.{legal_from, state_from, state_after_under, IsFinished}
 use Rattle.pb_state.specs.State.{State}
 use Rattle.pb_confluence.specs.Fixed.{Fixed, IsFixedAt, IsFixed}
-use Rattle.pb_confluence.specs.Confluence.{end_of, IsWhole, with_forks, IsEnd, CountsTogether, EndAlike}
+use Rattle.pb_confluence.specs.Confluence.{IsWhole, with_forks, IsEnd, CountsTogether, EndAlike}
 use Rattle.pb_confluence.proofs.Ends.{ends_together}
 
 -- the machine reads the plan without its forks
@@ -67,9 +67,9 @@ finished_forks : (n : ℕ) (plan : PlanOf) (s : State) → IsFinished (with_fork
 finished_forks n plan s finished = record { over = λ e c. sym (possible_forks n plan s e) ∙ finished.over e c; none_out = finished.none_out }
 
 -- so a run of the plan with other forks is a run of the plan that begins with these
-pub whole_forks : (n : ℕ) (plan : PlanOf) (f : Fixed) (pool : ℕ) (trail : List Event) (s : State) → IsEnd (with_forks n plan) f pool trail s → (IsWhole plan f n pool trail) × (end_of plan n pool trail ≡ s)
+pub whole_forks : (n : ℕ) (plan : PlanOf) (f : Fixed) (pool : ℕ) (trail : List Event) (s : State) → IsEnd (with_forks n plan) f pool trail s → (IsWhole plan f n pool trail) × (state_after_under plan n pool trail ≡ s)
 whole_forks n plan f pool trail s run =
-    let ends : end_of plan n pool trail ≡ s = sym (state_forks n plan (first_state plan n pool) trail) ∙ run.run.ends in (
+    let ends : state_after_under plan n pool trail ≡ s = sym (state_forks n plan (first_state plan n pool) trail) ∙ run.run.ends in (
       record {
         some = run.some;
         legal = sym (legal_forks n plan (first_state plan n pool) trail) ∙ run.run.legal;

@@ -12,9 +12,10 @@ use Rattle.pb_one_host.specs.FactRows.{on_facts}
 use Rattle.pb_one_host.specs.Row.{none_counted}
 use Rattle.pb_state.specs.declared.event.Event.{Event}
 use Rattle.pb_state.specs.declared.event.Event.TheVariants.{Open, Turn, Close}
-use Rattle.pb_state.specs.BatchRows.{start, send, went, threes, all_three, led_to, is_legal}
+use Rattle.pb_state.specs.BatchRows.{start, send, went, threes, all_three, led_to}
 use Rattle.pb_state.specs.BlockRows.{says, runs}
 use Rattle.pb_state.specs.Machine.{is_left}
+use Rattle.pb_state.specs.Run.{IsLegal}
 use Rattle.pb_confluence.specs.Alone.{alone, are_uncoupled, without_orders}
 use Rattle.pb_confluence.specs.Rows.{comes, counts, fails}
 
@@ -37,7 +38,7 @@ abbrev freely : List Event
 freely =
     Open ∷ start 1 ∷ send 1 0 ∷ went 1 0 ∷ start 1 ∷ start 0 ∷ send 0 1 ∷ comes 0 1 (Ran (pos 1) [] []) ∷ start 2 ∷ send 2 2 ∷ went 2 2 ∷ start 2 ∷ Close ∷ []
 
-free_run : (is_legal (by Free []) freely ≡ true) × (counts (led_to (by Free []) freely).rows ≡ reached)
+free_run : IsLegal (by Free []) 256 freely × (counts (led_to (by Free []) freely).rows ≡ reached)
 unfolding on_facts
 free_run = (refl, refl)
 
@@ -47,7 +48,7 @@ in_batches =
     Open ∷ start 0 ∷ send 0 0 ∷ comes 0 0 (Ran (pos 1) [] []) ∷ start 1 ∷ send 1 1 ∷ went 1 1 ∷ Turn ∷ start 1 ∷ Turn ∷ Close
     ∷ Open ∷ start 2 ∷ send 2 2 ∷ went 2 2 ∷ Turn ∷ start 2 ∷ Turn ∷ Close ∷ []
 
-linear_run : (is_legal (by Linear (Number (pos 2) ∷ [])) in_batches ≡ true) × (counts (led_to (by Linear (Number (pos 2) ∷ [])) in_batches).rows ≡ reached)
+linear_run : IsLegal (by Linear (Number (pos 2) ∷ [])) 256 in_batches × (counts (led_to (by Linear (Number (pos 2) ∷ [])) in_batches).rows ≡ reached)
 unfolding on_facts
 linear_run = (refl, refl)
 
@@ -62,7 +63,7 @@ one_by_one = Open ∷ start 0 ∷ send 0 0 ∷ comes 0 0 (Ran (pos 1) [] []) ∷
 abbrev by_one : PlanOf
 by_one = by Linear (Number (pos 1) ∷ [])
 
-ends_early : (is_legal by_one one_by_one ≡ true) × ((led_to by_one one_by_one).ended ≡ true) × (is_left by_one (led_to by_one one_by_one) ≡ true)
+ends_early : IsLegal by_one 256 one_by_one × ((led_to by_one one_by_one).ended ≡ true) × (is_left by_one (led_to by_one one_by_one) ≡ true)
     × (counts (led_to by_one one_by_one).rows ≡ record none_counted { failed = 1 } ∷ none_counted ∷ none_counted ∷ [])
 unfolding on_facts
 ends_early = (refl, refl, refl, refl)

@@ -5,29 +5,25 @@ use Rattle.pb_one_host.specs.Row.{HostRow}
 use Rattle.pb_recap.specs.Recap.{recap}
 use Rattle.pb_state.specs.declared.event.Event.{Event}
 use Rattle.pb_state.specs.Machine.{facts_at, first_state}
-use Rattle.pb_state.specs.Run.{legal_from, state_from, IsFinished, IsRun}
+use Rattle.pb_state.specs.Run.{IsLegalUnder, state_after_under, IsFinished, IsRun}
 use Rattle.pb_state.specs.State.{State}
 use Rattle.pb_confluence.specs.Fixed.{Fixed, IsFixed}
 use Rattle.pb_independence.specs.Independent.{is_independent, are_linear}
 use Rattle.pb_confluence.specs.Together.{together}
 
--- where a trail leads that begins with so many forks
-abbrev pub end_of : PlanOf → (forks pool : ℕ) → List Event → State
-end_of plan forks pool trail = state_from plan (first_state plan forks pool) trail
-
 -- a legal trail that begins with so many forks, under fixed outcomes, that is finished and wasn't stopped; commands may change the forks anywhere in it
 pub record IsWhole (plan : PlanOf) (f : Fixed) (forks pool : ℕ) (trail : List Event) : Type 0 where
   pub some : 0 < forks
-  pub legal : legal_from plan (first_state plan forks pool) trail ≡ true
+  pub legal : IsLegalUnder plan forks pool trail
   pub is_fixed : IsFixed plan f (first_state plan forks pool) trail
-  pub finished : IsFinished plan (end_of plan forks pool trail)
-  pub unstopped : (end_of plan forks pool trail).stopped ≡ false
+  pub finished : IsFinished plan (state_after_under plan forks pool trail)
+  pub unstopped : (state_after_under plan forks pool trail).stopped ≡ false
 
 -- it ends in what the hosts reach together: rows hold all of a host, its facts and its counts among it
 abbrev pub EndsTogether : Type 0
 EndsTogether =
     (plan : PlanOf) (f : Fixed) (forks pool : ℕ) (trail : List Event) → are_linear plan ≡ true → is_independent plan ≡ true → IsWhole plan f forks pool trail →
-    (end_of plan forks pool trail).rows ≡ together plan f
+    (state_after_under plan forks pool trail).rows ≡ together plan f
 
 -- ---- plans that differ in forks alone
 abbrev pub with_forks : ℕ → PlanOf → PlanOf

@@ -11,8 +11,9 @@ use Rattle.pb_one_host.specs.Row.{HostRow, none_counted}
 use Rattle.pb_state.specs.declared.event.Event.{Event}
 use Rattle.pb_state.specs.declared.event.Event.TheVariants.{Open, Send, Report as Reported, Turn, Close, Forks}
 use Rattle.pb_state.specs.Machine.{first_state}
-use Rattle.pb_state.specs.BatchRows.{start, send, went, threes, all_three, led_to, is_legal}
+use Rattle.pb_state.specs.BatchRows.{start, send, went, threes, all_three, led_to}
 use Rattle.pb_state.specs.BlockRows.{says, runs}
+use Rattle.pb_state.specs.Run.{IsLegal}
 use Rattle.pb_confluence.specs.Fixed.{Fixed, IsFixed}
 use Rattle.pb_confluence.specs.Together.{together}
 
@@ -39,11 +40,11 @@ together_fatal : counts (together (fatal 1) fails) ≡ record none_counted { fai
 unfolding on_facts
 together_fatal = refl
 
-fatal_one : (is_legal (fatal 1) one_by_one ≡ true) × ((led_to (fatal 1) one_by_one).rows ≡ together (fatal 1) fails)
+fatal_one : IsLegal (fatal 1) 256 one_by_one × ((led_to (fatal 1) one_by_one).rows ≡ together (fatal 1) fails)
 unfolding on_facts
 fatal_one = (refl, refl)
 
-fatal_all : (is_legal (fatal 256) all_at_once ≡ true) × ((led_to (fatal 256) all_at_once).rows ≡ together (fatal 1) fails)
+fatal_all : IsLegal (fatal 256) 256 all_at_once × ((led_to (fatal 256) all_at_once).rows ≡ together (fatal 1) fails)
 unfolding on_facts
 fatal_all = (refl, refl)
 
@@ -65,7 +66,7 @@ for_all_run =
 abbrev for_all_counts : List Counts
 for_all_counts = record none_counted { unreachable = 1 } ∷ record none_counted { ok = 2; changed = 1 } ∷ record none_counted { ok = 2; changed = 1 } ∷ []
 
-for_all_ends : (is_legal for_all for_all_run ≡ true) × (counts (led_to for_all for_all_run).rows ≡ for_all_counts) × (counts (together for_all out_of_reach) ≡ for_all_counts)
+for_all_ends : IsLegal for_all 256 for_all_run × (counts (led_to for_all for_all_run).rows ≡ for_all_counts) × (counts (together for_all out_of_reach) ≡ for_all_counts)
 unfolding on_facts
 for_all_ends = (refl, refl, refl)
 
@@ -98,7 +99,7 @@ tried_run =
 abbrev tried_counts : List Counts
 tried_counts = record none_counted { ok = 1; changed = 1 } ∷ record none_counted { ok = 1; changed = 1 } ∷ record none_counted { ok = 1; changed = 1 } ∷ []
 
-tried_ends : (is_legal tried tried_run ≡ true) × (counts (led_to tried tried_run).rows ≡ tried_counts) × (counts (together tried second_time) ≡ tried_counts)
+tried_ends : IsLegal tried 256 tried_run × (counts (led_to tried tried_run).rows ≡ tried_counts) × (counts (together tried second_time) ≡ tried_counts)
 unfolding on_facts
 tried_ends = (refl, refl, refl)
 
