@@ -22,7 +22,7 @@ use Rattle.pb_one_host.specs.Runs.{is_running, is_out as has_job_out, is_item, i
 use Rattle.pb_all_hosts.specs.Hosts.{at_row, least_place}
 use Rattle.pb_state.specs.Machine.{possible, after, may_start_in, may_send_in, may_report_in, may_turn_in, may_close_in, open_play, opened_by, after_open, started_in, next_at, start_at, sent_in, reported_in, batch_of, turned_in, stopped, with_forks, first_state}
 use Rattle.pb_one_host.specs.Row.{HostRow, first_rows}
-use Rattle.pb_state.specs.Run.{IsFinished, legal_from, state_from}
+use Rattle.pb_state.specs.Run.{legal_from, state_from, state_after_under, IsFinished}
 use Rattle.pb_state.specs.State.{State}
 use Rattle.pb_state.specs.Strategies.{view_of}
 use Rattle.pb_state.proofs.Idle.{turn_linear, turn_idle, turns, others_done}
@@ -360,7 +360,7 @@ pub batches_all_close : AtTheEnd all_closed
 unfolding IsPlaced
 batches_all_close plan forks pool trail l finished =
     let reads = at_end any_law Reads keeps_reading plan forks pool trail l in
-    let s : State = state_from plan (first_state plan forks pool) trail in
+    let s : State = state_after_under plan forks pool trail in
     closed_or (was_stopped (so_far [] (history plan forks pool trail))) (is_open (so_far [] (history plan forks pool trail))) (may_run (so_far [] (history plan forks pool trail)))
     (λ st some.
     reads.opened

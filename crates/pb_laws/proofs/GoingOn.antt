@@ -1,7 +1,6 @@
 -- Every run goes on well from wherever it has come to.
 use Rattle.std.proofs.Common.{refl}
-use Rattle.pb_state.specs.Machine.{first_state}
-use Rattle.pb_state.specs.Run.{IsRun, state_from}
+use Rattle.pb_state.specs.Run.{state_after, IsRun}
 use Rattle.pb_state.proofs.Held.{going_run}
 use Rattle.pb_state.proofs.Stuck.{placed_run}
 use Rattle.pb_laws.specs.States.{RunsGoOn}
@@ -11,7 +10,7 @@ use Rattle.pb_laws.proofs.ToTheEnd.{has_way, some_fork}
 
 pub run_goes_on : RunsGoOn
 run_goes_on plan pool trail legal =
-    let s = state_from plan (first_state plan plan.forks pool) trail in
+    let s = state_after plan pool trail in
     let run : IsRun plan pool trail s = record { legal = legal; ends = refl } in
     let going = going_run plan pool trail s run in
     record {

@@ -3,7 +3,7 @@ use Rattle.std.proofs.Common.{◌≡◌, ℕ, Bool, true, List, [], ◌∷◌, �
 use Rattle.pb_plan.specs.Plan.{PlanOf}
 use Rattle.pb_state.specs.declared.event.Event.{Event}
 use Rattle.pb_state.specs.Machine.{possible, after, first_state}
-use Rattle.pb_state.specs.Run.{legal_from, state_from}
+use Rattle.pb_state.specs.Run.{legal_from, state_from, IsLegalUnder, state_after_under}
 use Rattle.pb_state.specs.State.{State}
 use Rattle.pb_state.specs.Walks.{AreNumbered}
 use Rattle.pb_state.proofs.StepNumbers.{and_left, and_right}
@@ -46,11 +46,11 @@ pub record Keeps (law : PlanOf → List Happening → Happening → Bool) (Fits 
   pub next : (plan : PlanOf) (past : List Happening) (v new : Seen) (happens : List Happening) → Tells plan v happens new → Fits plan past v → Fits plan (so_far past happens) new
 
 -- the rows of a run are numbered, wherever it has come to
-numbered_at : (plan : PlanOf) (forks pool : ℕ) (before : List Event) (s : State) → state_from plan (first_state plan forks pool) before ≡ s → AreNumbered 0 s.rows
+numbered_at : (plan : PlanOf) (forks pool : ℕ) (before : List Event) (s : State) → state_after_under plan forks pool before ≡ s → AreNumbered 0 s.rows
 numbered_at plan forks pool before s e = subst (λ (t : State). AreNumbered 0 t.rows) e (rows_stay plan forks pool before)
 
 module _ (law : PlanOf → List Happening → Happening → Bool) (Fits : PlanOf → List Happening → Seen → Type 0) (keeps : Keeps law Fits) (plan : PlanOf) (forks pool : ℕ) where
-  holds_on : (before : List Event) (s : State) → state_from plan (first_state plan forks pool) before ≡ s → (past : List Happening) (es : List Event) → legal_from plan s es ≡ true → Fits plan past (seen s)
+  holds_on : (before : List Event) (s : State) → state_after_under plan forks pool before ≡ s → (past : List Happening) (es : List Event) → legal_from plan s es ≡ true → Fits plan past (seen s)
       → IsOfPlan plan s → IsSound s → holds_from (law plan) past (history_from plan s es) ≡ true
   holds_on before s led past [] l fits of sound = refl
   holds_on before s led past (e ∷ es) l fits of sound =
@@ -62,7 +62,7 @@ module _ (law : PlanOf → List Happening → Happening → Bool) (Fits : PlanOf
       (and_right (possible plan s e) _ l) (keeps.next plan past (seen s) (seen (after plan s e)) (told plan s e (after plan s e)) step fits)
       (step_of plan s e of) (sound_kept s (after plan s e) (moves plan s e may) sound))
 
-  fits_on : (before : List Event) (s : State) → state_from plan (first_state plan forks pool) before ≡ s → (past : List Happening) (es : List Event) → legal_from plan s es ≡ true → Fits plan past (seen s)
+  fits_on : (before : List Event) (s : State) → state_after_under plan forks pool before ≡ s → (past : List Happening) (es : List Event) → legal_from plan s es ≡ true → Fits plan past (seen s)
       → IsOfPlan plan s → IsSound s → Fits plan (so_far past (history_from plan s es)) (seen (state_from plan s es))
   fits_on before s led past [] l fits of sound = fits
   fits_on before s led past (e ∷ es) l fits of sound =
@@ -83,5 +83,5 @@ always law Fits keeps plan forks pool trail l =
     both (law plan [] (MayRun forks)) _ (keeps.begins plan forks) (holds_on law Fits keeps plan forks pool [] (first_state plan forks pool) refl (MayRun forks ∷ []) trail l (keeps.first plan forks pool) (first_of plan forks pool) (first_sound plan forks pool))
 
 pub at_end : (law : PlanOf → List Happening → Happening → Bool) (Fits : PlanOf → List Happening → Seen → Type 0) → Keeps law Fits → (plan : PlanOf) (forks pool : ℕ) (trail : List Event)
-    → legal_from plan (first_state plan forks pool) trail ≡ true → Fits plan (so_far [] (history plan forks pool trail)) (seen (state_from plan (first_state plan forks pool) trail))
+    → IsLegalUnder plan forks pool trail → Fits plan (so_far [] (history plan forks pool trail)) (seen (state_after_under plan forks pool trail))
 at_end law Fits keeps plan forks pool trail l = fits_on law Fits keeps plan forks pool [] (first_state plan forks pool) refl (MayRun forks ∷ []) trail l (keeps.first plan forks pool) (first_of plan forks pool) (first_sound plan forks pool)

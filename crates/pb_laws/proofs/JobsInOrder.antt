@@ -11,9 +11,8 @@ use Rattle.pb_plan.specs.Plan.{PlanOf}
 use Rattle.pb_one_host.specs.declared.decided.TaskEnd.{TaskEnd}
 use Rattle.pb_one_host.specs.declared.row.Running.{Running}
 use Rattle.pb_one_host.specs.Runs.{is_out as has_job_out}
-use Rattle.pb_state.specs.Machine.{first_state}
 use Rattle.pb_one_host.specs.Row.{HostRow, first_rows}
-use Rattle.pb_state.specs.Run.{state_from}
+use Rattle.pb_state.specs.Run.{state_after_under}
 use Rattle.pb_state.proofs.StepNumbers.{and_left, and_right}
 use Rattle.pb_state.proofs.Stands.{both}
 use Rattle.pb_laws.specs.History.{HostTask, Happening, Starts, Sends, Reports, Ends, history}
@@ -419,5 +418,5 @@ all_are_answered plan forks pool trail l finished =
     (λ t below.
     elim (jobs.answered t (let sends = jobs.sent in omega (arith, below, sends))) [
       | inl a ↦ a
-      | inr w ↦ absurd (rows_out (state_from plan (first_state plan forks pool) trail).rows w.0 t w.1.0 finished.none_out w.1.1 w.1.2)
+      | inr w ↦ absurd (rows_out (state_after_under plan forks pool trail).rows w.0 t w.1.0 finished.none_out w.1.1 w.1.2)
     ])

@@ -18,7 +18,7 @@ use Rattle.pb_state.specs.declared.event.Event.{Event}
 use Rattle.pb_state.specs.declared.event.Event.TheVariants.{Open, Start, Send, Report as Reported, Turn, Close, Stop, Forks}
 use Rattle.pb_state.specs.Machine.{possible, after, first_state, next_at, open_play, may_send_in}
 use Rattle.pb_state.specs.Once.{place_run_by}
-use Rattle.pb_state.specs.Run.{IsRun, legal_from, state_from}
+use Rattle.pb_state.specs.Run.{legal_from, state_from, state_after_under, IsRun}
 use Rattle.pb_state.specs.State.{State}
 use Rattle.pb_state.specs.Walks.{AreNumbered}
 use Rattle.pb_state.proofs.StepNumbers.{and_left, and_right}
@@ -334,11 +334,11 @@ in_next plan pool s e may numbered run =
       most = runs_next plan (seen s) (seen (after plan s e)) (told plan s e (after plan s e)) pool step run.room run.most;
     }
 
-in_from : (plan : PlanOf) (forks pool : ℕ) (before : List Event) (s : State) (es : List Event) → state_from plan (first_state plan forks pool) before ≡ s → legal_from plan s es ≡ true → InRun plan pool s
+in_from : (plan : PlanOf) (forks pool : ℕ) (before : List Event) (s : State) (es : List Event) → state_after_under plan forks pool before ≡ s → legal_from plan s es ≡ true → InRun plan pool s
     → InRun plan pool (state_from plan s es)
 in_from plan forks pool before s [] led legal run = run
 in_from plan forks pool before s (e ∷ es) led legal run =
-    let next : state_from plan (first_state plan forks pool) (before ++ e ∷ []) ≡ after plan s e = state_both plan (first_state plan forks pool) before (e ∷ []) ∙ ap (λ (t : State). after plan t e) led in
+    let next : state_after_under plan forks pool (before ++ e ∷ []) ≡ after plan s e = state_both plan (first_state plan forks pool) before (e ∷ []) ∙ ap (λ (t : State). after plan t e) led in
     let numbered = subst (λ (t : State). AreNumbered 0 t.rows) next (rows_stay plan forks pool (before ++ e ∷ [])) in
     in_from plan forks pool (before ++ e ∷ []) (after plan s e) es next (and_right (possible plan s e) _ legal) (in_next plan pool s e (and_left (possible plan s e) _ legal) numbered run)
 

@@ -26,7 +26,7 @@ use Rattle.pb_sight.specs.Results.{items_at}
 use Rattle.pb_state.specs.declared.event.Event.{Event}
 use Rattle.pb_state.specs.declared.event.Event.TheVariants.{Open, Start, Send, Report as Reported, Turn, Close, Stop, Forks}
 use Rattle.pb_state.specs.Machine.{after, after_open, batch_of, facts_at, first_state, may_start_in, next_at, open_play, opened_by, plan_seen, possible, reported_in, sent_in, start_at, started_in, turned_in}
-use Rattle.pb_state.specs.Run.{legal_from, state_from}
+use Rattle.pb_state.specs.Run.{legal_from, state_from, IsLegal, state_after}
 use Rattle.pb_state.specs.State.{State}
 use Rattle.pb_state.proofs.StepNumbers.{and_left, and_right}
 use Rattle.pb_state.proofs.Opening.{open_case, rows_case}
@@ -250,8 +250,8 @@ each_statused [] h all = tt
 each_statused (row ∷ rows) zero all = statused row all.0
 each_statused (row ∷ rows) (suc h) all = each_statused rows h all.1
 
-pub statuses_tell : (plan : PlanOf) (pool : ℕ) (trail : List Event) (h : ℕ) → legal_from plan (first_state plan plan.forks pool) trail ≡ true → IfSome (slice_get (state_from plan (first_state plan plan.forks pool) trail).rows h) IsStatused
+pub statuses_tell : (plan : PlanOf) (pool : ℕ) (trail : List Event) (h : ℕ) → IsLegal plan pool trail → IfSome (slice_get (state_after plan pool trail).rows h) IsStatused
 statuses_tell plan pool trail h legal =
     let n = length plan.inventory.hosts in
-    each_statused (state_from plan (first_state plan plan.forks pool) trail).rows h
+    each_statused (state_after plan pool trail).rows h
     (fit_from plan (first_state plan plan.forks pool) trail legal (record { rows = first_fit 0 n; shut = λ e. first_away 0 n })).rows

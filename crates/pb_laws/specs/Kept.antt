@@ -2,8 +2,7 @@
 use Rattle.std.specs.Prelude.{◌≡◌, ℕ, Bool, true, List, []}
 use Rattle.pb_plan.specs.Plan.{PlanOf}
 use Rattle.pb_state.specs.declared.event.Event.{Event}
-use Rattle.pb_state.specs.Machine.{first_state}
-use Rattle.pb_state.specs.Run.{IsFinished, legal_from, state_from}
+use Rattle.pb_state.specs.Run.{IsLegal, state_after, IsFinished}
 use Rattle.pb_recap.specs.Recap.{recap}
 use Rattle.pb_confluence.specs.Ends.{EndsAsFixed}
 use Rattle.pb_laws.specs.History.{Happening, history}
@@ -17,7 +16,7 @@ Keeps law plan pool trail = holds_from (law plan) [] (history plan plan.forks po
 -- if the run is at its end, all that happened in it fits
 abbrev pub KeepsAtTheEnd : (PlanOf → List Happening → Bool) → PlanOf → ℕ → List Event → Type 0
 KeepsAtTheEnd law plan pool trail =
-    IsFinished plan (state_from plan (first_state plan plan.forks pool) trail) → law plan (so_far [] (history plan plan.forks pool trail)) ≡ true
+    IsFinished plan (state_after plan pool trail) → law plan (so_far [] (history plan plan.forks pool trail)) ≡ true
 
 pub record KeepsLaws (plan : PlanOf) (pool : ℕ) (trail : List Event) : Type 0 where
   -- a host starts a task only if the play's pattern and the limit select it, and only in its batch; it is in one batch of a play
@@ -41,10 +40,10 @@ pub record KeepsLaws (plan : PlanOf) (pool : ℕ) (trail : List Event) : Type 0 
   pub counts : add_up 0 (recap plan pool trail) (so_far [] (history plan plan.forks pool trail)) ≡ true
   pub status : status_tells (recap plan pool trail) ≡ true
   -- where what comes of each job is fixed, the facts and the recap at its end are told by plan and outcomes alone
-  pub fixed : EndsAsFixed plan pool trail (state_from plan (first_state plan plan.forks pool) trail)
+  pub fixed : EndsAsFixed plan pool trail (state_after plan pool trail)
   -- wherever it has come to, the hosts that are seen as ready are those that may act, statuses follow answers, and there is a way to the end
-  pub goes_on : GoesOn plan (state_from plan (first_state plan plan.forks pool) trail)
+  pub goes_on : GoesOn plan (state_after plan pool trail)
 
 -- in every legal run of every plan, whether it goes on to its end or not
 abbrev pub RunsKeepLaws : Type 0
-RunsKeepLaws = (plan : PlanOf) (pool : ℕ) (trail : List Event) → legal_from plan (first_state plan plan.forks pool) trail ≡ true → KeepsLaws plan pool trail
+RunsKeepLaws = (plan : PlanOf) (pool : ℕ) (trail : List Event) → IsLegal plan pool trail → KeepsLaws plan pool trail

@@ -20,10 +20,9 @@ use Rattle.pb_one_host.specs.declared.decided.TaskEnd.{TaskEnd}
 use Rattle.pb_state.specs.declared.event.Event.{Event}
 use Rattle.pb_one_host.specs.declared.row.Counts.{Counts}
 use Rattle.pb_all_hosts.specs.Hosts.{one_if}
-use Rattle.pb_state.specs.Machine.{first_state}
 use Rattle.pb_one_host.specs.Ends.{answer_of, kind_of, plain_answer}
 use Rattle.pb_one_host.specs.Row.{place_of, no_tree}
-use Rattle.pb_state.specs.Run.{IsFinished, legal_from, state_from}
+use Rattle.pb_state.specs.Run.{IsLegal, IsLegalUnder, state_after_under, IsFinished}
 use Rattle.pb_recap.specs.Kinds.{Failed, Unreachable, has, status_of}
 use Rattle.pb_recap.specs.Recap.{recap}
 use Rattle.pb_laws.specs.History.{HostTask, Happening, MayRun, Opens, Starts, Sends, Reports, Ends, Given, Closes, Stops, history}
@@ -43,13 +42,13 @@ so_far past (now ∷ rest) = so_far (now ∷ past) rest
 abbrev pub Always : (PlanOf → List Happening → Happening → Bool) → Type 0
 Always law =
     (plan : PlanOf) (forks pool : ℕ) (trail : List Event) →
-    legal_from plan (first_state plan forks pool) trail ≡ true → holds_from (law plan) [] (history plan forks pool trail) ≡ true
+    IsLegalUnder plan forks pool trail → holds_from (law plan) [] (history plan forks pool trail) ≡ true
 
 -- in every run where nothing can happen any more but commands, and no job is out
 abbrev pub AtTheEnd : (PlanOf → List Happening → Bool) → Type 0
 AtTheEnd law =
     (plan : PlanOf) (forks pool : ℕ) (trail : List Event) →
-    legal_from plan (first_state plan forks pool) trail ≡ true → IsFinished plan (state_from plan (first_state plan forks pool) trail)
+    IsLegalUnder plan forks pool trail → IsFinished plan (state_after_under plan forks pool trail)
     → law plan (so_far [] (history plan forks pool trail)) ≡ true
 
 -- ---- own hosts: a host starts a task of a play only if the play's pattern and the limit select it, and only in a batch that it is in; and no host is in two
@@ -341,5 +340,5 @@ status_tells all = if list_any has_trouble all then not (status_of all == 0) els
 abbrev pub RecapAddsUp : Type 0
 RecapAddsUp =
     (plan : PlanOf) (pool : ℕ) (trail : List Event) →
-    legal_from plan (first_state plan plan.forks pool) trail ≡ true
+    IsLegal plan pool trail
     → (add_up 0 (recap plan pool trail) (so_far [] (history plan plan.forks pool trail)) ≡ true) × (status_tells (recap plan pool trail) ≡ true)

@@ -4,12 +4,13 @@ use Rattle.pb_outcome.specs.declared.outcome.Form.TheVariants.{Ran}
 use Rattle.pb_outcome.specs.declared.gather.TaskResult.{TaskResult}
 use Rattle.pb_plan.specs.Plan.{PlanOf, PlayOf, bare_play, bare_plan, bare_tree}
 use Rattle.pb_recap.specs.Recap.{recap}
-use Rattle.pb_state.specs.BatchRows.{start, send, went, is_legal}
+use Rattle.pb_state.specs.BatchRows.{start, send, went}
 use Rattle.pb_state.specs.BlockRows.{runs, refuses, says, last}
 use Rattle.pb_one_host.specs.FactRows.{on_facts}
 use Rattle.pb_one_host.specs.declared.decided.TaskEnd.{TaskEnd}
 use Rattle.pb_state.specs.declared.event.Event.{Event}
 use Rattle.pb_state.specs.declared.event.Event.TheVariants.{Open, Send, Report as Reported, Turn, Close, Stop, Forks}
+use Rattle.pb_state.specs.Run.{IsLegal}
 use Rattle.pb_one_host.specs.declared.row.Counts.{Counts}
 use Rattle.pb_tree.specs.declared.answer.Kind.TheVariants.{Halted}
 use Rattle.pb_tree.specs.Tree.{Nothing, Task, Block, Flush}
@@ -268,7 +269,7 @@ fails = Reported (record { ticket = record { 0 = 0 }; host = record { 0 = 0 }; i
 abbrev halted_trail : List Event
 halted_trail = Open ∷ start 0 ∷ send 0 0 ∷ start 1 ∷ send 1 1 ∷ fails ∷ went 1 1 ∷ Turn ∷ start 0 ∷ start 1 ∷ Turn ∷ start 0 ∷ start 1 ∷ Turn ∷ Close ∷ []
 
-halted_twice : (is_legal always_part halted_trail ≡ true) × (holds_from (out_is_out always_part) [] (history always_part 5 256 halted_trail) ≡ true)
+halted_twice : IsLegal always_part 256 halted_trail × (holds_from (out_is_out always_part) [] (history always_part 5 256 halted_trail) ≡ true)
 unfolding on_facts
 halted_twice = (refl, refl)
 

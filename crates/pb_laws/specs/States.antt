@@ -8,9 +8,9 @@ use Rattle.pb_plan.specs.Plan.{PlanOf}
 use Rattle.pb_one_host.specs.Row.{HostRow, next_place, place_of}
 use Rattle.pb_state.specs.declared.event.Event.{Event}
 use Rattle.pb_state.specs.declared.event.Event.TheVariants.{Start, Send}
-use Rattle.pb_state.specs.Machine.{possible, ready, first_state}
+use Rattle.pb_state.specs.Machine.{possible, ready}
 use Rattle.pb_state.specs.Over.{IsOver}
-use Rattle.pb_state.specs.Run.{IsEager, IsFinished, is_command, legal_from, state_from}
+use Rattle.pb_state.specs.Run.{legal_from, state_from, IsLegal, state_after, IsEager, IsFinished, is_command}
 use Rattle.pb_state.specs.State.{State}
 use Rattle.pb_tree.specs.declared.tree.Status.TheVariants.{Active}
 use Rattle.pb_tree.specs.Walk.{reach, status_now, unforced}
@@ -46,4 +46,4 @@ pub record GoesOn (plan : PlanOf) (s : State) : Type 0 where
 
 -- wherever a legal trail leads
 abbrev pub RunsGoOn : Type 0
-RunsGoOn = (plan : PlanOf) (pool : ℕ) (trail : List Event) → legal_from plan (first_state plan plan.forks pool) trail ≡ true → GoesOn plan (state_from plan (first_state plan plan.forks pool) trail)
+RunsGoOn = (plan : PlanOf) (pool : ℕ) (trail : List Event) → IsLegal plan pool trail → GoesOn plan (state_after plan pool trail)

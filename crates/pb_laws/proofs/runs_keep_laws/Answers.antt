@@ -1,5 +1,4 @@
-use Rattle.pb_state.specs.Machine.{first_state}
-use Rattle.pb_state.specs.Run.{state_from}
+use Rattle.pb_state.specs.Run.{state_after}
 use Rattle.pb_confluence.proofs.AsFixed.{runs_end_as_fixed}
 use Rattle.pb_laws.proofs.AddingUp.{recap_adds_up}
 use Rattle.pb_laws.proofs.AllClosed.{batches_all_close}
@@ -27,6 +26,6 @@ returns c = λ plan pool trail legal. record {
   attempts = attempts_are_in_order plan plan.forks pool trail legal;
   counts = (recap_adds_up plan pool trail legal).0;
   status = (recap_adds_up plan pool trail legal).1;
-  fixed = runs_end_as_fixed plan pool trail (state_from plan (first_state plan plan.forks pool) trail);
+  fixed = runs_end_as_fixed plan pool trail (state_after plan pool trail);
   goes_on = run_goes_on plan pool trail legal;
 }
