@@ -13,9 +13,8 @@ use Rattle.pb_state.specs.declared.event.Event.{Event}
 use Rattle.pb_state.specs.declared.event.Event.TheVariants.{Open, Start, Send, Report as Reported, Turn, Close, Stop, Forks}
 use Rattle.pb_play.specs.declared.task.Task.{Task}
 use Rattle.pb_places.specs.Place.{bare_place, bare_task, place_of}
-use Rattle.pb_state.specs.Machine.{first_state}
 use Rattle.pb_plan.specs.Plan.{PlayOf, PlanOf, bare_play, bare_plan, bare_tree}
-use Rattle.pb_state.specs.Run.{state_from}
+use Rattle.pb_state.specs.Run.{state_after_under}
 use Rattle.pb_state.specs.State.{State}
 use Rattle.pb_events.specs.Line.{line}
 use Rattle.pb_events.specs.Lines.{start_line, lines_of, result_line}
@@ -35,7 +34,7 @@ abbrev pub two_hosts : PlanOf
 two_hosts = one_task (Debug (text (codes "hello")))
 
 abbrev after_of : PlanOf → List Event → State
-after_of plan events = state_from plan (first_state plan 5 5) events
+after_of plan events = state_after_under plan 5 5 events
 
 abbrev after_all : List Event → State
 after_all events = after_of two_hosts events
