@@ -24,7 +24,7 @@ use Rattle.pb_state.specs.declared.event.Event.{Event}
 use Rattle.pb_state.specs.declared.event.Event.TheVariants.{Send, Report as Reported}
 use Rattle.pb_state.specs.Jobs.{job_of}
 use Rattle.pb_state.specs.Machine.{possible, after, first_state, open_play, may_send_in}
-use Rattle.pb_state.specs.Run.{legal_from, state_from}
+use Rattle.pb_state.specs.Run.{legal_from, state_from, IsLegal, state_after}
 use Rattle.pb_state.specs.State.{State}
 use Rattle.pb_state.proofs.StepNumbers.{and_left, and_right}
 use Rattle.pb_state.proofs.Trails.{run_more, legal_rest, state_both}
@@ -86,10 +86,10 @@ pub view_now : (k : ℕ) (m : MainView) (engine : EngineOf) → FitsSince (FitsV
 view_now k m engine since =
     let old = since.old in
     let first = first_state old.plan old.plan.forks old.pool in
-    let legal : legal_from old.plan first (old.trail ++ since.events) ≡ true =
-    subst (λ (t : List Event). legal_from old.plan first t ≡ true) since.trail (subst (λ (n : ℕ). legal_from old.plan (first_state old.plan old.plan.forks n) engine.trail ≡ true) since.pool (subst (λ (p : PlanOf). legal_from p (first_state p p.forks engine.pool) engine.trail ≡ true) since.plan since.run.legal)) in
-    let ends : state_from old.plan first (old.trail ++ since.events) ≡ engine.state =
-    subst (λ (t : List Event). state_from old.plan first t ≡ engine.state) since.trail (subst (λ (n : ℕ). state_from old.plan (first_state old.plan old.plan.forks n) engine.trail ≡ engine.state) since.pool (subst (λ (p : PlanOf). state_from p (first_state p p.forks engine.pool) engine.trail ≡ engine.state) since.plan since.run.ends)) in
+    let legal : IsLegal old.plan old.pool (old.trail ++ since.events) =
+    subst (λ (t : List Event). IsLegal old.plan old.pool t) since.trail (subst (λ (n : ℕ). IsLegal old.plan n engine.trail) since.pool (subst (λ (p : PlanOf). IsLegal p engine.pool engine.trail) since.plan since.run.legal)) in
+    let ends : state_after old.plan old.pool (old.trail ++ since.events) ≡ engine.state =
+    subst (λ (t : List Event). state_after old.plan old.pool t ≡ engine.state) since.trail (subst (λ (n : ℕ). state_after old.plan n engine.trail ≡ engine.state) since.pool (subst (λ (p : PlanOf). state_after p engine.pool engine.trail ≡ engine.state) since.plan since.run.ends)) in
     let on : legal_from old.plan old.state since.events ≡ true = subst (λ (t : State). legal_from old.plan t since.events ≡ true) since.sound.ends (legal_rest old.plan first old.trail since.events legal) in
     let there : state_from old.plan old.state since.events ≡ engine.state =
     ap (λ (t : State). state_from old.plan t since.events) (sym since.sound.ends) ∙ sym (state_both old.plan first old.trail since.events) ∙ ends in

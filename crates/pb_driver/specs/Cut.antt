@@ -3,7 +3,7 @@ use Rattle.std.specs.Prelude.{◌≡◌, ◌≤◌, ◌<◌, ◌-◌, ℕ, List,
 use Rattle.pb_state.specs.declared.event.Event.{Event}
 use Rattle.pb_plan.specs.Plan.{PlanOf}
 use Rattle.pb_state.specs.Machine.{first_state}
-use Rattle.pb_state.specs.Run.{state_from, IsFinished}
+use Rattle.pb_state.specs.Run.{state_after, IsFinished}
 use Rattle.pb_engine.specs.EngineOf.{EngineOf}
 use Rattle.pb_events.specs.Lines.{start_line}
 use Rattle.pb_driver.specs.Taken.{with_more}
@@ -32,7 +32,7 @@ pub record IsCut (plan : PlanOf) (pool : ℕ) (trail : List Event) (before after
   pub count : ℕ
   pub written : after ≡ with_more before (take count (output plan pool trail))
   pub least : length (least_written plan pool trail) ≤ count
-  pub most : length (lines_to plan pool trail) < count → IsFinished plan (state_from plan (first_state plan plan.forks pool) trail)
+  pub most : length (lines_to plan pool trail) < count → IsFinished plan (state_after plan pool trail)
 
 -- a front of the lines of an engine's trail was written, with those of all events but the last whole
 pub record IsShort (engine : EngineOf) (before after : Option (List ℕ)) : Type 0 where

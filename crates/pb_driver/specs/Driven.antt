@@ -12,7 +12,7 @@ use Rattle.pb_state.specs.State.{State}
 use Rattle.pb_state.specs.Machine.{after, first_state}
 use Rattle.pb_state.specs.Jobs.{job_of}
 use Rattle.pb_all_hosts.specs.Oldest.{oldest_out}
-use Rattle.pb_state.specs.Run.{IsRun, IsEager, IsQuiet, IsFinished, legal_from, state_from, is_report, is_command}
+use Rattle.pb_state.specs.Run.{IsLegal, state_after, IsRun, IsEager, IsQuiet, IsFinished, is_report, is_command}
 use Rattle.pb_state.specs.Once.{IsOnce}
 use Rattle.pb_engine.specs.EngineOf.{EngineOf, Takes}
 use Rattle.pb_state.specs.Over.{IsOver}
@@ -62,7 +62,7 @@ IsAnswered answers plan s (e ∷ es) = IsAnswerAt answers plan s e × IsAnswered
 
 -- the beginning of a run, which is one itself: a run that couldn't go on leaves this much of its trail, with the commands that were given
 pub record IsBegunBy (answers : Answers) (plan : PlanOf) (pool : ℕ) (commands : List Given) (trail : List Event) : Type 0 where
-  pub legal : legal_from plan (first_state plan plan.forks pool) trail ≡ true
+  pub legal : IsLegal plan pool trail
   pub eager : IsEager plan (first_state plan plan.forks pool) trail
   pub once : IsOnce plan (first_state plan plan.forks pool) trail
   pub answered : IsAnswered answers plan (first_state plan plan.forks pool) trail
@@ -80,37 +80,37 @@ pub record HasEnded (plan : PlanOf) (s : State) : Type 0 where
 -- a whole run, whoever ran its jobs: a legal, eager trail that does nothing twice, whose reports answer the jobs that were out and that ends in a finished state
 -- and isn't stuck there; the commands that were due and aren't refused stand in it, and no others; and its output and nothing else was written
 pub record IsWhole (answers : Answers) (plan : PlanOf) (pool : ℕ) (commands : List Given) (trail : List Event) (before after : Option (List ℕ)) : Type 0 where
-  pub legal : legal_from plan (first_state plan plan.forks pool) trail ≡ true
+  pub legal : IsLegal plan pool trail
   pub eager : IsEager plan (first_state plan plan.forks pool) trail
   pub once : IsOnce plan (first_state plan plan.forks pool) trail
   pub answered : IsAnswered answers plan (first_state plan plan.forks pool) trail
   pub obeyed : IsObeyed plan pool commands trail
-  pub finished : IsFinished plan (state_from plan (first_state plan plan.forks pool) trail)
-  pub over : IsOver plan (state_from plan (first_state plan plan.forks pool) trail)
+  pub finished : IsFinished plan (state_after plan pool trail)
+  pub over : IsOver plan (state_after plan pool trail)
   pub written : after ≡ with_more before (output plan pool trail)
 
 -- a whole run by one runner: a legal, eager trail that does nothing twice, whose reports answer the jobs that were out and that ends in a finished state and isn't stuck
 -- there; the commands that were due and aren't refused stand in it, and no others; exactly the jobs of its reports were run, in their order; and its output and
 -- nothing else was written
 pub record IsWholeRun (allows gives : Job → Form → Type 0) (has_run : List (Job × Form) → Type 0) (plan : PlanOf) (pool : ℕ) (commands : List Given) (trail : List Event) (before after : Option (List ℕ)) : Type 0 where
-  pub legal : legal_from plan (first_state plan plan.forks pool) trail ≡ true
+  pub legal : IsLegal plan pool trail
   pub eager : IsEager plan (first_state plan plan.forks pool) trail
   pub once : IsOnce plan (first_state plan plan.forks pool) trail
   pub answered : IsAnswered (IsAnswer allows gives) plan (first_state plan plan.forks pool) trail
   pub obeyed : IsObeyed plan pool commands trail
-  pub finished : IsFinished plan (state_from plan (first_state plan plan.forks pool) trail)
-  pub over : IsOver plan (state_from plan (first_state plan plan.forks pool) trail)
+  pub finished : IsFinished plan (state_after plan pool trail)
+  pub over : IsOver plan (state_after plan pool trail)
   pub ran : has_run (answers_of plan pool trail)
   pub written : after ≡ with_more before (output plan pool trail)
 
 -- the recap and the exit status of a trail, and what its end is where what comes of its jobs is fixed
 abbrev pub IsTold : PlanOf → ℕ → List Event → List Counts → ℕ → Type 0
 IsTold plan pool trail counts status =
-    (counts ≡ recap plan pool trail) × (status ≡ status_of (recap plan pool trail)) × EndsAsFixed plan pool trail (state_from plan (first_state plan plan.forks pool) trail)
+    (counts ≡ recap plan pool trail) × (status ≡ status_of (recap plan pool trail)) × EndsAsFixed plan pool trail (state_after plan pool trail)
 
 -- the beginning of a run, as an engine has it, whatever commands were due
 pub record HasBegun (answers : Answers) (engine : EngineOf) : Type 0 where
-  pub legal : legal_from engine.plan (first_state engine.plan engine.plan.forks engine.pool) engine.trail ≡ true
+  pub legal : IsLegal engine.plan engine.pool engine.trail
   pub eager : IsEager engine.plan (first_state engine.plan engine.plan.forks engine.pool) engine.trail
   pub once : IsOnce engine.plan (first_state engine.plan engine.plan.forks engine.pool) engine.trail
   pub answered : IsAnswered answers engine.plan (first_state engine.plan engine.plan.forks engine.pool) engine.trail

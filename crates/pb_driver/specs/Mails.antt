@@ -14,7 +14,7 @@ use Rattle.pb_plan.specs.Plan.{PlanOf}
 use Rattle.pb_state.specs.State.{State}
 use Rattle.pb_state.specs.Machine.{after, first_state}
 use Rattle.pb_state.specs.Jobs.{job_of}
-use Rattle.pb_state.specs.Run.{state_from}
+use Rattle.pb_state.specs.Run.{state_after}
 use Rattle.pb_engine.specs.EngineOf.{EngineOf}
 use Rattle.pb_driver.specs.Driven.{Answers}
 use Rattle.pb_driver.specs.declared.driver.RunFault.{RunFault}
@@ -85,8 +85,8 @@ HasDrained old new = (later : List Report) × (map letter_at new ≡ map letter_
 abbrev pub HasGoneTo : Answers → (List Mail → Type 0) → PlanOf → ℕ → List Event → RunFault → Type 0
 HasGoneTo answers has_gone plan pool trail fault =
     has_gone (mails_of plan pool trail)
-    ⊎ ((fault ≡ Memory) × ((r : Report) × (job : Job) × (job_of plan (state_from plan (first_state plan plan.forks pool) trail) r.host r.ticket ≡ Some job)
-    × answers plan (state_from plan (first_state plan plan.forks pool) trail) r × has_gone (mails_of plan pool trail ++ Comes job r.outcome ∷ [])))
+    ⊎ ((fault ≡ Memory) × ((r : Report) × (job : Job) × (job_of plan (state_after plan pool trail) r.host r.ticket ≡ Some job)
+    × answers plan (state_after plan pool trail) r × has_gone (mails_of plan pool trail ++ Comes job r.outcome ∷ [])))
 
 -- where the mails of the old engine went and came, those of the new engine do, whatever did before
 abbrev pub GoesAlong : {H : Type 0} → (H → List Mail → H → Type 0) → EngineOf → EngineOf → H → H → Type 0

@@ -12,7 +12,7 @@ use Rattle.pb_state.specs.State.{State}
 use Rattle.pb_state.specs.Machine.{after, first_state}
 use Rattle.pb_state.specs.Jobs.{job_of}
 use Rattle.pb_all_hosts.specs.Oldest.{oldest_out}
-use Rattle.pb_state.specs.Run.{state_from}
+use Rattle.pb_state.specs.Run.{state_after}
 use Rattle.pb_driver.specs.declared.driver.RunFault.{RunFault}
 use Rattle.pb_driver.specs.declared.driver.RunFault.TheVariants.{Memory}
 
@@ -43,4 +43,4 @@ IsOldestJob plan s job = (host : HostNo) × (ticket : Ticket) × (oldest_out s.r
 abbrev pub IsRanTo : (List (Job × Form) → Type 0) → PlanOf → ℕ → List Event → RunFault → Type 0
 IsRanTo has_run plan pool trail fault =
     has_run (answers_of plan pool trail)
-    ⊎ ((fault ≡ Memory) × ((job : Job) × (outcome : Form) × IsOldestJob plan (state_from plan (first_state plan plan.forks pool) trail) job × has_run (answers_of plan pool trail ++ (job, outcome) ∷ [])))
+    ⊎ ((fault ≡ Memory) × ((job : Job) × (outcome : Form) × IsOldestJob plan (state_after plan pool trail) job × has_run (answers_of plan pool trail ++ (job, outcome) ∷ [])))

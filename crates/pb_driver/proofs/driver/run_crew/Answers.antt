@@ -2,8 +2,7 @@ use Rattle.std.proofs.Common.{◌≡◌, ℕ, List, ◌∙◌, ap}
 use Rattle.std.specs.Prelude.{Ok}
 use Rattle.pb_plan.specs.Plan.{PlanOf}
 use Rattle.pb_state.specs.declared.event.Event.{Event}
-use Rattle.pb_state.specs.Machine.{first_state}
-use Rattle.pb_state.specs.Run.{state_from}
+use Rattle.pb_state.specs.Run.{state_after}
 use Rattle.pb_one_host.specs.declared.row.Counts.{Counts}
 use Rattle.pb_engine.specs.EngineOf.{EngineOf, engine_of}
 use Rattle.pb_engine.specs.Laws.{EndsAsFixed}
@@ -16,7 +15,7 @@ use Rattle.pb_driver.proofs.driver.run_crew.Goals as goal
 
 -- the recap and the status of the plan's run
 told_of : (plan : PlanOf) (pool : ℕ) (engine : EngineOf) (new_trail trail : List Event) (counts : List Counts) (status : ℕ) → engine_of plan pool ≡ Ok engine → counts ≡ recap engine.plan engine.pool new_trail
-    → status ≡ status_of counts → EndsAsFixed plan pool trail (state_from plan (first_state plan plan.forks pool) trail) → trail ≡ new_trail → IsTold plan pool trail counts status
+    → status ≡ status_of counts → EndsAsFixed plan pool trail (state_after plan pool trail) → trail ≡ new_trail → IsTold plan pool trail counts status
 told_of plan pool engine new_trail trail counts status made counted told fixed is =
     let from = made_of plan pool engine made in
     let same : counts ≡ recap plan pool trail = rw (is, ← from.0, ← from.1) counted in
