@@ -18,7 +18,6 @@ use Rattle.pb_runner.specs.declared.table.Table.{Table}
 use Rattle.pb_runner.specs.Table.{TableGives}
 use Rattle.pb_state.specs.declared.event.Event.{Event}
 use Rattle.pb_state.specs.Machine.{first_state}
-use Rattle.pb_state.specs.Run.{state_from}
 use Rattle.pb_state.specs.State.{State}
 use Rattle.pb_audit.specs.Audit.{end_of, end_under}
 use Rattle.pb_driver.specs.declared.given.Given.{Given}
@@ -62,7 +61,7 @@ whole_again : (plan : PlanOf) (forks : ℕ) (table : Table) (commands : List Giv
     → IsUnrefused table (with_forks forks plan) (first_state (with_forks forks plan) forks 256) again → (end_under plan forks again).stopped ≡ false
     → IsWhole plan (given_by plan.inventory table) forks 256 again
 whole_again plan forks table commands again status some run unrefused unstopped =
-    let s : State = state_from (with_forks forks plan) (first_state (with_forks forks plan) forks 256) again in
+    let s : State = end_of (with_forks forks plan) again in
     let is_end : IsEnd (with_forks forks plan) (given_by plan.inventory table) 256 again s = record {
       some = some;
       run = record { legal = run.run.legal; ends = refl };
