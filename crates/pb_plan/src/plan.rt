@@ -28,18 +28,13 @@ use std::alloc::{AllocError, Global};
 use std::marker::Model;
 use std::rc::Rc;
 
-/// A play: its name, its tree, what stands at each place of the tree, in the order of places, the hosts that are its own, how the hosts of a batch
-/// go through its tasks, what it says of the sizes of its batches and of how many of a batch's hosts in a hundred may fail, its variables, and those that
-/// the play gives by itself.
+/// A play: what it says of itself (`PlayHead`), its tree, and what stands at the tree's places (`AtPlaces`).
 pub struct PlanPlay {
     name: Text,
     laid: Rc<LaidTree>,
     places: Items<Place>,
-    /// How many hosts may run the task at each place at once, in the order of places.
     throttles: Vec<u32>,
-    /// Whether the first host of a batch runs the task at each place for all.
     run_once: Vec<bool>,
-    /// The places that are marked have no variable in whose text `hostvars` stands.
     free_places: Vec<bool>,
     hosts: HostSet,
     strategy: Strategy,
