@@ -2,22 +2,22 @@
 use Rattle.std.proofs.Common.{◌≡◌, ◌⊎◌, ◌<◌, ◌≤◌, ℕ, true, false, List, Option, Some, None, is_some, inl, inr, subst, sym, arith}
 use Rattle.std.specs.Prelude.{IfSome}
 use Rattle.pb_planning.specs.declared.bundle.Bundle.{Bundle}
-use Rattle.pb_cli.specs.Played.{Starts}
 use Rattle.pb_command_line.specs.CommandLine.{Asks, IsSameUnder}
 use Rattle.pb_command_line.specs.declared.words.Request.{Request}
 use Rattle.pb_state.specs.declared.event.Event.{Event}
 use Rattle.pb_cli.specs.Again.{IsToldAgain}
 use Rattle.pb_cli.specs.declared.playing.Played.{Played}
 use Rattle.pb_cli.specs.declared.playing.Wanted.{Wanted}
-use Rattle.pb_cli.specs.Done.{IsBundleOf, IsWantedBy, is_too_long, IsShown, IsUntouched, IsCutOrUnkept, IsBroken}
+use Rattle.pb_cli.specs.Done.{IsBundleOf, IsWantedBy, is_too_long, IsShown, IsCutOrUnkept, IsBroken}
+use Rattle.pb_cli.specs.World.{Stream, World, IsUntouched}
 use Rattle.pb_cli.proofs.Running.{untouched}
 
-pub broken : (request : Request) (bundle : Bundle) (wanted : Wanted) (path : Option (List ℕ)) (same_under : Option ℕ) (failed : Option (List ℕ)) (started started_after : Starts) (out_before out_after err_before : Option (List ℕ)) (out_failures out_failures_after failures : ℕ)
+pub broken : (request : Request) (bundle : Bundle) (wanted : Wanted) (path : Option (List ℕ)) (same_under : Option ℕ) (failed : Option (List ℕ)) (before after : World)
     → IsBundleOf request bundle → IsWantedBy request wanted → is_too_long wanted.outcomes ≡ false → path ≡ request.trail → same_under ≡ request.same_under → failed ≡ request.failed
-    → IsUntouched started started_after out_before out_after ⊎ IsCutOrUnkept bundle wanted path same_under failed started started_after out_before out_after err_before out_failures out_failures_after failures
-    → IsUntouched started started_after out_before out_after ⊎ IsBroken request started started_after out_before out_after err_before out_failures out_failures_after failures
-broken request bundle wanted path same_under failed started started_after out_before out_after err_before out_failures out_failures_after failures asked wants short named under kept (inl untouched) = inl untouched
-broken request bundle wanted path same_under failed started started_after out_before out_after err_before out_failures out_failures_after failures asked wants short named under kept (inr cut) =
+    → IsUntouched before.stage after.stage ⊎ IsCutOrUnkept bundle wanted path same_under failed before after
+    → IsUntouched before.stage after.stage ⊎ IsBroken request before after
+broken request bundle wanted path same_under failed before after asked wants short named under kept (inl untouched) = inl untouched
+broken request bundle wanted path same_under failed before after asked wants short named under kept (inr cut) =
     inr
     (record {
       bundle = bundle;
@@ -26,9 +26,9 @@ broken request bundle wanted path same_under failed started started_after out_be
       wants = wants;
       short = short;
       cut =
-          subst (λ (u : Option ℕ). IsCutOrUnkept bundle wanted request.trail u request.failed started started_after out_before out_after err_before out_failures out_failures_after failures) under
-          (subst (λ (p : Option (List ℕ)). IsCutOrUnkept bundle wanted p same_under request.failed started started_after out_before out_after err_before out_failures out_failures_after failures) named
-          (subst (λ (f : Option (List ℕ)). IsCutOrUnkept bundle wanted path same_under f started started_after out_before out_after err_before out_failures out_failures_after failures) kept cut));
+          subst (λ (u : Option ℕ). IsCutOrUnkept bundle wanted request.trail u request.failed before after) under
+          (subst (λ (p : Option (List ℕ)). IsCutOrUnkept bundle wanted p same_under request.failed before after) named
+          (subst (λ (f : Option (List ℕ)). IsCutOrUnkept bundle wanted path same_under f before after) kept cut));
     })
 
 -- so many forks are 1 to 256, as the words' reading gives them
@@ -42,21 +42,20 @@ pub under_asked : (words : List (List ℕ)) (request : Request) → Asks words r
 under_asked words request (none, (inventory, playbook, forks, outcomes, limit, extra, roles, facts, stop, under, failed, trail, audit, strict, places, purpose)) = under_in _ request.same_under under
 
 -- what was asked for was done, and then status 1 is told: nothing was done where a warning is a fault, and else the trail or the hosts that didn't get through couldn't be kept, or another run not be made
-pub done_badly : (bundle : Bundle) (wanted : Wanted) (path : Option (List ℕ)) (same_under : Option ℕ) (failed : Option (List ℕ)) (started started_after : Starts) (out_before out_after err_before err_after : Option (List ℕ)) (out_failures out_failures_after failures failures_after : ℕ) (played : Played)
-    → IsShown bundle wanted started started_after out_before out_after err_before err_after failures failures_after played
+pub done_badly : (bundle : Bundle) (wanted : Wanted) (path : Option (List ℕ)) (same_under : Option ℕ) (failed : Option (List ℕ)) (before after : World) (warned : Stream) (played : Played)
+    → IsShown bundle wanted before (record after { err = warned }) played
     → (played.status ≡ 1) ⊎ (((is_some path ≡ true) ⊎ (is_some same_under ≡ true) ⊎ (is_some failed ≡ true)) × (is_some played.trail ≡ true))
-    → IsUntouched started started_after out_before out_after ⊎ IsCutOrUnkept bundle wanted path same_under failed started started_after out_before out_after err_before out_failures out_failures_after failures
-done_badly bundle wanted path same_under failed started started_after out_before out_after err_before err_after out_failures out_failures_after failures failures_after played shown (inl one) =
-    inl (untouched bundle wanted started started_after out_before out_after err_before err_after failures failures_after played shown one)
-done_badly bundle wanted path same_under failed started started_after out_before out_after err_before err_after out_failures out_failures_after failures failures_after played shown (inr (asked, run)) =
-    inr (inr (record { asked = asked; played = played; run = run; err_warned = err_after; failures_warned = failures_after; shown = shown }))
+    → IsUntouched before.stage after.stage ⊎ IsCutOrUnkept bundle wanted path same_under failed before after
+done_badly bundle wanted path same_under failed before after warned played shown (inl one) = inl (untouched bundle wanted before (record after { err = warned }) played shown one)
+done_badly bundle wanted path same_under failed before after warned played shown (inr (asked, run)) =
+    inr (inr (record { asked = asked; played = played; run = run; err_warned = warned; shown = shown }))
 
 -- what was told of another run, where nothing was written behind it
-pub told_before : (same_under : Option ℕ) (trail : Option (List Event)) (bundle : Bundle) (wanted : Wanted) (before told after : Option (List ℕ)) (failures failures_told failures_after : ℕ)
-    → after ≡ told → failures_after ≡ failures_told → IsToldAgain same_under trail bundle wanted before told failures failures_told → IsToldAgain same_under trail bundle wanted before after failures failures_after
-told_before same_under trail bundle wanted before told after failures failures_told failures_after as_told failed_as_told is =
-    subst (λ (a : Option (List ℕ)). IsToldAgain same_under trail bundle wanted before a failures failures_after) (sym as_told)
-    (subst (λ (f : ℕ). IsToldAgain same_under trail bundle wanted before told failures f) (sym failed_as_told) is)
+pub told_before : (same_under : Option ℕ) (trail : Option (List Event)) (bundle : Bundle) (wanted : Wanted) (before told after : Stream)
+    → IsToldAgain same_under trail bundle wanted before told → after.taken ≡ told.taken → after.failures ≡ told.failures → IsToldAgain same_under trail bundle wanted before after
+told_before same_under trail bundle wanted before told after is taken failures =
+    subst (λ (a : Option (List ℕ)). IsToldAgain same_under trail bundle wanted before (record { taken = a; failures = after.failures })) (sym taken)
+    (subst (λ (f : ℕ). IsToldAgain same_under trail bundle wanted before (record { taken = told.taken; failures = f })) (sym failures) is)
 
 -- only what is asked for can't be kept
 pub unkept : (path : Option (List ℕ)) (same_under : Option ℕ) (failed : Option (List ℕ)) (trail : Option (List Event)) (status : ℕ)

@@ -21,6 +21,7 @@ use Rattle.pb_driver.specs.Mails.{AreMails, AreWithin}
 use Rattle.pb_driver.specs.Workers.{HasItsShare, HaveShares, IsSpread}
 use Rattle.pb_cli.specs.Hired.{launcher_of, facts_of}
 use Rattle.pb_cli.specs.Played.{IsRunBy, IsCutBy, IsLocalRun, IsLocalCut, AreStartedFor, commands_for}
+use Rattle.pb_cli.specs.World.{Stream}
 
 -- ---- lists
 reverse_snoc : {X : Type 0} (xs : List X) (x : X) → reverse (xs ++ x ∷ []) ≡ x ∷ reverse xs
@@ -175,26 +176,26 @@ module _ {L : Type 0} (launched : L → Option (List Launch)) where
       told_of all_after news others after ∙ ap (λ l. l ++ map launched others) (untold facts olds news plan same spread) ∙ sym (told_of all olds others before)
 
   -- ---- a run by such runners, as it is handed out
-  pub hired_run : (result : Result (ℕ × List Event) (RunFault × List Event)) (plan : PlanOf) (stop_after : Option ℕ) (facts : Option (List ℕ)) (olds news : List (LocalRunner L)) (others all all_after : List L) (before after : Option (List ℕ))
+  pub hired_run : (result : Result (ℕ × List Event) (RunFault × List Event)) (plan : PlanOf) (stop_after : Option ℕ) (facts : Option (List ℕ)) (olds news : List (LocalRunner L)) (others all all_after : List L) (before after : Stream)
       → all ≡ map launcher_of olds ++ others → all_after ≡ map launcher_of news ++ others → length olds ≡ plan.forks → All (λ (f : Option (List ℕ)). f ≡ facts) (map facts_of olds)
-      → IfOk result (λ ran. IsRunBy (IsWorkersAnswer LocalAllows) plan (length olds) (commands_for stop_after) ran.1 before after ran.0)
+      → IfOk result (λ ran. IsRunBy (IsWorkersAnswer LocalAllows) plan (length olds) (commands_for stop_after) ran.1 before.taken after.taken ran.0)
       → IfOk result (λ ran. IsSpread RanBy olds news plan ran.1 [])
-      → IfOk result (λ ran. IsLocalRun plan stop_after facts (map launched all) (map launched all_after) ran.1 before after ran.0)
+      → IfOk result (λ ran. IsLocalRun plan stop_after facts ran.1 (record { started = map launched all; out = before }) (record { started = map launched all_after; out = after }) ran.0)
   hired_run (Ok ran) plan stop_after facts olds news others all all_after before after old new many same run spread = record {
-    run = subst (λ (k : ℕ). IsRunBy (IsWorkersAnswer LocalAllows) plan k (commands_for stop_after) ran.1 before after ran.0) many run;
+    run = subst (λ (k : ℕ). IsRunBy (IsWorkersAnswer LocalAllows) plan k (commands_for stop_after) ran.1 before.taken after.taken ran.0) many run;
     programs = started_for facts olds news others all all_after plan ran.1 [] old new many same spread;
   }
   hired_run (Err cut) plan stop_after facts olds news others all all_after before after old new many same run spread = tt
 
-  pub hired_cut : (result : Result (ℕ × List Event) (RunFault × List Event)) (plan : PlanOf) (stop_after : Option ℕ) (facts : Option (List ℕ)) (olds news : List (LocalRunner L)) (others all all_after : List L) (before after : Option (List ℕ))
+  pub hired_cut : (result : Result (ℕ × List Event) (RunFault × List Event)) (plan : PlanOf) (stop_after : Option ℕ) (facts : Option (List ℕ)) (olds news : List (LocalRunner L)) (others all all_after : List L) (before after : Stream)
       → all ≡ map launcher_of olds ++ others → all_after ≡ map launcher_of news ++ others → length olds ≡ plan.forks → All (λ (f : Option (List ℕ)). f ≡ facts) (map facts_of olds)
-      → IfErr result (λ cut. IsCutBy (IsWorkersAnswer LocalAllows) plan (length olds) (commands_for stop_after) cut.1 before after)
+      → IfErr result (λ cut. IsCutBy (IsWorkersAnswer LocalAllows) plan (length olds) (commands_for stop_after) cut.1 before.taken after.taken)
       → IfErr result (λ cut. (later : List Report) × IsSpread RanBy olds news plan cut.1 later)
-      → IfErr result (λ cut. cut.0 ≡ Closed → (cut.1 ≡ []) × (after ≡ before) × IsSpread RanBy olds news plan [] [])
-      → IfErr result (λ cut. IsLocalCut plan stop_after facts (map launched all) (map launched all_after) cut.1 cut.0 before after)
+      → IfErr result (λ cut. cut.0 ≡ Closed → (cut.1 ≡ []) × (after.taken ≡ before.taken) × IsSpread RanBy olds news plan [] [])
+      → IfErr result (λ cut. IsLocalCut plan stop_after facts cut.1 cut.0 (record { started = map launched all; out = before }) (record { started = map launched all_after; out = after }))
   hired_cut (Ok ran) plan stop_after facts olds news others all all_after before after old new many same cut later closed = tt
   hired_cut (Err fault) plan stop_after facts olds news others all all_after before after old new many same cut later closed = record {
-    cut = subst (λ (k : ℕ). IsCutBy (IsWorkersAnswer LocalAllows) plan k (commands_for stop_after) fault.1 before after) many cut;
+    cut = subst (λ (k : ℕ). IsCutBy (IsWorkersAnswer LocalAllows) plan k (commands_for stop_after) fault.1 before.taken after.taken) many cut;
     programs = (later.0, started_for facts olds news others all all_after plan fault.1 later.0 old new many same later.1);
     closed = λ is. let none = closed is in (none.0, unstarted facts olds news others all all_after plan old new same none.2, none.1);
   }

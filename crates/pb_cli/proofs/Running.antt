@@ -28,8 +28,9 @@ use Rattle.pb_cli.specs.declared.playing.Played.{Played}
 use Rattle.pb_cli.specs.declared.playing.Wanted.{Wanted}
 use Rattle.pb_cli.specs.Audited.{IsVerdict}
 use Rattle.pb_driver.specs.ByTable.{allows_all}
-use Rattle.pb_cli.specs.Played.{IsRunBy, IsCutBy, IsTabled, IsTabledCut, IsPlayed, IsPlayedTo, HasTrail, IsRunOrAudited, IsRunOrAuditedTo, IsGivenFor, IsGivenUnless, is_forbidden, IsUnbegun, Starts, commands_for}
-use Rattle.pb_cli.specs.Done.{IsShown, IsUntouched}
+use Rattle.pb_cli.specs.Played.{IsRunBy, IsCutBy, IsTabled, IsTabledCut, IsPlayed, IsPlayedTo, HasTrail, IsRunOrAudited, IsRunOrAuditedTo, IsGivenFor, IsGivenUnless, is_forbidden, IsUnbegun, commands_for}
+use Rattle.pb_cli.specs.Done.{IsShown}
+use Rattle.pb_cli.specs.World.{Stage, World, IsUntouched}
 
 -- one runner's whole run is one
 whole_of : (allows gives : Job → Form → Type 0) (has_run : List (Job × Form) → Type 0) (plan : PlanOf) (pool : ℕ) (commands : List Given) (trail : List Event) (before after : Option (List ℕ))
@@ -123,19 +124,19 @@ tabled_to bytes plan stop_after table table_after events met fault trail before 
     (subst (λ (t : Option (List Event)). HasTrail t (λ es. IsTabledCut bytes plan stop_after es met before after)) same_trail whole)
 
 -- a run that couldn't go on, with a table, and in place of an audit
-pub tabled_cut : (outcomes : Option (List ℕ)) (bytes : List ℕ) (plan : PlanOf) (stop_after : Option ℕ) (facts : Option (List ℕ)) (started started_after : Starts) (trail : Option (List Event)) (fault : RunFault) (before after : Option (List ℕ))
-    → outcomes ≡ Some bytes → started_after ≡ started → HasTrail trail (λ events. IsTabledCut bytes plan stop_after events fault before after)
-    → HasTrail trail (λ events. IsPlayedTo plan stop_after facts outcomes started started_after events fault before after)
-tabled_cut outcomes bytes plan stop_after facts started started_after None fault before after is same has = absurd has
-tabled_cut outcomes bytes plan stop_after facts started started_after (Some events) fault before after is same has =
-    subst (λ (o : Option (List ℕ)). IsPlayedTo plan stop_after facts o started started_after events fault before after) (sym is) (same, has)
+pub tabled_cut : (outcomes : Option (List ℕ)) (bytes : List ℕ) (plan : PlanOf) (stop_after : Option ℕ) (facts : Option (List ℕ)) (trail : Option (List Event)) (fault : RunFault) (before after : Stage)
+    → outcomes ≡ Some bytes → after.started ≡ before.started → HasTrail trail (λ events. IsTabledCut bytes plan stop_after events fault before.out.taken after.out.taken)
+    → HasTrail trail (λ events. IsPlayedTo plan stop_after facts outcomes events fault before after)
+tabled_cut outcomes bytes plan stop_after facts None fault before after is same has = absurd has
+tabled_cut outcomes bytes plan stop_after facts (Some events) fault before after is same has =
+    subst (λ (o : Option (List ℕ)). IsPlayedTo plan stop_after facts o events fault before after) (sym is) (same, has)
 
-pub run_cut : (audited : Option (List ℕ)) (wanted : Wanted) (plan : PlanOf) (started started_after : Starts) (fault : RunFault) (trail : Option (List Event)) (before after : Option (List ℕ))
-    → audited ≡ None → IsUnbegun started started_after fault trail before after ⊎ HasTrail trail (λ events. IsPlayedTo plan wanted.stop_after wanted.facts_program wanted.outcomes started started_after events fault before after)
-    → IsUnbegun started started_after fault trail before after ⊎ IsRunOrAuditedTo audited wanted plan started started_after fault trail before after
-run_cut audited wanted plan started started_after fault trail before after is (inl unbegun) = inl unbegun
-run_cut audited wanted plan started started_after fault trail before after is (inr has) =
-    inr (subst (λ (a : Option (List ℕ)). IsRunOrAuditedTo a wanted plan started started_after fault trail before after) (sym is) has)
+pub run_cut : (audited : Option (List ℕ)) (wanted : Wanted) (plan : PlanOf) (fault : RunFault) (trail : Option (List Event)) (before after : Stage)
+    → audited ≡ None → IsUnbegun fault trail before after ⊎ HasTrail trail (λ events. IsPlayedTo plan wanted.stop_after wanted.facts_program wanted.outcomes events fault before after)
+    → IsUnbegun fault trail before after ⊎ IsRunOrAuditedTo audited wanted plan fault trail before after
+run_cut audited wanted plan fault trail before after is (inl unbegun) = inl unbegun
+run_cut audited wanted plan fault trail before after is (inr has) =
+    inr (subst (λ (a : Option (List ℕ)). IsRunOrAuditedTo a wanted plan fault trail before after) (sym is) has)
 
 -- no run has status 1
 status_at : (failed lost : Bool) (status : ℕ) → status ≡ (if failed then 2 else (if lost then 4 else 0)) → status ≡ 1 → ⊥
@@ -146,41 +147,39 @@ status_at false false status told one = let is : status ≡ 0 = told in omega (a
 not_told : (counts : List Counts) (status : ℕ) → status ≡ status_of counts → status ≡ 1 → ⊥
 not_told counts status told one = status_at (list_any (has Failed) counts) (list_any (has Unreachable) counts) status told one
 
-not_played : (plan : PlanOf) (stop_after : Option ℕ) (facts outcomes : Option (List ℕ)) (started started_after : Starts) (trail : List Event) (before after : Option (List ℕ)) (status : ℕ)
-    → IsPlayed plan stop_after facts outcomes started started_after trail before after status → status ≡ 1 → ⊥
-not_played plan stop_after facts None started started_after trail before after status run one = not_told (recap plan plan.forks trail) status run.run.told one
-not_played plan stop_after facts (Some bytes) started started_after trail before after status run one = not_told (recap plan 256 trail) status run.1.run.told one
+not_played : (plan : PlanOf) (stop_after : Option ℕ) (facts outcomes : Option (List ℕ)) (trail : List Event) (before after : Stage) (status : ℕ)
+    → IsPlayed plan stop_after facts outcomes trail before after status → status ≡ 1 → ⊥
+not_played plan stop_after facts None trail before after status run one = not_told (recap plan plan.forks trail) status run.run.told one
+not_played plan stop_after facts (Some bytes) trail before after status run one = not_told (recap plan 256 trail) status run.1.run.told one
 
 -- nor has an audit
 not_verdict : (plan : PlanOf) (trail : List Event) (text : List ℕ) (status : ℕ) → IsVerdict plan trail text status → status ≡ 1 → ⊥
 not_verdict plan trail text status (inl legal) one = let is : status ≡ 0 = legal.2 in omega (arith, is, one)
 not_verdict plan trail text status (inr (illegal, step, name, first, told, is)) one = let two : status ≡ 2 = is in omega (arith, two, one)
 
-not_trail : (trail : Option (List Event)) (wanted : Wanted) (plan : PlanOf) (started started_after : Starts) (before after : Option (List ℕ)) (status : ℕ)
-    → HasTrail trail (λ events. IsPlayed plan wanted.stop_after wanted.facts_program wanted.outcomes started started_after events before after status) → status ≡ 1 → ⊥
-not_trail None wanted plan started started_after before after status has one = absurd has
-not_trail (Some events) wanted plan started started_after before after status run one = not_played plan wanted.stop_after wanted.facts_program wanted.outcomes started started_after events before after status run one
+not_trail : (trail : Option (List Event)) (wanted : Wanted) (plan : PlanOf) (before after : Stage) (status : ℕ)
+    → HasTrail trail (λ events. IsPlayed plan wanted.stop_after wanted.facts_program wanted.outcomes events before after status) → status ≡ 1 → ⊥
+not_trail None wanted plan before after status has one = absurd has
+not_trail (Some events) wanted plan before after status run one = not_played plan wanted.stop_after wanted.facts_program wanted.outcomes events before after status run one
 
-not_run : (audited : Option (List ℕ)) (wanted : Wanted) (plan : PlanOf) (started started_after : Starts) (before after : Option (List ℕ)) (played : Played)
-    → IsRunOrAudited audited wanted plan started started_after before after played → played.status ≡ 1 → ⊥
-not_run None wanted plan started started_after before after played given one =
-    not_trail played.trail wanted plan started started_after before after played.status given one
-not_run (Some bytes) wanted plan started started_after before after played given one =
+not_run : (audited : Option (List ℕ)) (wanted : Wanted) (plan : PlanOf) (before after : Stage) (played : Played)
+    → IsRunOrAudited audited wanted plan before after played → played.status ≡ 1 → ⊥
+not_run None wanted plan before after played given one =
+    not_trail played.trail wanted plan before after played.status given one
+not_run (Some bytes) wanted plan before after played given one =
     let audit = given.2 in not_verdict plan audit.trail audit.text played.status audit.verdict one
 
-not_given : (purpose : Purpose) (wanted : Wanted) (plan : PlanOf) (started started_after : Starts) (before after : Option (List ℕ)) (played : Played)
-    → IsGivenFor purpose wanted plan started started_after before after played → played.status ≡ 1 → ⊥
-not_given Run wanted plan started started_after before after played given one = not_run wanted.audited wanted plan started started_after before after played given one
-not_given CheckSyntax wanted plan started started_after before after played given one = let is : played.status ≡ 0 = given.2 in omega (arith, is, one)
-not_given ListHosts wanted plan started started_after before after played given one = let is : played.status ≡ 0 = given.2 in omega (arith, is, one)
+not_given : (purpose : Purpose) (wanted : Wanted) (plan : PlanOf) (before after : Stage) (played : Played)
+    → IsGivenFor purpose wanted plan before after played → played.status ≡ 1 → ⊥
+not_given Run wanted plan before after played given one = not_run wanted.audited wanted plan before after played given one
+not_given CheckSyntax wanted plan before after played given one = let is : played.status ≡ 0 = given.2 in omega (arith, is, one)
+not_given ListHosts wanted plan before after played given one = let is : played.status ≡ 0 = given.2 in omega (arith, is, one)
 
-not_given_unless : (forbidden : Bool) (wanted : Wanted) (plan : PlanOf) (started started_after : Starts) (before after : Option (List ℕ)) (played : Played)
-    → IsGivenUnless forbidden wanted plan started started_after before after played → played.status ≡ 1 → IsUntouched started started_after before after
-not_given_unless true wanted plan started started_after before after played given one = (given.0, given.1)
-not_given_unless false wanted plan started started_after before after played given one = absurd (not_given wanted.purpose wanted plan started started_after before after played given one)
+not_given_unless : (forbidden : Bool) (wanted : Wanted) (plan : PlanOf) (before after : Stage) (played : Played)
+    → IsGivenUnless forbidden wanted plan before after played → played.status ≡ 1 → IsUntouched before after
+not_given_unless true wanted plan before after played given one = given.0
+not_given_unless false wanted plan before after played given one = absurd (not_given wanted.purpose wanted plan before after played given one)
 
 -- status 1 tells that a warning is a fault: nothing was started or written
-pub untouched : (bundle : Bundle) (wanted : Wanted) (started started_after : Starts) (out_before out_after err_before err_after : Option (List ℕ)) (failures failures_after : ℕ) (played : Played)
-    → IsShown bundle wanted started started_after out_before out_after err_before err_after failures failures_after played → played.status ≡ 1 → IsUntouched started started_after out_before out_after
-untouched bundle wanted started started_after out_before out_after err_before err_after failures failures_after played shown one =
-    not_given_unless (is_forbidden wanted shown.0) wanted shown.0 started started_after out_before out_after played shown.2 one
+pub untouched : (bundle : Bundle) (wanted : Wanted) (before after : World) (played : Played) → IsShown bundle wanted before after played → played.status ≡ 1 → IsUntouched before.stage after.stage
+untouched bundle wanted before after played shown one = not_given_unless (is_forbidden wanted shown.0) wanted shown.0 before.stage after.stage played shown.2 one

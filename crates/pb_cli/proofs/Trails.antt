@@ -11,18 +11,19 @@ use Rattle.pb_command_line.specs.declared.words.Purpose.{Purpose}
 use Rattle.pb_command_line.specs.declared.words.Purpose.TheVariants.{Run, CheckSyntax, ListHosts}
 use Rattle.pb_cli.specs.declared.playing.Played.{Played}
 use Rattle.pb_cli.specs.declared.playing.Wanted.{Wanted}
-use Rattle.pb_cli.specs.Played.{IsPlayed, IsPlayedTo, HasTrail, IsRunOrAudited, IsRunOrAuditedTo, IsGivenFor, IsGivenToFor, IsGivenTo, IsGivenUnless, IsGivenToUnless, is_forbidden, Starts}
+use Rattle.pb_cli.specs.Played.{IsPlayed, IsPlayedTo, HasTrail, IsRunOrAudited, IsRunOrAuditedTo, IsGivenFor, IsGivenToFor, IsGivenTo, IsGivenUnless, IsGivenToUnless, is_forbidden}
 use Rattle.pb_cli.specs.Done.{TrailsAreLegal}
+use Rattle.pb_cli.specs.World.{Stage}
 
-of_run : (plan : PlanOf) (stop_after : Option ℕ) (facts outcomes : Option (List ℕ)) (started started_after : Starts) (trail : List Event) (before after : Option (List ℕ)) (status : ℕ)
-    → IsPlayed plan stop_after facts outcomes started started_after trail before after status → is_legal plan trail ≡ true
-of_run plan stop_after facts None started started_after trail before after status run = run.run.audited
-of_run plan stop_after facts (Some bytes) started started_after trail before after status run = run.1.run.audited
+of_run : (plan : PlanOf) (stop_after : Option ℕ) (facts outcomes : Option (List ℕ)) (trail : List Event) (before after : Stage) (status : ℕ)
+    → IsPlayed plan stop_after facts outcomes trail before after status → is_legal plan trail ≡ true
+of_run plan stop_after facts None trail before after status run = run.run.audited
+of_run plan stop_after facts (Some bytes) trail before after status run = run.1.run.audited
 
-of_cut : (plan : PlanOf) (stop_after : Option ℕ) (facts outcomes : Option (List ℕ)) (started started_after : Starts) (trail : List Event) (fault : RunFault) (before after : Option (List ℕ))
-    → IsPlayedTo plan stop_after facts outcomes started started_after trail fault before after → is_legal plan trail ≡ true
-of_cut plan stop_after facts None started started_after trail fault before after cut = cut.cut.audited
-of_cut plan stop_after facts (Some bytes) started started_after trail fault before after cut = cut.1.cut.audited
+of_cut : (plan : PlanOf) (stop_after : Option ℕ) (facts outcomes : Option (List ℕ)) (trail : List Event) (fault : RunFault) (before after : Stage)
+    → IsPlayedTo plan stop_after facts outcomes trail fault before after → is_legal plan trail ≡ true
+of_cut plan stop_after facts None trail fault before after cut = cut.cut.audited
+of_cut plan stop_after facts (Some bytes) trail fault before after cut = cut.1.cut.audited
 
 no_trail : {X : Type 0} (trail : Option (List Event)) (events : List Event) → trail ≡ None → trail ≡ Some events → X
 no_trail trail events none some = cc
@@ -32,43 +33,43 @@ of_one : (plan : PlanOf) (holds : List Event → Type 0) (handed : Option (List 
 of_one plan holds None trail legal has is = absurd has
 of_one plan holds (Some events) trail legal has is = let same : events ≡ trail = cc in subst (λ es. is_legal plan es ≡ true) same (legal events has)
 
-of_whole : (audited : Option (List ℕ)) (wanted : Wanted) (plan : PlanOf) (started started_after : Starts) (before after : Option (List ℕ)) (played : Played) (trail : List Event)
-    → IsRunOrAudited audited wanted plan started started_after before after played → played.trail ≡ Some trail → is_legal plan trail ≡ true
-of_whole None wanted plan started started_after before after played trail given is =
-    of_one plan _ played.trail trail (λ events run. of_run plan wanted.stop_after wanted.facts_program wanted.outcomes started started_after events before after played.status run) given is
-of_whole (Some bytes) wanted plan started started_after before after played trail given is = no_trail played.trail trail given.1 is
+of_whole : (audited : Option (List ℕ)) (wanted : Wanted) (plan : PlanOf) (before after : Stage) (played : Played) (trail : List Event)
+    → IsRunOrAudited audited wanted plan before after played → played.trail ≡ Some trail → is_legal plan trail ≡ true
+of_whole None wanted plan before after played trail given is =
+    of_one plan _ played.trail trail (λ events run. of_run plan wanted.stop_after wanted.facts_program wanted.outcomes events before after played.status run) given is
+of_whole (Some bytes) wanted plan before after played trail given is = no_trail played.trail trail given.1 is
 
-of_given : (purpose : Purpose) (wanted : Wanted) (plan : PlanOf) (started started_after : Starts) (before after : Option (List ℕ)) (played : Played) (trail : List Event)
-    → IsGivenFor purpose wanted plan started started_after before after played → played.trail ≡ Some trail → is_legal plan trail ≡ true
-of_given Run wanted plan started started_after before after played trail given is = of_whole wanted.audited wanted plan started started_after before after played trail given is
-of_given CheckSyntax wanted plan started started_after before after played trail given is = no_trail played.trail trail given.3 is
-of_given ListHosts wanted plan started started_after before after played trail given is = no_trail played.trail trail given.3 is
+of_given : (purpose : Purpose) (wanted : Wanted) (plan : PlanOf) (before after : Stage) (played : Played) (trail : List Event)
+    → IsGivenFor purpose wanted plan before after played → played.trail ≡ Some trail → is_legal plan trail ≡ true
+of_given Run wanted plan before after played trail given is = of_whole wanted.audited wanted plan before after played trail given is
+of_given CheckSyntax wanted plan before after played trail given is = no_trail played.trail trail given.3 is
+of_given ListHosts wanted plan before after played trail given is = no_trail played.trail trail given.3 is
 
-of_whole_cut : (audited : Option (List ℕ)) (wanted : Wanted) (plan : PlanOf) (started started_after : Starts) (fault : RunFault) (trail : List Event) (before after : Option (List ℕ))
-    → IsRunOrAuditedTo audited wanted plan started started_after fault (Some trail) before after → is_legal plan trail ≡ true
-of_whole_cut None wanted plan started started_after fault trail before after cut = of_cut plan wanted.stop_after wanted.facts_program wanted.outcomes started started_after trail fault before after cut
-of_whole_cut (Some bytes) wanted plan started started_after fault trail before after cut = no_trail (Some trail) trail cut.1 refl
+of_whole_cut : (audited : Option (List ℕ)) (wanted : Wanted) (plan : PlanOf) (fault : RunFault) (trail : List Event) (before after : Stage)
+    → IsRunOrAuditedTo audited wanted plan fault (Some trail) before after → is_legal plan trail ≡ true
+of_whole_cut None wanted plan fault trail before after cut = of_cut plan wanted.stop_after wanted.facts_program wanted.outcomes trail fault before after cut
+of_whole_cut (Some bytes) wanted plan fault trail before after cut = no_trail (Some trail) trail cut.1 refl
 
-of_given_cut : (purpose : Purpose) (wanted : Wanted) (plan : PlanOf) (started started_after : Starts) (fault : RunFault) (trail : List Event) (before after : Option (List ℕ))
-    → IsGivenToFor purpose wanted plan started started_after fault (Some trail) before after → is_legal plan trail ≡ true
-of_given_cut Run wanted plan started started_after fault trail before after cut = of_whole_cut wanted.audited wanted plan started started_after fault trail before after cut
-of_given_cut CheckSyntax wanted plan started started_after fault trail before after cut = no_trail (Some trail) trail cut.1 refl
-of_given_cut ListHosts wanted plan started started_after fault trail before after cut = no_trail (Some trail) trail cut.1 refl
+of_given_cut : (purpose : Purpose) (wanted : Wanted) (plan : PlanOf) (fault : RunFault) (trail : List Event) (before after : Stage)
+    → IsGivenToFor purpose wanted plan fault (Some trail) before after → is_legal plan trail ≡ true
+of_given_cut Run wanted plan fault trail before after cut = of_whole_cut wanted.audited wanted plan fault trail before after cut
+of_given_cut CheckSyntax wanted plan fault trail before after cut = no_trail (Some trail) trail cut.1 refl
+of_given_cut ListHosts wanted plan fault trail before after cut = no_trail (Some trail) trail cut.1 refl
 
-of_stopped : (wanted : Wanted) (plan : PlanOf) (started started_after : Starts) (fault : RunFault) (trail : List Event) (before after : Option (List ℕ))
-    → IsGivenTo wanted plan started started_after fault (Some trail) before after → is_legal plan trail ≡ true
-of_stopped wanted plan started started_after fault trail before after (inl unbegun) = no_trail (Some trail) trail unbegun.2 refl
-of_stopped wanted plan started started_after fault trail before after (inr cut) = of_given_cut wanted.purpose wanted plan started started_after fault trail before after cut
+of_stopped : (wanted : Wanted) (plan : PlanOf) (fault : RunFault) (trail : List Event) (before after : Stage)
+    → IsGivenTo wanted plan fault (Some trail) before after → is_legal plan trail ≡ true
+of_stopped wanted plan fault trail before after (inl unbegun) = no_trail (Some trail) trail unbegun.1 refl
+of_stopped wanted plan fault trail before after (inr cut) = of_given_cut wanted.purpose wanted plan fault trail before after cut
 
-of_given_unless : (forbidden : Bool) (wanted : Wanted) (plan : PlanOf) (started started_after : Starts) (before after : Option (List ℕ)) (played : Played) (trail : List Event)
-    → IsGivenUnless forbidden wanted plan started started_after before after played → played.trail ≡ Some trail → is_legal plan trail ≡ true
-of_given_unless true wanted plan started started_after before after played trail given is = no_trail played.trail trail given.3 is
-of_given_unless false wanted plan started started_after before after played trail given is = of_given wanted.purpose wanted plan started started_after before after played trail given is
+of_given_unless : (forbidden : Bool) (wanted : Wanted) (plan : PlanOf) (before after : Stage) (played : Played) (trail : List Event)
+    → IsGivenUnless forbidden wanted plan before after played → played.trail ≡ Some trail → is_legal plan trail ≡ true
+of_given_unless true wanted plan before after played trail given is = no_trail played.trail trail given.2 is
+of_given_unless false wanted plan before after played trail given is = of_given wanted.purpose wanted plan before after played trail given is
 
-of_stopped_unless : (forbidden : Bool) (wanted : Wanted) (plan : PlanOf) (started started_after : Starts) (fault : RunFault) (trail : List Event) (before after : Option (List ℕ))
-    → IsGivenToUnless forbidden wanted plan started started_after fault (Some trail) before after → is_legal plan trail ≡ true
-of_stopped_unless true wanted plan started started_after fault trail before after unbegun = no_trail (Some trail) trail unbegun.2 refl
-of_stopped_unless false wanted plan started started_after fault trail before after cut = of_stopped wanted plan started started_after fault trail before after cut
+of_stopped_unless : (forbidden : Bool) (wanted : Wanted) (plan : PlanOf) (fault : RunFault) (trail : List Event) (before after : Stage)
+    → IsGivenToUnless forbidden wanted plan fault (Some trail) before after → is_legal plan trail ≡ true
+of_stopped_unless true wanted plan fault trail before after unbegun = no_trail (Some trail) trail unbegun.1 refl
+of_stopped_unless false wanted plan fault trail before after cut = of_stopped wanted plan fault trail before after cut
 
 -- so it is under every plan of the bundle
 under_any : (bundle : Bundle) (one plan : PlanOf) (trail : List Event) → IsPlanOf bundle one → IsPlanOf bundle plan → is_legal one trail ≡ true → is_legal plan trail ≡ true
@@ -76,9 +77,8 @@ under_any bundle one plan trail planned also legal = subst (λ (p : PlanOf). is_
 
 pub trails_are_legal : TrailsAreLegal
 trails_are_legal = (
-  λ bundle wanted started started_after out_before out_after err_before err_after failures failures_after played trail shown is plan planned.
-      under_any bundle shown.0 plan trail shown.1 planned (of_given_unless (is_forbidden wanted shown.0) wanted shown.0 started started_after out_before out_after played trail shown.2 is),
-  λ bundle wanted fault started started_after out_before out_after trail stopped plan planned.
-      under_any bundle stopped.0 plan trail stopped.1 planned
-      (of_stopped_unless (is_forbidden wanted stopped.0) wanted stopped.0 started started_after fault trail out_before out_after stopped.2),
+  λ bundle wanted before after played trail shown is plan planned.
+      under_any bundle shown.0 plan trail shown.1 planned (of_given_unless (is_forbidden wanted shown.0) wanted shown.0 before.stage after.stage played trail shown.2 is),
+  λ bundle wanted fault before after trail stopped plan planned.
+      under_any bundle stopped.0 plan trail stopped.1 planned (of_stopped_unless (is_forbidden wanted stopped.0) wanted stopped.0 fault trail before after stopped.2),
 )

@@ -1,5 +1,5 @@
 -- A run that is made once more, with other forks, and whether it ends in the same.
-use Rattle.std.specs.Prelude.{◌≡◌, ◌⊎◌, ℕ, true, false, List, [], ◌++◌, Option, None, Some, Ok, codes, slice_get, unwrap_or}
+use Rattle.std.specs.Prelude.{◌≡◌, ℕ, true, false, List, [], ◌++◌, Option, None, Some, Ok, codes, slice_get, unwrap_or}
 use Rattle.pb_ids.specs.declared.numbers.HostNo.{HostNo}
 use Rattle.pb_audit.specs.Audit.{end_of, end_under}
 use Rattle.pb_driver.specs.Laws.{is_independent, are_linear}
@@ -15,9 +15,9 @@ use Rattle.pb_state.specs.Machine.{facts_at, first_state}
 use Rattle.pb_driver.specs.ByTable.{IsUnrefused, allows_all}
 use Rattle.pb_driver.specs.Driven.{IsAnswer}
 use Rattle.pb_driver.specs.SameEnd.{IsFirstApart, EndsSame}
-use Rattle.pb_driver.specs.Taken.{with_more, one_more}
 use Rattle.pb_cli.specs.declared.playing.Wanted.{Wanted}
 use Rattle.pb_cli.specs.Played.{IsRunBy, IsTabled, commands_for}
+use Rattle.pb_cli.specs.World.{Stream, IsPut, IsQuiet}
 
 -- what is told of two runs: the name of the first host whose facts or counts differ, if one does
 abbrev pub same_text : PlanOf → Option HostNo → List ℕ
@@ -41,21 +41,17 @@ pub record IsCompared (bundle : Bundle) (forks : ℕ) (stop_after : Option ℕ) 
   pub first : IsFirstApart plan (end_of plan trail) (end_under plan forks again) host
   pub same : EndsSame plan trail forks again host
 
--- a text was put out whole, or the writer failed
-abbrev pub IsPut : List ℕ → (before after : Option (List ℕ)) → (failures failures_after : ℕ) → Type 0
-IsPut text before after failures failures_after = (after ≡ with_more before text) ⊎ (failures_after ≡ one_more failures)
-
-abbrev pub IsToldOf : (outcomes : Option (List ℕ)) → (forks : ℕ) → Bundle → (stop_after : Option ℕ) → List Event → (before after : Option (List ℕ)) → (failures failures_after : ℕ) → Type 0
-IsToldOf None forks bundle stop_after trail before after failures failures_after = IsPut ignored_text before after failures failures_after
-IsToldOf (Some bytes) forks bundle stop_after trail before after failures failures_after =
-    (plan : PlanOf) × (found : Option HostNo) × IsCompared bundle forks stop_after bytes trail plan found × IsPut (same_text plan found) before after failures failures_after
+abbrev pub IsToldOf : (outcomes : Option (List ℕ)) → (forks : ℕ) → Bundle → (stop_after : Option ℕ) → List Event → (before after : Stream) → Type 0
+IsToldOf None forks bundle stop_after trail before after = IsPut ignored_text before after
+IsToldOf (Some bytes) forks bundle stop_after trail before after =
+    (plan : PlanOf) × (found : Option HostNo) × IsCompared bundle forks stop_after bytes trail plan found × IsPut (same_text plan found) before after
 
 -- after a run whether it ends in the same with so many forks was told, where that is asked for
-abbrev pub IsToldAgain : (same_under : Option ℕ) → Option (List Event) → Bundle → Wanted → (before after : Option (List ℕ)) → (failures failures_after : ℕ) → Type 0
-IsToldAgain None trail bundle wanted before after failures failures_after = (after ≡ before) × (failures_after ≡ failures)
-IsToldAgain (Some forks) None bundle wanted before after failures failures_after = (after ≡ before) × (failures_after ≡ failures)
-IsToldAgain (Some forks) (Some trail) bundle wanted before after failures failures_after =
-    IsToldOf wanted.outcomes forks bundle wanted.stop_after trail before after failures failures_after
+abbrev pub IsToldAgain : (same_under : Option ℕ) → Option (List Event) → Bundle → Wanted → (before after : Stream) → Type 0
+IsToldAgain None trail bundle wanted before after = IsQuiet before after
+IsToldAgain (Some forks) None bundle wanted before after = IsQuiet before after
+IsToldAgain (Some forks) (Some trail) bundle wanted before after =
+    IsToldOf wanted.outcomes forks bundle wanted.stop_after trail before after
 
 -- two runs of one bundle by one file of outcomes, with any forks, end in the same, if its plays are linear, no host knows of another, and neither run was stopped, or lacked memory for what the file gives
 abbrev pub ForksChangeNothing : Type 0

@@ -23,8 +23,9 @@ use Rattle.pb_cli.specs.declared.playing.Wanted.{Wanted}
 use Rattle.pb_cli.specs.Again.{IsToldAgain}
 use Rattle.pb_cli.specs.Audited.{IsBadTrail}
 use Rattle.pb_cli.specs.RoleFiles.{AreRolesIn}
-use Rattle.pb_cli.specs.Played.{IsBadTable, is_forbidden, IsGivenUnless, IsGivenToUnless, Starts}
+use Rattle.pb_cli.specs.Played.{IsBadTable, is_forbidden, IsGivenUnless, IsGivenToUnless}
 use Rattle.pb_cli.specs.Warned.{IsWarned}
+use Rattle.pb_cli.specs.World.{Stage, Stream, World, IsUntouched}
 
 -- the bundle of a request: its forks, limit and extra variables, whether it names a facts program, and of each file's bytes no more than there is room for, and one byte that tells that there are more;
 -- the files of roles stand behind the inventory and the playbook
@@ -52,116 +53,101 @@ pub record IsWantedBy (request : Request) (wanted : Wanted) : Type 0 where
   pub audited : is_some wanted.audited ≡ is_some request.audit
 
 -- the outcomes of a file aren't looked into before a plan stands, its warnings are written, and it is to be run; nothing is started, and standard output is as it was
-pub record IsUntold (bundle : Bundle) (wanted : Wanted) (e : TableFault) (started started_after : Starts) (out_before out_after err_before err_after : Option (List ℕ)) (failures failures_after : ℕ) : Type 0 where
+pub record IsUntold (bundle : Bundle) (wanted : Wanted) (e : TableFault) (before after : World) : Type 0 where
   pub plan : PlanOf
   pub planned : IsPlanOf bundle plan
   pub allowed : is_forbidden wanted plan ≡ false
   pub runs : wanted.purpose ≡ Run
   pub unaudited : wanted.audited ≡ None
-  pub warned : IsWarned plan.warnings err_before err_after failures failures_after
-  pub unstarted : started_after ≡ started
-  pub unwritten : out_after ≡ out_before
+  pub warned : IsWarned plan.warnings before.err after.err
+  pub untouched : IsUntouched before.stage after.stage
   pub fault : e ≢ Memory → IsBadTable wanted.outcomes e
 
 -- neither is a trail; outcomes aren't looked into then
-pub record IsUnread (bundle : Bundle) (wanted : Wanted) (e : TrailFault) (started started_after : Starts) (out_before out_after err_before err_after : Option (List ℕ)) (failures failures_after : ℕ) : Type 0 where
+pub record IsUnread (bundle : Bundle) (wanted : Wanted) (e : TrailFault) (before after : World) : Type 0 where
   pub plan : PlanOf
   pub planned : IsPlanOf bundle plan
   pub allowed : is_forbidden wanted plan ≡ false
   pub runs : wanted.purpose ≡ Run
-  pub warned : IsWarned plan.warnings err_before err_after failures failures_after
-  pub unstarted : started_after ≡ started
-  pub unwritten : out_after ≡ out_before
+  pub warned : IsWarned plan.warnings before.err after.err
+  pub untouched : IsUntouched before.stage after.stage
   pub fault : e ≢ NoTrailMemory → IsBadTrail wanted.audited e
 
 -- a bundle has a plan, its warnings were written, and it was run, audited, checked or listed; or nothing of this, where they are faults
-abbrev pub IsShown : Bundle → Wanted → (started started_after : Starts) → Option (List ℕ) → Option (List ℕ) → Option (List ℕ) → Option (List ℕ) → ℕ → ℕ → Played → Type 0
-IsShown bundle wanted started started_after out_before out_after err_before err_after failures failures_after played =
-    (plan : PlanOf) × IsPlanOf bundle plan × IsGivenUnless (is_forbidden wanted plan) wanted plan started started_after out_before out_after played × IsWarned plan.warnings err_before err_after failures failures_after
+abbrev pub IsShown : Bundle → Wanted → (before after : World) → Played → Type 0
+IsShown bundle wanted before after played =
+    (plan : PlanOf) × IsPlanOf bundle plan × IsGivenUnless (is_forbidden wanted plan) wanted plan before.stage after.stage played × IsWarned plan.warnings before.err after.err
 
 -- the same, told by this exit status; and then it was told whether a run with other forks ends in the same, where that is asked for
-pub record IsShownAs (status : ℕ) (bundle : Bundle) (wanted : Wanted) (same_under : Option ℕ) (started started_after : Starts) (out_before out_after err_before err_after : Option (List ℕ)) (failures failures_after : ℕ) : Type 0 where
+pub record IsShownAs (status : ℕ) (bundle : Bundle) (wanted : Wanted) (same_under : Option ℕ) (before after : World) : Type 0 where
   pub played : Played
-  pub err_shown : Option (List ℕ)
-  pub failures_shown : ℕ
-  pub shown : IsShown bundle wanted started started_after out_before out_after err_before err_shown failures failures_shown played
+  pub err_shown : Stream
+  pub shown : IsShown bundle wanted before (record after { err = err_shown }) played
   pub told : played.status ≡ status
-  pub again : IsToldAgain same_under played.trail bundle wanted err_shown err_after failures_shown failures_after
+  pub again : IsToldAgain same_under played.trail bundle wanted err_shown after.err
 
 -- a bundle has a plan, and what it is made for couldn't go on: memory was refused before anything was started or written, or no warning is a fault and a beginning of it was done; the trail is that of the run, where one
 -- began
-abbrev pub IsStopped : Bundle → Wanted → RunFault → (trail : Option (List Event)) → (started started_after : Starts) → Option (List ℕ) → Option (List ℕ) → Type 0
-IsStopped bundle wanted fault trail started started_after out_before out_after =
-    (plan : PlanOf) × IsPlanOf bundle plan × IsGivenToUnless (is_forbidden wanted plan) wanted plan started started_after fault trail out_before out_after
+abbrev pub IsStopped : Bundle → Wanted → RunFault → (trail : Option (List Event)) → (before after : Stage) → Type 0
+IsStopped bundle wanted fault trail before after =
+    (plan : PlanOf) × IsPlanOf bundle plan × IsGivenToUnless (is_forbidden wanted plan) wanted plan fault trail before after
 
 -- of each bundle's run that is whole the trail that is handed out is legal under the bundle's plan, of which there is one, and so is that of a run that couldn't go on
 abbrev pub TrailsAreLegal : Type 0
 TrailsAreLegal =
-    ((bundle : Bundle) (wanted : Wanted) (started started_after : Starts) (out_before out_after err_before err_after : Option (List ℕ)) (failures failures_after : ℕ) (played : Played) (trail : List Event)
-    → IsShown bundle wanted started started_after out_before out_after err_before err_after failures failures_after played → played.trail ≡ Some trail
+    ((bundle : Bundle) (wanted : Wanted) (before after : World) (played : Played) (trail : List Event) → IsShown bundle wanted before after played → played.trail ≡ Some trail
     → (plan : PlanOf) → IsPlanOf bundle plan → is_legal plan trail ≡ true)
-    × ((bundle : Bundle) (wanted : Wanted) (fault : RunFault) (started started_after : Starts) (out_before out_after : Option (List ℕ)) (trail : List Event)
-    → IsStopped bundle wanted fault (Some trail) started started_after out_before out_after
+    × ((bundle : Bundle) (wanted : Wanted) (fault : RunFault) (before after : Stage) (trail : List Event) → IsStopped bundle wanted fault (Some trail) before after
     → (plan : PlanOf) → IsPlanOf bundle plan → is_legal plan trail ≡ true)
 
 -- what a request asks for was done, with a bundle of it
-pub record IsDone (request : Request) (started started_after : Starts) (out_before out_after err_before err_after : Option (List ℕ)) (failures failures_after : ℕ) (status : ℕ) : Type 0 where
+pub record IsDone (request : Request) (before after : World) (status : ℕ) : Type 0 where
   pub bundle : Bundle
   pub wanted : Wanted
   pub asked : IsBundleOf request bundle
   pub wants : IsWantedBy request wanted
   pub short : is_too_long wanted.outcomes ≡ false
-  pub shown : IsShownAs status bundle wanted request.same_under started started_after out_before out_after err_before err_after failures failures_after
-
--- nothing was started, and nothing written on standard output
-abbrev pub IsUntouched : (started started_after : Starts) → (out_before out_after : Option (List ℕ)) → Type 0
-IsUntouched started started_after out_before out_after = (started_after ≡ started) × (out_after ≡ out_before)
+  pub shown : IsShownAs status bundle wanted request.same_under before after
 
 -- what a bundle is for couldn't go on, where memory was refused, or standard output took no more
-abbrev pub IsCutShort : Bundle → Wanted → (started started_after : Starts) → (out_before out_after : Option (List ℕ)) → (out_failures out_failures_after : ℕ) → Type 0
-IsCutShort bundle wanted started started_after out_before out_after out_failures out_failures_after =
-    (fault : RunFault) × (trail : Option (List Event)) × IsStopped bundle wanted fault trail started started_after out_before out_after × (fault ≡ Write → out_failures_after ≡ one_more out_failures)
+abbrev pub IsCutShort : Bundle → Wanted → (before after : Stage) → Type 0
+IsCutShort bundle wanted before after =
+    (fault : RunFault) × (trail : Option (List Event)) × IsStopped bundle wanted fault trail before after × (fault ≡ Write → after.out.failures ≡ one_more before.out.failures)
 
 -- what a bundle is for was done whole, and the trail of its run, for which a file is named, couldn't be written there; or memory was refused for the run that was to be made once more;
 -- or the names of the hosts that didn't get through, for which a file is named, couldn't be written there
-pub record IsUnkept (bundle : Bundle) (wanted : Wanted) (path : Option (List ℕ)) (same_under : Option ℕ) (failed : Option (List ℕ)) (started started_after : Starts) (out_before out_after err_before : Option (List ℕ)) (failures : ℕ) : Type 0 where
+pub record IsUnkept (bundle : Bundle) (wanted : Wanted) (path : Option (List ℕ)) (same_under : Option ℕ) (failed : Option (List ℕ)) (before after : World) : Type 0 where
   pub asked : (is_some path ≡ true) ⊎ (is_some same_under ≡ true) ⊎ (is_some failed ≡ true)
   pub played : Played
   pub run : is_some played.trail ≡ true
-  pub err_warned : Option (List ℕ)
-  pub failures_warned : ℕ
-  pub shown : IsShown bundle wanted started started_after out_before out_after err_before err_warned failures failures_warned played
+  pub err_warned : Stream
+  pub shown : IsShown bundle wanted before (record after { err = err_warned }) played
 
 -- it couldn't go on, or its trail or the hosts that didn't get through couldn't be kept, or another run not be made
-abbrev pub IsCutOrUnkept : Bundle → Wanted → (path : Option (List ℕ)) → (same_under : Option ℕ) → (failed : Option (List ℕ)) → (started started_after : Starts) → (out_before out_after err_before : Option (List ℕ)) → (out_failures out_failures_after failures : ℕ) → Type 0
-IsCutOrUnkept bundle wanted path same_under failed started started_after out_before out_after err_before out_failures out_failures_after failures =
-    IsCutShort bundle wanted started started_after out_before out_after out_failures out_failures_after
-    ⊎ IsUnkept bundle wanted path same_under failed started started_after out_before out_after err_before failures
+abbrev pub IsCutOrUnkept : Bundle → Wanted → (path : Option (List ℕ)) → (same_under : Option ℕ) → (failed : Option (List ℕ)) → (before after : World) → Type 0
+IsCutOrUnkept bundle wanted path same_under failed before after = IsCutShort bundle wanted before.stage after.stage ⊎ IsUnkept bundle wanted path same_under failed before after
 
 -- the same of what a request asks for
-pub record IsBroken (request : Request) (started started_after : Starts) (out_before out_after err_before : Option (List ℕ)) (out_failures out_failures_after failures : ℕ) : Type 0 where
+pub record IsBroken (request : Request) (before after : World) : Type 0 where
   pub bundle : Bundle
   pub wanted : Wanted
   pub asked : IsBundleOf request bundle
   pub wants : IsWantedBy request wanted
   pub short : is_too_long wanted.outcomes ≡ false
-  pub cut : IsCutOrUnkept bundle wanted request.trail request.same_under request.failed started started_after out_before out_after err_before out_failures out_failures_after failures
+  pub cut : IsCutOrUnkept bundle wanted request.trail request.same_under request.failed before after
 
--- a call for help is among what the words are refused for, and a text was put out; the clause doesn't say which text
-abbrev pub IsHelped : List (List ℕ) → Option (List ℕ) → Option (List ℕ) → ℕ → Type 0
-IsHelped words before after status = (text : List ℕ) × IsRefused words (Help text) × (after ≡ with_more before text) × (status ≡ 0)
+-- a call for help is among what the words are refused for, and a text was put out, and nothing started; the clause doesn't say which text
+abbrev pub IsHelped : List (List ℕ) → (before after : Stage) → (status : ℕ) → Type 0
+IsHelped words before after status = (text : List ℕ) × IsRefused words (Help text) × (after.started ≡ before.started) × (after.out.taken ≡ with_more before.out.taken text) × (status ≡ 0)
 
 -- a call for help is among them, and standard output took no more than a front of a text
-abbrev pub IsHelpCut : List (List ℕ) → Option (List ℕ) → Option (List ℕ) → (out_failures out_failures_after : ℕ) → Type 0
-IsHelpCut words before after out_failures out_failures_after = (text : List ℕ) × IsRefused words (Help text) × IsPart before after text × (out_failures_after ≡ one_more out_failures)
+abbrev pub IsHelpCut : List (List ℕ) → (before after : Stream) → Type 0
+IsHelpCut words before after = (text : List ℕ) × IsRefused words (Help text) × IsPart before.taken after.taken text × (after.failures ≡ one_more before.failures)
 
 -- the words ask for a play, and it was done
-abbrev pub IsAnswered : List (List ℕ) → (started started_after : Starts) → Option (List ℕ) → Option (List ℕ) → Option (List ℕ) → Option (List ℕ) → ℕ → ℕ → ℕ → Type 0
-IsAnswered words started started_after out_before out_after err_before err_after failures failures_after status =
-    (request : Request) × Asks words request × IsDone request started started_after out_before out_after err_before err_after failures failures_after status
+abbrev pub IsAnswered : List (List ℕ) → (before after : World) → (status : ℕ) → Type 0
+IsAnswered words before after status = (request : Request) × Asks words request × IsDone request before after status
 
 -- what the words ask for couldn't go on: the text of a call for help, or a play, or its trail or the hosts that didn't get through couldn't be kept
-abbrev pub IsUnended : List (List ℕ) → (started started_after : Starts) → (out_before out_after err_before : Option (List ℕ)) → (out_failures out_failures_after failures : ℕ) → Type 0
-IsUnended words started started_after out_before out_after err_before out_failures out_failures_after failures =
-    IsHelpCut words out_before out_after out_failures out_failures_after
-    ⊎ ((request : Request) × Asks words request × IsBroken request started started_after out_before out_after err_before out_failures out_failures_after failures)
+abbrev pub IsUnended : List (List ℕ) → (before after : World) → Type 0
+IsUnended words before after = IsHelpCut words before.stage.out after.stage.out ⊎ ((request : Request) × Asks words request × IsBroken request before after)

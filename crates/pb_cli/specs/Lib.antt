@@ -3,6 +3,7 @@ pub mod Places
 pub mod Messages
 pub mod Listing
 pub mod Audited
+pub mod World
 pub mod Hired
 pub mod Played
 pub mod Warned

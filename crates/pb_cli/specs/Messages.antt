@@ -1,9 +1,9 @@
 -- What the program writes to standard error.
 use Rattle.std.specs.Prelude.{◌≡◌, ◌⊎◌, ℕ, Bool, List, [], ◌∷◌, ◌++◌, Option, Some, None, codes}
-use Rattle.pb_driver.specs.Taken.{with_more, one_more}
 use Rattle.pb_planning.specs.declared.bundle.BundleFault.{BundleFault}
 use Rattle.pb_planning.specs.declared.bundle.BundleFault.TheVariants as bundle
 use Rattle.pb_cli.specs.Places.{place_if}
+use Rattle.pb_cli.specs.World.{Stream, IsPut}
 use Rattle.pb_cli.specs.declared.messages.Part.{Part}
 use Rattle.pb_cli.specs.declared.messages.Part.TheVariants.{Words, File, Bundle, Inventory, Extra, Playbook, Limit, Roles, Outcomes, Trail, Run}
 
@@ -54,6 +54,5 @@ abbrev pub IsBundleMessage : (places : Bool) → BundleFault → List ℕ → Ty
 IsBundleMessage places fault text = (said : List ℕ) × (text ≡ placed_message (part_of fault) said (place_if places fault))
 
 -- it was written whole, or the writer failed; or nothing was written, where memory was refused
-abbrev pub IsToldBundle : (places : Bool) → BundleFault → (before after : Option (List ℕ)) → (failures failures_after : ℕ) → Type 0
-IsToldBundle places fault before after failures failures_after =
-    ((text : List ℕ) × IsBundleMessage places fault text × ((after ≡ with_more before text) ⊎ (failures_after ≡ one_more failures))) ⊎ (after ≡ before)
+abbrev pub IsToldBundle : (places : Bool) → BundleFault → (before after : Stream) → Type 0
+IsToldBundle places fault before after = ((text : List ℕ) × IsBundleMessage places fault text × IsPut text before after) ⊎ (after.taken ≡ before.taken)

@@ -31,6 +31,7 @@ use Rattle.pb_cli.specs.declared.playing.Played.{Played}
 use Rattle.pb_cli.specs.declared.playing.Wanted.{Wanted}
 use Rattle.pb_cli.specs.Audited.{IsAudited, IsAuditCut}
 use Rattle.pb_cli.specs.Listing.{listing}
+use Rattle.pb_cli.specs.World.{Stage, Starts, IsUntouched}
 
 -- what a run is told: to stop behind so many reports, or nothing
 abbrev pub commands_for : (stop_after : Option ℕ) → List Given
@@ -55,10 +56,6 @@ pub record IsCutBy (answers : Answers) (plan : PlanOf) (pool : ℕ) (commands : 
   pub lines : StandBehindEventsTo plan pool trail before after
   pub audited : is_legal plan trail ≡ true
 
--- what each launcher was to start so far, with what came of it, where it tells
-abbrev pub Starts : Type 0
-Starts = List (Option (List Launch))
-
 -- the first launchers, one for each fork of the plan, started the programs of exactly the trail's jobs, which are spread over them: each those of its own jobs, in their order, with what came of
 -- them in its reports; after the trail came these later reports. The other launchers started nothing
 pub record AreStartedFor (facts_program : Option (List ℕ)) (started started_after : Starts) (plan : PlanOf) (trail : List Event) (later : List Report) : Type 0 where
@@ -71,15 +68,15 @@ pub record AreStartedFor (facts_program : Option (List ℕ)) (started started_af
   pub spread : IsSpread (λ (old : Option (List Launch)) jobs new. HasStarted facts_program old jobs new) hired hired_after plan trail later
 
 -- the programs of a plan's jobs were started, by as many workers as it has forks, with this facts program or none
-pub record IsLocalRun (plan : PlanOf) (stop_after : Option ℕ) (facts_program : Option (List ℕ)) (started started_after : Starts) (trail : List Event) (before after : Option (List ℕ)) (status : ℕ) : Type 0 where
-  pub run : IsRunBy (IsWorkersAnswer LocalAllows) plan plan.forks (commands_for stop_after) trail before after status
-  pub programs : AreStartedFor facts_program started started_after plan trail []
+pub record IsLocalRun (plan : PlanOf) (stop_after : Option ℕ) (facts_program : Option (List ℕ)) (trail : List Event) (before after : Stage) (status : ℕ) : Type 0 where
+  pub run : IsRunBy (IsWorkersAnswer LocalAllows) plan plan.forks (commands_for stop_after) trail before.out.taken after.out.taken status
+  pub programs : AreStartedFor facts_program before.started after.started plan trail []
 
 -- the same of a run that couldn't go on: reports of jobs that were out were waited for; and where a worker's thread couldn't be made, nothing was done
-pub record IsLocalCut (plan : PlanOf) (stop_after : Option ℕ) (facts_program : Option (List ℕ)) (started started_after : Starts) (trail : List Event) (fault : RunFault) (before after : Option (List ℕ)) : Type 0 where
-  pub cut : IsCutBy (IsWorkersAnswer LocalAllows) plan plan.forks (commands_for stop_after) trail before after
-  pub programs : (later : List Report) × AreStartedFor facts_program started started_after plan trail later
-  pub closed : fault ≡ Closed → (trail ≡ []) × (started_after ≡ started) × (after ≡ before)
+pub record IsLocalCut (plan : PlanOf) (stop_after : Option ℕ) (facts_program : Option (List ℕ)) (trail : List Event) (fault : RunFault) (before after : Stage) : Type 0 where
+  pub cut : IsCutBy (IsWorkersAnswer LocalAllows) plan plan.forks (commands_for stop_after) trail before.out.taken after.out.taken
+  pub programs : (later : List Report) × AreStartedFor facts_program before.started after.started plan trail later
+  pub closed : fault ≡ Closed → (trail ≡ []) × IsUntouched before after
 
 -- the bytes of a file of outcomes have a table, and the run's reports, each for the oldest job that is out, have the table's outcomes
 pub record IsTabled (bytes : List ℕ) (plan : PlanOf) (stop_after : Option ℕ) (trail : List Event) (before after : Option (List ℕ)) (status : ℕ) : Type 0 where
@@ -96,14 +93,14 @@ pub record IsTabledCut (bytes : List ℕ) (plan : PlanOf) (stop_after : Option �
 
 -- a run of a plan with this trail, stopped behind so many reports where that is asked for: without a file of outcomes the programs of its jobs are started, with this facts program or none, and with one nothing is started
 -- but what the file says comes of each job
-abbrev pub IsPlayed : PlanOf → (stop_after : Option ℕ) → (facts_program outcomes : Option (List ℕ)) → (started started_after : Starts) → (trail : List Event) → Option (List ℕ) → Option (List ℕ) → ℕ → Type 0
-IsPlayed plan stop_after facts_program None started started_after trail before after status = IsLocalRun plan stop_after facts_program started started_after trail before after status
-IsPlayed plan stop_after facts_program (Some bytes) started started_after trail before after status = (started_after ≡ started) × IsTabled bytes plan stop_after trail before after status
+abbrev pub IsPlayed : PlanOf → (stop_after : Option ℕ) → (facts_program outcomes : Option (List ℕ)) → (trail : List Event) → (before after : Stage) → (status : ℕ) → Type 0
+IsPlayed plan stop_after facts_program None trail before after status = IsLocalRun plan stop_after facts_program trail before after status
+IsPlayed plan stop_after facts_program (Some bytes) trail before after status = (after.started ≡ before.started) × IsTabled bytes plan stop_after trail before.out.taken after.out.taken status
 
 -- such a run that couldn't go on
-abbrev pub IsPlayedTo : PlanOf → (stop_after : Option ℕ) → (facts_program outcomes : Option (List ℕ)) → (started started_after : Starts) → (trail : List Event) → RunFault → Option (List ℕ) → Option (List ℕ) → Type 0
-IsPlayedTo plan stop_after facts_program None started started_after trail fault before after = IsLocalCut plan stop_after facts_program started started_after trail fault before after
-IsPlayedTo plan stop_after facts_program (Some bytes) started started_after trail fault before after = (started_after ≡ started) × IsTabledCut bytes plan stop_after trail fault before after
+abbrev pub IsPlayedTo : PlanOf → (stop_after : Option ℕ) → (facts_program outcomes : Option (List ℕ)) → (trail : List Event) → RunFault → (before after : Stage) → Type 0
+IsPlayedTo plan stop_after facts_program None trail fault before after = IsLocalCut plan stop_after facts_program trail fault before after
+IsPlayedTo plan stop_after facts_program (Some bytes) trail fault before after = (after.started ≡ before.started) × IsTabledCut bytes plan stop_after trail fault before.out.taken after.out.taken
 
 -- a file of outcomes has this first fault
 unfoldable pub IsBadTable : Option (List ℕ) → TableFault → Type 0
@@ -116,46 +113,46 @@ HasTrail None holds = ⊥
 HasTrail (Some trail) holds = holds trail
 
 -- a text was written and nothing else done, so that there is no trail
-abbrev pub IsSaid : List ℕ → (started started_after : Starts) → Option (List ℕ) → Option (List ℕ) → Played → Type 0
-IsSaid text started started_after before after played = (started_after ≡ started) × (after ≡ with_more before text) × (played.status ≡ 0) × (played.trail ≡ None)
+abbrev pub IsSaid : List ℕ → (before after : Stage) → Played → Type 0
+IsSaid text before after played = (after.started ≡ before.started) × (after.out.taken ≡ with_more before.out.taken text) × (played.status ≡ 0) × (played.trail ≡ None)
 
 -- a plan is run, and its trail handed out, or a trail is looked at in place of that
-abbrev pub IsRunOrAudited : (audited : Option (List ℕ)) → Wanted → PlanOf → (started started_after : Starts) → Option (List ℕ) → Option (List ℕ) → Played → Type 0
-IsRunOrAudited None wanted plan started started_after before after played =
-    HasTrail played.trail (λ trail. IsPlayed plan wanted.stop_after wanted.facts_program wanted.outcomes started started_after trail before after played.status)
-IsRunOrAudited (Some bytes) wanted plan started started_after before after played = (started_after ≡ started) × (played.trail ≡ None) × IsAudited bytes plan before after played.status
+abbrev pub IsRunOrAudited : (audited : Option (List ℕ)) → Wanted → PlanOf → (before after : Stage) → Played → Type 0
+IsRunOrAudited None wanted plan before after played =
+    HasTrail played.trail (λ trail. IsPlayed plan wanted.stop_after wanted.facts_program wanted.outcomes trail before after played.status)
+IsRunOrAudited (Some bytes) wanted plan before after played = (after.started ≡ before.started) × (played.trail ≡ None) × IsAudited bytes plan before.out.taken after.out.taken played.status
 
 -- what a plan is made for: its run or the audit of a trail, to tell that it can be made, or the list of its hosts; only a run starts programs and has a trail
-abbrev pub IsGivenFor : Purpose → Wanted → PlanOf → (started started_after : Starts) → Option (List ℕ) → Option (List ℕ) → Played → Type 0
-IsGivenFor Run wanted plan started started_after before after played = IsRunOrAudited wanted.audited wanted plan started started_after before after played
-IsGivenFor CheckSyntax wanted plan started started_after before after played = IsSaid (codes "ok\n") started started_after before after played
-IsGivenFor ListHosts wanted plan started started_after before after played = IsSaid (listing plan) started started_after before after played
+abbrev pub IsGivenFor : Purpose → Wanted → PlanOf → (before after : Stage) → Played → Type 0
+IsGivenFor Run wanted plan before after played = IsRunOrAudited wanted.audited wanted plan before after played
+IsGivenFor CheckSyntax wanted plan before after played = IsSaid (codes "ok\n") before after played
+IsGivenFor ListHosts wanted plan before after played = IsSaid (listing plan) before after played
 
-abbrev pub IsGiven : Wanted → PlanOf → (started started_after : Starts) → Option (List ℕ) → Option (List ℕ) → Played → Type 0
-IsGiven wanted plan started started_after before after played = IsGivenFor wanted.purpose wanted plan started started_after before after played
+abbrev pub IsGiven : Wanted → PlanOf → (before after : Stage) → Played → Type 0
+IsGiven wanted plan before after played = IsGivenFor wanted.purpose wanted plan before after played
 
 -- a beginning of a text was written, and nothing else done
-abbrev pub IsSaidTo : List ℕ → (started started_after : Starts) → (trail : Option (List Event)) → Option (List ℕ) → Option (List ℕ) → Type 0
-IsSaidTo text started started_after trail before after = (started_after ≡ started) × (trail ≡ None) × IsPart before after text
+abbrev pub IsSaidTo : List ℕ → (trail : Option (List Event)) → (before after : Stage) → Type 0
+IsSaidTo text trail before after = (after.started ≡ before.started) × (trail ≡ None) × IsPart before.out.taken after.out.taken text
 
-abbrev pub IsRunOrAuditedTo : (audited : Option (List ℕ)) → Wanted → PlanOf → (started started_after : Starts) → RunFault → (trail : Option (List Event)) → Option (List ℕ) → Option (List ℕ) → Type 0
-IsRunOrAuditedTo None wanted plan started started_after fault trail before after =
-    HasTrail trail (λ events. IsPlayedTo plan wanted.stop_after wanted.facts_program wanted.outcomes started started_after events fault before after)
-IsRunOrAuditedTo (Some bytes) wanted plan started started_after fault trail before after = (started_after ≡ started) × (trail ≡ None) × IsAuditCut bytes plan before after
+abbrev pub IsRunOrAuditedTo : (audited : Option (List ℕ)) → Wanted → PlanOf → RunFault → (trail : Option (List Event)) → (before after : Stage) → Type 0
+IsRunOrAuditedTo None wanted plan fault trail before after =
+    HasTrail trail (λ events. IsPlayedTo plan wanted.stop_after wanted.facts_program wanted.outcomes events fault before after)
+IsRunOrAuditedTo (Some bytes) wanted plan fault trail before after = (after.started ≡ before.started) × (trail ≡ None) × IsAuditCut bytes plan before.out.taken after.out.taken
 
-abbrev pub IsGivenToFor : Purpose → Wanted → PlanOf → (started started_after : Starts) → RunFault → (trail : Option (List Event)) → Option (List ℕ) → Option (List ℕ) → Type 0
-IsGivenToFor Run wanted plan started started_after fault trail before after = IsRunOrAuditedTo wanted.audited wanted plan started started_after fault trail before after
-IsGivenToFor CheckSyntax wanted plan started started_after fault trail before after = IsSaidTo (codes "ok\n") started started_after trail before after
-IsGivenToFor ListHosts wanted plan started started_after fault trail before after = IsSaidTo (listing plan) started started_after trail before after
+abbrev pub IsGivenToFor : Purpose → Wanted → PlanOf → RunFault → (trail : Option (List Event)) → (before after : Stage) → Type 0
+IsGivenToFor Run wanted plan fault trail before after = IsRunOrAuditedTo wanted.audited wanted plan fault trail before after
+IsGivenToFor CheckSyntax wanted plan fault trail before after = IsSaidTo (codes "ok\n") trail before after
+IsGivenToFor ListHosts wanted plan fault trail before after = IsSaidTo (listing plan) trail before after
 
 -- memory was refused before anything was started or written, and so before a run began
-abbrev pub IsUnbegun : (started started_after : Starts) → RunFault → (trail : Option (List Event)) → Option (List ℕ) → Option (List ℕ) → Type 0
-IsUnbegun started started_after fault trail before after = (fault ≡ Memory) × (started_after ≡ started) × (trail ≡ None) × (after ≡ before)
+abbrev pub IsUnbegun : RunFault → (trail : Option (List Event)) → (before after : Stage) → Type 0
+IsUnbegun fault trail before after = (fault ≡ Memory) × (trail ≡ None) × IsUntouched before after
 
 -- what a plan is made for couldn't go on: it wasn't begun, or a beginning of it was done
-abbrev pub IsGivenTo : Wanted → PlanOf → (started started_after : Starts) → RunFault → (trail : Option (List Event)) → Option (List ℕ) → Option (List ℕ) → Type 0
-IsGivenTo wanted plan started started_after fault trail before after =
-    IsUnbegun started started_after fault trail before after ⊎ IsGivenToFor wanted.purpose wanted plan started started_after fault trail before after
+abbrev pub IsGivenTo : Wanted → PlanOf → RunFault → (trail : Option (List Event)) → (before after : Stage) → Type 0
+IsGivenTo wanted plan fault trail before after =
+    IsUnbegun fault trail before after ⊎ IsGivenToFor wanted.purpose wanted plan fault trail before after
 
 -- warnings are faults, and there are some: nothing is started or written then
 abbrev pub has_some : List (List ℕ) → Bool
@@ -165,10 +162,10 @@ has_some (line ∷ lines) = true
 abbrev pub is_forbidden : Wanted → PlanOf → Bool
 is_forbidden wanted plan = wanted.strict && has_some plan.warnings
 
-abbrev pub IsGivenUnless : (forbidden : Bool) → Wanted → PlanOf → (started started_after : Starts) → Option (List ℕ) → Option (List ℕ) → Played → Type 0
-IsGivenUnless true wanted plan started started_after before after played = (started_after ≡ started) × (after ≡ before) × (played.status ≡ 1) × (played.trail ≡ None)
-IsGivenUnless false wanted plan started started_after before after played = IsGiven wanted plan started started_after before after played
+abbrev pub IsGivenUnless : (forbidden : Bool) → Wanted → PlanOf → (before after : Stage) → Played → Type 0
+IsGivenUnless true wanted plan before after played = IsUntouched before after × (played.status ≡ 1) × (played.trail ≡ None)
+IsGivenUnless false wanted plan before after played = IsGiven wanted plan before after played
 
-abbrev pub IsGivenToUnless : (forbidden : Bool) → Wanted → PlanOf → (started started_after : Starts) → RunFault → (trail : Option (List Event)) → Option (List ℕ) → Option (List ℕ) → Type 0
-IsGivenToUnless true wanted plan started started_after fault trail before after = IsUnbegun started started_after fault trail before after
-IsGivenToUnless false wanted plan started started_after fault trail before after = IsGivenTo wanted plan started started_after fault trail before after
+abbrev pub IsGivenToUnless : (forbidden : Bool) → Wanted → PlanOf → RunFault → (trail : Option (List Event)) → (before after : Stage) → Type 0
+IsGivenToUnless true wanted plan fault trail before after = IsUnbegun fault trail before after
+IsGivenToUnless false wanted plan fault trail before after = IsGivenTo wanted plan fault trail before after

@@ -12,6 +12,7 @@ ghost use Rattle.pb_runner.specs.Reading.{table_of};
 ghost use Rattle.pb_runner.specs.Table.{TableGives};
 ghost use Rattle.pb_cli.specs.Again.{same_text, IsCompared, IsToldAgain, ForksChangeNothing, PlaysAgree};
 ghost use Rattle.pb_cli.specs.Played.{IsRunBy, commands_for};
+ghost use Rattle.pb_cli.specs.World.{stream_of};
 ghost use Rattle.std.specs.Prelude.{Option};
 
 use crate::playing::Wanted;
@@ -117,7 +118,7 @@ pub(crate) fn tell_again<E: LineOut>(
     err: &mut E,
 ) -> Result<(), AllocError>
     requires { IfSome same_under (λ n. (0 < n) × (n ≤ 256)) }
-    ensures told { OnOk result (IsToldAgain same_under trail.now bundle.old wanted.now (E.taken err.old) (E.taken err.new) (E.failures err.old) (E.failures err.new)) }
+    ensures told { OnOk result (IsToldAgain same_under trail.now bundle.old wanted.now (stream_of E.LineOut err.old) (stream_of E.LineOut err.new)) }
     ensures asked { OnErr result (is_some same_under ≡ true) }
     ensures run { OnErr result (is_some trail.now ≡ true) }
     ensures same { bundle.new ≡ bundle.old }

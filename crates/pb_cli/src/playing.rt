@@ -1,13 +1,14 @@
 //! What is done with a bundle: its plan, its warnings, and then what the plan is made for. The program's theorem is the contract of `play_bundle`;
 //! its steps stand below it, and in runs.rt, showing.rt and warnings.rt.
 
-ghost use Rattle.std.specs.Prelude.{◌≡◌, ◌≢◌, ◌⊎◌, ◌≤◌, List, length, map, Option, None, IfOk, Err, is_some};
+ghost use Rattle.std.specs.Prelude.{◌≡◌, ◌≢◌, ◌⊎◌, ◌≤◌, List, length, Option, None, IfOk, Err, is_some};
 ghost use Rattle.pb_state.specs.declared.event.Event.{Event};
 ghost use Rattle.pb_planning.specs.Bundle.{IsBundleFault};
 ghost use Rattle.pb_driver.specs.Taken.{one_more};
 ghost use Rattle.pb_cli.specs.Audited.{IsBadTrail};
 ghost use Rattle.pb_cli.specs.Played.{IsBadTable, IsRunOrAudited, IsRunOrAuditedTo, IsUnbegun, IsGiven, IsGivenTo};
-ghost use Rattle.pb_cli.specs.Done.{IsUntold, IsUnread, IsShown, IsStopped, IsUntouched, TrailsAreLegal};
+ghost use Rattle.pb_cli.specs.Done.{IsUntold, IsUnread, IsShown, IsStopped, TrailsAreLegal};
+ghost use Rattle.pb_cli.specs.World.{stage_of, world_of, IsUntouched};
 
 use crate::runs::run_plan;
 use crate::showing::{show, show_audit, show_hosts};
@@ -54,11 +55,11 @@ pub fn play_bundle<
 ) -> Result<Played, PlayFault>
     requires facts { bundle.now.has_facts_program ≡ is_some wanted.now.facts_program }
     requires launchers { 256 ≤ length launchers.old.items }
-    ensures answered { IfOk result (IsShown bundle.now wanted.now (map L.launched launchers.old.items) (map L.launched launchers.new.items) (O.taken out.old) (O.taken out.new) (E.taken err.old) (E.taken err.new) (E.failures err.old) (E.failures err.new)) }
-    ensures refused { (e : BundleFault) → result ≡ Err (PlayFault.Bundle e) → IsUntouched (map L.launched launchers.old.items) (map L.launched launchers.new.items) (O.taken out.old) (O.taken out.new) × (e ≢ BundleFault.Memory → IsBundleFault bundle.now e) }
-    ensures untold { (e : TableFault) → result ≡ Err (PlayFault.Outcomes e) → IsUntold bundle.now wanted.now e (map L.launched launchers.old.items) (map L.launched launchers.new.items) (O.taken out.old) (O.taken out.new) (E.taken err.old) (E.taken err.new) (E.failures err.old) (E.failures err.new) }
-    ensures unread { (e : TrailFault) → result ≡ Err (PlayFault.Trail e) → IsUnread bundle.now wanted.now e (map L.launched launchers.old.items) (map L.launched launchers.new.items) (O.taken out.old) (O.taken out.new) (E.taken err.old) (E.taken err.new) (E.failures err.old) (E.failures err.new) }
-    ensures stopped { (fault : RunFault) (trail : Option (List Event)) → result ≡ Err (PlayFault.Run fault trail) → IsStopped bundle.now wanted.now fault trail (map L.launched launchers.old.items) (map L.launched launchers.new.items) (O.taken out.old) (O.taken out.new) }
+    ensures answered { IfOk result (IsShown bundle.now wanted.now (world_of L.Launcher O.LineOut E.LineOut launchers.old.items out.old err.old) (world_of L.Launcher O.LineOut E.LineOut launchers.new.items out.new err.new)) }
+    ensures refused { (e : BundleFault) → result ≡ Err (PlayFault.Bundle e) → IsUntouched (stage_of L.Launcher O.LineOut launchers.old.items out.old) (stage_of L.Launcher O.LineOut launchers.new.items out.new) × (e ≢ BundleFault.Memory → IsBundleFault bundle.now e) }
+    ensures untold { (e : TableFault) → result ≡ Err (PlayFault.Outcomes e) → IsUntold bundle.now wanted.now e (world_of L.Launcher O.LineOut E.LineOut launchers.old.items out.old err.old) (world_of L.Launcher O.LineOut E.LineOut launchers.new.items out.new err.new) }
+    ensures unread { (e : TrailFault) → result ≡ Err (PlayFault.Trail e) → IsUnread bundle.now wanted.now e (world_of L.Launcher O.LineOut E.LineOut launchers.old.items out.old err.old) (world_of L.Launcher O.LineOut E.LineOut launchers.new.items out.new err.new) }
+    ensures stopped { (fault : RunFault) (trail : Option (List Event)) → result ≡ Err (PlayFault.Run fault trail) → IsStopped bundle.now wanted.now fault trail (stage_of L.Launcher O.LineOut launchers.old.items out.old) (stage_of L.Launcher O.LineOut launchers.new.items out.new) }
     ensures write { (trail : Option (List Event)) → result ≡ Err (PlayFault.Run RunFault.Write trail) → O.failures out.new ≡ one_more (O.failures out.old) }
 {
     let alloc = rt.alloc();
@@ -149,12 +150,12 @@ fn give<L: Launcher + Send + Drop, R: AllocGlobal + Threads + Wait + Sync, O: Li
     out: &mut O,
 ) -> Result<Played, PlayFault>
     requires { 256 ≤ length launchers.old.items }
-    ensures given { IfOk result (IsGiven wanted.now plan (map L.launched launchers.old.items) (map L.launched launchers.new.items) (O.taken out.old) (O.taken out.new)) }
-    ensures stopped { (fault : RunFault) (trail : Option (List Event)) → result ≡ Err (PlayFault.Run fault trail) → IsGivenTo wanted.now plan (map L.launched launchers.old.items) (map L.launched launchers.new.items) fault trail (O.taken out.old) (O.taken out.new) }
+    ensures given { IfOk result (IsGiven wanted.now plan (stage_of L.Launcher O.LineOut launchers.old.items out.old) (stage_of L.Launcher O.LineOut launchers.new.items out.new)) }
+    ensures stopped { (fault : RunFault) (trail : Option (List Event)) → result ≡ Err (PlayFault.Run fault trail) → IsGivenTo wanted.now plan fault trail (stage_of L.Launcher O.LineOut launchers.old.items out.old) (stage_of L.Launcher O.LineOut launchers.new.items out.new) }
     ensures write { (trail : Option (List Event)) → result ≡ Err (PlayFault.Run RunFault.Write trail) → O.failures out.new ≡ one_more (O.failures out.old) }
     ensures planned { (e : BundleFault) → result ≢ Err (PlayFault.Bundle e) }
-    ensures untold { (e : TableFault) → result ≡ Err (PlayFault.Outcomes e) → (wanted.now.purpose ≡ Purpose.Run) × (wanted.now.audited ≡ None) × IsUntouched (map L.launched launchers.old.items) (map L.launched launchers.new.items) (O.taken out.old) (O.taken out.new) × (e ≢ TableFault.Memory → IsBadTable wanted.now.outcomes e) }
-    ensures unread { (e : TrailFault) → result ≡ Err (PlayFault.Trail e) → (wanted.now.purpose ≡ Purpose.Run) × IsUntouched (map L.launched launchers.old.items) (map L.launched launchers.new.items) (O.taken out.old) (O.taken out.new) × (e ≢ TrailFault.Memory → IsBadTrail wanted.now.audited e) }
+    ensures untold { (e : TableFault) → result ≡ Err (PlayFault.Outcomes e) → (wanted.now.purpose ≡ Purpose.Run) × (wanted.now.audited ≡ None) × IsUntouched (stage_of L.Launcher O.LineOut launchers.old.items out.old) (stage_of L.Launcher O.LineOut launchers.new.items out.new) × (e ≢ TableFault.Memory → IsBadTable wanted.now.outcomes e) }
+    ensures unread { (e : TrailFault) → result ≡ Err (PlayFault.Trail e) → (wanted.now.purpose ≡ Purpose.Run) × IsUntouched (stage_of L.Launcher O.LineOut launchers.old.items out.old) (stage_of L.Launcher O.LineOut launchers.new.items out.new) × (e ≢ TrailFault.Memory → IsBadTrail wanted.now.audited e) }
 {
     match wanted.purpose {
         Purpose::CheckSyntax => show(out, "ok\n", 0),
@@ -173,12 +174,12 @@ fn run_or_audit<L: Launcher + Send + Drop, R: AllocGlobal + Threads + Wait + Syn
     out: &mut O,
 ) -> Result<Played, PlayFault>
     requires { 256 ≤ length launchers.old.items }
-    ensures given { IfOk result (IsRunOrAudited wanted.now.audited wanted.now plan (map L.launched launchers.old.items) (map L.launched launchers.new.items) (O.taken out.old) (O.taken out.new)) }
-    ensures stopped { (fault : RunFault) (trail : Option (List Event)) → result ≡ Err (PlayFault.Run fault trail) → IsUnbegun (map L.launched launchers.old.items) (map L.launched launchers.new.items) fault trail (O.taken out.old) (O.taken out.new) ⊎ IsRunOrAuditedTo wanted.now.audited wanted.now plan (map L.launched launchers.old.items) (map L.launched launchers.new.items) fault trail (O.taken out.old) (O.taken out.new) }
+    ensures given { IfOk result (IsRunOrAudited wanted.now.audited wanted.now plan (stage_of L.Launcher O.LineOut launchers.old.items out.old) (stage_of L.Launcher O.LineOut launchers.new.items out.new)) }
+    ensures stopped { (fault : RunFault) (trail : Option (List Event)) → result ≡ Err (PlayFault.Run fault trail) → IsUnbegun fault trail (stage_of L.Launcher O.LineOut launchers.old.items out.old) (stage_of L.Launcher O.LineOut launchers.new.items out.new) ⊎ IsRunOrAuditedTo wanted.now.audited wanted.now plan fault trail (stage_of L.Launcher O.LineOut launchers.old.items out.old) (stage_of L.Launcher O.LineOut launchers.new.items out.new) }
     ensures write { (trail : Option (List Event)) → result ≡ Err (PlayFault.Run RunFault.Write trail) → O.failures out.new ≡ one_more (O.failures out.old) }
     ensures planned { (e : BundleFault) → result ≢ Err (PlayFault.Bundle e) }
-    ensures untold { (e : TableFault) → result ≡ Err (PlayFault.Outcomes e) → (wanted.now.audited ≡ None) × IsUntouched (map L.launched launchers.old.items) (map L.launched launchers.new.items) (O.taken out.old) (O.taken out.new) × (e ≢ TableFault.Memory → IsBadTable wanted.now.outcomes e) }
-    ensures unread { (e : TrailFault) → result ≡ Err (PlayFault.Trail e) → IsUntouched (map L.launched launchers.old.items) (map L.launched launchers.new.items) (O.taken out.old) (O.taken out.new) × (e ≢ TrailFault.Memory → IsBadTrail wanted.now.audited e) }
+    ensures untold { (e : TableFault) → result ≡ Err (PlayFault.Outcomes e) → (wanted.now.audited ≡ None) × IsUntouched (stage_of L.Launcher O.LineOut launchers.old.items out.old) (stage_of L.Launcher O.LineOut launchers.new.items out.new) × (e ≢ TableFault.Memory → IsBadTable wanted.now.outcomes e) }
+    ensures unread { (e : TrailFault) → result ≡ Err (PlayFault.Trail e) → IsUntouched (stage_of L.Launcher O.LineOut launchers.old.items out.old) (stage_of L.Launcher O.LineOut launchers.new.items out.new) × (e ≢ TrailFault.Memory → IsBadTrail wanted.now.audited e) }
 {
     match &wanted.audited {
         Some(bytes) => show_audit(rt.alloc(), &plan, bytes.as_slice(), out),

@@ -2,10 +2,11 @@
 
 ghost use Rattle.std.specs.Prelude.{◌≡◌, ◌≢◌, ◌⊎◌, ◌<◌, ◌≤◌, ◌+◌, ◌-◌, IfOk, IfErr, IfSome, OnErr, Some, is_some, length, map, true, string_bytes};
 ghost use Rattle.pb_value.specs.Limits.{max_bytes};
-ghost use Rattle.pb_cli.specs.Again.{IsPut, IsToldAgain};
-ghost use Rattle.pb_cli.specs.Done.{IsBundleOf, IsWantedBy, is_too_long, IsShownAs, IsDone, IsUntouched, IsCutOrUnkept, IsBroken, IsHelped, IsAnswered, IsUnended};
+ghost use Rattle.pb_cli.specs.Again.{IsToldAgain};
+ghost use Rattle.pb_cli.specs.Done.{IsBundleOf, IsWantedBy, is_too_long, IsShownAs, IsDone, IsCutOrUnkept, IsBroken, IsHelped, IsAnswered, IsUnended};
 ghost use Rattle.pb_cli.specs.Messages.{IsToldBundle};
 ghost use Rattle.pb_cli.specs.RoleFiles.{AreRolesIn};
+ghost use Rattle.pb_cli.specs.World.{stream_of, stage_of, world_of, IsPut, IsQuiet, IsUntouched};
 
 use crate::again::tell_again;
 use crate::failed::keep_failed;
@@ -43,10 +44,10 @@ pub fn play<
     E: LineOut,
 >(rt: &R, words: &[String], launchers: &mut Vec<L>, out: &mut O, err: &mut E) -> u8
     requires { 256 ≤ length launchers.old.items }
-    ensures done { result ≢ 1 → (IsHelped (map string_bytes words.now) (O.taken out.old) (O.taken out.new) result × (map L.launched launchers.new.items ≡ map L.launched launchers.old.items))
-        ⊎ IsAnswered (map string_bytes words.now) (map L.launched launchers.old.items) (map L.launched launchers.new.items) (O.taken out.old) (O.taken out.new) (E.taken err.old) (E.taken err.new) (E.failures err.old) (E.failures err.new) result }
-    ensures fault { result ≡ 1 → IsUntouched (map L.launched launchers.old.items) (map L.launched launchers.new.items) (O.taken out.old) (O.taken out.new)
-        ⊎ IsUnended (map string_bytes words.now) (map L.launched launchers.old.items) (map L.launched launchers.new.items) (O.taken out.old) (O.taken out.new) (E.taken err.old) (O.failures out.old) (O.failures out.new) (E.failures err.old) }
+    ensures done { result ≢ 1 → IsHelped (map string_bytes words.now) (stage_of L.Launcher O.LineOut launchers.old.items out.old) (stage_of L.Launcher O.LineOut launchers.new.items out.new) result
+        ⊎ IsAnswered (map string_bytes words.now) (world_of L.Launcher O.LineOut E.LineOut launchers.old.items out.old err.old) (world_of L.Launcher O.LineOut E.LineOut launchers.new.items out.new err.new) result }
+    ensures fault { result ≡ 1 → IsUntouched (stage_of L.Launcher O.LineOut launchers.old.items out.old) (stage_of L.Launcher O.LineOut launchers.new.items out.new)
+        ⊎ IsUnended (map string_bytes words.now) (world_of L.Launcher O.LineOut E.LineOut launchers.old.items out.old err.old) (world_of L.Launcher O.LineOut E.LineOut launchers.new.items out.new err.new) }
 {
     let alloc = rt.alloc();
     match read_words(alloc, words) {
@@ -106,9 +107,9 @@ fn play_request<
 >(rt: &R, request: Request, launchers: &mut Vec<L>, out: &mut O, err: &mut E) -> u8
     requires launchers { 256 ≤ length launchers.old.items }
     requires under { IfSome request.same_under (λ n. (0 < n) × (n ≤ 256)) }
-    ensures done { result ≢ 1 → IsDone request (map L.launched launchers.old.items) (map L.launched launchers.new.items) (O.taken out.old) (O.taken out.new) (E.taken err.old) (E.taken err.new) (E.failures err.old) (E.failures err.new) result }
-    ensures fault { result ≡ 1 → IsUntouched (map L.launched launchers.old.items) (map L.launched launchers.new.items) (O.taken out.old) (O.taken out.new)
-        ⊎ IsBroken request (map L.launched launchers.old.items) (map L.launched launchers.new.items) (O.taken out.old) (O.taken out.new) (E.taken err.old) (O.failures out.old) (O.failures out.new) (E.failures err.old) }
+    ensures done { result ≢ 1 → IsDone request (world_of L.Launcher O.LineOut E.LineOut launchers.old.items out.old err.old) (world_of L.Launcher O.LineOut E.LineOut launchers.new.items out.new err.new) result }
+    ensures fault { result ≡ 1 → IsUntouched (stage_of L.Launcher O.LineOut launchers.old.items out.old) (stage_of L.Launcher O.LineOut launchers.new.items out.new)
+        ⊎ IsBroken request (world_of L.Launcher O.LineOut E.LineOut launchers.old.items out.old err.old) (world_of L.Launcher O.LineOut E.LineOut launchers.new.items out.new err.new) }
 {
     let alloc = rt.alloc();
     let mut asked = match read_files(rt, request) {
@@ -132,9 +133,9 @@ fn play_asked<
     requires facts { asked.old.bundle.has_facts_program ≡ is_some asked.old.wanted.facts_program }
     requires launchers { 256 ≤ length launchers.old.items }
     requires under { IfSome asked.old.same_under (λ n. (0 < n) × (n ≤ 256)) }
-    ensures done { result ≢ 1 → IsShownAs result asked.old.bundle asked.old.wanted asked.old.same_under (map L.launched launchers.old.items) (map L.launched launchers.new.items) (O.taken out.old) (O.taken out.new) (E.taken err.old) (E.taken err.new) (E.failures err.old) (E.failures err.new) }
-    ensures fault { result ≡ 1 → IsUntouched (map L.launched launchers.old.items) (map L.launched launchers.new.items) (O.taken out.old) (O.taken out.new)
-        ⊎ IsCutOrUnkept asked.old.bundle asked.old.wanted asked.old.trail asked.old.same_under asked.old.failed (map L.launched launchers.old.items) (map L.launched launchers.new.items) (O.taken out.old) (O.taken out.new) (E.taken err.old) (O.failures out.old) (O.failures out.new) (E.failures err.old) }
+    ensures done { result ≢ 1 → IsShownAs result asked.old.bundle asked.old.wanted asked.old.same_under (world_of L.Launcher O.LineOut E.LineOut launchers.old.items out.old err.old) (world_of L.Launcher O.LineOut E.LineOut launchers.new.items out.new err.new) }
+    ensures fault { result ≡ 1 → IsUntouched (stage_of L.Launcher O.LineOut launchers.old.items out.old) (stage_of L.Launcher O.LineOut launchers.new.items out.new)
+        ⊎ IsCutOrUnkept asked.old.bundle asked.old.wanted asked.old.trail asked.old.same_under asked.old.failed (world_of L.Launcher O.LineOut E.LineOut launchers.old.items out.old err.old) (world_of L.Launcher O.LineOut E.LineOut launchers.new.items out.new err.new) }
 {
     let alloc = rt.alloc();
     match play_bundle(rt, &asked.bundle, &asked.wanted, launchers, out, err) {
@@ -155,7 +156,7 @@ fn end<R: Files + AllocGlobal, E: LineOut>(
     err: &mut E,
 ) -> u8
     requires { IfSome asked.old.same_under (λ n. (0 < n) × (n ≤ 256)) }
-    ensures done { result ≢ 1 → (played.now.status ≡ result) × IsToldAgain asked.old.same_under played.now.trail asked.old.bundle asked.old.wanted (E.taken err.old) (E.taken err.new) (E.failures err.old) (E.failures err.new) }
+    ensures done { result ≢ 1 → (played.now.status ≡ result) × IsToldAgain asked.old.same_under played.now.trail asked.old.bundle asked.old.wanted (stream_of E.LineOut err.old) (stream_of E.LineOut err.new) }
     ensures fault { result ≡ 1 → (played.now.status ≡ 1) ⊎ (((is_some asked.old.trail ≡ true) ⊎ (is_some asked.old.same_under ≡ true) ⊎ (is_some asked.old.failed ≡ true)) × (is_some played.now.trail ≡ true)) }
 {
     let alloc = rt.alloc();
@@ -198,7 +199,7 @@ fn keep_all<R: Files + AllocGlobal, E: LineOut>(
     status: u8,
     err: &mut E,
 ) -> u8
-    ensures kept { result ≢ 1 → (status ≡ result) × (E.taken err.new ≡ E.taken err.old) × (E.failures err.new ≡ E.failures err.old) }
+    ensures kept { result ≢ 1 → (status ≡ result) × IsQuiet (stream_of E.LineOut err.old) (stream_of E.LineOut err.new) }
     ensures fault { result ≡ 1 → (status ≡ 1) ⊎ (((is_some asked.now.trail ≡ true) ⊎ (is_some asked.now.failed ≡ true)) × (is_some trail.now ≡ true)) }
 {
     match keep_failed(rt, &asked.bundle, &asked.failed, trail) {
@@ -218,7 +219,7 @@ fn keep_told<R: Files + AllocGlobal, E: LineOut>(
     status: u8,
     err: &mut E,
 ) -> u8
-    ensures kept { result ≢ 1 → (status ≡ result) × (E.taken err.new ≡ E.taken err.old) × (E.failures err.new ≡ E.failures err.old) }
+    ensures kept { result ≢ 1 → (status ≡ result) × IsQuiet (stream_of E.LineOut err.old) (stream_of E.LineOut err.new) }
     ensures fault { result ≡ 1 → (status ≡ 1) ⊎ ((is_some path.now ≡ true) × (is_some trail.now ≡ true)) }
 {
     match keep(rt, path, trail) {
@@ -384,7 +385,7 @@ fn is_too_long(outcomes: &Option<Items<u8>>) -> bool
 #[tactic(auto, using(crate::proofs::Telling::bundle_told))]
 fn told_bundle<E: LineOut>(alloc: Global, err: &mut E, fault: &BundleFault, places: bool) -> u8
     ensures status { result ≡ 1 }
-    ensures told { IsToldBundle places fault.now (E.taken err.old) (E.taken err.new) (E.failures err.old) (E.failures err.new) }
+    ensures told { IsToldBundle places fault.now (stream_of E.LineOut err.old) (stream_of E.LineOut err.new) }
 {
     told_line(err, bundle_message(alloc, fault, places))
 }
@@ -419,7 +420,7 @@ fn told<E: LineOut, F: Display>(alloc: Global, err: &mut E, part: Part, fault: &
 /// Writes the line of a fault, if there is memory for it. That standard error fails changes nothing: the status is 1.
 fn told_line<E: LineOut>(err: &mut E, line: Result<String, AllocError>) -> u8
     ensures status { result ≡ 1 }
-    ensures told { IfOk line (λ text. IsPut (string_bytes text) (E.taken err.old) (E.taken err.new) (E.failures err.old) (E.failures err.new)) }
+    ensures told { IfOk line (λ text. IsPut (string_bytes text) (stream_of E.LineOut err.old) (stream_of E.LineOut err.new)) }
     ensures quiet { OnErr line (E.taken err.new ≡ E.taken err.old) }
 {
     if let Ok(line) = line {

@@ -1,13 +1,13 @@
 //! Runs of a plan: by the programs of its jobs, or by a file of outcomes.
 
-ghost use Rattle.std.specs.Prelude.{◌≡◌, ◌≢◌, ◌⊎◌, ◌≤◌, List, length, map, Option, IfOk, IfErr, Err};
+ghost use Rattle.std.specs.Prelude.{◌≡◌, ◌≢◌, ◌⊎◌, ◌≤◌, List, length, Option, IfOk, IfErr, Err};
 ghost use Rattle.pb_state.specs.declared.event.Event.{Event};
 ghost use Rattle.pb_driver.specs.Driven.{IsAnswer};
 ghost use Rattle.pb_driver.specs.Ran.{IsRanTo, answers_of};
 ghost use Rattle.pb_driver.specs.Taken.{one_more};
 ghost use Rattle.pb_runner.specs.Reading.{table_of};
 ghost use Rattle.pb_cli.specs.Played.{commands_for, IsBadTable, IsRunBy, IsCutBy, IsTabled, IsTabledCut, IsPlayed, IsPlayedTo, HasTrail, IsUnbegun};
-ghost use Rattle.pb_cli.specs.Done.{IsUntouched};
+ghost use Rattle.pb_cli.specs.World.{stage_of, IsUntouched};
 
 use crate::playing::{PlayFault, Played, Wanted};
 use crate::workers::run_local;
@@ -38,12 +38,12 @@ pub(crate) fn run_plan<
     out: &mut O,
 ) -> Result<Played, PlayFault>
     requires { 256 ≤ length launchers.old.items }
-    ensures played { IfOk result (λ played. HasTrail played.trail (λ trail. IsPlayed plan wanted.now.stop_after wanted.now.facts_program wanted.now.outcomes (map L.launched launchers.old.items) (map L.launched launchers.new.items) trail (O.taken out.old) (O.taken out.new) played.status)) }
-    ensures stopped { (fault : RunFault) (trail : Option (List Event)) → result ≡ Err (PlayFault.Run fault trail) → IsUnbegun (map L.launched launchers.old.items) (map L.launched launchers.new.items) fault trail (O.taken out.old) (O.taken out.new) ⊎ HasTrail trail (λ events. IsPlayedTo plan wanted.now.stop_after wanted.now.facts_program wanted.now.outcomes (map L.launched launchers.old.items) (map L.launched launchers.new.items) events fault (O.taken out.old) (O.taken out.new)) }
+    ensures played { IfOk result (λ played. HasTrail played.trail (λ trail. IsPlayed plan wanted.now.stop_after wanted.now.facts_program wanted.now.outcomes trail (stage_of L.Launcher O.LineOut launchers.old.items out.old) (stage_of L.Launcher O.LineOut launchers.new.items out.new) played.status)) }
+    ensures stopped { (fault : RunFault) (trail : Option (List Event)) → result ≡ Err (PlayFault.Run fault trail) → IsUnbegun fault trail (stage_of L.Launcher O.LineOut launchers.old.items out.old) (stage_of L.Launcher O.LineOut launchers.new.items out.new) ⊎ HasTrail trail (λ events. IsPlayedTo plan wanted.now.stop_after wanted.now.facts_program wanted.now.outcomes events fault (stage_of L.Launcher O.LineOut launchers.old.items out.old) (stage_of L.Launcher O.LineOut launchers.new.items out.new)) }
     ensures write { (trail : Option (List Event)) → result ≡ Err (PlayFault.Run RunFault.Write trail) → O.failures out.new ≡ one_more (O.failures out.old) }
     ensures planned { (e : BundleFault) → result ≢ Err (PlayFault.Bundle e) }
     ensures unaudited { (e : TrailFault) → result ≢ Err (PlayFault.Trail e) }
-    ensures untold { (e : TableFault) → result ≡ Err (PlayFault.Outcomes e) → IsUntouched (map L.launched launchers.old.items) (map L.launched launchers.new.items) (O.taken out.old) (O.taken out.new) × (e ≢ TableFault.Memory → IsBadTable wanted.now.outcomes e) }
+    ensures untold { (e : TableFault) → result ≡ Err (PlayFault.Outcomes e) → IsUntouched (stage_of L.Launcher O.LineOut launchers.old.items out.old) (stage_of L.Launcher O.LineOut launchers.new.items out.new) × (e ≢ TableFault.Memory → IsBadTable wanted.now.outcomes e) }
 {
     if let Some(bytes) = &wanted.outcomes {
         return run_tabled(rt.alloc(), plan, wanted.stop_after, bytes.as_slice(), out);

@@ -7,6 +7,7 @@ ghost use Rattle.pb_driver.specs.Taken.{one_more};
 ghost use Rattle.pb_driver.specs.Workers.{IsSpread};
 ghost use Rattle.pb_cli.specs.Played.{commands_for, IsRunBy, IsCutBy, IsLocalRun, IsLocalCut, IsUnbegun, HasTrail};
 ghost use Rattle.pb_cli.specs.Hired.{launcher_of, facts_of, HasRoomFor};
+ghost use Rattle.pb_cli.specs.World.{stage_of};
 
 use crate::playing::Wanted;
 use pb_driver::{Command, Ended, Given, LineOut, Lowest, RunFault, run_pool};
@@ -203,8 +204,8 @@ fn run_hired<L: Launcher + Send + Drop, R: AllocGlobal + Threads + Wait + Sync, 
 ) -> Result<(u8, Items<Event>), (RunFault, Items<Event>)>
     requires forks { (0 < plan.forks) × (plan.forks ≤ 256) × (256 ≤ length launchers.old.items) }
     requires room { HasRoomFor wanted.now.facts_program (length launchers.old.items) plan.forks staff }
-    ensures run { IfOk result (λ ran. IsLocalRun plan wanted.now.stop_after wanted.now.facts_program (map L.launched launchers.old.items) (map L.launched launchers.new.items) ran.1 (O.taken out.old) (O.taken out.new) ran.0) }
-    ensures cut { IfErr result (λ cut. IsLocalCut plan wanted.now.stop_after wanted.now.facts_program (map L.launched launchers.old.items) (map L.launched launchers.new.items) cut.1 cut.0 (O.taken out.old) (O.taken out.new)) }
+    ensures run { IfOk result (λ ran. IsLocalRun plan wanted.now.stop_after wanted.now.facts_program ran.1 (stage_of L.Launcher O.LineOut launchers.old.items out.old) (stage_of L.Launcher O.LineOut launchers.new.items out.new) ran.0) }
+    ensures cut { IfErr result (λ cut. IsLocalCut plan wanted.now.stop_after wanted.now.facts_program cut.1 cut.0 (stage_of L.Launcher O.LineOut launchers.old.items out.old) (stage_of L.Launcher O.LineOut launchers.new.items out.new)) }
     ensures write { IfErr result (λ cut. cut.0 ≡ RunFault.Write → O.failures out.new ≡ one_more (O.failures out.old)) }
 {
     let Staff {
@@ -239,8 +240,8 @@ pub(crate) fn run_local<
     out: &mut O,
 ) -> Result<(u8, Items<Event>), (RunFault, Option<Items<Event>>)>
     requires { 256 ≤ length launchers.old.items }
-    ensures run { IfOk result (λ ran. IsLocalRun plan wanted.now.stop_after wanted.now.facts_program (map L.launched launchers.old.items) (map L.launched launchers.new.items) ran.1 (O.taken out.old) (O.taken out.new) ran.0) }
-    ensures cut { IfErr result (λ cut. IsUnbegun (map L.launched launchers.old.items) (map L.launched launchers.new.items) cut.0 cut.1 (O.taken out.old) (O.taken out.new) ⊎ HasTrail cut.1 (λ events. IsLocalCut plan wanted.now.stop_after wanted.now.facts_program (map L.launched launchers.old.items) (map L.launched launchers.new.items) events cut.0 (O.taken out.old) (O.taken out.new))) }
+    ensures run { IfOk result (λ ran. IsLocalRun plan wanted.now.stop_after wanted.now.facts_program ran.1 (stage_of L.Launcher O.LineOut launchers.old.items out.old) (stage_of L.Launcher O.LineOut launchers.new.items out.new) ran.0) }
+    ensures cut { IfErr result (λ cut. IsUnbegun cut.0 cut.1 (stage_of L.Launcher O.LineOut launchers.old.items out.old) (stage_of L.Launcher O.LineOut launchers.new.items out.new) ⊎ HasTrail cut.1 (λ events. IsLocalCut plan wanted.now.stop_after wanted.now.facts_program events cut.0 (stage_of L.Launcher O.LineOut launchers.old.items out.old) (stage_of L.Launcher O.LineOut launchers.new.items out.new))) }
     ensures write { IfErr result (λ cut. cut.0 ≡ RunFault.Write → O.failures out.new ≡ one_more (O.failures out.old)) }
 {
     let forks = plan.forks() as usize;

@@ -11,8 +11,7 @@ returns-clause-untold g c e h =
       runs = untold.0;
       unaudited = untold.1;
       warned = search rules;
-      unstarted = untold.2.0;
-      unwritten = untold.2.1;
+      untouched = untold.2;
       fault = untold.3;
     }
 
@@ -25,7 +24,6 @@ returns-clause-unread g c e h =
       allowed = search rules;
       runs = unread.0;
       warned = search rules;
-      unstarted = unread.1.0;
-      unwritten = unread.1.1;
+      untouched = unread.1;
       fault = unread.2;
     }

@@ -3,10 +3,10 @@ use Rattle.pb_cli.proofs.Ending.{done_badly}
 use Rattle.pb_cli.proofs.program.play_asked.Goals as goal
 
 pub returns-in-Err-Outcomes-clause-fault : goal.returns-in-Err-Outcomes-clause-fault
-returns-in-Err-Outcomes-clause-fault g c = λ one. let untold = c.play_bundle.ensures.untold c.in-Err-Outcomes.fault (search rules) in inl (untold.unstarted, untold.unwritten)
+returns-in-Err-Outcomes-clause-fault g c = λ one. let untold = c.play_bundle.ensures.untold c.in-Err-Outcomes.fault (search rules) in inl untold.untouched
 
 pub returns-in-Err-Trail-clause-fault : goal.returns-in-Err-Trail-clause-fault
-returns-in-Err-Trail-clause-fault g c = λ one. let unread = c.play_bundle.ensures.unread c.in-Err-Trail.fault (search rules) in inl (unread.unstarted, unread.unwritten)
+returns-in-Err-Trail-clause-fault g c = λ one. let unread = c.play_bundle.ensures.unread c.in-Err-Trail.fault (search rules) in inl unread.untouched
 
 pub returns-in-Ok-clause-fault : goal.returns-in-Ok-clause-fault
-returns-in-Ok-clause-fault g c = λ one. done_badly _ _ _ _ _ _ _ _ _ _ _ _ _ _ _ c.in-Ok.played c.in-Ok.ensures.answered (c.end.ensures.fault one)
+returns-in-Ok-clause-fault g c = λ one. done_badly _ _ _ _ _ _ _ _ c.in-Ok.played c.in-Ok.ensures.answered (c.end.ensures.fault one)
