@@ -197,5 +197,5 @@ module _ {L : Type 0} (launched : L → Option (List Launch)) where
   hired_cut (Err fault) plan stop_after facts olds news others all all_after before after old new many same cut later closed = record {
     cut = subst (λ (k : ℕ). IsCutBy (IsWorkersAnswer LocalAllows) plan k (commands_for stop_after) fault.1 before.taken after.taken) many cut;
     programs = (later.0, started_for facts olds news others all all_after plan fault.1 later.0 old new many same later.1);
-    closed = λ is. let none = closed is in (none.0, unstarted facts olds news others all all_after plan old new same none.2, none.1);
+    closed = λ is. let none = closed is in (none.0, (unstarted facts olds news others all all_after plan old new same none.2, none.1));
   }
