@@ -24,6 +24,7 @@ pub mod Returned
 pub mod Rows
 pub mod RowsOfHandlers
 pub mod RowsOfKeys
+pub mod RowsOfModules
 pub mod RowsOfNodes
 pub mod RowsOfRetries
 pub mod Strategies

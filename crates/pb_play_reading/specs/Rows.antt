@@ -9,7 +9,7 @@ use Rattle.pb_value.specs.Bytes.{json_in}
 use Rattle.pb_expr_syntax.specs.Computed.{tree_of, tree_of_tokens}
 use Rattle.pb_expr_syntax.specs.Tree.{Name, Truth}
 use Rattle.pb_template.specs.Computed.{template_of}
-use Rattle.pb_value.specs.Datum.{null, int, text, list, items_of, dict, no_members, member}
+use Rattle.pb_value.specs.Datum.{null, int, text, list, items_of}
 use Rattle.pb_value.specs.FromJson.{value_of}
 use Rattle.pb_patterns.specs.Reading.{pattern_of, expressions_of}
 use Rattle.pb_patterns.specs.declared.element.Element.{Element}
@@ -30,23 +30,22 @@ use Rattle.pb_play.specs.Tasks.{plain_task}
 use Rattle.pb_play_reading.specs.Tasks.{task, tells_of_task}
 use Rattle.pb_written.specs.Templates.{is_template}
 use Rattle.pb_written.specs.declared.fault.LoadFault.TheVariants.{NotJson, WrongShape, NotInProfile, NoModule, TwoModules, BadExpression, BadPattern}
-use Rattle.pb_play.specs.declared.commands.CommandWords.TheVariants.{Line, Argv}
-use Rattle.pb_play.specs.declared.modules.Module.TheVariants.{Assert, Command, Debug, DebugVar, Fail, SetFact, Setup, Shell}
+use Rattle.pb_play.specs.declared.modules.Module.TheVariants.{Assert, Debug, Fail, SetFact, Setup, Shell}
 use Rattle.pb_play.specs.declared.task.Task as declared
 use Rattle.pb_strategies.specs.declared.strategy.Strategy.TheVariants.{Linear, Free}
 
 -- what computes a row from its text
-unfoldable on_literals : ⊤
+unfoldable pub on_literals : ⊤
 unfolding role_entry handler conditions playbook_of expressions_of_book play expressions_of_play nodes task tells_of_task field field_or others pattern_of expressions_of is_template template_of tree_of tree_of_tokens json_in utf8_valid_len is_utf8 chars digits value_of serde_json_on_literals
 on_literals = tt
 
 -- a list of tasks alone
-abbrev only : List declared.Task → Written
+abbrev pub only : List declared.Task → Written
 only [] = Nothing
 only (t ∷ ts) = Task t (only ts)
 
 -- the elements of the pattern `all`
-abbrev all_hosts : List Element
+abbrev pub all_hosts : List Element
 all_hosts = record { text = codes "all"; mark = Unmarked; what = Term (codes "all") None } ∷ []
 
 hello : playbook_of (codes "[{\"hosts\":\"all\",\"gather_facts\":false,\"tasks\":[{\"name\":\"hi\",\"debug\":{\"msg\":\"hello\"}}]}]")
@@ -280,160 +279,6 @@ no_switch : playbook_of (codes "[{\"hosts\":\"all\",\"no_log\":5}]") ≡ Err (No
 unfolding on_literals
 no_switch = refl
 
--- the modules `command`, `fail` and `shell`, each in every form of its arguments
-commands : playbook_of (codes "[{\"hosts\":\"all\",\"gather_facts\":false,\"tasks\":[{\"command\":\"ls -l\"},{\"command\":{\"cmd\":\"'\"}},{\"ansible.builtin.command\":{\"argv\":[\"ls\",1,null]}}]}]")
-    ≡ Ok (record {
-      plays = record {
-        name = codes "all";
-        hosts = all_hosts;
-        vars = [];
-        any_errors_fatal = None;
-        ignore_errors = false;
-        max_fail_percentage = None;
-        pre_tasks = Nothing;
-        tasks =
-            only (plain_task (codes "command") [] (Command (Line (codes "ls -l"))) ∷
-            plain_task (codes "command") [] (Command (Line (codes "'"))) ∷
-            plain_task (codes "command") [] (Command (Argv (text (codes "ls") ∷ int (pos 1) ∷ null ∷ []))) ∷ []);
-        post_tasks = Nothing;
-        roles = [];
-        handlers = [];
-        force_handlers = false;
-        strategy = Linear;
-        serial = sizes [];
-      } ∷ [];
-    })
-unfolding on_literals
-commands = refl
-
-shells : playbook_of (codes "[{\"hosts\":\"all\",\"gather_facts\":false,\"tasks\":[{\"shell\":\"\"},{\"ansible.builtin.shell\":{\"cmd\":\"a | b\"}}]}]")
-    ≡ Ok (record {
-      plays = record {
-        name = codes "all";
-        hosts = all_hosts;
-        vars = [];
-        any_errors_fatal = None;
-        ignore_errors = false;
-        max_fail_percentage = None;
-        pre_tasks = Nothing;
-        tasks = only (plain_task (codes "shell") [] (Shell []) ∷ plain_task (codes "shell") [] (Shell (codes "a | b")) ∷ []);
-        post_tasks = Nothing;
-        roles = [];
-        handlers = [];
-        force_handlers = false;
-        strategy = Linear;
-        serial = sizes [];
-      } ∷ [];
-    })
-unfolding on_literals
-shells = refl
-
-fails : playbook_of (codes "[{\"hosts\":\"all\",\"gather_facts\":false,\"tasks\":[{\"fail\":{}},{\"ansible.builtin.fail\":{\"msg\":1}}]}]")
-    ≡ Ok (record {
-      plays = record {
-        name = codes "all";
-        hosts = all_hosts;
-        vars = [];
-        any_errors_fatal = None;
-        ignore_errors = false;
-        max_fail_percentage = None;
-        pre_tasks = Nothing;
-        tasks = only (plain_task (codes "fail") [] (Fail (text (codes "Failed as requested from task"))) ∷ plain_task (codes "fail") [] (Fail (int (pos 1))) ∷ []);
-        post_tasks = Nothing;
-        roles = [];
-        handlers = [];
-        force_handlers = false;
-        strategy = Linear;
-        serial = sizes [];
-      } ∷ [];
-    })
-unfolding on_literals
-fails = refl
-
--- `setup` has no arguments, and gathers facts where it stands
-setups : playbook_of (codes "[{\"hosts\":\"all\",\"gather_facts\":false,\"tasks\":[{\"setup\":{}},{\"ansible.builtin.setup\":{}}]}]")
-    ≡ Ok (record {
-      plays = record {
-        name = codes "all";
-        hosts = all_hosts;
-        vars = [];
-        any_errors_fatal = None;
-        ignore_errors = false;
-        max_fail_percentage = None;
-        pre_tasks = Nothing;
-        tasks = only (plain_task (codes "setup") [] Setup ∷ plain_task (codes "setup") [] Setup ∷ []);
-        post_tasks = Nothing;
-        roles = [];
-        handlers = [];
-        force_handlers = false;
-        strategy = Linear;
-        serial = sizes [];
-      } ∷ [];
-    })
-unfolding on_literals
-setups = refl
-
-argument_of_setup : playbook_of (codes "[{\"hosts\":\"all\",\"tasks\":[{\"setup\":{\"filter\":\"os\"}}]}]") ≡ Err (NotInProfile (codes "filter") (codes "0/tasks/0/setup/filter"))
-unfolding on_literals
-argument_of_setup = refl
-
--- the keys come first, and then that one of the two has to be there
-both_forms : playbook_of (codes "[{\"hosts\":\"all\",\"tasks\":[{\"command\":{\"argv\":[],\"cmd\":\"a\"}}]}]") ≡ Err (WrongShape (codes "0/tasks/0/command"))
-unfolding on_literals
-both_forms = refl
-
-neither_form : playbook_of (codes "[{\"hosts\":\"all\",\"tasks\":[{\"command\":{}}]}]") ≡ Err (WrongShape (codes "0/tasks/0/command"))
-unfolding on_literals
-neither_form = refl
-
-unknown_argument : playbook_of (codes "[{\"hosts\":\"all\",\"tasks\":[{\"command\":{\"argv\":[],\"chdir\":1,\"cmd\":1}}]}]") ≡ Err (NotInProfile (codes "chdir") (codes "0/tasks/0/command/chdir"))
-unfolding on_literals
-unknown_argument = refl
-
--- a list is one value, with one path
-refused_word : playbook_of (codes "[{\"hosts\":\"all\",\"tasks\":[{\"command\":{\"argv\":[1,1.5]}}]}]") ≡ Err (WrongShape (codes "0/tasks/0/command/argv"))
-unfolding on_literals
-refused_word = refl
-
-no_words_for_shell : playbook_of (codes "[{\"hosts\":\"all\",\"tasks\":[{\"shell\":{\"argv\":[]}}]}]") ≡ Err (NotInProfile (codes "argv") (codes "0/tasks/0/shell/argv"))
-unfolding on_literals
-no_words_for_shell = refl
-
-no_arguments_of_fail : playbook_of (codes "[{\"hosts\":\"all\",\"tasks\":[{\"fail\":null}]}]") ≡ Err (WrongShape (codes "0/tasks/0/fail"))
-unfolding on_literals
-no_arguments_of_fail = refl
-
--- the kinds of values come first, and then their texts, at any depth but for keys
-no_template_in_command : playbook_of (codes "[{\"hosts\":\"all\",\"tasks\":[{\"command\":\"run {{ item\"}]}]") ≡ Err (BadExpression (codes "0/tasks/0/command"))
-unfolding on_literals
-no_template_in_command = refl
-
-no_template_in_word : playbook_of (codes "[{\"hosts\":\"all\",\"tasks\":[{\"command\":{\"argv\":[[\"{% x\"]]}}]}]") ≡ Err (BadExpression (codes "0/tasks/0/command/argv"))
-unfolding on_literals
-no_template_in_word = refl
-
-no_template_in_key : playbook_of (codes "[{\"hosts\":\"all\",\"gather_facts\":false,\"tasks\":[{\"fail\":{\"msg\":{\"{% x\":\"a\"}}}]}]")
-    ≡ Ok (record {
-      plays = record {
-        name = codes "all";
-        hosts = all_hosts;
-        vars = [];
-        any_errors_fatal = None;
-        ignore_errors = false;
-        max_fail_percentage = None;
-        pre_tasks = Nothing;
-        tasks = only (plain_task (codes "fail") [] (Fail (dict (member (codes "{% x") (text (codes "a")) no_members))) ∷ []);
-        post_tasks = Nothing;
-        roles = [];
-        handlers = [];
-        force_handlers = false;
-        strategy = Linear;
-        serial = sizes [];
-      } ∷ [];
-    })
-unfolding on_literals
-no_template_in_key = refl
-
 -- the variables of a play and of a task, each under its name
 variables : playbook_of (codes "[{\"hosts\":\"all\",\"gather_facts\":false,\"vars\":{\"b\":\"{{ a }}\",\"a\":1},\"tasks\":[{\"debug\":{},\"vars\":{\"-\":null}}]}]")
     ≡ Ok (record {
@@ -468,36 +313,6 @@ no_variables = refl
 no_template_in_variable : playbook_of (codes "[{\"hosts\":\"all\",\"vars\":{\"x\":\"{{ }}\"}}]") ≡ Err (BadExpression (codes "0/vars/x"))
 unfolding on_literals
 no_template_in_variable = refl
-
--- `debug` shows the value of an expression, which stands without braces
-shown : playbook_of (codes "[{\"hosts\":\"all\",\"gather_facts\":false,\"tasks\":[{\"debug\":{\"var\":\"x\"}}]}]")
-    ≡ Ok (record { plays = record { name = codes "all"; hosts = all_hosts; vars = []; any_errors_fatal = None; ignore_errors = false; max_fail_percentage = None; pre_tasks = Nothing; tasks = only (plain_task (codes "debug") [] (DebugVar (codes "x") (Name (codes "x"))) ∷ []); post_tasks = Nothing; roles = []; handlers = []; force_handlers = false; strategy = Linear; serial = sizes [] } ∷ [] })
-unfolding on_literals
-shown = refl
-
-no_expression : playbook_of (codes "[{\"hosts\":\"all\",\"tasks\":[{\"debug\":{\"var\":\"{{ x }}\"}}]}]") ≡ Err (BadExpression (codes "0/tasks/0/debug/var"))
-unfolding on_literals
-no_expression = refl
-
-no_text_at_var : playbook_of (codes "[{\"hosts\":\"all\",\"tasks\":[{\"debug\":{\"var\":1}}]}]") ≡ Err (WrongShape (codes "0/tasks/0/debug/var"))
-unfolding on_literals
-no_text_at_var = refl
-
-message_and_expression : playbook_of (codes "[{\"hosts\":\"all\",\"tasks\":[{\"debug\":{\"msg\":1,\"var\":\"x\"}}]}]") ≡ Err (WrongShape (codes "0/tasks/0/debug"))
-unfolding on_literals
-message_and_expression = refl
-
-no_expression_of_fail : playbook_of (codes "[{\"hosts\":\"all\",\"tasks\":[{\"fail\":{\"var\":\"x\"}}]}]") ≡ Err (NotInProfile (codes "var") (codes "0/tasks/0/fail/var"))
-unfolding on_literals
-no_expression_of_fail = refl
-
-other_modules : playbook_of (codes "[{\"hosts\":\"all\",\"tasks\":[{\"command\":\"a\",\"shell\":\"a\"}]}]") ≡ Err (TwoModules (codes "0/tasks/0"))
-unfolding on_literals
-other_modules = refl
-
-other_prefix : playbook_of (codes "[{\"hosts\":\"all\",\"tasks\":[{\"ansible.builtin.copy\":\"a\"}]}]") ≡ Err (NotInProfile (codes "ansible.builtin.copy") (codes "0/tasks/0/ansible.builtin.copy"))
-unfolding on_literals
-other_prefix = refl
 
 -- all keys of a play at once, in the order of their bytes
 all_keys_of_play : playbook_of (codes "[{\"any_errors_fatal\":true,\"connection\":\"local\",\"force_handlers\":true,\"gather_facts\":false,\"gather_subset\":[],\"handlers\":[{\"shell\":\"h\"}],\"hosts\":\"all\",\"ignore_errors\":true,\"max_fail_percentage\":20,\"name\":\"p\",\"no_log\":false,\"post_tasks\":[{\"shell\":\"c\"}],\"pre_tasks\":[{\"shell\":\"a\"}],\"remote_user\":\"r\",\"roles\":[\"app\"],\"serial\":[1,\"50%\"],\"strategy\":\"free\",\"tags\":\"t\",\"tasks\":[{\"shell\":\"b\"}],\"vars\":{\"x\":1}}]")
@@ -544,37 +359,6 @@ all_keys_of_task : playbook_of (codes "[{\"hosts\":\"all\",\"gather_facts\":fals
     })
 unfolding on_literals
 all_keys_of_task = refl
-
--- all arguments of a module at once: those of `command` and of `debug` are refused together, so that both were read; `fail` and `shell` have one each
-all_arguments_of_command : playbook_of (codes "[{\"hosts\":\"all\",\"tasks\":[{\"command\":{\"argv\":[\"a\"],\"cmd\":\"a\"}}]}]") ≡ Err (WrongShape (codes "0/tasks/0/command"))
-unfolding on_literals
-all_arguments_of_command = refl
-
-all_arguments_of_debug : playbook_of (codes "[{\"hosts\":\"all\",\"tasks\":[{\"debug\":{\"msg\":\"a\",\"var\":\"x\"}}]}]") ≡ Err (WrongShape (codes "0/tasks/0/debug"))
-unfolding on_literals
-all_arguments_of_debug = refl
-
-all_arguments_of_fail_and_shell : playbook_of (codes "[{\"hosts\":\"all\",\"gather_facts\":false,\"tasks\":[{\"fail\":{\"msg\":\"a\"}},{\"shell\":{\"cmd\":\"b\"}}]}]")
-    ≡ Ok (record {
-      plays = record {
-        name = codes "all";
-        hosts = all_hosts;
-        vars = [];
-        any_errors_fatal = None;
-        ignore_errors = false;
-        max_fail_percentage = None;
-        pre_tasks = Nothing;
-        tasks = only (plain_task (codes "fail") [] (Fail (text (codes "a"))) ∷ plain_task (codes "shell") [] (Shell (codes "b")) ∷ []);
-        post_tasks = Nothing;
-        roles = [];
-        handlers = [];
-        force_handlers = false;
-        strategy = Linear;
-        serial = sizes [];
-      } ∷ [];
-    })
-unfolding on_literals
-all_arguments_of_fail_and_shell = refl
 
 -- the keys of a task that say when, how often and with what end it runs
 keys_of_a_task : playbook_of (codes "[{\"hosts\":\"all\",\"gather_facts\":false,\"tasks\":[{\"ignore_errors\":true,\"loop\":[1],\"loop_control\":{\"loop_var\":\"v\"},\"when\":\"x\",\"debug\":{\"msg\":\"m\"}}]}]")
