@@ -1,7 +1,7 @@
 //! What may happen in a run.
 
+use crate::boxed::BoxedReport;
 use pb_ids::{HostNo, Ticket};
-use pb_outcome::job::Report as JobReport;
 
 /// A step of a run.
 #[derive(Drop)]
@@ -21,7 +21,7 @@ pub enum Event {
         ticket: Ticket,
     },
     /// What came of a job that is out.
-    Report(JobReport),
+    Report(BoxedReport),
     /// The hosts of the batch turn to the next place.
     Turn,
     /// The batch closes.

@@ -8,6 +8,7 @@
 ghost use Rattle.pb_state.specs.Walks.{WalksLead, RowsStay};
 ghost use Rattle.pb_state.specs.Rising.{StartsRise};
 
+mod boxed;
 mod event;
 mod hosts;
 mod job;
@@ -16,6 +17,7 @@ mod later;
 mod state;
 mod through;
 
+pub use boxed::BoxedReport;
 pub use event::{Event, Trail};
 pub use pb_one_host::{Counts, Decided, Done, Retried, TaskEnd};
 pub use pb_plan::{Plan, PlanPlay};
