@@ -27,7 +27,7 @@ use pb_ids::HostNo;
 use pb_outcome::job::{Job, Report};
 use pb_planes::HostSet;
 use pb_recap::Recap;
-use pb_state::{EngineState, Event, Plan, StepFault};
+use pb_state::{BoxedReport, EngineState, Event, Plan, StepFault};
 use pb_value::val::Dict;
 use std::alloc::{AllocError, Global};
 use std::marker::Model;
@@ -149,9 +149,13 @@ impl Engine {
         if let Some(refusal) = refusal_for(&self.state, &report) {
             return Err((report, refusal));
         }
-        match self.take(Event::Report(report)) {
+        let boxed = match BoxedReport::new(self.alloc, report) {
+            Ok(boxed) => boxed,
+            Err(failed) => return Err((failed.value, Refusal::Memory)),
+        };
+        match self.take(Event::Report(boxed)) {
             Ok(()) => Ok(()),
-            Err(Event::Report(report)) => Err((report, Refusal::Memory)),
+            Err(Event::Report(boxed)) => Err((boxed.into_report(), Refusal::Memory)),
             Err(_) => unreachable!(),
         }
     }
