@@ -15,7 +15,7 @@ use pb_ids::{HostNo, Ticket};
 use pb_outcome::fault::OutcomeFault;
 use pb_outcome::job::Report;
 use pb_outcome::outcome::Outcome;
-use pb_state::{Event, Trail};
+use pb_state::{BoxedReport, Event, Trail};
 use pb_value::read_json::{JsonFault, read_json};
 use pb_value::text::Text;
 use serde_json::{Map, Value};
@@ -159,13 +159,14 @@ fn report_in(alloc: Global, json: &Value, version: Version) -> Result<Option<Eve
         whole_at(json, "t"),
     ) {
         (Some(attempt), Some(host), Some(item), Some(outcome), Some(ticket)) => {
-            Ok(Some(Event::Report(Report {
+            let report = Report {
                 ticket: Ticket(ticket),
                 host: HostNo(host),
                 item,
                 attempt,
                 outcome,
-            })))
+            };
+            Ok(Some(Event::Report(BoxedReport::new(alloc, report)?)))
         }
         _ => Ok(None),
     }
