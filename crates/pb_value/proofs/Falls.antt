@@ -1,7 +1,10 @@
 -- Each entry that is left of a dict holds a value that is smaller than the dict.
-use Rattle.std.proofs.Common.{◌≡◌, ℕ, ◌+◌, ◌<◌, ◌≤◌, List, [], ◌∷◌, ◌++◌, String, Global, string_bytes, sym, ap, subst, ◌∙◌, arith}
+use Rattle.std.proofs.Common.{◌≡◌, ℕ, zero, suc, ◌+◌, ◌<◌, ◌≤◌, List, [], ◌∷◌, ◌++◌, length, map, Some, String, Global, string_bytes, sym, ap, subst, ◌∙◌, arith}
 use Rattle.pb_value.specs.Datum.{Datum, nodes, members_nodes, members_of, named}
+use Rattle.std.specs.Prelude.{slice_get}
 use Rattle.pb_value.proofs.Named.{named-append}
+use Rattle.pb_value.specs.KeptSize.{kept_all}
+use Rattle.pb_value.specs.Names.{kept}
 
 pub entry_falls : (all : List (List ℕ × Datum)) (left rest : List (String Global × Datum)) (e : String Global × Datum) → members_nodes (members_of (named left)) ≤ members_nodes (members_of all) → left ≡ e ∷ rest
     → nodes e.1 < members_nodes (members_of all) + 1
@@ -29,3 +32,14 @@ left_falls all done left rest e a s =
 
 pub named_falls : (all : List (List ℕ × Datum)) (done left rest : List (String Global × Datum)) (e : String Global × Datum) → all ≡ named (done ++ left) → left ≡ e ∷ rest → nodes e.1 < members_nodes (members_of all) + 1
 named_falls all done left rest e a s = left_falls all (named done) left rest e (a ∙ named-append done left) s
+
+-- ---- where the names are kept for many
+value_in : (es : List (String Global × Datum)) (at : ℕ) (d : Datum) → slice_get (map (λ (e : String Global × Datum). e.1) es) at ≡ Some d → nodes d ≤ members_nodes (members_of (named es))
+value_in [] at d is = absurd (cc)
+value_in (e ∷ es) zero d is = let same : nodes e.1 ≡ nodes d = (let first : e.1 ≡ d = cc in ap nodes first) in omega (arith, same)
+value_in (e ∷ es) (suc at) d is = omega (arith, value_in es at d is)
+
+pub kept_falls : (gone : ℕ) (ns : List (String Global)) (ds : List Datum) (at : ℕ) (d : Datum) → length ds ≡ length (kept gone ns ds) → slice_get ds at ≡ Some d → nodes d < members_nodes (members_of (named (kept gone ns ds))) + 1
+kept_falls gone ns ds at d whole is =
+    let found = subst (λ (xs : List Datum). slice_get xs at ≡ Some d) (sym (kept_all gone ns ds whole)) is in
+    omega (arith, value_in (kept gone ns ds) at d found)

@@ -1,14 +1,15 @@
 -- What a dict is seen as, by the way in which its entries stand.
-use Rattle.std.proofs.Common.{◌≡◌, ℕ, suc, List, [], ◌∷◌, length, String, Global, Vec, Result, Ok, Err, Option, None, string_bytes, string_cmp, refl, sym, ap, subst, ◌∙◌}
+use Rattle.std.proofs.Common.{◌≡◌, ℕ, suc, List, [], ◌∷◌, length, String, Global, Vec, Box, Result, Ok, Err, Option, None, string_bytes, string_cmp, refl, sym, ap, subst, ◌∙◌}
 use Rattle.std.specs.Prelude.{IsSome, IfOk, OnOk, OnErr}
 use Rattle.std.specs.BTreeMap.{BTreeMap, insert_entry}
 use Rattle.std.specs.List.Sorted.{IsStrictlySortedBy}
 use Rattle.std.specs.Map.{keys_of}
 use Rattle.pb_value.proofs.Named.{length-named, named-insert_entry}
 use Rattle.pb_value.specs.Datum.{Datum, named, put, value_at}
-use Rattle.pb_value.specs.Held.{held}
+use Rattle.pb_value.specs.Held.{held, values_in}
+use Rattle.pb_value.specs.Names.{kept}
 use Rattle.pb_value.specs.declared.val.Store.{Store}
-use Rattle.pb_value.specs.declared.val.Store.TheVariants.{Few, Many}
+use Rattle.pb_value.specs.declared.val.Store.TheVariants.{Few, Many, Named}
 
 abbrev pub Entry : Type 0
 Entry = String Global × Datum
@@ -17,6 +18,11 @@ Entry = String Global × Datum
 pub on_err : {T E : Type 0} {P : Type 0} (result : Result T E) → P → OnErr result P
 on_err (Ok x) p = tt
 on_err (Err e) p = p
+
+-- what holds whatever comes, and so where a value stood
+pub for_ok : {T E : Type 0} {P : Type 0} (result : Result (Option T) E) → P → IfOk result (λ before. IsSome before → P)
+for_ok (Ok x) p = λ some. p
+for_ok (Err e) p = tt
 
 length-keys : {K X : Type 0} (es : List (K × X)) → length (keys_of es) ≡ length es
 length-keys [] = refl
@@ -29,11 +35,27 @@ same_length es fs e = sym (length-keys es) ∙ ap length e ∙ length-keys fs
 pub few_ordered : (store : Store) (row : Vec Entry Global) → store ≡ Few row → IsStrictlySortedBy string_cmp (keys_of (held store)) → IsStrictlySortedBy string_cmp (keys_of row.items)
 few_ordered store row is h = subst (λ (s : Store). IsStrictlySortedBy string_cmp (keys_of (held s))) is h
 
+pub many_ordered : (store : Store) (tree : BTreeMap (String Global) Datum) → store ≡ Many tree → IsStrictlySortedBy string_cmp (keys_of (held store)) → IsStrictlySortedBy string_cmp (keys_of tree.entries)
+many_ordered store tree is h = subst (λ (s : Store). IsStrictlySortedBy string_cmp (keys_of (held s))) is h
+
 pub few_named : (store : Store) (row : Vec Entry Global) (seen self : List (List ℕ × Datum)) → store ≡ Few row → named (held store) ≡ seen → seen ≡ self → named row.items ≡ self
 few_named store row seen self is v e = subst (λ (s : Store). named (held s) ≡ seen) is v ∙ e
 
 pub many_named : (store : Store) (tree : BTreeMap (String Global) Datum) (seen self : List (List ℕ × Datum)) → store ≡ Many tree → named (held store) ≡ seen → seen ≡ self → named tree.entries ≡ self
 many_named store tree seen self is v e = subst (λ (s : Store). named (held s) ≡ seen) is v ∙ e
+
+module _ (store : Store) (names : List (String Global)) (values : Box (Vec Datum Global) Global) (gone : ℕ) where
+  pub kept_sorted : store ≡ Named names values gone → IsStrictlySortedBy string_cmp (keys_of (held store)) → IsStrictlySortedBy string_cmp (keys_of (kept gone names values.value.items))
+  kept_sorted is h = subst (λ (s : Store). IsStrictlySortedBy string_cmp (keys_of (held s))) is h
+
+  pub kept_whole : store ≡ Named names values gone → values_in store ≡ length (held store) → length values.value.items ≡ length (kept gone names values.value.items)
+  kept_whole is h = subst (λ (s : Store). values_in s ≡ length (held s)) is h
+
+  pub kept_named : (seen : List (List ℕ × Datum)) → store ≡ Named names values gone → named (held store) ≡ seen → named (kept gone names values.value.items) ≡ seen
+  kept_named seen is v = subst (λ (s : Store). named (held s) ≡ seen) is v
+
+  pub named_length : (seen : List (List ℕ × Datum)) → store ≡ Named names values gone → values_in store ≡ length (held store) → named (held store) ≡ seen → length values.value.items ≡ length seen
+  named_length seen is h v = kept_whole is h ∙ (sym (length-named (kept gone names values.value.items)) ∙ ap length (kept_named seen is v))
 
 -- ---- a value is put under a name
 module _ {E : Type 0} (result : Result (Option Datum) E) (old new : List Entry) (self : List (List ℕ × Datum)) (name : String Global) (value : Datum) where

@@ -1,9 +1,10 @@
 -- Worked examples: each is proved by computing both sides.
-use Rattle.std.specs.Prelude.{◌≡◌, ℕ, zero, suc, pos, Float, true, false, [], Ok, Err, Some, None, codes, refl}
+use Rattle.std.specs.Prelude.{◌≡◌, ℕ, zero, suc, pos, Float, true, false, [], ◌∷◌, Ok, Err, Some, None, codes, refl}
 use Rattle.serde_json.specs.Data as json
 use Rattle.pb_value.specs.Datum.{Datum, null, boolean, int, text, list, no_items, item}
 use Rattle.pb_value.specs.Depth.{depth}
 use Rattle.pb_value.specs.FromJson.{value_of}
+use Rattle.pb_value.specs.Names.{kept, spot, names_of}
 use Rattle.pb_value.specs.Reading.{below}
 use Rattle.pb_value.specs.ToJson.{text_of}
 use Rattle.pb_value.specs.Truth.{truthy}
@@ -59,6 +60,19 @@ whole_number = refl
 number_above : value_of (json.number (json.unsigned 18446744073709551615)) ≡ Err OutOfRange
 unfolding value_of
 number_above = refl
+
+-- names that are kept once: a bit that is set says that its name has no value
+all_have_one : kept 0 (1 ∷ 2 ∷ []) (7 ∷ 8 ∷ []) ≡ (1, 7) ∷ (2, 8) ∷ []
+all_have_one = refl
+
+first_has_none : kept 1 (1 ∷ 2 ∷ []) (8 ∷ []) ≡ (2, 8) ∷ []
+first_has_none = refl
+
+behind_none : spot 1 1 ≡ Some 0
+behind_none = refl
+
+names_of_one : names_of ((codes "rc", null) ∷ []) ≡ Some (codes "rc" ∷ [])
+names_of_one = refl
 
 -- a number with a fraction or an exponent is no whole number, whatever it is worth; so is -0
 no_float : (f : Float) → value_of (json.number (json.float f)) ≡ Err NotWhole

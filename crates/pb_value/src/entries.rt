@@ -6,6 +6,7 @@ ghost use Rattle.std.specs.Map.{keys_of};
 ghost use Rattle.std.specs.Map.Iter.{TakesFirst, deref_pair};
 ghost use Rattle.std.specs.String.{string_cmp};
 ghost use Rattle.pb_value.specs.Datum.{named};
+ghost use Rattle.pb_value.specs.Left.{shared_left};
 
 use crate::val::{Dict, Store, Val};
 use std::collections::btree_map;
@@ -22,6 +23,15 @@ pub struct Entries<'a, K, V> {
 enum Left<'a, K, V> {
     Few(slice::Iter<'a, (K, V)>),
     Many(btree_map::Iter<'a, K, V>),
+    Named(Shared<'a, K, V>),
+}
+
+/// Names that are kept for many, the values of those that have one, and a bit for each that has none.
+#[derive(Drop)]
+struct Shared<'a, K, V> {
+    names: slice::Iter<'a, K>,
+    values: slice::Iter<'a, V>,
+    gone: u64,
 }
 
 impl<'a, K, V> Model for Entries<'a, K, V> {
@@ -31,6 +41,25 @@ impl<'a, K, V> Model for Entries<'a, K, V> {
     ghost Value = { List (K × V) };
 
     ghost view = { λ e. entries_left e.left };
+}
+
+/// The next of the names that has a value, with that value.
+#[tactic(auto, using(crate::proofs::KeptNames::skip_gone, crate::proofs::KeptNames::next_here, crate::proofs::KeptNames::none_kept_left))]
+fn next_kept<'a, K, V>(left: &mut Shared<'a, K, V>) -> Option<(&'a K, &'a V)>
+    ensures { TakesFirst deref_pair (shared_left left.old) result (shared_left left.new) }
+{
+    while left.gone % 2 == 1 {
+        let _ = left.names.next();
+        left.gone /= 2;
+    }
+    left.gone /= 2;
+    match left.names.next() {
+        Some(name) => match left.values.next() {
+            Some(value) => Some((name, value)),
+            None => None,
+        },
+        None => None,
+    }
 }
 
 impl<'a, K, V> Iterator for Entries<'a, K, V> {
@@ -47,6 +76,7 @@ impl<'a, K, V> Iterator for Entries<'a, K, V> {
                 None => None,
             },
             Left::Many(tree) => tree.next(),
+            Left::Named(left) => next_kept(left),
         }
     }
 }
@@ -63,6 +93,13 @@ impl Dict {
             },
             Store::Many(tree) => Entries {
                 left: Left::Many(tree.iter()),
+            },
+            Store::Named(names, values, gone) => Entries {
+                left: Left::Named(Shared {
+                    names: names.as_slice().iter(),
+                    values: values.as_slice().iter(),
+                    gone: *gone,
+                }),
             },
         }
     }

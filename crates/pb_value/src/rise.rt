@@ -6,7 +6,7 @@ ghost use Rattle.std.specs.Map.{keys_of};
 ghost use Rattle.std.specs.String.{string_cmp};
 ghost use Rattle.std.specs.Vec.{vec_len, vec_capacity};
 ghost use Rattle.pb_value.specs.Datum.{named, value_at};
-ghost use Rattle.pb_value.specs.Held.{held};
+ghost use Rattle.pb_value.specs.Held.{held, values_in};
 
 use crate::val::{Store, Val};
 use std::alloc::AllocError;
@@ -58,7 +58,8 @@ fn move_down(row: &mut Vec<(String, Val)>, tree: &mut BTreeMap<String, Val>)
 /// The entries of a row in a tree, or in the row where there is no memory for it.
 pub(crate) fn risen(row: Vec<(String, Val)>) -> Store
     requires { IsStrictlySortedBy string_cmp (keys_of row.items) }
-    ensures { held result ≡ row.items }
+    ensures entries { held result ≡ row.items }
+    ensures all { values_in result ≡ length (held result) }
 {
     let mut row = row;
     // (it has that room; so the entries can go back)

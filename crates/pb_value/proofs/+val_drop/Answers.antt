@@ -5,6 +5,6 @@ use Rattle.pb_value.proofs.+val_drop.Goals as goal
 
 pub val::Dict::drop-drop-requires : goal.val::Dict::drop-drop-requires
 val::Dict::drop-drop-requires t c κs =
-    let falls = store_size c.self.inside.store in
+    let falls = store_size c.self.inside.store c.self.invariant.1 in
     let size = ap (λ ms. members_nodes (members_of ms)) c.self.view_is in
     (((omega (arith, falls, size), tt), tt), search rules)
