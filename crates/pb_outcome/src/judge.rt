@@ -1,5 +1,6 @@
-ghost use Rattle.std.specs.Prelude.{◌≡◌, IfOk, OnOk, true, codes};
+ghost use Rattle.std.specs.Prelude.{◌≡◌, [], IfOk, OnOk, true, pos, codes};
 ghost use Rattle.pb_value.specs.Datum.{boolean, text, list, dict, items_of, members_of, put};
+ghost use Rattle.pb_value.specs.Names.{names_of};
 ghost use Rattle.pb_outcome.specs.Output.{stripped, line_values};
 ghost use Rattle.pb_outcome.specs.Putting.{put_end};
 ghost use Rattle.pb_outcome.specs.Results.{is_nonzero, rc_message, shown_lines, ran_members, ran_result, unanswered, does_not_fit, lost, facts_result, gathered_facts, facts_ran, judged_command, judged_setup, judged};
@@ -9,6 +10,7 @@ use crate::job::Call;
 use crate::members::{flagged, put_text};
 use crate::outcome::{Form, Outcome};
 use crate::output::{lines, stripped};
+use pb_value::names::Names;
 use pb_value::text::Text;
 use pb_value::val::{Dict, Node, Val};
 use std::alloc::{AllocError, Global};
@@ -108,6 +110,14 @@ fn ran_members(
     let mut members = flagged(alloc, changed, is_nonzero(rc))?;
     put_end(alloc, &mut members, rc, stripped(out), stripped(err))?;
     Ok(members)
+}
+
+/// The names of the result of a program that ran, to be kept once for the results of many hosts.
+pub fn ran_names(alloc: Global) -> Result<Option<Names>, AllocError>
+    ensures { IfOk result (λ names. names ≡ names_of (ran_members true (pos 0) [] [])) }
+{
+    let members = ran_members(alloc, true, 0, "", "")?;
+    Names::of(alloc, &members)
 }
 
 fn ran_result(
