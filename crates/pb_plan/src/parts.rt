@@ -1,14 +1,19 @@
 //! What plays and plans are made of.
 
+ghost use Rattle.std.specs.Prelude.{◌≡◌, IfOk};
+ghost use Rattle.pb_plan.specs.Plan.{throttles_of, run_once_of};
+
 use pb_batches::Serial;
 use pb_inventory::inventory::Inventory;
 use pb_places::Place;
 use pb_planes::HostSet;
 use pb_strategies::Strategy;
 use pb_value::items::Items;
+use pb_value::names::Names;
 use pb_value::text::Text;
 use pb_value::val::Dict;
 use pb_variables::shared::GroupShares;
+use std::alloc::{AllocError, Global};
 
 /// What a play is, but for its tree and what stands at the tree's places.
 pub struct PlayHead {
@@ -38,6 +43,30 @@ pub struct AtPlaces {
     pub run_once: Vec<bool>,
     /// The places that are marked have no variable in whose text `hostvars` stands.
     pub free_places: Vec<bool>,
+    /// The names of the result of a program that ran, which the results of all hosts share.
+    pub ran: Option<Names>,
+}
+
+/// How many hosts may run the task at each of these places at once.
+pub fn throttles_of(alloc: Global, places: &[Place]) -> Result<Vec<u32>, AllocError>
+    ensures { IfOk result (λ all. all.items ≡ throttles_of places.now) }
+{
+    let mut all = Vec::with_capacity(alloc, places.len())?;
+    for place in places {
+        all.push(place.throttle())?;
+    }
+    Ok(all)
+}
+
+/// Whether the first host of a batch runs the task at each of these places for all.
+pub fn run_once_of(alloc: Global, places: &[Place]) -> Result<Vec<bool>, AllocError>
+    ensures { IfOk result (λ all. all.items ≡ run_once_of places.now) }
+{
+    let mut all = Vec::with_capacity(alloc, places.len())?;
+    for place in places {
+        all.push(place.run_once())?;
+    }
+    Ok(all)
 }
 
 /// The hosts of a plan, with the variables that don't depend on the play, and what is settled of them once for all plays.

@@ -20,8 +20,9 @@ use pb_planes::HostSet;
 use pb_strategies::Strategy;
 use pb_tree::PlayTree;
 use pb_value::items::Items;
+use pb_value::names::Names;
 use pb_value::text::Text;
-use pb_value::val::Dict;
+use pb_value::val::{Dict, Node, Val};
 use pb_variables::connector::connector;
 use pb_variables::shared::{GroupShares, SharedGroups};
 use std::alloc::{AllocError, Global};
@@ -36,6 +37,7 @@ pub struct PlanPlay {
     throttles: Vec<u32>,
     run_once: Vec<bool>,
     free_places: Vec<bool>,
+    ran: Option<Names>,
     hosts: HostSet,
     strategy: Strategy,
     serial: Serial,
@@ -53,6 +55,7 @@ impl Drop for PlanPlay {
             throttles,
             run_once,
             free_places,
+            ran,
             hosts,
             strategy: _,
             serial,
@@ -66,6 +69,7 @@ impl Drop for PlanPlay {
         drop(throttles);
         drop(run_once);
         drop(free_places);
+        drop(ran);
         drop(hosts);
         drop(serial);
         drop(vars);
@@ -140,6 +144,7 @@ impl PlanPlay {
             throttles,
             run_once,
             free_places,
+            ran,
         } = at_places;
         PlanPlay {
             name,
@@ -148,6 +153,7 @@ impl PlanPlay {
             throttles,
             run_once,
             free_places,
+            ran,
             hosts,
             strategy,
             serial,
@@ -211,6 +217,18 @@ impl PlanPlay {
         }
     }
 
+    /// Where what is shown is the result of a program that ran, its names are from now on the ones that are kept once for all hosts, as far as
+    /// there is memory for it.
+    pub fn share(&self, shown: &mut Val)
+        ensures { shown.new ≡ shown.old }
+    {
+        if let Some(names) = &self.ran {
+            if let Node::Dict(members) = &mut shown.node {
+                members.share(names);
+            }
+        }
+    }
+
     /// How the hosts of a batch go through the play's tasks.
     pub fn strategy(&self) -> Strategy
         ensures { result ≡ self.now.strategy }
@@ -252,28 +270,6 @@ impl PlanPlay {
     {
         &self.magic
     }
-}
-
-/// How many hosts may run the task at each of these places at once.
-pub fn throttles_of(alloc: Global, places: &[Place]) -> Result<Vec<u32>, AllocError>
-    ensures { IfOk result (λ all. all.items ≡ throttles_of places.now) }
-{
-    let mut all = Vec::with_capacity(alloc, places.len())?;
-    for place in places {
-        all.push(place.throttle())?;
-    }
-    Ok(all)
-}
-
-/// Whether the first host of a batch runs the task at each of these places for all.
-pub fn run_once_of(alloc: Global, places: &[Place]) -> Result<Vec<bool>, AllocError>
-    ensures { IfOk result (λ all. all.items ≡ run_once_of places.now) }
-{
-    let mut all = Vec::with_capacity(alloc, places.len())?;
-    for place in places {
-        all.push(place.run_once())?;
-    }
-    Ok(all)
 }
 
 /// The inventory, the plays in order, how many hosts may run at once, whether there is a facts program, lines that tell what was odd in the

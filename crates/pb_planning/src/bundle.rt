@@ -10,10 +10,11 @@ use pb_cursors::LaidTree;
 use pb_flat::FlatFault;
 use pb_inventory::fault::InvFault;
 use pb_inventory::inventory::Inventory;
+use pb_outcome::judge::ran_names;
 use pb_patterns::fault::PatFault;
 use pb_plan::hostvars::free_places;
-use pb_plan::parts::{AtPlaces, PlayHead};
-use pb_plan::plan::{PlanPlay, run_once_of, throttles_of};
+use pb_plan::parts::{AtPlaces, PlayHead, run_once_of, throttles_of};
+use pb_plan::plan::PlanPlay;
 use pb_planes::HostSet;
 use pb_roles::{Expanded, RoleFault, RoleFile, RoleFiles};
 use pb_tree::PlayTree;
@@ -127,6 +128,7 @@ pub(crate) fn play_with(
     let throttles = throttles_of(alloc, play.places.as_slice())?;
     let run_once = run_once_of(alloc, play.places.as_slice())?;
     let free_places = free_places(alloc, &play.vars, play.places.as_slice())?;
+    let ran = ran_names(alloc)?;
     let head = PlayHead {
         name: play.name,
         hosts,
@@ -141,6 +143,7 @@ pub(crate) fn play_with(
         throttles,
         run_once,
         free_places,
+        ran,
     };
     Ok(PlanPlay::new(head, laid, at_places))
 }
