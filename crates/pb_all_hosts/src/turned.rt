@@ -50,7 +50,8 @@ impl<'a> Copied<'a> {
             result: task_at(self.play, self.place, items).result,
             items: items.as_slice(),
         };
-        let shown = registered(alloc, variable_at(self.play, self.place), items.as_slice())?;
+        let mut shown = registered(alloc, variable_at(self.play, self.place), items.as_slice())?;
+        self.play.share(&mut shown);
         let news = ended.teaches(alloc, None, &shown, facts)?;
         Ok(news)
     }

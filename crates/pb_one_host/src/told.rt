@@ -204,7 +204,8 @@ pub fn done_at(
 {
     let task = task_at(play, place, items);
     let notified = newly_at(alloc, play, place, marks, task)?;
-    let result = registered(alloc, variable_at(play, place), items.as_slice())?;
+    let mut result = registered(alloc, variable_at(play, place), items.as_slice())?;
+    play.share(&mut result);
     Ok(Done {
         result,
         task,
