@@ -22,7 +22,7 @@ use pb_tree::PlayTree;
 use pb_value::items::Items;
 use pb_value::names::Names;
 use pb_value::text::Text;
-use pb_value::val::{Dict, Node, Val};
+use pb_value::val::{Dict, Val};
 use pb_variables::connector::connector;
 use pb_variables::shared::{GroupShares, SharedGroups};
 use std::alloc::{AllocError, Global};
@@ -223,9 +223,7 @@ impl PlanPlay {
         ensures { shown.new ≡ shown.old }
     {
         if let Some(names) = &self.ran {
-            if let Node::Dict(members) = &mut shown.node {
-                members.share(names);
-            }
+            shown.share(names);
         }
     }
 

@@ -62,10 +62,10 @@ unfolding value_of
 number_above = refl
 
 -- names that are kept once: a bit that is set says that its name has no value
-all_have_one : kept 0 (1 ∷ 2 ∷ []) (7 ∷ 8 ∷ []) ≡ (1, 7) ∷ (2, 8) ∷ []
+all_have_one : kept {K = ℕ} {X = ℕ} 0 (1 ∷ 2 ∷ []) (7 ∷ 8 ∷ []) ≡ (1, 7) ∷ (2, 8) ∷ []
 all_have_one = refl
 
-first_has_none : kept 1 (1 ∷ 2 ∷ []) (8 ∷ []) ≡ (2, 8) ∷ []
+first_has_none : kept {K = ℕ} {X = ℕ} 1 (1 ∷ 2 ∷ []) (8 ∷ []) ≡ (2, 8) ∷ []
 first_has_none = refl
 
 behind_none : spot 1 1 ≡ Some 0

@@ -14,7 +14,7 @@ ghost use Rattle.pb_value.specs.Names.{kept, spot, spelled};
 
 use crate::compare::same_text;
 use crate::names::{Kept, Names};
-use crate::val::{Dict, Store, Val};
+use crate::val::{Dict, Node, Store, Val};
 use std::alloc::AllocError;
 use std::mem::replace;
 
@@ -185,6 +185,17 @@ fn rest_on(row: Vec<(String, Val)>, names: &Kept) -> Store
     };
     drop(Box::replace(&mut values, moved(row, room)));
     Store::Named(names, values, 0)
+}
+
+impl Val {
+    /// Where this is a dict whose names are just these, it has none of its own from now on, as far as there is memory for it.
+    pub fn share(&mut self, names: &Names)
+        ensures { self.new ≡ self.old }
+    {
+        if let Node::Dict(dict) = &mut self.node {
+            dict.share(names);
+        }
+    }
 }
 
 impl Dict {

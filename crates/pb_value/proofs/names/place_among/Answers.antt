@@ -1,8 +1,7 @@
-use Rattle.std.proofs.Common.{◌≡◌, ℕ, ◌+◌, ◌-◌, ◌/◌, ◌≤◌, Some, Less, Equal, Greater, List, length, String, Global, string_bytes, string_cmp, nat_cmp, sym, ap, subst, ◌∙◌, arith}
+use Rattle.std.proofs.Common.{◌≡◌, ℕ, ◌+◌, ◌-◌, ◌/◌, Some, Less, Equal, Greater, List, length, String, Global, string_bytes, string_cmp, nat_cmp, sym, ap, subst, ◌∙◌, arith}
 use Rattle.std.specs.Prelude.{slice_get}
 use Rattle.std.specs.Cmp.Lexicographic.{slice_cmp}
 use Rattle.std.specs.List.Sorted.{IsStrictlySortedBy}
-use Rattle.std.specs.Map.{keys_of}
 use Rattle.pb_value.specs.Names.{paired}
 use Rattle.pb_value.proofs.KeptNames.{length-paired, keys_of-paired, at_name, past_names}
 use Rattle.pb_value.proofs.Placed.{middle_within, middle_next, above_before, above_next, place_here, place_between}

@@ -1,4 +1,4 @@
-use Rattle.std.proofs.Common.{◌≡◌, ◌≤◌, drop, length}
+use Rattle.std.proofs.Common.{◌≡◌, drop, length}
 use Rattle.std.specs.Map.{keys_of}
 use Rattle.pb_value.specs.Names.{spelled}
 use Rattle.pb_value.proofs.shared.are_named.Given as goal

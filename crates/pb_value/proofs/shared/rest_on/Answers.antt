@@ -1,4 +1,4 @@
-use Rattle.std.proofs.Common.{◌≡◌, List, String, Global, Vec, length, sym, ap, subst, ◌∙◌}
+use Rattle.std.proofs.Common.{◌≡◌, List, Global, Vec, length, sym, ap, subst, ◌∙◌}
 use Rattle.std.specs.Map.{keys_of, values_of}
 use Rattle.pb_value.proofs.KeptNames.{kept_ordered, ordered_as, spelled-named, named_kept, length_named_kept}
 use Rattle.pb_value.specs.Datum.{Datum, named}

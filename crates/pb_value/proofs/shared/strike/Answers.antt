@@ -1,6 +1,4 @@
-use Rattle.std.proofs.Common.{◌≡◌, ◌≤◌, ◌<◌, ◌^◌, ◌+◌, ℕ, List, length, ap, sym, subst, ◌∙◌, arith}
-use Rattle.pb_value.specs.Datum.{Datum}
-use Rattle.pb_value.specs.Names.{kept}
+use Rattle.std.proofs.Common.{◌≤◌, ◌<◌, length, arith}
 use Rattle.pb_value.proofs.KeptNames.{stays_gone, stays_past, cut_ok, cut_all}
 use Rattle.pb_value.proofs.shared.strike.Goals as goal
 

@@ -1,4 +1,4 @@
-use Rattle.std.proofs.Common.{◌≡◌, ◌<◌, ◌≤◌, ◌*◌, ◌%◌, ◌^◌, ◌+◌, ℕ, sym, ap, subst, arith, Fits, w64}
+use Rattle.std.proofs.Common.{◌≡◌, ◌<◌, ◌*◌, ◌%◌, ◌^◌, ◌+◌, ℕ, sym, ap, arith}
 use Rattle.pb_value.proofs.KeptNames.{bit_fits}
 use Rattle.pb_value.proofs.shared.with_bit.Goals as goal
 

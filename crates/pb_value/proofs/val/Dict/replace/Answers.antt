@@ -1,4 +1,4 @@
-use Rattle.std.proofs.Common.{◌≡◌, List, String, Global, Vec, ap, ◌∙◌}
+use Rattle.std.proofs.Common.{◌≡◌, List, Global, Vec, ap, ◌∙◌}
 use Rattle.pb_value.proofs.Stored.{Entry, few_named, many_named, kept_named, for_ok, seen_stays}
 use Rattle.pb_value.specs.Datum.{Datum, named}
 use Rattle.pb_value.specs.Names.{kept}
