@@ -1,19 +1,18 @@
 -- What is kept beside the list of where hosts stand.
 use Rattle.std.proofs.Common.{◌≡◌, ◌<◌, ◌+◌, ◌^◌, ◌∙◌, ◌++◌, ℕ, zero, suc, Bool, true, false, ◌&&◌, ◌||◌, not, cond, List, [], ◌∷◌, Option, Some, None, map, length, take, count_by, is_some, slice_get, slice_set, get_or, arith, refl, ap, sym, subst}
 use Rattle.std.specs.Prelude.{option_map, replicate}
-use Rattle.std.specs.List.{All, range_with_len}
+use Rattle.std.specs.List.{range_with_len}
 use Rattle.std.specs.Simd.Lanes.{zip2}
 use Rattle.std.proofs.lemmas.Option.{get_or_from_slice_get, slice_get-get_or, slice_get-map, slice_get_within}
 use Rattle.std.proofs.lemmas.List.FromFn.{get_or-map-range_with_len, length-map-range_with_len}
 use Rattle.std.proofs.lemmas.List.{length-set, length-map, length-replicate, map-set, set-set, set-get_or, get_or-set_same, map_more}
-use Rattle.std.proofs.lemmas.List.Elements.{All-nil}
 use Rattle.std.proofs.lemmas.List.Sums.{sum_by-cons, sum_by_push}
 use Rattle.std.proofs.lemmas.Simd.{zip2-map, length-zip2}
 use Rattle.pb_limits.specs.Counts.{LimitsOf, limits_of, runs_at, running_at}
 use Rattle.pb_strategies.specs.declared.standings.Standing.{Standing}
 use Rattle.pb_strategies.specs.declared.watched.Watched.{Watched}
 use Rattle.pb_strategies.specs.Hosts.{nowhere, same_place, is_running, has_begun, is_unended, is_next_at, is_under_way, runs_in}
-use Rattle.pb_strategies.specs.Kept.{IsWatched, with_next, is_idle_at, IsKept}
+use Rattle.pb_strategies.specs.Kept.{IsWatched, AreWatched, put_at, with_next, is_idle_at, IsKept}
 use Rattle.pb_strategies.proofs.Watching.{watched_put, each_put}
 
 -- what is written where it stands already changes nothing
@@ -47,12 +46,12 @@ counts_kept hosts h old new limits mid last few e finish start places law =
 one_kept : (test : Standing → Bool) (hosts : List Standing) (h : ℕ) (new : Standing) (set told : List Bool) → set ≡ map test hosts → told ≡ slice_set set h (test new) → told ≡ map test (slice_set hosts h new)
 one_kept test hosts h new set told s t = t ∙ ap (λ xs. slice_set xs h (test new)) s ∙ sym (map-set test hosts h new)
 
-pub put_kept : (hosts : List Standing) (h : ℕ) (old new : Standing) (limits mid last : LimitsOf) (n m : ℕ) (running begun unended r b u : List Bool) (here t : Watched) (idle i : List Bool) (watched w : List Watched) → slice_get hosts h ≡ Some old
+pub put_kept : (hosts : List Standing) (h : ℕ) (old new : Standing) (limits mid last : LimitsOf) (n m : ℕ) (running begun unended r b u : List Bool) (here t : Watched) (idle i : List Bool) (watched w : List (Option (List Bool))) → slice_get hosts h ≡ Some old
     → IsKept hosts limits n running begun unended here idle watched
     → ((places host : ℕ) (runs : List (Option ℕ)) → slice_get runs host ≡ Some old.runs → limits ≡ limits_of places runs → mid ≡ limits_of places (slice_set runs host None))
     → ((places host : ℕ) (runs : List (Option ℕ)) → length runs < 2 ^ 32 → slice_get runs host ≡ Some None → mid ≡ limits_of places runs → last ≡ limits_of places (slice_set runs host new.runs))
     → m ≡ count_by is_under_way (slice_set hosts h new)
-    → r ≡ slice_set running h (is_some new.runs) → b ≡ slice_set begun h new.has_begun → u ≡ slice_set unended h (is_some new.next) → t ≡ with_next h new.next here → i ≡ slice_set idle h (is_idle_at here.place new) → w ≡ map (with_next h new.next) watched
+    → r ≡ slice_set running h (is_some new.runs) → b ≡ slice_set begun h new.has_begun → u ≡ slice_set unended h (is_some new.next) → t ≡ with_next h new.next here → i ≡ slice_set idle h (is_idle_at here.place new) → w ≡ put_at new.next h true (put_at old.next h false watched)
     → IsKept (slice_set hosts h new) last m r b u t i w
 put_kept hosts h old new limits mid last n m running begun unended r b u here t idle i watched w e kept finish start em er eb eu et ei ew =
     let long = length-set hosts h new in
@@ -65,7 +64,7 @@ put_kept hosts h old new limits mid last n m running begun unended r b u here t 
       are_unended = one_kept is_unended hosts h new unended u kept.are_unended eu;
       are_here = subst (IsWatched (slice_set hosts h new)) (sym et) (watched_put hosts h new here kept.are_here);
       are_idle = one_kept (is_idle_at here.place) hosts h new idle i kept.are_idle ei ∙ ap (λ (one : Watched). map (is_idle_at one.place) (slice_set hosts h new)) (sym et);
-      are_watched = subst (All (IsWatched (slice_set hosts h new))) (sym ew) (each_put hosts h new watched kept.are_watched);
+      are_watched = subst (AreWatched (slice_set hosts h new)) (sym ew) (each_put hosts h old new watched e kept.are_watched);
     }
 
 -- a set that keeps what another one has too, and then gains all of that, is that other one
@@ -151,9 +150,9 @@ none_under_way : (n : ℕ) → count_by is_under_way (replicate n nowhere) ≡ 0
 none_under_way zero = refl
 none_under_way (suc n) = sum_by-cons (λ (host : Standing). cond (is_under_way host) 1 0) nowhere (replicate n nowhere) ∙ ap (λ m. 0 + m) (none_under_way n)
 
-pub first_kept : (n places : ℕ) (hosts : List Standing) (limits : LimitsOf) (running begun unended : List Bool) (here : Watched) (idle : List Bool) (watched : List Watched) → n < 2 ^ 32 → hosts ≡ replicate n nowhere
+pub first_kept : (n places : ℕ) (hosts : List Standing) (limits : LimitsOf) (running begun unended : List Bool) (here : Watched) (idle : List Bool) (watched : List (Option (List Bool))) → n < 2 ^ 32 → hosts ≡ replicate n nowhere
     → ((m : ℕ) → limits ≡ limits_of places (replicate m None))
-    → running ≡ replicate n false → begun ≡ replicate n false → unended ≡ replicate n false → here.hosts ≡ replicate n false → idle ≡ replicate n false → watched ≡ [] → IsKept hosts limits 0 running begun unended here idle watched
+    → running ≡ replicate n false → begun ≡ replicate n false → unended ≡ replicate n false → here.hosts ≡ replicate n false → idle ≡ replicate n false → AreWatched hosts watched → IsKept hosts limits 0 running begun unended here idle watched
 first_kept n places hosts limits running begun unended here idle watched few h l r b u t i w =
     let runs : Standing → Option ℕ = λ (one : Standing). one.runs in
     let long : length hosts ≡ n = ap length h ∙ length-replicate n nowhere in
@@ -166,5 +165,5 @@ first_kept n places hosts limits running begun unended here idle watched few h l
       are_unended = none_at_first is_unended n hosts unended refl h u;
       are_here = none_at_first (is_next_at here.place) n hosts here.hosts refl h t;
       are_idle = none_at_first (is_idle_at here.place) n hosts idle refl h i;
-      are_watched = subst (All (IsWatched hosts)) (sym w) (All-nil (IsWatched hosts));
+      are_watched = w;
     }

@@ -4,7 +4,7 @@ use Rattle.pb_strategies.specs.declared.standings.Standing.{Standing}
 use Rattle.pb_strategies.specs.declared.strategy.Strategy.{Strategy}
 use Rattle.pb_strategies.specs.declared.strategy.Strategy.TheVariants.{Linear, Free, HostPinned}
 use Rattle.pb_strategies.specs.Hosts.{nowhere}
-use Rattle.pb_strategies.specs.Kept.{IsWatched, with_next}
+use Rattle.pb_strategies.specs.Kept.{IsWatched, put_at, with_next}
 use Rattle.pb_strategies.specs.MayStart.{ViewOf, ready, turn_ready}
 use Rattle.pb_strategies.specs.Parts.{is_shut_by}
 
@@ -83,6 +83,13 @@ watched = refl
 
 watched_on : with_next 1 (Some 2) (record { place = Some 1; hosts = false ∷ true ∷ true ∷ false ∷ [] }) ≡ record { place = Some 1; hosts = false ∷ false ∷ true ∷ false ∷ [] }
 watched_on = refl
+
+-- of the sets of all places those alone change that a host leaves or comes to, and none where the place isn't watched
+watched_left : put_at (Some 1) 1 false (None ∷ Some (false ∷ true ∷ true ∷ []) ∷ Some (true ∷ false ∷ false ∷ []) ∷ []) ≡ None ∷ Some (false ∷ false ∷ true ∷ []) ∷ Some (true ∷ false ∷ false ∷ []) ∷ []
+watched_left = refl
+
+not_watched : put_at (Some 0) 1 true (None ∷ Some (false ∷ true ∷ []) ∷ []) ≡ None ∷ Some (false ∷ true ∷ []) ∷ []
+not_watched = refl
 
 -- the batch goes on once nobody runs and nobody may start
 done_there : turn_ready (seen Linear 5 (Some 0) (waits 1 ∷ waits 1 ∷ nowhere ∷ [])) ≡ true

@@ -5,12 +5,12 @@ ghost use Rattle.std.specs.List.{list_any};
 ghost use Rattle.std.specs.Simd.Lanes.{zip2};
 ghost use Rattle.pb_limits.specs.Counts.{limits_of, running, running_at};
 ghost use Rattle.pb_planes.specs.Set.{is_in, has_some};
-ghost use Rattle.pb_strategies.specs.Kept.{is_idle_at};
+ghost use Rattle.pb_strategies.specs.Kept.{AreWatched, is_idle_at};
 ghost use Rattle.pb_strategies.specs.Hosts.{nowhere, same_place, is_unended, is_somewhere, is_next_at, is_under_way, runs_in};
 
 mod asked;
 
-use crate::watched::{self, Watched};
+use crate::watched::{Places, Watched};
 use pb_ids::HostNo;
 use pb_limits::Limits;
 use pb_planes::HostSet;
@@ -59,11 +59,8 @@ pub struct Standings {
     /// Of these the ones that don't run.
     idle: HostSet,
     /// Those whose next place is one that is watched.
-    watched: Vec<Watched>,
+    watched: Places,
 }
-
-/// So many places are watched at most, since as a host goes on each of their sets is written. The hosts at a further place are looked for one by one.
-const MOST_WATCHED: usize = 64;
 
 impl Model for Standings {
     ghost use Rattle.std.specs.Prelude.{List};
@@ -74,7 +71,7 @@ impl Model for Standings {
 
     ghost view = { λ s. s.hosts.items };
 
-    ghost invariant = { λ s. IsKept s.hosts.items s.limits s.under_way s.running s.begun s.unended s.here s.idle s.watched.items };
+    ghost invariant = { λ s. IsKept s.hosts.items s.limits s.under_way s.running s.begun s.unended s.here s.idle s.watched.sets.items };
 }
 
 /// Whether both are the same place.
@@ -229,24 +226,30 @@ fn before(hosts: &[Standing], host: usize) -> &[Standing]
     }
 }
 
-/// Puts a host outside of the batch. One past the end changes nothing.
-fn forget_one(hosts: &mut Vec<Standing>, host: HostNo)
-    ensures { hosts.new.items ≡ slice_set hosts.old.items host.0 nowhere }
+/// Puts a host outside of the batch, so that it is at none of the places that are watched. One past the end changes nothing.
+fn forget_one(hosts: &mut Vec<Standing>, watched: &mut Places, host: HostNo)
+    requires { AreWatched hosts.old.items watched.old.sets.items }
+    ensures hosts { hosts.new.items ≡ slice_set hosts.old.items host.0 nowhere }
+    ensures watched { AreWatched hosts.new.items watched.new.sets.items }
 {
     let at = host.0 as usize;
     if at < hosts.len() {
+        let old = hosts[at];
+        watched.go_on(host, old.next, None);
         hosts[at] = Standing::nowhere();
     }
 }
 
 /// Puts those hosts outside of the batch that are in this set: the others are there already.
-fn forget_each(hosts: &mut Vec<Standing>, somewhere: &HostSet)
-    requires { somewhere.now ≡ map is_somewhere hosts.old.items }
-    ensures { hosts.new.items ≡ replicate (length hosts.old.items) nowhere }
+fn forget_each(hosts: &mut Vec<Standing>, watched: &mut Places, somewhere: &HostSet)
+    requires somewhere { somewhere.now ≡ map is_somewhere hosts.old.items }
+    requires watched { AreWatched hosts.old.items watched.old.sets.items }
+    ensures hosts { hosts.new.items ≡ replicate (length hosts.old.items) nowhere }
+    ensures watched { AreWatched hosts.new.items watched.new.sets.items }
 {
     let mut from = 0;
     while let Some(host) = somewhere.next_at(from) {
-        forget_one(hosts, host);
+        forget_one(hosts, watched, host);
         from = behind(somewhere, host);
     }
 }
@@ -314,7 +317,7 @@ impl Standings {
         let unended = HostSet::empty(alloc, hosts)?;
         let here = Watched::nowhere(alloc, hosts)?;
         let idle = HostSet::empty(alloc, hosts)?;
-        let watched = Vec::new(alloc);
+        let watched = Places::none(alloc, places);
         Ok(Standings {
             hosts: all,
             limits,
@@ -328,8 +331,8 @@ impl Standings {
         })
     }
 
-    /// Puts all hosts outside of the batch; the play whose batch opens next has so many places, none of which is watched. Only hosts that stood somewhere
-    /// are looked at. The only error is want of memory, which changes nothing.
+    /// Puts all hosts outside of the batch; the play whose batch opens next has so many places. None of them is watched, unless there are as many as before:
+    /// then those that were still are. Only hosts that stood somewhere are looked at. The only error is want of memory, which changes nothing.
     pub fn clear(&mut self, alloc: Global, places: usize) -> Result<(), AllocError>
         ensures ok { OnOk result (self.new ≡ replicate (length self.old) nowhere) }
         ensures err { OnErr result (self.new ≡ self.old) }
@@ -341,7 +344,7 @@ impl Standings {
             &self.running,
             &mut self.here.hosts,
         );
-        forget_each(&mut self.hosts, &self.here.hosts);
+        forget_each(&mut self.hosts, &mut self.watched, &self.here.hosts);
         empty_by(&self.unended, &mut self.here.hosts);
         empty_by(&self.here.hosts, &mut self.unended);
         empty_by(&self.here.hosts, &mut self.begun);
@@ -349,7 +352,7 @@ impl Standings {
         empty_by(&self.here.hosts, &mut self.idle);
         self.limits = limits;
         self.under_way = 0;
-        self.watched.clear();
+        self.watched.go_over(places);
         Ok(())
     }
 
@@ -366,7 +369,8 @@ impl Standings {
     {
         let at = host.0 as usize;
         if at < self.hosts.len() {
-            finish_if(&mut self.limits, self.hosts[at].runs);
+            let old = self.hosts[at];
+            finish_if(&mut self.limits, old.runs);
             start_if(&mut self.limits, standing.runs);
             self.under_way = under_way_with(self.hosts.as_slice(), host, &standing, self.under_way);
             self.running.put(host, standing.runs.is_some());
@@ -374,7 +378,7 @@ impl Standings {
             self.unended.put(host, standing.next.is_some());
             self.here.put(host, standing.next);
             self.idle.put(host, is_idle_at(&standing, self.here.place));
-            watched::put_all(&mut self.watched, host, standing.next);
+            self.watched.go_on(host, old.next, standing.next);
             self.hosts[at] = standing;
         }
     }
@@ -394,16 +398,14 @@ impl Standings {
         self.here.place = place;
     }
 
-    /// From now on, until all hosts are put outside of the batch, it is kept which hosts' next place is this one too: for a place where a throttle may be
-    /// full, so that `ready` needn't look for the hosts there. Past the most places that are watched nothing changes. The only error is want of memory:
-    /// then the place isn't watched, and nothing else has changed.
+    /// From now on, until a batch opens of a play that has more places or fewer, it is kept which hosts' next place is this one too: for a place where a
+    /// throttle may be full, so that `ready` needn't look for the hosts there. Where the place is none of the play's, or is watched already, or the sets of
+    /// those that are would take more than 32 MiB, nothing changes. The only error is want of memory: then the place isn't watched, and nothing else has
+    /// changed.
     pub fn watch(&mut self, alloc: Global, place: usize) -> Result<(), AllocError>
         ensures { self.new ≡ self.old }
     {
-        if self.watched.len() < MOST_WATCHED {
-            let watched = Watched::at(alloc, self.hosts.as_slice(), &self.unended, place)?;
-            self.watched.push(watched)?;
-        }
-        Ok(())
+        self.watched
+            .watch(alloc, self.hosts.as_slice(), &self.unended, place)
     }
 }

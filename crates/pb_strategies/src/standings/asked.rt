@@ -97,7 +97,7 @@ impl Standings {
         if same_place(self.here.place, Some(place)) {
             Some(&self.here.hosts)
         } else {
-            watched::set_of(self.watched.as_slice(), place)
+            watched::set_of(&self.watched, place)
         }
     }
 

@@ -8,14 +8,15 @@ pub loop-host-preserved : goal.loop-host-preserved
 loop-host-preserved c =
     let hosts = c.args.hosts.now.items in
     let h = c.in-Some.host.0 in
-    let next = subst (λ (s : List Bool). IsNextFrom s c.loop-host.from h) c.requires c.in-Some.ensures.some in
+    let next = subst (λ (s : List Bool). IsNextFrom s c.loop-host.from h) c.requires.somewhere c.in-Some.ensures.some in
     let there = found is_somewhere hosts h nowhere next.1 in
-    subst (λ (n : ℕ). c.forget_one.new.hosts.items ≡ told forgotten n hosts hosts) (sym c.behind-from.ensures)
-    (told_step forgotten (map is_somewhere hosts) hosts hosts c.loop-host.hosts.items c.forget_one.new.hosts.items c.loop-host.from h (get_or hosts h nowhere) (forgets hosts) next there.1 c.loop-host.invariant c.forget_one.ensures)
+    let on = subst (λ (n : ℕ). c.forget_one.new.hosts.items ≡ told forgotten n hosts hosts) (sym c.behind-from.ensures)
+    (told_step forgotten (map is_somewhere hosts) hosts hosts c.loop-host.hosts.items c.forget_one.new.hosts.items c.loop-host.from h (get_or hosts h nowhere) (forgets hosts) next there.1 c.loop-host.invariant.told c.forget_one.ensures.hosts) in
+    record { told = on; watched = c.forget_one.ensures.watched }
 
-pub returns : goal.returns
-returns c =
+pub returns-clause-hosts : goal.returns-clause-hosts
+returns-clause-hosts c =
     let hosts = c.args.hosts.now.items in
     told_end forgotten (map is_somewhere hosts) hosts hosts c.loop-host.hosts.items c.loop-host.from (forgets hosts)
-    (subst (λ (s : List Bool). HasNoneFrom s c.loop-host.from) c.requires c.in_default.ensures.none) c.loop-host.invariant
+    (subst (λ (s : List Bool). HasNoneFrom s c.loop-host.from) c.requires.somewhere c.in_default.ensures.none) c.loop-host.invariant.told
     ∙ all_forgotten hosts

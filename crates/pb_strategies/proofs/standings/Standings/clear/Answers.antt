@@ -8,8 +8,8 @@ use Rattle.pb_strategies.proofs.Keeping.{first_kept}
 use Rattle.pb_strategies.proofs.Members.{are_somewhere, mapped_long, emptied_long}
 use Rattle.pb_strategies.proofs.standings.Standings.clear.Goals as goal
 
-pub forget_each-requires : goal.forget_each-requires
-forget_each-requires c =
+pub forget_each-requires-clause-somewhere : goal.forget_each-requires-clause-somewhere
+forget_each-requires-clause-somewhere c =
     are_somewhere c.self.inside.hosts.items c.self.inside.unended c.self.inside.begun c.self.inside.running (zip2 (λ (a b : Bool). a || b) c.self.inside.unended c.self.inside.begun) c.unite_into.new.set
     c.self.invariant.are_unended c.self.invariant.have_begun c.self.invariant.are_running refl c.unite_into.ensures
 
@@ -57,9 +57,9 @@ invariant_of-self c =
     (are_somewhere hosts c.self.inside.unended c.self.inside.begun c.self.inside.running (zip2 (λ (a b : Bool). a || b) c.self.inside.unended c.self.inside.begun) c.unite_into.new.set
     c.self.invariant.are_unended c.self.invariant.have_begun c.self.invariant.are_running refl c.unite_into.ensures) in
     first_kept (length hosts) c.args.places c.forget_each.new.hosts.items c.in_ok-limits.limits c.empty_by-4.new.set c.empty_by-3.new.set c.empty_by-2.new.set
-    (record c.self.inside.here { hosts = c.empty_by.new.set }) c.empty_by-5.new.set c.clear.new.self.items
-    c.self.invariant.few c.forget_each.ensures c.in_ok-limits.ensures
+    (record c.self.inside.here { hosts = c.empty_by.new.set }) c.empty_by-5.new.set c.go_over.new.self.sets.items
+    c.self.invariant.few c.forget_each.ensures.hosts c.in_ok-limits.ensures
     (wide is_running c.self.inside.running c.empty_by-4.new.set c.self.invariant.are_running c.empty_by-4.ensures)
     (wide has_begun c.self.inside.begun c.empty_by-3.new.set c.self.invariant.have_begun c.empty_by-3.ensures)
     (wide is_unended c.self.inside.unended c.empty_by-2.new.set c.self.invariant.are_unended c.empty_by-2.ensures)
-    (c.empty_by.ensures ∙ ap (λ k. replicate k false) united) (wide (is_idle_at c.self.inside.here.place) c.self.inside.idle c.empty_by-5.new.set c.self.invariant.are_idle c.empty_by-5.ensures) c.clear.ensures.items
+    (c.empty_by.ensures ∙ ap (λ k. replicate k false) united) (wide (is_idle_at c.self.inside.here.place) c.self.inside.idle c.empty_by-5.new.set c.self.invariant.are_idle c.empty_by-5.ensures) (c.go_over.ensures c.forget_each.new.hosts.items c.forget_each.ensures.watched)
