@@ -41,6 +41,10 @@ host_name inventory host = slice_index_or inventory.hosts host []
 abbrev pub group_name : InventoryOf → ℕ → List ℕ
 group_name inventory group = slice_index_or inventory.groups group []
 
+-- the variables of a group itself
+abbrev pub vars_of_group : InventoryOf → ℕ → List Variable
+vars_of_group inventory group = (vars_under (group_name inventory group) inventory.group_vars).vars
+
 -- the groups of an inventory by their numbers, and their priorities
 abbrev pub graph_of : InventoryOf → GroupsOf
 graph_of inventory = record { hosts = length inventory.hosts; groups = length inventory.groups; own = inventory.own; links = inventory.links }

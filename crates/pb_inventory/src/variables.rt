@@ -1,10 +1,10 @@
 ghost use Rattle.std.specs.Prelude.{◌≡◌, ◌<◌, [], ◌∷◌, ◌++◌, ℕ, List, not, if◌then◌else◌, length, filter, IfOk, OnOk};
 ghost use Rattle.std.specs.List.{All};
 ghost use Rattle.pb_value.specs.Datum.{value_at};
-ghost use Rattle.pb_inventory.specs.Vars.{groups_of_host, vars_from_groups, last_given, vars_of_host, vars_under, group_name, put_vars, put_groups, strangers, is_host, is_named, names_of_groups, names_of_hosts};
+ghost use Rattle.pb_inventory.specs.Vars.{groups_of_host, vars_from_groups, last_given, vars_of_host, vars_of_group, group_name, put_vars, put_groups, strangers, is_host, is_named, names_of_groups, names_of_hosts};
 
 use crate::inventory::Inventory;
-use crate::vars::put_vars;
+use crate::vars::{Variable, put_vars};
 use pb_ids::{GroupNo, HostNo};
 use pb_value::items::Items;
 use pb_value::text::Text;
@@ -71,12 +71,20 @@ impl Inventory {
 
     fn put_group(&self, alloc: Global, group: GroupNo, known: &mut Dict) -> Result<(), AllocError>
         requires { group.0 < length self.now.groups }
-        ensures { OnOk result (known.new ≡ put_vars (vars_under (group_name self.now group.0) self.now.group_vars).vars known.old) }
+        ensures { OnOk result (known.new ≡ put_vars (vars_of_group self.now group.0) known.old) }
     {
-        if let Some(of) = self.vars.group_vars.get(self.group_name(group)) {
-            put_vars(alloc, of.vars.as_slice(), known)?;
+        put_vars(alloc, self.vars_of_group(group), known)
+    }
+
+    /// The variables that the file has for a group itself, in byte order of their names.
+    pub fn vars_of_group(&self, group: GroupNo) -> &[Variable]
+        requires { group.0 < length self.now.groups }
+        ensures { result.now ≡ vars_of_group self.now group.0 }
+    {
+        match self.vars.group_vars.get(self.group_name(group)) {
+            Some(of) => of.vars.as_slice(),
+            None => &[],
         }
-        Ok(())
     }
 
     /// The names that have variables in the file and are no hosts, in byte order.

@@ -1,2 +1,3 @@
 mod Connected
+mod Freed
 mod Marks

@@ -2,16 +2,16 @@
 use Rattle.std.proofs.Common.{◌≡◌, ◌⊎◌, inl, inr, ℕ, zero, suc, Bool, true, List, [], ◌∷◌, ◌++◌, length, refl, sym, ap, subst, ◌∙◌, arith}
 use Rattle.std.specs.Prelude.{Option, Some, None, IfSome, slice_get, unwrap_or}
 use Rattle.pb_inventory.specs.InventoryOf.{InventoryOf}
-use Rattle.pb_inventory.specs.Vars.{vars_from_groups, vars_of_host}
+use Rattle.pb_inventory.specs.Vars.{vars_from_groups, vars_of_group}
 use Rattle.pb_layers.specs.Scope.{Map}
 use Rattle.pb_places.specs.Place.{PlaceOf}
 use Rattle.pb_places.specs.declared.surroundings.Role.{Role}
 use Rattle.pb_play.specs.declared.task.Task.{Task}
 use Rattle.pb_variables.specs.declared.shared.OfGroups.{OfGroups}
 use Rattle.pb_variables.specs.Shared.{AreKept}
-use Rattle.pb_plan.specs.Hostvars.{IsFree, IsFreeRole, IsFreePlace, IsFreeAt, AreFreePlaces, IsFreeHost, AreFreeHosts}
+use Rattle.pb_plan.specs.Hostvars.{IsFree, IsFreeRole, IsFreePlace, IsFreeAt, AreFreePlaces, IsFreeGroup, AreFreeGroups, IsFreeHost, AreFreeHosts}
 
--- a role, a place and a host, by their parts
+-- a role and a place, by their parts, and what a host has from its groups
 pub free_role : (role : Role) → IsFree role.defaults → IsFree role.vars → IsFree role.params → IsFreeRole role
 free_role role d v p = record { defaults = d; vars = v; params = p }
 
@@ -19,10 +19,9 @@ pub free_place : (place : PlaceOf) (task : Task) (role : Role) (blocks : Map) �
 free_place place task role blocks t r role_free b blocks_free own =
     record { role = rw (sym r) role_free; blocks = rw (sym b) blocks_free; own = rw (sym t) own }
 
-pub free_host : (inventory : InventoryOf) (extra : Map) (host : ℕ) (all : List (Option OfGroups)) (shared : OfGroups) (groups own : Map) → AreKept inventory all → slice_get all host ≡ Some (Some shared) →
-    groups ≡ shared.variables → own ≡ vars_of_host inventory host → IsFree extra → IsFree groups → IsFree own → IsFreeHost inventory extra host
-free_host inventory extra host all shared groups own kept at g o e groups_free own_free =
-    record { extras = e; groups = subst IsFree (g ∙ ap (λ (of : OfGroups). of.variables) (kept host (Some shared) at shared refl)) groups_free; own = subst IsFree o own_free }
+pub free_merged : (inventory : InventoryOf) (host : ℕ) (all : List (Option OfGroups)) (shared : OfGroups) (groups : Map) → AreKept inventory all → slice_get all host ≡ Some (Some shared) →
+    groups ≡ shared.variables → IsFree groups → IsFree (vars_from_groups inventory host)
+free_merged inventory host all shared groups kept at g free = subst IsFree (g ∙ ap (λ (of : OfGroups). of.variables) (kept host (Some shared) at shared refl)) free
 
 some_is : {X : Type 0} (x y : X) → Some x ≡ Some y → y ≡ x
 some_is {X} x y e = sym (ap (λ (o : Option X). unwrap_or o x) e)
@@ -63,6 +62,16 @@ pub placed_more : (vars : Map) (places : List PlaceOf) (place : PlaceOf) (marked
     → AreFreePlaces vars places marked → (b ≡ true → IsFreePlace place) → after ≡ marked ++ b ∷ [] → AreFreePlaces vars places after
 placed_more vars places place marked after b n count free at before is pushed =
     rw pushed (one_mark (IsFreeAt vars places) marked b before (λ t. free_at vars places place n (length marked) count free at (is t)))
+
+-- of groups
+pub none_grouped : (inventory : InventoryOf) (marked : List Bool) → marked ≡ [] → AreFreeGroups inventory marked
+none_grouped inventory marked none = none_marked (λ (group : ℕ). IsFreeGroup (vars_of_group inventory group)) marked none
+
+pub grouped_more : (inventory : InventoryOf) (marked after : List Bool) (b : Bool) (n : ℕ) → length marked ≡ n → AreFreeGroups inventory marked → (b ≡ true → IsFreeGroup (vars_of_group inventory n))
+    → after ≡ marked ++ b ∷ [] → AreFreeGroups inventory after
+grouped_more inventory marked after b n count before is pushed =
+    let free : ℕ → Type 0 = λ (group : ℕ). IsFreeGroup (vars_of_group inventory group) in
+    rw pushed (one_mark free marked b before (λ t. subst free (sym count) (is t)))
 
 -- and of hosts
 pub none_hosted : (inventory : InventoryOf) (extra : Map) (marked : List Bool) → marked ≡ [] → AreFreeHosts inventory extra marked

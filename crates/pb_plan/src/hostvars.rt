@@ -1,13 +1,16 @@
 //! Variables in whose texts `hostvars` doesn't stand.
 
-ghost use Rattle.std.specs.Prelude.{◌≡◌, ◌<◌, true, [], length, IfOk};
+ghost use Rattle.std.specs.Prelude.{◌≡◌, ◌<◌, true, [], length, slice_get, Some, IfOk};
+ghost use Rattle.pb_inventory.specs.Vars.{vars_from_groups, vars_of_host};
 ghost use Rattle.pb_places.specs.Place.{no_role};
 ghost use Rattle.pb_variables.specs.Shared.{AreKept};
-ghost use Rattle.pb_plan.specs.Hostvars.{IsFree, IsFreeRole, IsFreePlace, IsFreeHost, AreFreePlaces, AreFreeHosts};
+ghost use Rattle.pb_plan.specs.Hostvars.{IsFree, IsFreeRole, IsFreePlace, IsFreeGroup, AreFreePlaces, AreFreeGroups, AreMarked, AreFreeHosts};
 
-use pb_ids::HostNo;
+use pb_ids::{GroupNo, HostNo};
 use pb_inventory::inventory::Inventory;
+use pb_inventory::vars::Variable;
 use pb_places::{Place, Role};
+use pb_reach::values::{members_mention, mentions};
 use pb_reach::within::may_mention;
 use pb_value::val::Dict;
 use pb_variables::shared::GroupShares;
@@ -16,8 +19,9 @@ use std::alloc::{AllocError, Global};
 /// How many bytes of variables are searched for the places of a play: those of a role or a block are searched again at each place that has them.
 const ROOM_OF_PLAY: usize = 4 * 1024 * 1024;
 
-/// How many are searched for all hosts: those of a group are searched again for each host that has them.
-const ROOM_OF_HOSTS: usize = 64 * 1024 * 1024;
+/// How many are searched of what hosts have from groups one of which has the word: these are searched again for each host. The variables of each group and
+/// of each host are searched once, which takes less than reading them did.
+const ROOM_OF_MERGED: usize = 64 * 1024 * 1024;
 
 /// Whether the word stands in no text of some variables, and these have room.
 fn is_free(vars: &Dict, room: &mut usize) -> bool
@@ -81,28 +85,110 @@ pub fn free_places(alloc: Global, vars: &Dict, places: &[Place]) -> Result<Vec<b
     }
 }
 
-/// Whether it stands in no variable of a host, and in none from its groups, where these are kept.
-#[tactic(auto, using(crate::proofs::Marks::free_host))]
-fn is_free_host(
+/// Whether the word stands in no text of the variables of a group itself.
+fn is_free_group(vars: &[Variable]) -> bool
+    ensures { result ≡ true → IsFreeGroup vars.now }
+{
+    for variable in vars {
+        if mentions("hostvars", &variable.value) {
+            return false;
+        }
+    }
+    true
+}
+
+/// Marks the groups in whose variables it doesn't stand.
+fn mark_groups(alloc: Global, inventory: &Inventory) -> Result<Vec<bool>, AllocError>
+    ensures { IfOk result (λ marked. AreFreeGroups inventory.now marked.items) }
+{
+    let mut marked = Vec::with_capacity(alloc, inventory.groups() as usize)?;
+    for n in 0..inventory.groups() {
+        let is = is_free_group(inventory.vars_of_group(GroupNo(n)));
+        marked.push(is)?;
+    }
+    Ok(marked)
+}
+
+fn is_marked(group: GroupNo, marked: &[bool]) -> bool
+    ensures { result ≡ true → slice_get marked.now group.0 ≡ Some true }
+{
+    match marked.get(group.0 as usize) {
+        Some(is) => *is,
+        None => false,
+    }
+}
+
+/// Whether all of these groups are marked.
+fn are_marked(groups: &[GroupNo], marked: &[bool]) -> bool
+    ensures { result ≡ true → AreMarked marked.now groups.now }
+{
+    for group in groups {
+        if !is_marked(*group, marked) {
+            return false;
+        }
+    }
+    true
+}
+
+/// Whether it stands in no variable that a host has from its groups, where these are kept, and have room.
+#[tactic(auto, using(crate::proofs::Marks::free_merged))]
+fn is_free_merged(
     inventory: &Inventory,
     shares: &GroupShares,
-    extra: &Dict,
     host: HostNo,
     room: &mut usize,
 ) -> bool
-    requires extra { IsFree extra.now }
-    requires kept { AreKept inventory.now shares.now }
-    requires host { host.0 < length inventory.now.hosts }
-    ensures { result ≡ true → IsFreeHost inventory.now extra.now host.0 }
+    requires { AreKept inventory.now shares.now }
+    ensures { result ≡ true → IsFree (vars_from_groups inventory.now host.0) }
 {
     // (what only the clauses speak of)
-    let _extra = extra;
+    let _inventory = inventory;
     match shares.kept(host) {
-        Some(groups) => {
-            is_free(groups.variables(), room) && is_free(inventory.host_vars(host), room)
-        }
+        Some(groups) => is_free(groups.variables(), room),
         None => false,
     }
+}
+
+/// Whether it stands in no variable that a host has from its groups: in none of these groups, or at least in none that is left where they are merged.
+fn has_free_groups(
+    alloc: Global,
+    inventory: &Inventory,
+    shares: &GroupShares,
+    marked: &[bool],
+    host: HostNo,
+    room: &mut usize,
+) -> Result<bool, AllocError>
+    requires kept { AreKept inventory.now shares.now }
+    requires marked { AreFreeGroups inventory.now marked.now }
+    requires host { host.0 < length inventory.now.hosts }
+    ensures { IfOk result (λ is. is ≡ true → IsFree (vars_from_groups inventory.now host.0)) }
+{
+    let groups = inventory.groups_of_host(alloc, host)?;
+    if are_marked(groups.as_slice(), marked) {
+        return Ok(true);
+    }
+    Ok(is_free_merged(inventory, shares, host, room))
+}
+
+/// Whether it stands in no variable of a host, and in none from its groups.
+fn is_free_host(
+    alloc: Global,
+    inventory: &Inventory,
+    shares: &GroupShares,
+    marked: &[bool],
+    host: HostNo,
+    room: &mut usize,
+) -> Result<bool, AllocError>
+    requires kept { AreKept inventory.now shares.now }
+    requires marked { AreFreeGroups inventory.now marked.now }
+    requires host { host.0 < length inventory.now.hosts }
+    ensures groups { IfOk result (λ is. is ≡ true → IsFree (vars_from_groups inventory.now host.0)) }
+    ensures own { IfOk result (λ is. is ≡ true → IsFree (vars_of_host inventory.now host.0)) }
+{
+    if members_mention("hostvars", inventory.host_vars(host)) {
+        return Ok(false);
+    }
+    has_free_groups(alloc, inventory, shares, marked, host, room)
 }
 
 /// Marks the hosts of which that is so, where it stands in no extra variable.
@@ -111,16 +197,20 @@ fn mark_hosts(
     inventory: &Inventory,
     shares: &GroupShares,
     extra: &Dict,
-    room: &mut usize,
+    groups: &[bool],
 ) -> Result<Vec<bool>, AllocError>
     requires extra { IsFree extra.now }
     requires kept { AreKept inventory.now shares.now }
+    requires groups { AreFreeGroups inventory.now groups.now }
     ensures { IfOk result (λ marked. AreFreeHosts inventory.now extra.now marked.items) }
 {
+    // (what only the clauses speak of)
+    let _extra = extra;
+    let mut room = ROOM_OF_MERGED;
     let mut marked = Vec::with_capacity(alloc, inventory.hosts() as usize)?;
     for n in 0..inventory.hosts() {
-        let is = is_free_host(inventory, shares, extra, HostNo(n), room);
-        marked.push(is)?;
+        let free = is_free_host(alloc, inventory, shares, groups, HostNo(n), &mut room)?;
+        marked.push(free)?;
     }
     Ok(marked)
 }
@@ -137,10 +227,9 @@ pub fn free_hosts(
     requires { AreKept inventory.now shares.now }
     ensures { IfOk result (λ marked. AreFreeHosts inventory.now extra.now marked.items) }
 {
-    let mut room = ROOM_OF_HOSTS;
-    if is_free(extra, &mut room) {
-        mark_hosts(alloc, inventory, shares, extra, &mut room)
-    } else {
-        Ok(Vec::new(alloc))
+    if members_mention("hostvars", extra) {
+        return Ok(Vec::new(alloc));
     }
+    let groups = mark_groups(alloc, inventory)?;
+    mark_hosts(alloc, inventory, shares, extra, groups.as_slice())
 }

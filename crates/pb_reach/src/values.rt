@@ -8,7 +8,7 @@ use pb_value::val::{Dict, Node, Val, ValList};
 
 /// Whether a word stands in a text of the value, at any depth, names of dicts aside.
 #[cycle(mentions)]
-pub(crate) fn mentions(word: &str, value: &Val) -> bool
+pub fn mentions(word: &str, value: &Val) -> bool
     ensures { result ≡ mentions word.now value.now }
 {
     match &value.node {
@@ -31,8 +31,9 @@ pub(crate) fn items_mention(word: &str, list: &ValList) -> bool
     false
 }
 
+/// The same of one of a dict's values.
 #[cycle(mentions)]
-pub(crate) fn members_mention(word: &str, dict: &Dict) -> bool
+pub fn members_mention(word: &str, dict: &Dict) -> bool
     ensures { result ≡ members_mention word.now (members_of dict.now) }
 {
     for (_key, value) in dict.iter() {

@@ -10,6 +10,6 @@ pub loop-n-preserved : goal.loop-n-preserved
 loop-n-preserved c = record {
   count = grind (arith, common_steps);
   free =
-      hosted_more c.args.inventory.now c.args.extra.now c.loop-n.marked.items c.push.new.self.items c.is_free_host-is.result c.loop-n.n c.loop-n.invariant.count c.loop-n.invariant.free
-      c.is_free_host-is.ensures c.in_ok-push.ensures.items;
+      hosted_more c.args.inventory.now c.args.extra.now c.loop-n.marked.items c.push.new.self.items c.in_ok-free.free c.loop-n.n c.loop-n.invariant.count c.loop-n.invariant.free
+      (λ t. record { extras = c.requires.extra; groups = c.in_ok-free.ensures.groups t; own = c.in_ok-free.ensures.own t }) c.in_ok-push.ensures.items;
 }
