@@ -1,5 +1,6 @@
 mod Circling
 mod Each
+mod Entering
 mod FewOpen
 mod Fitting
 mod Notified

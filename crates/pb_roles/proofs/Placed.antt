@@ -1,20 +1,23 @@
 -- What stands at the places of the nodes that are written in a play, node by node.
-use Rattle.std.proofs.Common.{◌≡◌, ℕ, zero, suc, ◌+◌, ◌<◌, ◌≤◌, Bool, false, ◌||◌, List, [], ◌∷◌, ◌++◌, map, length, get_or, drop, Some, refl, sym, ap, ◌∙◌, append_assoc, arith, Vec, Global}
+use Rattle.std.proofs.Common.{◌≡◌, ℕ, zero, suc, ◌+◌, ◌<◌, ◌≤◌, Bool, false, ◌||◌, List, [], ◌∷◌, ◌++◌, map, length, get_or, drop, None, Some, refl, sym, ap, subst, ◌∙◌, append_assoc, arith, Vec, Global}
 use Rattle.std.specs.Prelude.{not, nat_eq}
-use Rattle.std.proofs.lemmas.List.{append-nil, drop_more}
+use Rattle.std.proofs.lemmas.List.{append-nil, drop_all, drop_more}
 use Rattle.pb_play.specs.declared.node.BlockKeys.{BlockKeys}
-use Rattle.pb_play.specs.declared.node.Node.{Node, Block as ABlock}
+use Rattle.pb_play.specs.declared.node.Node.{Node, Task as ATask, Block as ABlock}
+use Rattle.pb_play.specs.declared.node.Node.TheVariants.{Flush as AFlush}
 use Rattle.pb_play.specs.declared.node.Node.TheOpen.{Node-F, Task as OpenTask, Block as OpenBlock, Flush as OpenFlush}
 use Rattle.pb_play.specs.Nodes.{Written, Nothing, Task, Block, Flush}
 use Rattle.pb_play.specs.View.{node_of, node_step, written_of}
+use Rattle.pb_play.specs.declared.task.Task.{Task as OneTask}
 use Rattle.pb_places.specs.Place.{PlaceOf}
 use Rattle.pb_handlers.specs.declared.naming.HandlerNames.{HandlerNames}
 use Rattle.pb_roles.specs.Building.{Flushed, RoundOf, TaskIn, inside, is_nothing, all_places, flush_from, flush_places, flushed_in, part_places, placed, places_of, round_of, section_places, task_of}
 use Rattle.pb_roles.specs.Sections.{names_of}
+use Rattle.pb_roles.specs.declared.met.HandlerIn.{HandlerIn}
 use Rattle.pb_roles.specs.declared.met.Section.{Section}
 use Rattle.pb_roles.specs.declared.sections.PlayKeys.{PlayKeys}
 use Rattle.pb_roles.specs.declared.sections.Sections.{Sections}
-use Rattle.pb_roles.proofs.PlayNodes.{each_level, is_none, written_block, written_turn}
+use Rattle.pb_roles.proofs.PlayNodes.{each_level, is_none, written_block, written_flush, written_task, written_turn}
 
 -- ---- places
 
@@ -45,6 +48,21 @@ pub all_placed : (flushed : Flushed) (round : RoundOf) (is_caught : Bool) (old n
     → new ++ places_of flushed round is_caught (written_of nodes) ≡ old ++ places_of flushed round is_caught all → new ≡ old ++ places_of flushed round is_caught all
 all_placed flushed round is_caught old new nodes all none is =
     sym (append-nil new) ∙ ap (λ (ns : List Node). new ++ places_of flushed round is_caught (written_of ns)) (sym none) ∙ is
+
+-- a task of its own, and a place for handlers
+pub task_placed : (flushed : Flushed) (names : List HandlerNames) (round : RoundOf) (is_caught : Bool) (old new : List PlaceOf) (n : Node) (task : OneTask) → n ≡ ATask task → names ≡ flushed.names
+    → new ≡ old ++ placed names round is_caught None task ∷ [] → new ≡ old ++ places_of flushed round is_caught (node_of n Nothing)
+task_placed flushed names round is_caught old new n task is same pushed =
+    pushed
+    ∙ ap (λ (ns : List HandlerNames). old ++ placed ns round is_caught None task ∷ []) same
+    ∙ sym (ap (λ (m : Node). old ++ places_of flushed round is_caught (node_of m Nothing)) is ∙ ap (λ (w : Written). old ++ places_of flushed round is_caught w) (written_task task Nothing))
+
+pub flush_placed : (flushed : Flushed) (round : RoundOf) (is_caught : Bool) (old new : List PlaceOf) (n : Node) → n ≡ AFlush → new ≡ old ++ flush_places flushed is_caught
+    → new ≡ old ++ places_of flushed round is_caught (node_of n Nothing)
+flush_placed flushed round is_caught old new n is pushed =
+    pushed
+    ∙ ap (λ (ps : List PlaceOf). old ++ ps) (sym (append-nil (flush_places flushed is_caught)))
+    ∙ sym (ap (λ (m : Node). old ++ places_of flushed round is_caught (node_of m Nothing)) is ∙ ap (λ (w : Written). old ++ places_of flushed round is_caught w) (written_flush Nothing))
 
 -- the three parts of a block
 pub block_placed : (flushed : Flushed) (round within : RoundOf) (is_caught is_rescued : Bool) (old one two three : List PlaceOf) (n : Node) (block : BlockKeys) (body rescue always : Vec Node Global)
@@ -92,6 +110,37 @@ handler_placed names is_caught handlers n handler place mid new all lt at is pus
     ∙ ap (λ (hs : List TaskIn). mid ++ flush_from names is_caught n hs) (sym (drop_more handlers n handler lt ∙ ap (λ (h : TaskIn). h ∷ drop (n + 1) handlers) (sym at)))
     ∙ before
 
+-- the same by what the code reads: its own names and handlers, which are these
+pub handler_read : (names read : List HandlerNames) (is_caught : Bool) (handlers all_read : List TaskIn) (n number : ℕ) (handler it : TaskIn) (place : PlaceOf) (mid new all : List PlaceOf) → read ≡ names
+    → all_read ≡ handlers → number ≡ n → it ≡ handler → n < length all_read → handler ≡ get_or all_read n handler → place ≡ placed read it.round is_caught (Some number) it.task
+    → new ≡ mid ++ place ∷ [] → mid ++ flush_from names is_caught n (drop n handlers) ≡ all → new ++ flush_from names is_caught (n + 1) (drop (n + 1) handlers) ≡ all
+handler_read names read is_caught handlers all_read n number handler it place mid new all same_names same same_number same_handler lt at is pushed before =
+    handler_placed names is_caught handlers n handler place mid new all (subst (λ (hs : List TaskIn). n < length hs) same lt) (at ∙ ap (λ (hs : List TaskIn). get_or hs n handler) same)
+    (is
+    ∙ ap (λ (ns : List HandlerNames). placed ns it.round is_caught (Some number) it.task) same_names
+    ∙ ap (λ (m : ℕ). placed names it.round is_caught (Some m) it.task) same_number
+    ∙ ap (λ (h : TaskIn). placed names h.round is_caught (Some n) h.task) same_handler) pushed before
+
+pub handlers_read : (names : List HandlerNames) (is_caught : Bool) (handlers all_read : List TaskIn) (n : ℕ) (mid all : List PlaceOf) → all_read ≡ handlers → length all_read ≤ n
+    → mid ++ flush_from names is_caught n (drop n handlers) ≡ all → mid ≡ all
+handlers_read names is_caught handlers all_read n mid all same end before =
+    sym (append-nil mid)
+    ∙ ap (λ (hs : List TaskIn). mid ++ flush_from names is_caught n hs) (sym (drop_all n handlers (subst (λ (hs : List TaskIn). length hs ≤ n) same end)))
+    ∙ before
+
+-- the tasks of the handlers that are to come
+pub tasks_more : (keys : PlayKeys) (old new all : List TaskIn) (left later : List HandlerIn) (h : HandlerIn) (task : TaskIn) → left ≡ h ∷ later → task ≡ task_of keys h → new ≡ old ++ task ∷ []
+    → old ++ map (task_of keys) left ≡ all → new ++ map (task_of keys) later ≡ all
+tasks_more keys old new all left later h task steps is pushed before =
+    ap (λ (ts : List TaskIn). ts ++ map (task_of keys) later) pushed
+    ∙ append_assoc old (task ∷ []) (map (task_of keys) later)
+    ∙ ap (λ (t : TaskIn). old ++ t ∷ map (task_of keys) later) is
+    ∙ ap (λ (hs : List HandlerIn). old ++ map (task_of keys) hs) (sym steps)
+    ∙ before
+
+pub tasks_all : (keys : PlayKeys) (old all : List TaskIn) (left : List HandlerIn) → left ≡ [] → old ++ map (task_of keys) left ≡ all → old ≡ all
+tasks_all keys old all left none before = sym (append-nil old) ∙ ap (λ (hs : List HandlerIn). old ++ map (task_of keys) hs) (sym none) ∙ before
+
 pub parts_placed : (flushed : Flushed) (play : Sections) (none one two three all : List PlaceOf) → flushed.names ≡ map names_of play.handlers
     → flushed.handlers ≡ map (task_of play.keys) play.handlers → none ≡ []
     → one ≡ none ++ part_places flushed play.keys play.pre → two ≡ one ++ part_places flushed play.keys play.tasks
@@ -134,6 +183,12 @@ weight_turn nodes i x lt is =
 
 pub weight_first : (nodes rest : List Node) (n : Node) → nodes ≡ n ∷ rest → weight (written_of nodes) ≡ weight (node_of n Nothing) + weight (written_of rest)
 weight_first nodes rest n steps = ap (λ (ns : List Node). weight (written_of ns)) steps ∙ weight_split n (written_of rest)
+
+pub weight_here : (nodes rest : List Node) (n : Node) (most : ℕ) → nodes ≡ n ∷ rest → weight (written_of nodes) ≤ most → weight (node_of n Nothing) ≤ most
+weight_here nodes rest n most steps le = let w = weight_first nodes rest n steps in omega (arith, w, le)
+
+pub weight_later : (nodes rest : List Node) (n : Node) (most : ℕ) → nodes ≡ n ∷ rest → weight (written_of nodes) ≤ most → weight (written_of rest) ≤ most
+weight_later nodes rest n most steps le = let w = weight_first nodes rest n steps in omega (arith, w, le)
 
 pub weight_block : (n : Node) (block : BlockKeys) (body rescue always : Vec Node Global) → n ≡ ABlock block body rescue always
     → weight (node_of n Nothing) ≡ 1 + weight (written_of body.items) + weight (written_of rescue.items) + weight (written_of always.items)

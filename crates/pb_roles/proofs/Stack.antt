@@ -1,16 +1,20 @@
 -- What is left to be met, step by step.
-use Rattle.std.proofs.Common.{◌≡◌, ◌≤◌, ℕ, zero, suc, ◌+◌, true, false, List, [], ◌∷◌, Option, Some, None, Result, Ok, Err, IfSome, ◌++◌, ◌-◌, refl, sym, subst, arith}
+use Rattle.std.proofs.Common.{◌≡◌, ◌≤◌, ℕ, zero, suc, ◌+◌, true, false, List, [], ◌∷◌, Option, Some, None, Result, Ok, Err, IfSome, ◌++◌, ◌-◌, ◌∙◌, refl, sym, ap, subst, arith, append_assoc}
+use Rattle.std.proofs.lemmas.List.{append-nil}
 use Rattle.pb_value.specs.Reading.{and_then, map_ok}
 use Rattle.pb_expr_syntax.specs.Tree.{Tree}
+use Rattle.pb_play_reading.specs.declared.handlers.Handler.{Handler}
 use Rattle.pb_role_entries.specs.declared.entry.RoleEntry.{RoleEntry}
 use Rattle.pb_roles.specs.Answers.{Faults}
 use Rattle.pb_roles.specs.Entries.{came_of}
-use Rattle.pb_roles.specs.Expansion.{closed, finished, in_order, is_open, meets, role_of, with_come}
+use Rattle.pb_roles.specs.Expansion.{closed, finished, handlers_in, in_order, is_open, meets, role_of, with_come}
 use Rattle.pb_roles.specs.Open.{conditions_in, cost_in, cost_of, dependencies_of, left_in, names_of, pushed, rest_of, to_do}
 use Rattle.pb_roles.specs.declared.fault.RoleFault.{RoleFault}
 use Rattle.pb_roles.specs.declared.fault.RoleFault.TheVariants.{Unknown, Cycle, Load, Memory, TooLarge}
 use Rattle.pb_roles.specs.Files.{RoleRead}
+use Rattle.pb_roles.specs.Origins.{OriginOf}
 use Rattle.pb_roles.specs.declared.came.Came.{Came}
+use Rattle.pb_roles.specs.declared.met.HandlerIn.{HandlerIn}
 use Rattle.pb_roles.specs.declared.met.Met.{Met}
 use Rattle.pb_roles.specs.declared.opened.OpenRole.{OpenRole}
 
@@ -125,3 +129,17 @@ pub cost_by : (left : ℕ) (most : ℕ) (reads : List ℕ → RoleRead) (roles n
     → cost_in reads new + 1 ≤ cost_in reads roles + cost_of (left_in most roles) reads entry
 cost_by left most reads roles new entry found h some i d n =
     let next : left_in most roles ≡ suc (left - 1) = omega (arith, h, some) in rw n (cost_entered (left - 1) most reads roles entry found next i d)
+
+-- ---- what a role brings
+
+pub handlers_more : (origin : OriginOf) (old new all : List HandlerIn) (left later : List Handler) (h : Handler) (shared : OriginOf) → left ≡ h ∷ later → shared ≡ origin
+    → new ≡ old ++ record { handler = h; origin = shared } ∷ [] → old ++ handlers_in origin left ≡ all → new ++ handlers_in origin later ≡ all
+handlers_more origin old new all left later h shared steps same pushed before =
+    ap (λ (hs : List HandlerIn). hs ++ handlers_in origin later) pushed
+    ∙ append_assoc old (record { handler = h; origin = shared } ∷ []) (handlers_in origin later)
+    ∙ ap (λ (o : OriginOf). old ++ record { handler = h; origin = o } ∷ handlers_in origin later) same
+    ∙ ap (λ (hs : List Handler). old ++ handlers_in origin hs) (sym steps)
+    ∙ before
+
+pub handlers_all : (origin : OriginOf) (old all : List HandlerIn) (left : List Handler) → left ≡ [] → old ++ handlers_in origin left ≡ all → old ≡ all
+handlers_all origin old all left none before = sym (append-nil old) ∙ ap (λ (hs : List Handler). old ++ handlers_in origin hs) (sym none) ∙ before

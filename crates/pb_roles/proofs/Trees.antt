@@ -78,6 +78,17 @@ pub places_turn : (handlers : ℕ) (nodes : List PlayNode) (i : ℕ) (x : PlayNo
     → places_in handlers (play.written_of (drop i nodes)) ≡ places_in handlers (play.node_of x written.Nothing) + places_in handlers (play.written_of (drop (i + 1) nodes))
 places_turn handlers nodes i x lt is = ap (places_in handlers) (written_turn nodes i x lt is) ∙ places_split handlers x (play.written_of (drop (i + 1) nodes))
 
+-- how many are left behind one node more, and behind all
+pub left_more : (handlers : ℕ) (nodes : List PlayNode) (i : ℕ) (x : PlayNode) (places left new all : ℕ) → i < length nodes → x ≡ get_or nodes i x
+    → new + places_in handlers (play.node_of x written.Nothing) ≡ left → left + all ≡ places + places_in handlers (play.written_of (drop i nodes))
+    → new + all ≡ places + places_in handlers (play.written_of (drop (i + 1) nodes))
+left_more handlers nodes i x places left new all lt is here before = let turn = places_turn handlers nodes i x lt is in omega (arith, turn, here, before)
+
+pub left_all : (handlers : ℕ) (nodes : List PlayNode) (i places left all : ℕ) → length nodes ≤ i → left + all ≡ places + places_in handlers (play.written_of (drop i nodes)) → left + all ≡ places
+left_all handlers nodes i places left all end before =
+    let none : places_in handlers (play.written_of (drop i nodes)) ≡ 0 = ap (λ (ns : List PlayNode). places_in handlers (play.written_of ns)) (drop_all i nodes end) in
+    omega (arith, none, before)
+
 pub sections_size : (handlers : ℕ) (sections : List Section) (rest : Nodes) → size handlers (sections_then sections (Flush rest)) ≡ places_in_all handlers sections + size handlers rest
 sections_size handlers [] rest = refl
 sections_size handlers (s ∷ sections) rest =
@@ -117,6 +128,20 @@ depth_turn nodes i x lt is =
     ∙ ap always_depth (then_split x (play.written_of (drop (i + 1) nodes)) Nothing)
     ∙ depth_then (play.node_of x written.Nothing) (alone (play.written_of (drop (i + 1) nodes)))
 
+-- no node up to here is deeper, then one is, or none
+pub depth_more : (nodes : List PlayNode) (i : ℕ) (x : PlayNode) (levels all : ℕ) → i < length nodes → x ≡ get_or nodes i x → depth_in (play.node_of x written.Nothing) ≤ levels
+    → max levels all ≡ max levels (depth_in (play.written_of (drop i nodes))) → max levels all ≡ max levels (depth_in (play.written_of (drop (i + 1) nodes)))
+depth_more nodes i x levels all lt is within before = let turn = depth_turn nodes i x lt is in omega (arith, turn, within, before)
+
+pub depth_here : (nodes : List PlayNode) (i : ℕ) (x : PlayNode) (levels all : ℕ) → i < length nodes → x ≡ get_or nodes i x → levels < depth_in (play.node_of x written.Nothing)
+    → max levels all ≡ max levels (depth_in (play.written_of (drop i nodes))) → levels < all
+depth_here nodes i x levels all lt is deeper before = let turn = depth_turn nodes i x lt is in omega (arith, turn, deeper, before)
+
+pub depth_all : (nodes : List PlayNode) (i levels all : ℕ) → length nodes ≤ i → max levels all ≡ max levels (depth_in (play.written_of (drop i nodes))) → all ≤ levels
+depth_all nodes i levels all end before =
+    let none : depth_in (play.written_of (drop i nodes)) ≡ 0 = ap (λ (ns : List PlayNode). depth_in (play.written_of ns)) (drop_all i nodes end) in
+    omega (arith, none, before)
+
 sections_depth : (sections : List Section) (rest : Nodes) → always_depth (sections_then sections rest) ≡ max (depth_in_all sections) (always_depth rest)
 sections_depth [] rest = omega arith
 sections_depth (s ∷ sections) rest =
@@ -127,6 +152,20 @@ pub sections_depth_turn : (sections : List Section) (i : ℕ) (x : Section) → 
     → depth_in_all (drop i sections) ≡ max (depth_in x.nodes) (depth_in_all (drop (i + 1) sections))
 sections_depth_turn sections i x lt is =
     at_drop_more depth_in_all sections i x lt ∙ ap (λ (s : Section). max (depth_in s.nodes) (depth_in_all (drop (i + 1) sections))) (sym is)
+
+-- the same of sections
+pub part_more : (sections : List Section) (i : ℕ) (x : Section) (nodes : Written) (levels all : ℕ) → i < length sections → x ≡ get_or sections i x → nodes ≡ x.nodes → depth_in nodes ≤ levels
+    → max levels all ≡ max levels (depth_in_all (drop i sections)) → max levels all ≡ max levels (depth_in_all (drop (i + 1) sections))
+part_more sections i x nodes levels all lt is same within before =
+    let turn = sections_depth_turn sections i x lt is in let here = ap depth_in same in omega (arith, turn, here, within, before)
+
+pub part_here : (sections : List Section) (i : ℕ) (x : Section) (nodes : Written) (levels all : ℕ) → i < length sections → x ≡ get_or sections i x → nodes ≡ x.nodes → levels < depth_in nodes
+    → max levels all ≡ max levels (depth_in_all (drop i sections)) → levels < all
+part_here sections i x nodes levels all lt is same deeper before =
+    let turn = sections_depth_turn sections i x lt is in let here = ap depth_in same in omega (arith, turn, here, deeper, before)
+
+pub part_all : (sections : List Section) (i levels all : ℕ) → length sections ≤ i → max levels all ≡ max levels (depth_in_all (drop i sections)) → all ≤ levels
+part_all sections i levels all end before = let none : depth_in_all (drop i sections) ≡ 0 = ap depth_in_all (drop_all i sections end) in omega (arith, none, before)
 
 pub depth_tree : (play : Sections) → always_depth (nodes_of play) ≡ max (depth_in_all play.pre) (max (depth_in_all play.tasks) (depth_in_all play.post))
 depth_tree play =

@@ -111,19 +111,16 @@ fn origin_of(
     Origin::of_role(alloc, role, conditions)
 }
 
-/// The role that an entry names, open: its files are read.
+/// The role that an entry names, open: its files are read. What it depends on is still to be told.
 fn open_role(
     alloc: Global,
     files: &RoleFiles,
     left: usize,
     outer: &[Expr],
     entry: &RoleEntry,
-    dependencies: Items<RoleEntry>,
 ) -> Result<OpenRole, RoleFault>
-    ensures value { Gives result (opened left (read_of files.now entry.now.name) outer.now entry.now dependencies) }
+    ensures value { Gives result (opened left (read_of files.now entry.now.name) outer.now entry.now []) }
     ensures left { IfOk result (λ role. role.left ≡ left) }
-    ensures name { IfOk result (λ role. role.name ≡ entry.now.name) }
-    ensures dependencies { IfOk result (λ role. role.dependencies ≡ dependencies) }
 {
     let defaults = load_variables(alloc, files, &entry.name, "defaults")?;
     let vars = load_variables(alloc, files, &entry.name, "vars")?;
@@ -132,22 +129,22 @@ fn open_role(
         vars,
         params: Dict::new(alloc),
     };
+    // (at once: what is owned is let go at each exit behind it)
+    let origin = origin_of(alloc, outer, entry, role)?;
     let nodes = load_nodes(alloc, files, &entry.name)?;
     let handlers = load_handlers(alloc, files, &entry.name)?;
     let name = entry.name.try_clone()?;
-    let origin = origin_of(alloc, outer, entry, role)?;
     Ok(OpenRole {
         left,
         name,
         origin,
         nodes,
         handlers,
-        dependencies: Line::of(dependencies),
+        dependencies: Line::of(Items::new(alloc)),
     })
 }
 
 /// The role that an entry names, open, unless the entry is left out. The entry has come then.
-#[tactic(auto, unfolding(crate::specs::Expansion::role_of))]
 pub(crate) fn role_of(
     alloc: Global,
     files: &RoleFiles,
@@ -161,7 +158,8 @@ pub(crate) fn role_of(
     ensures left { IfOk result (λ found. IfSome found (λ role. role.left ≡ left)) }
     ensures dependencies { IfOk result (λ found. IfSome found (λ role. role.dependencies ≡ dependencies_of (read_of files.now) entry.now.name)) }
 {
-    if has_none(alloc, files, &entry.name)? {
+    let is_missing = has_none(alloc, files, &entry.name)?;
+    if is_missing {
         let name = entry.name.try_clone()?;
         return Err(RoleFault::Unknown { name });
     }
@@ -172,6 +170,7 @@ pub(crate) fn role_of(
     if out {
         return Ok(None);
     }
-    let role = open_role(alloc, files, left, outer, entry, meta.dependencies)?;
+    let mut role = open_role(alloc, files, left, outer, entry)?;
+    role.dependencies = Line::of(meta.dependencies);
     Ok(Some(role))
 }

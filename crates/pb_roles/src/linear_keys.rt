@@ -97,7 +97,6 @@ fn stands_in_role_handlers(key: CoupledKey, handlers: &[HandlerIn]) -> bool
 
 /// Whether it stands in these nodes, on a task or a block.
 #[cycle(stands)]
-#[tactic(auto, using(crate::proofs::Standing::stands_turn))]
 fn stands_in(key: CoupledKey, nodes: &[Node]) -> bool
     ensures { result ≡ stands_in key (written_of nodes.now) }
 {

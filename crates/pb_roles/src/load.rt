@@ -28,7 +28,10 @@ fn in_file(file: &RoleFile, fault: LoadFault) -> RoleFault
         LoadFault::Memory => RoleFault::Memory,
         fault => match file.path.try_clone() {
             Ok(path) => RoleFault::Load { path, fault },
-            Err(_) => RoleFault::Memory,
+            Err(_) => {
+                drop(fault);
+                RoleFault::Memory
+            }
         },
     }
 }

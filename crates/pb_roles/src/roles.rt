@@ -135,8 +135,14 @@ fn step(
     let mut role = role;
     match role.dependencies.pop() {
         Some(entry) => {
-            roles.push_front(role)?;
-            enter(alloc, files, roles, &entry, met)
+            // (let go by one call, and not part by part)
+            let Ok(()) = roles.push_front(role) else {
+                drop(entry);
+                return Err(RoleFault::Memory);
+            };
+            let entered = enter(alloc, files, roles, &entry, met);
+            drop(entry);
+            entered
         }
         None => {
             close(role, met)?;
