@@ -3,6 +3,7 @@ pub mod Preparing
 pub mod Turning
 pub mod Batching
 pub mod FirstRows
+pub mod Changed
 pub mod Counting
 pub mod Making
 pub mod Joined
