@@ -85,3 +85,8 @@ module _ {E : Type 0} (result : Result (Option Datum) E) (old new : List Entry) 
       err : (r : Result (Option Datum) E) → OnErr r (new ≡ old) → OnErr r (named new ≡ self)
       err (Ok x) h = tt
       err (Err e) h = ap named h ∙ n
+
+-- where nothing changed, what stands under names that are kept is the same
+pub kept_same : {T E : Type 0} (result : Result T E) (gone : ℕ) (names : List (String Global)) (old new : Vec Datum Global) → OnErr result (new.items ≡ old.items) → OnErr result (kept gone names new.items ≡ kept gone names old.items)
+kept_same (Ok x) gone names old new h = tt
+kept_same (Err e) gone names old new h = ap (λ (vs : List Datum). kept gone names vs) h

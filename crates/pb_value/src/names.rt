@@ -85,7 +85,6 @@ impl Kept {
     }
 
     /// Where a name stands among these: its index, or else the one at which it would have to be put.
-    #[tactic(auto, using(crate::proofs::KeptNames::few_places))]
     pub(crate) fn place(&self, name: &str) -> Result<usize, usize>
         ensures value { result ≡ place_of name.now (named (paired self.now)) }
         ensures ordered { IsStrictlySortedBy string_cmp self.now }

@@ -37,7 +37,7 @@ fn place(row: &[(String, Val)], name: &str) -> Result<usize, usize>
 }
 
 /// The value under a name of a row.
-#[tactic(auto, using(crate::proofs::Placed::within_ok, crate::proofs::Placed::found_ok, crate::proofs::Placed::found_err))]
+#[tactic(auto, using(crate::proofs::Placed::within_ok))]
 pub(crate) fn find<'a>(row: &'a [(String, Val)], name: &str) -> Option<&'a Val>
     requires { IsStrictlySortedBy string_cmp (keys_of row.now) }
     ensures { option_copied result ≡ value_at name.now (named row.now) }
@@ -59,7 +59,6 @@ fn make_room(row: &mut Vec<(String, Val)>) -> Result<(), AllocError>
 }
 
 /// Puts a value into a row, in place of the entry under its name or among the others.
-#[tactic(auto, using(crate::proofs::Placed::within_ok, crate::proofs::Placed::within_err, crate::proofs::Placed::found_ok, crate::proofs::Placed::found_err, crate::proofs::Placed::put_ok, crate::proofs::Placed::put_err))]
 fn put_entry(
     row: &mut Vec<(String, Val)>,
     name: String,
@@ -100,7 +99,6 @@ pub(crate) fn put_in(
 }
 
 /// Takes a name out of a row.
-#[tactic(auto, using(crate::proofs::Placed::within_ok, crate::proofs::Placed::cut_err))]
 pub(crate) fn take_out(row: &mut Vec<(String, Val)>, name: &str)
     requires { IsStrictlySortedBy string_cmp (keys_of row.old.items) }
     ensures entries { row.new.items ≡ remove_entry (is_at (λ k. slice_cmp nat_cmp name.now (string_bytes k))) row.old.items }

@@ -19,7 +19,6 @@ use std::alloc::AllocError;
 use std::mem::replace;
 
 /// The index of a name's value, if the name has one: it comes behind as many values as names before it have one.
-#[tactic(auto, using(crate::proofs::KeptNames::spot_all))]
 fn spot(gone: u64, at: usize) -> Option<usize>
     ensures value { result ≡ spot gone at }
     ensures within { IfSome result (λ i. i ≤ at) }
@@ -65,7 +64,6 @@ pub(crate) fn find_kept<'a>(
 }
 
 /// Puts a value in place of the one under a name. (Way was made for the name before; so there is one.)
-#[tactic(auto, using(crate::proofs::KeptNames::seen_err, crate::proofs::KeptNames::seen_gone, crate::proofs::KeptNames::seen_past, crate::proofs::KeptNames::seen_here, crate::proofs::KeptNames::put_ok, crate::proofs::KeptNames::kept_ordered, crate::proofs::KeptNames::length_set_kept))]
 pub(crate) fn put_kept(
     names: &Kept,
     values: &mut Vec<Val>,
@@ -103,7 +101,6 @@ fn with_bit(bits: u64, at: usize) -> u64
 }
 
 /// Takes a name and its value out.
-#[tactic(auto, using(crate::proofs::KeptNames::stays_err, crate::proofs::KeptNames::stays_gone, crate::proofs::KeptNames::stays_past, crate::proofs::KeptNames::cut_ok, crate::proofs::KeptNames::cut_all))]
 pub(crate) fn strike(names: &Kept, values: &mut Vec<Val>, gone: &mut u64, name: &str)
     requires { length values.old.items ≡ length (kept gone.old names.now values.old.items) }
     ensures entries { kept gone.new names.now values.new.items ≡ remove_entry (is_at (λ k. slice_cmp nat_cmp name.now (string_bytes k))) (kept gone.old names.now values.old.items) }
