@@ -7,4 +7,5 @@ pub mod Read
 pub mod Rows
 pub mod SetLaws
 pub mod Trimming
+pub mod Wild
 mod NoList

@@ -4,7 +4,7 @@ use Rattle.std.specs.Prelude.{Some, None, Option, position, slice_get, filter}
 use Rattle.std.specs.List.{list_any, range_with_len}
 use Rattle.std.specs.Simd.Lanes.{zip2}
 use Rattle.std.proofs.lemmas.List.{ext_get_or, get_or-map, length-map, get_or-set_same, get_or-set_other, get_or-replicate, length-replicate, take_more, take_all, get_or_past, map-append}
-use Rattle.std.proofs.lemmas.List.Folds.{list_any-append}
+use Rattle.std.proofs.lemmas.List.Folds.{list_any-append, list_any_more}
 use Rattle.std.proofs.lemmas.List.FromFn.{get_or-range_with_len, length-range_with_len}
 use Rattle.std.proofs.lemmas.List.Elements.{filter-append}
 use Rattle.std.proofs.lemmas.List.Quantifiers.{position-Some}
@@ -134,3 +134,32 @@ place_below p names k found = (position-Some p names k [] (sym found)).0
 
 pub hosts_are : (n i : ℕ) (hosts : List ℕ) (s : List Bool) → length hosts ≤ i → length s ≡ n → ((h : ℕ) → h < n → is_in s h ≡ contains (take i hosts) h) → s ≡ each_host n (contains hosts)
 hosts_are n i hosts s all size told = set_is n (contains hosts) s size (λ h w. told h w ∙ ap (λ hs. contains hs h) (take_all i hosts all))
+
+-- ---- one host of a list more was looked at
+or-true : (b : Bool) → (b || true) ≡ true
+or-true true = refl
+or-true false = refl
+
+one_more : (hosts : List ℕ) (i m x h : ℕ) (r : Bool) → i < length hosts → x ≡ get_or hosts i 0 → m ≡ i + 1 → (x == h) ≡ r → contains (take m hosts) h ≡ (contains (take i hosts) h || r)
+one_more hosts i m x h r w is next e =
+    ap (λ n. contains (take n hosts) h) next ∙ list_any_more (λ k. k == h) hosts i 0 w ∙ ap (λ b. contains (take i hosts) h || b) (ap (λ k. k == h) (sym is) ∙ e)
+
+pub host_put : (n i m x : ℕ) (hosts : List ℕ) (old new : List Bool) → i < length hosts → x ≡ get_or hosts i 0 → m ≡ i + 1 → x < n → length old ≡ n → ((h : ℕ) → h < n → is_in old h ≡ contains (take i hosts) h) → new ≡ set old x true
+    → (length new ≡ n) × ((h : ℕ) → h < n → is_in new h ≡ contains (take m hosts) h)
+host_put n i m x hosts old new w is next below size told put = (
+  ap length put ∙ length-set _ _ _ ∙ size,
+  (λ h v. ap (λ s. is_in s h) put ∙ elim (cases_eq h x) [
+    | inl same ↦ ap (λ k. get_or (set old x true) k false) same ∙ get_or-set_same old x true false (omega (arith, below, size))
+        ∙ sym (one_more hosts i m x h true w is next (same_number x h (sym same)) ∙ or-true (contains (take i hosts) h))
+    | inr other ↦ get_or-set_other old x h true false other ∙ told h v
+        ∙ sym (one_more hosts i m x h false w is next (other_number x h (λ e. other (sym e))) ∙ or-false (contains (take i hosts) h))
+  ]),
+)
+
+pub host_passed : (n i m x : ℕ) (hosts : List ℕ) (old new : List Bool) → i < length hosts → x ≡ get_or hosts i 0 → m ≡ i + 1 → n ≤ x → length old ≡ n → ((h : ℕ) → h < n → is_in old h ≡ contains (take i hosts) h) → new ≡ old
+    → (length new ≡ n) × ((h : ℕ) → h < n → is_in new h ≡ contains (take m hosts) h)
+host_passed n i m x hosts old new w is next above size told same = (
+  ap length same ∙ size,
+  (λ h v. ap (λ s. is_in s h) same ∙ told h v
+      ∙ sym (one_more hosts i m x h false w is next (other_number x h (λ e. omega (arith, e, v, above))) ∙ or-false (contains (take i hosts) h))),
+)

@@ -6,10 +6,11 @@ ghost use Rattle.pb_patterns.specs.Fitting.{IsRow, fits_none, fits_more};
 use std::alloc::{AllocError, Global};
 
 /// Whether a term stands for several names.
+#[tactic(auto, using(crate::proofs::Wild::wild_first, crate::proofs::Wild::wild_second))]
 pub fn is_wild(term: &[u8]) -> bool
     ensures { result ≡ is_wild term.now }
 {
-    term.iter().any(|b| *b == b'*' || *b == b'?')
+    term.contains(&b'*') || term.contains(&b'?')
 }
 
 /// The characters of a text.

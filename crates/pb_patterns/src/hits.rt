@@ -13,6 +13,14 @@ use pb_inventory::inventory::Inventory;
 use regex::{Matcher, Regex};
 use std::alloc::{AllocError, Global};
 
+/// Whether a name fits.
+fn name_fits(alloc: Global, term: &[char], name: &str) -> Result<bool, AllocError>
+    ensures { IfOk result (λ b. b ≡ fits term.now (chars name.now)) }
+{
+    let name = chars_of(alloc, name)?;
+    fits(alloc, term, name.as_slice())
+}
+
 /// Of each host whether its name fits.
 pub fn hosts_that_fit(
     alloc: Global,
@@ -23,8 +31,7 @@ pub fn hosts_that_fit(
 {
     let mut hits = Vec::new(alloc);
     for host in 0..inventory.hosts() {
-        let name = chars_of(alloc, inventory.name(HostNo(host)))?;
-        hits.push(fits(alloc, term, name.as_slice())?)?;
+        hits.push(name_fits(alloc, term, inventory.name(HostNo(host)))?)?;
     }
     Ok(hits)
 }
@@ -39,8 +46,7 @@ pub fn groups_that_fit(
 {
     let mut hits = Vec::new(alloc);
     for group in 0..inventory.groups() {
-        let name = chars_of(alloc, inventory.group_name(GroupNo(group)))?;
-        hits.push(fits(alloc, term, name.as_slice())?)?;
+        hits.push(name_fits(alloc, term, inventory.group_name(GroupNo(group)))?)?;
     }
     Ok(hits)
 }

@@ -72,7 +72,7 @@ fn regex_meaning(alloc: Global, source: &str) -> Result<Meaning, PatFault>
 fn closes_none(bytes: &[u8]) -> bool
     ensures { result ≡ closes_none bytes.now }
 {
-    bytes.iter().any(|b| *b == b']')
+    bytes.contains(&b']')
 }
 
 fn plain_term(alloc: Global, text: &str) -> Result<What, PatFault>
