@@ -2,6 +2,7 @@
 
 use pb_expr_eval::eval::render;
 use pb_layers::layers::{Layers, Magic};
+use pb_layers::lent::Merged;
 use pb_layers::scope::Scope;
 use pb_template::template::Template;
 use pb_value::text::Text;
@@ -14,7 +15,7 @@ fn rendered(alloc: Global, variables: &Dict, text: &str) -> Result<String, Fail>
     let none = Dict::new(alloc);
     let layers = Layers {
         role_defaults: &none,
-        group_variables: &none,
+        group_variables: Merged::Kept(&none),
         host_variables: &none,
         host_facts: &none,
         play_variables: variables,

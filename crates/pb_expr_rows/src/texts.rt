@@ -4,6 +4,7 @@ use crate::repeated::repeated;
 use pb_expr_eval::eval::eval;
 use pb_expr_syntax::tree::Expr;
 use pb_layers::layers::{Layers, Magic};
+use pb_layers::lent::Merged;
 use pb_layers::scope::Scope;
 use pb_operators::fault::EvalFault;
 use pb_value::text::Text;
@@ -16,7 +17,7 @@ fn fault_of(alloc: Global, variables: &Dict, expr: &Expr) -> Option<EvalFault> {
     let none = Dict::new(alloc);
     let layers = Layers {
         role_defaults: &none,
-        group_variables: &none,
+        group_variables: Merged::Kept(&none),
         host_variables: &none,
         host_facts: &none,
         play_variables: variables,

@@ -1,2 +1,3 @@
 pub mod Joined
+pub mod LentMaps
 pub mod Seen

@@ -1,3 +1,5 @@
 pub mod Scope
 pub mod Found
 pub mod Rows
+pub mod Lent
+pub mod Merged

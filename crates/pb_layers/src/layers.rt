@@ -1,6 +1,7 @@
 ghost use Rattle.std.specs.Prelude.{◌≡◌, option_copied};
 ghost use Rattle.pb_value.specs.Datum.{value_at};
 
+use crate::lent::Merged;
 use pb_value::val::{Dict, Val};
 use std::marker::Model;
 
@@ -11,7 +12,7 @@ pub struct Layers<'a> {
     /// Layer 1: defaults of the role that the task comes from.
     pub role_defaults: &'a Dict,
     /// Layer 2: variables of the host's groups in the inventory, merged.
-    pub group_variables: &'a Dict,
+    pub group_variables: Merged<'a>,
     /// Layer 3: variables of the host in the inventory.
     pub host_variables: &'a Dict,
     /// Layer 4: what was gathered from the host. Its texts are no templates.
@@ -37,12 +38,13 @@ impl<'a> Model for Layers<'a> {
     ghost use Rattle.std.specs.Coded.{codes};
     ghost use Rattle.pb_value.specs.contracts.val.Dict as dict;
     ghost use Rattle.pb_layers.specs.Scope as scope;
+    ghost use Rattle.pb_layers.specs.Merged.{merged};
 
     ghost Value = { List scope.Map };
 
     ghost coded = { Prim.hlevel (codes, dict.the_row.coded) };
 
-    ghost view = { λ l. scope.layers l.role_defaults.now l.group_variables.now l.host_variables.now l.host_facts.now
+    ghost view = { λ l. scope.layers l.role_defaults.now (merged l.group_variables) l.host_variables.now l.host_facts.now
         l.play_variables.now l.role_variables.now l.block_variables.now l.task_variables.now l.set_facts.now
         l.role_parameters.now l.extra_variables.now };
 }

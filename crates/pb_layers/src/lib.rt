@@ -1,7 +1,8 @@
 //! Which value a variable has: the maps that a task sees on a host, over one another.
 //!
 //! For the layers above: `Layers` lends eleven maps, from role defaults up to extra variables, and a
-//! `Scope` puts the magic variables and the loop variable above them. `Magic` lends the magic
+//! `Scope` puts the magic variables and the loop variable above them. The variables of a host's groups
+//! are `Merged`: a dict, or values that are `Lent` from where they stand, so that no copies are made. `Magic` lends the magic
 //! variables in four maps, which contracts see as one. Contracts see a scope as the list of its
 //! maps, the highest first. `Scope::value` gives the value of the highest map that has the name,
 //! whole and as it is stored, `Scope::layer_of` the number of that map, from 1 to 13; and
@@ -9,4 +10,5 @@
 #![tactic(auto)]
 
 pub mod layers;
+pub mod lent;
 pub mod scope;

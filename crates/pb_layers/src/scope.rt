@@ -1,8 +1,8 @@
-ghost use Rattle.std.specs.Prelude.{◌≡◌, ◌≤◌, Some, length, map};
+ghost use Rattle.std.specs.Prelude.{◌≡◌, Some, drop};
 ghost use Rattle.std.specs.Option.{option_copied};
 ghost use Rattle.pb_value.specs.Datum.{value_at};
 ghost use Rattle.pb_layers.specs.Scope.{scope, with_put, with_seen, found, value_of, layer_of, has_templates};
-ghost use Rattle.pb_layers.specs.Found.{found_in, maps_in, seen_in};
+ghost use Rattle.pb_layers.specs.Found.{found_in, seen_in};
 
 use crate::layers::{Layers, Magic};
 use pb_value::val::{Dict, Val};
@@ -79,23 +79,15 @@ impl<'a> Scope<'a> {
         ensures { found_in result ≡ found name.now self.now }
     {
         let layers = self.layers;
-        let below = [
-            layers.task_variables,
-            layers.block_variables,
-            layers.role_variables,
-            layers.play_variables,
-            layers.host_facts,
-            layers.host_variables,
-            layers.group_variables,
-            layers.role_defaults,
-        ];
+        // (how many layers there are is known to the proof once one of them is taken)
+        let extra_variables = layers.extra_variables;
         if let Some(value) = self.loop_variable.get(name) {
             return Some(Found { layer: 13, value });
         }
         if let Some(value) = self.magic.get(name) {
             return Some(Found { layer: 12, value });
         }
-        if let Some(value) = layers.extra_variables.get(name) {
+        if let Some(value) = extra_variables.get(name) {
             return Some(Found { layer: 11, value });
         }
         if let Some(value) = layers.role_parameters.get(name) {
@@ -103,7 +95,7 @@ impl<'a> Scope<'a> {
         }
         match set_or_seen(layers.set_facts, self.seen, name) {
             Some(value) => Some(Found { layer: 9, value }),
-            None => find_in(&below, name),
+            None => find_below(layers, name),
         }
     }
 
@@ -149,20 +141,34 @@ fn set_or_seen<'a>(
     }
 }
 
-/// The value of the first map that has the name; the last map has the number 1.
-fn find_in<'a>(maps: &[&'a Dict], name: &str) -> Option<Found<'a>>
-    requires { length maps.now ≤ 13 }
-    ensures { found_in result ≡ found name.now (maps_in maps.now) }
+/// The value of a name in the layers below what was set or registered, and the number of the layer.
+fn find_below<'a>(layers: &'a Layers<'a>, name: &str) -> Option<Found<'a>>
+    ensures { found_in result ≡ found name.now (drop 3 layers.now) }
 {
-    match maps {
-        [] => None,
-        [map, below @ ..] => match map.get(name) {
-            Some(value) => Some(Found {
-                layer: below.len() as u8 + 1,
-                value,
-            }),
-            None => find_in(below, name),
-        },
+    if let Some(value) = layers.task_variables.get(name) {
+        return Some(Found { layer: 8, value });
+    }
+    if let Some(value) = layers.block_variables.get(name) {
+        return Some(Found { layer: 7, value });
+    }
+    if let Some(value) = layers.role_variables.get(name) {
+        return Some(Found { layer: 6, value });
+    }
+    if let Some(value) = layers.play_variables.get(name) {
+        return Some(Found { layer: 5, value });
+    }
+    if let Some(value) = layers.host_facts.get(name) {
+        return Some(Found { layer: 4, value });
+    }
+    if let Some(value) = layers.host_variables.get(name) {
+        return Some(Found { layer: 3, value });
+    }
+    if let Some(value) = layers.group_variables.get(name) {
+        return Some(Found { layer: 2, value });
+    }
+    match layers.role_defaults.get(name) {
+        Some(value) => Some(Found { layer: 1, value }),
+        None => None,
     }
 }
 

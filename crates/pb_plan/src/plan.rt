@@ -24,7 +24,8 @@ use pb_value::names::Names;
 use pb_value::text::Text;
 use pb_value::val::{Dict, Val};
 use pb_variables::connector::connector;
-use pb_variables::shared::{GroupShares, SharedGroups};
+use pb_variables::host_groups::HostGroups;
+use pb_variables::shared::GroupShares;
 use std::alloc::{AllocError, Global};
 use std::marker::Model;
 use std::rc::Rc;
@@ -441,9 +442,9 @@ impl Plan {
         &self.inventory
     }
 
-    /// What a host has from its groups: their variables, merged, and their names. Hosts of the same groups share it, as far as the plan keeps it. The only
-    /// error is want of memory.
-    pub fn of_groups(&self, alloc: Global, host: HostNo) -> Result<SharedGroups, AllocError>
+    /// What a host has from its groups: their variables, merged, and their names. Hosts of the same groups share it, as far as the plan keeps it; else the
+    /// inventory lends the variables. The only error is want of memory.
+    pub fn of_groups(&self, alloc: Global, host: HostNo) -> Result<HostGroups<'_>, AllocError>
         requires { host.0 < length self.now.inventory.hosts }
         ensures value { IfOk result (λ of. of ≡ from_groups self.now.inventory host.0) }
         ensures last { IfOk result (λ of. (name : List ℕ) → value_at name of.variables ≡ last_given self.now.inventory name (groups_of_host self.now.inventory host.0)) }

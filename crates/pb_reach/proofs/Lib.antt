@@ -10,3 +10,4 @@ pub mod Still
 pub mod Unreached
 pub mod Told
 pub mod Alone
+pub mod Appended

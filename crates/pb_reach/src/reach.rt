@@ -1,5 +1,5 @@
 //! What a task can look up.
-ghost use Rattle.std.specs.Prelude.{◌≡◌, ◌<◌, ◌≤◌, ℕ, Bool, false, List, length, Option};
+ghost use Rattle.std.specs.Prelude.{◌≡◌, ◌<◌, ◌≤◌, ℕ, Bool, false, List, length, drop, Option};
 ghost use Rattle.std.specs.Option.{option_copied};
 ghost use Rattle.pb_value.specs.Datum.{Datum};
 ghost use Rattle.pb_layers.specs.Found.{maps_in};
@@ -12,7 +12,7 @@ ghost use Rattle.pb_reach.specs.Told.{tells, until_of, LeavesResults};
 
 use crate::exprs::{has_name, some_names, some_reach};
 use crate::texts::has_inside;
-use crate::values::{items_mention, members_mention, mentions};
+use crate::values::{items_mention, members_mention, mentions, merged_mention};
 use pb_expr_syntax::tree::Expr;
 use pb_layers::layers::Layers;
 use pb_play::commands::CommandWords;
@@ -137,13 +137,20 @@ fn delegate_mentions(word: &str, delegate_to: Option<&Text>) -> bool
 
 /// Whether a word stands in the texts of one of some maps.
 fn some_mention(word: &str, maps: &[&Dict]) -> bool
-    requires { length maps.now ≤ 9 }
+    requires { length maps.now ≤ 7 }
     ensures { result ≡ each_mentions word.now (maps_in maps.now) }
 {
     match maps {
         [] => false,
         [map, below @ ..] => members_mention(word, *map) || some_mention(word, below),
     }
+}
+
+/// Whether a word stands in the lowest two layers.
+fn lowest_mention(word: &str, layers: &Layers) -> bool
+    ensures { result ≡ each_mentions word.now (drop 9 layers.now) }
+{
+    merged_mention(word, layers.group_variables) || members_mention(word, layers.role_defaults)
 }
 
 /// Whether a word stands in the layers whose texts are templates: all but the facts of the host, and what was set or registered.
@@ -158,10 +165,8 @@ fn layers_mention(word: &str, layers: &Layers) -> bool
         layers.role_variables,
         layers.play_variables,
         layers.host_variables,
-        layers.group_variables,
-        layers.role_defaults,
     ];
-    some_mention(word, &maps)
+    some_mention(word, &maps) || lowest_mention(word, layers)
 }
 
 /// Whether a name can be looked up while the items of a task are read.

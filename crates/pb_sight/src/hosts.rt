@@ -12,7 +12,6 @@ use crate::planned::no_task;
 use crate::sight::Sight;
 use crate::site::Site;
 use pb_facts::facts::Facts;
-use pb_items::items::items;
 use pb_outcome::item::Item;
 use pb_places::Place;
 use pb_plan::Plan;
@@ -44,7 +43,7 @@ impl<'a> Site<'a> {
     fn unread_items_for(
         &self,
         alloc: Global,
-        place: &Place,
+        place: &'a Place,
         settled: bool,
     ) -> Result<Option<Items<Item>>, AllocError>
         requires there { self.now.host.0 < length self.now.plan.now.inventory.hosts }
@@ -58,7 +57,7 @@ impl<'a> Site<'a> {
         if sight.is_read_at_start(settled) {
             return Ok(None);
         }
-        let items = items(alloc, &sight.start())?;
+        let items = sight.items(alloc)?;
         Ok(Some(items))
     }
 
@@ -82,7 +81,12 @@ impl<'a> Site<'a> {
 
     /// Whether the task at a place may look `hostvars` up as it says something of a result. Where it says nothing it sees nothing, and no layers are made;
     /// nor are they where it is settled that it stands in none of the variables.
-    fn result_reads(&self, alloc: Global, place: &Place, settled: bool) -> Result<bool, AllocError>
+    fn result_reads(
+        &self,
+        alloc: Global,
+        place: &'a Place,
+        settled: bool,
+    ) -> Result<bool, AllocError>
         requires there { self.now.host.0 < length self.now.plan.now.inventory.hosts }
         requires settled { settled ≡ true → IsSettled self.now.plan.now self.now.play.now self.now.host.0 self.now.facts.now (Some place.now) }
         ensures { IfOk result (λ reads. reads ≡ false → ToldUnread self.now.plan.now self.now.play.now self.now.host.0 self.now.facts.now (Some place.now)) }

@@ -7,24 +7,24 @@ use crate::seen::Seen;
 use pb_ids::HostNo;
 use pb_places::Role;
 use pb_value::val::Dict;
+use pb_variables::host_groups::HostGroups;
 use pb_variables::magic::host_magic;
-use pb_variables::shared::SharedGroups;
 use std::alloc::{AllocError, Global};
 
 /// What a host has of its own, and what stands for a role and for variables where there are none.
 #[derive(Drop)]
-pub struct Own {
-    /// What it has from its groups, which the plan has made for all hosts of these.
-    pub groups: SharedGroups,
+pub struct Own<'a> {
+    /// What it has from its groups, which the plan has made for all hosts of these, or lends.
+    pub groups: HostGroups<'a>,
     /// The variables that it has by itself.
     pub magic: Dict,
     pub no_role: Role,
     pub none: Dict,
 }
 
-impl Own {
+impl<'a> Own<'a> {
     #[tactic(auto, unfolding(pb_variables::specs::Magic::host_magic))]
-    pub fn of(alloc: Global, plan: &Seen, host: HostNo) -> Result<Own, AllocError>
+    pub fn of(alloc: Global, plan: &Seen<'a>, host: HostNo) -> Result<Own<'a>, AllocError>
         requires { host.0 < length plan.now.inventory.hosts }
         ensures { IfOk result (λ own. own ≡ own_of plan.now host.0) }
     {

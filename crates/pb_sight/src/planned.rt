@@ -8,7 +8,6 @@ ghost use Rattle.pb_items.specs.Loops.{max_items};
 use crate::own::Own;
 use crate::sight::Sight;
 use crate::site::Site;
-use pb_items::items::items;
 use pb_outcome::gather::{Ending, ItemResult};
 use pb_outcome::item::{Item, Planned};
 use pb_places::Place;
@@ -36,14 +35,14 @@ pub(crate) fn no_task(alloc: Global) -> Result<Items<Item>, AllocError>
 
 impl<'a> Site<'a> {
     /// The items of the task at a place as it starts.
-    fn items_for(&self, alloc: Global, place: &Place) -> Result<Items<Item>, AllocError>
+    fn items_for(&self, alloc: Global, place: &'a Place) -> Result<Items<Item>, AllocError>
         requires { self.now.host.0 < length self.now.plan.now.inventory.hosts }
         ensures value { IfOk result (λ items. items ≡ items_for self.now.plan.now self.now.play.now self.now.host.0 self.now.facts.now place.now) }
         ensures few { IfOk result (λ items. length items ≤ max_items) }
     {
         let own = Own::of(alloc, self.plan, self.host)?;
         let sight = Sight::of(self.plan, self.play, self.host, self.facts, place, &own);
-        items(alloc, &sight.start())
+        sight.items(alloc)
     }
 
     /// The items of the task as it starts. The only error is want of memory.

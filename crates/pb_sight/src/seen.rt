@@ -10,7 +10,7 @@ use pb_inventory::inventory::Inventory;
 use pb_layers::layers::Magic;
 use pb_plan::Plan;
 use pb_value::val::Dict;
-use pb_variables::shared::SharedGroups;
+use pb_variables::host_groups::HostGroups;
 use std::alloc::{AllocError, Global};
 use std::marker::Model;
 
@@ -66,7 +66,7 @@ impl<'a> Seen<'a> {
     }
 
     /// What a host has from its groups.
-    pub fn of_groups(&self, alloc: Global, host: HostNo) -> Result<SharedGroups, AllocError>
+    pub fn of_groups(&self, alloc: Global, host: HostNo) -> Result<HostGroups<'a>, AllocError>
         requires { host.0 < length self.now.inventory.hosts }
         ensures { IfOk result (λ of. of ≡ from_groups self.now.inventory host.0) }
     {

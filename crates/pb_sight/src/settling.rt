@@ -7,7 +7,6 @@ use crate::own::Own;
 use crate::sight::Sight;
 use crate::site::Site;
 use pb_conditions::attempt::Back;
-use pb_items::items::attempted;
 use pb_outcome::gather::ItemResult;
 use pb_places::Place;
 use pb_reach::reach::tells;
@@ -23,7 +22,7 @@ impl<'a> Site<'a> {
         value: &Option<Val>,
         attempt: u32,
         item: ItemResult,
-        place: &Place,
+        place: &'a Place,
     ) -> Result<Back, AllocError>
         requires { self.now.host.0 < length self.now.plan.now.inventory.hosts }
         ensures { IfOk result (λ back. back ≡ came_for self.now.plan.now self.now.play.now self.now.host.0 self.now.facts.now value.now attempt item place.now) }
@@ -33,7 +32,7 @@ impl<'a> Site<'a> {
         }
         let own = Own::of(alloc, self.plan, self.host)?;
         let sight = Sight::of(self.plan, self.play, self.host, self.facts, place, &own);
-        attempted(alloc, &sight.start(), value, attempt, item)
+        sight.attempted(alloc, value, attempt, item)
     }
 
     /// What an attempt, numbered from 1, at an item with this value of the loop variable comes to, from the result that came back, as the task says. The

@@ -1,10 +1,11 @@
 //! What tasks see.
 
-ghost use Rattle.std.specs.Prelude.{◌≡◌, ◌<◌, ℕ, true, false, codes, length, Option};
+ghost use Rattle.std.specs.Prelude.{◌≡◌, ◌<◌, ◌≤◌, ℕ, true, false, codes, length, Option, IfOk};
 ghost use Rattle.pb_value.specs.Datum.{Datum};
 ghost use Rattle.pb_layers.specs.Scope.{Map};
 ghost use Rattle.pb_outcome.specs.declared.gather.ItemResult.{ItemResult};
 ghost use Rattle.pb_items.specs.Items.{attempted_item, items_of};
+ghost use Rattle.pb_items.specs.Loops.{max_items};
 ghost use Rattle.pb_reach.specs.Apart.{SameBut};
 ghost use Rattle.pb_reach.specs.Reach.{layers_mention, with_magic};
 ghost use Rattle.pb_sight.specs.Own.{own_of};
@@ -12,13 +13,20 @@ ghost use Rattle.pb_sight.specs.Results.{start_of};
 
 use crate::own::Own;
 use crate::seen::Seen;
+use pb_conditions::attempt::Back;
 use pb_facts::facts::Facts;
 use pb_ids::HostNo;
+use pb_items::items::{attempted, items};
 use pb_items::start::Start;
 use pb_layers::layers::{Layers, Magic};
+use pb_outcome::gather::ItemResult;
+use pb_outcome::item::Item;
 use pb_places::Place;
 use pb_plan::PlanPlay;
 use pb_reach::reach::{may_read, may_read_by_itself, may_read_of_result};
+use pb_value::items::Items;
+use pb_value::val::Val;
+use std::alloc::{AllocError, Global};
 use std::marker::Model;
 
 /// What a task sees.
@@ -55,7 +63,7 @@ impl<'a> Sight<'a> {
         host: HostNo,
         facts: &'a Facts,
         place: &'a Place,
-        own: &'a Own,
+        own: &'a Own<'_>,
     ) -> Sight<'a>
         requires there { host.0 < length plan.now.inventory.hosts }
         requires own { own.now ≡ own_of plan.now host.0 }
@@ -88,7 +96,7 @@ impl<'a> Sight<'a> {
 
     /// What the task's items are read from.
     #[tactic(auto, unfolding(crate::specs::Results::start_with))]
-    pub(crate) fn start(&'a self) -> Start<'a>
+    fn start(&'a self) -> Start<'a>
         ensures { result ≡ self.now }
     {
         Start {
@@ -99,6 +107,27 @@ impl<'a> Sight<'a> {
             layers: &self.layers,
             magic: &self.magic,
         }
+    }
+
+    /// The task's items as it starts.
+    pub(crate) fn items(&self, alloc: Global) -> Result<Items<Item>, AllocError>
+        ensures value { IfOk result (λ items. items ≡ items_of self.now) }
+        ensures few { IfOk result (λ items. length items ≤ max_items) }
+    {
+        items(alloc, &self.start())
+    }
+
+    /// What an attempt at an item comes to whose job came back.
+    pub(crate) fn attempted(
+        &self,
+        alloc: Global,
+        value: &Option<Val>,
+        attempt: u32,
+        item: ItemResult,
+    ) -> Result<Back, AllocError>
+        ensures { IfOk result (λ back. back ≡ attempted_item self.now value.now attempt item) }
+    {
+        attempted(alloc, &self.start(), value, attempt, item)
     }
 
     /// Whether the task's items may look `hostvars` up. Where it is settled that it stands in none of the variables these aren't searched.

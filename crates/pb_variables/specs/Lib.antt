@@ -1,6 +1,7 @@
 pub mod ByName
 pub mod Connector
 pub mod Extra
+pub mod Held
 pub mod Learnt
 pub mod Magic
 pub mod Renewed

@@ -1,8 +1,10 @@
 //! The words of the program that connects to a host.
 ghost use Rattle.std.specs.Prelude.{◌≡◌, unwrap_or, [], IfOk};
 ghost use Rattle.pb_value.specs.Datum.{items_of};
+ghost use Rattle.pb_layers.specs.Merged.{merged};
 ghost use Rattle.pb_variables.specs.Connector.{texts_in, words_in, connector_in};
 
+use pb_layers::lent::Merged;
 use pb_value::items::Items;
 use pb_value::text::Text;
 use pb_value::val::{Dict, Node, Val};
@@ -11,8 +13,8 @@ use std::alloc::{AllocError, Global};
 /// The words that connect to a host, as its inventory variable `pb_connector` has them: a list of texts. Its own variable stands
 /// before that of its groups, and any other value than a list of texts counts as no words. Texts are taken as they stand, and are
 /// no templates. The only error is want of memory.
-pub fn connector(alloc: Global, own: &Dict, groups: &Dict) -> Result<Items<Text>, AllocError>
-    ensures { IfOk result (λ words. words ≡ connector_in own.now groups.now) }
+pub fn connector(alloc: Global, own: &Dict, groups: Merged) -> Result<Items<Text>, AllocError>
+    ensures { IfOk result (λ words. words ≡ connector_in own.now (merged groups.entry)) }
 {
     if let Some(value) = own.get("pb_connector") {
         return words_in(alloc, value);

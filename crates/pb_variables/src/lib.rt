@@ -7,12 +7,13 @@
 //! answers what stands for the variables of all hosts, with what they have learnt, and `renewed` puts those of one host anew (`specs/Renewed.antt`).
 //! `connector` answers the words of the program that connects to a host (`specs/Connector.antt`).
 //! `GroupShares` has what all hosts have from their groups, the variables of these and their names, made once for hosts of the same groups
-//! (`specs/Shared.antt`).
+//! (`specs/Shared.antt`); where it has no room for that of a host, the inventory lends these variables, and none is copied (`HostGroups`).
 #![tactic(auto)]
 
 pub mod connector;
 pub mod extra;
 pub mod fault;
+pub mod host_groups;
 pub mod hostvars;
 pub mod magic;
 mod put;

@@ -5,6 +5,7 @@ ghost use Rattle.pb_inventory.specs.Vars.{groups_of_host, last_given};
 ghost use Rattle.pb_variables.specs.Shared.{from_groups, numbers_of_host, IsKeptFor, AreKept};
 ghost use Rattle.pb_variables.specs.Weight.{kept_weight};
 
+use crate::host_groups::HostGroups;
 use crate::put::texts;
 use crate::weight::{behind_dict, behind_value};
 use indexmap::IndexMap;
@@ -277,14 +278,14 @@ impl GroupShares {
         }
     }
 
-    /// What a host of the inventory has from its groups: what is kept for it, or else what is made for this once. Of each name it has the value of the
-    /// last group, in the order in which they merge, that has it. The only error is want of memory.
-    pub fn of_groups(
+    /// What a host of the inventory has from its groups: what is kept for it, or else what the inventory lends, so that no value is copied. Of each name it has
+    /// the value of the last group, in the order in which they merge, that has it. The only error is want of memory.
+    pub fn of_groups<'a>(
         &self,
         alloc: Global,
-        inventory: &Inventory,
+        inventory: &'a Inventory,
         host: HostNo,
-    ) -> Result<SharedGroups, AllocError>
+    ) -> Result<HostGroups<'a>, AllocError>
         requires kept { AreKept inventory.now self.now }
         requires host { host.0 < length inventory.now.hosts }
         ensures value { IfOk result (λ of. of ≡ from_groups inventory.now host.0) }
@@ -294,22 +295,22 @@ impl GroupShares {
     }
 
     #[tactic(auto, using(crate::proofs::Keeping::lent_right))]
-    fn lent(
+    fn lent<'a>(
         &self,
         alloc: Global,
-        inventory: &Inventory,
+        inventory: &'a Inventory,
         host: HostNo,
-    ) -> Result<SharedGroups, AllocError>
+    ) -> Result<HostGroups<'a>, AllocError>
         requires kept { AreKept inventory.now self.now }
         requires host { host.0 < length inventory.now.hosts }
         ensures { IfOk result (λ of. of ≡ from_groups inventory.now host.0) }
     {
         match self.kept(host) {
-            Some(shared) => shared.share(),
-            None => {
-                let of = OfGroups::of(alloc, inventory, host)?;
-                SharedGroups::new(alloc, of)
+            Some(shared) => {
+                let of = shared.share()?;
+                Ok(HostGroups::shared(of))
             }
+            None => HostGroups::lent(alloc, inventory, host),
         }
     }
 }

@@ -1,4 +1,4 @@
-use Rattle.std.proofs.Common.{◌≡◌, ◌∙◌, IfOk, subst, sym}
+use Rattle.std.proofs.Common.{◌≡◌, IfOk, subst, sym}
 use Rattle.pb_items.specs.Items.{attempted_item}
 use Rattle.pb_sight.specs.Results.{layers_within, magic_of}
 use Rattle.pb_sight.proofs.Untold.{left_alone}
@@ -15,4 +15,4 @@ returns-then-not-tells c =
 
 pub returns : goal.returns
 returns c =
-    subst (λ start. IfOk c.attempted.result (λ back. back ≡ attempted_item start c.args.value.now c.args.attempt c.args.item)) (c.start.ensures ∙ c.of-sight.ensures) c.attempted.ensures
+    subst (λ start. IfOk c.attempted.result (λ back. back ≡ attempted_item start c.args.value.now c.args.attempt c.args.item)) c.of-sight.ensures c.attempted.ensures
