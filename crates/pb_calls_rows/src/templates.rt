@@ -25,6 +25,7 @@ fn rendered(alloc: Global, variables: &Dict, text: &str) -> Result<String, Fail>
         set_facts: &none,
         role_parameters: &none,
         extra_variables: &none,
+        plain: "",
     };
     let magic = Magic {
         host: &none,

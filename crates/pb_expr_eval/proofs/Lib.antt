@@ -1,3 +1,4 @@
 pub mod Weights
 pub mod Members
 pub mod Steps
+pub mod Unrendered

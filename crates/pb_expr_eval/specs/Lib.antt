@@ -1,4 +1,5 @@
 pub mod Value
+pub mod Operand
 pub mod Rendering
 pub mod Scoped
 pub mod Messages

@@ -3,7 +3,7 @@ ghost use Rattle.std.specs.Prelude.{◌≡◌, ◌≢◌, IfOk, IfErr, Ok, Err, 
 ghost use Rattle.pb_operators.specs.declared.fault.EvalFault.TheVariants as fault;
 ghost use Rattle.pb_value.specs.Reading.{map_ok};
 ghost use Rattle.pb_value.specs.ToJson.{text_of};
-ghost use Rattle.pb_expr_eval.specs.Value.{decides, apply, is_defined};
+ghost use Rattle.pb_expr_eval.specs.Value.{decides, apply};
 
 use pb_expr_syntax::tree::{Filter, Op};
 use pb_operators::convert::{length, to_bool, to_int};
@@ -36,18 +36,6 @@ pub(crate) fn apply(alloc: Global, filter: Filter, x: &Val, args: &[Val]) -> Res
         (Filter::Join, []) => join(alloc, x, &Val::text(Text::new(alloc))),
         (Filter::Join, [between]) => join(alloc, x, between),
         _ => Err(EvalFault::WrongKind),
-    }
-}
-
-/// Whether what was read is there, or isn't; another fault than that of a name stays.
-pub(crate) fn is_defined(outcome: Result<Val, EvalFault>, present: bool) -> Result<Val, EvalFault>
-    ensures value { IfOk result (λ v. is_defined outcome present ≡ Ok v) }
-    ensures fault { IfErr result (λ e. is_defined outcome present ≡ Err e) }
-{
-    match outcome {
-        Ok(_) => Ok(Val::boolean(present)),
-        Err(EvalFault::Undefined { name: _ }) => Ok(Val::boolean(!present)),
-        Err(fault) => Err(fault),
     }
 }
 

@@ -11,4 +11,5 @@
 pub mod eval;
 mod forms;
 pub mod messages;
+mod operand;
 mod reading;

@@ -5,19 +5,23 @@ ghost use Rattle.pb_value.specs.Datum.{items_of, members_of, named};
 ghost use Rattle.pb_value.specs.Reading.{and_then};
 ghost use Rattle.pb_expr_syntax.specs.Tree as tree;
 ghost use Rattle.pb_expr_syntax.specs.Tree.{trees_of};
+ghost use Rattle.pb_operators.specs.Operators.{member_of};
 ghost use Rattle.pb_operators.specs.declared.fault.EvalFault.TheVariants as fault;
 ghost use Rattle.pb_expr_eval.specs.Value.{value, values, each, defaulted, apply};
 ghost use Rattle.pb_template.specs.Computed.{template_of};
 ghost use Rattle.pb_expr_eval.specs.Rendering.{measured, templated, text_in, shown, render, rendered, rendered_items, rendered_members};
 ghost use Rattle.pb_expr_eval.specs.Scoped.{names_in};
+ghost use Rattle.pb_expr_eval.specs.Operand.{held};
 
-use crate::forms::{apply, decides, is_defined, text_of};
+use crate::forms::{apply, decides, text_of};
+use crate::operand::Operand;
 use pb_expr_syntax::fault::ExprFault;
 use pb_expr_syntax::tree::{Expr, Filter, Form, Op};
 use pb_layers::scope::{Scope, has_templates};
 use pb_operators::fault::EvalFault;
 use pb_operators::operators::{binary, finished, negate, text_within};
 use pb_operators::parts::{index, member, undefined};
+use pb_template::plain::is_plain;
 use pb_template::template::{Part, Template};
 use pb_value::text::Text;
 use pb_value::val::{Dict, Node, Val, ValList};
@@ -40,19 +44,19 @@ fn value(alloc: Global, scope: &Scope, levels: u32, expr: &Expr) -> Result<Val, 
         Form::Member(x, name) => membered(alloc, scope, levels, x, name.as_str()),
         Form::Index(x, y) => indexed(alloc, scope, levels, x, y),
         Form::Not(x) => {
-            let x = value(alloc, scope, levels, x)?;
-            Ok(Val::boolean(!x.truthy()))
+            let x = operand(alloc, scope, levels, x)?;
+            Ok(Val::boolean(!x.get().truthy()))
         }
         Form::Negate(x) => {
-            let x = value(alloc, scope, levels, x)?;
-            negate(&x)
+            let x = operand(alloc, scope, levels, x)?;
+            negate(x.get())
         }
         Form::Binary(op, x, y) => operated(alloc, scope, levels, *op, x, y),
         Form::Apply(Filter::Default, x, args) => {
             defaulted(alloc, scope, levels, x, args.as_slice())
         }
         Form::Apply(filter, x, args) => filtered(alloc, scope, levels, *filter, x, args.as_slice()),
-        Form::IsDefined(x, present) => is_defined(value(alloc, scope, levels, x), *present),
+        Form::IsDefined(x, present) => defined(alloc, scope, levels, x, *present),
     }
 }
 
@@ -70,31 +74,83 @@ fn operated(
     ensures value { IfOk result (λ v. value (names_in scope.now levels) (tree.Binary op x.now y.now) ≡ Ok v) }
     ensures fault { IfErr result (λ e. e ≢ fault.Memory → value (names_in scope.now levels) (tree.Binary op x.now y.now) ≡ Err e) }
 {
-    let x = value(alloc, scope, levels, x)?;
-    if decides(op, &x) {
-        return Ok(x);
+    let x = operand(alloc, scope, levels, x)?;
+    if decides(op, x.get()) {
+        return Ok(x.into_val(alloc)?);
     }
-    let y = value(alloc, scope, levels, y)?;
-    binary(alloc, op, &x, &y)
+    let y = operand(alloc, scope, levels, y)?;
+    binary(alloc, op, x.get(), y.get())
 }
 
-/// The value of an expression that is a name, where it is read as it is stored: then a part of it is read without a copy of the whole. `hostvars` has an
-/// entry for each host.
-#[tactic(auto, using(crate::proofs::Steps::stored_name))]
-fn lent<'a>(scope: &Scope<'a>, levels: u32, expr: &Expr) -> Option<&'a Val>
-    ensures { IfSome (option_copied result) (λ v. value (names_in scope.now levels) expr.now ≡ Ok v) }
+/// The value of a name, where it is read as it is stored: its layer has no templates, or there is none in the value.
+#[tactic(auto, using(crate::proofs::Steps::stored_name, crate::proofs::Unrendered::known_name, crate::proofs::Unrendered::plain_name))]
+fn stored<'a>(scope: &Scope<'a>, levels: u32, name: &str) -> Option<&'a Val>
+    ensures { IfSome (option_copied result) (λ v. names_in scope.now levels name.now ≡ Ok v) }
 {
-    let Form::Name(name) = &expr.form else {
-        return None;
-    };
     if levels == 0 {
         return None;
     }
-    let found = scope.find(name.as_str())?;
-    if has_templates(found.layer) {
-        return None;
+    let found = scope.find(name)?;
+    if !has_templates(found.layer) {
+        return Some(found.value);
     }
-    Some(found.value)
+    if scope.knows_plain(name) {
+        return Some(found.value);
+    }
+    if is_plain(found.value) {
+        return Some(found.value);
+    }
+    None
+}
+
+/// The member of that name, where there is one.
+#[tactic(auto, using(crate::proofs::Steps::member_there))]
+fn part<'a>(x: &'a Val, name: &str) -> Option<&'a Val>
+    ensures { IfSome (option_copied result) (λ v. member_of x.now name.now ≡ Ok v) }
+{
+    let Node::Dict(dict) = &x.node else {
+        return None;
+    };
+    let part = dict.get(name)?;
+    Some(part)
+}
+
+/// The value of a name that is read as it is stored, or of a member of it: these are read without a copy of the whole. `hostvars` has an entry for
+/// each host. What is there is also what `default` gives.
+#[tactic(auto, using(crate::proofs::Steps::member_lent, crate::proofs::Steps::default_lent))]
+fn lent<'a>(scope: &Scope<'a>, levels: u32, expr: &Expr) -> Option<&'a Val>
+    ensures { IfSome (option_copied result) (λ v. value (names_in scope.now levels) expr.now ≡ Ok v) }
+{
+    match &expr.form {
+        Form::Name(name) => stored(scope, levels, name.as_str()),
+        Form::Member(x, name) => {
+            let part = part(lent(scope, levels, x)?, name.as_str())?;
+            Some(part)
+        }
+        Form::Apply(Filter::Default, x, args) if args.len() == 1 => {
+            let value = lent(scope, levels, x)?;
+            Some(value)
+        }
+        _ => None,
+    }
+}
+
+/// An operand, which is lent where it can be.
+#[cycle(reading)]
+#[inline(never)]
+fn operand<'a>(
+    alloc: Global,
+    scope: &Scope<'a>,
+    levels: u32,
+    expr: &Expr,
+) -> Result<Operand<'a>, EvalFault>
+    ensures value { IfOk result (λ x. value (names_in scope.now levels) expr.now ≡ Ok (held x)) }
+    ensures fault { IfErr result (λ e. e ≢ fault.Memory → value (names_in scope.now levels) expr.now ≡ Err e) }
+{
+    match lent(scope, levels, expr) {
+        Some(value) => Ok(Operand::Lent(value)),
+        None => Ok(Operand::Made(value(alloc, scope, levels, expr)?)),
+    }
 }
 
 /// The member of that name.
@@ -110,11 +166,8 @@ fn membered(
     ensures value { IfOk result (λ v. value (names_in scope.now levels) (tree.Member x.now name.now) ≡ Ok v) }
     ensures fault { IfErr result (λ e. e ≢ fault.Memory → value (names_in scope.now levels) (tree.Member x.now name.now) ≡ Err e) }
 {
-    if let Some(x) = lent(scope, levels, x) {
-        return member(alloc, x, name);
-    }
-    let x = value(alloc, scope, levels, x)?;
-    member(alloc, &x, name)
+    let x = operand(alloc, scope, levels, x)?;
+    member(alloc, x.get(), name)
 }
 
 /// The member under a key that is read.
@@ -124,13 +177,9 @@ fn indexed(alloc: Global, scope: &Scope, levels: u32, x: &Expr, y: &Expr) -> Res
     ensures value { IfOk result (λ v. value (names_in scope.now levels) (tree.Index x.now y.now) ≡ Ok v) }
     ensures fault { IfErr result (λ e. e ≢ fault.Memory → value (names_in scope.now levels) (tree.Index x.now y.now) ≡ Err e) }
 {
-    if let Some(x) = lent(scope, levels, x) {
-        let y = value(alloc, scope, levels, y)?;
-        return index(alloc, x, &y);
-    }
-    let x = value(alloc, scope, levels, x)?;
-    let y = value(alloc, scope, levels, y)?;
-    index(alloc, &x, &y)
+    let x = operand(alloc, scope, levels, x)?;
+    let y = operand(alloc, scope, levels, y)?;
+    index(alloc, x.get(), y.get())
 }
 
 /// A filter but `default`.
@@ -147,9 +196,9 @@ fn filtered(
     ensures value { IfOk result (λ v. and_then (value (names_in scope.now levels) x.now) (λ a. and_then (values (names_in scope.now levels) (trees_of args.now)) (λ bs. apply filter a bs)) ≡ Ok v) }
     ensures fault { IfErr result (λ e. e ≢ fault.Memory → and_then (value (names_in scope.now levels) x.now) (λ a. and_then (values (names_in scope.now levels) (trees_of args.now)) (λ bs. apply filter a bs)) ≡ Err e) }
 {
-    let x = value(alloc, scope, levels, x)?;
+    let x = operand(alloc, scope, levels, x)?;
     let args = values(alloc, scope, levels, args)?;
-    apply(alloc, filter, &x, args.as_slice())
+    apply(alloc, filter, x.get(), args.as_slice())
 }
 
 /// The values of expressions, from the first on.
@@ -201,6 +250,26 @@ fn defaulted(
             }
         },
         [_, _, _, ..] => Err(EvalFault::WrongKind),
+    }
+}
+
+/// Whether what is read is there, or isn't; another fault than that of a name stays.
+#[cycle(reading)]
+#[inline(never)]
+fn defined(
+    alloc: Global,
+    scope: &Scope,
+    levels: u32,
+    x: &Expr,
+    present: bool,
+) -> Result<Val, EvalFault>
+    ensures value { IfOk result (λ v. value (names_in scope.now levels) (tree.IsDefined x.now present) ≡ Ok v) }
+    ensures fault { IfErr result (λ e. e ≢ fault.Memory → value (names_in scope.now levels) (tree.IsDefined x.now present) ≡ Err e) }
+{
+    match operand(alloc, scope, levels, x) {
+        Ok(_) => Ok(Val::boolean(present)),
+        Err(EvalFault::Undefined { name: _ }) => Ok(Val::boolean(!present)),
+        Err(fault) => Err(fault),
     }
 }
 

@@ -27,6 +27,7 @@ fn fault_of(alloc: Global, variables: &Dict, expr: &Expr) -> Option<EvalFault> {
         set_facts: &none,
         role_parameters: &none,
         extra_variables: &none,
+        plain: "",
     };
     let magic = Magic {
         host: &none,

@@ -6,7 +6,7 @@ ghost use Rattle.pb_items.specs.Loops.{max_items, values_of};
 ghost use Rattle.pb_items.specs.declared.fault.ItemFault.TheVariants as item;
 
 use crate::fault::ItemFault;
-use crate::loops::{loop_variable, values_of};
+use crate::loops::{loop_variable, name_over, values_of};
 use crate::planning::{done_by, unread};
 use crate::results::skipped_result;
 use crate::start::Start;
@@ -199,6 +199,24 @@ fn only(alloc: Global, item: Item) -> Result<Items<Item>, AllocError>
     Ok(items)
 }
 
+/// The items of a loop over these values, in layers that are marked with the name that its list is found under: a key that names it doesn't look
+/// through its texts for each item.
+fn items_over(
+    alloc: Global,
+    start: &Start,
+    looped: &Loop,
+    values: ValList,
+) -> Result<Items<Item>, AllocError>
+    ensures { IfOk result (λ items. items ≡ map (λ value. item_in start.now (Some value)) values) }
+{
+    let Some(name) = name_over(alloc, &looped.over)? else {
+        return item_of_each(alloc, start, values);
+    };
+    let layers = start.layers.marking(alloc, name.as_str());
+    let marked = start.over(&layers);
+    item_of_each(alloc, &marked, values)
+}
+
 /// The items of a loop.
 fn items_in_loop(alloc: Global, start: &Start, looped: &Loop) -> Result<Items<Item>, AllocError>
     ensures { IfOk result (λ items. items ≡ looped_items (item_in start.now) (values_of (seen_by start.now []) looped.now.over)) }
@@ -206,7 +224,7 @@ fn items_in_loop(alloc: Global, start: &Start, looped: &Loop) -> Result<Items<It
     let none = Dict::new(alloc);
     let scope = Scope::new(start.layers, start.magic, &none);
     match values_of(alloc, &looped.over, &scope) {
-        Ok(values) => item_of_each(alloc, start, values),
+        Ok(values) => items_over(alloc, start, looped, values),
         Err(fault) => only(alloc, faulty_item(alloc, None, &fault)?),
     }
 }

@@ -1,4 +1,6 @@
 //! What items are read from.
+ghost use Rattle.std.specs.Prelude.{◌≡◌};
+
 use pb_expr_syntax::tree::Expr;
 use pb_layers::layers::{Layers, Magic};
 use pb_play::task::Task;
@@ -40,4 +42,21 @@ impl<'a> Model for Start<'a> {
       layers = s.layers.now;
       magic = s.magic.now;
     } };
+}
+
+impl<'a> Start<'a> {
+    /// The same over layers that are the same.
+    pub(crate) fn over(&'a self, layers: &'a Layers<'a>) -> Start<'a>
+        requires { layers.now ≡ self.now.layers }
+        ensures { result ≡ self.now }
+    {
+        Start {
+            task: self.task,
+            conditions: self.conditions,
+            delegate_to: self.delegate_to,
+            has_facts_program: self.has_facts_program,
+            layers,
+            magic: self.magic,
+        }
+    }
 }

@@ -1,3 +1,4 @@
 pub mod Joined
 pub mod LentMaps
 pub mod Seen
+pub mod Marks

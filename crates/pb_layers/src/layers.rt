@@ -31,6 +31,8 @@ pub struct Layers<'a> {
     pub role_parameters: &'a Dict,
     /// Layer 11: extra variables of the command line.
     pub extra_variables: &'a Dict,
+    /// A name that is marked, since its value in these layers has no expression in its texts; empty where none is.
+    pub plain: &'a str,
 }
 
 impl<'a> Model for Layers<'a> {
@@ -47,6 +49,13 @@ impl<'a> Model for Layers<'a> {
     ghost view = { λ l. scope.layers l.role_defaults.now (merged l.group_variables) l.host_variables.now l.host_facts.now
         l.play_variables.now l.role_variables.now l.block_variables.now l.task_variables.now l.set_facts.now
         l.role_parameters.now l.extra_variables.now };
+
+    ghost use Rattle.std.specs.Prelude.{◌≡◌, true};
+    ghost use Rattle.pb_layers.specs.Marked as marked;
+
+    ghost invariant = { λ l. marked.is_mark (scope.layers l.role_defaults.now (merged l.group_variables) l.host_variables.now l.host_facts.now
+        l.play_variables.now l.role_variables.now l.block_variables.now l.task_variables.now l.set_facts.now
+        l.role_parameters.now l.extra_variables.now) l.plain.now ≡ true };
 }
 
 /// The magic variables, which the engine gives itself: where two maps have a name, the earlier one

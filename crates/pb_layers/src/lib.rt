@@ -6,9 +6,11 @@
 //! variables in four maps, which contracts see as one. Contracts see a scope as the list of its
 //! maps, the highest first. `Scope::value` gives the value of the highest map that has the name,
 //! whole and as it is stored, `Scope::layer_of` the number of that map, from 1 to 13; and
-//! `has_templates` says in which of them texts are templates.
+//! `has_templates` says in which of them texts are templates. `Layers::marking` marks a name whose value
+//! has no expression in its texts, and `Scope::knows_plain` tells that it is read as it is stored.
 #![tactic(auto)]
 
 pub mod layers;
 pub mod lent;
+mod marking;
 pub mod scope;

@@ -1,8 +1,9 @@
-ghost use Rattle.std.specs.Prelude.{◌≡◌, Some, drop};
+ghost use Rattle.std.specs.Prelude.{◌≡◌, ◌≤◌, true, IsTrue, Some, drop, length, map};
 ghost use Rattle.std.specs.Option.{option_copied};
 ghost use Rattle.pb_value.specs.Datum.{value_at};
 ghost use Rattle.pb_layers.specs.Scope.{scope, with_put, with_seen, found, value_of, layer_of, has_templates};
-ghost use Rattle.pb_layers.specs.Found.{found_in, seen_in};
+ghost use Rattle.pb_layers.specs.Found.{found_in, maps_in, seen_in};
+ghost use Rattle.pb_layers.specs.Marked.{is_read_as_stored};
 
 use crate::layers::{Layers, Magic};
 use pb_value::val::{Dict, Val};
@@ -107,6 +108,14 @@ impl<'a> Scope<'a> {
             Some(found) => Some(found.value),
             None => None,
         }
+    }
+
+    /// Whether the layers are marked with a name: its value is then read as it is stored, whichever
+    /// layer gives it.
+    pub fn knows_plain(&self, name: &str) -> bool
+        ensures { IsTrue result → is_read_as_stored (found name.now self.now) ≡ true }
+    {
+        self.layers.is_marked(name)
     }
 
     /// The number of the layer that gives the name its value.

@@ -85,6 +85,7 @@ impl<'a> Sight<'a> {
             set_facts: facts.set_layer(),
             role_parameters: &role.params,
             extra_variables: plan.extra(),
+            plain: "",
         };
         Sight {
             has_facts_program: plan.has_facts_program(),

@@ -125,7 +125,7 @@ pieces_past zero at bs = let e : at ≡ at + 0 = omega arith in ap (λ n. pieces
 pieces_past (suc k) at [] = refl
 pieces_past (suc k) at (b ∷ bs) = let e : at + 1 + k ≡ at + suc k = omega arith in pieces_past k (at + 1) bs ∙ ap (λ n. pieces_from 0 n (drop k bs)) e
 
-next_good : (at : ℕ) (rest : List ℕ) (f : Front) → 0 < length rest → front_at at rest ≡ Ok f → pieces_from 0 at rest ≡ before f.piece (pieces_from 0 (at + f.size) (drop f.size rest))
+pub next_good : (at : ℕ) (rest : List ℕ) (f : Front) → 0 < length rest → front_at at rest ≡ Ok f → pieces_from 0 at rest ≡ before f.piece (pieces_from 0 (at + f.size) (drop f.size rest))
 next_good at [] f lt h = absurd (omega arith)
 next_good at (b ∷ bs) f lt h =
     let some : 0 < f.size = front_some at (b ∷ bs) f lt h in

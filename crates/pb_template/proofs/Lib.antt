@@ -1,3 +1,4 @@
 pub mod Cutting
 pub mod Matching
 pub mod Computing
+pub mod Untouched

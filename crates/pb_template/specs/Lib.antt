@@ -1,4 +1,5 @@
 pub mod Pieces
 pub mod Parts
 pub mod Computed
+pub mod Plain
 pub mod Rows

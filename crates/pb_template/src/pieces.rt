@@ -101,7 +101,7 @@ fn rest_from(bytes: &[u8], at: usize) -> &[u8]
     &bytes[at..]
 }
 
-fn plain_size(bytes: &[u8]) -> usize
+pub(crate) fn plain_size(bytes: &[u8]) -> usize
     ensures { result ≡ plain_size bytes.now }
 {
     let mut n = 0;

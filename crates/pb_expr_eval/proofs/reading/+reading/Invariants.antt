@@ -16,13 +16,16 @@ abbrev pub decreases-value : goal.decreases-value
 decreases-value l = spent l.scope.now l.levels + 4 * nodes l.expr.now
 
 abbrev pub decreases-operated : goal.decreases-operated
-decreases-operated l = spent l.scope.now l.levels + (4 * (nodes l.x.now + nodes l.y.now) + 1)
+decreases-operated l = spent l.scope.now l.levels + (4 * (nodes l.x.now + nodes l.y.now) + 2)
+
+abbrev pub decreases-operand : goal.decreases-operand
+decreases-operand l = spent l.scope.now l.levels + (4 * nodes l.expr.now + 1)
 
 abbrev pub decreases-membered : goal.decreases-membered
-decreases-membered l = spent l.scope.now l.levels + (4 * nodes l.x.now + 1)
+decreases-membered l = spent l.scope.now l.levels + (4 * nodes l.x.now + 2)
 
 abbrev pub decreases-indexed : goal.decreases-indexed
-decreases-indexed l = spent l.scope.now l.levels + (4 * (nodes l.x.now + nodes l.y.now) + 1)
+decreases-indexed l = spent l.scope.now l.levels + (4 * (nodes l.x.now + nodes l.y.now) + 2)
 
 abbrev pub decreases-filtered : goal.decreases-filtered
 decreases-filtered l = spent l.scope.now l.levels + (4 * (nodes l.x.now + trees_nodes (trees_of l.args.now)) + 2)
@@ -32,6 +35,9 @@ decreases-values l = spent l.scope.now l.levels + (4 * trees_nodes (trees_of l.i
 
 abbrev pub decreases-defaulted : goal.decreases-defaulted
 decreases-defaulted l = spent l.scope.now l.levels + (4 * (nodes l.x.now + trees_nodes (trees_of l.args.now)) + 2)
+
+abbrev pub decreases-defined : goal.decreases-defined
+decreases-defined l = spent l.scope.now l.levels + (4 * nodes l.x.now + 2)
 
 abbrev pub decreases-read : goal.decreases-read
 decreases-read l = spent l.scope.now l.levels + 1

@@ -1,0 +1,11 @@
+use Rattle.std.proofs.Common.{◌+◌, ◌*◌, ◌<◌, arith}
+use Rattle.pb_value.specs.Datum.{nodes}
+use Rattle.pb_value.proofs.Falls.{entry_falls}
+use Rattle.pb_template.proofs.plain.+plain.Goals as goal
+
+pub members_plain-is_plain-requires : goal.members_plain-is_plain-requires
+members_plain-is_plain-requires t c =
+    let l = c.loop-key in
+    let w = entry_falls c.args.dict.now l._key-iterator c.next.new.self (c.in-Some._key.now, c.in-Some.value.now) l.invariant.1 c.in-Some.ensures.steps in
+    let h : 2 * (nodes c.in-Some.value.now + 1) + 0 < t = omega (arith, w) in
+    (h, tt)
