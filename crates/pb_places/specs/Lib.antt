@@ -1,4 +1,5 @@
 pub mod Place
+pub mod Hostvars
 pub mod Within
 pub mod Held
 pub mod Caught

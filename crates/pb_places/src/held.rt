@@ -1,4 +1,5 @@
 //! The task of a place, as it is kept.
+use crate::searched::SearchedTask;
 use pb_play::task::Task;
 use std::sync::Arc;
 
@@ -6,5 +7,5 @@ use std::sync::Arc;
 #[derive(Drop)]
 pub(crate) enum Held {
     Own(Task),
-    Shared(Arc<Task>),
+    Shared(Arc<SearchedTask>),
 }

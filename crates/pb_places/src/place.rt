@@ -1,14 +1,18 @@
 //! What stands at a place of a play's tree.
 
-ghost use Rattle.std.specs.Prelude.{◌≡◌, [], IfOk, option_copied};
+ghost use Rattle.std.specs.Prelude.{◌≡◌, [], true, IfOk, option_copied};
+ghost use Rattle.pb_mentions.specs.Hostvars.{IsFree};
+ghost use Rattle.pb_places.specs.Hostvars.{IsFreeRole, IsFreePlace};
 ghost use Rattle.pb_places.specs.Place.{place_of, no_role, delegate_for};
 ghost use Rattle.std.specs.Arc.{arc_value};
 ghost use Rattle.pb_places.specs.Held.{task_held};
 ghost use Rattle.pb_places.specs.Within.{placed};
 
 use crate::held::Held;
+use crate::searched::SearchedTask;
 use crate::surroundings::{Role, Surroundings};
 use pb_expr_syntax::tree::Expr;
+use pb_mentions::is_free_of_hostvars;
 use pb_play::task::Task;
 use pb_value::text::Text;
 use pb_value::val::Dict;
@@ -75,7 +79,7 @@ impl Place {
     /// The place of a task that several places share, as the places of a handler do, in its surroundings. The only error is want of memory.
     pub fn sharing(
         alloc: Global,
-        task: Arc<Task>,
+        task: Arc<SearchedTask>,
         surroundings: Surroundings,
     ) -> Result<Place, AllocError>
         ensures { IfOk result (λ place. place ≡ placed (arc_value task) surroundings) }
@@ -114,7 +118,7 @@ impl Place {
     {
         match &self.surroundings {
             Some(given) => match &given.block_vars {
-                Some(vars) => vars.as_ref(),
+                Some(vars) => vars.as_ref().vars(),
                 None => none,
             },
             None => none,
@@ -128,7 +132,7 @@ impl Place {
     {
         match &self.surroundings {
             Some(given) => match &given.role {
-                Some(role) => role.as_ref(),
+                Some(role) => role.as_ref().role(),
                 None => none,
             },
             None => none,
@@ -230,6 +234,51 @@ impl Place {
             None => None,
         }
     }
+
+    /// Whether `hostvars` stands in none of the variables that the task has here: its own, those of its role, and those of the blocks round it. Its own
+    /// are searched where the place shares them with none; what places share was searched when it was made.
+    #[tactic(auto, using(crate::proofs::Free::free_place))]
+    pub fn is_free_of_hostvars(&self) -> bool
+        ensures { result ≡ true → IsFreePlace self.now }
+    {
+        self.has_free_role() && self.has_free_blocks() && self.has_free_task()
+    }
+
+    /// Whether it stands in no variable of the role.
+    #[tactic(auto, using(crate::proofs::Free::free_same, crate::proofs::Free::free_none))]
+    fn has_free_role(&self) -> bool
+        ensures { result ≡ true → IsFreeRole self.now.role }
+    {
+        match &self.surroundings {
+            Some(given) => match &given.role {
+                Some(role) => role.as_ref().is_free_of_hostvars(),
+                None => true,
+            },
+            None => true,
+        }
+    }
+
+    /// Whether it stands in none of the blocks.
+    #[tactic(auto, using(crate::proofs::Free::free_empty))]
+    fn has_free_blocks(&self) -> bool
+        ensures { result ≡ true → IsFree self.now.block_vars }
+    {
+        match &self.surroundings {
+            Some(given) => match &given.block_vars {
+                Some(vars) => vars.as_ref().is_free_of_hostvars(),
+                None => true,
+            },
+            None => true,
+        }
+    }
+
+    /// Whether it stands in none of the task's own.
+    #[tactic(auto, using(crate::proofs::Free::free_own))]
+    fn has_free_task(&self) -> bool
+        ensures { result ≡ true → IsFree self.now.task.vars }
+    {
+        is_task_free(&self.task)
+    }
 }
 
 /// The host that a task says runs it in place of the host itself.
@@ -249,6 +298,16 @@ fn task_of(held: &Held) -> &Task
 {
     match held {
         Held::Own(task) => task,
-        Held::Shared(task) => task.as_ref(),
+        Held::Shared(task) => task.as_ref().task(),
+    }
+}
+
+/// Whether `hostvars` stands in no variable of the task that a place holds.
+fn is_task_free(held: &Held) -> bool
+    ensures { result ≡ true → IsFree (task_held held.now).vars }
+{
+    match held {
+        Held::Own(task) => is_free_of_hostvars(&task.vars),
+        Held::Shared(task) => task.as_ref().is_free_of_hostvars(),
     }
 }

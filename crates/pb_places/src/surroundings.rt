@@ -3,6 +3,7 @@
 ghost use Rattle.std.specs.Prelude.{◌≡◌};
 ghost use Rattle.pb_places.specs.Place.{no_role};
 
+use crate::searched::{SearchedRole, SearchedVars};
 use pb_expr_syntax::tree::Expr;
 use pb_value::items::Items;
 use pb_value::text::Text;
@@ -53,9 +54,9 @@ pub struct Surroundings {
     /// the task's own are all; where it has none itself, all such places of a block share them.
     pub conditions: Option<Arc<Items<Expr>>>,
     /// The variables of the blocks, the inner over the outer, which all places of the innermost block share.
-    pub block_vars: Option<Arc<Dict>>,
+    pub block_vars: Option<Arc<SearchedVars>>,
     /// The variables of its role, which all places of the role share.
-    pub role: Option<Arc<Role>>,
+    pub role: Option<Arc<SearchedRole>>,
     pub ignore_errors: bool,
     pub any_errors_fatal: bool,
     /// How many hosts may run the task at once; 0 is any number.

@@ -10,7 +10,7 @@ use Rattle.pb_inventory.specs.InventoryOf.{InventoryOf}
 use Rattle.pb_inventory.specs.Vars.{vars_from_groups, vars_of_group, put_vars, put_groups, groups_of_host}
 use Rattle.pb_inventory.specs.declared.vars.Variable.{Variable}
 use Rattle.pb_layers.specs.Scope.{Map}
-use Rattle.pb_reach.specs.Mentions.{mentions, members_mention}
+use Rattle.pb_mentions.specs.Mentions.{mentions, members_mention}
 use Rattle.pb_plan.specs.Hostvars.{IsFree, IsFreeGroup, AreFreeGroups, AreMarked}
 
 abbrev word : List ℕ

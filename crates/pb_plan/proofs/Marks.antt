@@ -5,23 +5,14 @@ use Rattle.pb_inventory.specs.InventoryOf.{InventoryOf}
 use Rattle.pb_inventory.specs.Vars.{vars_from_groups, vars_of_group}
 use Rattle.pb_layers.specs.Scope.{Map}
 use Rattle.pb_places.specs.Place.{PlaceOf}
-use Rattle.pb_places.specs.declared.surroundings.Role.{Role}
-use Rattle.pb_play.specs.declared.task.Task.{Task}
 use Rattle.pb_variables.specs.declared.shared.OfGroups.{OfGroups}
 use Rattle.pb_variables.specs.Shared.{AreKept}
-use Rattle.pb_plan.specs.Hostvars.{IsFree, IsFreeRole, IsFreePlace, IsFreeAt, AreFreePlaces, IsFreeGroup, AreFreeGroups, IsFreeHost, AreFreeHosts}
+use Rattle.pb_plan.specs.Hostvars.{IsFree, IsFreePlace, IsFreeAt, AreFreePlaces, IsFreeGroup, AreFreeGroups, IsFreeHost, AreFreeHosts}
 
--- a role and a place, by their parts, and what a host has from its groups
-pub free_role : (role : Role) → IsFree role.defaults → IsFree role.vars → IsFree role.params → IsFreeRole role
-free_role role d v p = record { defaults = d; vars = v; params = p }
-
-pub free_place : (place : PlaceOf) (task : Task) (role : Role) (blocks : Map) → task ≡ place.task → role ≡ place.role → IsFreeRole role → blocks ≡ place.block_vars → IsFree blocks → IsFree task.vars → IsFreePlace place
-free_place place task role blocks t r role_free b blocks_free own =
-    record { role = rw (sym r) role_free; blocks = rw (sym b) blocks_free; own = rw (sym t) own }
-
-pub free_merged : (inventory : InventoryOf) (host : ℕ) (all : List (Option OfGroups)) (shared : OfGroups) (groups : Map) → AreKept inventory all → slice_get all host ≡ Some (Some shared) →
-    groups ≡ shared.variables → IsFree groups → IsFree (vars_from_groups inventory host)
-free_merged inventory host all shared groups kept at g free = subst IsFree (g ∙ ap (λ (of : OfGroups). of.variables) (kept host (Some shared) at shared refl)) free
+-- what a host has from its groups
+pub free_merged : (inventory : InventoryOf) (host : ℕ) (all : List (Option OfGroups)) (shared : OfGroups) → AreKept inventory all → slice_get all host ≡ Some (Some shared) →
+    IsFree shared.variables → IsFree (vars_from_groups inventory host)
+free_merged inventory host all shared kept at free = subst IsFree (ap (λ (of : OfGroups). of.variables) (kept host (Some shared) at shared refl)) free
 
 some_is : {X : Type 0} (x y : X) → Some x ≡ Some y → y ≡ x
 some_is {X} x y e = sym (ap (λ (o : Option X). unwrap_or o x) e)

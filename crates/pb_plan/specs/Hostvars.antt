@@ -2,31 +2,16 @@
 -- part in that, since its texts are no templates (Ansible's documentation, "Special variables").
 use Rattle.std.specs.Prelude.{◌≡◌, ℕ, Bool, true, false, List, All, slice_get, Some, IfSome, codes}
 use Rattle.pb_ids.specs.declared.numbers.GroupNo.{GroupNo}
-use Rattle.pb_value.specs.Datum.{members_of}
 use Rattle.pb_inventory.specs.InventoryOf.{InventoryOf}
 use Rattle.pb_inventory.specs.Vars.{vars_from_groups, vars_of_group, vars_of_host}
 use Rattle.pb_inventory.specs.declared.vars.Variable.{Variable}
 use Rattle.pb_layers.specs.Scope.{Map}
 use Rattle.pb_places.specs.Place.{PlaceOf}
-use Rattle.pb_places.specs.declared.surroundings.Role.{Role}
-use Rattle.pb_reach.specs.Mentions.{mentions, members_mention}
+use Rattle.pb_mentions.specs.Mentions.{mentions}
+pub use Rattle.pb_mentions.specs.Hostvars.{IsFree}
+pub use Rattle.pb_places.specs.Hostvars.{IsFreeRole, IsFreePlace}
 
--- it stands in no text of these variables
-abbrev pub IsFree : Map → Type 0
-IsFree vars = members_mention (codes "hostvars") (members_of vars) ≡ false
-
-pub record IsFreeRole (role : Role) : Type 0 where
-  pub defaults : IsFree role.defaults
-  pub vars : IsFree role.vars
-  pub params : IsFree role.params
-
--- in none that a task has at its place: its own, those of its role, and those of the blocks round it
-pub record IsFreePlace (place : PlaceOf) : Type 0 where
-  pub role : IsFreeRole place.role
-  pub blocks : IsFree place.block_vars
-  pub own : IsFree place.task.vars
-
--- nor in one of its play
+-- in no variable that a task has at its place, nor in one of its play
 abbrev pub IsFreeAt : Map → List PlaceOf → ℕ → Type 0
 IsFreeAt vars places p = IsFree vars × IfSome (slice_get places p) IsFreePlace
 

@@ -1,9 +1,8 @@
 -- Words among bytes.
-use Rattle.std.proofs.Common.{◌≡◌, ℕ, zero, suc, ◌+◌, ◌<◌, Bool, true, false, ◌==◌, ◌&&◌, ◌||◌, List, [], ◌∷◌, length, take, drop, refl, sym, ap, subst, ◌∙◌, eq-eqb, arith}
+use Rattle.std.proofs.Common.{◌≡◌, ℕ, zero, suc, Bool, true, false, ◌==◌, ◌&&◌, List, [], ◌∷◌, take, drop, refl, sym, subst, ◌∙◌, eq-eqb}
 use Rattle.std.specs.Str.{bytes_eq}
-use Rattle.std.proofs.Math.Seq.{drop-cons}
 use Rattle.std.proofs.lemmas.Slice.Eq.{bytes_eq-Decides}
-use Rattle.pb_reach.specs.Mentions.{begins, has_inside}
+use Rattle.pb_mentions.specs.Mentions.{begins, has_inside}
 use Rattle.pb_reach.proofs.Tests.{neither, joined}
 
 and_later : (t x y : Bool) → (x ≡ false → y ≡ false) → (t && x) ≡ false → (t && y) ≡ false
@@ -50,15 +49,3 @@ other_word word n b bs e = by_test (bytes_eq (take n (b ∷ bs)) word) refl
         let same : take n (b ∷ bs) ≡ word = (bytes_eq-Decides (take n (b ∷ bs)) word).0 is in
         let begun : begins word (b ∷ bs) ≡ true = subst (λ w. begins w (b ∷ bs) ≡ true) same (begins_own n (b ∷ bs)) in
         sym begun ∙ (neither (begins word (b ∷ bs)) (has_inside word bs) e).0
-
--- the search over bytes, one byte further
-pub inside_next : (word bs : List ℕ) (n : ℕ) → n < length bs → begins word (drop n bs) ≡ false → has_inside word (drop n bs) ≡ has_inside word (drop (n + 1) bs)
-inside_next word bs n lt e =
-    let cut = drop-cons bs n 0 lt in
-    let up : suc n ≡ n + 1 = omega arith in
-    ap (has_inside word) cut ∙ ap (λ t. t || has_inside word (drop (suc n) bs)) (ap (begins word) (sym cut) ∙ e) ∙ ap (λ k. has_inside word (drop k bs)) up
-
-pub inside_here : (word bs : List ℕ) (n : ℕ) → n < length bs → begins word (drop n bs) ≡ true → has_inside word (drop n bs) ≡ true
-inside_here word bs n lt e =
-    let cut = drop-cons bs n 0 lt in
-    ap (has_inside word) cut ∙ ap (λ t. t || has_inside word (drop (suc n) bs)) (ap (begins word) (sym cut) ∙ e)

@@ -33,7 +33,7 @@ use Rattle.pb_items.specs.Loops.{loop_variable, values_of}
 use Rattle.pb_items.specs.Planning.{done_by}
 use Rattle.pb_items.specs.declared.fault.ItemFault.{ItemFault}
 use Rattle.pb_reach.specs.Apart.{SameBut, AreApart}
-use Rattle.pb_reach.specs.Mentions.{mentions, items_mention, members_mention}
+use Rattle.pb_mentions.specs.Mentions.{mentions, items_mention, members_mention}
 use Rattle.pb_reach.specs.Named.{in_tree, in_trees}
 use Rattle.pb_reach.specs.Reach.{words_mention, module_mentions, loop_mentions, conditions_name, told_names, task_mentions, delegate_mentions, layers_mention, may_read, start_from, with_magic, start_reads}
 use Rattle.pb_reach.specs.Told.{until_of}

@@ -21,7 +21,7 @@ use Rattle.pb_expr_syntax.specs.Tokens.{tokens_of}
 use Rattle.pb_expr_syntax.specs.Tree as tree
 use Rattle.pb_expr_syntax.specs.Tree.{Tree, trees_of}
 use Rattle.pb_reach.specs.Named.{in_tree, in_trees}
-use Rattle.pb_reach.specs.Mentions.{has_inside}
+use Rattle.pb_mentions.specs.Mentions.{has_inside}
 use Rattle.pb_reach.proofs.Tests.{neither, joined, swapped, none_behind}
 use Rattle.pb_reach.proofs.Tokens.{in_token, tokens_unnamed}
 

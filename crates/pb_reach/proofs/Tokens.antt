@@ -16,7 +16,7 @@ use Rattle.pb_expr_syntax.specs.declared.token.Token.{Token}
 use Rattle.pb_expr_syntax.specs.Grammar.{leaf}
 use Rattle.pb_expr_syntax.specs.Tokens.{word_kind, lexeme, number_after, text_from, quoted, begins_equal, sign, sign_at, class_of, lexeme_by, lexeme_at, begins_space, front_at, tokens_from, tokens_of}
 use Rattle.pb_reach.specs.Named.{in_tree}
-use Rattle.pb_reach.specs.Mentions.{begins, has_inside}
+use Rattle.pb_mentions.specs.Mentions.{begins, has_inside}
 use Rattle.pb_reach.proofs.Inside.{other_word}
 use Rattle.pb_reach.proofs.Tests.{neither, joined, none_joined}
 

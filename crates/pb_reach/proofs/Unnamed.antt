@@ -17,7 +17,7 @@ use Rattle.pb_template.specs.declared.pieces.State.TheVariants.{Outside}
 use Rattle.pb_template.specs.declared.template.Part.{Part}
 use Rattle.pb_template.specs.declared.template.Part.TheVariants as part
 use Rattle.pb_reach.specs.Named.{in_tree, in_part, in_text, in_value, in_items, in_members}
-use Rattle.pb_reach.specs.Mentions.{begins, has_inside, mentions, items_mention, members_mention}
+use Rattle.pb_mentions.specs.Mentions.{begins, has_inside, mentions, items_mention, members_mention}
 use Rattle.pb_reach.proofs.Inside.{inside_take, inside_drop}
 use Rattle.pb_reach.proofs.Parsed.{tree_unnamed}
 use Rattle.pb_reach.proofs.Tests.{neither, joined}

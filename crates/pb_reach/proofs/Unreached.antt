@@ -16,7 +16,7 @@ use Rattle.pb_conditions.specs.Conditions.{holds}
 use Rattle.pb_conditions.specs.Settled.{seen_in, sees}
 use Rattle.pb_reach.specs.Apart.{SameBut}
 use Rattle.pb_reach.specs.Named.{in_tree, in_trees}
-use Rattle.pb_reach.specs.Mentions.{mentions}
+use Rattle.pb_mentions.specs.Mentions.{mentions}
 use Rattle.pb_reach.specs.Reached.{some_name, some_name_in, leads_on, maps_lead, layers_lead}
 use Rattle.pb_reach.proofs.Still.{rendered_still}
 use Rattle.pb_reach.proofs.Stored.{above, ninth, eleven_of}

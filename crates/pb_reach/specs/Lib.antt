@@ -1,5 +1,4 @@
 pub mod Named
-pub mod Mentions
 pub mod Apart
 pub mod Told
 pub mod Reached

@@ -14,7 +14,7 @@ use Rattle.pb_play.specs.declared.modules.Module.TheVariants.{Assert, Command, D
 use Rattle.pb_play.specs.declared.task.Task.{Task}
 use Rattle.pb_items.specs.Items.{StartOf}
 use Rattle.pb_reach.specs.Named.{in_tree, in_trees}
-use Rattle.pb_reach.specs.Mentions.{has_inside, mentions, items_mention, members_mention}
+use Rattle.pb_mentions.specs.Mentions.{has_inside, mentions, items_mention, members_mention}
 use Rattle.pb_reach.specs.Reached.{some_name_in, layers_lead}
 use Rattle.pb_reach.specs.Told.{until_of}
 

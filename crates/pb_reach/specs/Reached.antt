@@ -5,7 +5,7 @@ use Rattle.std.specs.Option.{option_map_or}
 use Rattle.pb_value.specs.Datum.{value_at}
 use Rattle.pb_expr_syntax.specs.Tree.{Tree, Int, Text, Name, Truth, Null, ListOf, Member, Index, Not, Negate, Binary, Apply, IsDefined, Trees, no_trees, tree_and}
 use Rattle.pb_layers.specs.Scope.{Map, has_templates}
-use Rattle.pb_reach.specs.Mentions.{mentions}
+use Rattle.pb_mentions.specs.Mentions.{mentions}
 
 -- one of its names passes a test
 abbrev mutual

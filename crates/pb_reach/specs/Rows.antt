@@ -1,32 +1,14 @@
 -- Worked examples: each is proved by computing both sides.
 use Rattle.std.specs.Prelude.{◌≡◌, ℕ, true, false, List, [], ◌∷◌, Option, Some, None, codes, refl}
-use Rattle.pb_value.specs.Datum.{text, list, dict, items_of, members_of}
+use Rattle.pb_value.specs.Datum.{text, list, items_of}
 use Rattle.pb_expr_syntax.specs.Tree.{Tree, Name, Member, Text}
 use Rattle.pb_layers.specs.Scope.{layers}
 use Rattle.pb_play.specs.declared.modules.Module.TheVariants.{Debug}
 use Rattle.pb_play.specs.declared.task.Task.{Task}
 use Rattle.pb_play.specs.Tasks.{plain_task}
-use Rattle.pb_reach.specs.Mentions.{has_inside, mentions}
 use Rattle.pb_reach.specs.Named.{in_tree}
 use Rattle.pb_reach.specs.Reach.{own_texts_mention, may_read, may_read_of_result}
 use Rattle.pb_reach.specs.Told.{tells}
-
--- the bytes are searched, whatever they mean
-in_front : has_inside (codes "groups") (codes "groups.web") ≡ true
-in_front = refl
-
-in_a_longer_name : has_inside (codes "groups") (codes "{{ my_groups }}") ≡ true
-in_a_longer_name = refl
-
-begun_alone : has_inside (codes "groups") (codes "{{ group }}") ≡ false
-begun_alone = refl
-
--- of a dict its values, and not its names
-in_a_list : mentions (codes "x") (list (items_of (text (codes "a") ∷ text (codes "{{ x }}") ∷ []))) ≡ true
-in_a_list = refl
-
-under_its_own_name : mentions (codes "x") (dict (members_of ((codes "x", text (codes "a")) ∷ []))) ≡ false
-under_its_own_name = refl
 
 -- `x.hostvars` and `'hostvars'` don't name it
 named : in_tree (codes "hostvars") (Member (Name (codes "hostvars")) (codes "a")) ≡ true

@@ -7,14 +7,11 @@
 //! among those variables in these too, and in nothing else: where it answers false, what stands under the name has no part in what the task says of a
 //! result (`specs/Reach.antt`). `tells` answers whether the task has one of the two, or may be tried again: any other task leaves each result as it
 //! came back (`specs/Told.antt`), and reads nothing. Both may answer true of a name that is never looked up: texts are searched for the bytes of the
-//! name, and aren't read as templates. They take no memory. Where the name is known to stand in no variable that a task sees, `may_read_by_itself` and
-//! `may_read_of_result_by_itself` ask the task alone; `values` tells that of variables before a run, and `within::may_mention` as far as there is room for
-//! the search.
+//! name (`pb_mentions`), and aren't read as templates. They take no memory. Where the name is known to stand in no variable that a task sees,
+//! `may_read_by_itself` and `may_read_of_result_by_itself` ask the task alone.
 #![tactic(auto)]
 
 mod exprs;
+mod merged;
 pub mod reach;
-mod texts;
-pub mod values;
 mod variables;
-pub mod within;

@@ -11,10 +11,11 @@ ghost use Rattle.pb_reach.specs.Reach.{words_mention, module_mentions, loop_ment
 ghost use Rattle.pb_reach.specs.Told.{tells, until_of, LeavesResults};
 
 use crate::exprs::{has_name, some_names, some_reach};
-use crate::texts::has_inside;
-use crate::values::{items_mention, members_mention, mentions, merged_mention};
+use crate::merged::merged_mention;
 use pb_expr_syntax::tree::Expr;
 use pb_layers::layers::Layers;
+use pb_mentions::texts::has_inside;
+use pb_mentions::values::{items_mention, members_mention, mentions};
 use pb_play::commands::CommandWords;
 use pb_play::loops::Loop;
 use pb_play::modules::Module;

@@ -4,9 +4,9 @@ ghost use Rattle.pb_layers.specs.Found.{maps_in};
 ghost use Rattle.pb_layers.specs.Merged.{merged};
 ghost use Rattle.pb_reach.specs.Reached.{leads_on, each_leads, layers_lead};
 
-use crate::values::mentions;
 use pb_layers::layers::Layers;
 use pb_layers::lent::Merged;
+use pb_mentions::values::mentions;
 use pb_value::val::Dict;
 
 /// Whether a name stands in a map for a value in whose texts an expression begins.

@@ -9,7 +9,7 @@ use crate::ready::{Flushes, HandlerTask};
 use crate::round::Round;
 use crate::sections::PlayKeys;
 use pb_handlers::{HandlerNames, Handlers};
-use pb_places::Place;
+use pb_places::{Place, SearchedTask};
 use pb_play_reading::handlers::Handler;
 use pb_value::items::Items;
 use pb_value::text::Text;
@@ -58,7 +58,7 @@ fn task_of(alloc: Global, keys: PlayKeys, handler: HandlerIn) -> Result<HandlerT
     let Handler { task, listens } = handler;
     drop(listens);
     let round = Round::of(keys, &origin)?;
-    let task = Arc::new(alloc, task)?;
+    let task = Arc::new(alloc, SearchedTask::new(task))?;
     Ok(HandlerTask { task, round })
 }
 

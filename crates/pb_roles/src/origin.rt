@@ -3,7 +3,7 @@ ghost use Rattle.std.specs.Prelude.{◌≡◌, IfOk};
 ghost use Rattle.pb_roles.specs.Origins.{from_play, listed};
 
 use pb_expr_syntax::tree::Expr;
-use pb_places::Role;
+use pb_places::{Role, SearchedRole};
 use pb_value::items::Items;
 use std::alloc::{AllocError, Global};
 use std::marker::Model;
@@ -12,7 +12,7 @@ use std::sync::Arc;
 /// Where nodes and handlers come from: the variables of their role, if they come from one, and the conditions of that role and of those that depend on
 /// it. All that a role brings shares them.
 pub struct Origin {
-    pub(crate) role: Option<Arc<Role>>,
+    pub(crate) role: Option<Arc<SearchedRole>>,
     /// None where there is no condition.
     pub(crate) conditions: Option<Arc<Items<Expr>>>,
 }
@@ -50,7 +50,7 @@ impl Origin {
     ) -> Result<Origin, AllocError>
         ensures { IfOk result (λ o. o ≡ record { role = role; conditions = conditions }) }
     {
-        let role = Some(Arc::new(alloc, role)?);
+        let role = Some(Arc::new(alloc, SearchedRole::new(role))?);
         let conditions = if conditions.is_empty() {
             None
         } else {

@@ -1,7 +1,7 @@
 //! Handlers as the places of a Flush need them.
 use crate::round::Round;
 use pb_handlers::Handlers;
-use pb_play::task::Task;
+use pb_places::SearchedTask;
 use pb_value::items::Items;
 use std::alloc::Global;
 use std::marker::Model;
@@ -9,7 +9,7 @@ use std::sync::Arc;
 
 /// A handler's task, which its places share, with what stands round it.
 pub(crate) struct HandlerTask {
-    pub(crate) task: Arc<Task>,
+    pub(crate) task: Arc<SearchedTask>,
     pub(crate) round: Round,
 }
 

@@ -17,7 +17,7 @@ use pb_expr_syntax::tree::Expr;
 use pb_facts::put::put_all;
 use pb_handlers::Handlers;
 use pb_places::conditions::joined;
-use pb_places::{Place, Role, Surroundings};
+use pb_places::{Place, SearchedRole, SearchedTask, SearchedVars, Surroundings};
 use pb_play::couplings::Couplings;
 use pb_play::modules::Module;
 use pb_play::node::BlockKeys;
@@ -37,9 +37,9 @@ pub(crate) struct Round {
     throttle: Option<u32>,
     couplings: Couplings,
     /// None where there is no variable.
-    block_vars: Option<Arc<Dict>>,
+    block_vars: Option<Arc<SearchedVars>>,
     /// None outside of roles.
-    role: Option<Arc<Role>>,
+    role: Option<Arc<SearchedRole>>,
 }
 
 impl Drop for Round {
@@ -141,11 +141,17 @@ impl Round {
         names: &Handlers,
         is_caught: bool,
         number: u32,
-        task: &Arc<Task>,
+        task: &Arc<SearchedTask>,
     ) -> Result<Place, AllocError>
         ensures { IfOk result (λ place. place ≡ placed names.now self.now is_caught (Some number) (arc_value task.now)) }
     {
-        let surroundings = self.surroundings(alloc, names, is_caught, Some(number), task.as_ref())?;
+        let surroundings = self.surroundings(
+            alloc,
+            names,
+            is_caught,
+            Some(number),
+            task.as_ref().task(),
+        )?;
         Place::sharing(alloc, task.clone()?, surroundings)
     }
 
@@ -338,9 +344,9 @@ fn behind(
 /// The variables of a block over those of the blocks round it; a block without variables shares these.
 fn vars_inside(
     alloc: Global,
-    outer: &Option<Arc<Dict>>,
+    outer: &Option<Arc<SearchedVars>>,
     own: &Dict,
-) -> Result<Option<Arc<Dict>>, AllocError>
+) -> Result<Option<Arc<SearchedVars>>, AllocError>
     ensures { IfOk result (λ vars. listed vars ≡ put_all own.now (listed outer.now)) }
 {
     if own.is_empty() {
@@ -348,15 +354,15 @@ fn vars_inside(
     }
     let mut known = copied(alloc, outer)?;
     put_all(alloc, &mut known, own)?;
-    Ok(Some(Arc::new(alloc, known)?))
+    Ok(Some(Arc::new(alloc, SearchedVars::new(known))?))
 }
 
 /// A copy of the variables of the blocks round a block.
-fn copied(alloc: Global, outer: &Option<Arc<Dict>>) -> Result<Dict, AllocError>
+fn copied(alloc: Global, outer: &Option<Arc<SearchedVars>>) -> Result<Dict, AllocError>
     ensures { IfOk result (λ known. known ≡ listed outer.now) }
 {
     match outer {
-        Some(outer) => Ok(outer.as_ref().try_clone(alloc)?),
+        Some(outer) => Ok(outer.as_ref().vars().try_clone(alloc)?),
         None => Ok(Dict::new(alloc)),
     }
 }

@@ -8,7 +8,7 @@ use Rattle.pb_layers.specs.Scope.{Map}
 use Rattle.pb_places.specs.Place.{PlaceOf}
 use Rattle.pb_plan.specs.Plan.{PlayOf, PlanOf}
 use Rattle.pb_plan.specs.Hostvars.{IsFree, IsFreePlace, IsFreeAt, IsFreeHost}
-use Rattle.pb_reach.specs.Mentions.{members_mention}
+use Rattle.pb_mentions.specs.Mentions.{members_mention}
 use Rattle.pb_reach.specs.Reach.{layers_mention}
 use Rattle.pb_sight.specs.Results.{layers_within, place_for}
 use Rattle.pb_sight.specs.Unread.{IsSettled}

@@ -1,5 +1,6 @@
 //! What hosts have from their groups, made once for all hosts of the same groups.
-ghost use Rattle.std.specs.Prelude.{◌≡◌, ◌<◌, ◌+◌, ℕ, List, Some, map, length, slice_get, IfSome, IfNone, IfOk};
+ghost use Rattle.std.specs.Prelude.{◌≡◌, ◌<◌, ◌+◌, ℕ, true, List, Some, map, length, slice_get, IfSome, IfNone, IfOk};
+ghost use Rattle.pb_mentions.specs.Hostvars.{IsFree};
 ghost use Rattle.pb_value.specs.Datum.{value_at};
 ghost use Rattle.pb_inventory.specs.Vars.{groups_of_host, last_given};
 ghost use Rattle.pb_variables.specs.Shared.{from_groups, numbers_of_host, IsKeptFor, AreKept};
@@ -11,6 +12,7 @@ use crate::weight::{behind_dict, behind_value};
 use indexmap::IndexMap;
 use pb_ids::{GroupNo, HostNo};
 use pb_inventory::inventory::Inventory;
+use pb_mentions::is_free_of_hostvars;
 use pb_value::val::{Dict, Val};
 use std::alloc::{AllocError, Global};
 use std::marker::Model;
@@ -51,6 +53,8 @@ impl OfGroups {
 #[derive(Drop)]
 pub struct SharedGroups {
     of: Rc<OfGroups>,
+    /// Whether the variables were searched for `hostvars`, which stands in none of them.
+    is_free: bool,
 }
 
 impl Model for SharedGroups {
@@ -63,14 +67,21 @@ impl Model for SharedGroups {
     ghost coded = { Prim.hlevel (codes, val.the_row.coded) };
 
     ghost view = { λ s. s.of.value };
+
+    ghost use Rattle.std.specs.Prelude.{◌≡◌, true};
+    ghost use Rattle.pb_mentions.specs.Hostvars.{IsFree};
+
+    ghost invariant = { λ s. s.is_free ≡ true → IsFree s.of.value.variables };
 }
 
 impl SharedGroups {
-    fn new(alloc: Global, of: OfGroups) -> Result<SharedGroups, AllocError>
+    /// What is kept, whose variables are searched for `hostvars`.
+    fn kept(alloc: Global, of: OfGroups) -> Result<SharedGroups, AllocError>
         ensures { IfOk result (λ shared. shared ≡ of) }
     {
+        let is_free = is_free_of_hostvars(&of.variables);
         let of = Rc::new(alloc, of)?;
-        Ok(SharedGroups { of })
+        Ok(SharedGroups { of, is_free })
     }
 
     /// The same, for one host more.
@@ -78,7 +89,8 @@ impl SharedGroups {
         ensures { IfOk result (λ shared. shared ≡ self.now) }
     {
         let of = self.of.clone()?;
-        Ok(SharedGroups { of })
+        let is_free = self.is_free;
+        Ok(SharedGroups { of, is_free })
     }
 
     /// The variables of the groups, merged.
@@ -95,6 +107,14 @@ impl SharedGroups {
     {
         let of = self.of.as_ref();
         &of.names
+    }
+
+    /// Whether `hostvars` stands in none of the variables, as was found when they were searched: once, where they are kept for all hosts of the same groups, and
+    /// not at all where they were made for one host.
+    pub fn is_free_of_hostvars(&self) -> bool
+        ensures { result ≡ true → IsFree self.now.variables }
+    {
+        self.is_free
     }
 }
 
@@ -218,7 +238,7 @@ impl<'a> Sharing<'a> {
     {
         // (what only the clauses speak of)
         let _host = host;
-        let kept = SharedGroups::new(alloc, of)?;
+        let kept = SharedGroups::kept(alloc, of)?;
         let shared = kept.share()?;
         drop(self.made.insert(numbers, kept)?);
         Ok(Some(shared))

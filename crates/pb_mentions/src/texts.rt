@@ -1,6 +1,6 @@
 //! Words in texts.
 ghost use Rattle.std.specs.Prelude.{◌≡◌, ◌<◌, length, drop};
-ghost use Rattle.pb_reach.specs.Mentions.{begins, has_inside};
+ghost use Rattle.pb_mentions.specs.Mentions.{begins, has_inside};
 
 /// Whether bytes begin with a word.
 fn begins(word: &[u8], bytes: &[u8]) -> bool
@@ -37,7 +37,7 @@ fn bytes_inside(word: &[u8], bytes: &[u8]) -> bool
 }
 
 /// Whether a word stands somewhere in a text.
-pub(crate) fn has_inside(word: &str, text: &str) -> bool
+pub fn has_inside(word: &str, text: &str) -> bool
     ensures { result ≡ has_inside word.now text.now }
 {
     bytes_inside(word.as_bytes(), text.as_bytes())

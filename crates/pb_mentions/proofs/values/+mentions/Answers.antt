@@ -1,7 +1,7 @@
 use Rattle.std.proofs.Common.{◌+◌, ◌*◌, ◌<◌, arith}
 use Rattle.pb_value.specs.Datum.{nodes}
 use Rattle.pb_value.proofs.Falls.{entry_falls}
-use Rattle.pb_reach.proofs.values.+mentions.Goals as goal
+use Rattle.pb_mentions.proofs.values.+mentions.Goals as goal
 
 pub members_mention-mentions-requires : goal.members_mention-mentions-requires
 members_mention-mentions-requires t c =

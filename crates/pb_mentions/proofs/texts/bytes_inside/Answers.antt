@@ -1,7 +1,7 @@
 use Rattle.std.proofs.Common.{sym, ap, ◌∙◌, arith}
-use Rattle.pb_reach.specs.Mentions.{begins}
-use Rattle.pb_reach.proofs.Inside.{inside_next, inside_here}
-use Rattle.pb_reach.proofs.texts.bytes_inside.Goals as goal
+use Rattle.pb_mentions.specs.Mentions.{begins}
+use Rattle.pb_mentions.proofs.Inside.{inside_next, inside_here}
+use Rattle.pb_mentions.proofs.texts.bytes_inside.Goals as goal
 
 pub returns-then-begins : goal.returns-then-begins
 returns-then-begins c =

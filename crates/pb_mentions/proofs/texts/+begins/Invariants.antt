@@ -1,5 +1,5 @@
 use Rattle.std.proofs.Common.{length}
-use Rattle.pb_reach.proofs.texts.+begins.Given as goal
+use Rattle.pb_mentions.proofs.texts.+begins.Given as goal
 
 abbrev pub decreases-begins : goal.decreases-begins
 decreases-begins l = length l.word.now

@@ -1,12 +1,9 @@
 //! Words in the texts of values.
 ghost use Rattle.std.specs.Prelude.{◌≡◌};
 ghost use Rattle.pb_value.specs.Datum.{items_of, members_of};
-ghost use Rattle.pb_layers.specs.Lent.{lent_map};
-ghost use Rattle.pb_layers.specs.Merged.{merged};
-ghost use Rattle.pb_reach.specs.Mentions.{mentions, items_mention, members_mention};
+ghost use Rattle.pb_mentions.specs.Mentions.{mentions, items_mention, members_mention};
 
 use crate::texts::has_inside;
-use pb_layers::lent::Merged;
 use pb_value::val::{Dict, Node, Val, ValList};
 
 /// Whether a word stands in a text of the value, at any depth, names of dicts aside.
@@ -23,7 +20,7 @@ pub fn mentions(word: &str, value: &Val) -> bool
 }
 
 #[cycle(mentions)]
-pub(crate) fn items_mention(word: &str, list: &ValList) -> bool
+pub fn items_mention(word: &str, list: &ValList) -> bool
     ensures { result ≡ items_mention word.now (items_of list.now) }
 {
     for item in &list.items {
@@ -45,26 +42,4 @@ pub fn members_mention(word: &str, dict: &Dict) -> bool
         }
     }
     false
-}
-
-/// The same of one of these entries.
-fn lent_mention(word: &str, entries: &[(&str, &Val)]) -> bool
-    ensures { result ≡ members_mention word.now (members_of (lent_map entries.now)) }
-{
-    for entry in entries {
-        if mentions(word, entry.1) {
-            return true;
-        }
-    }
-    false
-}
-
-/// The same of one of the variables of a host's groups.
-pub(crate) fn merged_mention(word: &str, variables: Merged) -> bool
-    ensures { result ≡ members_mention word.now (members_of (merged variables.entry)) }
-{
-    match variables {
-        Merged::Kept(variables) => members_mention(word, variables),
-        Merged::Lent(variables) => lent_mention(word, variables.entries()),
-    }
 }
