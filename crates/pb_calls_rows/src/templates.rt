@@ -10,23 +10,43 @@ use pb_value::val::{Dict, Val};
 use std::alloc::Global;
 use std::test::Fail;
 
+/// Layers of which the play's alone has variables.
+fn layers_of<'a>(none: &'a Dict, play_variables: &'a Dict) -> Layers<'a> {
+    let group_variables = Merged::Kept(none);
+    Layers {
+        role_defaults: none,
+        group_variables,
+        host_variables: none,
+        host_facts: none,
+        play_variables,
+        role_variables: none,
+        block_variables: none,
+        task_variables: none,
+        set_facts: none,
+        role_parameters: none,
+        extra_variables: none,
+        plain: "",
+    }
+}
+
+/// What a template gives in these layers, as a text.
+fn rendered_in<'a>(
+    alloc: Global,
+    layers: &'a Layers<'_>,
+    magic: &'a Magic<'a>,
+    none: &'a Dict,
+    template: &Template,
+) -> Result<String, Fail> {
+    match render(alloc, template, &Scope::new(layers, magic, none)) {
+        Ok(value) => Ok(value.text_of(alloc)?),
+        Err(_) => Err(Fail::new("a value")),
+    }
+}
+
 /// What a template gives where only a play has variables, as a text.
 fn rendered(alloc: Global, variables: &Dict, text: &str) -> Result<String, Fail> {
     let none = Dict::new(alloc);
-    let layers = Layers {
-        role_defaults: &none,
-        group_variables: Merged::Kept(&none),
-        host_variables: &none,
-        host_facts: &none,
-        play_variables: variables,
-        role_variables: &none,
-        block_variables: &none,
-        task_variables: &none,
-        set_facts: &none,
-        role_parameters: &none,
-        extra_variables: &none,
-        plain: "",
-    };
+    let layers = layers_of(&none, variables);
     let magic = Magic {
         host: &none,
         play: &none,
@@ -36,10 +56,7 @@ fn rendered(alloc: Global, variables: &Dict, text: &str) -> Result<String, Fail>
     let Ok(template) = Template::parse(alloc, text) else {
         return Err(Fail::new("a template"));
     };
-    match render(alloc, &template, &Scope::new(&layers, &magic, &none)) {
-        Ok(value) => Ok(value.text_of(alloc)?),
-        Err(_) => Err(Fail::new("a value")),
-    }
+    rendered_in(alloc, &layers, &magic, &none, &template)
 }
 
 #[test]

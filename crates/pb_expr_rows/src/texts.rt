@@ -12,33 +12,50 @@ use pb_value::val::{Dict, Val};
 use std::alloc::{AllocError, Global};
 use std::test::Fail;
 
+/// Layers of which the play's alone has variables.
+fn layers_of<'a>(none: &'a Dict, play_variables: &'a Dict) -> Layers<'a> {
+    let group_variables = Merged::Kept(none);
+    Layers {
+        role_defaults: none,
+        group_variables,
+        host_variables: none,
+        host_facts: none,
+        play_variables,
+        role_variables: none,
+        block_variables: none,
+        task_variables: none,
+        set_facts: none,
+        role_parameters: none,
+        extra_variables: none,
+        plain: "",
+    }
+}
+
+/// The fault of an expression in these layers, if it has one.
+fn fault_in<'a>(
+    alloc: Global,
+    layers: &'a Layers<'_>,
+    magic: &'a Magic<'a>,
+    none: &'a Dict,
+    expr: &Expr,
+) -> Option<EvalFault> {
+    match eval(alloc, expr, &Scope::new(layers, magic, none)) {
+        Ok(_) => None,
+        Err(fault) => Some(fault),
+    }
+}
+
 /// The fault of an expression, if it has one, where only a play has variables.
 fn fault_of(alloc: Global, variables: &Dict, expr: &Expr) -> Option<EvalFault> {
     let none = Dict::new(alloc);
-    let layers = Layers {
-        role_defaults: &none,
-        group_variables: Merged::Kept(&none),
-        host_variables: &none,
-        host_facts: &none,
-        play_variables: variables,
-        role_variables: &none,
-        block_variables: &none,
-        task_variables: &none,
-        set_facts: &none,
-        role_parameters: &none,
-        extra_variables: &none,
-        plain: "",
-    };
+    let layers = layers_of(&none, variables);
     let magic = Magic {
         host: &none,
         play: &none,
         plan: &none,
         hosts: &none,
     };
-    match eval(alloc, expr, &Scope::new(&layers, &magic, &none)) {
-        Ok(_) => None,
-        Err(fault) => Some(fault),
-    }
+    fault_in(alloc, &layers, &magic, &none, expr)
 }
 
 /// One variable, `t`, a text of so many letters.
