@@ -7,8 +7,8 @@ use Rattle.pb_ids.specs.declared.numbers.Ticket.{Ticket}
 use Rattle.pb_inventory.specs.InventoryOf.{InventoryOf}
 use Rattle.pb_outcome.specs.declared.job.Report.{Report}
 use Rattle.pb_batches.specs.Sizes.{batch_sizes}
-use Rattle.pb_all_hosts.specs.Batches.{has_later, called_count}
-use Rattle.pb_one_host.specs.Row.{HostRow, called}
+use Rattle.pb_hosts.specs.Batches.{has_batch_left, play_host_count}
+use Rattle.pb_host.specs.Host.{HostOf, as_play_begins}
 use Rattle.pb_plan.specs.Plan.{PlayOf, PlanOf}
 use Rattle.pb_state.specs.declared.event.Event.{Event}
 use Rattle.pb_state.specs.declared.event.Event.TheVariants.{Open, Start, Send, Report as Reported, Turn, Close, Stop, Forks}
@@ -20,20 +20,20 @@ use Rattle.pb_state.proofs.Stands.{both}
 use Rattle.pb_state.proofs.Steps.{pool_stays}
 use Rattle.pb_audit.specs.Larger.{in_pool, LargerPoolsAllow}
 
-opened_in : (n : ℕ) (s : State) (k batch : ℕ) (sizes : List ℕ) (rows : List HostRow) (play : PlayOf) (found : Option ℕ)
+opened_in : (n : ℕ) (s : State) (k batch : ℕ) (sizes : List ℕ) (rows : List HostOf) (play : PlayOf) (found : Option ℕ)
     → option_map_or (opened_by (in_pool n s) k batch sizes rows play) found (in_pool n s) ≡ in_pool n (option_map_or (opened_by s k batch sizes rows play) found s)
 opened_in n s k batch sizes rows play None = refl
 opened_in n s k batch sizes rows play (Some size) = refl
 
 goes_in : (n : ℕ) (s : State) (found : Option PlayOf) → option_map_or (goes_on (in_pool n s)) found (in_pool n s) ≡ in_pool n (option_map_or (goes_on s) found s)
 goes_in n s None = refl
-goes_in n s (Some play) = opened_in n s s.play (s.batch + 1) s.later s.rows play (slice_get s.later 0)
+goes_in n s (Some play) = opened_in n s s.play (s.batch + 1) s.sizes_left s.rows play (slice_get s.sizes_left 0)
 
 begins_in : (n : ℕ) (s : State) (k : ℕ) (found : Option PlayOf) → option_map_or (begins (in_pool n s) k) found (in_pool n s) ≡ in_pool n (option_map_or (begins s k) found s)
 begins_in n s k None = refl
 begins_in n s k (Some play) =
-    let sizes = batch_sizes play.serial (called_count play.hosts s.rows) in
-    opened_in n s k 0 sizes (map (called play.hosts) s.rows) play (slice_get sizes 0)
+    let sizes = batch_sizes play.serial (play_host_count play.hosts s.rows) in
+    opened_in n s k 0 sizes (map (as_play_begins play.hosts) s.rows) play (slice_get sizes 0)
 
 first_in : (plan : PlanOf) (n : ℕ) (s : State) (found : Option ℕ) → option_map_or (begins_at plan (in_pool n s)) found (in_pool n s) ≡ in_pool n (option_map_or (begins_at plan s) found s)
 first_in plan n s None = refl
@@ -66,7 +66,7 @@ turned_in_pool inventory n s None = refl
 turned_in_pool inventory n s (Some play) = refl
 
 after_in : (plan : PlanOf) (n : ℕ) (s : State) (e : Event) → after plan (in_pool n s) e ≡ in_pool n (after plan s e)
-after_in plan n s Open = open_in plan n s (has_later s.later)
+after_in plan n s Open = open_in plan n s (has_batch_left s.sizes_left)
 after_in plan n s (Start h) = started_in_pool plan n s h.0 (open_play plan s)
 after_in plan n s (Send h item attempt t) = sent_in_pool n s h.0 t (open_play plan s)
 after_in plan n s (Reported r) = reported_in_pool plan n s r (open_play plan s)

@@ -54,16 +54,16 @@ pub fn play<
         Ok(request) => play_request(rt, request, launchers, out, err),
         Err(WordsFault::Help { text }) => match put_all(out, text.as_str().as_bytes()) {
             Ok(()) => 0,
-            Err(_) => told(alloc, err, Part::Run, &RunFault::Write),
+            Err(_) => report_fault(alloc, err, Part::Run, &RunFault::Write),
         },
-        Err(WordsFault::Wrong { text }) => told(alloc, err, Part::Words, &text),
-        Err(WordsFault::Missing) => told(
+        Err(WordsFault::Wrong { text }) => report_fault(alloc, err, Part::Words, &text),
+        Err(WordsFault::Missing) => report_fault(
             alloc,
             err,
             Part::Words,
             &"the inventory or the playbook is missing",
         ),
-        Err(WordsFault::Memory) => told(alloc, err, Part::Words, &"out of memory"),
+        Err(WordsFault::Memory) => report_fault(alloc, err, Part::Words, &"out of memory"),
     }
 }
 
@@ -114,10 +114,10 @@ fn play_request<
     let alloc = rt.alloc();
     let mut asked = match read_files(rt, request) {
         Ok(asked) => asked,
-        Err(fault) => return told_file(alloc, err, &fault),
+        Err(fault) => return report_file_fault(alloc, err, &fault),
     };
     if is_too_long(&asked.wanted.outcomes) {
-        return told_too_long(alloc, err, &asked.outcomes_path);
+        return report_too_long(alloc, err, &asked.outcomes_path);
     }
     play_asked(rt, &mut asked, launchers, out, err)
 }
@@ -140,10 +140,10 @@ fn play_asked<
     let alloc = rt.alloc();
     match play_bundle(rt, &asked.bundle, &asked.wanted, launchers, out, err) {
         Ok(played) => end(rt, asked, &played, err),
-        Err(PlayFault::Run(fault, trail)) => told_run(rt, asked, err, fault, &trail),
-        Err(PlayFault::Outcomes(fault)) => told(alloc, err, Part::Outcomes, &fault),
-        Err(PlayFault::Trail(fault)) => told(alloc, err, Part::Trail, &fault),
-        Err(PlayFault::Bundle(fault)) => told_bundle(alloc, err, &fault, asked.places),
+        Err(PlayFault::Run(fault, trail)) => report_run_fault(rt, asked, err, fault, &trail),
+        Err(PlayFault::Outcomes(fault)) => report_fault(alloc, err, Part::Outcomes, &fault),
+        Err(PlayFault::Trail(fault)) => report_fault(alloc, err, Part::Trail, &fault),
+        Err(PlayFault::Bundle(fault)) => report_bundle_fault(alloc, err, &fault, asked.places),
     }
 }
 
@@ -171,13 +171,13 @@ fn end<R: Files + AllocGlobal, E: LineOut>(
     )
     .is_err()
     {
-        return told_run(rt, asked, err, RunFault::Memory, &played.trail);
+        return report_run_fault(rt, asked, err, RunFault::Memory, &played.trail);
     }
     keep_all(rt, asked, &played.trail, played.status, err)
 }
 
 /// Tells why a run stopped early, and then keeps the hosts that didn't get through and its trail, if it began.
-fn told_run<R: Files + AllocGlobal, E: LineOut>(
+fn report_run_fault<R: Files + AllocGlobal, E: LineOut>(
     rt: &R,
     asked: &Asked,
     err: &mut E,
@@ -186,7 +186,7 @@ fn told_run<R: Files + AllocGlobal, E: LineOut>(
 ) -> u8
     ensures { result ≡ 1 }
 {
-    let status = told(rt.alloc(), err, Part::Run, &fault);
+    let status = report_fault(rt.alloc(), err, Part::Run, &fault);
     keep_all(rt, asked, trail, status, err)
 }
 
@@ -203,16 +203,16 @@ fn keep_all<R: Files + AllocGlobal, E: LineOut>(
     ensures fault { result ≡ 1 → (status ≡ 1) ⊎ (((is_some asked.now.trail ≡ true) ⊎ (is_some asked.now.failed ≡ true)) × (is_some trail.now ≡ true)) }
 {
     match keep_failed(rt, &asked.bundle, &asked.failed, trail) {
-        Ok(()) => keep_told(rt, &asked.trail, trail, status, err),
+        Ok(()) => keep_or_report(rt, &asked.trail, trail, status, err),
         Err(fault) => {
-            let status = told_file(rt.alloc(), err, &fault);
-            keep_told(rt, &asked.trail, trail, status, err)
+            let status = report_file_fault(rt.alloc(), err, &fault);
+            keep_or_report(rt, &asked.trail, trail, status, err)
         }
     }
 }
 
 /// Keeps the trail. It answers this status, or that of a fault, which is told.
-fn keep_told<R: Files + AllocGlobal, E: LineOut>(
+fn keep_or_report<R: Files + AllocGlobal, E: LineOut>(
     rt: &R,
     path: &Option<Text>,
     trail: &Option<Items<Event>>,
@@ -224,7 +224,7 @@ fn keep_told<R: Files + AllocGlobal, E: LineOut>(
 {
     match keep(rt, path, trail) {
         Ok(()) => status,
-        Err(fault) => told_file(rt.alloc(), err, &fault),
+        Err(fault) => report_file_fault(rt.alloc(), err, &fault),
     }
 }
 
@@ -383,42 +383,47 @@ fn is_too_long(outcomes: &Option<Items<u8>>) -> bool
 
 /// Tells a bundle's fault, by its part, and its place, where that is asked for.
 #[tactic(auto, using(crate::proofs::Telling::bundle_told))]
-fn told_bundle<E: LineOut>(alloc: Global, err: &mut E, fault: &BundleFault, places: bool) -> u8
+fn report_bundle_fault<E: LineOut>(
+    alloc: Global,
+    err: &mut E,
+    fault: &BundleFault,
+    places: bool,
+) -> u8
     ensures status { result ≡ 1 }
     ensures told { IsToldBundle places fault.now (stream_of E.LineOut err.old) (stream_of E.LineOut err.new) }
 {
-    told_line(err, bundle_message(alloc, fault, places))
+    report_line(err, bundle_message(alloc, fault, places))
 }
 
 /// Tells that the file of outcomes at a path is too long.
-fn told_too_long<E: LineOut>(alloc: Global, err: &mut E, path: &Option<Text>) -> u8
+fn report_too_long<E: LineOut>(alloc: Global, err: &mut E, path: &Option<Text>) -> u8
     ensures { result ≡ 1 }
 {
     let Some(path) = path else {
-        return told(alloc, err, Part::File, &TOO_LONG);
+        return report_fault(alloc, err, Part::File, &TOO_LONG);
     };
     match format!(in alloc; "{path}: {TOO_LONG}") {
-        Ok(text) => told(alloc, err, Part::File, &text.as_str()),
-        Err(_) => told(alloc, err, Part::File, &TOO_LONG),
+        Ok(text) => report_fault(alloc, err, Part::File, &text.as_str()),
+        Err(_) => report_fault(alloc, err, Part::File, &TOO_LONG),
     }
 }
 
 /// Tells the fault of a file, by its path.
-fn told_file<E: LineOut>(alloc: Global, err: &mut E, fault: &FileFault) -> u8
+fn report_file_fault<E: LineOut>(alloc: Global, err: &mut E, fault: &FileFault) -> u8
     ensures { result ≡ 1 }
 {
-    told_line(err, file_message(alloc, fault))
+    report_line(err, file_message(alloc, fault))
 }
 
 /// Tells a fault of a part.
-fn told<E: LineOut, F: Display>(alloc: Global, err: &mut E, part: Part, fault: &F) -> u8
+fn report_fault<E: LineOut, F: Display>(alloc: Global, err: &mut E, part: Part, fault: &F) -> u8
     ensures { result ≡ 1 }
 {
-    told_line(err, message(alloc, part, fault))
+    report_line(err, message(alloc, part, fault))
 }
 
 /// Writes the line of a fault, if there is memory for it. That standard error fails changes nothing: the status is 1.
-fn told_line<E: LineOut>(err: &mut E, line: Result<String, AllocError>) -> u8
+fn report_line<E: LineOut>(err: &mut E, line: Result<String, AllocError>) -> u8
     ensures status { result ≡ 1 }
     ensures told { IfOk line (λ text. IsPut (string_bytes text) (stream_of E.LineOut err.old) (stream_of E.LineOut err.new)) }
     ensures quiet { OnErr line (E.taken err.new ≡ E.taken err.old) }

@@ -13,7 +13,7 @@ use Rattle.pb_outcome.specs.declared.cause.Cause.{Cause}
 use Rattle.pb_outcome.specs.declared.gather.Ending.TheVariants.{Ran as Done}
 use Rattle.pb_outcome.specs.declared.gather.ItemResult.{ItemResult}
 use Rattle.pb_outcome.specs.declared.outcome.Form.TheVariants.{Ran, Unreachable, NotStarted}
-use Rattle.pb_conditions.specs.Settled.{Sees, sees}
+use Rattle.pb_conditions.specs.ResultConditions.{Sees, sees}
 use Rattle.pb_conditions.specs.Attempts.{attempted}
 use Rattle.pb_conditions.specs.declared.attempt.Back.{Back}
 use Rattle.pb_conditions.specs.declared.attempt.Back.TheVariants.{Ends, Again}

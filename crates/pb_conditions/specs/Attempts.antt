@@ -9,7 +9,7 @@ use Rattle.pb_outcome.specs.declared.gather.Ending.{Ending}
 use Rattle.pb_outcome.specs.declared.gather.Ending.TheVariants.{Ran}
 use Rattle.pb_outcome.specs.declared.gather.ItemResult.{ItemResult}
 use Rattle.pb_conditions.specs.Conditions.{holds}
-use Rattle.pb_conditions.specs.Settled.{Sees, seen_as, told_failed, or_faulty, settled}
+use Rattle.pb_conditions.specs.ResultConditions.{Sees, seen_as, failed_to, or_faulty, with_conditions}
 use Rattle.pb_conditions.specs.declared.attempt.Back.{Back}
 use Rattle.pb_conditions.specs.declared.attempt.Back.TheVariants.{Ends, Again}
 
@@ -32,15 +32,15 @@ is_enough sees register None item = Ok (not (is_failed item.ending))
 is_enough sees register (Some until) item = holds (sees (seen_as register item.result)) until
 
 -- the last attempt fails the item where a further one is wanted; where that can't be read, the item is faulty
-abbrev pub told_enough : Result Bool EvalFault → Bool → ItemResult → Back
-told_enough (Ok true) is_last item = Ends item
-told_enough (Ok false) true item = Ends (told_failed item true)
-told_enough (Ok false) false item = Again item
-told_enough (Err fault) is_last item = Ends (or_faulty (Err fault))
+abbrev pub by_until : Result Bool EvalFault → Bool → ItemResult → Back
+by_until (Ok true) is_last item = Ends item
+by_until (Ok false) true item = Ends (failed_to item true)
+by_until (Ok false) false item = Again item
+by_until (Err fault) is_last item = Ends (or_faulty (Err fault))
 
 -- only where a program ran, and what the task says of its result could be read, may another attempt follow
 abbrev pub came_by : Ending → Sees → Option (List ℕ) → Option (List Tree) → Bool → ItemResult → Back
-came_by (Ran changed failed) sees register until is_last item = told_enough (is_enough sees register until item) is_last item
+came_by (Ran changed failed) sees register until is_last item = by_until (is_enough sees register until item) is_last item
 came_by ending sees register until is_last item = Ends item
 
 abbrev pub came : Sees → Option (List ℕ) → Option (List Tree) → Bool → ItemResult → Back
@@ -49,4 +49,4 @@ came sees register until is_last item = came_by item.ending sees register until 
 -- the conditions see the number of the attempt, and `until` sees the result as `changed_when` and `failed_when` leave it
 abbrev pub attempted : Sees → Option (List ℕ) → Option (List Tree) → Option (List Tree) → Option (List Tree) → ℕ → Bool → ItemResult → Back
 attempted sees register changed_when failed_when until attempt is_last item =
-    came sees register until is_last (settled sees register changed_when failed_when (counted attempt item))
+    came sees register until is_last (with_conditions sees register changed_when failed_when (counted attempt item))

@@ -1,6 +1,6 @@
 pub mod Conditions
-pub mod Settled
+pub mod ResultConditions
 pub mod Attempts
 pub mod Rows
-pub mod SettledRows
+pub mod ResultConditionsRows
 pub mod AttemptRows

@@ -2,10 +2,10 @@
 ghost use Rattle.std.specs.Prelude.{◌≡◌, ◌≢◌, IfOk, IfErr, Ok, Err, pos};
 ghost use Rattle.pb_value.specs.Datum.{int};
 ghost use Rattle.pb_operators.specs.declared.fault.EvalFault.TheVariants as fault;
-ghost use Rattle.pb_conditions.specs.Settled.{sees};
-ghost use Rattle.pb_conditions.specs.Attempts.{with_attempt, counted, is_enough, told_enough, came, attempted};
+ghost use Rattle.pb_conditions.specs.ResultConditions.{sees};
+ghost use Rattle.pb_conditions.specs.Attempts.{with_attempt, counted, is_enough, by_until, came, attempted};
 
-use crate::settled::{Sight, holds_seeing, or_faulty, settle, told_failed};
+use crate::result_conditions::{Sight, failed_to, holds_seeing, or_faulty, with_conditions};
 use pb_expr_syntax::tree::Expr;
 use pb_operators::fault::EvalFault;
 use pb_outcome::gather::{Ending, ItemResult};
@@ -84,17 +84,17 @@ fn is_enough(
 }
 
 /// What becomes of the item by whether its result is enough.
-fn told_enough(
+fn by_until(
     alloc: Global,
     enough: Result<bool, EvalFault>,
     is_last: bool,
     item: ItemResult,
 ) -> Result<Back, AllocError>
-    ensures { IfOk result (λ b. (enough ≢ Err fault.Memory) × (b ≡ told_enough enough is_last item)) }
+    ensures { IfOk result (λ b. (enough ≢ Err fault.Memory) × (b ≡ by_until enough is_last item)) }
 {
     match enough {
         Ok(true) => Ok(Back::Ends(item)),
-        Ok(false) if is_last => Ok(Back::Ends(told_failed(alloc, item, true)?)),
+        Ok(false) if is_last => Ok(Back::Ends(failed_to(alloc, item, true)?)),
         Ok(false) => Ok(Back::Again(item)),
         Err(fault) => Ok(Back::Ends(or_faulty(alloc, Err(fault))?)),
     }
@@ -114,13 +114,13 @@ fn came(
         Ending::Ran {
             changed: _,
             failed: _,
-        } => told_enough(alloc, is_enough(alloc, sight, until, &item), is_last, item),
+        } => by_until(alloc, is_enough(alloc, sight, until, &item), is_last, item),
         _ => Ok(Back::Ends(item)),
     }
 }
 
 /// What an attempt at an item of a task that may be tried more than once comes to, from the result of its job. Where the program ran,
-/// the result gets the attempt's number, counted from 1, under `attempts`; then it is settled as `settle` does it, and then `until`
+/// the result gets the attempt's number, counted from 1, under `attempts`; then it is settled as `with_conditions` does it, and then `until`
 /// is read, which sees it as it is by then. The item is tried again where `until` doesn't hold, unless the attempt is the last
 /// one: the item then fails with that result. A condition that can't be read makes the item faulty. A faulty item, and one whose program
 /// didn't run, is tried no more and isn't numbered. The only error is want of memory. See Ansible's documentation, "Retrying
@@ -136,6 +136,6 @@ pub fn attempted(
     ensures { IfOk result (λ b. b ≡ attempted (sees sight.now.layers.now sight.now.magic.now sight.now.loop_variable.now) sight.now.register.now terms.now.changed_when.now terms.now.failed_when.now terms.now.until.now attempt is_last judged) }
 {
     let item = counted(alloc, attempt, judged)?;
-    let item = settle(alloc, sight, terms.changed_when, terms.failed_when, item)?;
+    let item = with_conditions(alloc, sight, terms.changed_when, terms.failed_when, item)?;
     came(alloc, sight, terms.until, is_last, item)
 }

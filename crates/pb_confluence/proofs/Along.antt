@@ -6,9 +6,9 @@ use Rattle.pb_outcome.specs.declared.job.Job.{Job}
 use Rattle.pb_outcome.specs.declared.job.Report.{Report}
 use Rattle.pb_outcome.specs.declared.outcome.Form.{Form}
 use Rattle.pb_plan.specs.Plan.{PlayOf, PlanOf}
-use Rattle.pb_one_host.specs.Row.{HostRow}
-use Rattle.pb_one_host.specs.Runs.{is_running, awaits}
-use Rattle.pb_all_hosts.specs.Hosts.{at_row}
+use Rattle.pb_host.specs.Host.{HostOf}
+use Rattle.pb_host.specs.Runs.{is_running, awaits}
+use Rattle.pb_hosts.specs.Hosts.{at_row}
 use Rattle.pb_state.specs.declared.event.Event.{Event}
 use Rattle.pb_state.specs.declared.event.Event.TheVariants.{Report as Reported}
 use Rattle.pb_state.specs.Jobs.{job_of}
@@ -61,7 +61,7 @@ reports_runner s r None may = cc
 reports_runner s r (Some play) may =
     let at = found_in (awaits r.ticket r.item r.attempt) (slice_get s.rows r.host.0) may in
     let some = awaits_some r.ticket r.item r.attempt at.0.running at.2 in
-    ap (λ (found : Option HostRow). option_map_or is_running found false) at.1 ∙ ap is_some some.1
+    ap (λ (found : Option HostOf). option_map_or is_running found false) at.1 ∙ ap is_some some.1
 
 fixed_some : (f : Fixed) (o : Form) (job : Option Job) → is_some job ≡ true → IfSome job (λ (j : Job). o ≡ f (asked_of j)) → o ≡ outcome_of f job
 fixed_some f o None e fixed = cc

@@ -10,13 +10,13 @@ use Rattle.pb_outcome.specs.declared.job.Report.{Report}
 use Rattle.pb_outcome.specs.Items.{next_item, is_over}
 use Rattle.pb_plan.specs.Plan.{PlayOf, PlanOf}
 use Rattle.pb_strategies.specs.MayStart.{is_linear, may_start, ready as starting}
-use Rattle.pb_one_host.specs.declared.row.Running.{Running}
-use Rattle.pb_one_host.specs.Attempts.{attempt_next}
-use Rattle.pb_one_host.specs.Row.{HostRow, first_rows, next_place}
-use Rattle.pb_one_host.specs.Runs.{is_running, is_out, is_item, is_next, sends_running, may_send_item}
-use Rattle.pb_one_host.proofs.InOrder.{goes_on_at}
-use Rattle.pb_all_hosts.specs.Batches.{has_later}
-use Rattle.pb_all_hosts.specs.Hosts.{at_row, has_hosts, first_play, lesser, least_place}
+use Rattle.pb_host.specs.declared.host.Running.{Running}
+use Rattle.pb_host.specs.Attempts.{attempt_next}
+use Rattle.pb_host.specs.Host.{HostOf, first_rows, next_place}
+use Rattle.pb_host.specs.Runs.{is_running, is_out, is_item, is_next, sends_running, may_send_item}
+use Rattle.pb_host.proofs.InOrder.{goes_on_at}
+use Rattle.pb_hosts.specs.Batches.{has_batch_left}
+use Rattle.pb_hosts.specs.Hosts.{at_row, has_hosts, first_play, lesser, least_place}
 use Rattle.pb_state.specs.declared.event.Event.{Event}
 use Rattle.pb_state.specs.declared.event.Event.TheVariants.{Open, Start, Send, Report as Reported, Turn, Close, Stop, Forks}
 use Rattle.pb_state.specs.Machine.{possible, after, open_play, is_left, next_play, may_start_in, may_send_in, may_report_in, may_turn_in, may_close_in, started_in, sent_in, reported_in, turned_in, first_state}
@@ -102,12 +102,12 @@ or_first : (a b : Bool) → a ≡ true → (a || b) ≡ true
 or_first true b e = refl
 or_first false b e = cc
 
-any_row : (test : HostRow → Bool) (rows : List HostRow) (h : ℕ) (row : HostRow) → slice_get rows h ≡ Some row → test row ≡ true → list_any test rows ≡ true
+any_row : (test : HostOf → Bool) (rows : List HostOf) (h : ℕ) (row : HostOf) → slice_get rows h ≡ Some row → test row ≡ true → list_any test rows ≡ true
 any_row test [] h row e t = cc
 any_row test (first ∷ rows) zero row e t = or_first (test first) (list_any test rows) (let same : first ≡ row = cc in ap test same ∙ t)
 any_row test (first ∷ rows) (suc h) row e t = or_right_true (test first) (list_any test rows) (any_row test rows h row e t)
 
-pub none_running : (rows : List HostRow) → ((h : ℕ) (row : HostRow) (r : Running) → slice_get rows h ≡ Some row → row.running ≡ Some r → ⊥) → list_any is_running rows ≡ false
+pub none_running : (rows : List HostOf) → ((h : ℕ) (row : HostOf) (r : Running) → slice_get rows h ≡ Some row → row.running ≡ Some r → ⊥) → list_any is_running rows ≡ false
 none_running [] none = refl
 none_running (row ∷ rows) none = by_first row.running refl (none_running rows (λ h x r e g. none (suc h) x r e g))
   where
@@ -115,20 +115,20 @@ none_running (row ∷ rows) none = by_first row.running refl (none_running rows 
     by_first None e more = more
     by_first (Some r) e more = absurd (none 0 row r refl e)
 
-send_may : (s : State) (h n : ℕ) (play : PlayOf) (row : HostRow) (r : Running) → s.stopped ≡ false → slice_get s.rows h ≡ Some row → row.running ≡ Some r → r.out ≡ None → next_item r.items ≡ Some n
+send_may : (s : State) (h n : ℕ) (play : PlayOf) (row : HostOf) (r : Running) → s.stopped ≡ false → slice_get s.rows h ≡ Some row → row.running ≡ Some r → r.out ≡ None → next_item r.items ≡ Some n
     → may_send_in s h n (attempt_next r.items) (record { 0 = s.sends }) play ≡ true
 send_may s h n play row r st there runs free next =
     both (not s.stopped && (s.sends == s.sends)) (at_row (may_send_item n (attempt_next r.items)) s.rows h) (both (not s.stopped) (s.sends == s.sends) (ap not st) (eq-eqb s.sends s.sends refl))
-    (ap (λ (found : Option HostRow). option_map_or (may_send_item n (attempt_next r.items)) found false) there ∙ ap (λ (x : Option Running). option_map_or (sends_running n (attempt_next r.items)) x false) runs
+    (ap (λ (found : Option HostOf). option_map_or (may_send_item n (attempt_next r.items)) found false) there ∙ ap (λ (x : Option Running). option_map_or (sends_running n (attempt_next r.items)) x false) runs
     ∙ both (is_none r.out) (is_next n (attempt_next r.items) r) (ap is_none free)
     (both (is_item n r.items) (attempt_next r.items == attempt_next r.items) (ap (λ (item : Option ℕ). option_map_or (λ m. m == n) item false) next ∙ eq-eqb n n refl) (eq-eqb (attempt_next r.items) (attempt_next r.items) refl)))
 
 -- what a host runs that isn't over has an item to be sent, or to come back
 pub runs_out : (plan : PlanOf) (s : State) (play : PlayOf) → IsFinished plan s → open_play plan s ≡ Some play → s.stopped ≡ false
-    → ((h : ℕ) (row : HostRow) (r : Running) → slice_get s.rows h ≡ Some row → row.running ≡ Some r → is_over r.items ≡ false) → list_any is_running s.rows ≡ false
+    → ((h : ℕ) (row : HostOf) (r : Running) → slice_get s.rows h ≡ Some row → row.running ≡ Some r → is_over r.items ≡ false) → list_any is_running s.rows ≡ false
 runs_out plan s play finished o st going = none_running s.rows (λ h row r there runs. by_out h row r there runs (going h row r there runs) r.out refl)
   where
-    by_out : (h : ℕ) (row : HostRow) (r : Running) → slice_get s.rows h ≡ Some row → row.running ≡ Some r → is_over r.items ≡ false → (out : Option Ticket) → r.out ≡ out → ⊥
+    by_out : (h : ℕ) (row : HostOf) (r : Running) → slice_get s.rows h ≡ Some row → row.running ≡ Some r → is_over r.items ≡ false → (out : Option Ticket) → r.out ≡ out → ⊥
     by_out h row r there runs on None free =
         let next = goes_on_at r.items on in
         both_ways (may_send_in s h next.0 (attempt_next r.items) (record { 0 = s.sends }) play) (send_may s h next.0 play row r st there runs free next.1)
@@ -151,14 +151,14 @@ none_start_at_end plan s play finished o =
     (λ h. ap (λ (found : Option PlayOf). option_map_or (may_start_in s h) found false) (sym o) ∙ finished.over (Start (record { 0 = h })) refl)
 
 -- where no place is current no host has one
-no_place : (row : HostRow) → AtLeast None (next_place row) → next_place row ≡ None
+no_place : (row : HostOf) → AtLeast None (next_place row) → next_place row ≡ None
 no_place row h = by_next (next_place row) h
   where
     by_next : (next : Option ℕ) → AtLeast None next → next ≡ None
     by_next None g = refl
     by_next (Some p) g = absurd g
 
-none_least : (rows : List HostRow) → Every IsIdle rows → Every (IsWell None) rows → least_place rows ≡ None
+none_least : (rows : List HostOf) → Every IsIdle rows → Every (IsWell None) rows → least_place rows ≡ None
 none_least [] idle all = refl
 none_least (row ∷ rows) idle all =
     ap (λ (q : Option ℕ). lesser q (least_place rows)) (no_place row (well_idle None row idle.0 all.0).0) ∙ none_least rows idle.1 all.1
@@ -180,7 +180,7 @@ shut_at plan s play (Some p) e l o finished st holds =
     (ap (λ (found : Option PlayOf). option_map_or (may_turn_in s) found false) (sym o) ∙ finished.over Turn refl))
 
 -- nor is one left
-over_plays : (plan : PlanOf) (f : Fixed) (rows : List HostRow) (n : ℕ) (plays : List PlayOf) → is_some (first_play rows n plays) ≡ false → at_plays plan f n plays rows ≡ rows
+over_plays : (plan : PlanOf) (f : Fixed) (rows : List HostOf) (n : ℕ) (plays : List PlayOf) → is_some (first_play rows n plays) ≡ false → at_plays plan f n plays rows ≡ rows
 over_plays plan f rows n [] e = refl
 over_plays plan f rows n (play ∷ plays) e = by_hosts (has_hosts rows play) e (λ g. over_plays plan f rows (n + 1) plays g)
   where
@@ -189,25 +189,25 @@ over_plays plan f rows n (play ∷ plays) e = by_hosts (has_hosts rows play) e (
     by_hosts true g on = cc
     by_hosts false g on = on g
 
-over_left : (plan : PlanOf) (f : Fixed) (s : State) (later : Bool) → (if later then is_some (slice_get plan.plays s.play) else is_some (next_play plan s)) ≡ false → in_closed plan f s.play s.later s.rows later ≡ s.rows
+over_left : (plan : PlanOf) (f : Fixed) (s : State) (sizes_left : Bool) → (if sizes_left then is_some (slice_get plan.plays s.play) else is_some (next_play plan s)) ≡ false → in_closed plan f s.play s.sizes_left s.rows sizes_left ≡ s.rows
 over_left plan f s true e = by_found (slice_get plan.plays s.play) e
   where
-    by_found : (found : Option PlayOf) → is_some found ≡ false → option_map_or (λ (play : PlayOf). batches_left plan f s.play play s.later s.rows) found s.rows ≡ s.rows
+    by_found : (found : Option PlayOf) → is_some found ≡ false → option_map_or (λ (play : PlayOf). batches_left plan f s.play play s.sizes_left s.rows) found s.rows ≡ s.rows
     by_found None g = refl
     by_found (Some play) g = cc
 over_left plan f s false e = over_plays plan f s.rows s.play (drop s.play plan.plays) e
 
 over_value : (plan : PlanOf) (f : Fixed) (s : State) (is_open stopped ended : Bool) → is_open ≡ false → stopped ≡ false → (not stopped && not is_open && not ended && is_left plan s) ≡ false
-    → rest plan f is_open ended s.place s.play (record { rows = s.rows; later = s.later }) ≡ s.rows
+    → rest plan f is_open ended s.place s.play (record { rows = s.rows; sizes_left = s.sizes_left }) ≡ s.rows
 over_value plan f s true stopped ended o st may = cc
 over_value plan f s false true ended o st may = cc
 over_value plan f s false false true o st may = refl
-over_value plan f s false false false o st may = over_left plan f s (has_later s.later) may
+over_value plan f s false false false o st may = over_left plan f s (has_batch_left s.sizes_left) may
 
 -- whether there is a play of the number or not
 none_value : (plan : PlanOf) (f : Fixed) (s : State) (is_open : Bool) → (if is_open then slice_get plan.plays s.play else None) ≡ None → s.stopped ≡ false → (not s.stopped && not is_open && not s.ended && is_left plan s) ≡ false
-    → rest plan f is_open s.ended s.place s.play (record { rows = s.rows; later = s.later }) ≡ s.rows
-none_value plan f s true o st may = ap (λ (found : Option PlayOf). option_map_or (in_open plan f s.play s.place (record { rows = s.rows; later = s.later })) found s.rows) o
+    → rest plan f is_open s.ended s.place s.play (record { rows = s.rows; sizes_left = s.sizes_left }) ≡ s.rows
+none_value plan f s true o st may = ap (λ (found : Option PlayOf). option_map_or (in_open plan f s.play s.place (record { rows = s.rows; sizes_left = s.sizes_left })) found s.rows) o
 none_value plan f s false o st may = over_value plan f s false s.stopped s.ended refl st may
 
 end_value : (plan : PlanOf) (f : Fixed) (s : State) (found : Option PlayOf) → AreLinear plan → open_play plan s ≡ found → IsFinished plan s → s.stopped ≡ false → HoldsIn s.place s.rows found → value plan f s ≡ s.rows

@@ -4,8 +4,8 @@ use Rattle.std.specs.Prelude.{slice_get}
 use Rattle.std.specs.Option.{option_map_or}
 use Rattle.pb_facts.specs.Facts.{no_facts}
 use Rattle.pb_plan.specs.Plan.{PlanOf}
-use Rattle.pb_sight.specs.Results.{items_at, came_at}
-use Rattle.pb_one_host.specs.Row.{HostRow}
+use Rattle.pb_task_vars.specs.Results.{items_at, came_at}
+use Rattle.pb_host.specs.Host.{HostOf}
 use Rattle.pb_recap.proofs.Counted.{recap_of_run}
 use Rattle.pb_state.specs.declared.event.Event.{Event}
 use Rattle.pb_state.specs.declared.event.Event.TheVariants.{Open, Start, Send, Report as Reported, Turn, Close, Stop, Forks}
@@ -94,8 +94,8 @@ whole_of plan f pool trail s run =
 pub counts_together : CountsTogether
 counts_together plan f pool trail s linear independent run =
     sym (recap_of_run plan pool trail s run.run)
-    ∙ ap (λ (t : State). map (λ (row : HostRow). row.counts) t.rows) (sym run.run.ends)
-    ∙ ap (λ (rows : List HostRow). map (λ (row : HostRow). row.counts) rows) (ends_together plan f plan.forks pool trail linear independent (whole_of plan f pool trail s run))
+    ∙ ap (λ (t : State). map (λ (row : HostOf). row.counts) t.rows) (sym run.run.ends)
+    ∙ ap (λ (rows : List HostOf). map (λ (row : HostOf). row.counts) rows) (ends_together plan f plan.forks pool trail linear independent (whole_of plan f pool trail s run))
 
 pub end_alike : EndAlike
 end_alike plan f m n pool other_pool trail other s t linear independent run also =
@@ -105,8 +105,8 @@ end_alike plan f m n pool other_pool trail other s t linear independent run also
     ap (λ (u : State). u.rows) (sym one.1) ∙ ends_together plan f m pool trail linear independent one.0 ∙ sym (ends_together plan f n other_pool other linear independent two.0) ∙ ap (λ (u : State). u.rows) two.1 in
     record {
       rows = rows;
-      facts = λ host. ap (λ (all : List HostRow). option_map_or (λ (row : HostRow). row.facts) (slice_get all host) no_facts) rows;
+      facts = λ host. ap (λ (all : List HostOf). option_map_or (λ (row : HostOf). row.facts) (slice_get all host) no_facts) rows;
       counts =
-          sym (recap_of_run (with_forks m plan) pool trail s run.run) ∙ ap (λ (all : List HostRow). map (λ (row : HostRow). row.counts) all) rows
+          sym (recap_of_run (with_forks m plan) pool trail s run.run) ∙ ap (λ (all : List HostOf). map (λ (row : HostOf). row.counts) all) rows
           ∙ recap_of_run (with_forks n plan) other_pool other t also.run;
     }

@@ -20,20 +20,20 @@ use Rattle.pb_outcome.specs.declared.job.Call.{Call}
 use Rattle.pb_outcome.specs.declared.outcome.Form.{Form}
 use Rattle.pb_outcome.specs.Items.{next_item, is_over}
 use Rattle.pb_plan.specs.Plan.{PlayOf, PlanOf}
-use Rattle.pb_sight.specs.Results.{items_at}
-use Rattle.pb_one_host.specs.declared.row.Finish.{Finish}
-use Rattle.pb_one_host.specs.declared.row.Running.{Running}
-use Rattle.pb_one_host.specs.Attempts.{back_in, tried_next, tried_most, rank}
-use Rattle.pb_one_host.specs.Calls.{call_in, delegate_in}
-use Rattle.pb_one_host.specs.Ends.{answer_of}
-use Rattle.pb_one_host.specs.Handlers.{notified_by}
-use Rattle.pb_one_host.specs.Kept.{first_waiting}
-use Rattle.pb_one_host.specs.Row.{HostRow, place_of, next_place, is_at, answered, ended, task_at, came_back, items_after, progressed, sent, reported, reported_running}
-use Rattle.pb_one_host.proofs.InOrder.{next_is, goes_on_at, length_back, back_ranks}
+use Rattle.pb_task_vars.specs.Results.{items_at}
+use Rattle.pb_host.specs.declared.host.LastTask.{LastTask}
+use Rattle.pb_host.specs.declared.host.Running.{Running}
+use Rattle.pb_host.specs.Attempts.{back_in, tried_next, tried_most, rank}
+use Rattle.pb_host.specs.Calls.{call_in, delegate_in}
+use Rattle.pb_host.specs.Ends.{answer_of}
+use Rattle.pb_host.specs.Handlers.{notified_by}
+use Rattle.pb_host.specs.Kept.{first_waiting}
+use Rattle.pb_host.specs.Host.{HostOf, place_of, next_place, is_at, answered, ended, task_at, came_back, items_after, progressed, sent, reported, reported_running}
+use Rattle.pb_host.proofs.InOrder.{next_is, goes_on_at, length_back, back_ranks}
 use Rattle.pb_state.specs.Jobs.{AttemptOf, next_attempt, connector_for, job_with, named_job, placed_job, item_job, running_job, row_job}
 use Rattle.pb_state.proofs.Walked.{not_halted, place_at}
 use Rattle.pb_confluence.specs.Fixed.{Fixed, outcome_of}
-use Rattle.pb_confluence.specs.Effect.{attempts_left, outcome_for, item_back, items_back, settled, started, whole, completed, complete}
+use Rattle.pb_confluence.specs.Effect.{attempts_left, outcome_for, item_back, items_back, played_out, started, whole, completed, complete}
 
 -- ---- places rise
 abbrev pub IsAfter : ℕ → Option ℕ → Type 0
@@ -58,13 +58,13 @@ not_both true c e = ap not e
 not_both false c e = refl
 
 -- a host that answered is behind the place where it stood, unless it was halted there
-pub answered_after : (p : ℕ) (a : AnswerOf) (row : HostRow) → is_halted a.kind ≡ false → next_place row ≡ Some p → IsAfter p (next_place (answered a row))
+pub answered_after : (p : ℕ) (a : AnswerOf) (row : HostOf) → is_halted a.kind ≡ false → next_place row ≡ Some p → IsAfter p (next_place (answered a row))
 answered_after p a row k e =
     in_after p row.in_batch (place_of (reach row.tree (row.answers ++ a ∷ [])))
     (above_after p (reach row.tree (row.answers ++ a ∷ []))
     (places_rise row.tree row.answers a p (place_at (reach row.tree row.answers) row.in_batch p e) (not_both (list_any (λ (b : AnswerOf). is_halted b.kind) row.answers) (is_halted a.kind) k)))
 
-pub ended_after : (inventory : InventoryOf) (play : PlayOf) (p q : ℕ) (items : List Item) (row : HostRow) → next_place row ≡ Some p → IsAfter p (next_place (ended inventory play q items row))
+pub ended_after : (inventory : InventoryOf) (play : PlayOf) (p q : ℕ) (items : List Item) (row : HostOf) → next_place row ≡ Some p → IsAfter p (next_place (ended inventory play q items row))
 ended_after inventory play p q items row e =
     answered_after p (answer_of (task_at play q items) (notified_by play q (task_at play q items))) row (not_halted (task_at play q items)) e
 
@@ -81,41 +81,41 @@ not_at p (Some q) h = differ (nat_eq q p) refl
     differ true t = let e : q ≡ p = eqb-true q p t in absurd (omega (arith, e, h))
     differ false t = refl
 
-pub is_here : (p : ℕ) (row : HostRow) → next_place row ≡ Some p → is_at p row ≡ true
+pub is_here : (p : ℕ) (row : HostOf) → next_place row ≡ Some p → is_at p row ≡ true
 is_here p row e = ap (λ (next : Option ℕ). option_map_or (λ q. q == p) next false) e ∙ eq-eqb p p refl
 
-if_true : (b : Bool) (x y : HostRow) → b ≡ true → (if b then x else y) ≡ x
+if_true : (b : Bool) (x y : HostOf) → b ≡ true → (if b then x else y) ≡ x
 if_true true x y e = refl
 if_true false x y e = cc
 
-if_false : (b : Bool) (x y : HostRow) → b ≡ false → (if b then x else y) ≡ y
+if_false : (b : Bool) (x y : HostOf) → b ≡ false → (if b then x else y) ≡ y
 if_false true x y e = cc
 if_false false x y e = refl
 
 -- ---- what runs in a row of an open batch
-abbrev pub RunsAt : Option ℕ → HostRow → Option Running → Type 0
+abbrev pub RunsAt : Option ℕ → HostOf → Option Running → Type 0
 RunsAt place row None = AtLeast place (next_place row)
 RunsAt place row (Some r) = (place ≡ Some r.place) × (next_place row ≡ Some r.place) × (is_over r.items ≡ false)
 
 -- the last finished task isn't behind a place
-abbrev pub LastIn : Option ℕ → Option Finish → Type 0
+abbrev pub LastIn : Option ℕ → Option LastTask → Type 0
 LastIn place None = Unit {0}
 LastIn None (Some e) = Unit {0}
 LastIn (Some p) (Some e) = e.place ≤ p
 
-abbrev pub LastBefore : Option Finish → Option ℕ → Type 0
+abbrev pub LastBefore : Option LastTask → Option ℕ → Type 0
 LastBefore None next = Unit {0}
 LastBefore (Some e) next = IsAfter e.place next
 
-abbrev pub KnownAt : Option ℕ → HostRow → Option Running → Type 0
+abbrev pub KnownAt : Option ℕ → HostOf → Option Running → Type 0
 KnownAt place row None = LastIn place row.last × LastBefore row.last (next_place row)
 KnownAt place row (Some r) = Unit {0}
 
-abbrev pub IsWell : Option ℕ → HostRow → Type 0
+abbrev pub IsWell : Option ℕ → HostOf → Type 0
 IsWell place row = RunsAt place row row.running × KnownAt place row row.running
 
 -- a row whose host runs this
-abbrev pub running : Option Running → HostRow → HostRow
+abbrev pub running : Option Running → HostOf → HostOf
 running x row = record row { running = x }
 
 -- ---- the attempts that are left
@@ -153,12 +153,12 @@ attempts_back judge items m e l =
 -- ---- one host goes through the items of its task
 module _ (plan : PlanOf) (f : Fixed) (number : ℕ) (play : PlayOf) where
   -- where no task runs nothing comes back
-  pub none_back : (n : ℕ) (row : HostRow) → row.running ≡ None → items_back plan f number play n row ≡ row
+  pub none_back : (n : ℕ) (row : HostOf) → row.running ≡ None → items_back plan f number play n row ≡ row
   none_back zero row e = refl
   none_back (suc n) row e = ap (λ (x : Option Running). option_map_or (λ (r : Running). items_back plan f number play n (item_back plan f number play row)) x row) e
 
   -- where as many attempts come back as are left, or more, the host comes to the same
-  done_same : (m n p : ℕ) (items : List Item) (row : HostRow) (over : Bool) → is_over items ≡ over
+  done_same : (m n p : ℕ) (items : List Item) (row : HostOf) (over : Bool) → is_over items ≡ over
       → (is_over items ≡ false
       → items_back plan f number play m (running (Some (record { place = p; items = items; out = None })) row) ≡ items_back plan f number play n (running (Some (record { place = p; items = items; out = None })) row))
       → items_back plan f number play m (if over then ended plan.inventory play p items row else running (Some (record { place = p; items = items; out = None })) row)
@@ -166,7 +166,7 @@ module _ (plan : PlanOf) (f : Fixed) (number : ℕ) (play : PlayOf) where
   done_same m n p items row true o on = none_back m (ended plan.inventory play p items row) refl ∙ sym (none_back n (ended plan.inventory play p items row) refl)
   done_same m n p items row false o on = on o
 
-  pub enough_back : (m n : ℕ) (r : Running) (row : HostRow) → is_over r.items ≡ false → attempts_left r.items ≤ m → attempts_left r.items ≤ n
+  pub enough_back : (m n : ℕ) (r : Running) (row : HostOf) → is_over r.items ≡ false → attempts_left r.items ≤ m → attempts_left r.items ≤ n
       → items_back plan f number play m (running (Some r) row) ≡ items_back plan f number play n (running (Some r) row)
   enough_back zero n r row over l k = let some = attempts_some r.items over in let left = some.1 in absurd (omega (arith, left, l))
   enough_back (suc m) zero r row over l k = let some = attempts_some r.items over in let left = some.1 in absurd (omega (arith, left, k))
@@ -179,42 +179,42 @@ module _ (plan : PlanOf) (f : Fixed) (number : ℕ) (play : PlayOf) where
       (attempts_back (came_back plan play row.host row.facts r.place (outcome_for plan f number play (running (Some r) row))) r.items n over k))
 
   -- a host that is behind a place, and runs nothing, is as it was
-  pub passed : (p : ℕ) (row : HostRow) → row.running ≡ None → is_at p row ≡ false → complete plan f number play p row ≡ row
+  pub passed : (p : ℕ) (row : HostOf) → row.running ≡ None → is_at p row ≡ false → complete plan f number play p row ≡ row
   passed p row idle away =
       ap (λ (x : Option Running). completed plan f number play p x row) idle ∙ if_false (is_at p row) (whole plan f number play p row) row away
 
-  ended_stays : (p q : ℕ) (items : List Item) (row : HostRow) → next_place row ≡ Some p → complete plan f number play p (ended plan.inventory play q items row) ≡ ended plan.inventory play q items row
+  ended_stays : (p q : ℕ) (items : List Item) (row : HostOf) → next_place row ≡ Some p → complete plan f number play p (ended plan.inventory play q items row) ≡ ended plan.inventory play q items row
   ended_stays p q items row e =
       passed p (ended plan.inventory play q items row) refl (not_at p (next_place (ended plan.inventory play q items row)) (ended_after plan.inventory play p q items row e))
 
   -- ---- a start
-  begun : (p : ℕ) (items : List Item) (row : HostRow) (over : Bool) → next_place row ≡ Some p
+  begun : (p : ℕ) (items : List Item) (row : HostOf) (over : Bool) → next_place row ≡ Some p
       → complete plan f number play p (if over then ended plan.inventory play p items row else running (Some (record { place = p; items = items; out = None })) row)
-      ≡ settled plan f number play (if over then ended plan.inventory play p items row else running (Some (record { place = p; items = items; out = None })) row).running
+      ≡ played_out plan f number play (if over then ended plan.inventory play p items row else running (Some (record { place = p; items = items; out = None })) row).running
       (if over then ended plan.inventory play p items row else running (Some (record { place = p; items = items; out = None })) row)
   begun p items row true e = ended_stays p p items row e
   begun p items row false e = refl
 
-  pub start_whole : (p : ℕ) (row : HostRow) → row.running ≡ None → next_place row ≡ Some p → complete plan f number play p (started plan play p row) ≡ complete plan f number play p row
+  pub start_whole : (p : ℕ) (row : HostOf) → row.running ≡ None → next_place row ≡ Some p → complete plan f number play p (started plan play p row) ≡ complete plan f number play p row
   start_whole p row idle at =
       begun p (items_at plan play row.host row.facts p) row (is_over (items_at plan play row.host row.facts p)) at
       ∙ sym (if_true (is_at p row) (whole plan f number play p row) row (is_here p row at))
       ∙ sym (ap (λ (x : Option Running). completed plan f number play p x row) idle)
 
   -- ---- a send
-  sent_goes : (o : Form) (ticket : Ticket) (r : Running) (row : HostRow) (items : List Item) (over : Bool)
-      → ◌≡◌ {A = HostRow} (if over then ended plan.inventory play r.place items (sent ticket (running (Some r) row)) else running (Some (record { place = r.place; items = items; out = None })) (sent ticket (running (Some r) row)))
+  sent_goes : (o : Form) (ticket : Ticket) (r : Running) (row : HostOf) (items : List Item) (over : Bool)
+      → ◌≡◌ {A = HostOf} (if over then ended plan.inventory play r.place items (sent ticket (running (Some r) row)) else running (Some (record { place = r.place; items = items; out = None })) (sent ticket (running (Some r) row)))
       (if over then ended plan.inventory play r.place items (running (Some r) row) else running (Some (record { place = r.place; items = items; out = None })) (running (Some r) row))
   sent_goes o ticket r row items true = refl
   sent_goes o ticket r row items false = refl
 
-  sent_back : (o : Form) (ticket : Ticket) (r : Running) (row : HostRow) → reported plan play o (sent ticket (running (Some r) row)) ≡ reported plan play o (running (Some r) row)
+  sent_back : (o : Form) (ticket : Ticket) (r : Running) (row : HostOf) → reported plan play o (sent ticket (running (Some r) row)) ≡ reported plan play o (running (Some r) row)
   sent_back o ticket r row = sent_goes o ticket r row (items_after plan play row.host row.facts o r) (is_over (items_after plan play row.host row.facts o r))
 
-  pub sent_items : (n : ℕ) (ticket : Ticket) (r : Running) (row : HostRow) → items_back plan f number play (suc n) (sent ticket (running (Some r) row)) ≡ items_back plan f number play (suc n) (running (Some r) row)
+  pub sent_items : (n : ℕ) (ticket : Ticket) (r : Running) (row : HostOf) → items_back plan f number play (suc n) (sent ticket (running (Some r) row)) ≡ items_back plan f number play (suc n) (running (Some r) row)
   sent_items n ticket r row = ap (items_back plan f number play n) (sent_back (outcome_for plan f number play (running (Some r) row)) ticket r row)
 
-  pub send_whole : (p : ℕ) (ticket : Ticket) (row : HostRow) (r : Running) → row.running ≡ Some r → is_over r.items ≡ false → complete plan f number play p (sent ticket row) ≡ complete plan f number play p row
+  pub send_whole : (p : ℕ) (ticket : Ticket) (row : HostOf) (r : Running) → row.running ≡ Some r → is_over r.items ≡ false → complete plan f number play p (sent ticket row) ≡ complete plan f number play p row
   send_whole p ticket row r runs over =
       let some = attempts_some r.items over in
       subst (λ (x : Option Running). complete plan f number play p (sent ticket (running x row)) ≡ complete plan f number play p (running x row)) (sym runs)
@@ -222,13 +222,13 @@ module _ (plan : PlanOf) (f : Fixed) (number : ℕ) (play : PlayOf) where
       ∙ sym (ap (λ (n : ℕ). items_back plan f number play n (running (Some r) row)) some.1))
 
   -- ---- a report
-  came : (p m : ℕ) (items : List Item) (row : HostRow) (over : Bool) → is_over items ≡ over → next_place row ≡ Some p → attempts_left items ≤ m
+  came : (p m : ℕ) (items : List Item) (row : HostOf) (over : Bool) → is_over items ≡ over → next_place row ≡ Some p → attempts_left items ≤ m
       → complete plan f number play p (if over then ended plan.inventory play p items row else running (Some (record { place = p; items = items; out = None })) row)
       ≡ items_back plan f number play m (if over then ended plan.inventory play p items row else running (Some (record { place = p; items = items; out = None })) row)
   came p m items row true o at count = ended_stays p p items row at ∙ sym (none_back m (ended plan.inventory play p items row) refl)
   came p m items row false o at count = enough_back (attempts_left items) m (record { place = p; items = items; out = None }) row o (omega arith) count
 
-  reported_with : (o : Form) (r : Running) (row : HostRow) → next_place row ≡ Some r.place → is_over r.items ≡ false → o ≡ outcome_for plan f number play (running (Some r) row)
+  reported_with : (o : Form) (r : Running) (row : HostOf) → next_place row ≡ Some r.place → is_over r.items ≡ false → o ≡ outcome_for plan f number play (running (Some r) row)
       → complete plan f number play r.place (reported plan play o (running (Some r) row)) ≡ complete plan f number play r.place (running (Some r) row)
   reported_with o r row at over is =
       let some = attempts_some r.items over in
@@ -238,7 +238,7 @@ module _ (plan : PlanOf) (f : Fixed) (number : ℕ) (play : PlayOf) where
       ∙ ap (λ (v : Form). items_back plan f number play some.0 (reported plan play v (running (Some r) row))) is
       ∙ sym (ap (λ (n : ℕ). items_back plan f number play n (running (Some r) row)) some.1)
 
-  pub report_whole : (o : Form) (row : HostRow) (r : Running) → row.running ≡ Some r → next_place row ≡ Some r.place → is_over r.items ≡ false → o ≡ outcome_for plan f number play row
+  pub report_whole : (o : Form) (row : HostOf) (r : Running) → row.running ≡ Some r → next_place row ≡ Some r.place → is_over r.items ≡ false → o ≡ outcome_for plan f number play row
       → complete plan f number play r.place (reported plan play o row) ≡ complete plan f number play r.place row
   report_whole o row r runs =
       subst
@@ -247,30 +247,30 @@ module _ (plan : PlanOf) (f : Fixed) (number : ℕ) (play : PlayOf) where
       (sym runs) (λ at over is. reported_with o r row at over is)
 
 -- ---- rows stay well
-began_well : (inventory : InventoryOf) (play : PlayOf) (p : ℕ) (items : List Item) (row : HostRow) (over : Bool) → is_over items ≡ over → next_place row ≡ Some p
+began_well : (inventory : InventoryOf) (play : PlayOf) (p : ℕ) (items : List Item) (row : HostOf) (over : Bool) → is_over items ≡ over → next_place row ≡ Some p
     → IsWell (Some p) (if over then ended inventory play p items row else running (Some (record { place = p; items = items; out = None })) row)
 began_well inventory play p items row true o at =
     let behind = ended_after inventory play p p items row at in
     (after_at_least p (next_place (ended inventory play p items row)) behind, (omega arith, behind))
 began_well inventory play p items row false o at = ((refl, at, o), tt)
 
-pub progressed_well : (inventory : InventoryOf) (play : PlayOf) (p : ℕ) (items : List Item) (row : HostRow) → next_place row ≡ Some p → IsWell (Some p) (progressed inventory play p items row)
+pub progressed_well : (inventory : InventoryOf) (play : PlayOf) (p : ℕ) (items : List Item) (row : HostOf) → next_place row ≡ Some p → IsWell (Some p) (progressed inventory play p items row)
 progressed_well inventory play p items row at = began_well inventory play p items row (is_over items) refl at
 
-pub sent_well : (place : Option ℕ) (ticket : Ticket) (row : HostRow) → IsWell place row → IsWell place (sent ticket row)
+pub sent_well : (place : Option ℕ) (ticket : Ticket) (row : HostOf) → IsWell place row → IsWell place (sent ticket row)
 sent_well place ticket row = by_running row.running
   where
     by_running : (x : Option Running) → IsWell place (running x row) → IsWell place (sent ticket (running x row))
     by_running None h = h
     by_running (Some r) h = h
 
-reported_by : (plan : PlanOf) (play : PlayOf) (o : Form) (p : ℕ) (row : HostRow) (x : Option Running) → IsWell (Some p) (running x row) → IsWell (Some p) (reported plan play o (running x row))
+reported_by : (plan : PlanOf) (play : PlayOf) (o : Form) (p : ℕ) (row : HostOf) (x : Option Running) → IsWell (Some p) (running x row) → IsWell (Some p) (reported plan play o (running x row))
 reported_by plan play o p row None h = h
 reported_by plan play o p row (Some r) h =
     subst (λ (q : Option ℕ). IsWell q (progressed plan.inventory play r.place (items_after plan play row.host row.facts o r) (running (Some r) row))) (sym h.0.0)
     (progressed_well plan.inventory play r.place (items_after plan play row.host row.facts o r) (running (Some r) row) h.0.1)
 
-pub reported_well : (plan : PlanOf) (play : PlayOf) (o : Form) (p : ℕ) (row : HostRow) → IsWell (Some p) row → IsWell (Some p) (reported plan play o row)
+pub reported_well : (plan : PlanOf) (play : PlayOf) (o : Form) (p : ℕ) (row : HostOf) → IsWell (Some p) row → IsWell (Some p) (reported plan play o row)
 reported_well plan play o p row h = reported_by plan play o p row row.running h
 
 -- ---- the outcome of a host's next job hangs on no ticket
@@ -300,7 +300,7 @@ running_ticket : (plan : PlanOf) (f : Fixed) (number : ℕ) (host : HostNo) (one
 running_ticket plan f number host one other play None = refl
 running_ticket plan f number host one other play (Some r) = item_ticket plan f number host one other play r (next_item r.items)
 
-pub any_ticket : (plan : PlanOf) (f : Fixed) (number : ℕ) (host : HostNo) (ticket : Ticket) (play : PlayOf) (row : HostRow) → row.host ≡ host.0
+pub any_ticket : (plan : PlanOf) (f : Fixed) (number : ℕ) (host : HostNo) (ticket : Ticket) (play : PlayOf) (row : HostOf) → row.host ≡ host.0
     → outcome_of f (row_job plan number host ticket play row) ≡ outcome_for plan f number play row
 any_ticket plan f number host ticket play row is =
     running_ticket plan f number host ticket (record { 0 = zero }) play row.running

@@ -6,43 +6,43 @@ use Rattle.pb_tree.specs.Tree.{size_of}
 use Rattle.pb_strategies.specs.declared.strategy.Strategy.TheVariants.{Linear}
 use Rattle.pb_places.specs.Place.{PlaceOf}
 use Rattle.pb_plan.specs.Plan.{PlayOf, PlanOf}
-use Rattle.pb_one_host.specs.declared.row.Running.{Running}
-use Rattle.pb_one_host.specs.Row.{HostRow, first_row, next_place, is_called, joined}
+use Rattle.pb_host.specs.declared.host.Running.{Running}
+use Rattle.pb_host.specs.Host.{HostOf, first_row, next_place, is_play_host, joined}
 use Rattle.pb_state.specs.declared.event.Event.{Event}
 use Rattle.pb_state.specs.Machine.{is_left}
 use Rattle.pb_state.specs.State.{State}
 use Rattle.pb_confluence.specs.Fixed.{Fixed}
-use Rattle.pb_confluence.specs.Effect.{settled, whole}
+use Rattle.pb_confluence.specs.Effect.{played_out, whole}
 use Rattle.pb_independence.specs.Independent.{is_independent}
 use Rattle.pb_confluence.specs.Confluence.{IsEnd}
 
 -- a host that runs a task ends it, and one that stands somewhere starts the task there and ends it; at its end a host does nothing
-abbrev pub goes_at : PlanOf → Fixed → ℕ → PlayOf → Option ℕ → HostRow → HostRow
+abbrev pub goes_at : PlanOf → Fixed → ℕ → PlayOf → Option ℕ → HostOf → HostOf
 goes_at plan f number play None row = row
 goes_at plan f number play (Some p) row = whole plan f number play p row
 
-abbrev pub goes : PlanOf → Fixed → ℕ → PlayOf → Option Running → HostRow → HostRow
+abbrev pub goes : PlanOf → Fixed → ℕ → PlayOf → Option Running → HostOf → HostOf
 goes plan f number play None row = goes_at plan f number play (next_place row) row
-goes plan f number play (Some r) row = settled plan f number play (Some r) row
+goes plan f number play (Some r) row = played_out plan f number play (Some r) row
 
 -- so many times: as many as there are places are enough
-abbrev pub walks : PlanOf → Fixed → ℕ → PlayOf → ℕ → HostRow → HostRow
+abbrev pub walks : PlanOf → Fixed → ℕ → PlayOf → ℕ → HostOf → HostOf
 walks plan f number play zero row = row
 walks plan f number play (suc n) row = walks plan f number play n (goes plan f number play row.running row)
 
 -- what stays of a host between plays
-abbrev pub between : HostRow → HostRow
+abbrev pub between : HostOf → HostOf
 between row = record (first_row row.host) { status = row.status; facts = row.facts; counts = row.counts }
 
-abbrev pub alone_in : PlanOf → Fixed → ℕ → PlayOf → HostRow → HostRow
-alone_in plan f number play row = if is_called play.hosts row then between (walks plan f number play (size_of play.tree) (joined play.tree true (between row))) else row
+abbrev pub alone_in : PlanOf → Fixed → ℕ → PlayOf → HostOf → HostOf
+alone_in plan f number play row = if is_play_host play.hosts row then between (walks plan f number play (size_of play.tree) (joined play.tree true (between row))) else row
 
 -- plays, of which the first has this number
-abbrev pub alone_from : PlanOf → Fixed → ℕ → List PlayOf → HostRow → HostRow
+abbrev pub alone_from : PlanOf → Fixed → ℕ → List PlayOf → HostOf → HostOf
 alone_from plan f number [] row = row
 alone_from plan f number (play ∷ plays) row = alone_from plan f (number + 1) plays (alone_in plan f number play row)
 
-abbrev pub alone : PlanOf → Fixed → ℕ → HostRow
+abbrev pub alone : PlanOf → Fixed → ℕ → HostOf
 alone plan f host = alone_from plan f 0 plan.plays (first_row host)
 
 -- ---- plans in which no host has an effect on others: nothing runs once, no failure is fatal for all, and any number of hosts may fail
@@ -60,7 +60,7 @@ abbrev pub EndsAlone : Type 0
 EndsAlone =
     (plan : PlanOf) (f : Fixed) (pool : ℕ) (trail : List Event) (s : State) → are_uncoupled plan ≡ true → is_independent plan ≡ true → IsEnd plan f pool trail s →
     (s.ended ≡ true → is_left plan s ≡ false) →
-    (h : ℕ) (row : HostRow) → slice_get s.rows h ≡ Some row → (row.facts ≡ (alone plan f h).facts) × (row.counts ≡ (alone plan f h).counts)
+    (h : ℕ) (row : HostOf) → slice_get s.rows h ≡ Some row → (row.facts ≡ (alone plan f h).facts) × (row.counts ≡ (alone plan f h).counts)
 
 -- ---- plans that differ in how they are run: in strategies, in sizes of batches, and in forks
 abbrev pub without_order : PlayOf → PlayOf
@@ -75,4 +75,4 @@ StrategiesAgree =
     (one two : PlanOf) (f : Fixed) (pool other_pool : ℕ) (trail other : List Event) (s t : State) → without_orders one ≡ without_orders two →
     are_uncoupled one ≡ true → is_independent one ≡ true → are_uncoupled two ≡ true → is_independent two ≡ true → IsEnd one f pool trail s → IsEnd two f other_pool other t →
     (s.ended ≡ true → is_left one s ≡ false) → (t.ended ≡ true → is_left two t ≡ false) →
-    (h : ℕ) (row new : HostRow) → slice_get s.rows h ≡ Some row → slice_get t.rows h ≡ Some new → (row.facts ≡ new.facts) × (row.counts ≡ new.counts)
+    (h : ℕ) (row new : HostOf) → slice_get s.rows h ≡ Some row → slice_get t.rows h ≡ Some new → (row.facts ≡ new.facts) × (row.counts ≡ new.counts)

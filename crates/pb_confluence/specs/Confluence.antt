@@ -1,7 +1,7 @@
 -- However many hosts run at once, a run under fixed outcomes ends in the same: each host with the same facts and the same counts.
 use Rattle.std.specs.Prelude.{◌≡◌, ◌<◌, ℕ, true, false, List, map}
 use Rattle.pb_plan.specs.Plan.{PlanOf}
-use Rattle.pb_one_host.specs.Row.{HostRow}
+use Rattle.pb_host.specs.Host.{HostOf}
 use Rattle.pb_recap.specs.Recap.{recap}
 use Rattle.pb_state.specs.declared.event.Event.{Event}
 use Rattle.pb_state.specs.Machine.{facts_at, first_state}
@@ -41,7 +41,7 @@ pub record IsEnd (plan : PlanOf) (f : Fixed) (pool : ℕ) (trail : List Event) (
 abbrev pub CountsTogether : Type 0
 CountsTogether =
     (plan : PlanOf) (f : Fixed) (pool : ℕ) (trail : List Event) (s : State) → are_linear plan ≡ true → is_independent plan ≡ true → IsEnd plan f pool trail s →
-    recap plan pool trail ≡ map (λ (row : HostRow). row.counts) (together plan f)
+    recap plan pool trail ≡ map (λ (row : HostOf). row.counts) (together plan f)
 
 -- two ends with the same rows, so with the same facts, and with the same recap, which is counted over each trail from scratch
 pub record AreAlike (one two : PlanOf) (pool other_pool : ℕ) (trail other : List Event) (s t : State) : Type 0 where

@@ -6,7 +6,7 @@ use Rattle.std.specs.Option.{option_map_or}
 use Rattle.pb_facts.specs.Facts.{FactsOf, no_facts}
 use Rattle.pb_independence.specs.Independent.{is_independent, are_linear}
 use Rattle.pb_plan.specs.Plan.{PlanOf}
-use Rattle.pb_one_host.specs.Row.{HostRow}
+use Rattle.pb_host.specs.Host.{HostOf}
 use Rattle.pb_recap.specs.Recap.{recap}
 use Rattle.pb_state.specs.declared.event.Event.{Event}
 use Rattle.pb_state.specs.Machine.{facts_at, is_left}
@@ -17,14 +17,14 @@ use Rattle.pb_confluence.specs.Fixed.{Fixed}
 use Rattle.pb_confluence.specs.Together.{together}
 
 -- what a host knows by its row; of a number that is no host's nothing is known
-abbrev pub facts_in : List HostRow → ℕ → FactsOf
-facts_in rows host = option_map_or (λ (row : HostRow). row.facts) (slice_get rows host) no_facts
+abbrev pub facts_in : List HostOf → ℕ → FactsOf
+facts_in rows host = option_map_or (λ (row : HostOf). row.facts) (slice_get rows host) no_facts
 
 -- the end is what the hosts reach together: the rows, so the facts of each host, and the recap, which is counted over the trail from scratch
 pub record IsTogether (plan : PlanOf) (f : Fixed) (pool : ℕ) (trail : List Event) (s : State) : Type 0 where
   pub rows : s.rows ≡ together plan f
   pub facts : (host : ℕ) → facts_at s host ≡ facts_in (together plan f) host
-  pub counts : recap plan pool trail ≡ map (λ (row : HostRow). row.counts) (together plan f)
+  pub counts : recap plan pool trail ≡ map (λ (row : HostOf). row.counts) (together plan f)
 
 -- the end is what each host reaches alone
 pub record IsAlone (plan : PlanOf) (f : Fixed) (pool : ℕ) (trail : List Event) (s : State) : Type 0 where

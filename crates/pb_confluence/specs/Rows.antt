@@ -5,9 +5,9 @@ use Rattle.pb_outcome.specs.declared.outcome.Form.{Form}
 use Rattle.pb_outcome.specs.declared.outcome.Form.TheVariants.{Ran, Unreachable as NoAnswer}
 use Rattle.pb_places.specs.Place.{PlaceOf}
 use Rattle.pb_plan.specs.Plan.{PlanOf, bare_play, bare_tree}
-use Rattle.pb_one_host.specs.declared.row.Counts.{Counts}
-use Rattle.pb_one_host.specs.FactRows.{on_facts}
-use Rattle.pb_one_host.specs.Row.{HostRow, none_counted}
+use Rattle.pb_host.specs.declared.host.Counts.{Counts}
+use Rattle.pb_host.specs.FactRows.{on_facts}
+use Rattle.pb_host.specs.Host.{HostOf, none_counted}
 use Rattle.pb_state.specs.declared.event.Event.{Event}
 use Rattle.pb_state.specs.declared.event.Event.TheVariants.{Open, Send, Report as Reported, Turn, Close, Forks}
 use Rattle.pb_state.specs.Machine.{first_state}
@@ -20,8 +20,8 @@ use Rattle.pb_confluence.specs.Together.{together}
 abbrev pub comes : ℕ → ℕ → Form → Event
 comes h ticket outcome = Reported (record { ticket = record { 0 = ticket }; host = record { 0 = h }; item = 0; attempt = 1; outcome = outcome })
 
-abbrev pub counts : List HostRow → List Counts
-counts rows = map (λ (row : HostRow). row.counts) rows
+abbrev pub counts : List HostOf → List Counts
+counts rows = map (λ (row : HostOf). row.counts) rows
 
 -- ---- a command whose failure is fatal for all, and then a task: the first host fails
 abbrev pub fails : Fixed

@@ -18,9 +18,9 @@ use Rattle.pb_runner.specs.declared.table.Row.{Row}
 use Rattle.pb_runner.specs.declared.table.Table.{Table}
 use Rattle.pb_runner.specs.Table.{TableGives, answer, first_outcome, fits, number_fits, text_fits}
 use Rattle.pb_tree.specs.Tree.{path_at}
-use Rattle.pb_one_host.specs.declared.row.Running.{Running}
-use Rattle.pb_one_host.specs.Calls.{call_in, delegate_in}
-use Rattle.pb_one_host.specs.Row.{HostRow}
+use Rattle.pb_host.specs.declared.host.Running.{Running}
+use Rattle.pb_host.specs.Calls.{call_in, delegate_in}
+use Rattle.pb_host.specs.Host.{HostOf}
 use Rattle.pb_state.specs.declared.event.Event.{Event}
 use Rattle.pb_state.specs.declared.event.Event.TheVariants.{Open, Start, Send, Report as Reported, Turn, Close, Stop, Forks}
 use Rattle.pb_state.specs.Jobs.{AttemptOf, connector_for, item_job, job_in, job_of, job_with, named_job, next_attempt, placed_job, row_job, running_job}
@@ -58,7 +58,7 @@ module _ (plan : PlanOf) (number : ℕ) (host : HostNo) (ticket : Ticket) (job :
   by_running play None is = cc
   by_running play (Some r) is = by_item play r (next_item r.items) is
 
-  by_row : (play : PlayOf) (row : Option HostRow) → option_map_or (row_job plan number host ticket play) row None ≡ Some job → HasName plan job
+  by_row : (play : PlayOf) (row : Option HostOf) → option_map_or (row_job plan number host ticket play) row None ≡ Some job → HasName plan job
   by_row play None is = cc
   by_row play (Some row) is = by_running play row.running is
 

@@ -3,7 +3,7 @@ use Rattle.std.proofs.Common.{◌≡◌, ℕ, ◌+◌, ◌-◌, ◌≤◌, List,
 use Rattle.std.proofs.lemmas.List.{append-nil, take_all, take_min, take-append-le}
 use Rattle.std.specs.Prelude.{min, suc, zero, Option}
 use Rattle.pb_state.specs.declared.event.Event.{Event}
-use Rattle.pb_one_host.specs.declared.row.Counts.{Counts}
+use Rattle.pb_host.specs.declared.host.Counts.{Counts}
 use Rattle.pb_plan.specs.Plan.{PlanOf}
 use Rattle.pb_state.specs.State.{State}
 use Rattle.pb_state.specs.Machine.{after, first_state}

@@ -10,13 +10,13 @@ use Rattle.pb_outcome.specs.declared.job.Job.{Job}
 use Rattle.pb_outcome.specs.declared.job.Report.{Report}
 use Rattle.pb_state.specs.declared.event.Event.{Event}
 use Rattle.pb_state.specs.declared.event.Event.TheVariants.{Open, Start, Send, Report as Reported, Turn, Close, Stop, Forks}
-use Rattle.pb_one_host.specs.declared.row.Counts.{Counts}
+use Rattle.pb_host.specs.declared.host.Counts.{Counts}
 use Rattle.pb_plan.specs.Plan.{PlanOf}
 use Rattle.pb_state.specs.State.{State}
-use Rattle.pb_one_host.specs.Runs.{is_out}
+use Rattle.pb_host.specs.Runs.{is_out}
 use Rattle.pb_state.specs.Machine.{possible, after, first_state, attempt_at, item_at}
 use Rattle.pb_state.specs.Jobs.{job_of}
-use Rattle.pb_all_hosts.specs.Oldest.{oldest_out}
+use Rattle.pb_hosts.specs.Oldest.{oldest_out}
 use Rattle.pb_state.specs.Run.{IsEager, IsQuiet, state_from, is_report, is_command}
 use Rattle.pb_state.proofs.Once.{nothing_twice}
 use Rattle.pb_state.proofs.Trails.{legal_more}
@@ -26,7 +26,7 @@ use Rattle.pb_engine.specs.declared.fault.EngineFault.TheVariants.{PoolTooSmall}
 use Rattle.pb_engine.specs.Choice.{NextIs, MovesBy, answer_of}
 use Rattle.pb_engine.specs.declared.engine.Next.{Next}
 use Rattle.pb_engine.specs.declared.engine.Next.TheVariants.{Sent, Moved, Waiting, Finished}
-use Rattle.pb_all_hosts.proofs.OldestOut.{some_oldest}
+use Rattle.pb_hosts.proofs.OldestOut.{some_oldest}
 use Rattle.pb_engine.proofs.Waits.{job_in_run, oldest_in_run}
 use Rattle.pb_engine.specs.Refusals.{refusal_of}
 use Rattle.pb_events.specs.Lines.{lines_of, start_line}

@@ -11,7 +11,7 @@ use Rattle.pb_engine.specs.declared.command.Command.{Command}
 use Rattle.pb_engine.specs.declared.command.Command.TheVariants.{Stop as ToStop, Forks as ToForks}
 use Rattle.pb_engine.specs.Commands.{event_for}
 use Rattle.pb_driver.specs.declared.given.Given.{Given}
-use Rattle.pb_driver.specs.Commanded.{is_due, due, behind_due, is_taken, told, count_report, with_commands, own_events, none_due}
+use Rattle.pb_driver.specs.Commanded.{is_due, due, behind_due, is_taken, accepted, count_report, with_commands, own_events, none_due}
 use Rattle.pb_driver.specs.Obedient.{commands_in, events_for, AreSomeOf, stand_behind_reports, CommandsStandBehindReports}
 use Rattle.pb_driver.proofs.Obeying.{due_none}
 
@@ -52,11 +52,11 @@ some_by : (b : Bool) (e : Event) (taken refused ys : List Event) → AreSomeOf t
 some_by true e taken refused ys a c = inr (taken, refl, a)
 some_by false e taken refused ys a c = inl c
 
-some_told : (plan : PlanOf) (pool : ℕ) (s : State) (commands : List Given) → AreSomeOf (told plan pool s commands) (events_for commands)
-some_told plan pool s [] = refl
-some_told plan pool s (given ∷ rest) =
-    some_by (is_taken plan pool s given) (event_for given.command) (told plan pool (after plan s (event_for given.command)) rest) (told plan pool s rest) (events_for rest)
-    (some_told plan pool (after plan s (event_for given.command)) rest) (some_told plan pool s rest)
+some_accepted : (plan : PlanOf) (pool : ℕ) (s : State) (commands : List Given) → AreSomeOf (accepted plan pool s commands) (events_for commands)
+some_accepted plan pool s [] = refl
+some_accepted plan pool s (given ∷ rest) =
+    some_by (is_taken plan pool s given) (event_for given.command) (accepted plan pool (after plan s (event_for given.command)) rest) (accepted plan pool s rest) (events_for rest)
+    (some_accepted plan pool (after plan s (event_for given.command)) rest) (some_accepted plan pool s rest)
 
 -- the commands of events behind one another
 in_by : (b : Bool) (e : Event) (xs ys : List Event) → (if b then e ∷ (xs ++ ys) else xs ++ ys) ≡ (if b then e ∷ xs else xs) ++ ys
@@ -79,26 +79,26 @@ told_by : (b : Bool) (command : Command) (taken refused : List Event) → comman
 told_by true command taken refused a c = in_command command taken a
 told_by false command taken refused a c = c
 
-in_told : (plan : PlanOf) (pool : ℕ) (s : State) (commands : List Given) → commands_in (told plan pool s commands) ≡ told plan pool s commands
-in_told plan pool s [] = refl
-in_told plan pool s (given ∷ rest) =
-    told_by (is_taken plan pool s given) given.command (told plan pool (after plan s (event_for given.command)) rest) (told plan pool s rest)
-    (in_told plan pool (after plan s (event_for given.command)) rest) (in_told plan pool s rest)
+in_accepted : (plan : PlanOf) (pool : ℕ) (s : State) (commands : List Given) → commands_in (accepted plan pool s commands) ≡ accepted plan pool s commands
+in_accepted plan pool s [] = refl
+in_accepted plan pool s (given ∷ rest) =
+    told_by (is_taken plan pool s given) given.command (accepted plan pool (after plan s (event_for given.command)) rest) (accepted plan pool s rest)
+    (in_accepted plan pool (after plan s (event_for given.command)) rest) (in_accepted plan pool s rest)
 
 -- the commands of a run are some of those that were given
 some_in : (plan : PlanOf) (pool : ℕ) (s : State) (reports : ℕ) (commands : List Given) (es : List Event) → AreOwn es → AreSomeOf (commands_in (with_commands plan pool s reports commands es)) (events_for commands)
 some_in plan pool s reports commands [] own =
-    let first = some_told plan pool s (due reports commands) in
-    let all = some_both (told plan pool s (due reports commands)) [] (events_for (due reports commands)) (events_for (behind_due reports commands)) first (some_none (events_for (behind_due reports commands))) in
-    subst (λ (xs : List Event). AreSomeOf xs (events_for commands)) (append-nil (told plan pool s (due reports commands)) ∙ sym (in_told plan pool s (due reports commands)))
-    (subst (λ (ys : List Event). AreSomeOf (told plan pool s (due reports commands) ++ []) ys) (split_due reports commands) all)
+    let first = some_accepted plan pool s (due reports commands) in
+    let all = some_both (accepted plan pool s (due reports commands)) [] (events_for (due reports commands)) (events_for (behind_due reports commands)) first (some_none (events_for (behind_due reports commands))) in
+    subst (λ (xs : List Event). AreSomeOf xs (events_for commands)) (append-nil (accepted plan pool s (due reports commands)) ∙ sym (in_accepted plan pool s (due reports commands)))
+    (subst (λ (ys : List Event). AreSomeOf (accepted plan pool s (due reports commands) ++ []) ys) (split_due reports commands) all)
 some_in plan pool s reports commands (e ∷ es) own =
-    let first = told plan pool s (due reports commands) in
+    let first = accepted plan pool s (due reports commands) in
     let later = after plan (state_from plan s first) e in
     let rest = with_commands plan pool later (count_report reports e) (behind_due reports commands) es in
     let behind = some_in plan pool later (count_report reports e) (behind_due reports commands) es own.1 in
-    let all = some_both first (commands_in rest) (events_for (due reports commands)) (events_for (behind_due reports commands)) (some_told plan pool s (due reports commands)) behind in
-    let is : commands_in (first ++ e ∷ rest) ≡ first ++ commands_in rest = in_both first (e ∷ rest) ∙ ap (λ (l : List Event). l ++ commands_in (e ∷ rest)) (in_told plan pool s (due reports commands)) ∙ ap (λ (l : List Event). first ++ l) (in_own e rest own.0) in
+    let all = some_both first (commands_in rest) (events_for (due reports commands)) (events_for (behind_due reports commands)) (some_accepted plan pool s (due reports commands)) behind in
+    let is : commands_in (first ++ e ∷ rest) ≡ first ++ commands_in rest = in_both first (e ∷ rest) ∙ ap (λ (l : List Event). l ++ commands_in (e ∷ rest)) (in_accepted plan pool s (due reports commands)) ∙ ap (λ (l : List Event). first ++ l) (in_own e rest own.0) in
     subst (λ (xs : List Event). AreSomeOf xs (events_for commands)) (sym is) (subst (λ (ys : List Event). AreSomeOf (first ++ commands_in rest) ys) (split_due reports commands) all)
 
 -- behind a report commands may stand, and so they may behind commands
@@ -111,11 +111,11 @@ stand_by : (b : Bool) (command : Command) (taken refused es : List Event) → st
 stand_by true command taken refused es a c = ap (λ (may : Bool). stand_behind_reports may (taken ++ es)) (passes command) ∙ a
 stand_by false command taken refused es a c = c
 
-stand_told : (plan : PlanOf) (pool : ℕ) (s : State) (commands : List Given) (es : List Event) → stand_behind_reports true (told plan pool s commands ++ es) ≡ stand_behind_reports true es
-stand_told plan pool s [] es = refl
-stand_told plan pool s (given ∷ rest) es =
-    stand_by (is_taken plan pool s given) given.command (told plan pool (after plan s (event_for given.command)) rest) (told plan pool s rest) es
-    (stand_told plan pool (after plan s (event_for given.command)) rest es) (stand_told plan pool s rest es)
+stand_accepted : (plan : PlanOf) (pool : ℕ) (s : State) (commands : List Given) (es : List Event) → stand_behind_reports true (accepted plan pool s commands ++ es) ≡ stand_behind_reports true es
+stand_accepted plan pool s [] es = refl
+stand_accepted plan pool s (given ∷ rest) es =
+    stand_by (is_taken plan pool s given) given.command (accepted plan pool (after plan s (event_for given.command)) rest) (accepted plan pool s rest) es
+    (stand_accepted plan pool (after plan s (event_for given.command)) rest es) (stand_accepted plan pool s rest es)
 
 -- commands may stand here, or none is due
 abbrev HasTurn : Bool → ℕ → List Given → Type 0
@@ -147,16 +147,16 @@ own_stands false e es is = ap (λ (b : Bool). not b && stand_behind_reports (is_
 
 -- a front of commands where they may stand, or none
 stand_first : (may : Bool) (plan : PlanOf) (pool : ℕ) (s : State) (reports : ℕ) (commands : List Given) (es : List Event) → HasTurn may reports commands
-    → stand_behind_reports may (told plan pool s (due reports commands) ++ es) ≡ stand_behind_reports may es
-stand_first may plan pool s reports commands es (inl is) = rw is (stand_told plan pool s (due reports commands) es)
-stand_first may plan pool s reports commands es (inr none) = ap (λ (l : List Given). stand_behind_reports may (told plan pool s l ++ es)) (due_none reports commands none)
+    → stand_behind_reports may (accepted plan pool s (due reports commands) ++ es) ≡ stand_behind_reports may es
+stand_first may plan pool s reports commands es (inl is) = rw is (stand_accepted plan pool s (due reports commands) es)
+stand_first may plan pool s reports commands es (inr none) = ap (λ (l : List Given). stand_behind_reports may (accepted plan pool s l ++ es)) (due_none reports commands none)
 
 stand_in : (may : Bool) (plan : PlanOf) (pool : ℕ) (s : State) (reports : ℕ) (commands : List Given) (es : List Event) → AreOwn es → HasTurn may reports commands
     → stand_behind_reports may (with_commands plan pool s reports commands es) ≡ true
 stand_in may plan pool s reports commands [] own turn =
-    ap (λ (l : List Event). stand_behind_reports may l) (sym (append-nil (told plan pool s (due reports commands)))) ∙ stand_first may plan pool s reports commands [] turn
+    ap (λ (l : List Event). stand_behind_reports may l) (sym (append-nil (accepted plan pool s (due reports commands)))) ∙ stand_first may plan pool s reports commands [] turn
 stand_in may plan pool s reports commands (e ∷ es) own turn =
-    let later = after plan (state_from plan s (told plan pool s (due reports commands))) e in
+    let later = after plan (state_from plan s (accepted plan pool s (due reports commands))) e in
     let rest = with_commands plan pool later (count_report reports e) (behind_due reports commands) es in
     stand_first may plan pool s reports commands (e ∷ rest) turn ∙ own_stands may e rest own.0
     ∙ stand_in (is_report e || is_command e) plan pool later (count_report reports e) (behind_due reports commands) es own.1 (next_turn reports commands e own.0)

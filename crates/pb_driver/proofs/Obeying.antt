@@ -12,8 +12,8 @@ use Rattle.pb_engine.specs.declared.command.CommandFault.{CommandFault}
 use Rattle.pb_engine.specs.Commands.{event_for, fault_of}
 use Rattle.pb_engine.specs.EngineOf.{EngineOf, Takes, taken}
 use Rattle.pb_driver.specs.declared.given.Given.{Given}
-use Rattle.pb_driver.specs.declared.given.Told.{Told}
-use Rattle.pb_driver.specs.Commanded.{is_due, due, behind_due, is_taken, told, count_report, with_commands, run_with, own_events, IsObeyed, IsObeyedTo, IsAlong, none_due}
+use Rattle.pb_driver.specs.declared.given.CommandCursor.{CommandCursor}
+use Rattle.pb_driver.specs.Commanded.{is_due, due, behind_due, is_taken, accepted, count_report, with_commands, run_with, own_events, IsObeyed, IsObeyedTo, IsAlong, none_due}
 use Rattle.pb_driver.specs.Driven.{IsFresh, IsSame, TakesOwn, TakesAtMost}
 use Rattle.pb_driver.proofs.Driving.{last_is}
 use Rattle.pb_driver.proofs.Commanding.{is_for}
@@ -38,13 +38,13 @@ due_one reports given rest e = ap (λ (b : Bool). if b then given ∷ due report
 behind_one : (reports : ℕ) (given : Given) (rest : List Given) → is_due reports given ≡ true → behind_due reports (given ∷ rest) ≡ behind_due reports rest
 behind_one reports given rest e = ap (λ (b : Bool). if b then behind_due reports rest else given ∷ rest) e
 
-told_taken : (plan : PlanOf) (pool : ℕ) (s : State) (given : Given) (rest : List Given) → is_taken plan pool s given ≡ true → told plan pool s (given ∷ rest) ≡ event_for given.command ∷ told plan pool (after plan s (event_for given.command)) rest
-told_taken plan pool s given rest e =
-    ap (λ (b : Bool). if b then event_for given.command ∷ told plan pool (after plan s (event_for given.command)) rest else told plan pool s rest) e
+accepted_taken : (plan : PlanOf) (pool : ℕ) (s : State) (given : Given) (rest : List Given) → is_taken plan pool s given ≡ true → accepted plan pool s (given ∷ rest) ≡ event_for given.command ∷ accepted plan pool (after plan s (event_for given.command)) rest
+accepted_taken plan pool s given rest e =
+    ap (λ (b : Bool). if b then event_for given.command ∷ accepted plan pool (after plan s (event_for given.command)) rest else accepted plan pool s rest) e
 
-told_refused : (plan : PlanOf) (pool : ℕ) (s : State) (given : Given) (rest : List Given) → is_taken plan pool s given ≡ false → told plan pool s (given ∷ rest) ≡ told plan pool s rest
-told_refused plan pool s given rest e =
-    ap (λ (b : Bool). if b then event_for given.command ∷ told plan pool (after plan s (event_for given.command)) rest else told plan pool s rest) e
+accepted_refused : (plan : PlanOf) (pool : ℕ) (s : State) (given : Given) (rest : List Given) → is_taken plan pool s given ≡ false → accepted plan pool s (given ∷ rest) ≡ accepted plan pool s rest
+accepted_refused plan pool s given rest e =
+    ap (λ (b : Bool). if b then event_for given.command ∷ accepted plan pool (after plan s (event_for given.command)) rest else accepted plan pool s rest) e
 
 -- commands, and behind them an event and the rest
 abbrev put_in : PlanOf → ℕ → State → ℕ → List Event → List Given → Event → List Event → List Event
@@ -52,17 +52,17 @@ put_in plan pool s reports first left e es = first ++ e ∷ with_commands plan p
 
 with_taken : (plan : PlanOf) (pool : ℕ) (s : State) (reports : ℕ) (given : Given) (rest : List Given) (es : List Event) → is_due reports given ≡ true → is_taken plan pool s given ≡ true
     → with_commands plan pool s reports (given ∷ rest) es ≡ event_for given.command ∷ with_commands plan pool (after plan s (event_for given.command)) reports rest es
-with_taken plan pool s reports given rest [] is_now takes = ap (λ l. told plan pool s l) (due_one reports given rest is_now) ∙ told_taken plan pool s given (due reports rest) takes
+with_taken plan pool s reports given rest [] is_now takes = ap (λ l. accepted plan pool s l) (due_one reports given rest is_now) ∙ accepted_taken plan pool s given (due reports rest) takes
 with_taken plan pool s reports given rest (e ∷ es) is_now takes =
-    ap (λ first. put_in plan pool s reports first (behind_due reports (given ∷ rest)) e es) (ap (λ l. told plan pool s l) (due_one reports given rest is_now) ∙ told_taken plan pool s given (due reports rest) takes)
-    ∙ ap (λ left. put_in plan pool s reports (event_for given.command ∷ told plan pool (after plan s (event_for given.command)) (due reports rest)) left e es) (behind_one reports given rest is_now)
+    ap (λ first. put_in plan pool s reports first (behind_due reports (given ∷ rest)) e es) (ap (λ l. accepted plan pool s l) (due_one reports given rest is_now) ∙ accepted_taken plan pool s given (due reports rest) takes)
+    ∙ ap (λ left. put_in plan pool s reports (event_for given.command ∷ accepted plan pool (after plan s (event_for given.command)) (due reports rest)) left e es) (behind_one reports given rest is_now)
 
 with_refused : (plan : PlanOf) (pool : ℕ) (s : State) (reports : ℕ) (given : Given) (rest : List Given) (es : List Event) → is_due reports given ≡ true → is_taken plan pool s given ≡ false
     → with_commands plan pool s reports (given ∷ rest) es ≡ with_commands plan pool s reports rest es
-with_refused plan pool s reports given rest [] is_now refused = ap (λ l. told plan pool s l) (due_one reports given rest is_now) ∙ told_refused plan pool s given (due reports rest) refused
+with_refused plan pool s reports given rest [] is_now refused = ap (λ l. accepted plan pool s l) (due_one reports given rest is_now) ∙ accepted_refused plan pool s given (due reports rest) refused
 with_refused plan pool s reports given rest (e ∷ es) is_now refused =
-    ap (λ first. put_in plan pool s reports first (behind_due reports (given ∷ rest)) e es) (ap (λ l. told plan pool s l) (due_one reports given rest is_now) ∙ told_refused plan pool s given (due reports rest) refused)
-    ∙ ap (λ left. put_in plan pool s reports (told plan pool s (due reports rest)) left e es) (behind_one reports given rest is_now)
+    ap (λ first. put_in plan pool s reports first (behind_due reports (given ∷ rest)) e es) (ap (λ l. accepted plan pool s l) (due_one reports given rest is_now) ∙ accepted_refused plan pool s given (due reports rest) refused)
+    ∙ ap (λ left. put_in plan pool s reports (accepted plan pool s (due reports rest)) left e es) (behind_one reports given rest is_now)
 
 -- none is due
 not_true : (b : Bool) → not b ≡ true → b ≡ false
@@ -80,11 +80,11 @@ behind_none reports (given ∷ rest) e = ap (λ (b : Bool). if b then behind_due
 with_none : (plan : PlanOf) (pool : ℕ) (s : State) (reports : ℕ) (commands : List Given) (e : Event) (es : List Event) → none_due reports commands ≡ true
     → with_commands plan pool s reports commands (e ∷ es) ≡ e ∷ with_commands plan pool (after plan s e) (count_report reports e) commands es
 with_none plan pool s reports commands e es none =
-    ap (λ first. put_in plan pool s reports first (behind_due reports commands) e es) (ap (λ l. told plan pool s l) (due_none reports commands none))
+    ap (λ first. put_in plan pool s reports first (behind_due reports commands) e es) (ap (λ l. accepted plan pool s l) (due_none reports commands none))
     ∙ ap (λ left. put_in plan pool s reports [] left e es) (behind_none reports commands none)
 
 with_end : (plan : PlanOf) (pool : ℕ) (s : State) (reports : ℕ) (commands : List Given) → none_due reports commands ≡ true → with_commands plan pool s reports commands [] ≡ []
-with_end plan pool s reports commands none = ap (λ l. told plan pool s l) (due_none reports commands none)
+with_end plan pool s reports commands none = ap (λ l. accepted plan pool s l) (due_none reports commands none)
 
 -- before the run
 pub along_first : (commands : List Given) (engine : EngineOf) → IsFresh engine → IsAlong commands (record { given = 0; reports = 0 }) engine
@@ -100,7 +100,7 @@ next_of (c ∷ cs) (suc i) given e = let on : suc i + 1 ≡ suc (i + 1) = omega 
 abbrev goes_on : List Given → ℕ → ℕ → EngineOf → List Event → List Event
 goes_on commands given reports engine es = engine.trail ++ with_commands engine.plan engine.pool engine.state reports (drop given commands) es
 
-along_taken : (commands : List Given) (now : Told) (old : EngineOf) (given : Given) → IsAlong commands now old → slice_get commands now.given ≡ Some given → is_due now.reports given ≡ true
+along_taken : (commands : List Given) (now : CommandCursor) (old : EngineOf) (given : Given) → IsAlong commands now old → slice_get commands now.given ≡ Some given → is_due now.reports given ≡ true
     → is_taken old.plan old.pool old.state given ≡ true → IsAlong commands (record now { given = now.given + 1 }) (taken old (event_for given.command))
 along_taken commands now old given so next is_now takes = record {
   along = λ es.
@@ -111,7 +111,7 @@ along_taken commands now old given so next is_now takes = record {
   counted = let so_far = so.counted in simp length-append (omega arith);
 }
 
-along_refused : (commands : List Given) (now : Told) (old : EngineOf) (given : Given) → IsAlong commands now old → slice_get commands now.given ≡ Some given → is_due now.reports given ≡ true
+along_refused : (commands : List Given) (now : CommandCursor) (old : EngineOf) (given : Given) → IsAlong commands now old → slice_get commands now.given ≡ Some given → is_due now.reports given ≡ true
     → is_taken old.plan old.pool old.state given ≡ false → IsAlong commands (record now { given = now.given + 1 }) old
 along_refused commands now old given so next is_now refused = record {
   along = λ es.
@@ -120,19 +120,19 @@ along_refused commands now old given so next is_now refused = record {
   counted = so.counted;
 }
 
-along_by : (b : Bool) (commands : List Given) (now : Told) (old new : EngineOf) (given : Given) → b ≡ is_taken old.plan old.pool old.state given → IsAlong commands now old → slice_get commands now.given ≡ Some given
+along_by : (b : Bool) (commands : List Given) (now : CommandCursor) (old new : EngineOf) (given : Given) → b ≡ is_taken old.plan old.pool old.state given → IsAlong commands now old → slice_get commands now.given ≡ Some given
     → is_due now.reports given ≡ true → (is_taken old.plan old.pool old.state given ≡ true → Takes old new (event_for given.command)) → (is_taken old.plan old.pool old.state given ≡ false → new ≡ old)
     → IsAlong commands (record now { given = now.given + 1 }) new
 along_by true commands now old new given is so next is_now takes refused = rw (takes (sym is)).1 (along_taken commands now old given so next is_now (sym is))
 along_by false commands now old new given is so next is_now takes refused = rw (refused (sym is)) (along_refused commands now old given so next is_now (sym is))
 
-pub along_given : (commands : List Given) (now : Told) (old new : EngineOf) (given : Given) → IsAlong commands now old → slice_get commands now.given ≡ Some given → is_due now.reports given ≡ true
+pub along_given : (commands : List Given) (now : CommandCursor) (old new : EngineOf) (given : Given) → IsAlong commands now old → slice_get commands now.given ≡ Some given → is_due now.reports given ≡ true
     → (is_taken old.plan old.pool old.state given ≡ true → Takes old new (event_for given.command)) → (is_taken old.plan old.pool old.state given ≡ false → new ≡ old)
     → IsAlong commands (record now { given = now.given + 1 }) new
 along_given commands now old new given so next is_now takes refused = along_by (is_taken old.plan old.pool old.state given) commands now old new given refl so next is_now takes refused
 
 -- an event of the run's own
-own_at : (commands : List Given) (now : Told) (old : EngineOf) (e : Event) → IsAlong commands now old → none_due now.reports (drop now.given commands) ≡ true → is_command e ≡ false → (es : List Event)
+own_at : (commands : List Given) (now : CommandCursor) (old : EngineOf) (e : Event) → IsAlong commands now old → none_due now.reports (drop now.given commands) ≡ true → is_command e ≡ false → (es : List Event)
     → run_with old.plan old.pool commands (own_events (old.trail ++ e ∷ []) ++ es) ≡ goes_on commands now.given (count_report now.reports e) (taken old e) es
 own_at commands now old e so none is es =
     ap (λ xs. run_with old.plan old.pool commands (xs ++ es)) (own_more old.trail e is) ∙ ap (λ xs. run_with old.plan old.pool commands xs) (append_assoc (own_events old.trail) (e ∷ []) es) ∙ so.along (e ∷ es)
@@ -145,41 +145,41 @@ report_more false reports n le = omega arith
 last_of : (old : EngineOf) (e : Event) → slice_get (old.trail ++ e ∷ []) (length (old.trail ++ e ∷ []) - 1) ≡ Some e
 last_of old e = let there : length (old.trail ++ e ∷ []) - 1 ≡ length old.trail = simp length-append (omega arith) in rw there (last_is old.trail e (length old.trail) refl)
 
-abbrev counted_last : Told → EngineOf → ℕ
+abbrev counted_last : CommandCursor → EngineOf → ℕ
 counted_last now engine = option_map_or (count_report now.reports) (slice_get engine.trail (length engine.trail - 1)) now.reports
 
-along_one : (commands : List Given) (now : Told) (old : EngineOf) (e : Event) → IsAlong commands now old → none_due now.reports (drop now.given commands) ≡ true → is_command e ≡ false
+along_one : (commands : List Given) (now : CommandCursor) (old : EngineOf) (e : Event) → IsAlong commands now old → none_due now.reports (drop now.given commands) ≡ true → is_command e ≡ false
     → IsAlong commands (record now { reports = count_report now.reports e }) (taken old e)
 along_one commands now old e so none is = record {
   along = λ es. own_at commands now old e so none is es;
   counted = let le = report_more (is_report e) now.reports (length old.trail) so.counted in let on : length (old.trail ++ e ∷ []) ≡ length old.trail + 1 = length-append old.trail (e ∷ []) in rw on le;
 }
 
-pub along_own : (commands : List Given) (now later : Told) (old new : EngineOf) → IsAlong commands now old → none_due now.reports (drop now.given commands) ≡ true → TakesOwn old new
+pub along_own : (commands : List Given) (now later : CommandCursor) (old new : EngineOf) → IsAlong commands now old → none_due now.reports (drop now.given commands) ≡ true → TakesOwn old new
     → later ≡ record now { reports = option_map_or (count_report now.reports) (slice_get new.trail (length new.trail - 1)) now.reports } → IsAlong commands later new
 along_own commands now later old new so none own is =
     rw (is, own.1.1, last_of old own.0) (along_one commands now old own.0 so none own.2)
 
 -- where nothing was taken
-pub along_as : (commands : List Given) (now : Told) (old new : EngineOf) → IsAlong commands now old → new ≡ old → IsAlong commands now new
+pub along_as : (commands : List Given) (now : CommandCursor) (old new : EngineOf) → IsAlong commands now old → new ≡ old → IsAlong commands now new
 along_as commands now old new so same = rw same so
 
-pub own_counts : (commands : List Given) (now : Told) (old new : EngineOf) → IsAlong commands now old → TakesOwn old new → now.reports < length new.trail
+pub own_counts : (commands : List Given) (now : CommandCursor) (old new : EngineOf) → IsAlong commands now old → TakesOwn old new → now.reports < length new.trail
 own_counts commands now old new so own =
     let so_far = so.counted in let on : length (old.trail ++ own.0 ∷ []) ≡ length old.trail + 1 = length-append old.trail (own.0 ∷ []) in rw own.1.1 (omega arith)
 
 -- a front of the run, and the whole run
-pub obeyed_to : (commands : List Given) (now : Told) (engine : EngineOf) → IsAlong commands now engine → IsObeyedTo engine.plan engine.pool commands engine.trail
+pub obeyed_to : (commands : List Given) (now : CommandCursor) (engine : EngineOf) → IsAlong commands now engine → IsObeyedTo engine.plan engine.pool commands engine.trail
 obeyed_to commands now engine so =
     (with_commands engine.plan engine.pool engine.state now.reports (drop now.given commands) [], ap (λ xs. run_with engine.plan engine.pool commands xs) (sym (append-nil (own_events engine.trail))) ∙ so.along [])
 
-pub obeyed_most : (commands : List Given) (now : Told) (old new : EngineOf) → IsAlong commands now old → none_due now.reports (drop now.given commands) ≡ true → TakesAtMost old new
+pub obeyed_most : (commands : List Given) (now : CommandCursor) (old new : EngineOf) → IsAlong commands now old → none_due now.reports (drop now.given commands) ≡ true → TakesAtMost old new
     → IsObeyedTo new.plan new.pool commands new.trail
 obeyed_most commands now old new so none (inl same) = rw same (obeyed_to commands now old so)
 obeyed_most commands now old new so none (inr own) =
     rw own.1.1 (obeyed_to commands (record now { reports = count_report now.reports own.0 }) (taken old own.0) (along_one commands now old own.0 so none own.2))
 
-pub obeyed_end : (commands : List Given) (now : Told) (engine : EngineOf) → IsAlong commands now engine → none_due now.reports (drop now.given commands) ≡ true → IsObeyed engine.plan engine.pool commands engine.trail
+pub obeyed_end : (commands : List Given) (now : CommandCursor) (engine : EngineOf) → IsAlong commands now engine → none_due now.reports (drop now.given commands) ≡ true → IsObeyed engine.plan engine.pool commands engine.trail
 obeyed_end commands now engine so none =
     sym (
     ap (λ xs. run_with engine.plan engine.pool commands xs) (sym (append-nil (own_events engine.trail))) ∙ so.along []

@@ -20,9 +20,9 @@ use Rattle.pb_forks.specs.Seats.{main_view, forks_of, IsMainOf, IsSameMain}
 use Rattle.pb_forks.specs.Views.{CollectedLast, offered_to, idle_forks, idle_words, jobs_out, is_out}
 use Rattle.pb_runner.specs.Served.{report_of}
 use Rattle.pb_plan.specs.Plan.{PlanOf}
-use Rattle.pb_one_host.specs.declared.row.Running.{Running}
-use Rattle.pb_one_host.specs.Row.{HostRow}
-use Rattle.pb_one_host.specs.Runs.{is_out as has_job_out}
+use Rattle.pb_host.specs.declared.host.Running.{Running}
+use Rattle.pb_host.specs.Host.{HostOf}
+use Rattle.pb_host.specs.Runs.{is_out as has_job_out}
 use Rattle.pb_state.specs.declared.event.Event.TheVariants.{Send, Report as Reported}
 use Rattle.pb_state.specs.Jobs.{job_of}
 use Rattle.pb_state.specs.Machine.{after, first_state, open_play}
@@ -134,7 +134,7 @@ some_more : (any : Bool) (n : ℕ) → (any ≡ true → 0 < n) → (running : O
 some_more any n more None e = let m = more e in omega (arith, m)
 some_more any n more (Some r) e = some_else (is_some r.out) any n more e
 
-outs_some : (rows : List HostRow) → list_any has_job_out rows ≡ true → 0 < outs (tasks_of rows)
+outs_some : (rows : List HostOf) → list_any has_job_out rows ≡ true → 0 < outs (tasks_of rows)
 outs_some [] e = cc
 outs_some (row ∷ rows) e = some_more (list_any has_job_out rows) (outs (tasks_of rows)) (outs_some rows) row.running e
 

@@ -15,9 +15,9 @@ use Rattle.pb_forks.specs.Seats.{main_view, forks_of, IsMainOf, IsSameMain}
 use Rattle.pb_outcome.specs.declared.outcome.Form.{Form}
 use Rattle.pb_forks.specs.Views.{CollectedLast, idle_forks, jobs_out}
 use Rattle.pb_plan.specs.Plan.{PlanOf}
-use Rattle.pb_one_host.specs.declared.row.Running.{Running}
-use Rattle.pb_one_host.specs.Row.{HostRow}
-use Rattle.pb_one_host.specs.Runs.{is_out}
+use Rattle.pb_host.specs.declared.host.Running.{Running}
+use Rattle.pb_host.specs.Host.{HostOf}
+use Rattle.pb_host.specs.Runs.{is_out}
 use Rattle.pb_state.specs.declared.event.Event.{Event}
 use Rattle.pb_state.specs.Machine.{first_state}
 use Rattle.pb_engine.proofs.Laws.{tasks_of}
@@ -70,7 +70,7 @@ none_more : (any : Bool) (n : ℕ) → (any ≡ false → n ≡ 0) → (running 
 none_more any n more None e = let m = more e in omega (arith, m)
 none_more any n more (Some r) e = none_else (is_some r.out) any n more e
 
-outs_none : (rows : List HostRow) → list_any is_out rows ≡ false → outs (tasks_of rows) ≡ 0
+outs_none : (rows : List HostOf) → list_any is_out rows ≡ false → outs (tasks_of rows) ≡ 0
 outs_none [] e = refl
 outs_none (row ∷ rows) e = none_more (list_any is_out rows) (outs (tasks_of rows)) (outs_none rows) row.running e
 

@@ -2,14 +2,14 @@
 use Rattle.std.proofs.Common.{◌≡◌, ◌<◌, ◌⊎◌, inl, inr, ℕ, zero, suc, ◌+◌, List, [], ◌∷◌, length, map, refl, sym, ◌∙◌, ap, subst, arith}
 use Rattle.std.specs.Prelude.{Option, Some, None, slice_get}
 use Rattle.std.specs.Option.{option_map_or}
-use Rattle.pb_all_hosts.proofs.FirstRows.{length-first}
+use Rattle.pb_hosts.proofs.FirstRows.{length-first}
 use Rattle.pb_audit.specs.Audit.{start_under, end_of, end_under}
 use Rattle.pb_engine.proofs.Laws.{ends_together}
 use Rattle.pb_facts.proofs.Each.{layer_gathers}
 use Rattle.pb_facts.specs.Facts.{FactsOf, no_facts, gathered_layer, gathered_in}
 use Rattle.pb_ids.specs.declared.numbers.HostNo.{HostNo}
-use Rattle.pb_one_host.specs.declared.row.Counts.{Counts}
-use Rattle.pb_one_host.specs.Row.{HostRow, none_counted}
+use Rattle.pb_host.specs.declared.host.Counts.{Counts}
+use Rattle.pb_host.specs.Host.{HostOf, none_counted}
 use Rattle.pb_plan.specs.Plan.{PlanOf}
 use Rattle.pb_state.specs.declared.event.Event.{Event}
 use Rattle.pb_state.specs.Machine.{after}
@@ -34,11 +34,11 @@ pub rows_under : (plan : PlanOf) (forks : ℕ) (trail : List Event) (s : State) 
 rows_under plan forks trail s is = ap (λ (t : State). length t.rows) is ∙ rows_from plan (start_under plan forks) trail ∙ length-first 0 (length plan.inventory.hosts)
 
 -- a host's counts stand at its number in the list of all
-pub count_at : (rows : List HostRow) (host : ℕ) (counts : List Counts) (count : Counts) → counts ≡ map (λ (row : HostRow). row.counts) rows → slice_get counts host ≡ Some count
-    → option_map_or (λ (row : HostRow). row.counts) (slice_get rows host) none_counted ≡ count
+pub count_at : (rows : List HostOf) (host : ℕ) (counts : List Counts) (count : Counts) → counts ≡ map (λ (row : HostOf). row.counts) rows → slice_get counts host ≡ Some count
+    → option_map_or (λ (row : HostOf). row.counts) (slice_get rows host) none_counted ≡ count
 count_at rows host counts count is found = in_rows rows host (ap (λ (all : List Counts). slice_get all host) (sym is) ∙ found)
   where
-    in_rows : (rows : List HostRow) (host : ℕ) → slice_get (map (λ (row : HostRow). row.counts) rows) host ≡ Some count → option_map_or (λ (row : HostRow). row.counts) (slice_get rows host) none_counted ≡ count
+    in_rows : (rows : List HostOf) (host : ℕ) → slice_get (map (λ (row : HostOf). row.counts) rows) host ≡ Some count → option_map_or (λ (row : HostOf). row.counts) (slice_get rows host) none_counted ≡ count
     in_rows [] host found = cc
     in_rows (row ∷ rows) zero found = cc
     in_rows (row ∷ rows) (suc host) found = in_rows rows host found
@@ -65,8 +65,8 @@ same_more s t n before here host below = either (below_or host n below)
 pub same_rows : (s t : State) → s.rows ≡ t.rows → (host : ℕ) → IsSameAt s t host
 same_rows s t rows host =
     record {
-      facts = ap (λ (all : List HostRow). option_map_or (λ (row : HostRow). row.facts) (slice_get all host) no_facts) rows;
-      counts = ap (λ (all : List HostRow). option_map_or (λ (row : HostRow). row.counts) (slice_get all host) none_counted) rows;
+      facts = ap (λ (all : List HostOf). option_map_or (λ (row : HostOf). row.facts) (slice_get all host) no_facts) rows;
+      counts = ap (λ (all : List HostOf). option_map_or (λ (row : HostOf). row.counts) (slice_get all host) none_counted) rows;
     }
 
 pub first_of_ends : (plan : PlanOf) (trail : List Event) (own forks : ℕ) (other : List Event) (s t : State) (found : Option HostNo) → own ≡ plan.forks → s ≡ end_under plan own trail → t ≡ end_under plan forks other

@@ -3,7 +3,7 @@ use Rattle.std.proofs.Common.{◌≡◌, ℕ, List, [], length, refl, sym, ◌�
 use Rattle.std.specs.Prelude.{◌≢◌, Option, Ok}
 use Rattle.pb_plan.specs.Plan.{PlanOf}
 use Rattle.pb_state.specs.declared.event.Event.{Event}
-use Rattle.pb_one_host.specs.declared.row.Counts.{Counts}
+use Rattle.pb_host.specs.declared.host.Counts.{Counts}
 use Rattle.pb_engine.specs.EngineOf.{EngineOf, IsSound, engine_of}
 use Rattle.pb_events.specs.Lines.{start_line}
 use Rattle.pb_recap.specs.Recap.{recap}

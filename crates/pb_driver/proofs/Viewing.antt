@@ -19,7 +19,7 @@ use Rattle.pb_forks.specs.Views.{CollectedLast, offered_to, idle_forks, jobs_out
 use Rattle.pb_forks.proofs.Logs.{offers-other, offers-here, offers-collected}
 use Rattle.pb_runner.specs.Served.{report_of}
 use Rattle.pb_plan.specs.Plan.{PlayOf, PlanOf}
-use Rattle.pb_one_host.specs.declared.row.Running.{Running}
+use Rattle.pb_host.specs.declared.host.Running.{Running}
 use Rattle.pb_state.specs.declared.event.Event.{Event}
 use Rattle.pb_state.specs.declared.event.Event.TheVariants.{Send, Report as Reported}
 use Rattle.pb_state.specs.Jobs.{job_of}

@@ -9,7 +9,7 @@ use Rattle.pb_state.specs.Run.{is_report, is_command, state_from}
 use Rattle.pb_engine.specs.Commands.{event_for, fault_of}
 use Rattle.pb_engine.specs.EngineOf.{EngineOf}
 use Rattle.pb_driver.specs.declared.given.Given.{Given}
-use Rattle.pb_driver.specs.declared.given.Told.{Told}
+use Rattle.pb_driver.specs.declared.given.CommandCursor.{CommandCursor}
 
 -- so many reports came as a command says
 abbrev pub is_due : ℕ → Given → Bool
@@ -30,10 +30,10 @@ abbrev pub is_taken : PlanOf → ℕ → State → Given → Bool
 is_taken plan pool s given = is_none (fault_of plan pool s given.command)
 
 -- the events of commands that are given one behind the other, from a state on: of each that is taken
-abbrev pub told : PlanOf → ℕ → State → List Given → List Event
-told plan pool s [] = []
-told plan pool s (given ∷ rest) =
-    if is_taken plan pool s given then event_for given.command ∷ told plan pool (after plan s (event_for given.command)) rest else told plan pool s rest
+abbrev pub accepted : PlanOf → ℕ → State → List Given → List Event
+accepted plan pool s [] = []
+accepted plan pool s (given ∷ rest) =
+    if is_taken plan pool s given then event_for given.command ∷ accepted plan pool (after plan s (event_for given.command)) rest else accepted plan pool s rest
 
 -- how many reports came, with an event
 abbrev pub count_report : ℕ → Event → ℕ
@@ -41,10 +41,10 @@ count_report reports e = if is_report e then reports + 1 else reports
 
 -- events from a state on, with those of the commands put in: before each event, and at the end, of those that are due there
 abbrev pub with_commands : PlanOf → ℕ → State → ℕ → List Given → List Event → List Event
-with_commands plan pool s reports commands [] = told plan pool s (due reports commands)
+with_commands plan pool s reports commands [] = accepted plan pool s (due reports commands)
 with_commands plan pool s reports commands (e ∷ es) =
-    told plan pool s (due reports commands)
-    ++ e ∷ with_commands plan pool (after plan (state_from plan s (told plan pool s (due reports commands))) e) (count_report reports e) (behind_due reports commands) es
+    accepted plan pool s (due reports commands)
+    ++ e ∷ with_commands plan pool (after plan (state_from plan s (accepted plan pool s (due reports commands))) e) (count_report reports e) (behind_due reports commands) es
 
 -- a whole run with its commands: from the first state on, before any report
 abbrev pub run_with : PlanOf → ℕ → List Given → List Event → List Event
@@ -64,9 +64,9 @@ abbrev pub IsObeyedTo : PlanOf → ℕ → List Given → List Event → Type 0
 IsObeyedTo plan pool commands trail = (more : List Event) × (run_with plan pool commands (own_events trail) ≡ trail ++ more)
 
 -- an engine has come so far with its commands: whatever its own events are from now on, the run with them is its trail and what the commands that are left give
-pub record IsAlong (commands : List Given) (told : Told) (engine : EngineOf) : Type 0 where
-  pub along : (es : List Event) → run_with engine.plan engine.pool commands (own_events engine.trail ++ es) ≡ engine.trail ++ with_commands engine.plan engine.pool engine.state told.reports (drop told.given commands) es
-  pub counted : told.reports ≤ length engine.trail
+pub record IsAlong (commands : List Given) (accepted : CommandCursor) (engine : EngineOf) : Type 0 where
+  pub along : (es : List Event) → run_with engine.plan engine.pool commands (own_events engine.trail ++ es) ≡ engine.trail ++ with_commands engine.plan engine.pool engine.state accepted.reports (drop accepted.given commands) es
+  pub counted : accepted.reports ≤ length engine.trail
 
 -- no command is due
 abbrev pub none_due : ℕ → List Given → Bool

@@ -6,12 +6,12 @@ use Rattle.pb_outcome.specs.declared.job.Report.{Report}
 use Rattle.pb_outcome.specs.declared.outcome.Form.{Form}
 use Rattle.pb_state.specs.declared.event.Event.{Event}
 use Rattle.pb_state.specs.declared.event.Event.TheVariants.{Open, Start, Send, Report as Reported, Turn, Close, Stop, Forks}
-use Rattle.pb_one_host.specs.declared.row.Counts.{Counts}
+use Rattle.pb_host.specs.declared.host.Counts.{Counts}
 use Rattle.pb_plan.specs.Plan.{PlanOf}
 use Rattle.pb_state.specs.State.{State}
 use Rattle.pb_state.specs.Machine.{after, first_state}
 use Rattle.pb_state.specs.Jobs.{job_of}
-use Rattle.pb_all_hosts.specs.Oldest.{oldest_out}
+use Rattle.pb_hosts.specs.Oldest.{oldest_out}
 use Rattle.pb_state.specs.Run.{IsLegal, state_after, IsRun, IsEager, IsQuiet, IsFinished, is_report, is_command}
 use Rattle.pb_state.specs.Once.{IsOnce}
 use Rattle.pb_engine.specs.EngineOf.{EngineOf, Takes}

@@ -11,7 +11,7 @@ use Rattle.pb_plan.specs.Plan.{PlanOf}
 use Rattle.pb_state.specs.State.{State}
 use Rattle.pb_state.specs.Machine.{after, first_state}
 use Rattle.pb_state.specs.Jobs.{job_of}
-use Rattle.pb_all_hosts.specs.Oldest.{oldest_out}
+use Rattle.pb_hosts.specs.Oldest.{oldest_out}
 use Rattle.pb_state.specs.Run.{state_after}
 use Rattle.pb_driver.specs.declared.driver.RunFault.{RunFault}
 use Rattle.pb_driver.specs.declared.driver.RunFault.TheVariants.{Memory}

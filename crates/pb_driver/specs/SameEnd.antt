@@ -6,8 +6,8 @@ use Rattle.pb_audit.specs.declared.fault.AuditFault.{AuditFault}
 use Rattle.pb_audit.specs.declared.fault.AuditFault.TheVariants.{Memory}
 use Rattle.pb_engine.specs.Laws.{IsWhole, Fixed, is_independent, are_linear}
 use Rattle.pb_ids.specs.declared.numbers.HostNo.{HostNo}
-use Rattle.pb_one_host.specs.declared.row.Counts.{Counts}
-use Rattle.pb_one_host.specs.Row.{HostRow, none_counted}
+use Rattle.pb_host.specs.declared.host.Counts.{Counts}
+use Rattle.pb_host.specs.Host.{HostOf, none_counted}
 use Rattle.pb_plan.specs.Plan.{PlanOf}
 use Rattle.pb_state.specs.declared.event.Event.{Event}
 use Rattle.pb_state.specs.Machine.{facts_at}
@@ -15,7 +15,7 @@ use Rattle.pb_state.specs.State.{State}
 
 -- how a host's finished tasks count; of a number that is no host's nothing is counted
 abbrev pub counts_at : State → ℕ → Counts
-counts_at s host = option_map_or (λ (row : HostRow). row.counts) (slice_get s.rows host) none_counted
+counts_at s host = option_map_or (λ (row : HostOf). row.counts) (slice_get s.rows host) none_counted
 
 -- a host has the same facts and the same counts in two states
 pub record IsSameAt (s t : State) (host : ℕ) : Type 0 where

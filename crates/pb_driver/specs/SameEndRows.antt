@@ -1,7 +1,7 @@
 -- Worked ends of one task on three hosts: where a run stops behind its first host, the second one is the first that has other counts.
 use Rattle.std.specs.Prelude.{◌≡◌, [], ◌∷◌, codes, refl}
-use Rattle.pb_one_host.specs.FactRows.{on_facts}
-use Rattle.pb_one_host.specs.Row.{none_counted}
+use Rattle.pb_host.specs.FactRows.{on_facts}
+use Rattle.pb_host.specs.Host.{none_counted}
 use Rattle.pb_plan.specs.Plan.{PlanOf, bare_play, bare_tree}
 use Rattle.pb_state.specs.BatchRows.{start, threes, all_three, led_to}
 use Rattle.pb_state.specs.BlockRows.{says}

@@ -3,7 +3,7 @@
 ghost use Rattle.std.specs.Prelude.{◌≡◌, [], ◌∷◌, Some, None, IfOk, OnErr, true};
 ghost use Rattle.std.specs.List.{list_any};
 ghost use Rattle.pb_outcome.specs.declared.job.Job.{Job};
-ghost use Rattle.pb_one_host.specs.Runs.{is_out};
+ghost use Rattle.pb_host.specs.Runs.{is_out};
 ghost use Rattle.pb_state.specs.Jobs.{job_of};
 ghost use Rattle.pb_engine.specs.EngineOf.{IsSound};
 ghost use Rattle.pb_engine.specs.Refusals.{refusal_of};

@@ -2,7 +2,7 @@
 
 ghost use Rattle.std.specs.Prelude.{◌≡◌, ◌<◌, ◌≤◌, ◌↔◌, IsTrue, true, length, map, IfOk, IfErr, OnOk};
 ghost use Rattle.pb_audit.specs.Audit.{is_legal, is_legal_under, end_of, end_under};
-ghost use Rattle.pb_one_host.specs.Row.{HostRow};
+ghost use Rattle.pb_host.specs.Host.{HostOf};
 ghost use Rattle.pb_driver.specs.SameEnd.{IsSameAt, IsFirstApart, IsFaultOfEither, EndsSame};
 
 use pb_audit::{AuditFault, replay};
@@ -37,8 +37,8 @@ fn is_same(
 ) -> bool
     requires one { host < length one.now.rows }
     requires two { host < length two.now.rows }
-    requires counts { counts.now ≡ map (λ (row : HostRow). row.counts) one.now.rows }
-    requires others { others.now ≡ map (λ (row : HostRow). row.counts) two.now.rows }
+    requires counts { counts.now ≡ map (λ (row : HostOf). row.counts) one.now.rows }
+    requires others { others.now ≡ map (λ (row : HostOf). row.counts) two.now.rows }
     ensures { IsTrue result ↔ IsSameAt one.now two.now host }
 {
     same_facts(one.facts(HostNo(host)), two.facts(HostNo(host)))
@@ -56,8 +56,8 @@ fn first_apart(
 ) -> Option<HostNo>
     requires one { length one.now.rows ≡ length plan.now.inventory.hosts }
     requires two { length two.now.rows ≡ length plan.now.inventory.hosts }
-    requires counts { counts.now ≡ map (λ (row : HostRow). row.counts) one.now.rows }
-    requires others { others.now ≡ map (λ (row : HostRow). row.counts) two.now.rows }
+    requires counts { counts.now ≡ map (λ (row : HostOf). row.counts) one.now.rows }
+    requires others { others.now ≡ map (λ (row : HostOf). row.counts) two.now.rows }
     ensures { IsFirstApart plan.now one.now two.now result }
 {
     for host in 0..plan.host_count() {

@@ -21,7 +21,7 @@ pub(crate) trait Crew<H> {
     ghost use Rattle.pb_outcome.specs.declared.job.Job.{Job};
     ghost use Rattle.pb_outcome.specs.declared.job.Report.{Report};
     ghost use Rattle.pb_state.specs.declared.event.Event.TheVariants.{Report as Reported};
-    ghost use Rattle.pb_one_host.specs.Runs.{is_out};
+    ghost use Rattle.pb_host.specs.Runs.{is_out};
     ghost use Rattle.pb_plan.specs.Plan.{PlanOf};
     ghost use Rattle.pb_state.specs.State.{State};
     ghost use Rattle.pb_state.specs.Jobs.{job_of};

@@ -4,7 +4,7 @@ ghost use Rattle.std.specs.Prelude.{◌≡◌, ◌≢◌, ◌<◌, ◌≤◌, �
 ghost use Rattle.std.specs.List.{list_any};
 ghost use Rattle.pb_state.specs.Run.{IsQuiet};
 ghost use Rattle.std.specs.Option.{option_map_or};
-ghost use Rattle.pb_one_host.specs.Runs.{is_out};
+ghost use Rattle.pb_host.specs.Runs.{is_out};
 ghost use Rattle.pb_engine.specs.Commands.{event_for};
 ghost use Rattle.pb_engine.specs.EngineOf.{EngineOf, LessWork, IsSound, Takes, engine_of};
 ghost use Rattle.pb_recap.specs.Recap.{recap};
@@ -20,7 +20,7 @@ ghost use Rattle.pb_driver.specs.Driven.{TakesOne, TakesAtMost, TakesCommands, T
 use crate::alone::Alone;
 use crate::crew::{Crew, Desk};
 use crate::emitting::{emit, emit_start, end_run};
-use crate::given::{Given, Told, count_last, next_due};
+use crate::given::{CommandCursor, Given, count_last, next_due};
 use crate::line_out::{Failed, LineOut};
 use pb_engine::{CommandFault, Engine, EngineFault, Next, Picker, Refusal};
 use pb_recap::Recap;
@@ -198,31 +198,35 @@ fn give(engine: &mut Engine, given: Given) -> Result<(), RunFault>
 
 /// Gives the commands that are due, in their order.
 #[tactic(auto, using(crate::proofs::Commanding::commands_none, crate::proofs::Commanding::commands_more, crate::proofs::Obeying::along_given))]
-fn give_due(engine: &mut Engine, commands: &[Given], told: &mut Told) -> Result<(), RunFault>
+fn give_due(
+    engine: &mut Engine,
+    commands: &[Given],
+    cursor: &mut CommandCursor,
+) -> Result<(), RunFault>
     requires sound { IsSound engine.old }
-    requires along { IsAlong commands.now told.old engine.old }
+    requires along { IsAlong commands.now cursor.old engine.old }
     ensures commanded { TakesCommands engine.old engine.new }
-    ensures along { IsAlong commands.now told.new engine.new }
-    ensures none { OnOk result (none_due told.new.reports (drop told.new.given commands.now) ≡ true) }
+    ensures along { IsAlong commands.now cursor.new engine.new }
+    ensures none { OnOk result (none_due cursor.new.reports (drop cursor.new.given commands.now) ≡ true) }
     ensures fault { IfErr result (λ e. e ≡ RunFault.Memory) }
 {
     'commands: loop {
-        let Some(given) = next_due(commands, *told) else {
+        let Some(given) = next_due(commands, *cursor) else {
             return Ok(());
         };
         give(engine, given)?;
-        told.given += 1;
+        cursor.given += 1;
     }
 }
 
 /// Counts the last event, where it is a report.
-fn count(engine: &Engine, told: &mut Told)
-    requires { told.old.reports < length engine.now.trail }
-    ensures { told.new ≡ record told.old { reports = option_map_or (count_report told.old.reports) (slice_get engine.now.trail (length engine.now.trail - 1)) told.old.reports } }
+fn count(engine: &Engine, cursor: &mut CommandCursor)
+    requires { cursor.old.reports < length engine.now.trail }
+    ensures { cursor.new ≡ record cursor.old { reports = option_map_or (count_report cursor.old.reports) (slice_get engine.now.trail (length engine.now.trail - 1)) cursor.old.reports } }
 {
     // (no trail has more events than a number counts)
     let _events = engine.trail().len();
-    told.reports = count_last(told.reports, engine.last());
+    cursor.reports = count_last(cursor.reports, engine.last());
 }
 
 /// Gives the commands that are due, and takes one event, with its lines. It answers whether there was one to take.
@@ -231,23 +235,23 @@ fn turn<H, C: Crew<H>, P: Picker, W: LineOut>(
     engine: &mut Engine,
     hand: &mut H,
     picker: &mut P,
-    told: &mut Told,
+    cursor: &mut CommandCursor,
     writer: &mut W,
 ) -> Result<bool, RunFault>
     requires stands { Stands (C.answers desk.now.crew.now) (C.fits desk.now.crew.now hand.old) engine.old }
-    requires along { IsAlong desk.now.commands.now told.old engine.old }
+    requires along { IsAlong desk.now.commands.now cursor.old engine.old }
     ensures stands { OnOk result (Stands (C.answers desk.now.crew.now) (C.fits desk.now.crew.now hand.new) engine.new) }
-    ensures along { OnOk result (IsAlong desk.now.commands.now told.new engine.new) }
+    ensures along { OnOk result (IsAlong desk.now.commands.now cursor.new engine.new) }
     ensures on { OnOk result (GoesOn C.went engine.old engine.new hand.old hand.new (W.taken writer.old) (W.taken writer.new) (W.failures writer.old) (W.failures writer.new)) }
     ensures off { IfErr result (λ e. BreaksOff (C.answers desk.now.crew.now) C.went engine.old engine.new hand.old hand.new (W.taken writer.old) (W.taken writer.new) (W.failures writer.old) (W.failures writer.new) e) }
     ensures front { OnErr result (IsObeyedTo engine.new.plan engine.new.pool desk.now.commands.now engine.new.trail) }
     ensures less { result ≡ Ok true → LessWork engine.old engine.new }
-    ensures over { result ≡ Ok false → HasEnded engine.new.plan engine.new.state × (none_due told.new.reports (drop told.new.given desk.now.commands.now) ≡ true) }
+    ensures over { result ≡ Ok false → HasEnded engine.new.plan engine.new.state × (none_due cursor.new.reports (drop cursor.new.given desk.now.commands.now) ≡ true) }
 {
-    give_due(engine, desk.commands, told)?;
+    give_due(engine, desk.commands, cursor)?;
     let more = take_one(desk, engine, hand, picker, writer)?;
     if more {
-        count(engine, told);
+        count(engine, cursor);
     }
     Ok(more)
 }
@@ -258,11 +262,11 @@ fn turn_all<H, C: Crew<H>, P: Picker, W: LineOut>(
     engine: &mut Engine,
     hand: &mut H,
     picker: &mut P,
-    told: &mut Told,
+    cursor: &mut CommandCursor,
     writer: &mut W,
 ) -> Result<(), RunFault>
     requires stands { Stands (C.answers desk.now.crew.now) (C.fits desk.now.crew.now hand.old) engine.old }
-    requires along { IsAlong desk.now.commands.now told.old engine.old }
+    requires along { IsAlong desk.now.commands.now cursor.old engine.old }
     ensures stands { OnOk result (Stands (C.answers desk.now.crew.now) (C.fits desk.now.crew.now hand.new) engine.new) }
     ensures on { OnOk result (GoesOn C.went engine.old engine.new hand.old hand.new (W.taken writer.old) (W.taken writer.new) (W.failures writer.old) (W.failures writer.new)) }
     ensures off { IfErr result (λ e. BreaksOff (C.answers desk.now.crew.now) C.went engine.old engine.new hand.old hand.new (W.taken writer.old) (W.taken writer.new) (W.failures writer.old) (W.failures writer.new) e) }
@@ -271,7 +275,7 @@ fn turn_all<H, C: Crew<H>, P: Picker, W: LineOut>(
     ensures obeyed { OnOk result (IsObeyed engine.new.plan engine.new.pool desk.now.commands.now engine.new.trail) }
 {
     'turns: loop {
-        let more = turn(desk, engine, hand, picker, told, writer)?;
+        let more = turn(desk, engine, hand, picker, cursor, writer)?;
         if !more {
             return Ok(());
         }
@@ -294,11 +298,11 @@ fn run_engine<H, C: Crew<H>, P: Picker, W: LineOut>(
     ensures stopped { IfErr result (λ e. RunsTo (C.answers desk.now.crew.now) C.went engine.old.plan engine.old.pool desk.now.commands.now engine.new.trail hand.old hand.new (W.taken writer.old) (W.taken writer.new) (W.failures writer.old) (W.failures writer.new) e) }
 {
     emit_start(desk.alloc, engine, writer)?;
-    let mut told = Told {
+    let mut cursor = CommandCursor {
         given: 0,
         reports: 0,
     };
-    turn_all(desk, engine, hand, picker, &mut told, writer)?;
+    turn_all(desk, engine, hand, picker, &mut cursor, writer)?;
     let recap = end_run(desk.alloc, engine, writer)?;
     Ok(recap)
 }

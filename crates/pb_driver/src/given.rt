@@ -17,7 +17,7 @@ pub struct Given {
 
 /// How far a run has come with its commands: how many of them were given, and how many reports came.
 #[derive(Clone, Copy)]
-pub(crate) struct Told {
+pub(crate) struct CommandCursor {
     pub given: usize,
     pub reports: u64,
 }
@@ -30,18 +30,18 @@ fn is_due(reports: u64, given: Given) -> bool
 }
 
 /// The next command, if it is due.
-pub(crate) fn next_due(commands: &[Given], told: Told) -> Option<Given>
-    ensures next { IfSome result (λ given. slice_get commands.now told.given ≡ Some given) }
-    ensures due { IfSome result (λ given. is_due told.reports given ≡ true) }
-    ensures within { IfSome result (λ given. told.given < length commands.now) }
-    ensures below { IfSome result (λ given. told.given < 2 ^ 64 - 1) }
-    ensures none { result ≡ None → none_due told.reports (drop told.given commands.now) ≡ true }
+pub(crate) fn next_due(commands: &[Given], cursor: CommandCursor) -> Option<Given>
+    ensures next { IfSome result (λ given. slice_get commands.now cursor.given ≡ Some given) }
+    ensures due { IfSome result (λ given. is_due cursor.reports given ≡ true) }
+    ensures within { IfSome result (λ given. cursor.given < length commands.now) }
+    ensures below { IfSome result (λ given. cursor.given < 2 ^ 64 - 1) }
+    ensures none { result ≡ None → none_due cursor.reports (drop cursor.given commands.now) ≡ true }
 {
-    if told.given >= commands.len() {
+    if cursor.given >= commands.len() {
         return None;
     }
-    let given = commands[told.given];
-    if is_due(told.reports, given) {
+    let given = commands[cursor.given];
+    if is_due(cursor.reports, given) {
         Some(given)
     } else {
         None

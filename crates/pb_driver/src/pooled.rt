@@ -7,7 +7,7 @@ ghost use Rattle.pb_outcome.specs.declared.job.Report.{Report};
 ghost use Rattle.pb_forks.specs.Seats.{main_view, last_seen, forks_of, IsMainOf, IsSameMain};
 ghost use Rattle.pb_forks.specs.Views.{idle_forks, jobs_out};
 ghost use Rattle.pb_state.specs.declared.event.Event.TheVariants.{Report as Reported};
-ghost use Rattle.pb_one_host.specs.Runs.{is_out};
+ghost use Rattle.pb_host.specs.Runs.{is_out};
 ghost use Rattle.pb_state.specs.Jobs.{job_of};
 ghost use Rattle.pb_engine.specs.EngineOf.{EngineOf, Takes};
 ghost use Rattle.pb_engine.specs.Refusals.{refusal_of};
@@ -94,7 +94,7 @@ impl<'a, N: Allows, R: Wait> Crew<MainSeat> for Workers<'a, N, R> {
 }
 
 /// Collects the reports of the jobs that are out, and shuts all forks.
-fn settle<N: Allows, R: Wait>(rt: &R, pool: &Pool<N>, main: &mut MainSeat)
+fn collect_rest<N: Allows, R: Wait>(rt: &R, pool: &Pool<N>, main: &mut MainSeat)
     requires seat { IsMainOf pool.now main.old }
     requires room { idle_forks (main_view main.old) + jobs_out (main_view main.old) ≡ forks_of pool.now }
     ensures seat { IsSameMain main.old main.new }
@@ -153,11 +153,11 @@ pub fn drive<N: Runner, R: Wait, P: Picker, W: LineOut>(
     };
     match run_crew(&desk, plan, forks, main, picker, writer) {
         Ok(ended) => {
-            settle(rt, pool, main);
+            collect_rest(rt, pool, main);
             Ok(ended)
         }
         Err(stopped) => {
-            settle(rt, pool, main);
+            collect_rest(rt, pool, main);
             Err(stopped)
         }
     }

@@ -10,15 +10,15 @@ use Rattle.pb_planes.specs.Set.{has_some}
 use Rattle.pb_plan.specs.Plan.{PlayOf, PlanOf}
 use Rattle.pb_state.specs.declared.event.Event.{Event}
 use Rattle.pb_state.specs.declared.event.Event.TheVariants.{Open, Start, Send, Turn, Close}
-use Rattle.pb_one_host.specs.declared.row.Running.{Running}
-use Rattle.pb_one_host.specs.Attempts.{attempt_next}
-use Rattle.pb_one_host.specs.Row.{HostRow}
+use Rattle.pb_host.specs.declared.host.Running.{Running}
+use Rattle.pb_host.specs.Attempts.{attempt_next}
+use Rattle.pb_host.specs.Host.{HostOf}
 use Rattle.pb_state.specs.State.{State}
-use Rattle.pb_one_host.specs.Runs.{has_send, is_item, is_next, sends_running, may_send_item, is_out}
-use Rattle.pb_all_hosts.specs.Hosts.{at_row}
+use Rattle.pb_host.specs.Runs.{has_send, is_item, is_next, sends_running, may_send_item, is_out}
+use Rattle.pb_hosts.specs.Hosts.{at_row}
 use Rattle.pb_state.specs.Machine.{possible, ready, ready_in, may_start_in, may_send_in, open_play}
 use Rattle.pb_state.specs.Run.{IsRun, IsFinished}
-use Rattle.pb_one_host.proofs.InOrder.{goes_on_at}
+use Rattle.pb_host.proofs.InOrder.{goes_on_at}
 use Rattle.pb_state.proofs.Readies.{ready_either}
 use Rattle.pb_state.proofs.Stands.{both}
 use Rattle.pb_state.proofs.Steps.{pool_run}
@@ -72,7 +72,7 @@ send_next (Some r) going e =
     let attempt : (attempt_next r.items == attempt_next r.items) ≡ true = eq-eqb (attempt_next r.items) (attempt_next r.items) refl in
     (next.0, attempt_next r.items, both (is_none r.out) (is_next next.0 (attempt_next r.items) r) e (both (is_item next.0 r.items) (attempt_next r.items == attempt_next r.items) item attempt))
 
-send_at : (rows : List HostRow) (h : ℕ) → AreUnfinished rows → at_row has_send rows h ≡ true → (item : ℕ) × (attempt : ℕ) × (at_row (may_send_item item attempt) rows h ≡ true)
+send_at : (rows : List HostOf) (h : ℕ) → AreUnfinished rows → at_row has_send rows h ≡ true → (item : ℕ) × (attempt : ℕ) × (at_row (may_send_item item attempt) rows h ≡ true)
 send_at [] h going e = cc
 send_at (row ∷ rows) zero going e = send_next row.running going.0 e
 send_at (row ∷ rows) (suc h) going e = send_at rows h going.1 e

@@ -10,7 +10,7 @@ use Rattle.pb_state.specs.Run.{IsRun}
 use Rattle.pb_state.specs.Once.{IsOnce}
 use Rattle.pb_state.proofs.Once.{run_once}
 use Rattle.pb_state.proofs.Trails.{run_more}
-use Rattle.pb_all_hosts.proofs.FirstRows.{length-first}
+use Rattle.pb_hosts.proofs.FirstRows.{length-first}
 use Rattle.pb_laws.specs.Kept.{KeepsLaws, RunsKeepLaws}
 
 -- a call that takes the event or changes nothing leaves a run

@@ -11,18 +11,18 @@ use Rattle.pb_outcome.specs.declared.job.Report.{Report}
 use Rattle.pb_outcome.specs.Items.{next_item}
 use Rattle.pb_state.specs.declared.event.Event.{Event}
 use Rattle.pb_state.specs.declared.event.Event.TheVariants.{Open, Start, Send, Report as Reported, Turn, Close, Stop, Forks}
-use Rattle.pb_one_host.specs.declared.row.Running.{Running}
+use Rattle.pb_host.specs.declared.host.Running.{Running}
 use Rattle.pb_plan.specs.Plan.{PlayOf, PlanOf}
-use Rattle.pb_one_host.specs.Attempts.{attempt_next}
-use Rattle.pb_one_host.specs.Row.{HostRow}
+use Rattle.pb_host.specs.Attempts.{attempt_next}
+use Rattle.pb_host.specs.Host.{HostOf}
 use Rattle.pb_state.specs.State.{State}
-use Rattle.pb_one_host.specs.Runs.{awaits, awaits_running, has_ticket, is_ticket, is_running, item_of, attempt_of, may_send_item, sends_running}
-use Rattle.pb_all_hosts.specs.Hosts.{at_row}
+use Rattle.pb_host.specs.Runs.{awaits, awaits_running, has_ticket, is_ticket, is_running, item_of, attempt_of, may_send_item, sends_running}
+use Rattle.pb_hosts.specs.Hosts.{at_row}
 use Rattle.pb_state.specs.Machine.{possible, item_at, attempt_at, open_play, may_report_in, may_send_in}
 use Rattle.pb_state.specs.Jobs.{job_of}
-use Rattle.pb_all_hosts.specs.Oldest.{oldest_out}
+use Rattle.pb_hosts.specs.Oldest.{oldest_out}
 use Rattle.pb_state.specs.Run.{is_move, IsRun}
-use Rattle.pb_all_hosts.proofs.OldestOut.{oldest_is_out}
+use Rattle.pb_hosts.proofs.OldestOut.{oldest_is_out}
 use Rattle.pb_laws.specs.JobsOut.{IsOut, IsReportOf}
 use Rattle.pb_laws.proofs.JobsStay.{at_found, report_waits}
 use Rattle.pb_state.proofs.HasJob.{at_runs, placed_row, row_runs, runs_job}
@@ -58,7 +58,7 @@ task_below : (size sends : ℕ) (ticket : Ticket) (running : Option Running) →
 task_below size sends ticket None e held = cc
 task_below size sends ticket (Some r) e held = ticket_below sends ticket r.out e held.1
 
-out_below : (size sends : ℕ) (ticket : Ticket) (rows : List HostRow) → list_any (has_ticket ticket) rows ≡ true → AreHeld size sends rows → ticket.0 < sends
+out_below : (size sends : ℕ) (ticket : Ticket) (rows : List HostOf) → list_any (has_ticket ticket) rows ≡ true → AreHeld size sends rows → ticket.0 < sends
 out_below size sends ticket [] e held = cc
 out_below size sends ticket (row ∷ rows) e held =
     or_elim (has_ticket ticket row) (list_any (has_ticket ticket) rows) e
@@ -104,7 +104,7 @@ pub send_job : (plan : PlanOf) (s : State) (host : HostNo) (item attempt : ℕ) 
 send_job plan s host item attempt ticket held e = runs_job plan s host ticket held (send_runs s host.0 item attempt ticket (open_play plan s) e)
 
 -- a test that holds of one row holds of some
-any_at : (test : HostRow → Bool) (rows : List HostRow) (h : ℕ) → at_row test rows h ≡ true → list_any test rows ≡ true
+any_at : (test : HostOf → Bool) (rows : List HostOf) (h : ℕ) → at_row test rows h ≡ true → list_any test rows ≡ true
 any_at test [] h e = cc
 any_at test (row ∷ rows) zero e = rw e refl
 any_at test (row ∷ rows) (suc h) e = rw (any_at test rows h e) (or_true (test row))
@@ -132,7 +132,7 @@ awaits_its : (ticket : Ticket) (item attempt : ℕ) (running : Option Running) �
 awaits_its ticket item attempt None e f = refl
 awaits_its ticket item attempt (Some r) e f = next_alone (is_ticket ticket r.out) (next_item r.items) (attempt_next r.items) item attempt e f
 
-awaits_at : (ticket : Ticket) (item attempt : ℕ) (found : Option HostRow) → option_map_or item_of found None ≡ Some item → option_map_or attempt_of found 1 ≡ attempt → option_map_or (awaits ticket item attempt) found false ≡ option_map_or (has_ticket ticket) found false
+awaits_at : (ticket : Ticket) (item attempt : ℕ) (found : Option HostOf) → option_map_or item_of found None ≡ Some item → option_map_or attempt_of found 1 ≡ attempt → option_map_or (awaits ticket item attempt) found false ≡ option_map_or (has_ticket ticket) found false
 awaits_at ticket item attempt None e f = refl
 awaits_at ticket item attempt (Some row) e f = awaits_its ticket item attempt row.running e f
 
@@ -144,7 +144,7 @@ oldest_taken plan s r held e next tried =
     all_true (is_sent s r) (is_waited_for s r) (fits s r) (lt-ltb r.ticket.0 s.sends (waits_sent plan s r.ticket held waits)) waits (awaits_at r.ticket r.item r.attempt (slice_get s.rows r.host.0) next tried ∙ out)
 
 -- any job that is out is waited for
-out_at : (plan : PlanOf) (s : State) (x : Job) (r : Report) → IsHeld plan s → (row : HostRow) → slice_get s.rows r.host.0 ≡ Some row → has_ticket r.ticket row ≡ true → awaits r.ticket r.item r.attempt row ≡ true → refusal_of s r ≡ None
+out_at : (plan : PlanOf) (s : State) (x : Job) (r : Report) → IsHeld plan s → (row : HostOf) → slice_get s.rows r.host.0 ≡ Some row → has_ticket r.ticket row ≡ true → awaits r.ticket r.item r.attempt row ≡ true → refusal_of s r ≡ None
 out_at plan s x r held row there ticket awaited =
     let waits = any_at (has_ticket r.ticket) s.rows r.host.0 (at_found (has_ticket r.ticket) s.rows r.host.0 row there ticket) in
     all_true (is_sent s r) (is_waited_for s r) (fits s r) (lt-ltb r.ticket.0 s.sends (waits_sent plan s r.ticket held waits)) waits (at_found (awaits r.ticket r.item r.attempt) s.rows r.host.0 row there awaited)

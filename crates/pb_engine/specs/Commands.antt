@@ -6,7 +6,7 @@ use Rattle.pb_plan.specs.Plan.{PlanOf}
 use Rattle.pb_state.specs.declared.event.Event.{Event}
 use Rattle.pb_state.specs.declared.event.Event.TheVariants.{Open, Turn, Close, Stop, Forks}
 use Rattle.pb_state.specs.State.{State}
-use Rattle.pb_one_host.specs.Runs.{is_out}
+use Rattle.pb_host.specs.Runs.{is_out}
 use Rattle.pb_state.specs.Machine.{possible, ready}
 use Rattle.pb_engine.specs.declared.command.Command.{Command}
 use Rattle.pb_engine.specs.declared.command.Command.TheVariants.{Stop as ToStop, Forks as ToForks}

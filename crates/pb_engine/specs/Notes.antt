@@ -4,10 +4,10 @@ use Rattle.std.specs.Prelude.{ℕ, Bool, List, [], slice_get}
 use Rattle.std.specs.Option.{option_map_or}
 use Rattle.pb_handlers.specs.Pending.{marks_after}
 use Rattle.pb_handlers.specs.Told.{history_of}
-use Rattle.pb_one_host.specs.Row.{HostRow}
+use Rattle.pb_host.specs.Host.{HostOf}
 use Rattle.pb_state.specs.State.{State}
 
-abbrev pub noted_on : HostRow → List Bool
+abbrev pub noted_on : HostOf → List Bool
 noted_on row = marks_after row.tree.handlers (history_of row.tree row.answers)
 
 -- there are none of a number that is no host's

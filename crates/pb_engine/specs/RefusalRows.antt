@@ -3,7 +3,7 @@ use Rattle.std.specs.Prelude.{◌≡◌, ℕ, pos, [], ◌∷◌, codes, Some, N
 use Rattle.pb_outcome.specs.declared.job.Report.{Report}
 use Rattle.pb_outcome.specs.declared.outcome.Form.TheVariants.{Ran}
 use Rattle.pb_plan.specs.Plan.{PlanOf, bare_play, bare_tree}
-use Rattle.pb_one_host.specs.FactRows.{on_facts}
+use Rattle.pb_host.specs.FactRows.{on_facts}
 use Rattle.pb_state.specs.declared.event.Event.TheVariants.{Open}
 use Rattle.pb_state.specs.State.{State}
 use Rattle.pb_state.specs.BatchRows.{start, send, went, threes, all_three, led_to}

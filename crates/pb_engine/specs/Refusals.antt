@@ -3,8 +3,8 @@ use Rattle.std.specs.Prelude.{nat_lt, not, Bool, Option, Some, None, ifâ—Œthenâ—
 use Rattle.std.specs.List.{list_any}
 use Rattle.pb_outcome.specs.declared.job.Report.{Report}
 use Rattle.pb_state.specs.State.{State}
-use Rattle.pb_one_host.specs.Runs.{awaits, has_ticket}
-use Rattle.pb_all_hosts.specs.Hosts.{at_row}
+use Rattle.pb_host.specs.Runs.{awaits, has_ticket}
+use Rattle.pb_hosts.specs.Hosts.{at_row}
 use Rattle.pb_engine.specs.declared.refusal.Refusal.{Refusal}
 use Rattle.pb_engine.specs.declared.refusal.Refusal.TheVariants.{UnknownTicket, AlreadyReported, WrongItem}
 

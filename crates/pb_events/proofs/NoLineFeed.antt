@@ -52,9 +52,9 @@ glyph : (upper : Bool) (d : ℕ) → digit_glyph upper d ≢ 10
 glyph true d = grind (arith, nat_tests)
 glyph false d = grind (arith, nat_tests)
 
-in_digits : (k base : ℕ) (upper : Bool) (n : ℕ) (later : List ℕ) → HasNone later → HasNone (digits_onto k base upper n later)
-in_digits zero base upper n later h = h
-in_digits (suc k) base upper n later h =
+in_digits : (k base : ℕ) (upper : Bool) (n : ℕ) (sizes_left : List ℕ) → HasNone sizes_left → HasNone (digits_onto k base upper n sizes_left)
+in_digits zero base upper n sizes_left h = h
+in_digits (suc k) base upper n sizes_left h =
     either (n / base == 0) _ _ (λ _. (glyph upper (n % base), h)) (λ _. in_digits k base upper (n / base) _ (glyph upper (n % base), h))
 
 in_decimal : (n : ℕ) → HasNone (decimal n)
@@ -67,7 +67,7 @@ in_number (negative (pos n)) = in_decimal n
 in_number (negative (negsuc n)) = (larger 45 (omega arith), in_decimal (suc n))
 in_number (float x) = tt
 
-comma : (later : Bool) → HasNone (comma_if later)
+comma : (sizes_left : Bool) → HasNone (comma_if sizes_left)
 comma true = (larger 44 (omega arith), tt)
 comma false = tt
 
@@ -81,12 +81,12 @@ mutual
   in_json (array ds) = (larger 91 (omega arith), in_items false ds)
   in_json (object ms) = (larger 123 (omega arith), in_members false ms)
 
-  in_items : (later : Bool) (ds : Items) → HasNone (items_text later ds)
-  in_items later no_items = (larger 93 (omega arith), tt)
-  in_items later (item d ds) = joined (comma_if later) _ (comma later) (joined (compact_text d) _ (in_json d) (in_items true ds))
+  in_items : (sizes_left : Bool) (ds : Items) → HasNone (items_text sizes_left ds)
+  in_items sizes_left no_items = (larger 93 (omega arith), tt)
+  in_items sizes_left (item d ds) = joined (comma_if sizes_left) _ (comma sizes_left) (joined (compact_text d) _ (in_json d) (in_items true ds))
 
-  in_members : (later : Bool) (ms : Members) → HasNone (members_text later ms)
-  in_members later no_members = (larger 125 (omega arith), tt)
-  in_members later (member k d ms) =
-      joined (comma_if later) _ (comma later)
+  in_members : (sizes_left : Bool) (ms : Members) → HasNone (members_text sizes_left ms)
+  in_members sizes_left no_members = (larger 125 (omega arith), tt)
+  in_members sizes_left (member k d ms) =
+      joined (comma_if sizes_left) _ (comma sizes_left)
       (joined (quoted k) _ (in_quotes k) (larger 58 (omega arith), joined (compact_text d) _ (in_json d) (in_members true ms)))

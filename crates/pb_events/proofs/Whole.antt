@@ -11,8 +11,8 @@ use Rattle.pb_outcome.specs.Gathered.{is_unreachable}
 use Rattle.pb_outcome.specs.declared.gather.ItemResult.{ItemResult}
 use Rattle.pb_play.specs.Modules.{is_meta}
 use Rattle.pb_plan.specs.Plan.{PlayOf, PlanOf}
-use Rattle.pb_one_host.specs.declared.decided.Done.{Done}
-use Rattle.pb_one_host.specs.declared.decided.Retried.{Retried}
+use Rattle.pb_host.specs.declared.step_result.TaskDone.{TaskDone}
+use Rattle.pb_host.specs.declared.step_result.Retried.{Retried}
 use Rattle.pb_state.specs.declared.event.Event.{Event}
 use Rattle.pb_state.specs.declared.event.Event.TheVariants.{Open, Start, Send, Report as Reported, Turn, Close, Stop, Forks}
 use Rattle.pb_state.specs.State.{State}
@@ -77,15 +77,15 @@ handlers_whole : (host : List ℕ) (play : PlayOf) (number : ℕ) (handlers : Li
 handlers_whole host play number [] = nothing
 handlers_whole host play number (handler ∷ rest) = both (notify_line host (handler_name play handler) number) _ (one _) (handlers_whole host play number rest)
 
-notified_whole : (host : List ℕ) (play : PlayOf) (number : ℕ) (done : Option Done) → IsWhole (notify_text host play number done)
+notified_whole : (host : List ℕ) (play : PlayOf) (number : ℕ) (done : Option TaskDone) → IsWhole (notify_text host play number done)
 notified_whole host play number None = nothing
 notified_whole host play number (Some done) = handlers_whole host play number done.notified
 
-result_whole : (host place : List ℕ) (play : ℕ) (done : Done) → IsWhole (result_line host place play done)
+result_whole : (host place : List ℕ) (play : ℕ) (done : TaskDone) → IsWhole (result_line host place play done)
 result_whole host place play done =
     if_so done.task.result.unreachable _ _ (one _) (if_so done.task.result.failed _ _ (one _) (if_so done.task.result.skipped _ _ (one _) (one _)))
 
-done_whole : (host place : List ℕ) (play : ℕ) (done : Option Done) → IsWhole (done_text host place play done)
+done_whole : (host place : List ℕ) (play : ℕ) (done : Option TaskDone) → IsWhole (done_text host place play done)
 done_whole host place play None = nothing
 done_whole host place play (Some done) = result_whole host place play done
 
@@ -93,30 +93,30 @@ retried_whole : (host place : List ℕ) (play : ℕ) (retried : Option Retried) 
 retried_whole host place play None = nothing
 retried_whole host place play (Some retried) = one _
 
-meta_whole : (host place : List ℕ) (play : ℕ) (done : Option Done) → IsWhole (meta_text host place play done)
+meta_whole : (host place : List ℕ) (play : ℕ) (done : Option TaskDone) → IsWhole (meta_text host place play done)
 meta_whole host place play None = nothing
 meta_whole host place play (Some done) = if_so done.task.result.failed _ _ (one _) nothing
 
 start_whole : (site : SiteOf) → IsWhole (start_text site)
 start_whole site =
-    both (cond site.decided.is_new (task_start (start_event site.place.handler) site.place.task.name site.path site.number) []) (host_start site.host site.path site.number)
-    (if_so site.decided.is_new _ _ (one _) nothing) (one _)
+    both (cond site.step_result.is_new (task_start (start_event site.place.handler) site.place.task.name site.path site.number) []) (host_start site.host site.path site.number)
+    (if_so site.step_result.is_new _ _ (one _) nothing) (one _)
 
 end_whole : (site : SiteOf) → IsWhole (end_text site)
 end_whole site =
-    both _ (notify_text site.host site.play site.number site.decided.done)
-    (both _ (done_text site.host site.path site.number site.decided.done)
-    (both (item_lines site.host site.path site.number site.decided.items) (retried_text site.host site.path site.number site.decided.retried)
-    (items_whole site.host site.path site.number site.decided.items) (retried_whole site.host site.path site.number site.decided.retried))
-    (done_whole site.host site.path site.number site.decided.done)) (notified_whole site.host site.play site.number site.decided.done)
+    both _ (notify_text site.host site.play site.number site.step_result.done)
+    (both _ (done_text site.host site.path site.number site.step_result.done)
+    (both (item_lines site.host site.path site.number site.step_result.items) (retried_text site.host site.path site.number site.step_result.retried)
+    (items_whole site.host site.path site.number site.step_result.items) (retried_whole site.host site.path site.number site.step_result.retried))
+    (done_whole site.host site.path site.number site.step_result.done)) (notified_whole site.host site.play site.number site.step_result.done)
 
 -- ---- the texts of events
 started_whole : (site : SiteOf) → IsWhole (started site)
 started_whole site =
-    if_so (is_meta site.place.task.«module») _ _ (meta_whole site.host site.path site.number site.decided.done) (both (start_text site) (end_text site) (start_whole site) (end_whole site))
+    if_so (is_meta site.place.task.«module») _ _ (meta_whole site.host site.path site.number site.step_result.done) (both (start_text site) (end_text site) (start_whole site) (end_whole site))
 
 came_whole : (site : SiteOf) → IsWhole (came_back site)
-came_whole site = if_so (is_meta site.place.task.«module») _ _ (meta_whole site.host site.path site.number site.decided.done) (end_whole site)
+came_whole site = if_so (is_meta site.place.task.«module») _ _ (meta_whole site.host site.path site.number site.step_result.done) (end_whole site)
 
 event_whole : (plan : PlanOf) (s : State) (e : Event) → IsWhole (lines_of plan s e)
 event_whole plan s Open = of_some (slice_get plan.plays s.play) (opened_in plan s) (λ play. one _)

@@ -4,7 +4,7 @@ use Rattle.std.specs.Fmt.{digits}
 use Rattle.serde_json.proofs.OnLiterals.{serde_json_on_literals}
 use Rattle.pb_outcome.specs.declared.outcome.Form.TheVariants.{Ran, Unreachable as NoAnswer}
 use Rattle.pb_state.specs.BlockRows.{says, refuses, start, comes, after_of, rescued_by, body_ends, body_comes, always_fails, two_plays, unread_rescued, unread_alone}
-use Rattle.pb_one_host.specs.FactRows.{on_facts}
+use Rattle.pb_host.specs.FactRows.{on_facts}
 use Rattle.pb_state.specs.declared.event.Event.TheVariants.{Open, Turn}
 use Rattle.pb_events.specs.Line.{line}
 use Rattle.pb_events.specs.Lines.{lines_of}

@@ -10,7 +10,7 @@ use Rattle.pb_play.specs.declared.modules.Module.TheVariants.{Debug}
 use Rattle.pb_plan.specs.Plan.{PlanOf}
 use Rattle.pb_tree.specs.Tree.{Task}
 use Rattle.pb_state.specs.BlockRows.{last, start, after_of}
-use Rattle.pb_one_host.specs.FactRows.{on_facts}
+use Rattle.pb_host.specs.FactRows.{on_facts}
 use Rattle.pb_state.specs.HandlerRows.{flush, notifies, command_to, with_nodes, ignoring, itself, ran_once}
 use Rattle.pb_state.specs.declared.event.Event.{Event}
 use Rattle.pb_state.specs.declared.event.Event.TheVariants.{Open, Report as Reported, Turn}

@@ -25,4 +25,4 @@ item_line host place play number item =
 -- those of some items with their numbers
 abbrev pub item_lines : List ℕ → List ℕ → ℕ → List (ℕ × ItemResult) → List ℕ
 item_lines host place play [] = []
-item_lines host place play (told ∷ rest) = item_line host place play told.0 told.1 ++ item_lines host place play rest
+item_lines host place play (results ∷ rest) = item_line host place play results.0 results.1 ++ item_lines host place play rest

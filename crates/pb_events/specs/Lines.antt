@@ -8,9 +8,9 @@ use Rattle.pb_places.specs.Place.{PlaceOf}
 use Rattle.pb_play.specs.Modules.{is_meta}
 use Rattle.pb_state.specs.declared.event.Event.{Event}
 use Rattle.pb_state.specs.declared.event.Event.TheVariants.{Open, Start, Send, Report as Reported, Turn, Close, Stop, Forks}
-use Rattle.pb_one_host.specs.declared.decided.Decided.{Decided}
-use Rattle.pb_one_host.specs.declared.decided.Done.{Done}
-use Rattle.pb_one_host.specs.declared.decided.Retried.{Retried}
+use Rattle.pb_host.specs.declared.step_result.StepResult.{StepResult}
+use Rattle.pb_host.specs.declared.step_result.TaskDone.{TaskDone}
+use Rattle.pb_host.specs.declared.step_result.Retried.{Retried}
 use Rattle.pb_plan.specs.Plan.{PlayOf, PlanOf}
 use Rattle.pb_state.specs.State.{State}
 use Rattle.pb_events.specs.Line.{line, at_host, at_end}
@@ -54,7 +54,7 @@ host_failed ignored host place play result =
     ∷ (codes "play", int (pos play)) ∷ (codes "result", result) ∷ [])
 
 -- the line of a task's result: a host that can't be reached comes first, then a failure, then what was left out
-abbrev pub result_line : List ℕ → List ℕ → ℕ → Done → List ℕ
+abbrev pub result_line : List ℕ → List ℕ → ℕ → TaskDone → List ℕ
 result_line host place play done =
     if done.task.result.unreachable then host_end (codes "runner_on_unreachable") host place play done.result
     else (if done.task.result.failed then host_failed done.task.result.ignored host place play done.result
@@ -62,7 +62,7 @@ result_line host place play done =
     else host_end (codes "runner_on_ok") host place play done.result))
 
 -- none as long as the task waits for a job
-abbrev pub done_text : List ℕ → List ℕ → ℕ → Option Done → List ℕ
+abbrev pub done_text : List ℕ → List ℕ → ℕ → Option TaskDone → List ℕ
 done_text host place play None = []
 done_text host place play (Some done) = result_line host place play done
 
@@ -78,7 +78,7 @@ retried_text host place play None = []
 retried_text host place play (Some retried) = retry_line host place play retried
 
 -- a task of `meta` has no line but that of its failure: its conditions can't be read, which nothing ignores
-abbrev pub meta_text : List ℕ → List ℕ → ℕ → Option Done → List ℕ
+abbrev pub meta_text : List ℕ → List ℕ → ℕ → Option TaskDone → List ℕ
 meta_text host place play None = []
 meta_text host place play (Some done) = if done.task.result.failed then host_failed false host place play done.result else []
 
@@ -89,42 +89,42 @@ pub record SiteOf : Type 0 where
   pub host : List ℕ
   pub place : PlaceOf
   pub path : List ℕ
-  pub decided : Decided
+  pub step_result : StepResult
 
 -- a place is printed by its path in the play's tree
-abbrev pub site_at : PlayOf → ℕ → List ℕ → Decided → Option PlaceOf → Option (List ℕ) → Option SiteOf
-site_at play number host decided (Some place) (Some path) = Some (record { play = play; number = number; host = host; place = place; path = dotted path; decided = decided })
-site_at play number host decided place path = None
+abbrev pub site_at : PlayOf → ℕ → List ℕ → StepResult → Option PlaceOf → Option (List ℕ) → Option SiteOf
+site_at play number host step_result (Some place) (Some path) = Some (record { play = play; number = number; host = host; place = place; path = dotted path; step_result = step_result })
+site_at play number host step_result place path = None
 
-abbrev pub site_in : ℕ → Option PlayOf → Option Decided → Option (List ℕ) → Option SiteOf
-site_in number (Some play) (Some decided) (Some host) = site_at play number host decided (slice_get play.places decided.place) (path_at play.tree decided.place)
-site_in number play decided host = None
+abbrev pub site_in : ℕ → Option PlayOf → Option StepResult → Option (List ℕ) → Option SiteOf
+site_in number (Some play) (Some step_result) (Some host) = site_at play number host step_result (slice_get play.places step_result.place) (path_at play.tree step_result.place)
+site_in number play step_result host = None
 
 -- of the host with this number, in a state
 abbrev pub site_of : PlanOf → State → ℕ → Option SiteOf
-site_of plan s h = site_in s.play (slice_get plan.plays s.play) s.decided (slice_get plan.inventory.hosts h)
+site_of plan s h = site_in s.play (slice_get plan.plays s.play) s.step_result (slice_get plan.inventory.hosts h)
 
 -- a start: the task, where the host is the first there, and the host
 abbrev pub start_text : SiteOf → List ℕ
 start_text site =
-    (if site.decided.is_new then task_start (start_event site.place.handler) site.place.task.name site.path site.number else [])
+    (if site.step_result.is_new then task_start (start_event site.place.handler) site.place.task.name site.path site.number else [])
     ++ host_start site.host site.path site.number
 
 -- what came of a task: the items of a loop, or the attempt that came back, the task's own end, and the handlers that it notified
 abbrev pub end_text : SiteOf → List ℕ
 end_text site =
-    item_lines site.host site.path site.number site.decided.items ++ retried_text site.host site.path site.number site.decided.retried
-    ++ done_text site.host site.path site.number site.decided.done ++ notify_text site.host site.play site.number site.decided.done
+    item_lines site.host site.path site.number site.step_result.items ++ retried_text site.host site.path site.number site.step_result.retried
+    ++ done_text site.host site.path site.number site.step_result.done ++ notify_text site.host site.play site.number site.step_result.done
 
 -- of a host that started a task
 abbrev pub started : SiteOf → List ℕ
 started site =
-    if is_meta site.place.task.«module» then meta_text site.host site.path site.number site.decided.done else start_text site ++ end_text site
+    if is_meta site.place.task.«module» then meta_text site.host site.path site.number site.step_result.done else start_text site ++ end_text site
 
 -- of a host whose report came
 abbrev pub came_back : SiteOf → List ℕ
 came_back site =
-    if is_meta site.place.task.«module» then meta_text site.host site.path site.number site.decided.done else end_text site
+    if is_meta site.place.task.«module» then meta_text site.host site.path site.number site.step_result.done else end_text site
 
 -- of the host with this number: that it started a task, or that its report came
 abbrev pub told_of : Bool → PlanOf → State → ℕ → List ℕ

@@ -5,7 +5,7 @@ use Rattle.pb_value.specs.Datum.{text, int}
 use Rattle.pb_tree.specs.Tree.{TreeOf, size_of}
 use Rattle.pb_places.specs.Place.{PlaceOf}
 use Rattle.pb_plan.specs.Plan.{PlayOf}
-use Rattle.pb_one_host.specs.declared.decided.Done.{Done}
+use Rattle.pb_host.specs.declared.step_result.TaskDone.{TaskDone}
 use Rattle.pb_events.specs.Line.{line}
 
 -- the name of a handler: it stands at the handler's place in the last Flush of the play, which has a place for each handler and is the play's end
@@ -25,6 +25,6 @@ notify_lines host play number [] = []
 notify_lines host play number (handler ∷ handlers) = notify_line host (handler_name play handler) number ++ notify_lines host play number handlers
 
 -- none as long as the task waits for a job
-abbrev pub notify_text : List ℕ → PlayOf → ℕ → Option Done → List ℕ
+abbrev pub notify_text : List ℕ → PlayOf → ℕ → Option TaskDone → List ℕ
 notify_text host play number None = []
 notify_text host play number (Some done) = notify_lines host play number done.notified

@@ -5,15 +5,15 @@ ghost use Rattle.pb_events.specs.Lines.{host_end, host_failed, result_line, done
 
 use crate::line::{begin, end, put_bool, put_number, put_text, put_value};
 use crate::site::Site;
-use pb_state::Done;
+use pb_state::TaskDone;
 use pb_value::val::Val;
 use std::alloc::AllocError;
 
 /// Adds the line of a task that ended; none as long as it waits for a job.
 pub fn done_text(lines: Vec<u8>, site: &Site) -> Result<Vec<u8>, AllocError>
-    ensures { IfOk result (λ bytes. bytes.items ≡ lines.items ++ done_text site.now.host site.now.path site.now.number site.now.decided.done) }
+    ensures { IfOk result (λ bytes. bytes.items ≡ lines.items ++ done_text site.now.host site.now.path site.now.number site.now.step_result.done) }
 {
-    match &site.decided.done {
+    match &site.step_result.done {
         Some(done) => result_line(lines, site, done),
         None => Ok(lines),
     }
@@ -21,16 +21,16 @@ pub fn done_text(lines: Vec<u8>, site: &Site) -> Result<Vec<u8>, AllocError>
 
 /// Adds the line of a task of `meta` whose conditions can't be read; none of any other.
 pub fn meta_text(lines: Vec<u8>, site: &Site) -> Result<Vec<u8>, AllocError>
-    ensures { IfOk result (λ bytes. bytes.items ≡ lines.items ++ meta_text site.now.host site.now.path site.now.number site.now.decided.done) }
+    ensures { IfOk result (λ bytes. bytes.items ≡ lines.items ++ meta_text site.now.host site.now.path site.now.number site.now.step_result.done) }
 {
-    match &site.decided.done {
+    match &site.step_result.done {
         Some(done) if done.task.result.failed => host_failed(lines, site, false, &done.result),
         _ => Ok(lines),
     }
 }
 
 /// Adds the line of a task's result: the host can't be reached, or else the task failed, or else it was skipped, or else it went well.
-fn result_line(lines: Vec<u8>, site: &Site, done: &Done) -> Result<Vec<u8>, AllocError>
+fn result_line(lines: Vec<u8>, site: &Site, done: &TaskDone) -> Result<Vec<u8>, AllocError>
     ensures { IfOk result (λ bytes. bytes.items ≡ lines.items ++ result_line site.now.host site.now.path site.now.number done.now) }
 {
     let task = done.task.result;

@@ -65,12 +65,12 @@ pub fn item_lines(
     alloc: Global,
     lines: Vec<u8>,
     site: &Site,
-    told: &[(u32, ItemResult)],
+    results: &[(u32, ItemResult)],
 ) -> Result<Vec<u8>, AllocError>
-    ensures { IfOk result (λ bytes. bytes.items ≡ lines.items ++ item_lines site.now.host site.now.path site.now.number told.now) }
+    ensures { IfOk result (λ bytes. bytes.items ≡ lines.items ++ item_lines site.now.host site.now.path site.now.number results.now) }
 {
     let mut all = lines;
-    for (number, item) in told {
+    for (number, item) in results {
         let line = Vec::with_capacity(alloc, ROOM)?;
         let more = item_line(line, site, *number, item)?;
         all.extend_from_slice(more.as_slice())?;

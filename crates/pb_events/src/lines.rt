@@ -138,7 +138,7 @@ fn came_back(
 fn end_text(alloc: Global, lines: Vec<u8>, site: &Site) -> Result<Vec<u8>, AllocError>
     ensures { IfOk result (λ bytes. bytes.items ≡ lines.items ++ end_text site.now) }
 {
-    let lines = item_lines(alloc, lines, site, site.decided.items.as_slice())?;
+    let lines = item_lines(alloc, lines, site, site.step_result.items.as_slice())?;
     let lines = retried_text(lines, site)?;
     let lines = done_text(lines, site)?;
     notify_text(lines, site)
@@ -176,9 +176,9 @@ fn host_start(lines: Vec<u8>, site: &Site) -> Result<Vec<u8>, AllocError>
 
 /// Adds the line of a task that no host had started.
 fn task_if_new(lines: Vec<u8>, site: &Site) -> Result<Vec<u8>, AllocError>
-    ensures { IfOk result (λ bytes. bytes.items ≡ lines.items ++ (if site.now.decided.is_new then task_start (start_event site.now.place.handler) site.now.place.task.name site.now.path site.now.number else [])) }
+    ensures { IfOk result (λ bytes. bytes.items ≡ lines.items ++ (if site.now.step_result.is_new then task_start (start_event site.now.place.handler) site.now.place.task.name site.now.path site.now.number else [])) }
 {
-    if !site.decided.is_new {
+    if !site.step_result.is_new {
         return Ok(lines);
     }
     let mut out = begin(lines)?;

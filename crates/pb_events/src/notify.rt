@@ -52,9 +52,9 @@ fn notify_lines(lines: Vec<u8>, site: &Site, handlers: &[u32]) -> Result<Vec<u8>
 
 /// Adds the lines of the handlers that a task notified and that were not pending before; none as long as it waits for a job.
 pub fn notify_text(lines: Vec<u8>, site: &Site) -> Result<Vec<u8>, AllocError>
-    ensures { IfOk result (λ bytes. bytes.items ≡ lines.items ++ notify_text site.now.host site.now.play site.now.number site.now.decided.done) }
+    ensures { IfOk result (λ bytes. bytes.items ≡ lines.items ++ notify_text site.now.host site.now.play site.now.number site.now.step_result.done) }
 {
-    match &site.decided.done {
+    match &site.step_result.done {
         Some(done) => notify_lines(lines, site, done.notified.as_slice()),
         None => Ok(lines),
     }

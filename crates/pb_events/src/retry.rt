@@ -10,9 +10,9 @@ use std::alloc::AllocError;
 
 /// Adds the line of an attempt that came back, if another one comes behind it.
 pub fn retried_text(lines: Vec<u8>, site: &Site) -> Result<Vec<u8>, AllocError>
-    ensures { IfOk result (λ bytes. bytes.items ≡ lines.items ++ retried_text site.now.host site.now.path site.now.number site.now.decided.retried) }
+    ensures { IfOk result (λ bytes. bytes.items ≡ lines.items ++ retried_text site.now.host site.now.path site.now.number site.now.step_result.retried) }
 {
-    match &site.decided.retried {
+    match &site.step_result.retried {
         Some(retried) => retry_line(lines, site, retried),
         None => Ok(lines),
     }

@@ -7,7 +7,7 @@ ghost use Rattle.pb_events.specs.Lines.{site_at, site_of};
 
 use pb_ids::HostNo;
 use pb_places::Place;
-use pb_state::{Decided, EngineState, Plan, PlanPlay};
+use pb_state::{EngineState, Plan, PlanPlay, StepResult};
 use std::alloc::{AllocError, Global};
 use std::marker::Model;
 
@@ -23,7 +23,7 @@ pub struct Site<'a> {
     pub place: &'a Place,
     /// The place's path in the play's tree, as it is printed.
     pub path: String,
-    pub decided: &'a Decided,
+    pub step_result: &'a StepResult,
 }
 
 impl<'a> Model for Site<'a> {
@@ -44,7 +44,7 @@ impl<'a> Model for Site<'a> {
       host = s.host.now;
       place = s.place.now;
       path = string_bytes s.path;
-      decided = s.decided.now;
+      step_result = s.step_result.now;
     } };
 }
 
@@ -75,11 +75,14 @@ fn site_at<'a>(
     play: &'a PlanPlay,
     number: u32,
     host: &'a str,
-    decided: &'a Decided,
+    step_result: &'a StepResult,
 ) -> Result<Option<Site<'a>>, AllocError>
-    ensures { IfOk result (λ site. site ≡ site_at play.now number host.now decided.now (slice_get play.now.places decided.now.place) (path_at play.now.tree decided.now.place)) }
+    ensures { IfOk result (λ site. site ≡ site_at play.now number host.now step_result.now (slice_get play.now.places step_result.now.place) (path_at play.now.tree step_result.now.place)) }
 {
-    match (play.place(decided.place), play.tree().place(decided.place)) {
+    match (
+        play.place(step_result.place),
+        play.tree().place(step_result.place),
+    ) {
         (Some(place), Some(at)) => {
             let path = at.text(alloc)?;
             Ok(Some(Site {
@@ -88,7 +91,7 @@ fn site_at<'a>(
                 host,
                 place,
                 path,
-                decided,
+                step_result,
             }))
         }
         _ => Ok(None),
@@ -106,11 +109,11 @@ pub fn site_of<'a>(
 {
     match (
         play_at(plan, state.play()),
-        state.decided(),
+        state.step_result(),
         name_of(plan, host),
     ) {
-        (Some(play), Some(decided), Some(name)) => {
-            site_at(alloc, play, state.play() as u32, name, decided)
+        (Some(play), Some(step_result), Some(name)) => {
+            site_at(alloc, play, state.play() as u32, name, step_result)
         }
         _ => Ok(None),
     }

@@ -1,5 +1,5 @@
 pub mod Each
 pub mod Learnt
 pub mod Restored
-pub mod Hearing
+pub mod Applying
 pub mod Heard

@@ -3,4 +3,4 @@ pub mod Facts
 pub mod Book
 pub mod Rows
 pub mod Stood
-pub mod News
+pub mod Update

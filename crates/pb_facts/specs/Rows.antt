@@ -9,7 +9,7 @@ use Rattle.pb_outcome.specs.declared.item.Planned.TheVariants.{Decided}
 use Rattle.pb_facts.specs.declared.facts.Gives.TheVariants.{Nothing, Sets, Gathers}
 use Rattle.pb_facts.specs.Facts.{no_facts, gathered_layer, merged, with_set, with_registered, given_in, learnt, known_of}
 use Rattle.pb_facts.specs.Book.{changed_at, shared}
-use Rattle.pb_facts.specs.News.{entries_in, registered_entries}
+use Rattle.pb_facts.specs.Update.{entries_in, registered_entries}
 
 abbrev x : ℕ → Map
 x n = (codes "x", int (pos n)) ∷ []

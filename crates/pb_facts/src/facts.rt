@@ -3,9 +3,9 @@ ghost use Rattle.std.specs.Option.{option_copied};
 ghost use Rattle.pb_facts.specs.Facts.{no_facts, gathered_layer, merged, with_set, with_given, with_registered, given_in, learnt, known_of};
 ghost use Rattle.pb_facts.specs.Each.{put_each, gives_some, gathered_after};
 
-use crate::news::{News, Past, put_back, put_entries, set_news};
 use crate::put::put_all;
 use crate::reading::{facts_in, gathered_in};
+use crate::update::{FactsUndo, FactsUpdate, put_back, put_entries, set_update};
 use pb_outcome::item::{Item, Planned};
 use pb_value::val::{Dict, Val};
 use std::alloc::{AllocError, Global};
@@ -85,7 +85,7 @@ fn gives_some(items: &[Item]) -> bool
 
 impl Facts {
     ghost use Rattle.pb_facts.specs.Facts.{FactsOf};
-    ghost use Rattle.pb_facts.specs.News.{heard, IsPast};
+    ghost use Rattle.pb_facts.specs.Update.{applied, IsUndo};
 
     /// A host that has learnt nothing.
     pub fn new(alloc: Global) -> Facts
@@ -209,8 +209,8 @@ impl Facts {
         match gives {
             Gives::Nothing => self.register(alloc, register, shown),
             Gives::Sets => {
-                let news = set_news(alloc, register, shown, items, self)?;
-                drop(self.hear(alloc, news)?);
+                let update = set_update(alloc, register, shown, items, self)?;
+                drop(self.apply(alloc, update)?);
                 Ok(())
             }
             Gives::Gathers => {
@@ -222,31 +222,31 @@ impl Facts {
         }
     }
 
-    /// Takes in what the host hears, in place. What was before is handed back. An `Err` changes nothing.
-    pub fn hear(&mut self, alloc: Global, news: News) -> Result<Past, AllocError>
-        ensures ok { OnOk result (self.new ≡ heard news self.old) }
-        ensures past { IfOk result (λ past. IsPast past self.old self.new) }
+    /// Takes in what the host learns, in place. What was before is handed back. An `Err` changes nothing.
+    pub fn apply(&mut self, alloc: Global, update: FactsUpdate) -> Result<FactsUndo, AllocError>
+        ensures ok { OnOk result (self.new ≡ applied update self.old) }
+        ensures past { IfOk result (λ past. IsUndo past self.old self.new) }
         ensures err { OnErr result (self.new ≡ self.old) }
     {
-        match news {
-            News::Nothing => Ok(Past::Nothing),
-            News::Whole(known) => Ok(Past::Was(mem::replace(self, known))),
-            News::More(entries) => {
+        match update {
+            FactsUpdate::Nothing => Ok(FactsUndo::Nothing),
+            FactsUpdate::Whole(known) => Ok(FactsUndo::Was(mem::replace(self, known))),
+            FactsUpdate::More(entries) => {
                 let log = put_entries(alloc, &mut self.set, entries)?;
-                Ok(Past::Stood(log))
+                Ok(FactsUndo::Stood(log))
             }
         }
     }
 
-    /// Puts back what was before the host heard something. It takes no memory.
+    /// Puts back what was before the host learnt something. It takes no memory.
     #[tactic(auto, using(crate::proofs::Heard::back_nothing, crate::proofs::Heard::back_was, crate::proofs::Heard::back_stood))]
-    pub fn unhear(&mut self, past: Past)
-        ensures { (was : FactsOf) → IsPast past was self.old → self.new ≡ was }
+    pub fn revert(&mut self, past: FactsUndo)
+        ensures { (was : FactsOf) → IsUndo past was self.old → self.new ≡ was }
     {
         match past {
-            Past::Nothing => {}
-            Past::Was(known) => *self = known,
-            Past::Stood(log) => put_back(&mut self.set, log),
+            FactsUndo::Nothing => {}
+            FactsUndo::Was(known) => *self = known,
+            FactsUndo::Stood(log) => put_back(&mut self.set, log),
         }
     }
 

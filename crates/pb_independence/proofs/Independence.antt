@@ -30,22 +30,22 @@ use Rattle.pb_places.specs.Place.{PlaceOf}
 use Rattle.pb_plan.specs.Plan.{PlayOf, PlanOf}
 use Rattle.pb_reach.specs.Apart.{SameBut}
 use Rattle.pb_reach.specs.Named.{in_trees, in_value, in_members}
-use Rattle.pb_reach.specs.Reach.{conditions_name, told_names, start_from}
-use Rattle.pb_reach.specs.Told.{until_of}
+use Rattle.pb_reach.specs.Reach.{conditions_name, result_names, start_from}
+use Rattle.pb_reach.specs.ResultConditions.{until_of}
 use Rattle.pb_reach.proofs.Tests.{none_of}
 use Rattle.pb_variables.specs.Magic.{host_magic, hostvars, hosts_magic}
-use Rattle.pb_sight.specs.Ends.{has_run}
-use Rattle.pb_sight.specs.Gifts.{gifts_from, given_by, gifts_of}
-use Rattle.pb_sight.specs.Learning.{gives_of}
-use Rattle.pb_sight.specs.Results.{layers_within, magic_of, nothing, place_for, items_for, items_at, came_for, came_at}
-use Rattle.pb_sight.specs.Seen.{with_hosts}
-use Rattle.pb_sight.proofs.ReadHosts.{items_of_place, told_of_place}
-use Rattle.pb_one_host.specs.Row.{task_at}
-use Rattle.pb_all_hosts.specs.Giving.{gifts_at}
+use Rattle.pb_task_vars.specs.Ends.{has_run}
+use Rattle.pb_task_vars.specs.Gifts.{gifts_from, given_by, gifts_of}
+use Rattle.pb_task_vars.specs.Learning.{gives_of}
+use Rattle.pb_task_vars.specs.Results.{layers_within, magic_of, nothing, place_for, items_for, items_at, came_for, came_at}
+use Rattle.pb_task_vars.specs.WithHostvars.{with_hosts}
+use Rattle.pb_task_vars.proofs.ReadHosts.{items_of_place, attempts_of_place}
+use Rattle.pb_host.specs.Host.{task_at}
+use Rattle.pb_hosts.specs.Giving.{gifts_at}
 use Rattle.pb_independence.specs.Independent.{module_names, loop_names, map_names, task_names, role_names, delegate_names, place_names, play_names, variable_names, group_names, host_names, inventory_names, plan_names, play_delegates, is_independent}
 use Rattle.pb_independence.specs.Apart.{AreApart}
 use Rattle.pb_independence.proofs.Tests.{and_left, and_right, or_false, none_false}
-use Rattle.pb_independence.proofs.OwnItems.{Unread, items_own, told_own}
+use Rattle.pb_independence.proofs.OwnItems.{Unread, items_own, attempts_own}
 use Rattle.pb_independence.proofs.Scopes.{layers_name}
 
 not_is : (b : Bool) → not b ≡ true → b ≡ false
@@ -133,7 +133,7 @@ layers_not word plan play place h facts none =
     let four = or_false (task_names word place.task || in_trees word (trees_of place.conditions) || delegate_names word place.delegate_to) (map_names word place.block_vars) five.0 in
     let three = or_false (task_names word place.task || in_trees word (trees_of place.conditions)) (delegate_names word place.delegate_to) four.0 in
     let two = or_false (task_names word place.task) (in_trees word (trees_of place.conditions)) three.0 in
-    let task = or_false (module_names word place.task.«module» || loop_names word place.task.looped || told_names word place.task) (map_names word place.task.vars) two.0 in
+    let task = or_false (module_names word place.task.«module» || loop_names word place.task.looped || result_names word place.task) (map_names word place.task.vars) two.0 in
     let params = or_false (map_names word place.role.defaults || map_names word place.role.vars) (map_names word place.role.params) five.1 in
     let role = or_false (map_names word place.role.defaults) (map_names word place.role.vars) params.0 in
     nine (map_names word plan.extra) (map_names word place.role.params) (map_names word place.task.vars) (map_names word place.block_vars) (map_names word place.role.vars) (map_names word play.vars)
@@ -147,8 +147,8 @@ unread word plan play place h facts magic none =
     let four = or_false (task_names word place.task || in_trees word (trees_of place.conditions) || delegate_names word place.delegate_to) (map_names word place.block_vars) five.0 in
     let three = or_false (task_names word place.task || in_trees word (trees_of place.conditions)) (delegate_names word place.delegate_to) four.0 in
     let two = or_false (task_names word place.task) (in_trees word (trees_of place.conditions)) three.0 in
-    let task = or_false (module_names word place.task.«module» || loop_names word place.task.looped || told_names word place.task) (map_names word place.task.vars) two.0 in
-    let own = or_false (module_names word place.task.«module» || loop_names word place.task.looped) (told_names word place.task) task.0 in
+    let task = or_false (module_names word place.task.«module» || loop_names word place.task.looped || result_names word place.task) (map_names word place.task.vars) two.0 in
+    let own = or_false (module_names word place.task.«module» || loop_names word place.task.looped) (result_names word place.task) task.0 in
     let done = or_false (module_names word place.task.«module») (loop_names word place.task.looped) own.0 in
     let told = none_of (conditions_name word place.task.changed_when) (conditions_name word place.task.failed_when) (conditions_name word (until_of place.task.retrying)) own.1 in
     record {
@@ -195,21 +195,21 @@ items_same : (plan : PlanOf) (play : PlayOf) (h : ℕ) (facts : FactsOf) (p : �
 unfolding items_at
 items_same plan play h facts p v un = items_found plan play h facts v (record { value = None; delegate = None; tried = 0; step = DecidedItem nothing } ∷ []) (place_for plan play h p) un
 
-told_found : (plan : PlanOf) (play : PlayOf) (h : ℕ) (facts : FactsOf) (v : Datum) (value : Option Datum) (attempt : ℕ) (item : ItemResult) (found : Option PlaceOf) → IsUnnamed plan play found
+attempts_found : (plan : PlanOf) (play : PlayOf) (h : ℕ) (facts : FactsOf) (v : Datum) (value : Option Datum) (attempt : ℕ) (item : ItemResult) (found : Option PlaceOf) → IsUnnamed plan play found
     → option_map_or (came_for (with_hosts plan (hosts_magic v)) play h facts value attempt item) found (Ends item) ≡ option_map_or (came_for plan play h facts value attempt item) found (Ends item)
-told_found plan play h facts v value attempt item None un = refl
-told_found plan play h facts v value attempt item (Some place) un =
-    told_of_place plan.has_facts_program place (layers_within plan play h facts place.role place.block_vars place.task.vars) place.task
+attempts_found plan play h facts v value attempt item None un = refl
+attempts_found plan play h facts v value attempt item (Some place) un =
+    attempts_of_place plan.has_facts_program place (layers_within plan play h facts place.role place.block_vars place.task.vars) place.task
     (magic_of (with_hosts plan (hosts_magic v)) play h) (magic_of plan play h) value attempt item refl
-    (told_own (codes "hostvars")
+    (attempts_own (codes "hostvars")
     (start_from place.task place.conditions place.delegate_to plan.has_facts_program (layers_within plan play h facts place.role place.block_vars place.task.vars) (magic_of (with_hosts plan (hosts_magic v)) play h))
     (magic_of plan play h) (loop_variable place.task.looped value) (unread (codes "hostvars") plan play place h facts (magic_of (with_hosts plan (hosts_magic v)) play h) un)
     (same_without (host_magic plan.inventory h ++ play.magic) plan.magic v) attempt item)
 
-told_same : (plan : PlanOf) (play : PlayOf) (h : ℕ) (facts : FactsOf) (p : ℕ) (v : Datum) (value : Option Datum) (attempt : ℕ) (item : ItemResult) → IsUnnamed plan play (place_for plan play h p)
+attempts_same : (plan : PlanOf) (play : PlayOf) (h : ℕ) (facts : FactsOf) (p : ℕ) (v : Datum) (value : Option Datum) (attempt : ℕ) (item : ItemResult) → IsUnnamed plan play (place_for plan play h p)
     → came_at (with_hosts plan (hosts_magic v)) play h facts p value attempt item ≡ came_at plan play h facts p value attempt item
 unfolding came_at
-told_same plan play h facts p v value attempt item un = told_found plan play h facts v value attempt item (place_for plan play h p) un
+attempts_same plan play h facts p v value attempt item un = attempts_found plan play h facts v value attempt item (place_for plan play h p) un
 
 -- ---- nothing is given to another host
 given_found : (inventory : InventoryOf) (h : ℕ) (task : TaskResult) (items : List Item) (found : Option PlaceOf) → option_map_or (λ (place : PlaceOf). place.delegate_facts) found false ≡ false
@@ -259,8 +259,8 @@ apart_of plan e =
       starts =
           λ n play there learnt h facts p.
           items_same plan play h facts p (hostvars plan.inventory plan.extra learnt) (unnamed plan play h p (none_at (play_names (codes "hostvars")) plan.plays n play two.0 there) two.1 front.1);
-      tells =
+      attempts =
           λ n play there learnt h facts p value attempt item.
-          told_same plan play h facts p (hostvars plan.inventory plan.extra learnt) value attempt item (unnamed plan play h p (none_at (play_names (codes "hostvars")) plan.plays n play two.0 there) two.1 front.1);
+          attempts_same plan play h facts p (hostvars plan.inventory plan.extra learnt) value attempt item (unnamed plan play h p (none_at (play_names (codes "hostvars")) plan.plays n play two.0 there) two.1 front.1);
       gives = λ n play there p h items. gifts_none plan.inventory play p h items (delegates_none play p (slice_get play.places p) refl (none_at play_delegates plan.plays n play delegated there));
     }

@@ -6,7 +6,7 @@ use Rattle.pb_expr_syntax.specs.Tree.{Tree, trees_of}
 use Rattle.pb_layers.specs.Scope.{Map}
 use Rattle.pb_operators.specs.declared.fault.EvalFault.{EvalFault}
 use Rattle.pb_conditions.specs.Conditions.{holds}
-use Rattle.pb_conditions.specs.Settled.{sees}
+use Rattle.pb_conditions.specs.ResultConditions.{sees}
 use Rattle.pb_outcome.specs.declared.gather.ItemResult.{ItemResult}
 use Rattle.pb_outcome.specs.declared.item.Item.{Item}
 use Rattle.pb_outcome.specs.declared.item.Planned.{Planned}
@@ -19,7 +19,7 @@ use Rattle.pb_play.specs.declared.modules.Module.TheVariants.{Assert, Command, D
 use Rattle.pb_items.specs.Calls.{words_in, command_in}
 use Rattle.pb_items.specs.Facts.{facts_of}
 use Rattle.pb_items.specs.Faults.{evaluated}
-use Rattle.pb_items.specs.Items.{StartOf, Step, seen_by, delegate_in, attempted_by, settled_step, step_of, step_if, step_in, item_of, item_in, looped_items, items_by, items_of}
+use Rattle.pb_items.specs.Items.{StartOf, Step, seen_by, delegate_in, attempted_by, with_conditions_step, step_of, step_if, step_in, item_of, item_in, looped_items, items_by, items_of}
 use Rattle.pb_items.specs.Loops.{loop_variable, values_of}
 use Rattle.pb_items.specs.Planning.{done_by}
 use Rattle.pb_items.specs.declared.fault.ItemFault.{ItemFault}
@@ -27,8 +27,8 @@ use Rattle.pb_reach.specs.Apart.{SameBut, AreApart}
 use Rattle.pb_reach.specs.Named.{in_tree, in_trees, in_value, in_items, in_members}
 use Rattle.pb_reach.specs.Reach.{conditions_name, with_magic}
 use Rattle.pb_reach.proofs.Alike.{then_alike, eval_alike, rendered_apart}
-use Rattle.pb_reach.specs.Told.{until_of}
-use Rattle.pb_reach.proofs.OwnItems.{settled_own, tried_own}
+use Rattle.pb_reach.specs.ResultConditions.{until_of}
+use Rattle.pb_reach.proofs.OwnItems.{with_conditions_own, tried_own}
 use Rattle.pb_reach.proofs.Tests.{neither}
 use Rattle.pb_independence.specs.Independent.{words_name, module_names, loop_names, delegate_names}
 use Rattle.pb_independence.proofs.Scopes.{layers_name, scopes_apart}
@@ -96,13 +96,13 @@ apart_seen : (word : List ℕ) (start : StartOf) (magic variable seen : Map) →
     AreApart word (sees start.layers start.magic variable seen) (sees start.layers magic variable seen)
 apart_seen word start magic variable seen own same = scopes_apart word start.layers start.magic magic variable seen own.layers same
 
-settled_step_own : (word : List ℕ) (start : StartOf) (magic variable : Map) → Unread word start → SameBut word start.magic magic → (step : Planned) →
-    settled_step start variable step ≡ settled_step (with_magic start magic) variable step
-settled_step_own word start magic variable own same (Decided result) =
+with_conditions_step_own : (word : List ℕ) (start : StartOf) (magic variable : Map) → Unread word start → SameBut word start.magic magic → (step : Planned) →
+    with_conditions_step start variable step ≡ with_conditions_step (with_magic start magic) variable step
+with_conditions_step_own word start magic variable own same (Decided result) =
     ap Decided
-    (settled_own word (sees start.layers start.magic variable) (sees start.layers magic variable) (λ seen. apart_seen word start magic variable seen own same) start.task.register
+    (with_conditions_own word (sees start.layers start.magic variable) (sees start.layers magic variable) (λ seen. apart_seen word start magic variable seen own same) start.task.register
     start.task.changed_when start.task.failed_when own.changed own.failed result)
-settled_step_own word start magic variable own same (Sends call) = refl
+with_conditions_step_own word start magic variable own same (Sends call) = refl
 
 -- what an item does, with its delegate
 abbrev delegated : Planned → Option (List ℕ) → Step
@@ -113,16 +113,16 @@ step_of_own : (word : List ℕ) (start : StartOf) (magic variable : Map) → Unr
 step_of_own word start magic variable own same =
     let apart = apart_seen word start magic variable [] own same in
     ap
-    (λ (r : Result Planned ItemFault). and_then r (λ done. map_ok (delegated (settled_step start variable done)) (delegate_in (seen_by start variable) start.delegate_to)))
+    (λ (r : Result Planned ItemFault). and_then r (λ done. map_ok (delegated (with_conditions_step start variable done)) (delegate_in (seen_by start variable) start.delegate_to)))
     (done_own word start.has_facts_program (seen_by start variable) (seen_by (with_magic start magic) variable) apart start.task.module own.called)
     ∙ then_alike (done_by start.has_facts_program (seen_by (with_magic start magic) variable) start.task.module)
-    (λ done. map_ok (delegated (settled_step start variable done)) (delegate_in (seen_by start variable) start.delegate_to))
-    (λ done. map_ok (delegated (settled_step (with_magic start magic) variable done)) (delegate_in (seen_by (with_magic start magic) variable) start.delegate_to))
+    (λ done. map_ok (delegated (with_conditions_step start variable done)) (delegate_in (seen_by start variable) start.delegate_to))
+    (λ done. map_ok (delegated (with_conditions_step (with_magic start magic) variable done)) (delegate_in (seen_by (with_magic start magic) variable) start.delegate_to))
     (λ done.
-    ap (λ (r : Result (Option (List ℕ)) ItemFault). map_ok (delegated (settled_step start variable done)) r)
+    ap (λ (r : Result (Option (List ℕ)) ItemFault). map_ok (delegated (with_conditions_step start variable done)) r)
     (delegate_own word (seen_by start variable) (seen_by (with_magic start magic) variable) apart start.delegate_to own.delegate)
     ∙ ap (λ (s : Planned). map_ok (delegated s) (delegate_in (seen_by (with_magic start magic) variable) start.delegate_to))
-    (settled_step_own word start magic variable own same done))
+    (with_conditions_step_own word start magic variable own same done))
 
 step_if_own : (word : List ℕ) (start : StartOf) (magic variable : Map) → Unread word start → SameBut word start.magic magic → (b : Bool) →
     step_if start variable b ≡ step_if (with_magic start magic) variable b
@@ -168,7 +168,7 @@ unfolding items_of
 items_own word start magic own same = by_loop word start magic own same start.task.looped own.looped
 
 -- and what it says of an attempt
-pub told_own : (word : List ℕ) (start : StartOf) (magic variable : Map) → Unread word start → SameBut word start.magic magic → (attempt : ℕ) (result : ItemResult) →
+pub attempts_own : (word : List ℕ) (start : StartOf) (magic variable : Map) → Unread word start → SameBut word start.magic magic → (attempt : ℕ) (result : ItemResult) →
     attempted_by start.task.retrying start variable attempt result ≡ attempted_by start.task.retrying (with_magic start magic) variable attempt result
-told_own word start magic variable own same attempt result =
+attempts_own word start magic variable own same attempt result =
     tried_own word start magic variable (λ seen. apart_seen word start magic variable seen own same) own.changed own.failed own.until attempt result

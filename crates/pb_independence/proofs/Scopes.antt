@@ -7,7 +7,7 @@ use Rattle.std.specs.Ordering.{nat_cmp}
 use Rattle.std.specs.Cmp.Lexicographic.{slice_cmp}
 use Rattle.pb_value.specs.Datum.{Datum, members_of, put, value_at}
 use Rattle.pb_layers.specs.Scope.{Map, found, or_else, has_templates, scope, with_seen}
-use Rattle.pb_conditions.specs.Settled.{seen_in, sees}
+use Rattle.pb_conditions.specs.ResultConditions.{seen_in, sees}
 use Rattle.pb_reach.specs.Apart.{SameBut, AreApart}
 use Rattle.pb_reach.specs.Named.{in_value, in_members}
 use Rattle.pb_reach.proofs.Stored.{above, ninth, eleven_of}

@@ -19,7 +19,7 @@ use Rattle.pb_places.specs.Place.{PlaceOf}
 use Rattle.pb_places.specs.declared.surroundings.Role.{Role}
 use Rattle.pb_plan.specs.Plan.{PlayOf, PlanOf}
 use Rattle.pb_reach.specs.Named.{in_tree, in_trees, in_text, in_value, in_items, in_members}
-use Rattle.pb_reach.specs.Reach.{told_names}
+use Rattle.pb_reach.specs.Reach.{result_names}
 use Rattle.pb_strategies.specs.MayStart.{is_linear}
 
 -- ---- who names a word: in an expression, or in a template within a text
@@ -45,7 +45,7 @@ abbrev pub map_names : List ℕ → Map → Bool
 map_names word m = in_members word (members_of m)
 
 abbrev pub task_names : List ℕ → Task → Bool
-task_names word task = module_names word task.«module» || loop_names word task.looped || told_names word task || map_names word task.vars
+task_names word task = module_names word task.«module» || loop_names word task.looped || result_names word task || map_names word task.vars
 
 abbrev pub role_names : List ℕ → Role → Bool
 role_names word role = map_names word role.defaults || map_names word role.vars || map_names word role.params

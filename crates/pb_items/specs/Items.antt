@@ -11,7 +11,7 @@ use Rattle.pb_expr_syntax.specs.Tree.{Tree}
 use Rattle.pb_expr_eval.specs.Scoped.{rendered_of}
 use Rattle.pb_conditions.specs.Attempts.{attempted}
 use Rattle.pb_conditions.specs.Conditions.{holds}
-use Rattle.pb_conditions.specs.Settled.{sees, settled}
+use Rattle.pb_conditions.specs.ResultConditions.{sees, with_conditions}
 use Rattle.pb_conditions.specs.declared.attempt.Back.{Back}
 use Rattle.pb_conditions.specs.declared.attempt.Back.TheVariants.{Ends}
 use Rattle.pb_outcome.specs.Decided.{faulty_result}
@@ -55,13 +55,13 @@ delegate_in scope None = Ok None
 delegate_in scope (Some template) = and_then (evaluated (rendered_of scope (text template))) delegate_named
 
 -- what is decided at once is what the task says of it
-abbrev pub settled_of : StartOf → Map → ItemResult → ItemResult
-settled_of start variable item = settled (sees start.layers start.magic variable) start.task.register start.task.changed_when start.task.failed_when item
+abbrev pub with_conditions_of : StartOf → Map → ItemResult → ItemResult
+with_conditions_of start variable item = with_conditions (sees start.layers start.magic variable) start.task.register start.task.changed_when start.task.failed_when item
 
 -- What an attempt comes to whose job came back. They are numbered from 1. There is one alone unless the task is tried again; else the last one is that
 -- which as many attempts lie before as may follow the first.
 abbrev pub attempted_by : Option Retrying → StartOf → Map → ℕ → ItemResult → Back
-attempted_by None start variable attempt item = Ends (settled_of start variable item)
+attempted_by None start variable attempt item = Ends (with_conditions_of start variable item)
 attempted_by (Some retrying) start variable attempt item =
     attempted (sees start.layers start.magic variable) start.task.register start.task.changed_when start.task.failed_when retrying.until attempt (nat_lt retrying.retries attempt) item
 
@@ -69,9 +69,9 @@ attempted_by (Some retrying) start variable attempt item =
 abbrev pub attempted_item : StartOf → Option Datum → ℕ → ItemResult → Back
 attempted_item start value attempt item = attempted_by start.task.retrying start (loop_variable start.task.looped value) attempt item
 
-abbrev pub settled_step : StartOf → Map → Planned → Planned
-settled_step start variable (Decided item) = Decided (settled_of start variable item)
-settled_step start variable (Sends call) = Sends call
+abbrev pub with_conditions_step : StartOf → Map → Planned → Planned
+with_conditions_step start variable (Decided item) = Decided (with_conditions_of start variable item)
+with_conditions_step start variable (Sends call) = Sends call
 
 -- what an item does, and the host that it is delegated to
 abbrev pub Step : Type 0
@@ -80,7 +80,7 @@ Step = Planned × Option (List ℕ)
 abbrev pub step_of : StartOf → Map → Result Step ItemFault
 step_of start variable =
     and_then (done_by start.has_facts_program (seen_by start variable) start.task.module)
-    (λ done. map_ok (λ delegate. (settled_step start variable done, delegate)) (delegate_in (seen_by start variable) start.delegate_to))
+    (λ done. map_ok (λ delegate. (with_conditions_step start variable done, delegate)) (delegate_in (seen_by start variable) start.delegate_to))
 
 -- where its conditions hold
 abbrev pub step_if : StartOf → Map → Bool → Result Step ItemFault

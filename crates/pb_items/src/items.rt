@@ -1,7 +1,7 @@
 //! The items of a task.
 ghost use Rattle.std.specs.Prelude.{◌≡◌, ◌≢◌, ◌≤◌, [], ◌∷◌, Some, IfOk, IfErr, Ok, Err, length, map};
 ghost use Rattle.std.specs.Option.{option_copied};
-ghost use Rattle.pb_items.specs.Items.{seen_by, delegate_in, settled_of, attempted_by, attempted_item, settled_step, step_in, item_in, faulty_item, looped_items, items_of};
+ghost use Rattle.pb_items.specs.Items.{seen_by, delegate_in, with_conditions_of, attempted_by, attempted_item, with_conditions_step, step_in, item_in, faulty_item, looped_items, items_of};
 ghost use Rattle.pb_items.specs.Loops.{max_items, values_of};
 ghost use Rattle.pb_items.specs.declared.fault.ItemFault.TheVariants as item;
 
@@ -12,7 +12,7 @@ use crate::results::skipped_result;
 use crate::start::Start;
 use pb_conditions::attempt::{Back, Terms};
 use pb_conditions::holds::holds;
-use pb_conditions::settled::{Sight, settle};
+use pb_conditions::result_conditions::{Sight, with_conditions};
 use pb_expr_eval::eval::render_text;
 use pb_layers::scope::Scope;
 use pb_outcome::gather::ItemResult;
@@ -47,13 +47,13 @@ fn delegate_in(
 }
 
 /// The result of an item with this loop variable, as the task says of it.
-fn settled_of(
+fn with_conditions_of(
     alloc: Global,
     start: &Start,
     variable: &Dict,
     item: ItemResult,
 ) -> Result<ItemResult, AllocError>
-    ensures { IfOk result (λ told. told ≡ settled_of start.now variable.now item) }
+    ensures { IfOk result (λ told. told ≡ with_conditions_of start.now variable.now item) }
 {
     let task = start.task;
     let sight = Sight {
@@ -62,7 +62,7 @@ fn settled_of(
         loop_variable: variable,
         register: &task.register,
     };
-    settle(alloc, &sight, &task.changed_when, &task.failed_when, item)
+    with_conditions(alloc, &sight, &task.changed_when, &task.failed_when, item)
 }
 
 /// What an attempt at an item with this loop variable comes to, where the task may be tried again.
@@ -107,22 +107,22 @@ pub fn attempted(
     let variable = loop_variable(alloc, &start.task.looped, value)?;
     match &start.task.retrying {
         Some(retrying) => retried(alloc, start, retrying, &variable, attempt, item),
-        None => Ok(Back::Ends(settled_of(alloc, start, &variable, item)?)),
+        None => Ok(Back::Ends(with_conditions_of(alloc, start, &variable, item)?)),
     }
 }
 
 /// What is decided at once, as the task says of it.
-fn settled_step(
+fn with_conditions_step(
     alloc: Global,
     start: &Start,
     variable: &Dict,
     step: Planned,
 ) -> Result<Planned, AllocError>
-    ensures { IfOk result (λ s. s ≡ settled_step start.now variable.now step) }
+    ensures { IfOk result (λ s. s ≡ with_conditions_step start.now variable.now step) }
 {
     match step {
         Planned::Decided(item) => {
-            let item = settled_of(alloc, start, variable, item)?;
+            let item = with_conditions_of(alloc, start, variable, item)?;
             Ok(Planned::Decided(item))
         }
         Planned::Sends(call) => Ok(Planned::Sends(call)),
@@ -145,7 +145,7 @@ fn step_in(
     }
     let done = done_by(alloc, start.has_facts_program, &start.task.module, &scope)?;
     let delegate = delegate_in(alloc, start.delegate_to, &scope)?;
-    let step = settled_step(alloc, start, variable, done)?;
+    let step = with_conditions_step(alloc, start, variable, done)?;
     Ok((step, delegate))
 }
 

@@ -11,11 +11,11 @@ use Rattle.pb_planes.specs.Set.{has_some}
 use Rattle.pb_plan.specs.Plan.{PlayOf, PlanOf}
 use Rattle.pb_strategies.specs.MayStart.{may_start, may_start_from, has_room, ready as starting}
 use Rattle.pb_strategies.specs.declared.standings.Standing.{Standing}
-use Rattle.pb_one_host.specs.declared.row.Running.{Running}
-use Rattle.pb_one_host.specs.Row.{HostRow}
-use Rattle.pb_one_host.specs.Runs.{has_send, is_next, may_send_item, sends_running}
-use Rattle.pb_one_host.specs.Standing.{standing}
-use Rattle.pb_all_hosts.specs.Hosts.{at_row}
+use Rattle.pb_host.specs.declared.host.Running.{Running}
+use Rattle.pb_host.specs.Host.{HostOf}
+use Rattle.pb_host.specs.Runs.{has_send, is_next, may_send_item, sends_running}
+use Rattle.pb_host.specs.Standing.{standing}
+use Rattle.pb_hosts.specs.Hosts.{at_row}
 use Rattle.pb_state.specs.declared.event.Event.{Event}
 use Rattle.pb_state.specs.declared.event.Event.TheVariants.{Open, Start, Send, Turn, Close}
 use Rattle.pb_state.specs.Machine.{possible, ready, ready_in, with_sends, may_open, may_start_in, may_send_in, item_at, attempt_at, open_play}
@@ -94,7 +94,7 @@ one_of (a ∷ starts) [] h l e = absurd (omega (arith, l))
 one_of (a ∷ starts) (b ∷ sends) zero l e = elim e [ inl x ↦ ap Some (or_first a b (held a x)) | inr x ↦ ap Some (or_last a b (held b x)) ]
 one_of (a ∷ starts) (b ∷ sends) (suc h) l e = one_of starts sends h (omega (arith, l)) e
 
-sends_there : (rows : List HostRow) (h : ℕ) → at_row has_send rows h ≡ true → slice_get (map has_send rows) h ≡ Some true
+sends_there : (rows : List HostOf) (h : ℕ) → at_row has_send rows h ≡ true → slice_get (map has_send rows) h ≡ Some true
 sends_there [] h e = cc
 sends_there (row ∷ rows) zero e = ap Some e
 sends_there (row ∷ rows) (suc h) e = sends_there rows h e
@@ -113,7 +113,7 @@ unsent : (item attempt : ℕ) (running : Option Running) → option_map_or (send
 unsent item attempt None e = cc
 unsent item attempt (Some r) e = and_left (is_none r.out) (is_next item attempt r) e
 
-has_send_at : (item attempt : ℕ) (rows : List HostRow) (h : ℕ) → at_row (may_send_item item attempt) rows h ≡ true → at_row has_send rows h ≡ true
+has_send_at : (item attempt : ℕ) (rows : List HostOf) (h : ℕ) → at_row (may_send_item item attempt) rows h ≡ true → at_row has_send rows h ≡ true
 has_send_at item attempt [] h e = cc
 has_send_at item attempt (row ∷ rows) zero e = unsent item attempt row.running e
 has_send_at item attempt (row ∷ rows) (suc h) e = has_send_at item attempt rows h e

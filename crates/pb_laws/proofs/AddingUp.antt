@@ -12,19 +12,19 @@ use Rattle.pb_outcome.specs.Gathered.{some_unreachable, is_failed, is_skipped, i
 use Rattle.pb_outcome.specs.Items.{ended, is_over}
 use Rattle.pb_plan.specs.Plan.{PlayOf, PlanOf}
 use Rattle.pb_play.specs.declared.modules.Meta.{Meta}
-use Rattle.pb_sight.specs.Results.{items_at}
-use Rattle.pb_one_host.specs.declared.decided.Decided.{Decided}
-use Rattle.pb_one_host.specs.declared.decided.Done.{Done}
+use Rattle.pb_task_vars.specs.Results.{items_at}
+use Rattle.pb_host.specs.declared.step_result.StepResult.{StepResult}
+use Rattle.pb_host.specs.declared.step_result.TaskDone.{TaskDone}
 use Rattle.pb_state.specs.declared.event.Event.{Event}
 use Rattle.pb_state.specs.declared.event.Event.TheVariants.{Open, Start, Send, Report as Reported, Turn, Close, Stop, Forks}
-use Rattle.pb_one_host.specs.declared.row.Counts.{Counts}
-use Rattle.pb_one_host.specs.declared.row.Running.{Running}
-use Rattle.pb_one_host.specs.Decides.{report_decides, decided_by, done_at, done_if}
-use Rattle.pb_one_host.specs.Runs.{awaits}
-use Rattle.pb_all_hosts.specs.Hosts.{one_if}
+use Rattle.pb_host.specs.declared.host.Counts.{Counts}
+use Rattle.pb_host.specs.declared.host.Running.{Running}
+use Rattle.pb_host.specs.Decides.{report_result, step_result_by, done_at, done_if}
+use Rattle.pb_host.specs.Runs.{awaits}
+use Rattle.pb_hosts.specs.Hosts.{one_if}
 use Rattle.pb_state.specs.Machine.{possible, after, first_state, open_play, next_at, start_at, started_in, facts_at, plan_seen, reported_in, pending_at, may_start_in, may_report_in}
 use Rattle.pb_state.specs.Once.{place_run_by}
-use Rattle.pb_one_host.specs.Row.{HostRow, pending, ignores_at, caught_at, meta_at, items_after}
+use Rattle.pb_host.specs.Host.{HostOf, pending, ignores_at, caught_at, meta_at, items_after}
 use Rattle.pb_state.specs.Run.{legal_from}
 use Rattle.pb_state.specs.State.{State}
 use Rattle.pb_state.proofs.StepNumbers.{and_left, and_right}
@@ -32,7 +32,7 @@ use Rattle.pb_state.proofs.Once.{start_place}
 use Rattle.pb_state.proofs.Stands.{both}
 use Rattle.pb_recap.specs.Kinds.{CountKind, Okay, Unreachable, Failed, Skipped, Rescued, has, status_of}
 use Rattle.pb_recap.specs.Recap.{by_host, ended_by, finishes, result_counts, counted, count_from, hosts_from, recap}
-use Rattle.pb_laws.specs.History.{HostTask, Happening, MayRun, Starts, Sends, Reports, at_place, ended_in, ends_if, given_in, told, history_from, history}
+use Rattle.pb_laws.specs.History.{HostTask, Happening, MayRun, Starts, Sends, Reports, at_place, ended_in, ends_if, given_in, happenings, history_from, history}
 use Rattle.pb_laws.specs.Laws.{so_far, counts, tasks_ended, add_up, has_trouble, status_tells, RecapAddsUp}
 use Rattle.pb_laws.proofs.Telling.{row_at}
 use Rattle.pb_laws.proofs.TaskTelling.{place_there, awaits_is}
@@ -87,12 +87,12 @@ five_task h k is_caught ignore items meta =
 -- ---- one event
 -- what is told of a task that came to some items
 ends_count : (k : ℕ) (past : List Happening) (found : Option PlayOf) (task : HostTask) (play : PlayOf) (p : ℕ) (marks : List Bool) (items : List Item)
-    → tasks_ended k (so_far past (ends_if found (option_map (λ (d : Done). d.task) (done_if play p marks items)) task))
+    → tasks_ended k (so_far past (ends_if found (option_map (λ (d : TaskDone). d.task) (done_if play p marks items)) task))
     ≡ tasks_ended k past + five (λ (kind : CountKind). counted k kind (option_map (by_host task.host) (done_if play p marks items)))
 ends_count k past found task play p marks items = by_over (is_over items)
   where
     by_over : (over : Bool)
-        → tasks_ended k (so_far past (ends_if found (option_map (λ (d : Done). d.task) (if over then Some (done_at play p marks items) else None)) task))
+        → tasks_ended k (so_far past (ends_if found (option_map (λ (d : TaskDone). d.task) (if over then Some (done_at play p marks items) else None)) task))
         ≡ tasks_ended k past + five (λ (kind : CountKind). counted k kind (option_map (by_host task.host) (if over then Some (done_at play p marks items) else None)))
     by_over true = ap (λ (n : ℕ). tasks_ended k past + n) (sym (five_task task.host k (caught_at play p) (ignores_at play p) (ended items) (meta_at play p)))
     by_over false = omega arith
@@ -101,40 +101,40 @@ nothing_more : (n m : ℕ) → n ≡ m → n ≡ m + 0
 nothing_more n m e = omega (arith, e)
 
 start_count : (plan : PlanOf) (s : State) (h k : ℕ) (past : List Happening) (play : PlayOf) (place : Option ℕ) → next_at s h ≡ place → may_start_in s h play ≡ true
-    → tasks_ended k (so_far past (at_place s.play h place (λ task. Starts task ∷ ends_if (open_play plan s) (ended_in (option_map_or (start_at plan s h play) place s).decided) task)))
-    ≡ tasks_ended k past + five (λ (kind : CountKind). counted k kind (option_map_or (ended_by h) (option_map_or (start_at plan s h play) place s).decided None))
+    → tasks_ended k (so_far past (at_place s.play h place (λ task. Starts task ∷ ends_if (open_play plan s) (ended_in (option_map_or (start_at plan s h play) place s).step_result) task)))
+    ≡ tasks_ended k past + five (λ (kind : CountKind). counted k kind (option_map_or (ended_by h) (option_map_or (start_at plan s h play) place s).step_result None))
 start_count plan s h k past play None n may = absurd (let at = start_place plan s h (Some play) may in let there = at.1 in cc)
 start_count plan s h k past play (Some p) n may =
     ends_count k (Starts (record { play = s.play; host = h; place = p }) ∷ past) (open_play plan s) (record { play = s.play; host = h; place = p }) play p (pending_at s h) (items_at (plan_seen plan s) play h (facts_at s h) p)
 
 started_count : (plan : PlanOf) (s : State) (h k : ℕ) (past : List Happening) (found : Option PlayOf) → option_map_or (may_start_in s h) found false ≡ true
-    → tasks_ended k (so_far past (at_place s.play h (next_at s h) (λ task. Starts task ∷ ends_if (open_play plan s) (ended_in (option_map_or (started_in plan s h) found s).decided) task)))
-    ≡ tasks_ended k past + five (λ (kind : CountKind). counted k kind (option_map_or (ended_by h) (option_map_or (started_in plan s h) found s).decided None))
+    → tasks_ended k (so_far past (at_place s.play h (next_at s h) (λ task. Starts task ∷ ends_if (open_play plan s) (ended_in (option_map_or (started_in plan s h) found s).step_result) task)))
+    ≡ tasks_ended k past + five (λ (kind : CountKind). counted k kind (option_map_or (ended_by h) (option_map_or (started_in plan s h) found s).step_result None))
 started_count plan s h k past None may = cc
 started_count plan s h k past (Some play) may = start_count plan s h k past play (next_at s h) refl may
 
-reports_count : (plan : PlanOf) (s : State) (r : Report) (k : ℕ) (past : List Happening) (play : PlayOf) (row : HostRow) (q : Running) → slice_get s.rows r.host.0 ≡ Some row → row.running ≡ Some q
-    → tasks_ended k (so_far (Reports r.host.0 r.item r.ticket.0 ∷ past) (at_place s.play r.host.0 (place_run_by s r.host) (λ task. ends_if (open_play plan s) (ended_in (reported_in plan s r play).decided) task)))
-    ≡ tasks_ended k past + five (λ (kind : CountKind). counted k kind (option_map_or (ended_by r.host.0) (reported_in plan s r play).decided None))
+reports_count : (plan : PlanOf) (s : State) (r : Report) (k : ℕ) (past : List Happening) (play : PlayOf) (row : HostOf) (q : Running) → slice_get s.rows r.host.0 ≡ Some row → row.running ≡ Some q
+    → tasks_ended k (so_far (Reports r.host.0 r.item r.ticket.0 ∷ past) (at_place s.play r.host.0 (place_run_by s r.host) (λ task. ends_if (open_play plan s) (ended_in (reported_in plan s r play).step_result) task)))
+    ≡ tasks_ended k past + five (λ (kind : CountKind). counted k kind (option_map_or (ended_by r.host.0) (reported_in plan s r play).step_result None))
 reports_count plan s r k past play row q there runs =
-    subst (λ (place : Option ℕ). Adds place (option_map_or (report_decides (plan_seen plan s) play r.outcome) (slice_get s.rows r.host.0) None)) (sym (place_there s r.host row q there runs))
-    (subst (λ (decided : Option Decided). Adds (Some q.place) decided) (sym decides)
+    subst (λ (place : Option ℕ). Adds place (option_map_or (report_result (plan_seen plan s) play r.outcome) (slice_get s.rows r.host.0) None)) (sym (place_there s r.host row q there runs))
+    (subst (λ (step_result : Option StepResult). Adds (Some q.place) step_result) (sym decides)
     (ends_count k (Reports r.host.0 r.item r.ticket.0 ∷ past) (open_play plan s) (record { play = s.play; host = r.host.0; place = q.place }) play q.place (pending row) (items_after (plan_seen plan s) play row.host row.facts r.outcome q)))
   where
-    Adds : Option ℕ → Option Decided → Type 0
-    Adds place decided =
-        tasks_ended k (so_far (Reports r.host.0 r.item r.ticket.0 ∷ past) (at_place s.play r.host.0 place (λ task. ends_if (open_play plan s) (ended_in decided) task)))
-        ≡ tasks_ended k past + five (λ (kind : CountKind). counted k kind (option_map_or (ended_by r.host.0) decided None))
+    Adds : Option ℕ → Option StepResult → Type 0
+    Adds place step_result =
+        tasks_ended k (so_far (Reports r.host.0 r.item r.ticket.0 ∷ past) (at_place s.play r.host.0 place (λ task. ends_if (open_play plan s) (ended_in step_result) task)))
+        ≡ tasks_ended k past + five (λ (kind : CountKind). counted k kind (option_map_or (ended_by r.host.0) step_result None))
 
-    decides : option_map_or (report_decides (plan_seen plan s) play r.outcome) (slice_get s.rows r.host.0) None ≡ Some (decided_by (plan_seen plan s) play r.outcome row q)
+    decides : option_map_or (report_result (plan_seen plan s) play r.outcome) (slice_get s.rows r.host.0) None ≡ Some (step_result_by (plan_seen plan s) play r.outcome row q)
     decides =
-        ap (λ (found : Option HostRow). option_map_or (report_decides (plan_seen plan s) play r.outcome) found None) there
-        ∙ ap (option_map (decided_by (plan_seen plan s) play r.outcome row)) runs
+        ap (λ (found : Option HostOf). option_map_or (report_result (plan_seen plan s) play r.outcome) found None) there
+        ∙ ap (option_map (step_result_by (plan_seen plan s) play r.outcome row)) runs
 
 reported_count : (plan : PlanOf) (s : State) (r : Report) (k : ℕ) (past : List Happening) (found : Option PlayOf) → option_map_or (may_report_in s r) found false ≡ true
     → tasks_ended k (so_far (Reports r.host.0 r.item r.ticket.0 ∷ past)
-    (at_place s.play r.host.0 (place_run_by s r.host) (λ task. ends_if (open_play plan s) (ended_in (option_map_or (reported_in plan s r) found s).decided) task)))
-    ≡ tasks_ended k past + five (λ (kind : CountKind). counted k kind (option_map_or (ended_by r.host.0) (option_map_or (reported_in plan s r) found s).decided None))
+    (at_place s.play r.host.0 (place_run_by s r.host) (λ task. ends_if (open_play plan s) (ended_in (option_map_or (reported_in plan s r) found s).step_result) task)))
+    ≡ tasks_ended k past + five (λ (kind : CountKind). counted k kind (option_map_or (ended_by r.host.0) (option_map_or (reported_in plan s r) found s).step_result None))
 reported_count plan s r k past None may = cc
 reported_count plan s r k past (Some play) may =
     let at = row_at (awaits r.ticket r.item r.attempt) s.rows r.host.0 may in
@@ -146,7 +146,7 @@ sent_count k play host item attempt ticket past None = refl
 sent_count k play host item attempt ticket past (Some p) = refl
 
 event_count : (plan : PlanOf) (s : State) (e : Event) (k : ℕ) (past : List Happening) → possible plan s e ≡ true
-    → tasks_ended k (so_far past (told plan s e (after plan s e))) ≡ tasks_ended k past + five (λ (kind : CountKind). counted k kind (finishes plan s e))
+    → tasks_ended k (so_far past (happenings plan s e (after plan s e))) ≡ tasks_ended k past + five (λ (kind : CountKind). counted k kind (finishes plan s e))
 event_count plan s Open k past may = omega arith
 event_count plan s (Start h) k past may = started_count plan s h.0 k past (open_play plan s) may
 event_count plan s (Send h item attempt ticket) k past may = nothing_more _ _ (sent_count k s.play h.0 item attempt ticket.0 past (place_run_by s h))
@@ -165,8 +165,8 @@ trail_count plan s [] k past l = omega arith
 trail_count plan s (e ∷ es) k past l =
     omega (
       arith,
-      ap (tasks_ended k) (so_far_both past (told plan s e (after plan s e)) (history_from plan (after plan s e) es)),
-      trail_count plan (after plan s e) es k (so_far past (told plan s e (after plan s e))) (and_right (possible plan s e) _ l),
+      ap (tasks_ended k) (so_far_both past (happenings plan s e (after plan s e)) (history_from plan (after plan s e) es)),
+      trail_count plan (after plan s e) es k (so_far past (happenings plan s e (after plan s e))) (and_right (possible plan s e) _ l),
       event_count plan s e k past (and_left (possible plan s e) _ l),
     )
 

@@ -15,22 +15,22 @@ use Rattle.pb_strategies.specs.MayStart.{is_linear, may_start, ready as starting
 use Rattle.pb_tree.specs.Tree.{TreeOf}
 use Rattle.pb_state.specs.declared.event.Event.{Event}
 use Rattle.pb_state.specs.declared.event.Event.TheVariants.{Open, Start, Send, Report as Reported, Turn, Close, Stop, Forks}
-use Rattle.pb_one_host.specs.declared.row.Running.{Running}
-use Rattle.pb_all_hosts.specs.Batches.{room_behind, joined_first}
-use Rattle.pb_one_host.specs.Attempts.{attempt_next}
-use Rattle.pb_one_host.specs.Runs.{is_running, is_out as has_job_out, is_item, is_next, sends_running, may_send_item, awaits_running, awaits}
-use Rattle.pb_all_hosts.specs.Hosts.{at_row, least_place}
+use Rattle.pb_host.specs.declared.host.Running.{Running}
+use Rattle.pb_hosts.specs.Batches.{room_behind, joined_first}
+use Rattle.pb_host.specs.Attempts.{attempt_next}
+use Rattle.pb_host.specs.Runs.{is_running, is_out as has_job_out, is_item, is_next, sends_running, may_send_item, awaits_running, awaits}
+use Rattle.pb_hosts.specs.Hosts.{at_row, least_place}
 use Rattle.pb_state.specs.Machine.{possible, after, may_start_in, may_send_in, may_report_in, may_turn_in, may_close_in, open_play, opened_by, after_open, started_in, next_at, start_at, sent_in, reported_in, batch_of, turned_in, stopped, with_forks, first_state}
-use Rattle.pb_one_host.specs.Row.{HostRow, first_rows}
+use Rattle.pb_host.specs.Host.{HostOf, first_rows}
 use Rattle.pb_state.specs.Run.{legal_from, state_from, state_after_under, IsFinished}
 use Rattle.pb_state.specs.State.{State}
 use Rattle.pb_state.specs.Strategies.{view_of}
 use Rattle.pb_state.proofs.Idle.{turn_linear, turn_idle, turns, others_done}
-use Rattle.pb_one_host.proofs.InOrder.{goes_on_at}
+use Rattle.pb_host.proofs.InOrder.{goes_on_at}
 use Rattle.pb_state.proofs.StepNumbers.{and_left, and_right}
 use Rattle.pb_state.proofs.Opening.{open_case}
 use Rattle.pb_state.proofs.Stands.{both, linear_place}
-use Rattle.pb_all_hosts.proofs.Turning.{turned_idle}
+use Rattle.pb_hosts.proofs.Turning.{turned_idle}
 use Rattle.pb_laws.specs.History.{Happening, history}
 use Rattle.pb_laws.specs.Laws.{AtTheEnd, holds_from, so_far, may_run, is_open, was_stopped, all_closed}
 use Rattle.pb_laws.proofs.Telling.{Seen, Tells, Opening, Starting, Sending, Reporting, Turning, Closing, Stopping, Forking, tasks_of}
@@ -65,7 +65,7 @@ opened_next plan past v new happens (Starting false host place items end notifie
 opened_next plan past v new happens (Sending host item attempt ticket r is) e = e
 opened_next plan past v new happens (Reporting true host item ticket r items end notified is so) e = e
 opened_next plan past v new happens (Reporting false host item ticket r items end notified is so) e = e
-opened_next plan past v new happens (Turning more told opened given is) e = given_same is_open (λ before task how. refl) past happens given ∙ e
+opened_next plan past v new happens (Turning more happenings opened given is) e = given_same is_open (λ before task how. refl) past happens given ∙ e
 opened_next plan past v new happens (Closing tasks inside waiting is) e = refl
 opened_next plan past v new happens Stopping e = e
 opened_next plan past v new happens (Forking n) e = e
@@ -77,7 +77,7 @@ stop_next plan past v new happens (Starting false host place items end notified 
 stop_next plan past v new happens (Sending host item attempt ticket r is) e = e
 stop_next plan past v new happens (Reporting true host item ticket r items end notified is so) e = e
 stop_next plan past v new happens (Reporting false host item ticket r items end notified is so) e = e
-stop_next plan past v new happens (Turning more told opened given is) e = given_same was_stopped (λ before task how. refl) past happens given ∙ e
+stop_next plan past v new happens (Turning more happenings opened given is) e = given_same was_stopped (λ before task how. refl) past happens given ∙ e
 stop_next plan past v new happens (Closing tasks inside waiting is) e = e
 stop_next plan past v new happens Stopping e = refl
 stop_next plan past v new happens (Forking n) e = e
@@ -104,7 +104,7 @@ going_next plan v new happens (Reporting false host item ticket q items end noti
       | inl w ↦ ap (λ (x : Running). is_over x.items) (sym (some_some (record { place = q.place; items = items; out = None }) r w.1)) ∙ so.ends
       | inr w ↦ was h r w.1
     ]
-going_next plan v new happens (Turning more told opened given is) was h r e = was h r e
+going_next plan v new happens (Turning more happenings opened given is) was h r e = was h r e
 going_next plan v new happens (Closing tasks inside waiting is) was h r e = absurd (idle_none tasks h r is.idle e)
 going_next plan v new happens Stopping was h r e = was h r e
 going_next plan v new happens (Forking n) was h r e = was h r e
@@ -152,7 +152,7 @@ IsPlacedIn s (Some play) = IsPlacedBy (is_linear play.strategy) s
 IsPlaced : PlanOf → State → Type 0
 IsPlaced plan s = IsPlacedIn s (open_play plan s)
 
-none_runs : (test : HostRow → Bool) → ((row : HostRow) → is_running row ≡ false → test row ≡ false) → (rows : List HostRow) (h : ℕ) → list_any is_running rows ≡ false → at_row test rows h ≡ false
+none_runs : (test : HostOf → Bool) → ((row : HostOf) → is_running row ≡ false → test row ≡ false) → (rows : List HostOf) (h : ℕ) → list_any is_running rows ≡ false → at_row test rows h ≡ false
 none_runs test idle [] h e = refl
 none_runs test idle (row ∷ rows) zero e = idle row (or_left (is_running row) (list_any is_running rows) e)
 none_runs test idle (row ∷ rows) (suc h) e = none_runs test idle rows h (or_right (is_running row) (list_any is_running rows) e)
@@ -165,9 +165,9 @@ idle_awaits : (item attempt : ℕ) (ticket : Ticket) (running : Option Running) 
 idle_awaits item attempt ticket None e = refl
 idle_awaits item attempt ticket (Some r) e = cc
 
-idle_joined : (tree : TreeOf) (room : ℕ) (rows : List HostRow) → list_any is_running (joined_first tree room rows) ≡ false
+idle_joined : (tree : TreeOf) (room : ℕ) (rows : List HostOf) → list_any is_running (joined_first tree room rows) ≡ false
 idle_joined tree room [] = refl
-idle_joined tree room (row ∷ rows) = idle_joined tree (room_behind room row.waits) rows
+idle_joined tree room (row ∷ rows) = idle_joined tree (room_behind room row.awaits_batch) rows
 
 placed_new : (linear : Bool) (s : State) → s.place ≡ (if linear then least_place s.rows else None) → list_any is_running s.rows ≡ false → IsPlacedBy linear s
 unfolding IsPlacedBy
@@ -269,7 +269,7 @@ unfolding IsPlaced IsPlacedIn
 first_placed plan forks pool = refl
 
 -- ---- so an open batch can turn or close, where nothing else can happen in it
-any_row : (test : HostRow → Bool) (rows : List HostRow) (h : ℕ) (row : HostRow) → slice_get rows h ≡ Some row → test row ≡ true → list_any test rows ≡ true
+any_row : (test : HostOf → Bool) (rows : List HostOf) (h : ℕ) (row : HostOf) → slice_get rows h ≡ Some row → test row ≡ true → list_any test rows ≡ true
 any_row test [] h row e t = cc
 any_row test (first ∷ rows) zero row e t = or_first (test first) (list_any test rows) (let same : first ≡ row = cc in ap test same ∙ t)
   where
@@ -282,7 +282,7 @@ any_row test (first ∷ rows) (suc h) row e t = or_last (test first) (list_any t
     or_last true b f = refl
     or_last false b f = f
 
-none_running : (rows : List HostRow) → ((h : ℕ) (row : HostRow) (r : Running) → slice_get rows h ≡ Some row → row.running ≡ Some r → ⊥) → list_any is_running rows ≡ false
+none_running : (rows : List HostOf) → ((h : ℕ) (row : HostOf) (r : Running) → slice_get rows h ≡ Some row → row.running ≡ Some r → ⊥) → list_any is_running rows ≡ false
 none_running [] none = refl
 none_running (row ∷ rows) none = by_first row.running refl (none_running rows (λ h x r e f. none (suc h) x r e f))
   where
@@ -295,11 +295,11 @@ next_so n r next =
     both (is_item n r.items) (attempt_next r.items == attempt_next r.items) (ap (λ (item : Option ℕ). option_map_or (λ m. m == n) item false) next ∙ eq-eqb n n refl)
     (eq-eqb (attempt_next r.items) (attempt_next r.items) refl)
 
-send_may : (s : State) (h n : ℕ) (play : PlayOf) (row : HostRow) (r : Running) → s.stopped ≡ false → slice_get s.rows h ≡ Some row → row.running ≡ Some r → r.out ≡ None → next_item r.items ≡ Some n
+send_may : (s : State) (h n : ℕ) (play : PlayOf) (row : HostOf) (r : Running) → s.stopped ≡ false → slice_get s.rows h ≡ Some row → row.running ≡ Some r → r.out ≡ None → next_item r.items ≡ Some n
     → may_send_in s h n (attempt_next r.items) (record { 0 = s.sends }) play ≡ true
 send_may s h n play row r st there runs free next =
     both (not s.stopped && (s.sends == s.sends)) (at_row (may_send_item n (attempt_next r.items)) s.rows h) (both (not s.stopped) (s.sends == s.sends) (ap not st) (eq-eqb s.sends s.sends refl))
-    (ap (λ (found : Option HostRow). option_map_or (may_send_item n (attempt_next r.items)) found false) there ∙ ap (λ (running : Option Running). option_map_or (sends_running n (attempt_next r.items)) running false) runs
+    (ap (λ (found : Option HostOf). option_map_or (may_send_item n (attempt_next r.items)) found false) there ∙ ap (λ (running : Option Running). option_map_or (sends_running n (attempt_next r.items)) running false) runs
     ∙ both (is_none r.out) (is_next n (attempt_next r.items) r) (ap is_none free) (next_so n r next))
 
 none_runs_at_end : (plan : PlanOf) (s : State) (play : PlayOf) → IsFinished plan s → open_play plan s ≡ Some play → s.stopped ≡ false
@@ -307,7 +307,7 @@ none_runs_at_end : (plan : PlanOf) (s : State) (play : PlayOf) → IsFinished pl
 none_runs_at_end plan s play finished o st going =
     none_running s.rows (λ h row r there runs. by_out h row r there runs (going h r (task_there s h row r there runs)) r.out refl)
   where
-    by_out : (h : ℕ) (row : HostRow) (r : Running) → slice_get s.rows h ≡ Some row → row.running ≡ Some r → is_over r.items ≡ false → (out : Option Ticket) → r.out ≡ out → ⊥
+    by_out : (h : ℕ) (row : HostOf) (r : Running) → slice_get s.rows h ≡ Some row → row.running ≡ Some r → is_over r.items ≡ false → (out : Option Ticket) → r.out ≡ out → ⊥
     by_out h row r there runs on None free =
         let next = goes_on_at r.items on in
         true_false (may_send_in s h next.0 (attempt_next r.items) (record { 0 = s.sends }) play) (send_may s h next.0 play row r st there runs free next.1)

@@ -7,11 +7,11 @@ use Rattle.pb_ids.specs.declared.numbers.Ticket.{Ticket}
 use Rattle.pb_outcome.specs.declared.item.Item.{Item}
 use Rattle.pb_outcome.specs.Items.{next_item}
 use Rattle.pb_plan.specs.Plan.{PlanOf}
-use Rattle.pb_one_host.specs.declared.row.Running.{Running}
-use Rattle.pb_one_host.specs.Attempts.{tried_next, attempt_after, attempt_next}
-use Rattle.pb_one_host.specs.Kept.{first_waiting}
-use Rattle.pb_one_host.specs.Row.{first_rows}
-use Rattle.pb_one_host.proofs.InOrder.{next_is}
+use Rattle.pb_host.specs.declared.host.Running.{Running}
+use Rattle.pb_host.specs.Attempts.{tried_next, attempt_after, attempt_next}
+use Rattle.pb_host.specs.Kept.{first_waiting}
+use Rattle.pb_host.specs.Host.{first_rows}
+use Rattle.pb_host.proofs.InOrder.{next_is}
 use Rattle.pb_state.proofs.StepNumbers.{and_right}
 use Rattle.pb_state.proofs.Stands.{both}
 use Rattle.pb_laws.specs.History.{HostTask, Happening, Starts, Sends}
@@ -100,7 +100,7 @@ within_after plan v new happens (Reporting false host item ticket q items end no
           (back_within so.judge (attempts_at plan v.play q.place) q.items (some_attempt plan v.play q.place) so.allowed (was host q is.there)))
       | inr w ↦ was h r w.1
     ]
-within_after plan v new happens (Turning more told opened given is) was h r e = was h r e
+within_after plan v new happens (Turning more happenings opened given is) was h r e = was h r e
 within_after plan v new happens (Closing tasks inside waiting is) was h r e = absurd (idle_none tasks h r is.idle e)
 within_after plan v new happens Stopping was h r e = was h r e
 within_after plan v new happens (Forking n) was h r e = was h r e
@@ -175,7 +175,7 @@ free_after plan past v new happens (Reporting false host item ticket q items end
           (ap (λ (y : Running). next_item y.items) same ∙ x) (sent host ticket.0 item q is.there is.out is.next)))
       | inr w ↦ was h i r w.1 o x
     ]
-free_after plan past v new happens (Turning more told opened given is) within sent was h i r e o x =
+free_after plan past v new happens (Turning more happenings opened given is) within sent was h i r e o x =
     free_other past (so_far past happens) v h i r (given_same (last_sent (task_on v h r.place)) (λ before task how. refl) past happens given) (was h i r e o x)
 free_after plan past v new happens (Closing tasks inside waiting is) within sent was h i r e o x = absurd (idle_none tasks h r is.idle e)
 free_after plan past v new happens Stopping within sent was h i r e o x = was h i r e o x
@@ -210,7 +210,7 @@ sent_after plan past v new happens (Reporting true host item ticket q items end 
     elim (put_get v.tasks host h None (Some r) e) [ inl w ↦ absurd (none_some r w.1) | inr w ↦ was h t i r w.1 o x ]
 sent_after plan past v new happens (Reporting false host item ticket q items end notified is so) was h t i r e o x =
     elim (put_get v.tasks host h (Some (record { place = q.place; items = items; out = None })) (Some r) e) [ inl w ↦ absurd (none_out r q.place t items w.1 o) | inr w ↦ was h t i r w.1 o x ]
-sent_after plan past v new happens (Turning more told opened given is) was h t i r e o x =
+sent_after plan past v new happens (Turning more happenings opened given is) was h t i r e o x =
     given_same (last_sent (task_on v h r.place)) (λ before task how. refl) past happens given ∙ was h t i r e o x
 sent_after plan past v new happens (Closing tasks inside waiting is) was h t i r e o x = absurd (idle_none tasks h r is.idle e)
 sent_after plan past v new happens Stopping was h t i r e o x = was h t i r e o x
@@ -256,7 +256,7 @@ awaited_after plan past v new happens (Reporting true host item ticket q items e
 awaited_after plan past v new happens (Reporting false host item ticket q items end notified is so) idle was h e =
     let apart_is = apart_of host h (is_awaited h past) e in
     still_out v host h (Some (record { place = q.place; items = items; out = None })) apart_is (was h (and_right (not (host == h)) (is_awaited h past) e))
-awaited_after plan past v new happens (Turning more told opened given is) idle was h e = was h (sym (given_same (is_awaited h) (λ before task how. refl) past happens given) ∙ e)
+awaited_after plan past v new happens (Turning more happenings opened given is) idle was h e = was h (sym (given_same (is_awaited h) (λ before task how. refl) past happens given) ∙ e)
 awaited_after plan past v new happens (Closing tasks inside waiting is) idle was h e = let out = was h e in absurd (idle_none v.tasks h out.1.0 is.before out.1.1)
 awaited_after plan past v new happens Stopping idle was h e = was h e
 awaited_after plan past v new happens (Forking n) idle was h e = was h e
@@ -289,7 +289,7 @@ attempts_hold plan past v new happens (Sending host item attempt ticket r is) at
 attempts_hold plan past v new happens (Reporting true host item ticket r items end notified is so) attempts =
     both (not (not (host == host) && is_awaited host past)) true (ap not (other_self host (is_awaited host past))) refl
 attempts_hold plan past v new happens (Reporting false host item ticket r items end notified is so) attempts = refl
-attempts_hold plan past v new happens (Turning more told opened given is) attempts = given_holds (attempts_in_order plan) (λ before task how. refl) past happens given
+attempts_hold plan past v new happens (Turning more happenings opened given is) attempts = given_holds (attempts_in_order plan) (λ before task how. refl) past happens given
 attempts_hold plan past v new happens (Closing tasks inside waiting is) attempts = refl
 attempts_hold plan past v new happens Stopping attempts = refl
 attempts_hold plan past v new happens (Forking n) attempts = refl

@@ -9,7 +9,7 @@ use Rattle.pb_tree.specs.Tree.{Nodes, Nothing, Task, Block, Flush, TreeOf, size}
 use Rattle.pb_tree.specs.Walk.{WalkerOf, Passage, Stopped, Through, on_good, unless_over, rescued, task_with, handler_with, flush, walk, is_empty, block_result, ends_in_flush, front, stays_unless_gone, with_forced, forced, is_halted, without_halted, one_halted, walker_of, passage, reach, reach_of}
 use Rattle.pb_tree.specs.declared.answer.Kind.{Kind}
 use Rattle.pb_tree.specs.declared.answer.Kind.TheVariants.{Good, Bad, Halted, Gone, Ended}
-use Rattle.pb_one_host.specs.Row.{place_of}
+use Rattle.pb_host.specs.Host.{place_of}
 use Rattle.pb_laws.proofs.Stopping.{outs}
 use Rattle.pb_laws.proofs.Leaving.{Leaves, leaves}
 

@@ -9,7 +9,7 @@ use Rattle.pb_tree.specs.declared.tree.Status.{Status}
 use Rattle.pb_tree.specs.declared.tree.Status.TheVariants.{Active}
 use Rattle.pb_tree.specs.Tree.{Nodes, Nothing, Task, Block, Flush, TreeOf, size}
 use Rattle.pb_tree.specs.Walk.{WalkerOf, Passage, Stopped, Through, on_good, unless_over, block_result, task_with, handler_at, handler_with, flush, is_empty, rescued, walk, ends_in_flush, front, with_forced, stays_unless_gone, forced, is_halted, walker_of, passage, reach_of, reach, status_in, status_of, unforced, unless_active, status_now}
-use Rattle.pb_one_host.specs.Row.{place_of}
+use Rattle.pb_host.specs.Host.{place_of}
 
 -- a walk without answers stops somewhere, or comes through good
 abbrev IsFresh : Passage → Type 0

@@ -13,7 +13,7 @@ use Rattle.pb_state.proofs.Stands.{both}
 use Rattle.pb_state.proofs.Trails.{state_both}
 use Rattle.pb_state.proofs.Walks.{IsOfPlan, step_of, rows_stay}
 use Rattle.pb_tree.specs.declared.answer.Kind.{Kind}
-use Rattle.pb_laws.specs.History.{HostTask, Happening, MayRun, Given, told, history_from, history}
+use Rattle.pb_laws.specs.History.{HostTask, Happening, MayRun, Given, happenings, history_from, history}
 use Rattle.pb_laws.specs.Laws.{holds_from, so_far, Always}
 use Rattle.pb_laws.proofs.Telling.{Seen, AreGiven, one_given, seen, Tells}
 use Rattle.pb_laws.proofs.BatchTelling.{tells}
@@ -56,10 +56,10 @@ module _ (law : PlanOf → List Happening → Happening → Bool) (Fits : PlanOf
   holds_on before s led past (e ∷ es) l fits of sound =
       let may = and_left (possible plan s e) _ l in
       let step = tells plan s e may (numbered_at plan forks pool before s led) of sound in
-      holds_both (law plan) past (told plan s e (after plan s e)) (history_from plan (after plan s e) es)
-      (keeps.now plan past (seen s) (seen (after plan s e)) (told plan s e (after plan s e)) step fits)
-      (holds_on (before ++ e ∷ []) (after plan s e) (state_both plan (first_state plan forks pool) before (e ∷ []) ∙ ap (λ (t : State). after plan t e) led) (so_far past (told plan s e (after plan s e))) es
-      (and_right (possible plan s e) _ l) (keeps.next plan past (seen s) (seen (after plan s e)) (told plan s e (after plan s e)) step fits)
+      holds_both (law plan) past (happenings plan s e (after plan s e)) (history_from plan (after plan s e) es)
+      (keeps.now plan past (seen s) (seen (after plan s e)) (happenings plan s e (after plan s e)) step fits)
+      (holds_on (before ++ e ∷ []) (after plan s e) (state_both plan (first_state plan forks pool) before (e ∷ []) ∙ ap (λ (t : State). after plan t e) led) (so_far past (happenings plan s e (after plan s e))) es
+      (and_right (possible plan s e) _ l) (keeps.next plan past (seen s) (seen (after plan s e)) (happenings plan s e (after plan s e)) step fits)
       (step_of plan s e of) (sound_kept s (after plan s e) (moves plan s e may) sound))
 
   fits_on : (before : List Event) (s : State) → state_after_under plan forks pool before ≡ s → (past : List Happening) (es : List Event) → legal_from plan s es ≡ true → Fits plan past (seen s)
@@ -68,9 +68,9 @@ module _ (law : PlanOf → List Happening → Happening → Bool) (Fits : PlanOf
   fits_on before s led past (e ∷ es) l fits of sound =
       let may = and_left (possible plan s e) _ l in
       let step = tells plan s e may (numbered_at plan forks pool before s led) of sound in
-      subst (λ (happened : List Happening). Fits plan happened (seen (state_from plan (after plan s e) es))) (sym (so_far_both past (told plan s e (after plan s e)) (history_from plan (after plan s e) es)))
-      (fits_on (before ++ e ∷ []) (after plan s e) (state_both plan (first_state plan forks pool) before (e ∷ []) ∙ ap (λ (t : State). after plan t e) led) (so_far past (told plan s e (after plan s e))) es
-      (and_right (possible plan s e) _ l) (keeps.next plan past (seen s) (seen (after plan s e)) (told plan s e (after plan s e)) step fits)
+      subst (λ (happened : List Happening). Fits plan happened (seen (state_from plan (after plan s e) es))) (sym (so_far_both past (happenings plan s e (after plan s e)) (history_from plan (after plan s e) es)))
+      (fits_on (before ++ e ∷ []) (after plan s e) (state_both plan (first_state plan forks pool) before (e ∷ []) ∙ ap (λ (t : State). after plan t e) led) (so_far past (happenings plan s e (after plan s e))) es
+      (and_right (possible plan s e) _ l) (keeps.next plan past (seen s) (seen (after plan s e)) (happenings plan s e (after plan s e)) step fits)
       (step_of plan s e of) (sound_kept s (after plan s e) (moves plan s e may) sound))
 
 -- no play is open at first

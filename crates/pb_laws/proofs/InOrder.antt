@@ -13,12 +13,12 @@ use Rattle.pb_tree.specs.declared.answer.Kind.{Kind}
 use Rattle.pb_tree.specs.declared.tree.Reach.{Reach}
 use Rattle.pb_tree.specs.declared.tree.Reach.TheVariants.{At, Done}
 use Rattle.pb_tree.proofs.Rise.{places_rise as tree_rises}
-use Rattle.pb_one_host.specs.declared.decided.TaskEnd.{TaskEnd}
-use Rattle.pb_one_host.specs.declared.row.Running.{Running}
-use Rattle.pb_one_host.specs.Ends.{answer_of, kind_of, plain_answer}
-use Rattle.pb_all_hosts.specs.Hosts.{one_if}
+use Rattle.pb_host.specs.declared.step_result.TaskEnd.{TaskEnd}
+use Rattle.pb_host.specs.declared.host.Running.{Running}
+use Rattle.pb_host.specs.Ends.{answer_of, kind_of, plain_answer}
+use Rattle.pb_hosts.specs.Hosts.{one_if}
 use Rattle.pb_state.specs.Machine.{first_state}
-use Rattle.pb_one_host.specs.Row.{first_rows, place_of}
+use Rattle.pb_host.specs.Host.{first_rows, place_of}
 use Rattle.pb_state.proofs.Stands.{both}
 use Rattle.pb_state.proofs.Walked.{not_halted}
 use Rattle.pb_laws.specs.History.{HostTask, Happening, MayRun, Starts, Reports, Ends, Given}
@@ -141,7 +141,7 @@ answered_next plan past v new happens (Reporting true host item ticket r items e
     ]
 answered_next plan past v new happens (Reporting false host item ticket r items end notified is so) was h xs e =
     elim (put_get v.walked host h is.answers xs e) [ inl w ↦ ap (λ (k : ℕ). answers k past) w.0 ∙ was host is.answers is.answered ∙ w.1 | inr w ↦ was h xs w.1 ]
-answered_next plan past v new happens (Turning more told opened given is) was h xs e =
+answered_next plan past v new happens (Turning more happenings opened given is) was h xs e =
     ap (λ (k : ℕ). answers k (so_far past happens)) (let same : h ≡ 0 + h = omega arith in same)
     ∙ led_answers plan v.play 0 v.walked happens is.walked is.led past (answers_of past v.walked was) h xs e
 answered_next plan past v new happens (Closing tasks inside waiting is) was h xs e = sym (is.fresh h xs e)
@@ -227,7 +227,7 @@ one_next plan past v new happens (Starting false host place items end notified i
 one_next plan past v new happens (Sending host item attempt ticket r is) idle was h = kept_on past v.tasks host h (Some r) (Some (record r { out = Some ticket })) is.there refl was
 one_next plan past v new happens (Reporting true host item ticket r items end notified is so) idle was h = ended (Reports host item ticket.0 ∷ past) v.tasks host h v.play r.place end notified r is.there was
 one_next plan past v new happens (Reporting false host item ticket r items end notified is so) idle was h = kept_on past v.tasks host h (Some r) (Some (record { place = r.place; items = items; out = None })) is.there refl was
-one_next plan past v new happens (Turning more told opened given is) idle was h = given_same (running (is_of h)) (λ before done how. refl) past happens given ∙ was h
+one_next plan past v new happens (Turning more happenings opened given is) idle was h = given_same (running (is_of h)) (λ before done how. refl) past happens given ∙ was h
 one_next plan past v new happens (Closing tasks inside waiting is) idle was h = was h ∙ idle_busy v.tasks h is.before ∙ sym (idle_busy tasks h is.idle)
 one_next plan past v new happens Stopping idle was h = was h
 one_next plan past v new happens (Forking n) idle was h = was h
@@ -278,7 +278,7 @@ behind_next plan v new happens (Starting false host place items end notified is 
 behind_next plan v new happens (Sending host item attempt ticket r is) was o = was o
 behind_next plan v new happens (Reporting true host item ticket r items end notified is so) was o = behind_more plan v host r.place is.answers end notified is.answered is.at (was o)
 behind_next plan v new happens (Reporting false host item ticket r items end notified is so) was o = behind_same plan v host is.answers is.answered (was o)
-behind_next plan v new happens (Turning more told opened given is) was o = is.behind
+behind_next plan v new happens (Turning more happenings opened given is) was o = is.behind
 behind_next plan v new happens (Closing tasks inside waiting is) was o = absurd (let shut : false ≡ true = o in cc)
 behind_next plan v new happens Stopping was o = was o
 behind_next plan v new happens (Forking n) was o = was o
@@ -334,7 +334,7 @@ order_holds plan past v new happens (Reporting true host item ticket r items end
     both (in_order plan (Reports host item ticket.0 ∷ past) (Ends (task_on v host r.place) end notified)) true
     (both (stands_at plan (task_on v host r.place) past) (runs (task_on v host r.place) past) (stands_there plan v.play host r.place past is.answers (walks.answered host is.answers is.answered) is.at) (walks.run host r is.there)) refl
 order_holds plan past v new happens (Reporting false host item ticket r items end notified is so) walks = refl
-order_holds plan past v new happens (Turning more told opened given is) walks =
+order_holds plan past v new happens (Turning more happenings opened given is) walks =
     led_holds plan v.play 0 v.walked happens is.walked is.led past (answers_of past v.walked walks.answered)
 order_holds plan past v new happens (Closing tasks inside waiting is) walks = refl
 order_holds plan past v new happens Stopping walks = refl
@@ -347,7 +347,7 @@ walked_holds plan past v new happens (Starting false host place items end notifi
 walked_holds plan past v new happens (Sending host item attempt ticket r is) walks = refl
 walked_holds plan past v new happens (Reporting true host item ticket r items end notified is so) walks = refl
 walked_holds plan past v new happens (Reporting false host item ticket r items end notified is so) walks = refl
-walked_holds plan past v new happens (Turning more told opened given is) walks = given_holds (have_walked plan) (λ before task how. refl) past happens given
+walked_holds plan past v new happens (Turning more happenings opened given is) walks = given_holds (have_walked plan) (λ before task how. refl) past happens given
 walked_holds plan past v new happens (Closing tasks inside waiting is) walks =
     both (each_host (λ host. is_none (leads_to plan v.play host past)) 0 (batch_of v.play past)) true
     (ap (each_host (λ host. is_none (leads_to plan v.play host past)) 0) (walks.batch is.opened)

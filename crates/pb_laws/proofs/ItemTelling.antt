@@ -7,8 +7,8 @@ use Rattle.pb_value.specs.Datum.{Datum}
 use Rattle.pb_expr_syntax.specs.Tree.{Tree}
 use Rattle.pb_layers.specs.Scope.{Map}
 use Rattle.pb_operators.specs.declared.fault.EvalFault.{EvalFault}
-use Rattle.pb_conditions.specs.Attempts.{told_enough, is_enough, came_by, came as came_to, attempted, counted}
-use Rattle.pb_conditions.specs.Settled.{Sees, sees, settled}
+use Rattle.pb_conditions.specs.Attempts.{by_until, is_enough, came_by, came as came_to, attempted, counted}
+use Rattle.pb_conditions.specs.ResultConditions.{Sees, sees, with_conditions}
 use Rattle.pb_conditions.specs.declared.attempt.Back.{Back}
 use Rattle.pb_conditions.specs.declared.attempt.Back.TheVariants.{Ends, Again}
 use Rattle.pb_facts.specs.Facts.{FactsOf}
@@ -29,11 +29,11 @@ use Rattle.pb_places.specs.Place.{PlaceOf}
 use Rattle.pb_play.specs.declared.loops.Loop.{Loop}
 use Rattle.pb_play.specs.declared.retrying.Retrying.{Retrying}
 use Rattle.pb_plan.specs.Plan.{PlayOf, PlanOf}
-use Rattle.pb_sight.specs.Results.{start_with, start_of, nothing, place_for, items_for, items_at, came_for, came_at}
-use Rattle.pb_one_host.specs.Attempts.{came, back_at, back_in, tried_then, tried_next, attempt_after, attempt_next}
-use Rattle.pb_one_host.specs.Kept.{first_waiting}
-use Rattle.pb_one_host.specs.Row.{came_back}
-use Rattle.pb_one_host.proofs.InOrder.{next_is}
+use Rattle.pb_task_vars.specs.Results.{start_with, start_of, nothing, place_for, items_for, items_at, came_for, came_at}
+use Rattle.pb_host.specs.Attempts.{came, back_at, back_in, tried_then, tried_next, attempt_after, attempt_next}
+use Rattle.pb_host.specs.Kept.{first_waiting}
+use Rattle.pb_host.specs.Host.{came_back}
+use Rattle.pb_host.proofs.InOrder.{next_is}
 use Rattle.pb_laws.specs.Laws.{most_attempts, attempts_in, attempts_at}
 use Rattle.pb_laws.proofs.Telling.{AreUntried}
 
@@ -70,7 +70,7 @@ pub begin_untried : (plan : PlanOf) (play : PlayOf) (h : ℕ) (facts : FactsOf) 
 begin_untried plan play h facts p items are = subst AreUntried (sym are) (items_untried plan play h facts p)
 
 -- ---- behind which attempt another one comes
-enough_last : (r : Result Bool EvalFault) (item result : ItemResult) → told_enough r true item ≡ Again result → ⊥
+enough_last : (r : Result Bool EvalFault) (item result : ItemResult) → by_until r true item ≡ Again result → ⊥
 enough_last (Ok true) item result e = cc
 enough_last (Ok false) item result e = cc
 enough_last (Err fault) item result e = cc
@@ -96,7 +96,7 @@ tried_within (Some r) start variable attempt item result e = by_last (nat_lt r.r
     by_last true is f =
         absurd
         (none_last (sees start.layers start.magic variable) start.task.register r.until
-        (settled (sees start.layers start.magic variable) start.task.register start.task.changed_when start.task.failed_when (counted attempt item)) result f)
+        (with_conditions (sees start.layers start.magic variable) start.task.register start.task.changed_when start.task.failed_when (counted attempt item)) result f)
     by_last false is f = let most = ltb-false r.retries attempt is in omega (arith, most)
 
 place_there : (b : Bool) (found : Option PlaceOf) (place : PlaceOf) → (if b then found else None) ≡ Some place → found ≡ Some place

@@ -8,10 +8,10 @@ use Rattle.pb_ids.specs.declared.numbers.Ticket.{Ticket}
 use Rattle.pb_outcome.specs.declared.item.Item.{Item}
 use Rattle.pb_outcome.specs.Items.{next_item}
 use Rattle.pb_plan.specs.Plan.{PlanOf}
-use Rattle.pb_one_host.specs.declared.decided.TaskEnd.{TaskEnd}
-use Rattle.pb_one_host.specs.declared.row.Running.{Running}
-use Rattle.pb_one_host.specs.Runs.{is_out as has_job_out}
-use Rattle.pb_one_host.specs.Row.{HostRow, first_rows}
+use Rattle.pb_host.specs.declared.step_result.TaskEnd.{TaskEnd}
+use Rattle.pb_host.specs.declared.host.Running.{Running}
+use Rattle.pb_host.specs.Runs.{is_out as has_job_out}
+use Rattle.pb_host.specs.Host.{HostOf, first_rows}
 use Rattle.pb_state.specs.Run.{state_after_under}
 use Rattle.pb_state.proofs.StepNumbers.{and_left, and_right}
 use Rattle.pb_state.proofs.Stands.{both}
@@ -139,7 +139,7 @@ sent_next plan past v new happens (Starting false host place items end notified 
 sent_next plan past v new happens (Sending host item attempt ticket r is) e = ap (λ (n : ℕ). n + 1) e
 sent_next plan past v new happens (Reporting true host item ticket r items end notified is so) e = e
 sent_next plan past v new happens (Reporting false host item ticket r items end notified is so) e = e
-sent_next plan past v new happens (Turning more told opened given is) e = given_same jobs_sent (λ before task how. refl) past happens given ∙ e
+sent_next plan past v new happens (Turning more happenings opened given is) e = given_same jobs_sent (λ before task how. refl) past happens given ∙ e
 sent_next plan past v new happens (Closing tasks inside waiting is) e = e
 sent_next plan past v new happens Stopping e = e
 sent_next plan past v new happens (Forking n) e = e
@@ -193,7 +193,7 @@ run_next plan past v new happens (Reporting false host item ticket q items end n
           ap (λ (k : ℕ). runs (task_on v k r.place) past) w.0 ∙ ap (λ (x : Running). runs (task_on v host x.place) past) (sym (some_some (record { place = q.place; items = items; out = None }) r w.1)) ∙ was host q is.there
       | inr w ↦ was h r w.1
     ]
-run_next plan past v new happens (Turning more told opened given is) was h r e = given_same (runs (task_on v h r.place)) (λ before task how. refl) past happens given ∙ was h r e
+run_next plan past v new happens (Turning more happenings opened given is) was h r e = given_same (runs (task_on v h r.place)) (λ before task how. refl) past happens given ∙ was h r e
 run_next plan past v new happens (Closing tasks inside waiting is) was h r e = absurd (idle_none tasks h r is.idle e)
 run_next plan past v new happens Stopping was h r e = was h r e
 run_next plan past v new happens (Forking n) was h r e = was h r e
@@ -243,7 +243,7 @@ out_next plan past v new happens (Reporting false host item ticket q items end n
       | inr w ↦ still_out past h i t host item ticket.0
           (λ same. w.0 (one_out past t h i host item (was h r t i w.1 o x) (was host q t item is.there (is.out ∙ ap Some same) is.next))) (was h r t i w.1 o x)
     ]
-out_next plan past v new happens (Turning more told opened given is) was below h r t i e o x = given_same (is_out h i t) (λ before task how. refl) past happens given ∙ was h r t i e o x
+out_next plan past v new happens (Turning more happenings opened given is) was below h r t i e o x = given_same (is_out h i t) (λ before task how. refl) past happens given ∙ was h r t i e o x
 out_next plan past v new happens (Closing tasks inside waiting is) was below h r t i e o x = absurd (idle_none tasks h r is.idle e)
 out_next plan past v new happens Stopping was below h r t i e o x = was h r t i e o x
 out_next plan past v new happens (Forking n) was below h r t i e o x = was h r t i e o x
@@ -270,7 +270,7 @@ below_next plan v new happens (Reporting true host item ticket q items end notif
     elim (put_get v.tasks host h None (Some r) e) [ inl w ↦ absurd (none_some r w.1) | inr w ↦ was h r t w.1 o ]
 below_next plan v new happens (Reporting false host item ticket q items end notified is so) was h r t e o =
     elim (put_get v.tasks host h (Some (record { place = q.place; items = items; out = None })) (Some r) e) [ inl w ↦ absurd (none_out r q.place t items w.1 o) | inr w ↦ was h r t w.1 o ]
-below_next plan v new happens (Turning more told opened given is) was h r t e o = was h r t e o
+below_next plan v new happens (Turning more happenings opened given is) was h r t e o = was h r t e o
 below_next plan v new happens (Closing tasks inside waiting is) was h r t e o = absurd (idle_none tasks h r is.idle e)
 below_next plan v new happens Stopping was h r t e o = was h r t e o
 below_next plan v new happens (Forking n) was h r t e o = was h r t e o
@@ -336,7 +336,7 @@ answered_next plan past v new happens (Reporting false host item ticket q items 
                     (λ r e out. other (let number : Some ticket.0 ≡ Some t = sym is.out ∙ ap (λ (y : Running). option_map (λ (u : Ticket). u.0) y.out) (some_some q r e) ∙ out in (let same : ticket.0 ≡ t = (let shown = number in cc) in same))) w.1,
               )
         ]
-answered_next plan past v new happens (Turning more told opened given is) idle was t l =
+answered_next plan past v new happens (Turning more happenings opened given is) idle was t l =
     elim (was t l) [ inl a ↦ inl (given_same (is_answered t) (λ before task how. refl) past happens given ∙ a) | inr w ↦ inr w ]
 answered_next plan past v new happens (Closing tasks inside waiting is) idle was t l =
     elim (was t l) [ inl a ↦ inl a | inr w ↦ absurd (idle_none v.tasks w.0 w.1.0 is.before w.1.1) ]
@@ -354,7 +354,7 @@ jobs_hold plan past v new happens (Sending host item attempt ticket r is) jobs =
     (both (ticket.0 == jobs_sent past) (runs (task_on v host r.place) past) (eq-eqb ticket.0 (jobs_sent past) (is.number ∙ sym jobs.sent)) (jobs.run host r is.there)) refl
 jobs_hold plan past v new happens (Reporting true host item ticket r items end notified is so) jobs = both (is_out host item ticket.0 past) true (jobs.out host r ticket.0 item is.there is.out is.next) refl
 jobs_hold plan past v new happens (Reporting false host item ticket r items end notified is so) jobs = both (is_out host item ticket.0 past) true (jobs.out host r ticket.0 item is.there is.out is.next) refl
-jobs_hold plan past v new happens (Turning more told opened given is) jobs = given_holds (jobs_in_order plan) (λ before task how. refl) past happens given
+jobs_hold plan past v new happens (Turning more happenings opened given is) jobs = given_holds (jobs_in_order plan) (λ before task how. refl) past happens given
 jobs_hold plan past v new happens (Closing tasks inside waiting is) jobs = refl
 jobs_hold plan past v new happens Stopping jobs = refl
 jobs_hold plan past v new happens (Forking n) jobs = refl
@@ -388,7 +388,7 @@ pub jobs_are_in_order : Always jobs_in_order
 jobs_are_in_order = always jobs_in_order Jobs keeps_jobs
 
 -- ---- at the end none is out
-rows_out : (rows : List HostRow) (h t : ℕ) (r : Running) → list_any has_job_out rows ≡ false → slice_get (tasks_of rows) h ≡ Some (Some r) → out_number r ≡ Some t → ⊥
+rows_out : (rows : List HostOf) (h t : ℕ) (r : Running) → list_any has_job_out rows ≡ false → slice_get (tasks_of rows) h ≡ Some (Some r) → out_number r ≡ Some t → ⊥
 unfolding out_number
 rows_out [] h t r none e o = cc
 rows_out (row ∷ rows) zero t r none e o = by_out r.out refl o

@@ -11,12 +11,12 @@ use Rattle.pb_outcome.specs.declared.job.Report.{Report}
 use Rattle.pb_outcome.specs.Items.{next_item}
 use Rattle.pb_tree.specs.Tree.{path_at}
 use Rattle.pb_plan.specs.Plan.{PlayOf, PlanOf}
-use Rattle.pb_one_host.specs.Attempts.{attempt_next}
-use Rattle.pb_one_host.specs.Calls.{call_in, delegate_in}
-use Rattle.pb_one_host.specs.declared.row.Running.{Running}
-use Rattle.pb_one_host.specs.Row.{HostRow, sent, sent_running}
-use Rattle.pb_one_host.specs.Runs.{has_ticket, is_ticket, is_item, is_next, awaits, awaits_running, item_of, attempt_of}
-use Rattle.pb_all_hosts.specs.Hosts.{at_row}
+use Rattle.pb_host.specs.Attempts.{attempt_next}
+use Rattle.pb_host.specs.Calls.{call_in, delegate_in}
+use Rattle.pb_host.specs.declared.host.Running.{Running}
+use Rattle.pb_host.specs.Host.{HostOf, sent, sent_running}
+use Rattle.pb_host.specs.Runs.{has_ticket, is_ticket, is_item, is_next, awaits, awaits_running, item_of, attempt_of}
+use Rattle.pb_hosts.specs.Hosts.{at_row}
 use Rattle.pb_state.specs.declared.event.Event.{Event}
 use Rattle.pb_state.specs.declared.event.Event.TheVariants.{Open, Start, Send, Report as Reported, Turn, Close, Stop, Forks}
 use Rattle.pb_state.specs.Jobs.{AttemptOf, job_of, job_in, row_job, running_job, item_job, placed_job, connector_for, job_with, next_attempt as item_attempt}
@@ -24,7 +24,7 @@ use Rattle.pb_state.specs.Machine.{possible, after, open_play, item_at, attempt_
 use Rattle.pb_state.specs.Run.{IsRun}
 use Rattle.pb_state.specs.State.{State}
 use Rattle.pb_state.proofs.Stands.{both}
-use Rattle.pb_laws.specs.History.{told}
+use Rattle.pb_laws.specs.History.{happenings}
 use Rattle.pb_laws.specs.JobsOut.{IsOut, IsReportOf, FitsWorkers, is_report_of, tasks, runs}
 use Rattle.pb_laws.proofs.JobsInOrder.{put_there}
 use Rattle.pb_laws.proofs.OutJobs.{InRun, in_run, room_to_send, sending, send_says, silent_says, report_tells, outs_most, step_tells, stays_next, tells_of}
@@ -60,7 +60,7 @@ item_task : (plan : PlanOf) (number : ℕ) (host : HostNo) (ticket : Ticket) (pl
 item_task plan number host ticket play job None e = cc
 item_task plan number host ticket play job (Some r) e = item_next plan number host ticket play r job (next_item r.items) e
 
-item_row : (plan : PlanOf) (number : ℕ) (host : HostNo) (ticket : Ticket) (play : PlayOf) (job : Job) (row : Option HostRow) → option_map_or (row_job plan number host ticket play) row None ≡ Some job
+item_row : (plan : PlanOf) (number : ℕ) (host : HostNo) (ticket : Ticket) (play : PlayOf) (job : Job) (row : Option HostOf) → option_map_or (row_job plan number host ticket play) row None ≡ Some job
     → (option_map_or item_of row None ≡ Some job.item) × (option_map_or attempt_of row 1 ≡ job.attempt)
 item_row plan number host ticket play job None e = cc
 item_row plan number host ticket play job (Some row) e = item_task plan number host ticket play job row.running e
@@ -81,8 +81,8 @@ job_by plan is_open number found h t =
     option_map_or (λ (play : PlayOf). option_map_or (λ (running : Option Running). option_map_or (running_job plan number h t play) running None) found None)
     (if is_open then slice_get plan.plays number else None) None
 
-row_by : (plan : PlanOf) (number : ℕ) (h : HostNo) (t : Ticket) (play : PlayOf) (found : Option HostRow)
-    → option_map_or (row_job plan number h t play) found None ≡ option_map_or (λ (running : Option Running). option_map_or (running_job plan number h t play) running None) (option_map (λ (row : HostRow). row.running) found) None
+row_by : (plan : PlanOf) (number : ℕ) (h : HostNo) (t : Ticket) (play : PlayOf) (found : Option HostOf)
+    → option_map_or (row_job plan number h t play) found None ≡ option_map_or (λ (running : Option Running). option_map_or (running_job plan number h t play) running None) (option_map (λ (row : HostOf). row.running) found) None
 row_by plan number h t play None = refl
 row_by plan number h t play (Some row) = refl
 
@@ -95,7 +95,7 @@ job_is plan s h t = by_play (if s.is_open then slice_get plan.plays s.play else 
     by_play None = refl
     by_play (Some play) =
         row_by plan s.play h t play (slice_get s.rows h.0)
-        ∙ ap (λ (found : Option (Option Running)). option_map_or (λ (running : Option Running). option_map_or (running_job plan s.play h t play) running None) found None) (sym (get_map (λ (row : HostRow). row.running) s.rows h.0))
+        ∙ ap (λ (found : Option (Option Running)). option_map_or (λ (running : Option Running). option_map_or (running_job plan s.play h t play) running None) found None) (sym (get_map (λ (row : HostOf). row.running) s.rows h.0))
 
 -- where the host runs the same the job is the same
 job_stays : (plan : PlanOf) (s new : State) (h : HostNo) (t : Ticket) → new.is_open ≡ s.is_open → new.play ≡ s.play → slice_get (tasks_of new.rows) h.0 ≡ slice_get (tasks_of s.rows) h.0 → job_of plan new h t ≡ job_of plan s h t
@@ -112,10 +112,10 @@ open_of_job plan s h t x e = by_open s.is_open refl e
     by_open false is f = cc
 
 -- ---- a job that is out, from event to event
-pub stays_out : (plan : PlanOf) (pool : ℕ) (s : State) (e : Event) (x : Job) → possible plan s e ≡ true → InRun plan pool s → tells_of x.host.0 (told plan s e (after plan s e)) ≡ false → IsOut plan s x → IsOut plan (after plan s e) x
+pub stays_out : (plan : PlanOf) (pool : ℕ) (s : State) (e : Event) (x : Job) → possible plan s e ≡ true → InRun plan pool s → tells_of x.host.0 (happenings plan s e (after plan s e)) ≡ false → IsOut plan s x → IsOut plan (after plan s e) x
 stays_out plan pool s e x may run none out =
     let o = open_of_job plan s x.host x.ticket x out.3 in
-    let stays = stays_next plan (seen s) (seen (after plan s e)) (told plan s e (after plan s e)) x.host.0 out.0 x.ticket (step_tells plan pool s e may run) o out.1 out.2 none in (
+    let stays = stays_next plan (seen s) (seen (after plan s e)) (happenings plan s e (after plan s e)) x.host.0 out.0 x.ticket (step_tells plan pool s e may run) o out.1 out.2 none in (
       out.0,
       stays.0,
       out.2,
@@ -143,7 +143,7 @@ module _ (P : Job → Type 0) (number : ℕ) (h : HostNo) (t : Ticket) (every : 
   running_case play None e = cc
   running_case play (Some r) e = next_case play r (next_item r.items) e
 
-  row_case : (play : PlayOf) (found : Option HostRow) → option_map_or (row_job plan number h t play) found None ≡ Some x → P x
+  row_case : (play : PlayOf) (found : Option HostOf) → option_map_or (row_job plan number h t play) found None ≡ Some x → P x
   row_case play None e = cc
   row_case play (Some row) e = running_case play row.running e
 
@@ -157,12 +157,12 @@ pub job_host : (plan : PlanOf) (s : State) (h : HostNo) (t : Ticket) (x : Job) �
 job_host plan s h t x e = play_case (λ (y : Job). (y.host ≡ h) × (y.ticket ≡ t)) plan s h t x (λ item call name target connector path. (refl, refl)) (open_play plan s) e
 
 -- is out then
-sent_at : (plan : PlanOf) (s : State) (h : HostNo) (t : Ticket) (play : PlayOf) (row : HostRow) (r : Running) → slice_get s.rows h.0 ≡ Some row → row.running ≡ Some r
+sent_at : (plan : PlanOf) (s : State) (h : HostNo) (t : Ticket) (play : PlayOf) (row : HostOf) (r : Running) → slice_get s.rows h.0 ≡ Some row → row.running ≡ Some r
     → slice_get (tasks_of (sent_in s h.0 t play).rows) h.0 ≡ Some (Some (sent_running t r))
 sent_at plan s h t play row r there runs =
-    ap (λ (ts : List (Option Running)). slice_get ts h.0) (put_change (λ (x : HostRow). x.running) (sent t) s.rows h.0 row there)
+    ap (λ (ts : List (Option Running)). slice_get ts h.0) (put_change (λ (x : HostOf). x.running) (sent t) s.rows h.0 row there)
     ∙ ap (λ (running : Option Running). slice_get (put (tasks_of s.rows) h.0 (option_map (sent_running t) running)) h.0) runs
-    ∙ put_there (tasks_of s.rows) h.0 (Some (sent_running t r)) (Some r) (get_map (λ (x : HostRow). x.running) s.rows h.0 ∙ ap (option_map (λ (x : HostRow). x.running)) there ∙ ap (λ (running : Option Running). Some running) runs)
+    ∙ put_there (tasks_of s.rows) h.0 (Some (sent_running t r)) (Some r) (get_map (λ (x : HostOf). x.running) s.rows h.0 ∙ ap (option_map (λ (x : HostOf). x.running)) there ∙ ap (λ (running : Option Running). Some running) runs)
 
 -- the job doesn't depend on whether it is out
 same_job : (plan : PlanOf) (is_open : Bool) (number : ℕ) (h : HostNo) (t u : Ticket) (r : Running) → job_by plan is_open number (Some (Some (sent_running u r))) h t ≡ job_by plan is_open number (Some (Some r)) h t
@@ -172,7 +172,7 @@ same_job plan is_open number h t u r = by_play (if is_open then slice_get plan.p
     by_play None = refl
     by_play (Some play) = refl
 
-pub row_found : (rows : List HostRow) (h : ℕ) (r : Running) → slice_get (tasks_of rows) h ≡ Some (Some r) → (row : HostRow) × (slice_get rows h ≡ Some row) × (row.running ≡ Some r)
+pub row_found : (rows : List HostOf) (h : ℕ) (r : Running) → slice_get (tasks_of rows) h ≡ Some (Some r) → (row : HostOf) × (slice_get rows h ≡ Some row) × (row.running ≡ Some r)
 row_found [] h r e = cc
 row_found (row ∷ rows) zero r e = (row, refl, let same : row.running ≡ Some r = cc in same)
 row_found (row ∷ rows) (suc h) r e = row_found rows h r e
@@ -206,7 +206,7 @@ awaited t item attempt q out next which =
 ticket_out : (t : Ticket) (q : Running) → q.out ≡ Some t → is_ticket t q.out ≡ true
 ticket_out t q out = ap (λ (o : Option Ticket). is_ticket t o) out ∙ is_self t.0
 
-pub at_found : (test : HostRow → Bool) (rows : List HostRow) (h : ℕ) (row : HostRow) → slice_get rows h ≡ Some row → test row ≡ true → at_row test rows h ≡ true
+pub at_found : (test : HostOf → Bool) (rows : List HostOf) (h : ℕ) (row : HostOf) → slice_get rows h ≡ Some row → test row ≡ true → at_row test rows h ≡ true
 at_found test [] h row e t = cc
 at_found test (first ∷ rows) zero row e t = let same : first ≡ row = cc in ap test same ∙ t
 at_found test (first ∷ rows) (suc h) row e t = at_found test rows h row e t
@@ -223,17 +223,17 @@ pub next_of_out : (plan : PlanOf) (s : State) (x : Job) → (out : IsOut plan s 
 next_of_out plan s x out =
     let row = row_found s.rows x.host.0 out.0 out.1 in
     let item = item_of_job plan s x.host x.ticket x out.3 in
-    sym (ap (λ (running : Option Running). option_map_or (λ (q : Running). next_item q.items) running None) row.2) ∙ sym (ap (λ (found : Option HostRow). option_map_or item_of found None) row.1) ∙ item
+    sym (ap (λ (running : Option Running). option_map_or (λ (q : Running). next_item q.items) running None) row.2) ∙ sym (ap (λ (found : Option HostOf). option_map_or item_of found None) row.1) ∙ item
 
 pub attempt_of_out : (plan : PlanOf) (s : State) (x : Job) → (out : IsOut plan s x) → attempt_next out.0.items ≡ x.attempt
 attempt_of_out plan s x out =
     let row = row_found s.rows x.host.0 out.0 out.1 in
     let attempt = attempt_of_job plan s x.host x.ticket x out.3 in
-    sym (ap (λ (running : Option Running). option_map_or (λ (q : Running). attempt_next q.items) running 1) row.2) ∙ sym (ap (λ (found : Option HostRow). option_map_or attempt_of found 1) row.1) ∙ attempt
+    sym (ap (λ (running : Option Running). option_map_or (λ (q : Running). attempt_next q.items) running 1) row.2) ∙ sym (ap (λ (found : Option HostOf). option_map_or attempt_of found 1) row.1) ∙ attempt
 
 -- the row of its host waits for it
 pub report_waits : (plan : PlanOf) (s : State) (x : Job) (r : Report) → IsOut plan s x → IsReportOf x r
-    → (row : HostRow) × (slice_get s.rows r.host.0 ≡ Some row) × (has_ticket r.ticket row ≡ true) × (awaits r.ticket r.item r.attempt row ≡ true)
+    → (row : HostOf) × (slice_get s.rows r.host.0 ≡ Some row) × (has_ticket r.ticket row ≡ true) × (awaits r.ticket r.item r.attempt row ≡ true)
 report_waits plan s x r out its =
     let there : slice_get (tasks_of s.rows) r.host.0 ≡ Some (Some out.0) = ap (λ (h : HostNo). slice_get (tasks_of s.rows) h.0) its.1 ∙ out.1 in
     let row = row_found s.rows r.host.0 out.0 there in
@@ -257,7 +257,7 @@ host_apart : (r : Report) (h : HostNo) → is_report_of h (Reported r) ≡ false
 host_apart r h e same = let wrong : true ≡ false = sym (eq-eqb r.host.0 h.0 (sym same)) ∙ e in cc
 
 -- another event tells nothing of its host's jobs
-tells_none : (plan : PlanOf) (s : State) (h : HostNo) (e : Event) → possible plan s e ≡ true → is_report_of h e ≡ false → tells_of h.0 (told plan s e (after plan s e)) ≡ false
+tells_none : (plan : PlanOf) (s : State) (h : HostNo) (e : Event) → possible plan s e ≡ true → is_report_of h e ≡ false → tells_of h.0 (happenings plan s e (after plan s e)) ≡ false
 tells_none plan s h Open may e = (silent_says plan s (after plan s Open) Open refl).silent refl h.0
 tells_none plan s h (Start k) may e = (silent_says plan s (after plan s (Start k)) (Start k) refl).silent refl h.0
 tells_none plan s h (Send k item attempt ticket) may e = (send_says plan s (after plan s (Send k item attempt ticket)) k item attempt ticket may).silent refl h.0

@@ -12,7 +12,7 @@ use Rattle.pb_tree.specs.Tree.{Nodes, Nothing, Task, Block, Flush, TreeOf, size}
 use Rattle.pb_tree.specs.Walk.{WalkerOf, Passage, Stopped, Through, on_good, flush, walk, is_empty, ends_in_flush, front, stays_unless_gone, with_forced, forced, is_halted, without_halted, one_halted, walker_of, passage, reach_of}
 use Rattle.pb_tree.specs.declared.answer.Kind.{Kind}
 use Rattle.pb_tree.specs.declared.answer.Kind.TheVariants.{Good, Bad, Halted, Gone, Ended}
-use Rattle.pb_one_host.specs.Row.{place_of}
+use Rattle.pb_host.specs.Host.{place_of}
 use Rattle.pb_state.proofs.StepNumbers.{and_right as and_second}
 use Rattle.pb_state.proofs.Stands.{both}
 use Rattle.pb_laws.specs.Laws.{is_within, is_always_for, is_forced}

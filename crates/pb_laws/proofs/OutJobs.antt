@@ -10,10 +10,10 @@ use Rattle.pb_ids.specs.declared.numbers.Ticket.{Ticket}
 use Rattle.pb_limits.specs.Counts.{running as count_running}
 use Rattle.pb_outcome.specs.declared.job.Report.{Report}
 use Rattle.pb_plan.specs.Plan.{PlayOf, PlanOf}
-use Rattle.pb_one_host.specs.declared.decided.TaskEnd.{TaskEnd}
-use Rattle.pb_one_host.specs.declared.row.Running.{Running}
-use Rattle.pb_one_host.specs.Runs.{may_send_item}
-use Rattle.pb_one_host.specs.Row.{first_rows}
+use Rattle.pb_host.specs.declared.step_result.TaskEnd.{TaskEnd}
+use Rattle.pb_host.specs.declared.host.Running.{Running}
+use Rattle.pb_host.specs.Runs.{may_send_item}
+use Rattle.pb_host.specs.Host.{first_rows}
 use Rattle.pb_state.specs.declared.event.Event.{Event}
 use Rattle.pb_state.specs.declared.event.Event.TheVariants.{Open, Start, Send, Report as Reported, Turn, Close, Stop, Forks}
 use Rattle.pb_state.specs.Machine.{possible, after, first_state, next_at, open_play, may_send_in}
@@ -27,7 +27,7 @@ use Rattle.pb_state.proofs.Once.{first_sound}
 use Rattle.pb_state.proofs.Steps.{pool_stays}
 use Rattle.pb_state.proofs.Trails.{state_both}
 use Rattle.pb_state.proofs.Walks.{IsOfPlan, step_of, first_of, rows_stay}
-use Rattle.pb_laws.specs.History.{Happening, MayRun, Starts, Sends, Reports, told, at_place, ends_if, ended_in, given_in}
+use Rattle.pb_laws.specs.History.{Happening, MayRun, Starts, Sends, Reports, happenings, at_place, ends_if, ended_in, given_in}
 use Rattle.pb_laws.proofs.BatchTelling.{tells, rows_given}
 use Rattle.pb_laws.proofs.JobsInOrder.{put_other, idle_none, apart}
 use Rattle.pb_laws.proofs.TaskTelling.{task_there, place_there, sends_is}
@@ -85,9 +85,9 @@ start_forks n play h (Some p) found None = refl
 start_forks n play h (Some p) found (Some end) = refl
 
 -- an event without mail
-pub silent_says : (plan : PlanOf) (s new : State) (e : Event) → has_mail e ≡ false → Says 0 0 (told plan s e new)
+pub silent_says : (plan : PlanOf) (s new : State) (e : Event) → has_mail e ≡ false → Says 0 0 (happenings plan s e new)
 silent_says plan s new Open m = record { sends = refl; reports = refl; silent = λ none h. refl }
-silent_says plan s new (Start h) m = start_says s.play h.0 (next_at s h.0) (open_play plan s) (ended_in new.decided)
+silent_says plan s new (Start h) m = start_says s.play h.0 (next_at s h.0) (open_play plan s) (ended_in new.step_result)
 silent_says plan s new (Send h item attempt ticket) m = cc
 silent_says plan s new (Reported r) m = cc
 silent_says plan s new Turn m = given_says (given_in s.play 0 s.rows new.rows) (rows_given s.play 0 s.rows new.rows)
@@ -109,7 +109,7 @@ sending plan s h item attempt ticket (Some play) o may =
     let is = sends_is item attempt at.0.running at.2 in
     (is.0, task_there s h.0 at.0 is.0 at.1 is.1, is.2, place_there s h at.0 is.0 at.1 is.1)
 
-pub send_says : (plan : PlanOf) (s new : State) (h : HostNo) (item attempt : ℕ) (ticket : Ticket) → possible plan s (Send h item attempt ticket) ≡ true → Says 1 0 (told plan s (Send h item attempt ticket) new)
+pub send_says : (plan : PlanOf) (s new : State) (h : HostNo) (item attempt : ℕ) (ticket : Ticket) → possible plan s (Send h item attempt ticket) ≡ true → Says 1 0 (happenings plan s (Send h item attempt ticket) new)
 send_says plan s new h item attempt ticket may =
     let at = sending plan s h item attempt ticket (open_play plan s) refl may in
     sent_says s.play h.0 item attempt ticket.0 (place_run_by s h) at.0.place at.3
@@ -120,8 +120,8 @@ end_says h item ticket play k None found end = record { sends = refl; reports = 
 end_says h item ticket play k (Some p) found None = record { sends = refl; reports = refl; silent = λ none h. absurd (omega (arith, none)) }
 end_says h item ticket play k (Some p) found (Some end) = record { sends = refl; reports = refl; silent = λ none h. absurd (omega (arith, none)) }
 
-pub report_says : (plan : PlanOf) (s new : State) (r : Report) → Says 0 1 (told plan s (Reported r) new)
-report_says plan s new r = end_says r.host.0 r.item r.ticket.0 s.play r.host.0 (place_run_by s r.host) (open_play plan s) (ended_in new.decided)
+pub report_says : (plan : PlanOf) (s new : State) (r : Report) → Says 0 1 (happenings plan s (Reported r) new)
+report_says plan s new r = end_says r.host.0 r.item r.ticket.0 s.play r.host.0 (place_run_by s r.host) (open_play plan s) (ended_in new.step_result)
 
 or_false : (a b : Bool) → a ≡ false → b ≡ false → (a || b) ≡ false
 or_false a b e f = rw (e, f) refl
@@ -131,9 +131,9 @@ end_tells h host item ticket play k None found end e = or_false (host == h) fals
 end_tells h host item ticket play k (Some p) found None e = or_false (host == h) false e refl
 end_tells h host item ticket play k (Some p) found (Some end) e = or_false (host == h) false e refl
 
-pub report_tells : (plan : PlanOf) (s new : State) (r : Report) (h : ℕ) → h ≢ r.host.0 → tells_of h (told plan s (Reported r) new) ≡ false
+pub report_tells : (plan : PlanOf) (s new : State) (r : Report) (h : ℕ) → h ≢ r.host.0 → tells_of h (happenings plan s (Reported r) new) ≡ false
 report_tells plan s new r h other =
-    end_tells h r.host.0 r.item r.ticket.0 s.play r.host.0 (place_run_by s r.host) (open_play plan s) (ended_in new.decided) (apart r.host.0 h (λ same. other (sym same)))
+    end_tells h r.host.0 r.item r.ticket.0 s.play r.host.0 (place_run_by s r.host) (open_play plan s) (ended_in new.step_result) (apart r.host.0 h (λ same. other (sym same)))
 
 -- ---- what is seen
 -- nobody runs while no batch is open
@@ -297,15 +297,15 @@ pub record InRun (plan : PlanOf) (pool : ℕ) (s : State) : Type 0 where
   pub room : s.forks ≤ pool
   pub most : runs (tasks_of s.rows) ≤ pool
 
-forks_told : (plan : PlanOf) (s : State) (pool : ℕ) (e : Event) → possible plan s e ≡ true → s.pool ≡ pool → s.forks ≤ pool → forks_in s.forks (told plan s e (after plan s e)) ≤ pool
+forks_told : (plan : PlanOf) (s : State) (pool : ℕ) (e : Event) → possible plan s e ≡ true → s.pool ≡ pool → s.forks ≤ pool → forks_in s.forks (happenings plan s e (after plan s e)) ≤ pool
 forks_told plan s pool Open may same f = f
 forks_told plan s pool (Start h) may same f =
-    let new = (after plan s (Start h)).decided in
+    let new = (after plan s (Start h)).step_result in
     omega (arith, f, start_forks s.forks s.play h.0 (next_at s h.0) (open_play plan s) (ended_in new))
 forks_told plan s pool (Send h item attempt ticket) may same f =
     let at = sending plan s h item attempt ticket (open_play plan s) refl may in
     subst (λ (place : Option ℕ). forks_in s.forks (at_place s.play h.0 place (λ task. Sends task item attempt ticket.0 ∷ [])) ≤ pool) (sym at.3) f
-forks_told plan s pool (Reported r) may same f = by_end (place_run_by s r.host) (ended_in (after plan s (Reported r)).decided)
+forks_told plan s pool (Reported r) may same f = by_end (place_run_by s r.host) (ended_in (after plan s (Reported r)).step_result)
   where
     by_end : (place : Option ℕ) (end : Option TaskEnd) → forks_in s.forks (Reports r.host.0 r.item r.ticket.0 ∷ at_place s.play r.host.0 place (λ task. ends_if (open_play plan s) end task)) ≤ pool
     by_end None end = f
@@ -318,7 +318,7 @@ forks_told plan s pool Close may same f = f
 forks_told plan s pool Stop may same f = f
 forks_told plan s pool (Forks n) may same f = omega (arith, same, leb-true n s.pool (and_right (nat_le 1 n) _ may))
 
-pub step_tells : (plan : PlanOf) (pool : ℕ) (s : State) (e : Event) → possible plan s e ≡ true → InRun plan pool s → Tells plan (seen s) (told plan s e (after plan s e)) (seen (after plan s e))
+pub step_tells : (plan : PlanOf) (pool : ℕ) (s : State) (e : Event) → possible plan s e ≡ true → InRun plan pool s → Tells plan (seen s) (happenings plan s e (after plan s e)) (seen (after plan s e))
 step_tells plan pool s e may run = tells plan s e may run.numbered run.trees run.sound
 
 in_next : (plan : PlanOf) (pool : ℕ) (s : State) (e : Event) → possible plan s e ≡ true → AreNumbered 0 (after plan s e).rows → InRun plan pool s → InRun plan pool (after plan s e)
@@ -328,10 +328,10 @@ in_next plan pool s e may numbered run =
       numbered = numbered;
       trees = step_of plan s e run.trees;
       sound = sound_kept s (after plan s e) (moves plan s e may) run.sound;
-      idle = idle_next plan (seen s) (seen (after plan s e)) (told plan s e (after plan s e)) step run.idle;
+      idle = idle_next plan (seen s) (seen (after plan s e)) (happenings plan s e (after plan s e)) step run.idle;
       sized = pool_stays plan s e ∙ run.sized;
-      room = subst (λ (n : ℕ). n ≤ pool) (sym (forks_next plan (seen s) (seen (after plan s e)) (told plan s e (after plan s e)) step)) (forks_told plan s pool e may run.sized run.room);
-      most = runs_next plan (seen s) (seen (after plan s e)) (told plan s e (after plan s e)) pool step run.room run.most;
+      room = subst (λ (n : ℕ). n ≤ pool) (sym (forks_next plan (seen s) (seen (after plan s e)) (happenings plan s e (after plan s e)) step)) (forks_told plan s pool e may run.sized run.room);
+      most = runs_next plan (seen s) (seen (after plan s e)) (happenings plan s e (after plan s e)) pool step run.room run.most;
     }
 
 in_from : (plan : PlanOf) (forks pool : ℕ) (before : List Event) (s : State) (es : List Event) → state_after_under plan forks pool before ≡ s → legal_from plan s es ≡ true → InRun plan pool s
@@ -370,8 +370,8 @@ pub outs_silent : (plan : PlanOf) (pool : ℕ) (s : State) (e : Event) → possi
 outs_silent plan pool s e may run none =
     let step = step_tells plan pool s e may run in
     let says = silent_says plan s (after plan s e) e none in (
-      omega (arith, outs_next plan (seen s) (seen (after plan s e)) (told plan s e (after plan s e)) step run.idle, says.sends, says.reports),
-      omega (arith, sends_next plan (seen s) (seen (after plan s e)) (told plan s e (after plan s e)) step, says.sends),
+      omega (arith, outs_next plan (seen s) (seen (after plan s e)) (happenings plan s e (after plan s e)) step run.idle, says.sends, says.reports),
+      omega (arith, sends_next plan (seen s) (seen (after plan s e)) (happenings plan s e (after plan s e)) step, says.sends),
     )
 
 pub outs_sent : (plan : PlanOf) (pool : ℕ) (s : State) (h : HostNo) (item attempt : ℕ) (ticket : Ticket) → possible plan s (Send h item attempt ticket) ≡ true → InRun plan pool s
@@ -380,8 +380,8 @@ outs_sent plan pool s h item attempt ticket may run =
     let e = Send h item attempt ticket in
     let step = step_tells plan pool s e may run in
     let says = send_says plan s (after plan s e) h item attempt ticket may in (
-      omega (arith, outs_next plan (seen s) (seen (after plan s e)) (told plan s e (after plan s e)) step run.idle, says.sends, says.reports),
-      omega (arith, sends_next plan (seen s) (seen (after plan s e)) (told plan s e (after plan s e)) step, says.sends),
+      omega (arith, outs_next plan (seen s) (seen (after plan s e)) (happenings plan s e (after plan s e)) step run.idle, says.sends, says.reports),
+      omega (arith, sends_next plan (seen s) (seen (after plan s e)) (happenings plan s e (after plan s e)) step, says.sends),
     )
 
 pub outs_reported : (plan : PlanOf) (pool : ℕ) (s : State) (r : Report) → possible plan s (Reported r) ≡ true → InRun plan pool s
@@ -390,8 +390,8 @@ outs_reported plan pool s r may run =
     let e = Reported r in
     let step = step_tells plan pool s e may run in
     let says = report_says plan s (after plan s e) r in (
-      omega (arith, outs_next plan (seen s) (seen (after plan s e)) (told plan s e (after plan s e)) step run.idle, says.sends, says.reports),
-      omega (arith, sends_next plan (seen s) (seen (after plan s e)) (told plan s e (after plan s e)) step, says.sends),
+      omega (arith, outs_next plan (seen s) (seen (after plan s e)) (happenings plan s e (after plan s e)) step run.idle, says.sends, says.reports),
+      omega (arith, sends_next plan (seen s) (seen (after plan s e)) (happenings plan s e (after plan s e)) step, says.sends),
     )
 
 -- where a job goes out there is room for it

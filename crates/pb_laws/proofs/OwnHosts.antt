@@ -44,9 +44,9 @@ later_opens plan v play n waiting (inr begins) l = omega (arith, l, begins.1)
 behind_shut : (plan : PlanOf) (v : Seen) (play n h : ℕ) (hosts waiting : List Bool) → v.is_open ≡ false → OpensSo plan v n waiting → play ≡ v.play → (v.is_open ≡ false → v.has_more ≡ true)
     → ((k : ℕ) → is_member hosts k ≡ true → is_member v.waiting k ≡ true → (v.is_open ≡ true) × (is_member v.inside k ≡ true)) → is_member hosts h ≡ true → is_member waiting h ≡ true → ⊥
 unfolding OpensSo
-behind_shut plan v play n h hosts waiting shut (inl on) e goes_on still was waits =
-    opened_shut v (still h was (ap (λ (all : List Bool). is_member all h) (sym on.2) ∙ waits)).0 shut
-behind_shut plan v play n h hosts waiting shut (inr begins) e goes_on still was waits = true_false v.has_more (goes_on shut) begins.0
+behind_shut plan v play n h hosts waiting shut (inl on) e goes_on still was awaits_batch =
+    opened_shut v (still h was (ap (λ (all : List Bool). is_member all h) (sym on.2) ∙ awaits_batch)).0 shut
+behind_shut plan v play n h hosts waiting shut (inr begins) e goes_on still was awaits_batch = true_false v.has_more (goes_on shut) begins.0
 
 play_stays : (v : Seen) (play n : ℕ) (plan : PlanOf) (waiting : List Bool) → v.is_open ≡ false → OpensSo plan v n waiting → play ≡ v.play → (v.is_open ≡ false → v.has_more ≡ true) → play ≡ n
 unfolding OpensSo
@@ -60,24 +60,24 @@ behind_opens plan v n more new play hosts shut how at open_now (inr w) =
     inr (
       play_stays v play n plan new.waiting shut how w.0 w.1 ∙ sym at,
       λ s. absurd (opened_shut new open_now s),
-      λ h was waits. absurd (behind_shut plan v play n h hosts new.waiting shut how w.0 w.1 w.2 was waits),
+      λ h was awaits_batch. absurd (behind_shut plan v play n h hosts new.waiting shut how w.0 w.1 w.2 was awaits_batch),
     )
 
 behind_closes : (v : Seen) (more : Bool) (play : ℕ) (hosts inside waiting : List Bool) (new : Seen) → v.has_more ≡ more → v.is_open ≡ true
     → ((h : ℕ) → is_member waiting h ≡ true → (is_member v.waiting h ≡ true) × (is_member v.inside h ≡ false))
     → new.play ≡ play_behind more v.play → new.is_open ≡ false → new.has_more ≡ more → new.waiting ≡ waiting → IsBehind play hosts v → IsBehind play hosts new
 unfolding IsBehind
-behind_closes v true play hosts inside waiting new m o still at shut more_too waits (inl l) = inl (omega (arith, l, at))
-behind_closes v false play hosts inside waiting new m o still at shut more_too waits (inl l) = inl (omega (arith, l, at))
-behind_closes v true play hosts inside waiting new m o still at shut more_too waits (inr w) =
+behind_closes v true play hosts inside waiting new m o still at shut more_too awaits_batch (inl l) = inl (omega (arith, l, at))
+behind_closes v false play hosts inside waiting new m o still at shut more_too awaits_batch (inl l) = inl (omega (arith, l, at))
+behind_closes v true play hosts inside waiting new m o still at shut more_too awaits_batch (inr w) =
     inr (
       w.0 ∙ sym at,
       λ s. more_too,
       λ h was wait.
-          let left = still h (ap (λ (all : List Bool). is_member all h) (sym waits) ∙ wait) in
+          let left = still h (ap (λ (all : List Bool). is_member all h) (sym awaits_batch) ∙ wait) in
           absurd (true_false (is_member v.inside h) (w.2 h was left.0).1 left.1),
     )
-behind_closes v false play hosts inside waiting new m o still at shut more_too waits (inr w) = inl (let same = w.0 in omega (arith, same, at))
+behind_closes v false play hosts inside waiting new m o still at shut more_too awaits_batch (inr w) = inl (let same = w.0 in omega (arith, same, at))
 
 behind_next : (plan : PlanOf) (v new : Seen) (happens : List Happening) (play : ℕ) (hosts : List Bool) → Tells plan v happens new → IsBehind play hosts v → IsBehind play hosts new
 unfolding IsBehind OpensSo
@@ -85,8 +85,8 @@ behind_next plan v new happens play hosts (Opening n more tasks inside waiting i
 behind_next plan v new happens play hosts (Starting over host place items end notified is so) w = w
 behind_next plan v new happens play hosts (Sending host item attempt ticket r is) w = w
 behind_next plan v new happens play hosts (Reporting over host item ticket r items end notified is so) w = w
-behind_next plan v new happens play hosts (Turning more told opened given is) (inl l) = inl l
-behind_next plan v new happens play hosts (Turning more told opened given is) (inr w) = inr (w.0, λ s. absurd (opened_shut v opened s), w.2)
+behind_next plan v new happens play hosts (Turning more happenings opened given is) (inl l) = inl l
+behind_next plan v new happens play hosts (Turning more happenings opened given is) (inr w) = inr (w.0, λ s. absurd (opened_shut v opened s), w.2)
 behind_next plan v new happens play hosts (Closing tasks inside waiting is) w = behind_closes v v.has_more play hosts inside waiting new refl is.opened is.still refl refl refl refl w
 behind_next plan v new happens play hosts Stopping w = w
 behind_next plan v new happens play hosts (Forking n) w = w
@@ -104,13 +104,13 @@ given_behind v past (x ∷ xs) (one_given task kind given) w = given_behind v (G
 
 all_behind : (plan : PlanOf) (past : List Happening) (v new : Seen) (happens : List Happening) → Tells plan v happens new → AreBehind past new → AreBehind (so_far past happens) new
 unfolding AreBehind IsBehind
-all_behind plan past v new happens (Opening n more tasks inside waiting is) w = (inr (refl, λ s. cc, λ h was waits. (refl, was)), w)
+all_behind plan past v new happens (Opening n more tasks inside waiting is) w = (inr (refl, λ s. cc, λ h was awaits_batch. (refl, was)), w)
 all_behind plan past v new happens (Starting true host place items end notified is so) w = w
 all_behind plan past v new happens (Starting false host place items end notified is so) w = w
 all_behind plan past v new happens (Sending host item attempt ticket r is) w = w
 all_behind plan past v new happens (Reporting true host item ticket r items end notified is so) w = w
 all_behind plan past v new happens (Reporting false host item ticket r items end notified is so) w = w
-all_behind plan past v new happens (Turning more told opened given is) w = given_behind new past happens given w
+all_behind plan past v new happens (Turning more happenings opened given is) w = given_behind new past happens given w
 all_behind plan past v new happens (Closing tasks inside waiting is) w = w
 all_behind plan past v new happens Stopping w = w
 all_behind plan past v new happens (Forking n) w = w
@@ -162,7 +162,7 @@ batch_next plan past v new happens (Starting false host place items end notified
 batch_next plan past v new happens (Sending host item attempt ticket r is) b o = b o
 batch_next plan past v new happens (Reporting true host item ticket r items end notified is so) b o = b o
 batch_next plan past v new happens (Reporting false host item ticket r items end notified is so) b o = b o
-batch_next plan past v new happens (Turning more told opened given is) b o = given_same (batch_of v.play) (λ before task how. refl) past happens given ∙ b o
+batch_next plan past v new happens (Turning more happenings opened given is) b o = given_same (batch_of v.play) (λ before task how. refl) past happens given ∙ b o
 batch_next plan past v new happens (Closing tasks inside waiting is) b o = cc
 batch_next plan past v new happens Stopping b o = b o
 batch_next plan past v new happens (Forking n) b o = b o
@@ -173,7 +173,7 @@ joined_next plan v new happens (Opening n more tasks inside waiting is) j o = is
 joined_next plan v new happens (Starting over host place items end notified is so) j o = j o
 joined_next plan v new happens (Sending host item attempt ticket r is) j o = j o
 joined_next plan v new happens (Reporting over host item ticket r items end notified is so) j o = j o
-joined_next plan v new happens (Turning more told opened given is) j o = j o
+joined_next plan v new happens (Turning more happenings opened given is) j o = j o
 joined_next plan v new happens (Closing tasks inside waiting is) j o = absurd (let shut : false ≡ true = o in cc)
 joined_next plan v new happens Stopping j o = j o
 joined_next plan v new happens (Forking n) j o = j o
@@ -202,7 +202,7 @@ own_next plan v new happens (Opening n more tasks inside waiting is) own o = own
 own_next plan v new happens (Starting over host place items end notified is so) own o = own o
 own_next plan v new happens (Sending host item attempt ticket r is) own o = own o
 own_next plan v new happens (Reporting over host item ticket r items end notified is so) own o = own o
-own_next plan v new happens (Turning more told opened given is) own o = own (or_first v.is_open v.has_more opened)
+own_next plan v new happens (Turning more happenings opened given is) own o = own (or_first v.is_open v.has_more opened)
 own_next plan v new happens (Closing tasks inside waiting is) own o = own_closes plan v v.has_more waiting o is.opened is.still own
 own_next plan v new happens Stopping own o = own o
 own_next plan v new happens (Forking n) own o = own o
@@ -223,7 +223,7 @@ own_hold plan past v new happens (Starting false host place items end notified i
 own_hold plan past v new happens (Sending host item attempt ticket r is) own = refl
 own_hold plan past v new happens (Reporting true host item ticket r items end notified is so) own = refl
 own_hold plan past v new happens (Reporting false host item ticket r items end notified is so) own = refl
-own_hold plan past v new happens (Turning more told opened given is) own = given_holds (own_hosts plan) (λ before task how. refl) past happens given
+own_hold plan past v new happens (Turning more happenings opened given is) own = given_holds (own_hosts plan) (λ before task how. refl) past happens given
 own_hold plan past v new happens (Closing tasks inside waiting is) own = refl
 own_hold plan past v new happens Stopping own = refl
 own_hold plan past v new happens (Forking n) own = refl

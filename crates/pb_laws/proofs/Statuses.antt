@@ -10,19 +10,19 @@ use Rattle.pb_outcome.specs.declared.outcome.Form.{Form}
 use Rattle.pb_outcome.specs.Items.{is_over}
 use Rattle.pb_plan.specs.Plan.{PlayOf, PlanOf}
 use Rattle.pb_planes.specs.Set.{is_in as is_member}
-use Rattle.pb_sight.specs.declared.gifts.Gift.{Gift}
+use Rattle.pb_task_vars.specs.declared.gifts.DelegatedFacts.{DelegatedFacts}
 use Rattle.pb_tree.specs.declared.tree.Status.{Status}
-use Rattle.pb_tree.specs.declared.tree.Status.TheVariants.{Active, Failed, Halted as StaysHalted, Gone as StaysGone}
+use Rattle.pb_tree.specs.declared.tree.Status.TheVariants as stays
 use Rattle.pb_tree.specs.Tree.{TreeOf}
 use Rattle.pb_tree.specs.Walk.{reach, status_now, unforced}
-use Rattle.pb_one_host.specs.declared.row.Running.{Running}
-use Rattle.pb_one_host.specs.Row.{HostRow, called, first_rows, is_active, items_after, joined, left, place_of, progressed, reported, reported_running, sent}
-use Rattle.pb_all_hosts.proofs.Giving.{change_on, given_keeps}
-use Rattle.pb_all_hosts.proofs.Turning.{Goes, turned_by_case}
-use Rattle.pb_all_hosts.specs.Batches.{joined_first, joins, room_behind}
-use Rattle.pb_all_hosts.specs.Giving.{given_to, gifts_at, report_gives, takes}
-use Rattle.pb_all_hosts.specs.Hosts.{at_row, change}
-use Rattle.pb_sight.specs.Results.{items_at}
+use Rattle.pb_host.specs.declared.host.Running.{Running}
+use Rattle.pb_host.specs.Host.{HostOf, as_play_begins, first_rows, is_active, items_after, joined, left, place_of, progressed, reported, reported_running, sent}
+use Rattle.pb_hosts.proofs.Giving.{change_on, given_keeps}
+use Rattle.pb_hosts.proofs.Turning.{Goes, turned_by_case}
+use Rattle.pb_hosts.specs.Batches.{joined_first, joins, room_behind}
+use Rattle.pb_hosts.specs.Giving.{with_delegated, gifts_at, report_gives, takes}
+use Rattle.pb_hosts.specs.Hosts.{at_row, change}
+use Rattle.pb_task_vars.specs.Results.{items_at}
 use Rattle.pb_state.specs.declared.event.Event.{Event}
 use Rattle.pb_state.specs.declared.event.Event.TheVariants.{Open, Start, Send, Report as Reported, Turn, Close, Stop, Forks}
 use Rattle.pb_state.specs.Machine.{after, after_open, batch_of, facts_at, first_state, may_start_in, next_at, open_play, opened_by, plan_seen, possible, reported_in, sent_in, start_at, started_in, turned_in}
@@ -36,39 +36,39 @@ use Rattle.pb_laws.specs.States.{IsStatused}
 use Rattle.pb_laws.proofs.Fresh.{fresh_active, stands_active}
 
 -- ---- of one row
-record Fits (row : HostRow) : Type 0 where
-  told : row.in_batch ≡ true → row.status ≡ status_now row.tree row.answers
+record Fits (row : HostOf) : Type 0 where
+  walked : row.in_batch ≡ true → row.status ≡ status_now row.tree row.answers
   -- one that waits for its batch is active, and one that is in none runs nothing
-  waits : row.in_batch ≡ false → row.waits ≡ true → row.status ≡ Active
+  awaits_batch : row.in_batch ≡ false → row.awaits_batch ≡ true → row.status ≡ stays.Active
   idle : row.in_batch ≡ false → row.running ≡ None
 
 -- a host of the batch that is what its answers make it, whatever else changed
-fits_inside : (row : HostRow) → row.in_batch ≡ true → row.status ≡ status_now row.tree row.answers → Fits row
+fits_inside : (row : HostOf) → row.in_batch ≡ true → row.status ≡ status_now row.tree row.answers → Fits row
 fits_inside row inside is =
     record {
-      told = λ e. is;
-      waits = λ away. absurd (let both_ways : true ≡ false = sym inside ∙ away in cc);
+      walked = λ e. is;
+      awaits_batch = λ away. absurd (let both_ways : true ≡ false = sym inside ∙ away in cc);
       idle = λ away. absurd (let both_ways : true ≡ false = sym inside ∙ away in cc);
     }
 
-fits_taken : (gift : Gift) (row : HostRow) → Fits row → Fits (takes gift row)
-fits_taken gift row fits = record { told = fits.told; waits = fits.waits; idle = fits.idle }
+fits_taken : (gift : DelegatedFacts) (row : HostOf) → Fits row → Fits (takes gift row)
+fits_taken gift row fits = record { walked = fits.walked; awaits_batch = fits.awaits_batch; idle = fits.idle }
 
-fits_sent : (ticket : Ticket) (row : HostRow) → Fits row → Fits (sent ticket row)
-fits_sent ticket row fits = record { told = fits.told; waits = fits.waits; idle = λ away. rw (fits.idle away) refl }
+fits_sent : (ticket : Ticket) (row : HostOf) → Fits row → Fits (sent ticket row)
+fits_sent ticket row fits = record { walked = fits.walked; awaits_batch = fits.awaits_batch; idle = λ away. rw (fits.idle away) refl }
 
-fits_progressed : (inventory : InventoryOf) (play : PlayOf) (p : ℕ) (items : List Item) (row : HostRow) → row.in_batch ≡ true → Fits row → Fits (progressed inventory play p items row)
+fits_progressed : (inventory : InventoryOf) (play : PlayOf) (p : ℕ) (items : List Item) (row : HostOf) → row.in_batch ≡ true → Fits row → Fits (progressed inventory play p items row)
 fits_progressed inventory play p items row inside fits = by_over (is_over items) refl
   where
     by_over : (over : Bool) → is_over items ≡ over → Fits (progressed inventory play p items row)
     by_over true e = rw e (fits_inside _ inside refl)
-    by_over false e = rw e (fits_inside _ inside (fits.told inside))
+    by_over false e = rw e (fits_inside _ inside (fits.walked inside))
 
-runs_inside : (row : HostRow) (r : Running) (inside : Bool) → row.in_batch ≡ inside → row.running ≡ Some r → Fits row → inside ≡ true
+runs_inside : (row : HostOf) (r : Running) (inside : Bool) → row.in_batch ≡ inside → row.running ≡ Some r → Fits row → inside ≡ true
 runs_inside row r true is runs fits = refl
 runs_inside row r false is runs fits = absurd (let both_ways : Some r ≡ None = sym runs ∙ fits.idle is in cc)
 
-fits_reported : (plan : PlanOf) (play : PlayOf) (outcome : Form) (row : HostRow) → Fits row → Fits (reported plan play outcome row)
+fits_reported : (plan : PlanOf) (play : PlayOf) (outcome : Form) (row : HostOf) → Fits row → Fits (reported plan play outcome row)
 fits_reported plan play outcome row fits = by_running row.running refl
   where
     by_running : (running : Option Running) → row.running ≡ running → Fits (option_map_or (reported_running plan play outcome row) running row)
@@ -76,7 +76,7 @@ fits_reported plan play outcome row fits = by_running row.running refl
     by_running (Some r) e =
         fits_progressed plan.inventory play r.place (items_after plan play row.host row.facts outcome r) row (runs_inside row r row.in_batch refl e fits) fits
 
-fits_goes : (f : HostRow → HostRow) → Goes f → (row : HostRow) → Fits row → Fits (f row)
+fits_goes : (f : HostOf → HostOf) → Goes f → (row : HostOf) → Fits row → Fits (f row)
 fits_goes f goes row fits =
     elim (goes row) [
       | inl same ↦ subst Fits (sym same) fits
@@ -84,24 +84,24 @@ fits_goes f goes row fits =
     ]
 
 -- a host that is in no batch, as a play begins and as a batch opens
-active_is : (status : Status) → is_active status ≡ true → status ≡ Active
-active_is Active e = refl
-active_is Failed e = cc
-active_is StaysHalted e = cc
-active_is StaysGone e = cc
+active_is : (status : Status) → is_active status ≡ true → status ≡ stays.Active
+active_is stays.Active e = refl
+active_is stays.Failed e = cc
+active_is stays.Halted e = cc
+active_is stays.Gone e = cc
 
-fits_called : (hosts : List Bool) (row : HostRow) → Fits row → Fits (called hosts row)
-fits_called hosts row fits = record { told = fits.told; waits = λ away calls. active_is row.status (and_right (is_member hosts row.host) _ calls); idle = fits.idle }
+fits_called : (hosts : List Bool) (row : HostOf) → Fits row → Fits (as_play_begins hosts row)
+fits_called hosts row fits = record { walked = fits.walked; awaits_batch = λ away calls. active_is row.status (and_right (is_member hosts row.host) _ calls); idle = fits.idle }
 
-fits_joined : (tree : TreeOf) (joins_now : Bool) (row : HostRow) → row.in_batch ≡ false → (joins_now ≡ true → row.waits ≡ true) → Fits row → Fits (joined tree joins_now row)
-fits_joined tree true row away waits fits = fits_inside _ refl (fits.waits away (waits refl) ∙ sym (fresh_active tree))
-fits_joined tree false row away waits fits = record { told = λ e. cc; waits = λ e waiting. fits.waits away waiting; idle = λ e. refl }
+fits_joined : (tree : TreeOf) (joins_now : Bool) (row : HostOf) → row.in_batch ≡ false → (joins_now ≡ true → row.awaits_batch ≡ true) → Fits row → Fits (joined tree joins_now row)
+fits_joined tree true row away awaits_batch fits = fits_inside _ refl (fits.awaits_batch away (awaits_batch refl) ∙ sym (fresh_active tree))
+fits_joined tree false row away awaits_batch fits = record { walked = λ e. cc; awaits_batch = λ e waiting. fits.awaits_batch away waiting; idle = λ e. refl }
 
-fits_left : (row : HostRow) → Fits row → Fits (left row)
+fits_left : (row : HostOf) → Fits row → Fits (left row)
 fits_left row fits =
     record {
-      told = λ e. cc;
-      waits = λ e waiting. fits.waits (not_true row.in_batch (and_right row.waits _ waiting)) (and_left row.waits _ waiting);
+      walked = λ e. cc;
+      awaits_batch = λ e waiting. fits.awaits_batch (not_true row.in_batch (and_right row.awaits_batch _ waiting)) (and_left row.awaits_batch _ waiting);
       idle = λ e. refl;
     }
   where
@@ -110,47 +110,47 @@ fits_left row fits =
     not_true false e = refl
 
 -- ---- of all rows
-abbrev AllFit : List HostRow → Type 0
+abbrev AllFit : List HostOf → Type 0
 AllFit [] = Unit {0}
 AllFit (row ∷ rows) = Fits row × AllFit rows
 
-abbrev AllAway : List HostRow → Type 0
+abbrev AllAway : List HostOf → Type 0
 AllAway [] = Unit {0}
 AllAway (row ∷ rows) = (row.in_batch ≡ false) × AllAway rows
 
-fit_change : (f : HostRow → HostRow) → ((row : HostRow) → Fits row → Fits (f row)) → (rows : List HostRow) (h : ℕ) → AllFit rows → AllFit (change rows h f)
+fit_change : (f : HostOf → HostOf) → ((row : HostOf) → Fits row → Fits (f row)) → (rows : List HostOf) (h : ℕ) → AllFit rows → AllFit (change rows h f)
 fit_change f keeps [] h all = tt
 fit_change f keeps (row ∷ rows) zero all = (keeps row all.0, all.1)
 fit_change f keeps (row ∷ rows) (suc h) all = rw (change_on row rows h f) (all.0, fit_change f keeps rows h all.1)
 
-fit_at : (test : HostRow → Bool) (f : HostRow → HostRow) → ((row : HostRow) → test row ≡ true → Fits row → Fits (f row)) → (rows : List HostRow) (h : ℕ) → at_row test rows h ≡ true → AllFit rows → AllFit (change rows h f)
+fit_at : (test : HostOf → Bool) (f : HostOf → HostOf) → ((row : HostOf) → test row ≡ true → Fits row → Fits (f row)) → (rows : List HostOf) (h : ℕ) → at_row test rows h ≡ true → AllFit rows → AllFit (change rows h f)
 fit_at test f keeps [] h may all = tt
 fit_at test f keeps (row ∷ rows) zero may all = (keeps row may all.0, all.1)
 fit_at test f keeps (row ∷ rows) (suc h) may all = rw (change_on row rows h f) (all.0, fit_at test f keeps rows h may all.1)
 
-fit_given : (gifts : List Gift) (rows : List HostRow) → AllFit rows → AllFit (given_to gifts rows)
+fit_given : (gifts : List DelegatedFacts) (rows : List HostOf) → AllFit rows → AllFit (with_delegated gifts rows)
 fit_given gifts rows all = given_keeps AllFit (λ gift rows fit. fit_change (takes gift) (λ row fits. fits_taken gift row fits) rows gift.host.0 fit) gifts rows all
 
-fit_map : (f : HostRow → HostRow) → ((row : HostRow) → Fits row → Fits (f row)) → (rows : List HostRow) → AllFit rows → AllFit (map f rows)
+fit_map : (f : HostOf → HostOf) → ((row : HostOf) → Fits row → Fits (f row)) → (rows : List HostOf) → AllFit rows → AllFit (map f rows)
 fit_map f keeps [] all = tt
 fit_map f keeps (row ∷ rows) all = (keeps row all.0, fit_map f keeps rows all.1)
 
-away_called : (hosts : List Bool) (rows : List HostRow) → AllAway rows → AllAway (map (called hosts) rows)
+away_called : (hosts : List Bool) (rows : List HostOf) → AllAway rows → AllAway (map (as_play_begins hosts) rows)
 away_called hosts [] all = tt
 away_called hosts (row ∷ rows) all = (all.0, away_called hosts rows all.1)
 
-away_left : (rows : List HostRow) → AllAway (map left rows)
+away_left : (rows : List HostOf) → AllAway (map left rows)
 away_left [] = tt
 away_left (row ∷ rows) = (refl, away_left rows)
 
-fit_joined : (tree : TreeOf) (room : ℕ) (rows : List HostRow) → AllAway rows → AllFit rows → AllFit (joined_first tree room rows)
+fit_joined : (tree : TreeOf) (room : ℕ) (rows : List HostOf) → AllAway rows → AllFit rows → AllFit (joined_first tree room rows)
 fit_joined tree room [] away all = tt
 fit_joined tree room (row ∷ rows) away all =
-    (fits_joined tree (joins room row.waits) row away.0 (λ e. and_left row.waits _ e) all.0, fit_joined tree (room_behind room row.waits) rows away.1 all.1)
+    (fits_joined tree (joins room row.awaits_batch) row away.0 (λ e. and_left row.awaits_batch _ e) all.0, fit_joined tree (room_behind room row.awaits_batch) rows away.1 all.1)
 
 first_fit : (h n : ℕ) → AllFit (first_rows h n)
 first_fit h zero = tt
-first_fit h (suc n) = (record { told = λ e. cc; waits = λ e. λ f. refl; idle = λ e. refl }, first_fit (h + 1) n)
+first_fit h (suc n) = (record { walked = λ e. cc; awaits_batch = λ e. λ f. refl; idle = λ e. refl }, first_fit (h + 1) n)
 
 first_away : (h n : ℕ) → AllAway (first_rows h n)
 first_away h zero = tt
@@ -176,8 +176,8 @@ opened_fit : (plan : PlanOf) (s : State) → s.is_open ≡ false → IsFit s →
 opened_fit plan s closed fit =
     open_case IsFit plan s (λ none. fit)
     (λ n batch sizes rows play size is.
-    let before = rows_case (λ (rows : List HostRow). AllFit rows × AllAway rows) plan s n batch sizes rows play size is (fit.rows, fit.shut closed)
-    (λ hosts. (fit_map (called hosts) (λ row fits. fits_called hosts row fits) s.rows fit.rows, away_called hosts s.rows (fit.shut closed))) in
+    let before = rows_case (λ (rows : List HostOf). AllFit rows × AllAway rows) plan s n batch sizes rows play size is (fit.rows, fit.shut closed)
+    (λ hosts. (fit_map (as_play_begins hosts) (λ row fits. fits_called hosts row fits) s.rows fit.rows, away_called hosts s.rows (fit.shut closed))) in
     goes_open (opened_by s n batch sizes rows play size) refl (fit_joined play.tree size rows before.1 before.0))
 
 start_fit : (plan : PlanOf) (s : State) (h : ℕ) (play : PlayOf) (place : Option ℕ) → s.is_open ≡ true → at_row (stands_at place) s.rows h ≡ true → IsFit s → IsFit (option_map_or (start_at plan s h play) place s)
@@ -231,13 +231,13 @@ fit_from plan s (e ∷ es) legal fit =
     fit_from plan (after plan s e) es (and_right (possible plan s e) _ legal) (step_fit plan s e (and_left (possible plan s e) _ legal) fit)
 
 -- ---- what the status says
-statused : (row : HostRow) → Fits row → IsStatused row
+statused : (row : HostOf) → Fits row → IsStatused row
 statused row fits =
     record {
-      told = fits.told;
+      walked = fits.walked;
       standing = λ place next.
           let inside = in_if row.in_batch (place_of (reach row.tree row.answers)) place next in
-          subst (λ (status : Status). (status ≡ Active) ⊎ ((row.tree.force_handlers ≡ true) × (place_of (reach (unforced row.tree) row.answers) ≡ None))) (sym (fits.told inside))
+          subst (λ (status : Status). (status ≡ stays.Active) ⊎ ((row.tree.force_handlers ≡ true) × (place_of (reach (unforced row.tree) row.answers) ≡ None))) (sym (fits.walked inside))
           (stands_active row.tree row.answers place (walks row.in_batch inside next));
     }
   where
@@ -245,7 +245,7 @@ statused row fits =
     walks true e f = f
     walks false e f = cc
 
-each_statused : (rows : List HostRow) (h : ℕ) → AllFit rows → IfSome (slice_get rows h) IsStatused
+each_statused : (rows : List HostOf) (h : ℕ) → AllFit rows → IfSome (slice_get rows h) IsStatused
 each_statused [] h all = tt
 each_statused (row ∷ rows) zero all = statused row all.0
 each_statused (row ∷ rows) (suc h) all = each_statused rows h all.1

@@ -14,10 +14,10 @@ use Rattle.pb_tree.specs.declared.answer.Kind.{Kind}
 use Rattle.pb_tree.specs.declared.answer.Kind.TheVariants.{Good, Bad, Halted, Gone, Ended}
 use Rattle.pb_tree.specs.declared.tree.Status.{Status}
 use Rattle.pb_tree.proofs.Rise.{second_passed}
-use Rattle.pb_one_host.specs.declared.decided.TaskEnd.{TaskEnd}
-use Rattle.pb_one_host.specs.declared.row.Running.{Running}
-use Rattle.pb_one_host.specs.Ends.{answer_of, kind_of, plain_answer}
-use Rattle.pb_one_host.specs.Row.{place_of, is_active, first_rows}
+use Rattle.pb_host.specs.declared.step_result.TaskEnd.{TaskEnd}
+use Rattle.pb_host.specs.declared.host.Running.{Running}
+use Rattle.pb_host.specs.Ends.{answer_of, kind_of, plain_answer}
+use Rattle.pb_host.specs.Host.{place_of, is_active, first_rows}
 use Rattle.pb_state.proofs.Stands.{both}
 use Rattle.pb_state.proofs.Walked.{not_halted}
 use Rattle.pb_laws.specs.History.{HostTask, Happening, Starts, Reports, Ends, Given}
@@ -268,7 +268,7 @@ record Outs (plan : PlanOf) (past : List Happening) (v : Seen) : Type 0 where
   answered : (h : ℕ) (xs : List AnswerOf) → slice_get v.walked h ≡ Some xs → answers h past ≡ xs
   -- a host that is active and in no batch may go on anywhere, and a host that waits is active
   clear : (h : ℕ) → (v.is_open ≡ true → is_member v.inside h ≡ false) → is_member v.active h ≡ true → (task : HostTask) → task.host ≡ h → is_kept_out plan task past ≡ false
-  waits : (h : ℕ) → (v.is_open ≡ true → is_member v.inside h ≡ false) → is_member v.waiting h ≡ true → is_member v.active h ≡ true
+  awaits_batch : (h : ℕ) → (v.is_open ≡ true → is_member v.inside h ≡ false) → is_member v.waiting h ≡ true → is_member v.active h ≡ true
   held : v.is_open ≡ true → (h : ℕ) (xs : List AnswerOf) → is_member v.inside h ≡ true → slice_get v.walked h ≡ Some xs → Held plan v.play h past xs
   -- a host of the batch is active by what it answered there
   stands : v.is_open ≡ true → (h : ℕ) (xs : List AnswerOf) → is_member v.inside h ≡ true → slice_get v.walked h ≡ Some xs → is_member v.active h ≡ true → (xs ≡ []) ⊎ (is_active (status_now (tree_at plan v.play) xs) ≡ true)
@@ -328,7 +328,7 @@ clear_next plan past v new happens (Reporting true host item ticket r items end 
     ends_apart plan (task_on v host r.place) end notified (Reports host item ticket.0 ∷ past) h (λ e. d (sym e)) task same
     ∙ outs.clear h out (sym (put_apart v.active host h (is_active (status_now (tree_at plan v.play) (is.answers ++ answer_of end notified ∷ []))) d) ∙ act) task same
 clear_next plan past v new happens (Reporting false host item ticket r items end notified is so) outs h out act task same = outs.clear h out act task same
-clear_next plan past v new happens (Turning more told opened given is) outs h out act task same =
+clear_next plan past v new happens (Turning more happenings opened given is) outs h out act task same =
     inside_apart plan v.inside h task past happens (out opened) same given is.only ∙ outs.clear h out (sym (is.still h (out opened)) ∙ act) task same
 clear_next plan past v new happens (Closing tasks inside waiting is) outs h out act task same = by_inside (is_member v.inside h) refl
   where
@@ -342,22 +342,22 @@ clear_next plan past v new happens (Forking n) outs h out act task same = outs.c
 
 chosen_active : (plan : PlanOf) (past : List Happening) (v : Seen) (n : ℕ) (tasks : List (Option Running)) (inside waiting : List Bool) → IsOpening plan v n tasks inside waiting → Outs plan past v → (h : ℕ) → is_member waiting h ≡ true → is_member v.active h ≡ true
 chosen_active plan past v n tasks inside waiting is outs h w =
-    elim is.how [ inl on ↦ outs.waits h (shut_out v h is.shut) (ap (λ (all : List Bool). is_member all h) (sym on.2) ∙ w) | inr begins ↦ is.chosen begins.0 h w ]
+    elim is.how [ inl on ↦ outs.awaits_batch h (shut_out v h is.shut) (ap (λ (all : List Bool). is_member all h) (sym on.2) ∙ w) | inr begins ↦ is.chosen begins.0 h w ]
 
 waits_next : (plan : PlanOf) (past : List Happening) (v new : Seen) (happens : List Happening) → Tells plan v happens new → Outs plan past v → (h : ℕ) → (new.is_open ≡ true → is_member new.inside h ≡ false) → is_member new.waiting h ≡ true
     → is_member new.active h ≡ true
 waits_next plan past v new happens (Opening n more tasks inside waiting is) outs h out w = chosen_active plan past v n tasks inside waiting is outs h w
 waits_next plan past v new happens (Starting true host place items end notified is so) outs h out w =
-    put_apart v.active host h (is_active (status_now (tree_at plan v.play) (is.answers ++ answer_of end notified ∷ []))) (out_apart v.inside host h is.inside (out is.opened)) ∙ outs.waits h out w
-waits_next plan past v new happens (Starting false host place items end notified is so) outs h out w = outs.waits h out w
-waits_next plan past v new happens (Sending host item attempt ticket r is) outs h out w = outs.waits h out w
+    put_apart v.active host h (is_active (status_now (tree_at plan v.play) (is.answers ++ answer_of end notified ∷ []))) (out_apart v.inside host h is.inside (out is.opened)) ∙ outs.awaits_batch h out w
+waits_next plan past v new happens (Starting false host place items end notified is so) outs h out w = outs.awaits_batch h out w
+waits_next plan past v new happens (Sending host item attempt ticket r is) outs h out w = outs.awaits_batch h out w
 waits_next plan past v new happens (Reporting true host item ticket r items end notified is so) outs h out w =
-    put_apart v.active host h (is_active (status_now (tree_at plan v.play) (is.answers ++ answer_of end notified ∷ []))) (out_apart v.inside host h is.inside (out is.opened)) ∙ outs.waits h out w
-waits_next plan past v new happens (Reporting false host item ticket r items end notified is so) outs h out w = outs.waits h out w
-waits_next plan past v new happens (Turning more told opened given is) outs h out w = is.still h (out opened) ∙ outs.waits h out w
-waits_next plan past v new happens (Closing tasks inside waiting is) outs h out w = let left = is.still h w in outs.waits h (λ o. left.1) left.0
-waits_next plan past v new happens Stopping outs h out w = outs.waits h out w
-waits_next plan past v new happens (Forking n) outs h out w = outs.waits h out w
+    put_apart v.active host h (is_active (status_now (tree_at plan v.play) (is.answers ++ answer_of end notified ∷ []))) (out_apart v.inside host h is.inside (out is.opened)) ∙ outs.awaits_batch h out w
+waits_next plan past v new happens (Reporting false host item ticket r items end notified is so) outs h out w = outs.awaits_batch h out w
+waits_next plan past v new happens (Turning more happenings opened given is) outs h out w = is.still h (out opened) ∙ outs.awaits_batch h out w
+waits_next plan past v new happens (Closing tasks inside waiting is) outs h out w = let left = is.still h w in outs.awaits_batch h (λ o. left.1) left.0
+waits_next plan past v new happens Stopping outs h out w = outs.awaits_batch h out w
+waits_next plan past v new happens (Forking n) outs h out w = outs.awaits_batch h out w
 
 -- ---- who is in the batch
 ended_held : (plan : PlanOf) (v : Seen) (host place h : ℕ) (past : List Happening) (xs ys : List AnswerOf) (end : TaskEnd) (notified : List ℕ) → leads plan v.play xs ≡ Some place
@@ -402,7 +402,7 @@ held_next plan past v new happens (Reporting true host item ticket r items end n
     (λ zs f. quiet_held plan v.play h past (Reports host item ticket.0) zs (λ task. refl) (outs.held o h zs i f)) i e
 held_next plan past v new happens (Reporting false host item ticket r items end notified is so) outs o h xs i e =
     put_held plan v host h (Reports host item ticket.0 ∷ past) is.answers xs is.answered (λ zs f. quiet_held plan v.play h past (Reports host item ticket.0) zs (λ task. refl) (outs.held o h zs i f)) e
-held_next plan past v new happens (Turning more told opened given is) outs o h xs i e =
+held_next plan past v new happens (Turning more happenings opened given is) outs o h xs i e =
     let same : 0 + h ≡ h = omega arith in
     subst (λ (k : ℕ). Held plan v.play k (so_far past happens) xs) same
     (led_held plan v.play 0 v.inside v.walked happens is.walked is.led past (answers_of past v.walked outs.answered)
@@ -442,7 +442,7 @@ stands_next plan past v new happens (Starting false host place items end notifie
 stands_next plan past v new happens (Sending host item attempt ticket r is) outs o h xs i e act = outs.stands o h xs i e act
 stands_next plan past v new happens (Reporting true host item ticket r items end notified is so) outs o h xs i e act = ended_stands plan v host h past is.answers xs (answer_of end notified) outs o i e act
 stands_next plan past v new happens (Reporting false host item ticket r items end notified is so) outs o h xs i e act = put_stands plan v host h past is.answers xs outs o i is.answered e act
-stands_next plan past v new happens (Turning more told opened given is) outs o h xs i e act = elim (is.shows h xs i act e) [ inl w ↦ outs.stands o h xs i w.0 w.1 | inr w ↦ inr w ]
+stands_next plan past v new happens (Turning more happenings opened given is) outs o h xs i e act = elim (is.shows h xs i act e) [ inl w ↦ outs.stands o h xs i w.0 w.1 | inr w ↦ inr w ]
 stands_next plan past v new happens (Closing tasks inside waiting is) outs o h xs i e act = absurd (let shut : false ≡ true = o in cc)
 stands_next plan past v new happens Stopping outs o h xs i e act = outs.stands o h xs i e act
 stands_next plan past v new happens (Forking n) outs o h xs i e act = outs.stands o h xs i e act
@@ -459,7 +459,7 @@ none_starts_out plan past v new happens (Starting false host place items end not
 none_starts_out plan past v new happens (Sending host item attempt ticket r is) outs = refl
 none_starts_out plan past v new happens (Reporting true host item ticket r items end notified is so) outs = refl
 none_starts_out plan past v new happens (Reporting false host item ticket r items end notified is so) outs = refl
-none_starts_out plan past v new happens (Turning more told opened given is) outs = given_holds (out_is_out plan) (λ before task how. refl) past happens given
+none_starts_out plan past v new happens (Turning more happenings opened given is) outs = given_holds (out_is_out plan) (λ before task how. refl) past happens given
 none_starts_out plan past v new happens (Closing tasks inside waiting is) outs = refl
 none_starts_out plan past v new happens Stopping outs = refl
 none_starts_out plan past v new happens (Forking n) outs = refl
@@ -478,7 +478,7 @@ outs_stay_out =
           record {
             answered = λ h xs e. first_fresh 0 (length plan.inventory.hosts) h xs e;
             clear = λ h out act task same. refl;
-            waits = λ h out w. first_waits 0 (length plan.inventory.hosts) h w;
+            awaits_batch = λ h out w. first_waits 0 (length plan.inventory.hosts) h w;
             held = λ o. absurd (let shut : false ≡ true = o in cc);
             stands = λ o. absurd (let shut : false ≡ true = o in cc);
           };
@@ -487,7 +487,7 @@ outs_stay_out =
           record {
             answered = answered_next plan past v new happens tells outs.answered;
             clear = clear_next plan past v new happens tells outs;
-            waits = waits_next plan past v new happens tells outs;
+            awaits_batch = waits_next plan past v new happens tells outs;
             held = held_next plan past v new happens tells outs;
             stands = stands_next plan past v new happens tells outs;
           };

@@ -13,26 +13,26 @@ use Rattle.pb_outcome.specs.declared.job.Call.{Call}
 use Rattle.pb_outcome.specs.Items.{next_item, is_over}
 use Rattle.pb_planes.specs.Set.{is_in as is_member}
 use Rattle.pb_plan.specs.Plan.{PlayOf, PlanOf, throttles_of}
-use Rattle.pb_sight.specs.declared.gifts.Gift.{Gift}
+use Rattle.pb_task_vars.specs.declared.gifts.DelegatedFacts.{DelegatedFacts}
 use Rattle.pb_strategies.specs.Hosts.{runs_in}
 use Rattle.pb_strategies.specs.MayStart.{is_linear}
 use Rattle.pb_tree.specs.Answer.{AnswerOf}
 use Rattle.pb_tree.specs.declared.answer.Kind.{Kind}
 use Rattle.pb_tree.specs.Tree.{TreeOf}
 use Rattle.pb_tree.specs.Walk.{reach, status_now}
-use Rattle.pb_one_host.specs.declared.decided.TaskEnd.{TaskEnd}
-use Rattle.pb_one_host.specs.declared.row.Running.{Running}
-use Rattle.pb_all_hosts.specs.Batches.{has_later}
-use Rattle.pb_one_host.specs.Attempts.{back_in, attempt_after, attempt_next}
-use Rattle.pb_one_host.specs.Ends.{answer_of, plain_answer}
-use Rattle.pb_one_host.specs.Runs.{is_running}
-use Rattle.pb_all_hosts.specs.Hosts.{change, at_row, lesser, least_place}
-use Rattle.pb_all_hosts.specs.Giving.{given_to}
+use Rattle.pb_host.specs.declared.step_result.TaskEnd.{TaskEnd}
+use Rattle.pb_host.specs.declared.host.Running.{Running}
+use Rattle.pb_hosts.specs.Batches.{has_batch_left}
+use Rattle.pb_host.specs.Attempts.{back_in, attempt_after, attempt_next}
+use Rattle.pb_host.specs.Ends.{answer_of, plain_answer}
+use Rattle.pb_host.specs.Runs.{is_running}
+use Rattle.pb_hosts.specs.Hosts.{change, at_row, lesser, least_place}
+use Rattle.pb_hosts.specs.Giving.{with_delegated}
 use Rattle.pb_state.specs.Machine.{first_by, open_play, play_behind}
-use Rattle.pb_one_host.specs.Row.{HostRow, no_tree, place_of, next_place, is_active, sent_running}
+use Rattle.pb_host.specs.Host.{HostOf, no_tree, place_of, next_place, is_active, sent_running}
 use Rattle.pb_state.specs.State.{State}
-use Rattle.pb_one_host.specs.Standing.{standing}
-use Rattle.pb_all_hosts.proofs.Giving.{change_on, given_map, map_same}
+use Rattle.pb_host.specs.Standing.{standing}
+use Rattle.pb_hosts.proofs.Giving.{change_on, given_map, map_same}
 use Rattle.pb_state.proofs.Walks.{AllIn}
 use Rattle.pb_laws.specs.History.{HostTask, Happening, MayRun, Opens, Starts, Sends, Reports, Ends, Given, Closes, Stops, batch_in}
 use Rattle.pb_laws.specs.Laws.{selects, tree_at, is_linear_play, attempts_at}
@@ -55,17 +55,17 @@ pub record Seen : Type 0 where
   pub walked : List (List AnswerOf)
   pub place : Option ℕ
 
-abbrev pub tasks_of : List HostRow → List (Option Running)
-tasks_of rows = map (λ (row : HostRow). row.running) rows
+abbrev pub tasks_of : List HostOf → List (Option Running)
+tasks_of rows = map (λ (row : HostOf). row.running) rows
 
-abbrev pub waiting_of : List HostRow → List Bool
-waiting_of rows = map (λ (row : HostRow). row.waits) rows
+abbrev pub waiting_of : List HostOf → List Bool
+waiting_of rows = map (λ (row : HostOf). row.awaits_batch) rows
 
-abbrev pub active_of : List HostRow → List Bool
-active_of rows = map (λ (row : HostRow). is_active row.status) rows
+abbrev pub active_of : List HostOf → List Bool
+active_of rows = map (λ (row : HostOf). is_active row.status) rows
 
-abbrev pub walked_of : List HostRow → List (List AnswerOf)
-walked_of rows = map (λ (row : HostRow). row.answers) rows
+abbrev pub walked_of : List HostOf → List (List AnswerOf)
+walked_of rows = map (λ (row : HostOf). row.answers) rows
 
 -- where answers lead a host in the tree of a play
 abbrev pub leads : PlanOf → ℕ → List AnswerOf → Option ℕ
@@ -76,7 +76,7 @@ seen s =
     record {
       play = s.play;
       is_open = s.is_open;
-      has_more = has_later s.later;
+      has_more = has_batch_left s.sizes_left;
       forks = s.forks;
       sends = s.sends;
       stopped = s.stopped;
@@ -214,10 +214,10 @@ pub record IsReporting (plan : PlanOf) (v : Seen) (host item : ℕ) (ticket : Ti
   pub answered : slice_get v.walked host ≡ Some answers
   pub at : leads plan v.play answers ≡ Some r.place
 
-pub record IsTurning (plan : PlanOf) (v : Seen) (told : List Happening) : Type 0 where
+pub record IsTurning (plan : PlanOf) (v : Seen) (happenings : List Happening) : Type 0 where
   pub walked : List (List AnswerOf)
-  pub led : AreLed plan v.play 0 v.walked told walked
-  pub only : AreInside v.inside told
+  pub led : AreLed plan v.play 0 v.walked happenings walked
+  pub only : AreInside v.inside happenings
   pub active : List Bool
   pub still : (h : ℕ) → is_member v.inside h ≡ false → is_member active h ≡ is_member v.active h
   pub shows : (h : ℕ) (xs : List AnswerOf) → is_member v.inside h ≡ true → is_member active h ≡ true → slice_get walked h ≡ Some xs
@@ -249,7 +249,7 @@ pub data Tells (plan : PlanOf) (v : Seen) : List Happening → Seen → Type 0 w
   Reporting : (over : Bool) (host item : ℕ) (ticket : Ticket) (r : Running) (items : List Item) (end : TaskEnd) (notified : List ℕ) → (is : IsReporting plan v host item ticket r) → HasComeBack (attempts_at plan v.play r.place) r.items over items
       → Tells plan v (Reports host item ticket.0 ∷ ended_so over (task_on v host r.place) end notified)
       (record v { tasks = put v.tasks host (left_so over r.place items); active = active_so over v.active host (tree_at plan v.play) is.answers (answer_of end notified); walked = put v.walked host (answered_so over is.answers (answer_of end notified)) })
-  Turning : (more : Bool) (told : List Happening) → v.is_open ≡ true → AreGiven told → (is : IsTurning plan v told) → Tells plan v told (record v { has_more = more; active = is.active; walked = is.walked; place = is.place })
+  Turning : (more : Bool) (happenings : List Happening) → v.is_open ≡ true → AreGiven happenings → (is : IsTurning plan v happenings) → Tells plan v happenings (record v { has_more = more; active = is.active; walked = is.walked; place = is.place })
   Closing : (tasks : List (Option Running)) (inside waiting : List Bool) → (is : IsClosing plan v tasks inside waiting)
       → Tells plan v (Closes v.play ∷ [])
       (record { play = play_behind v.has_more v.play; is_open = false; has_more = v.has_more; forks = v.forks; sends = v.sends; stopped = v.stopped; tasks = tasks; inside = inside; waiting = waiting; active = v.active; walked = is.walked; place = v.place })
@@ -257,15 +257,15 @@ pub data Tells (plan : PlanOf) (v : Seen) : List Happening → Seen → Type 0 w
   Forking : (n : ℕ) → Tells plan v (MayRun n ∷ []) (record v { forks = n })
 
 -- ---- rows as lists
-pub get_map : {A : Type 0} (of : HostRow → A) (rows : List HostRow) (h : ℕ) → slice_get (map of rows) h ≡ option_map of (slice_get rows h)
+pub get_map : {A : Type 0} (of : HostOf → A) (rows : List HostOf) (h : ℕ) → slice_get (map of rows) h ≡ option_map of (slice_get rows h)
 get_map of [] h = refl
 get_map of (row ∷ rows) zero = refl
 get_map of (row ∷ rows) (suc h) = get_map of rows h
 
-pub put_change : {A : Type 0} (of : HostRow → A) (f : HostRow → HostRow) (rows : List HostRow) (h : ℕ) (row : HostRow) → slice_get rows h ≡ Some row
+pub put_change : {A : Type 0} (of : HostOf → A) (f : HostOf → HostOf) (rows : List HostOf) (h : ℕ) (row : HostOf) → slice_get rows h ≡ Some row
     → map of (change rows h f) ≡ put (map of rows) h (of (f row))
 put_change of f [] h row e = cc
-put_change of f (first ∷ rows) zero row e = let same : first ≡ row = cc in ap (λ (r : HostRow). of (f r) ∷ map of rows) same
+put_change of f (first ∷ rows) zero row e = let same : first ≡ row = cc in ap (λ (r : HostOf). of (f r) ∷ map of rows) same
 put_change of f (first ∷ rows) (suc h) row e = rw (change_on first rows h f) (ap (λ rest. of first ∷ rest) (put_change of f rows h row e))
 
 pub put_same : {A : Type 0} (xs : List A) (h : ℕ) (x : A) → slice_get xs h ≡ Some x → put xs h x ≡ xs
@@ -273,43 +273,43 @@ put_same [] h x e = cc
 put_same {A = A} (y ∷ ys) zero x e = let same : y ≡ x = cc in ap (λ (z : A). z ∷ ys) (sym same)
 put_same {A = A} (y ∷ ys) (suc h) x e = ap (λ (rest : List A). y ∷ rest) (put_same ys h x e)
 
-pub map_kept : {A : Type 0} (of : HostRow → A) (f : HostRow → HostRow) → ((row : HostRow) → of (f row) ≡ of row) → (rows : List HostRow) → map of (map f rows) ≡ map of rows
+pub map_kept : {A : Type 0} (of : HostOf → A) (f : HostOf → HostOf) → ((row : HostOf) → of (f row) ≡ of row) → (rows : List HostOf) → map of (map f rows) ≡ map of rows
 map_kept of f same [] = refl
 map_kept of f same (row ∷ rows) = rw (same row, map_kept of f same rows) refl
 
-pub runs_places : (rows : List HostRow) → runs_in (map standing rows) ≡ places (tasks_of rows)
+pub runs_places : (rows : List HostOf) → runs_in (map standing rows) ≡ places (tasks_of rows)
 runs_places [] = refl
 runs_places (row ∷ rows) = ap (λ (rest : List (Option ℕ)). option_map (λ (r : Running). r.place) row.running ∷ rest) (runs_places rows)
 
-pub any_tasks : (rows : List HostRow) → list_any is_some (tasks_of rows) ≡ list_any is_running rows
+pub any_tasks : (rows : List HostOf) → list_any is_some (tasks_of rows) ≡ list_any is_running rows
 any_tasks [] = refl
 any_tasks (row ∷ rows) = ap (λ (b : Bool). is_some row.running || b) (any_tasks rows)
 
-pub member_in : (rows : List HostRow) (h : ℕ) (row : HostRow) → slice_get rows h ≡ Some row → row.in_batch ≡ true → is_member (batch_in rows) h ≡ true
+pub member_in : (rows : List HostOf) (h : ℕ) (row : HostOf) → slice_get rows h ≡ Some row → row.in_batch ≡ true → is_member (batch_in rows) h ≡ true
 member_in [] h row e i = cc
 member_in (first ∷ rows) zero row e i = let same : first ≡ row = cc in rw same i
 member_in (first ∷ rows) (suc h) row e i = member_in rows h row e i
 
-pub row_at : (test : HostRow → Bool) (rows : List HostRow) (h : ℕ) → at_row test rows h ≡ true → (row : HostRow) × (slice_get rows h ≡ Some row) × (test row ≡ true)
+pub row_at : (test : HostOf → Bool) (rows : List HostOf) (h : ℕ) → at_row test rows h ≡ true → (row : HostOf) × (slice_get rows h ≡ Some row) × (test row ≡ true)
 row_at test rows h e = by_found (slice_get rows h) refl e
   where
-    by_found : (found : Option HostRow) → slice_get rows h ≡ found → option_map_or test found false ≡ true → (row : HostRow) × (slice_get rows h ≡ Some row) × (test row ≡ true)
+    by_found : (found : Option HostOf) → slice_get rows h ≡ found → option_map_or test found false ≡ true → (row : HostOf) × (slice_get rows h ≡ Some row) × (test row ≡ true)
     by_found None f t = cc
     by_found (Some row) f t = (row, f, t)
 
 -- one row changed, and then what is given to other hosts
-pub changed_seen : (s : State) (gifts : List Gift) (h : ℕ) (f : HostRow → HostRow) (row : HostRow) (task : Option Running) (active : List Bool) (walked : List (List AnswerOf)) → slice_get s.rows h ≡ Some row → (f row).running ≡ task
-    → active_of (change s.rows h f) ≡ active → walked_of (change s.rows h f) ≡ walked → ((r : HostRow) → (f r).in_batch ≡ r.in_batch) → ((r : HostRow) → (f r).waits ≡ r.waits)
-    → seen (record s { rows = given_to gifts (change s.rows h f) }) ≡ record (seen s) { tasks = put (tasks_of s.rows) h task; active = active; walked = walked }
-changed_seen s gifts h f row task active walked there runs acts walks inside waits =
-    let tasks : tasks_of (given_to gifts (change s.rows h f)) ≡ put (tasks_of s.rows) h task =
-    given_map (λ (r : HostRow). r.running) (λ gift r. refl) gifts (change s.rows h f) ∙ put_change (λ (r : HostRow). r.running) f s.rows h row there ∙ ap (put (tasks_of s.rows) h) runs in
-    let batch : batch_in (given_to gifts (change s.rows h f)) ≡ batch_in s.rows =
-    given_map (λ (r : HostRow). r.in_batch) (λ gift r. refl) gifts (change s.rows h f) ∙ map_same (λ (r : HostRow). r.in_batch) f inside s.rows h in
-    let waiting : waiting_of (given_to gifts (change s.rows h f)) ≡ waiting_of s.rows =
-    given_map (λ (r : HostRow). r.waits) (λ gift r. refl) gifts (change s.rows h f) ∙ map_same (λ (r : HostRow). r.waits) f waits s.rows h in
-    let acted : active_of (given_to gifts (change s.rows h f)) ≡ active = given_map (λ (r : HostRow). is_active r.status) (λ gift r. refl) gifts (change s.rows h f) ∙ acts in
-    let went : walked_of (given_to gifts (change s.rows h f)) ≡ walked = given_map (λ (r : HostRow). r.answers) (λ gift r. refl) gifts (change s.rows h f) ∙ walks in
+pub changed_seen : (s : State) (gifts : List DelegatedFacts) (h : ℕ) (f : HostOf → HostOf) (row : HostOf) (task : Option Running) (active : List Bool) (walked : List (List AnswerOf)) → slice_get s.rows h ≡ Some row → (f row).running ≡ task
+    → active_of (change s.rows h f) ≡ active → walked_of (change s.rows h f) ≡ walked → ((r : HostOf) → (f r).in_batch ≡ r.in_batch) → ((r : HostOf) → (f r).awaits_batch ≡ r.awaits_batch)
+    → seen (record s { rows = with_delegated gifts (change s.rows h f) }) ≡ record (seen s) { tasks = put (tasks_of s.rows) h task; active = active; walked = walked }
+changed_seen s gifts h f row task active walked there runs acts walks inside awaits_batch =
+    let tasks : tasks_of (with_delegated gifts (change s.rows h f)) ≡ put (tasks_of s.rows) h task =
+    given_map (λ (r : HostOf). r.running) (λ gift r. refl) gifts (change s.rows h f) ∙ put_change (λ (r : HostOf). r.running) f s.rows h row there ∙ ap (put (tasks_of s.rows) h) runs in
+    let batch : batch_in (with_delegated gifts (change s.rows h f)) ≡ batch_in s.rows =
+    given_map (λ (r : HostOf). r.in_batch) (λ gift r. refl) gifts (change s.rows h f) ∙ map_same (λ (r : HostOf). r.in_batch) f inside s.rows h in
+    let waiting : waiting_of (with_delegated gifts (change s.rows h f)) ≡ waiting_of s.rows =
+    given_map (λ (r : HostOf). r.awaits_batch) (λ gift r. refl) gifts (change s.rows h f) ∙ map_same (λ (r : HostOf). r.awaits_batch) f awaits_batch s.rows h in
+    let acted : active_of (with_delegated gifts (change s.rows h f)) ≡ active = given_map (λ (r : HostOf). is_active r.status) (λ gift r. refl) gifts (change s.rows h f) ∙ acts in
+    let went : walked_of (with_delegated gifts (change s.rows h f)) ≡ walked = given_map (λ (r : HostOf). r.answers) (λ gift r. refl) gifts (change s.rows h f) ∙ walks in
     rw (tasks, batch, waiting, acted, went) refl
 
 -- ---- the play that is open
@@ -321,16 +321,16 @@ play_there plan s play o = by_open s.is_open o
     by_open false e = cc
 
 -- the tree of a host of the batch is that of the open play
-pub in_tree : (tree : TreeOf) (rows : List HostRow) (h : ℕ) (row : HostRow) → AllIn tree rows → slice_get rows h ≡ Some row → row.in_batch ≡ true → row.tree ≡ tree
+pub in_tree : (tree : TreeOf) (rows : List HostOf) (h : ℕ) (row : HostOf) → AllIn tree rows → slice_get rows h ≡ Some row → row.in_batch ≡ true → row.tree ≡ tree
 in_tree tree [] h row all e i = cc
-in_tree tree (first ∷ rows) zero row all e i = let same : first ≡ row = cc in subst (λ (r : HostRow). r.in_batch ≡ true → r.tree ≡ tree) same all.0 i
+in_tree tree (first ∷ rows) zero row all e i = let same : first ≡ row = cc in subst (λ (r : HostOf). r.in_batch ≡ true → r.tree ≡ tree) same all.0 i
 in_tree tree (first ∷ rows) (suc h) row all e i = in_tree tree rows h row all.1 e i
 
 pub tree_there : (plan : PlanOf) (n : ℕ) (play : PlayOf) → slice_get plan.plays n ≡ Some play → tree_at plan n ≡ play.tree
 tree_there plan n play e = ap (λ (found : Option PlayOf). option_map_or (λ (p : PlayOf). p.tree) found no_tree) e
 
 -- where its answers lead a host of the batch, and where it is next
-pub next_leads : (plan : PlanOf) (n : ℕ) (play : PlayOf) (rows : List HostRow) (h : ℕ) (row : HostRow) → slice_get plan.plays n ≡ Some play → AllIn play.tree rows → slice_get rows h ≡ Some row → row.in_batch ≡ true
+pub next_leads : (plan : PlanOf) (n : ℕ) (play : PlayOf) (rows : List HostOf) (h : ℕ) (row : HostOf) → slice_get plan.plays n ≡ Some play → AllIn play.tree rows → slice_get rows h ≡ Some row → row.in_batch ≡ true
     → next_place row ≡ leads plan n row.answers
 next_leads plan n play rows h row there all e i =
     by_inside row.in_batch i ∙ ap (λ (tree : TreeOf). place_of (reach tree row.answers)) (in_tree play.tree rows h row all e i ∙ sym (tree_there plan n play there))
@@ -339,21 +339,21 @@ next_leads plan n play rows h row there all e i =
     by_inside true f = refl
     by_inside false f = cc
 
-pub answers_there : (rows : List HostRow) (h : ℕ) (row : HostRow) → slice_get rows h ≡ Some row → slice_get (walked_of rows) h ≡ Some row.answers
-answers_there rows h row e = get_map (λ (r : HostRow). r.answers) rows h ∙ ap (option_map (λ (r : HostRow). r.answers)) e
+pub answers_there : (rows : List HostOf) (h : ℕ) (row : HostOf) → slice_get rows h ≡ Some row → slice_get (walked_of rows) h ≡ Some row.answers
+answers_there rows h row e = get_map (λ (r : HostOf). r.answers) rows h ∙ ap (option_map (λ (r : HostOf). r.answers)) e
 
 -- whose answers these are
-pub row_of : (rows : List HostRow) (h : ℕ) (xs : List AnswerOf) → slice_get (walked_of rows) h ≡ Some xs → (row : HostRow) × (slice_get rows h ≡ Some row) × (row.answers ≡ xs)
+pub row_of : (rows : List HostOf) (h : ℕ) (xs : List AnswerOf) → slice_get (walked_of rows) h ≡ Some xs → (row : HostOf) × (slice_get rows h ≡ Some row) × (row.answers ≡ xs)
 row_of [] h xs e = cc
 row_of (row ∷ rows) zero xs e = (row, refl, let same : row.answers ≡ xs = cc in same)
 row_of (row ∷ rows) (suc h) xs e = row_of rows h xs e
 
-pub row_inside : (rows : List HostRow) (h : ℕ) (row : HostRow) → slice_get rows h ≡ Some row → is_member (batch_in rows) h ≡ true → row.in_batch ≡ true
+pub row_inside : (rows : List HostOf) (h : ℕ) (row : HostOf) → slice_get rows h ≡ Some row → is_member (batch_in rows) h ≡ true → row.in_batch ≡ true
 row_inside [] h row e i = cc
 row_inside (first ∷ rows) zero row e i = let same : first ≡ row = cc in rw (← same) i
 row_inside (first ∷ rows) (suc h) row e i = row_inside rows h row e i
 
-pub all_known : (rows : List HostRow) → AreKnown (batch_in rows) (walked_of rows)
+pub all_known : (rows : List HostOf) → AreKnown (batch_in rows) (walked_of rows)
 all_known [] h i = cc
 all_known (row ∷ rows) zero i = (row.answers, refl)
 all_known (row ∷ rows) (suc h) i = all_known rows h i
@@ -369,7 +369,7 @@ lesser_right a None p q e below some = cc
 lesser_right None (Some b) p q e below some = let one : b ≡ p = cc in let least = below b refl in omega (arith, one, least)
 lesser_right (Some a) (Some b) p q e below some = let one : min a b ≡ p = cc in let least = below b refl in omega (arith, one, least)
 
-pub least_some : (rows : List HostRow) (h : ℕ) (row : HostRow) (q : ℕ) → slice_get rows h ≡ Some row → next_place row ≡ Some q → is_some (least_place rows) ≡ true
+pub least_some : (rows : List HostOf) (h : ℕ) (row : HostOf) (q : ℕ) → slice_get rows h ≡ Some row → next_place row ≡ Some q → is_some (least_place rows) ≡ true
 least_some [] h row q e n = cc
 least_some (first ∷ rows) zero row q e n = by_next (next_place first) (let same : first ≡ row = cc in ap next_place same ∙ n) (least_place rows)
   where
@@ -384,13 +384,13 @@ least_some (first ∷ rows) (suc h) row q e n = by_rest (next_place first) (leas
     by_rest (Some a) None f = cc
     by_rest (Some a) (Some b) f = refl
 
-least_most : (rows : List HostRow) (h : ℕ) (row : HostRow) (p q : ℕ) → slice_get rows h ≡ Some row → next_place row ≡ Some q → least_place rows ≡ Some p → p ≤ q
+least_most : (rows : List HostOf) (h : ℕ) (row : HostOf) (p q : ℕ) → slice_get rows h ≡ Some row → next_place row ≡ Some q → least_place rows ≡ Some p → p ≤ q
 least_most [] h row p q e n l = cc
 least_most (first ∷ rows) zero row p q e n l = lesser_left (next_place first) (least_place rows) p q l (let same : first ≡ row = cc in ap next_place same ∙ n)
 least_most (first ∷ rows) (suc h) row p q e n l = lesser_right (next_place first) (least_place rows) p q l (λ r f. least_most rows h row r q e n f) (least_some rows h row q e n)
 
 -- so no host of the batch is before it
-pub rows_behind : (plan : PlanOf) (n : ℕ) (play : PlayOf) (rows : List HostRow) (place : Option ℕ) → slice_get plan.plays n ≡ Some play → AllIn play.tree rows → place ≡ first_by play.strategy rows
+pub rows_behind : (plan : PlanOf) (n : ℕ) (play : PlayOf) (rows : List HostOf) (place : Option ℕ) → slice_get plan.plays n ≡ Some play → AllIn play.tree rows → place ≡ first_by play.strategy rows
     → AreBehind plan n (batch_in rows) (walked_of rows) place
 rows_behind plan n play rows place there all is = λ linear h xs p q inside walked to at.
     let found = row_of rows h xs walked in

@@ -9,10 +9,10 @@ use Rattle.pb_confluence.specs.Fixed.{Fixed, IsFixedAt, asked_of}
 use Rattle.pb_outcome.specs.declared.job.Job.{Job}
 use Rattle.pb_outcome.specs.declared.job.Report.{Report}
 use Rattle.pb_plan.specs.Plan.{PlanOf}
-use Rattle.pb_one_host.specs.declared.row.Running.{Running}
-use Rattle.pb_one_host.specs.Row.{HostRow}
-use Rattle.pb_one_host.specs.Runs.{is_out, is_running}
-use Rattle.pb_all_hosts.specs.Hosts.{at_row}
+use Rattle.pb_host.specs.declared.host.Running.{Running}
+use Rattle.pb_host.specs.Host.{HostOf}
+use Rattle.pb_host.specs.Runs.{is_out, is_running}
+use Rattle.pb_hosts.specs.Hosts.{at_row}
 use Rattle.pb_state.specs.declared.event.Event.{Event}
 use Rattle.pb_state.specs.declared.event.Event.TheVariants.{Open, Start, Send, Report as Reported, Turn, Close, Stop, Forks}
 use Rattle.pb_state.specs.Jobs.{job_of}
@@ -38,8 +38,8 @@ abbrev Way : PlanOf → Fixed → State → Type 0
 Way plan f s = (more : List Event) × IsWay plan f s more
 
 -- ---- a job that is out comes back with what is fixed for it
-record IsOutAt (rows : List HostRow) (h : ℕ) : Type 0 where
-  row : HostRow
+record IsOutAt (rows : List HostOf) (h : ℕ) : Type 0 where
+  row : HostOf
   task : Running
   ticket : Ticket
   there : slice_get rows h ≡ Some row
@@ -54,10 +54,10 @@ row_out (Some r) e = ticket r.out refl e
     ticket None o e = cc
     ticket (Some t) o e = (r, t, refl, o)
 
-one_further : (row : HostRow) (rows : List HostRow) (h : ℕ) → IsOutAt rows h → IsOutAt (row ∷ rows) (suc h)
+one_further : (row : HostOf) (rows : List HostOf) (h : ℕ) → IsOutAt rows h → IsOutAt (row ∷ rows) (suc h)
 one_further row rows h at = record { row = at.row; task = at.task; ticket = at.ticket; there = at.there; runs = at.runs; out = at.out }
 
-some_out : (rows : List HostRow) → list_any is_out rows ≡ true → (h : ℕ) × IsOutAt rows h
+some_out : (rows : List HostOf) → list_any is_out rows ≡ true → (h : ℕ) × IsOutAt rows h
 some_out [] e = cc
 some_out (row ∷ rows) e = by_row (is_out row) refl e (some_out rows)
   where
@@ -65,7 +65,7 @@ some_out (row ∷ rows) e = by_row (is_out row) refl e (some_out rows)
     by_row true is e rest = let at = row_out row.running is in (0, record { row = row; task = at.0; ticket = at.1; there = refl; runs = at.2; out = at.3 })
     by_row false is e rest = let there = rest e in (suc there.0, one_further row rows there.0 there.1)
 
-runs_there : (rows : List HostRow) (h : ℕ) (row : HostRow) (r : Running) → slice_get rows h ≡ Some row → row.running ≡ Some r → at_row is_running rows h ≡ true
+runs_there : (rows : List HostOf) (h : ℕ) (row : HostOf) (r : Running) → slice_get rows h ≡ Some row → row.running ≡ Some r → at_row is_running rows h ≡ true
 runs_there rows h row r there is = rw (there, is) refl
 
 some_job : (found : Option Job) → is_some found ≡ true → (x : Job) × (found ≡ Some x)

@@ -7,10 +7,10 @@ use Rattle.std.proofs.lemmas.Bool.{eq-eqb}
 use Rattle.std.proofs.lemmas.List.Sums.{sum_by-cons}
 use Rattle.pb_limits.specs.Counts.{runs_at, has_room_for, running as count_running, running_at as count_running_at}
 use Rattle.pb_plan.specs.Plan.{PlayOf, PlanOf, throttles_of}
-use Rattle.pb_one_host.specs.declared.row.Running.{Running}
-use Rattle.pb_all_hosts.specs.Hosts.{one_if}
+use Rattle.pb_host.specs.declared.host.Running.{Running}
+use Rattle.pb_hosts.specs.Hosts.{one_if}
 use Rattle.pb_state.specs.Machine.{first_state}
-use Rattle.pb_one_host.specs.Row.{first_rows}
+use Rattle.pb_host.specs.Host.{first_rows}
 use Rattle.pb_state.proofs.Stands.{both}
 use Rattle.pb_laws.specs.History.{HostTask, Happening, Starts}
 use Rattle.pb_laws.specs.Laws.{Always, holds_from, so_far, may_run, running, any_task, task_at, throttle_at, within_forks}
@@ -76,7 +76,7 @@ module _ (kind : HostTask → Bool) (of : ℕ → Option ℕ → Bool) (same : (
       omega (arith, c, tally_put (of v.play) v.tasks host (Some r) None is.there, ap one_if (none v.play), ap one_if (same (task_on v host r.place)))
   counted plan past v new happens (Reporting false host item ticket r items end notified is so) idle c =
       omega (arith, c, tally_put (of v.play) v.tasks host (Some r) (Some (record { place = r.place; items = items; out = None })) is.there)
-  counted plan past v new happens (Turning more told opened given is) idle c = given_same (running kind) (λ before task how. refl) past happens given ∙ c
+  counted plan past v new happens (Turning more happenings opened given is) idle c = given_same (running kind) (λ before task how. refl) past happens given ∙ c
   counted plan past v new happens (Closing tasks inside waiting is) idle c =
       c ∙ tally_none (of v.play) (none v.play) v.tasks is.before ∙ sym (tally_none (of new.play) (none new.play) tasks is.idle)
   counted plan past v new happens Stopping idle c = c
@@ -103,7 +103,7 @@ forks_next plan past v new happens (Starting false host place items end notified
 forks_next plan past v new happens (Sending host item attempt ticket r is) e = e
 forks_next plan past v new happens (Reporting true host item ticket r items end notified is so) e = e
 forks_next plan past v new happens (Reporting false host item ticket r items end notified is so) e = e
-forks_next plan past v new happens (Turning more told opened given is) e = given_same may_run (λ before task how. refl) past happens given ∙ e
+forks_next plan past v new happens (Turning more happenings opened given is) e = given_same may_run (λ before task how. refl) past happens given ∙ e
 forks_next plan past v new happens (Closing tasks inside waiting is) e = e
 forks_next plan past v new happens Stopping e = e
 forks_next plan past v new happens (Forking n) e = refl
@@ -120,7 +120,7 @@ idle_next plan v new happens (Opening n more tasks inside waiting is) idle s = c
 idle_next plan v new happens (Starting over host place items end notified is so) idle s = absurd (opened_shut v is.opened s)
 idle_next plan v new happens (Sending host item attempt ticket r is) idle s = absurd (opened_shut v is.opened s)
 idle_next plan v new happens (Reporting over host item ticket r items end notified is so) idle s = absurd (opened_shut v is.opened s)
-idle_next plan v new happens (Turning more told opened given is) idle s = absurd (opened_shut v opened s)
+idle_next plan v new happens (Turning more happenings opened given is) idle s = absurd (opened_shut v opened s)
 idle_next plan v new happens (Closing tasks inside waiting is) idle s = is.idle
 idle_next plan v new happens Stopping idle s = idle s
 idle_next plan v new happens (Forking n) idle s = idle s
@@ -150,7 +150,7 @@ forks_hold plan past v new happens (Starting false host place items end notified
 forks_hold plan past v new happens (Sending host item attempt ticket r is) c = refl
 forks_hold plan past v new happens (Reporting true host item ticket r items end notified is so) c = refl
 forks_hold plan past v new happens (Reporting false host item ticket r items end notified is so) c = refl
-forks_hold plan past v new happens (Turning more told opened given is) c = given_holds (within_forks plan) (λ before task how. refl) past happens given
+forks_hold plan past v new happens (Turning more happenings opened given is) c = given_holds (within_forks plan) (λ before task how. refl) past happens given
 forks_hold plan past v new happens (Closing tasks inside waiting is) c = refl
 forks_hold plan past v new happens Stopping c = refl
 forks_hold plan past v new happens (Forking n) c = refl

@@ -7,15 +7,15 @@ use Rattle.pb_tree.specs.Answer.{AnswerOf}
 use Rattle.pb_tree.specs.Tree.{TreeOf}
 use Rattle.pb_tree.specs.Walk.{reach}
 use Rattle.pb_tree.specs.declared.answer.Kind.{Kind}
-use Rattle.pb_one_host.specs.declared.decided.Decided.{Decided}
-use Rattle.pb_one_host.specs.declared.decided.Done.{Done}
-use Rattle.pb_one_host.specs.declared.decided.TaskEnd.{TaskEnd}
+use Rattle.pb_host.specs.declared.step_result.StepResult.{StepResult}
+use Rattle.pb_host.specs.declared.step_result.TaskDone.{TaskDone}
+use Rattle.pb_host.specs.declared.step_result.TaskEnd.{TaskEnd}
 use Rattle.pb_state.specs.declared.event.Event.{Event}
 use Rattle.pb_state.specs.declared.event.Event.TheVariants.{Open, Start, Send, Report as Reported, Turn, Close, Stop, Forks}
-use Rattle.pb_one_host.specs.Handlers.{notified_by}
+use Rattle.pb_host.specs.Handlers.{notified_by}
 use Rattle.pb_state.specs.Machine.{after, first_state, next_at, open_play}
 use Rattle.pb_state.specs.Once.{place_run_by}
-use Rattle.pb_one_host.specs.Row.{HostRow, place_of}
+use Rattle.pb_host.specs.Host.{HostOf, place_of}
 use Rattle.pb_state.specs.State.{State}
 
 -- the task at a place of a play, on a host; plays and hosts have their numbers, and a place is its position in the play's tree
@@ -51,8 +51,8 @@ at_place play host None tells = []
 at_place play host (Some place) tells = tells (record { play = play; host = host; place = place })
 
 -- how a step ended the task that it was about, if it did
-abbrev pub ended_in : Option Decided → Option TaskEnd
-ended_in decided = option_map_or (λ (d : Decided). option_map (λ (done : Done). done.task) d.done) decided None
+abbrev pub ended_in : Option StepResult → Option TaskEnd
+ended_in step_result = option_map_or (λ (d : StepResult). option_map (λ (done : TaskDone). done.task) d.done) step_result None
 
 abbrev pub notified_in : Option PlayOf → ℕ → TaskEnd → List ℕ
 notified_in play place end = option_map_or (λ (p : PlayOf). notified_by p place end) play []
@@ -67,31 +67,31 @@ given_beyond play host tree had [] = []
 given_beyond play host tree had (answer ∷ more) =
     at_place play host (place_of (reach tree had)) (λ task. Given task answer.kind ∷ []) ++ given_beyond play host tree (had ++ answer ∷ []) more
 
-abbrev pub given_in : ℕ → ℕ → List HostRow → List HostRow → List Happening
+abbrev pub given_in : ℕ → ℕ → List HostOf → List HostOf → List Happening
 given_in play host [] news = []
 given_in play host (old ∷ olds) [] = []
 given_in play host (old ∷ olds) (new ∷ news) =
     given_beyond play host old.tree old.answers (drop (length old.answers) new.answers) ++ given_in play (host + 1) olds news
 
 -- the hosts of the batch
-abbrev pub batch_in : List HostRow → List Bool
-batch_in rows = map (λ (row : HostRow). row.in_batch) rows
+abbrev pub batch_in : List HostOf → List Bool
+batch_in rows = map (λ (row : HostOf). row.in_batch) rows
 
 -- what an event tells, by the state before it and the one after it
-abbrev pub told : PlanOf → State → Event → State → List Happening
-told plan s Open new = Opens new.play (batch_in new.rows) ∷ []
-told plan s (Start h) new = at_place s.play h.0 (next_at s h.0) (λ task. Starts task ∷ ends_if (open_play plan s) (ended_in new.decided) task)
-told plan s (Send h item attempt ticket) new = at_place s.play h.0 (place_run_by s h) (λ task. Sends task item attempt ticket.0 ∷ [])
-told plan s (Reported r) new =
-    Reports r.host.0 r.item r.ticket.0 ∷ at_place s.play r.host.0 (place_run_by s r.host) (λ task. ends_if (open_play plan s) (ended_in new.decided) task)
-told plan s Turn new = given_in s.play 0 s.rows new.rows
-told plan s Close new = Closes s.play ∷ []
-told plan s Stop new = Stops ∷ []
-told plan s (Forks n) new = MayRun n ∷ []
+abbrev pub happenings : PlanOf → State → Event → State → List Happening
+happenings plan s Open new = Opens new.play (batch_in new.rows) ∷ []
+happenings plan s (Start h) new = at_place s.play h.0 (next_at s h.0) (λ task. Starts task ∷ ends_if (open_play plan s) (ended_in new.step_result) task)
+happenings plan s (Send h item attempt ticket) new = at_place s.play h.0 (place_run_by s h) (λ task. Sends task item attempt ticket.0 ∷ [])
+happenings plan s (Reported r) new =
+    Reports r.host.0 r.item r.ticket.0 ∷ at_place s.play r.host.0 (place_run_by s r.host) (λ task. ends_if (open_play plan s) (ended_in new.step_result) task)
+happenings plan s Turn new = given_in s.play 0 s.rows new.rows
+happenings plan s Close new = Closes s.play ∷ []
+happenings plan s Stop new = Stops ∷ []
+happenings plan s (Forks n) new = MayRun n ∷ []
 
 abbrev pub history_from : PlanOf → State → List Event → List Happening
 history_from plan s [] = []
-history_from plan s (e ∷ es) = told plan s e (after plan s e) ++ history_from plan (after plan s e) es
+history_from plan s (e ∷ es) = happenings plan s e (after plan s e) ++ history_from plan (after plan s e) es
 
 -- a run begins with so many forks
 abbrev pub history : PlanOf → ℕ → ℕ → List Event → List Happening

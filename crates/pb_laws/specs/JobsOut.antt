@@ -6,8 +6,8 @@ use Rattle.pb_ids.specs.declared.numbers.Ticket.{Ticket}
 use Rattle.pb_outcome.specs.declared.job.Job.{Job}
 use Rattle.pb_outcome.specs.declared.job.Report.{Report}
 use Rattle.pb_plan.specs.Plan.{PlanOf}
-use Rattle.pb_one_host.specs.declared.row.Running.{Running}
-use Rattle.pb_one_host.specs.Row.{HostRow}
+use Rattle.pb_host.specs.declared.host.Running.{Running}
+use Rattle.pb_host.specs.Host.{HostOf}
 use Rattle.pb_state.specs.declared.event.Event.{Event}
 use Rattle.pb_state.specs.declared.event.Event.TheVariants.{Open, Start, Send, Report as Reported, Turn, Close, Stop, Forks}
 use Rattle.pb_state.specs.Jobs.{job_of}
@@ -17,7 +17,7 @@ use Rattle.pb_state.specs.State.{State}
 
 -- what each host runs
 abbrev pub tasks : State → List (Option Running)
-tasks s = map (λ (row : HostRow). row.running) s.rows
+tasks s = map (λ (row : HostOf). row.running) s.rows
 
 -- how many hosts run a task
 abbrev pub one_run : Option Running → ℕ

@@ -16,12 +16,12 @@ use Rattle.pb_tree.specs.declared.answer.Kind.{Kind}
 use Rattle.pb_tree.specs.declared.answer.Kind.TheVariants.{Good, Bad, Halted, Gone, Ended}
 use Rattle.pb_tree.specs.Tree.{Nodes, Nothing, Task, Block, Flush, TreeOf, size}
 use Rattle.pb_tree.specs.Walk.{reach, is_halted, ends_in_flush, front}
-use Rattle.pb_one_host.specs.declared.decided.TaskEnd.{TaskEnd}
+use Rattle.pb_host.specs.declared.step_result.TaskEnd.{TaskEnd}
 use Rattle.pb_state.specs.declared.event.Event.{Event}
-use Rattle.pb_one_host.specs.declared.row.Counts.{Counts}
-use Rattle.pb_all_hosts.specs.Hosts.{one_if}
-use Rattle.pb_one_host.specs.Ends.{answer_of, kind_of, plain_answer}
-use Rattle.pb_one_host.specs.Row.{place_of, no_tree}
+use Rattle.pb_host.specs.declared.host.Counts.{Counts}
+use Rattle.pb_hosts.specs.Hosts.{one_if}
+use Rattle.pb_host.specs.Ends.{answer_of, kind_of, plain_answer}
+use Rattle.pb_host.specs.Host.{place_of, no_tree}
 use Rattle.pb_state.specs.Run.{IsLegal, IsLegalUnder, state_after_under, IsFinished}
 use Rattle.pb_recap.specs.Kinds.{Failed, Unreachable, has, status_of}
 use Rattle.pb_recap.specs.Recap.{recap}

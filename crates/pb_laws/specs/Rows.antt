@@ -6,12 +6,12 @@ use Rattle.pb_plan.specs.Plan.{PlanOf, PlayOf, bare_play, bare_plan, bare_tree}
 use Rattle.pb_recap.specs.Recap.{recap}
 use Rattle.pb_state.specs.BatchRows.{start, send, went}
 use Rattle.pb_state.specs.BlockRows.{runs, refuses, says, last}
-use Rattle.pb_one_host.specs.FactRows.{on_facts}
-use Rattle.pb_one_host.specs.declared.decided.TaskEnd.{TaskEnd}
+use Rattle.pb_host.specs.FactRows.{on_facts}
+use Rattle.pb_host.specs.declared.step_result.TaskEnd.{TaskEnd}
 use Rattle.pb_state.specs.declared.event.Event.{Event}
 use Rattle.pb_state.specs.declared.event.Event.TheVariants.{Open, Send, Report as Reported, Turn, Close, Stop, Forks}
 use Rattle.pb_state.specs.Run.{IsLegal}
-use Rattle.pb_one_host.specs.declared.row.Counts.{Counts}
+use Rattle.pb_host.specs.declared.host.Counts.{Counts}
 use Rattle.pb_tree.specs.declared.answer.Kind.TheVariants.{Halted}
 use Rattle.pb_tree.specs.Tree.{Nothing, Task, Block, Flush}
 use Rattle.pb_laws.specs.History.{HostTask, Happening, MayRun, Opens, Starts, Sends, Reports, Ends, Given, Closes, Stops, history}

@@ -5,7 +5,7 @@ use Rattle.pb_ids.specs.declared.numbers.HostNo.{HostNo}
 use Rattle.pb_ids.specs.declared.numbers.Ticket.{Ticket}
 use Rattle.pb_confluence.specs.Fixed.{Fixed, IsFixed}
 use Rattle.pb_plan.specs.Plan.{PlanOf}
-use Rattle.pb_one_host.specs.Row.{HostRow, next_place, place_of}
+use Rattle.pb_host.specs.Host.{HostOf, next_place, place_of}
 use Rattle.pb_state.specs.declared.event.Event.{Event}
 use Rattle.pb_state.specs.declared.event.Event.TheVariants.{Start, Send}
 use Rattle.pb_state.specs.Machine.{possible, ready}
@@ -20,9 +20,9 @@ abbrev pub MayAct : PlanOf → State → HostNo → Type 0
 MayAct plan s h = (possible plan s (Start h) ≡ true) ⊎ ((item : ℕ) × (attempt : ℕ) × (ticket : Ticket) × (possible plan s (Send h item attempt ticket) ≡ true))
 
 -- what the status of a host says
-pub record IsStatused (row : HostRow) : Type 0 where
+pub record IsStatused (row : HostOf) : Type 0 where
   -- in a batch a host is what its answers make it: active, failed, halted, or out of reach
-  pub told : row.in_batch ≡ true → row.status ≡ status_now row.tree row.answers
+  pub walked : row.in_batch ≡ true → row.status ≡ status_now row.tree row.answers
   -- one that stands at a place is active, unless its play forces handlers and it would be at its end without them
   pub standing : (place : ℕ) → next_place row ≡ Some place → (row.status ≡ Active) ⊎ ((row.tree.force_handlers ≡ true) × (place_of (reach (unforced row.tree) row.answers) ≡ None))
 

@@ -7,10 +7,10 @@ use Rattle.pb_play.specs.declared.task.Task.{Task}
 use Rattle.pb_items.specs.Items.{StartOf, items_of, attempted_by}
 use Rattle.pb_reach.specs.Apart.{SameBut}
 use Rattle.pb_reach.specs.Named.{in_trees}
-use Rattle.pb_reach.specs.Reach.{told_names, told_reaches, task_mentions, delegate_mentions, own_texts_mention, layers_mention, start_from, with_magic}
+use Rattle.pb_reach.specs.Reach.{result_names, result_reaches, task_mentions, delegate_mentions, own_texts_mention, layers_mention, start_from, with_magic}
 use Rattle.pb_reach.proofs.OwnItems.{items_same}
 use Rattle.pb_reach.proofs.Tests.{neither, joined}
-use Rattle.pb_reach.proofs.Told.{told_same}
+use Rattle.pb_reach.proofs.SameAttempts.{attempts_same}
 
 pub items_alone : (word : List ℕ) → 0 < length word → (task : Task) (conditions : List Tree) (delegate_to : Option (List ℕ)) → own_texts_mention word task conditions delegate_to ≡ false → (layers : List Map) →
     layers_mention word layers ≡ false → (program : Bool) (magic other : Map) → SameBut word magic other →
@@ -28,9 +28,9 @@ not_both : (a b : Bool) → b ≡ false → (a && b) ≡ false
 not_both true b e = e
 not_both false b e = refl
 
-pub told_alone : (word : List ℕ) → 0 < length word → (start : StartOf) → told_names word start.task ≡ false → layers_mention word start.layers ≡ false → (other variable : Map) (attempt : ℕ) (result : ItemResult) →
+pub told_alone : (word : List ℕ) → 0 < length word → (start : StartOf) → result_names word start.task ≡ false → layers_mention word start.layers ≡ false → (other variable : Map) (attempt : ℕ) (result : ItemResult) →
     SameBut word start.magic other → attempted_by start.task.retrying start variable attempt result ≡ attempted_by start.task.retrying (with_magic start other) variable attempt result
 told_alone word lt start own none other variable attempt result same =
-    told_same word lt start
-    (joined (told_names word start.task) (told_reaches start.layers start.task && layers_mention word start.layers) own (not_both (told_reaches start.layers start.task) (layers_mention word start.layers) none))
+    attempts_same word lt start
+    (joined (result_names word start.task) (result_reaches start.layers start.task && layers_mention word start.layers) own (not_both (result_reaches start.layers start.task) (layers_mention word start.layers) none))
     other variable attempt result same

@@ -8,6 +8,6 @@ pub mod Stored
 pub mod OwnItems
 pub mod Still
 pub mod Unreached
-pub mod Told
+pub mod SameAttempts
 pub mod Alone
 pub mod Appended

@@ -8,9 +8,9 @@ use Rattle.pb_expr_syntax.specs.Tree.{Tree, trees_of}
 use Rattle.pb_layers.specs.Scope.{Map}
 use Rattle.pb_expr_eval.specs.Scoped.{rendered_of}
 use Rattle.pb_operators.specs.declared.fault.EvalFault.{EvalFault}
-use Rattle.pb_conditions.specs.Attempts.{counted, is_enough, told_enough, came_by, came, attempted}
+use Rattle.pb_conditions.specs.Attempts.{counted, is_enough, by_until, came_by, came, attempted}
 use Rattle.pb_conditions.specs.Conditions.{holds}
-use Rattle.pb_conditions.specs.Settled.{Sees, sees, seen_as, tell, told_changed, told_failed, told_by, or_faulty, settled_by, settled}
+use Rattle.pb_conditions.specs.ResultConditions.{Sees, sees, seen_as, by_condition, changed_to, failed_to, by_conditions, or_faulty, with_conditions_by, with_conditions}
 use Rattle.pb_conditions.specs.declared.attempt.Back.TheVariants.{Ends}
 use Rattle.pb_outcome.specs.declared.gather.Ending.{Ending}
 use Rattle.pb_outcome.specs.declared.gather.Ending.TheVariants.{Skipped, Faulty, Unreachable, NotStarted, Ran}
@@ -28,15 +28,15 @@ use Rattle.pb_play.specs.declared.task.Task.{Task}
 use Rattle.pb_items.specs.Calls.{words_in, command_in}
 use Rattle.pb_items.specs.Facts.{facts_of}
 use Rattle.pb_items.specs.Faults.{evaluated}
-use Rattle.pb_items.specs.Items.{StartOf, Step, seen_by, delegate_in, attempted_by, settled_step, step_of, step_if, step_in, item_of, item_in, looped_items, items_by, items_of}
+use Rattle.pb_items.specs.Items.{StartOf, Step, seen_by, delegate_in, attempted_by, with_conditions_step, step_of, step_if, step_in, item_of, item_in, looped_items, items_by, items_of}
 use Rattle.pb_items.specs.Loops.{loop_variable, values_of}
 use Rattle.pb_items.specs.Planning.{done_by}
 use Rattle.pb_items.specs.declared.fault.ItemFault.{ItemFault}
 use Rattle.pb_reach.specs.Apart.{SameBut, AreApart}
 use Rattle.pb_mentions.specs.Mentions.{mentions, items_mention, members_mention}
 use Rattle.pb_reach.specs.Named.{in_tree, in_trees}
-use Rattle.pb_reach.specs.Reach.{words_mention, module_mentions, loop_mentions, conditions_name, told_names, task_mentions, delegate_mentions, layers_mention, may_read, start_from, with_magic, start_reads}
-use Rattle.pb_reach.specs.Told.{until_of}
+use Rattle.pb_reach.specs.Reach.{words_mention, module_mentions, loop_mentions, conditions_name, result_names, task_mentions, delegate_mentions, layers_mention, may_read, start_from, with_magic, start_reads}
+use Rattle.pb_reach.specs.ResultConditions.{until_of}
 use Rattle.pb_reach.proofs.Alike.{then_alike, eval_alike, rendered_apart}
 use Rattle.pb_reach.proofs.Stored.{scopes_apart}
 use Rattle.pb_reach.proofs.Tests.{neither, none_of}
@@ -98,24 +98,24 @@ abbrev pub HoldAlike : Sees → Sees → Option (List Tree) → Type 0
 HoldAlike sight other None = ⊤
 HoldAlike sight other (Some cs) = (seen : Map) → holds (sight seen) cs ≡ holds (other seen) cs
 
-tell_alike : (sight other : Sees) (told : ItemResult → Bool → ItemResult) (register : Option (List ℕ)) (conditions : Option (List Tree)) → HoldAlike sight other conditions → (result : ItemResult) →
-    tell told sight register conditions result ≡ tell told other register conditions result
-tell_alike sight other told register None alike result = refl
-tell_alike sight other told register (Some cs) alike result = ap (λ (r : Result Bool EvalFault). map_ok (told result) r) (alike (seen_as register result.result))
+by_condition_alike : (sight other : Sees) (told : ItemResult → Bool → ItemResult) (register : Option (List ℕ)) (conditions : Option (List Tree)) → HoldAlike sight other conditions → (result : ItemResult) →
+    by_condition told sight register conditions result ≡ by_condition told other register conditions result
+by_condition_alike sight other told register None alike result = refl
+by_condition_alike sight other told register (Some cs) alike result = ap (λ (r : Result Bool EvalFault). map_ok (told result) r) (alike (seen_as register result.result))
 
-told_alike : (sight other : Sees) (register : Option (List ℕ)) (changed failed : Option (List Tree)) → HoldAlike sight other changed → HoldAlike sight other failed → (result : ItemResult) →
-    told_by sight register changed failed result ≡ told_by other register changed failed result
-told_alike sight other register changed failed c f result =
-    ap (λ (r : Result ItemResult EvalFault). and_then r (tell told_failed sight register failed)) (tell_alike sight other told_changed register changed c result)
-    ∙ then_alike (tell told_changed other register changed result) (tell told_failed sight register failed) (tell told_failed other register failed)
-    (tell_alike sight other told_failed register failed f)
+attempts_alike : (sight other : Sees) (register : Option (List ℕ)) (changed failed : Option (List Tree)) → HoldAlike sight other changed → HoldAlike sight other failed → (result : ItemResult) →
+    by_conditions sight register changed failed result ≡ by_conditions other register changed failed result
+attempts_alike sight other register changed failed c f result =
+    ap (λ (r : Result ItemResult EvalFault). and_then r (by_condition failed_to sight register failed)) (by_condition_alike sight other changed_to register changed c result)
+    ∙ then_alike (by_condition changed_to other register changed result) (by_condition failed_to sight register failed) (by_condition failed_to other register failed)
+    (by_condition_alike sight other failed_to register failed f)
 
-pub settled_alike : (sight other : Sees) (register : Option (List ℕ)) (changed failed : Option (List Tree)) → HoldAlike sight other changed → HoldAlike sight other failed → (result : ItemResult) →
-    settled sight register changed failed result ≡ settled other register changed failed result
-settled_alike sight other register changed failed c f result = by_ending result.ending
+pub with_conditions_alike : (sight other : Sees) (register : Option (List ℕ)) (changed failed : Option (List Tree)) → HoldAlike sight other changed → HoldAlike sight other failed → (result : ItemResult) →
+    with_conditions sight register changed failed result ≡ with_conditions other register changed failed result
+with_conditions_alike sight other register changed failed c f result = by_ending result.ending
   where
-    by_ending : (ending : Ending) → settled_by ending sight register changed failed result ≡ settled_by ending other register changed failed result
-    by_ending (Ran changes fails) = ap or_faulty (told_alike sight other register changed failed c f result)
+    by_ending : (ending : Ending) → with_conditions_by ending sight register changed failed result ≡ with_conditions_by ending other register changed failed result
+    by_ending (Ran changes fails) = ap or_faulty (attempts_alike sight other register changed failed c f result)
     by_ending Skipped = refl
     by_ending Faulty = refl
     by_ending Unreachable = refl
@@ -127,10 +127,10 @@ alike_own : (word : List ℕ) (sight other : Sees) → ((seen : Map) → AreApar
 alike_own word sight other apart None e = tt
 alike_own word sight other apart (Some cs) e = λ seen. holds_own word (sight seen) (other seen) (apart seen) cs e
 
-pub settled_own : (word : List ℕ) (sight other : Sees) → ((seen : Map) → AreApart word (sight seen) (other seen)) → (register : Option (List ℕ)) (changed failed : Option (List Tree)) →
-    conditions_name word changed ≡ false → conditions_name word failed ≡ false → (result : ItemResult) → settled sight register changed failed result ≡ settled other register changed failed result
-settled_own word sight other apart register changed failed e f result =
-    settled_alike sight other register changed failed (alike_own word sight other apart changed e) (alike_own word sight other apart failed f) result
+pub with_conditions_own : (word : List ℕ) (sight other : Sees) → ((seen : Map) → AreApart word (sight seen) (other seen)) → (register : Option (List ℕ)) (changed failed : Option (List Tree)) →
+    conditions_name word changed ≡ false → conditions_name word failed ≡ false → (result : ItemResult) → with_conditions sight register changed failed result ≡ with_conditions other register changed failed result
+with_conditions_own word sight other apart register changed failed e f result =
+    with_conditions_alike sight other register changed failed (alike_own word sight other apart changed e) (alike_own word sight other apart failed f) result
 
 -- what an attempt comes to, where it is tried again by conditions that hold alike too
 enough_alike : (sight other : Sees) (register : Option (List ℕ)) (until : Option (List Tree)) → HoldAlike sight other until → (result : ItemResult) →
@@ -143,7 +143,7 @@ came_alike : (sight other : Sees) (register : Option (List ℕ)) (until : Option
 came_alike sight other register until u is_last result = by_ending result.ending
   where
     by_ending : (ending : Ending) → came_by ending sight register until is_last result ≡ came_by ending other register until is_last result
-    by_ending (Ran changes fails) = ap (λ (r : Result Bool EvalFault). told_enough r is_last result) (enough_alike sight other register until u result)
+    by_ending (Ran changes fails) = ap (λ (r : Result Bool EvalFault). by_until r is_last result) (enough_alike sight other register until u result)
     by_ending Skipped = refl
     by_ending Faulty = refl
     by_ending Unreachable = refl
@@ -152,8 +152,8 @@ came_alike sight other register until u is_last result = by_ending result.ending
 attempted_alike : (sight other : Sees) (register : Option (List ℕ)) (changed failed until : Option (List Tree)) → HoldAlike sight other changed → HoldAlike sight other failed → HoldAlike sight other until →
     (attempt : ℕ) (is_last : Bool) (result : ItemResult) → attempted sight register changed failed until attempt is_last result ≡ attempted other register changed failed until attempt is_last result
 attempted_alike sight other register changed failed until c f u attempt is_last result =
-    came_alike sight other register until u is_last (settled sight register changed failed (counted attempt result))
-    ∙ ap (came other register until is_last) (settled_alike sight other register changed failed c f (counted attempt result))
+    came_alike sight other register until u is_last (with_conditions sight register changed failed (counted attempt result))
+    ∙ ap (came other register until is_last) (with_conditions_alike sight other register changed failed c f (counted attempt result))
 
 pub tried_alike : (retrying : Option Retrying) (start : StartOf) (magic variable : Map) → HoldAlike (sees start.layers start.magic variable) (sees start.layers magic variable) start.task.changed_when →
     HoldAlike (sees start.layers start.magic variable) (sees start.layers magic variable) start.task.failed_when →
@@ -161,7 +161,7 @@ pub tried_alike : (retrying : Option Retrying) (start : StartOf) (magic variable
     attempted_by retrying start variable attempt result ≡ attempted_by retrying (with_magic start magic) variable attempt result
 tried_alike None start magic variable c f u attempt result =
     ap Ends
-    (settled_alike (sees start.layers start.magic variable) (sees start.layers magic variable) start.task.register start.task.changed_when start.task.failed_when c f result)
+    (with_conditions_alike (sees start.layers start.magic variable) (sees start.layers magic variable) start.task.register start.task.changed_when start.task.failed_when c f result)
 tried_alike (Some retrying) start magic variable c f u attempt result =
     attempted_alike (sees start.layers start.magic variable) (sees start.layers magic variable) start.task.register start.task.changed_when start.task.failed_when retrying.until c f u attempt
     (nat_lt retrying.retries attempt) result
@@ -191,7 +191,7 @@ unread word start e =
     let all = neither (task_mentions word start.task || in_trees word (trees_of start.conditions)) (delegate_mentions word start.delegate_to || layers_mention word start.layers) e in
     let front = neither (task_mentions word start.task) (in_trees word (trees_of start.conditions)) all.0 in
     let behind = neither (delegate_mentions word start.delegate_to) (layers_mention word start.layers) all.1 in
-    let own = neither (module_mentions word start.task.module || loop_mentions word start.task.looped) (told_names word start.task) front.0 in
+    let own = neither (module_mentions word start.task.module || loop_mentions word start.task.looped) (result_names word start.task) front.0 in
     let done = neither (module_mentions word start.task.module) (loop_mentions word start.task.looped) own.0 in
     let told = none_of (conditions_name word start.task.changed_when) (conditions_name word start.task.failed_when) (conditions_name word (until_of start.task.retrying)) own.1 in
     record {
@@ -209,13 +209,13 @@ apart_seen : (word : List ℕ) → bytes_eq [] word ≡ false → (start : Start
     AreApart word (sees start.layers start.magic variable seen) (sees start.layers magic variable seen)
 apart_seen word some start magic variable seen own same = scopes_apart word some start.layers start.magic magic variable seen own.layers same
 
-settled_step_own : (word : List ℕ) → bytes_eq [] word ≡ false → (start : StartOf) (magic variable : Map) → Unread word start → SameBut word start.magic magic → (step : Planned) →
-    settled_step start variable step ≡ settled_step (with_magic start magic) variable step
-settled_step_own word some start magic variable own same (Decided result) =
+with_conditions_step_own : (word : List ℕ) → bytes_eq [] word ≡ false → (start : StartOf) (magic variable : Map) → Unread word start → SameBut word start.magic magic → (step : Planned) →
+    with_conditions_step start variable step ≡ with_conditions_step (with_magic start magic) variable step
+with_conditions_step_own word some start magic variable own same (Decided result) =
     ap Decided
-    (settled_own word (sees start.layers start.magic variable) (sees start.layers magic variable) (λ seen. apart_seen word some start magic variable seen own same) start.task.register
+    (with_conditions_own word (sees start.layers start.magic variable) (sees start.layers magic variable) (λ seen. apart_seen word some start magic variable seen own same) start.task.register
     start.task.changed_when start.task.failed_when own.changed own.failed result)
-settled_step_own word some start magic variable own same (Sends call) = refl
+with_conditions_step_own word some start magic variable own same (Sends call) = refl
 
 -- what an item does, with its delegate
 abbrev delegated : Planned → Option (List ℕ) → Step
@@ -226,16 +226,16 @@ step_of_own : (word : List ℕ) → bytes_eq [] word ≡ false → (start : Star
 step_of_own word some start magic variable own same =
     let apart = apart_seen word some start magic variable [] own same in
     ap
-    (λ (r : Result Planned ItemFault). and_then r (λ done. map_ok (delegated (settled_step start variable done)) (delegate_in (seen_by start variable) start.delegate_to)))
+    (λ (r : Result Planned ItemFault). and_then r (λ done. map_ok (delegated (with_conditions_step start variable done)) (delegate_in (seen_by start variable) start.delegate_to)))
     (done_own word some start.has_facts_program (seen_by start variable) (seen_by (with_magic start magic) variable) apart start.task.module own.called)
     ∙ then_alike (done_by start.has_facts_program (seen_by (with_magic start magic) variable) start.task.module)
-    (λ done. map_ok (delegated (settled_step start variable done)) (delegate_in (seen_by start variable) start.delegate_to))
-    (λ done. map_ok (delegated (settled_step (with_magic start magic) variable done)) (delegate_in (seen_by (with_magic start magic) variable) start.delegate_to))
+    (λ done. map_ok (delegated (with_conditions_step start variable done)) (delegate_in (seen_by start variable) start.delegate_to))
+    (λ done. map_ok (delegated (with_conditions_step (with_magic start magic) variable done)) (delegate_in (seen_by (with_magic start magic) variable) start.delegate_to))
     (λ done.
-    ap (λ (r : Result (Option (List ℕ)) ItemFault). map_ok (delegated (settled_step start variable done)) r)
+    ap (λ (r : Result (Option (List ℕ)) ItemFault). map_ok (delegated (with_conditions_step start variable done)) r)
     (delegate_own word some (seen_by start variable) (seen_by (with_magic start magic) variable) apart start.delegate_to own.delegate)
     ∙ ap (λ (s : Planned). map_ok (delegated s) (delegate_in (seen_by (with_magic start magic) variable) start.delegate_to))
-    (settled_step_own word some start magic variable own same done))
+    (with_conditions_step_own word some start magic variable own same done))
 
 step_if_own : (word : List ℕ) → bytes_eq [] word ≡ false → (start : StartOf) (magic variable : Map) → Unread word start → SameBut word start.magic magic → (b : Bool) →
     step_if start variable b ≡ step_if (with_magic start magic) variable b

@@ -13,7 +13,7 @@ use Rattle.pb_expr_eval.specs.Value.{Names, value, values, each}
 use Rattle.pb_expr_eval.specs.Rendering.{measured, rendered}
 use Rattle.pb_expr_eval.specs.Scoped.{read_as, names_in, max_look_ups, eval_of}
 use Rattle.pb_conditions.specs.Conditions.{holds}
-use Rattle.pb_conditions.specs.Settled.{seen_in, sees}
+use Rattle.pb_conditions.specs.ResultConditions.{seen_in, sees}
 use Rattle.pb_reach.specs.Apart.{SameBut}
 use Rattle.pb_reach.specs.Named.{in_tree, in_trees}
 use Rattle.pb_mentions.specs.Mentions.{mentions}

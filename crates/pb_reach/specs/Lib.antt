@@ -1,6 +1,6 @@
 pub mod Named
 pub mod Apart
-pub mod Told
+pub mod ResultConditions
 pub mod Reached
 pub mod Reach
 pub mod Rows

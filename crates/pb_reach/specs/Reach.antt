@@ -16,7 +16,7 @@ use Rattle.pb_items.specs.Items.{StartOf}
 use Rattle.pb_reach.specs.Named.{in_tree, in_trees}
 use Rattle.pb_mentions.specs.Mentions.{has_inside, mentions, items_mention, members_mention}
 use Rattle.pb_reach.specs.Reached.{some_name_in, layers_lead}
-use Rattle.pb_reach.specs.Told.{until_of}
+use Rattle.pb_reach.specs.ResultConditions.{until_of}
 
 abbrev pub words_mention : List ℕ → CommandWords → Bool
 words_mention word (Line line) = has_inside word line
@@ -40,12 +40,12 @@ abbrev pub conditions_name : List ℕ → Option (List Tree) → Bool
 conditions_name word conditions = option_map_or (λ (cs : List Tree). in_trees word (trees_of cs)) conditions false
 
 -- the conditions by which a task says of a result whether it changed something, whether it failed, and whether the task is tried again
-abbrev pub told_names : List ℕ → Task → Bool
-told_names word task = conditions_name word task.changed_when || conditions_name word task.failed_when || conditions_name word (until_of task.retrying)
+abbrev pub result_names : List ℕ → Task → Bool
+result_names word task = conditions_name word task.changed_when || conditions_name word task.failed_when || conditions_name word (until_of task.retrying)
 
 -- a task itself; its variables are a layer, and its conditions are among those of its place
 abbrev pub task_mentions : List ℕ → Task → Bool
-task_mentions word task = module_mentions word task.module || loop_mentions word task.looped || told_names word task
+task_mentions word task = module_mentions word task.module || loop_mentions word task.looped || result_names word task
 
 abbrev pub delegate_mentions : List ℕ → Option (List ℕ) → Bool
 delegate_mentions word to = option_map_or (has_inside word) to false
@@ -71,13 +71,13 @@ may_read word task conditions delegate_to layers =
 abbrev pub conditions_reach : List Map → Option (List Tree) → Bool
 conditions_reach layers conditions = option_map_or (λ (cs : List Tree). some_name_in (layers_lead layers) (trees_of cs)) conditions false
 
-abbrev pub told_reaches : List Map → Task → Bool
-told_reaches layers task = conditions_reach layers task.changed_when || conditions_reach layers task.failed_when || conditions_reach layers (until_of task.retrying)
+abbrev pub result_reaches : List Map → Task → Bool
+result_reaches layers task = conditions_reach layers task.changed_when || conditions_reach layers task.failed_when || conditions_reach layers (until_of task.retrying)
 
 -- Of a result neither the module nor the loop is read, nor the variables where these conditions reach no template among them: so nothing at all where
 -- the task has none of the conditions.
 abbrev pub may_read_of_result : List ℕ → Task → List Map → Bool
-may_read_of_result word task layers = told_names word task || (told_reaches layers task && layers_mention word layers)
+may_read_of_result word task layers = result_names word task || (result_reaches layers task && layers_mention word layers)
 
 -- one of some maps
 abbrev pub each_mentions : List ℕ → List Map → Bool

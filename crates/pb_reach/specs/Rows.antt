@@ -8,7 +8,7 @@ use Rattle.pb_play.specs.declared.task.Task.{Task}
 use Rattle.pb_play.specs.Tasks.{plain_task}
 use Rattle.pb_reach.specs.Named.{in_tree}
 use Rattle.pb_reach.specs.Reach.{own_texts_mention, may_read, may_read_of_result}
-use Rattle.pb_reach.specs.Told.{tells}
+use Rattle.pb_reach.specs.ResultConditions.{has_result_conditions}
 
 -- `x.hostvars` and `'hostvars'` don't name it
 named : in_tree (codes "hostvars") (Member (Name (codes "hostvars")) (codes "a")) ≡ true
@@ -91,11 +91,11 @@ by_a_list_of_templates = refl
 says_nothing : may_read_of_result (codes "x") shows_x (layers [] [] [] [] ((codes "y", text (codes "{{ x }}")) ∷ []) [] [] [] [] [] []) ≡ false
 says_nothing = refl
 
-is_silent : tells shows_x ≡ false
+is_silent : has_result_conditions shows_x ≡ false
 is_silent = refl
 
 -- retries alone number the results, and read nothing
-retries_tell : tells (tried_by None) ≡ true
+retries_tell : has_result_conditions (tried_by None) ≡ true
 retries_tell = refl
 
 retries_read_nothing : may_read_of_result (codes "x") (tried_by None) (layers [] [] [] [] ((codes "y", text (codes "{{ x }}")) ∷ []) [] [] [] [] [] []) ≡ false

@@ -7,8 +7,8 @@ ghost use Rattle.pb_layers.specs.Scope.{Map};
 ghost use Rattle.pb_outcome.specs.declared.gather.ItemResult.{ItemResult};
 ghost use Rattle.pb_items.specs.Items.{StartOf, attempted_item, items_of};
 ghost use Rattle.pb_reach.specs.Apart.{SameBut};
-ghost use Rattle.pb_reach.specs.Reach.{words_mention, module_mentions, loop_mentions, conditions_name, told_names, conditions_reach, told_reaches, task_mentions, delegate_mentions, own_texts_mention, each_mentions, layers_mention, may_read, may_read_of_result, start_from, with_magic};
-ghost use Rattle.pb_reach.specs.Told.{tells, until_of, LeavesResults};
+ghost use Rattle.pb_reach.specs.Reach.{words_mention, module_mentions, loop_mentions, conditions_name, result_names, conditions_reach, result_reaches, task_mentions, delegate_mentions, own_texts_mention, each_mentions, layers_mention, may_read, may_read_of_result, start_from, with_magic};
+ghost use Rattle.pb_reach.specs.ResultConditions.{has_result_conditions, until_of, LeavesResults};
 
 use crate::exprs::{has_name, some_names, some_reach};
 use crate::merged::merged_mention;
@@ -85,8 +85,8 @@ fn until_names(word: &str, retrying: &Option<Retrying>) -> bool
     }
 }
 
-fn told_names(word: &str, task: &Task) -> bool
-    ensures { result ≡ told_names word.now task.now }
+fn result_names(word: &str, task: &Task) -> bool
+    ensures { result ≡ result_names word.now task.now }
 {
     conditions_name(word, &task.changed_when)
         || conditions_name(word, &task.failed_when)
@@ -111,8 +111,8 @@ fn until_reaches(layers: &Layers, retrying: &Option<Retrying>) -> bool
     }
 }
 
-fn told_reaches(layers: &Layers, task: &Task) -> bool
-    ensures { result ≡ told_reaches layers.now task.now }
+fn result_reaches(layers: &Layers, task: &Task) -> bool
+    ensures { result ≡ result_reaches layers.now task.now }
 {
     conditions_reach(layers, &task.changed_when)
         || conditions_reach(layers, &task.failed_when)
@@ -124,7 +124,7 @@ fn task_mentions(word: &str, task: &Task) -> bool
 {
     module_mentions(word, &task.module)
         || loop_mentions(word, &task.looped)
-        || told_names(word, task)
+        || result_names(word, task)
 }
 
 fn delegate_mentions(word: &str, delegate_to: Option<&Text>) -> bool
@@ -238,8 +238,8 @@ fn own_texts_mention(
 
 /// Whether a task says itself of a result whether it changed something, whether it failed, or whether the task is tried again. See Ansible's
 /// documentation, "Error handling in playbooks" and "Retrying a task until a condition is met".
-pub fn tells(task: &Task) -> bool
-    ensures value { result ≡ tells task.now }
+pub fn has_result_conditions(task: &Task) -> bool
+    ensures value { result ≡ has_result_conditions task.now }
 
     // A task that says nothing leaves each result as it came back, whatever it sees.
     ensures silent { result ≡ false → LeavesResults task.now }
@@ -248,7 +248,7 @@ pub fn tells(task: &Task) -> bool
 }
 
 fn has_any(task: &Task) -> bool
-    ensures { result ≡ tells task.now }
+    ensures { result ≡ has_result_conditions task.now }
 {
     task.changed_when.is_some() || task.failed_when.is_some() || task.retrying.is_some()
 }
@@ -272,18 +272,18 @@ pub fn may_read_of_result(word: &str, task: &Task, layers: &Layers) -> bool
 fn reads_of_result(word: &str, task: &Task, layers: &Layers) -> bool
     ensures { result ≡ may_read_of_result word.now task.now layers.now }
 {
-    told_names(word, task) || (told_reaches(layers, task) && layers_mention(word, layers))
+    result_names(word, task) || (result_reaches(layers, task) && layers_mention(word, layers))
 }
 
 /// The same where the name stands in no template among the variables that the task sees: these aren't searched.
 pub fn may_read_of_result_by_itself(word: &str, task: &Task) -> bool
     requires { 0 < length word.now }
-    ensures value { result ≡ told_names word.now task.now }
+    ensures value { result ≡ result_names word.now task.now }
 
     // Over variables without the name each attempt then comes to the same whatever stands under it.
     ensures told { result ≡ false → (start : StartOf) (other : Map) (value : Option Datum) (attempt : ℕ) (item : ItemResult) →
         start.task ≡ task.now → layers_mention word.now start.layers ≡ false → SameBut word.now start.magic other →
         attempted_item start value attempt item ≡ attempted_item (with_magic start other) value attempt item }
 {
-    told_names(word, task)
+    result_names(word, task)
 }

@@ -8,9 +8,9 @@ use Rattle.pb_outcome.specs.declared.item.Item.{Item}
 use Rattle.pb_outcome.specs.Gathered.{some_unreachable, is_failed, is_skipped, is_changed, is_faulty, gathered}
 use Rattle.pb_outcome.specs.Items.{ended, task_of}
 use Rattle.pb_play.specs.declared.modules.Meta.{Meta}
-use Rattle.pb_one_host.specs.declared.decided.TaskEnd.{TaskEnd}
-use Rattle.pb_one_host.specs.declared.row.Counts.{Counts}
-use Rattle.pb_one_host.specs.Ends.{more, counted, counted_result, is_okay}
+use Rattle.pb_host.specs.declared.step_result.TaskEnd.{TaskEnd}
+use Rattle.pb_host.specs.declared.host.Counts.{Counts}
+use Rattle.pb_host.specs.Ends.{more, counted, counted_result, is_okay}
 use Rattle.pb_lanes.specs.declared.kind.CountKind.{CountKind}
 use Rattle.pb_lanes.specs.declared.kind.CountKind.TheVariants.{Okay, Changed, Unreachable, Failed, Skipped, Rescued, Ignored}
 use Rattle.pb_recap.specs.Kinds.{count_of}

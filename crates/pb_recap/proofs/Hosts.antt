@@ -2,7 +2,7 @@
 use Rattle.std.proofs.Common.{◌≡◌, ℕ, zero, suc, ◌+◌, List, [], ◌∷◌, ◌++◌, drop, length, refl, sym, ap, ◌∙◌, append_assoc, add-one}
 use Rattle.std.specs.Prelude.{Some, slice_get}
 use Rattle.serde_json.specs.Data.{Members, put}
-use Rattle.pb_one_host.specs.declared.row.Counts.{Counts}
+use Rattle.pb_host.specs.declared.host.Counts.{Counts}
 use Rattle.pb_recap.specs.Hosts.{hosts_with_count, host_if_counted}
 use Rattle.pb_recap.specs.Text.{host_line, host_lines}
 use Rattle.pb_recap.specs.Stats.{with_hosts, counts_data}

@@ -10,8 +10,8 @@ use Rattle.std.proofs.lemmas.Option.{same_Some, slice_get_within, slice_get_past
 use Rattle.pb_lanes.specs.declared.kind.CountKind.{CountKind}
 use Rattle.pb_lanes.specs.declared.kind.CountKind.TheVariants.{Okay, Changed, Unreachable, Failed, Skipped, Rescued, Ignored}
 use Rattle.pb_lanes.specs.ColumnsOf.{ColumnsOf, AreOfHosts, hosts_in, column, no_counts, is_some_count, has_some}
-use Rattle.pb_one_host.specs.declared.row.Counts.{Counts}
-use Rattle.pb_one_host.specs.Row.{none_counted}
+use Rattle.pb_host.specs.declared.host.Counts.{Counts}
+use Rattle.pb_host.specs.Host.{none_counted}
 use Rattle.pb_recap.specs.InColumns.{counts_of, rows_from, rows_of, HasHost, with_counts}
 use Rattle.pb_recap.specs.Kinds.{count_of, has}
 

@@ -11,7 +11,7 @@ use Rattle.serde_json.specs.Written.{outline, members_outline, compact_text}
 use Rattle.serde_json.proofs.Texts.{print-outline}
 use Rattle.pb_ids.specs.declared.numbers.HostNo.{HostNo}
 use Rattle.pb_lanes.specs.ColumnsOf.{ColumnsOf}
-use Rattle.pb_one_host.specs.declared.row.Counts.{Counts}
+use Rattle.pb_host.specs.declared.host.Counts.{Counts}
 use Rattle.pb_recap.specs.InColumns.{counts_of}
 use Rattle.pb_recap.specs.Hosts.{hosts_with_count}
 use Rattle.pb_recap.specs.Named.{line_with, members_of, named_in}

@@ -3,12 +3,12 @@ use Rattle.std.proofs.Common.{◌≡◌, ℕ, zero, suc, ◌+◌, Bool, true, fa
 use Rattle.std.specs.Prelude.{Option, Some, None, slice_get, slice_set}
 use Rattle.std.specs.Option.{option_map_or}
 use Rattle.std.proofs.lemmas.Bool.{eq-eqb, ne_eqb}
-use Rattle.pb_one_host.specs.declared.decided.TaskEnd.{TaskEnd}
+use Rattle.pb_host.specs.declared.step_result.TaskEnd.{TaskEnd}
 use Rattle.pb_state.specs.declared.event.Event.{Event}
-use Rattle.pb_one_host.specs.declared.row.Counts.{Counts}
+use Rattle.pb_host.specs.declared.host.Counts.{Counts}
 use Rattle.pb_plan.specs.Plan.{PlanOf}
-use Rattle.pb_one_host.specs.Ends.{more}
-use Rattle.pb_one_host.specs.Row.{none_counted}
+use Rattle.pb_host.specs.Ends.{more}
+use Rattle.pb_host.specs.Host.{none_counted}
 use Rattle.pb_state.specs.State.{State}
 use Rattle.pb_state.specs.Machine.{after, first_state}
 use Rattle.pb_state.specs.Run.{state_from, IsStep, state_after, IsRun}
@@ -61,9 +61,9 @@ hosts_stay plan s es e h [] none = refl
 hosts_stay plan s es e h (host ∷ hosts) none =
     let here : (kind : CountKind) → counted h kind (finishes plan (state_from plan s es) e) ≡ 0 =
     λ kind. ap (λ n. counted n kind (finishes plan (state_from plan s es) e)) (let at : h ≡ h + 0 = omega arith in at) ∙ none 0 kind in
-    let later : (k : ℕ) (kind : CountKind) → counted ((h + 1) + k) kind (finishes plan (state_from plan s es) e) ≡ 0 =
+    let sizes_left : (k : ℕ) (kind : CountKind) → counted ((h + 1) + k) kind (finishes plan (state_from plan s es) e) ≡ 0 =
     λ k kind. ap (λ n. counted n kind (finishes plan (state_from plan s es) e)) (let at : (h + 1) + k ≡ h + suc k = omega arith in at) ∙ none (suc k) kind in
-    cons_same _ _ _ _ (sym (counts_stay plan s es e h here)) (hosts_stay plan s es e (h + 1) hosts later)
+    cons_same _ _ _ _ (sym (counts_stay plan s es e h here)) (hosts_stay plan s es e (h + 1) hosts sizes_left)
 
 -- where it finishes one of the host
 more_is : (b : Bool) (n : ℕ) → more b n ≡ one b + n
@@ -99,9 +99,9 @@ hosts_rise : (plan : PlanOf) (s : State) (es : List Event) (e : Event) (n h i : 
 hosts_rise plan s es e n h i task [] found at = refl
 hosts_rise plan s es e n h zero task (host ∷ hosts) found at =
     let here : n ≡ h = omega (arith, at) in
-    let later : (k : ℕ) (kind : CountKind) → counted ((h + 1) + k) kind (finishes plan (state_from plan s es) e) ≡ 0 =
+    let sizes_left : (k : ℕ) (kind : CountKind) → counted ((h + 1) + k) kind (finishes plan (state_from plan s es) e) ≡ 0 =
     λ k kind. other_counts n ((h + 1) + k) task kind (finishes plan (state_from plan s es) e) found (λ same. omega (arith, here, same)) in
-    cons_same _ _ _ _ (counts_rise plan s es e n h task found here) (hosts_stay plan s es e (h + 1) hosts later)
+    cons_same _ _ _ _ (counts_rise plan s es e n h task found here) (hosts_stay plan s es e (h + 1) hosts sizes_left)
 hosts_rise plan s es e n h (suc i) task (host ∷ hosts) found at =
     let here : (kind : CountKind) → counted h kind (finishes plan (state_from plan s es) e) ≡ 0 =
     λ kind. other_counts n h task kind (finishes plan (state_from plan s es) e) found (λ same. omega (arith, at, same)) in

@@ -2,10 +2,10 @@
 use Rattle.std.specs.Prelude.{◌≡◌, true, false, [], ◌∷◌, Some, None, refl}
 use Rattle.pb_outcome.specs.declared.gather.TaskResult.{TaskResult}
 use Rattle.pb_play.specs.declared.modules.Meta.TheVariants.{Noop}
-use Rattle.pb_one_host.specs.declared.decided.TaskEnd.{TaskEnd}
+use Rattle.pb_host.specs.declared.step_result.TaskEnd.{TaskEnd}
 use Rattle.pb_state.specs.BlockRows.{says, refuses, rescued_by, rescued_run, failed_run, lost_run, always_fails, always_fails_run, two_plays, ending_run, left_out, does_nothing, goes_on_run, ends_after, ends_after_run, unread_rescued, unread_rescued_run, unread_alone, unread_run}
-use Rattle.pb_one_host.specs.FactRows.{on_facts}
-use Rattle.pb_one_host.specs.Row.{none_counted}
+use Rattle.pb_host.specs.FactRows.{on_facts}
+use Rattle.pb_host.specs.Host.{none_counted}
 use Rattle.pb_lanes.specs.declared.kind.CountKind.TheVariants.{Okay, Failed, Rescued, Ignored}
 use Rattle.pb_recap.specs.Kinds.{status_of}
 use Rattle.pb_recap.specs.Recap.{recap, counts_under}

@@ -1,13 +1,13 @@
 -- The counts after one event more.
 use Rattle.std.specs.Prelude.{ℕ, ◌<◌, ◌-◌, ◌^◌, List, Option, Some, None, option_map, slice_get, slice_set}
 use Rattle.std.specs.Option.{option_map_or}
-use Rattle.pb_one_host.specs.declared.decided.Decided.{Decided}
-use Rattle.pb_one_host.specs.declared.decided.Done.{Done}
-use Rattle.pb_one_host.specs.declared.decided.TaskEnd.{TaskEnd}
+use Rattle.pb_host.specs.declared.step_result.StepResult.{StepResult}
+use Rattle.pb_host.specs.declared.step_result.TaskDone.{TaskDone}
+use Rattle.pb_host.specs.declared.step_result.TaskEnd.{TaskEnd}
 use Rattle.pb_state.specs.declared.event.Event.{Event}
 use Rattle.pb_state.specs.declared.event.Event.TheVariants.{Open, Start, Send, Report as Reported, Turn, Close, Stop, Forks}
-use Rattle.pb_one_host.specs.declared.row.Counts.{Counts}
-use Rattle.pb_one_host.specs.Ends.{more}
+use Rattle.pb_host.specs.declared.host.Counts.{Counts}
+use Rattle.pb_host.specs.Ends.{more}
 use Rattle.pb_state.specs.State.{State}
 use Rattle.pb_lanes.specs.declared.kind.CountKind.TheVariants.{Okay, Changed, Unreachable, Failed, Skipped, Rescued, Ignored}
 use Rattle.pb_recap.specs.Recap.{FinishedTask, counts_under}
@@ -50,8 +50,8 @@ host_of Stop = None
 host_of (Forks n) = None
 
 -- how the step that led to a state ended a task
-abbrev pub task_done : Decided → Option TaskEnd
-task_done decided = option_map (λ (d : Done). d.task) decided.done
+abbrev pub task_done : StepResult → Option TaskEnd
+task_done step_result = option_map (λ (d : TaskDone). d.task) step_result.done
 
 abbrev pub task_in : State → Option TaskEnd
-task_in s = option_map_or task_done s.decided None
+task_in s = option_map_or task_done s.step_result None

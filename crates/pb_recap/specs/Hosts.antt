@@ -1,6 +1,6 @@
 -- The hosts that have a count, in host order: the recap's text and the line of statistics name these.
 use Rattle.std.specs.Prelude.{ℕ, List, [], ◌∷◌, ◌++◌, Option, Some, None, if◌then◌else◌}
-use Rattle.pb_one_host.specs.declared.row.Counts.{Counts}
+use Rattle.pb_host.specs.declared.host.Counts.{Counts}
 use Rattle.pb_recap.specs.Kinds.{has_count}
 
 abbrev pub host_if_counted : List ℕ → Option Counts → List (List ℕ × Counts)

@@ -2,7 +2,7 @@
 use Rattle.std.specs.Prelude.{ℕ, zero, suc, ◌+◌, ◌<◌, List, [], ◌∷◌, length, slice_index, slice_set}
 use Rattle.pb_lanes.specs.declared.kind.CountKind.{CountKind}
 use Rattle.pb_lanes.specs.ColumnsOf.{ColumnsOf, hosts_in, column}
-use Rattle.pb_one_host.specs.declared.row.Counts.{Counts}
+use Rattle.pb_host.specs.declared.host.Counts.{Counts}
 
 -- the counts of a host, by its number
 abbrev pub counts_of : ColumnsOf → ℕ → Counts

@@ -4,7 +4,7 @@ pub use Rattle.pb_lanes.specs.declared.kind.CountKind.TheVariants.{Okay, Changed
 use Rattle.std.specs.Prelude.{ℕ, nat_lt, Bool, ◌||◌, List, slice_get, if◌then◌else◌}
 use Rattle.std.specs.List.{list_any}
 use Rattle.std.specs.Option.{option_map_or}
-use Rattle.pb_one_host.specs.declared.row.Counts.{Counts}
+use Rattle.pb_host.specs.declared.host.Counts.{Counts}
 
 abbrev pub count_of : CountKind → Counts → ℕ
 count_of Okay counts = counts.ok

@@ -4,7 +4,7 @@ use Rattle.std.specs.Borrow.{Bor}
 use Rattle.serde_json.specs.Data.{Data, string, object, Members, no_members, member}
 use Rattle.pb_ids.specs.declared.numbers.HostNo.{HostNo}
 use Rattle.pb_lanes.specs.ColumnsOf.{ColumnsOf}
-use Rattle.pb_one_host.specs.declared.row.Counts.{Counts}
+use Rattle.pb_host.specs.declared.host.Counts.{Counts}
 use Rattle.pb_recap.specs.InColumns.{counts_of}
 use Rattle.pb_recap.specs.Stats.{counts_data}
 

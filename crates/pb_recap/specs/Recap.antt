@@ -3,12 +3,12 @@
 use Rattle.std.specs.Prelude.{ℕ, ◌+◌, ◌==◌, Bool, ◌&&◌, ◌||◌, not, List, [], ◌∷◌, Option, Some, None, is_none, option_map, if◌then◌else◌}
 use Rattle.std.specs.Option.{option_map_or}
 use Rattle.pb_outcome.specs.declared.gather.TaskResult.{TaskResult}
-use Rattle.pb_one_host.specs.declared.decided.Decided.{Decided}
-use Rattle.pb_one_host.specs.declared.decided.Done.{Done}
-use Rattle.pb_one_host.specs.declared.decided.TaskEnd.{TaskEnd}
+use Rattle.pb_host.specs.declared.step_result.StepResult.{StepResult}
+use Rattle.pb_host.specs.declared.step_result.TaskDone.{TaskDone}
+use Rattle.pb_host.specs.declared.step_result.TaskEnd.{TaskEnd}
 use Rattle.pb_state.specs.declared.event.Event.{Event}
 use Rattle.pb_state.specs.declared.event.Event.TheVariants.{Open, Start, Send, Report as Reported, Turn, Close, Stop, Forks}
-use Rattle.pb_one_host.specs.declared.row.Counts.{Counts}
+use Rattle.pb_host.specs.declared.host.Counts.{Counts}
 use Rattle.pb_plan.specs.Plan.{PlanOf}
 use Rattle.pb_state.specs.State.{State}
 use Rattle.pb_state.specs.Machine.{after, first_state}
@@ -20,15 +20,15 @@ pub record FinishedTask : Type 0 where
   pub host : ℕ
   pub task : TaskEnd
 
-abbrev pub by_host : ℕ → Done → FinishedTask
+abbrev pub by_host : ℕ → TaskDone → FinishedTask
 by_host h done = record { host = h; task = done.task }
 
-abbrev pub ended_by : ℕ → Decided → Option FinishedTask
-ended_by h decided = option_map (by_host h) decided.done
+abbrev pub ended_by : ℕ → StepResult → Option FinishedTask
+ended_by h step_result = option_map (by_host h) step_result.done
 
 -- the task of a host that the step to a state ended: the step says how, if it ended one
 abbrev pub ended_in : State → ℕ → Option FinishedTask
-ended_in s h = option_map_or (ended_by h) s.decided None
+ended_in s h = option_map_or (ended_by h) s.step_result None
 
 -- the task that an event finished, by the state after it: a task ends as it starts, or with the report that it waited for
 abbrev pub finished_in : State → Event → Option FinishedTask

@@ -3,17 +3,17 @@ use Rattle.std.specs.Prelude.{◌≡◌, ⊤, ℕ, pos, true, false, List, [], �
 use Rattle.std.specs.Fmt.{digits}
 use Rattle.serde_json.proofs.OnLiterals.{serde_json_on_literals}
 use Rattle.pb_value.specs.Datum.{text}
-use Rattle.pb_sight.specs.Results.{on_tasks}
-use Rattle.pb_one_host.specs.declared.decided.TaskEnd.{TaskEnd}
+use Rattle.pb_task_vars.specs.Results.{on_tasks}
+use Rattle.pb_host.specs.declared.step_result.TaskEnd.{TaskEnd}
 use Rattle.pb_outcome.specs.declared.outcome.Form.{Form}
 use Rattle.pb_outcome.specs.declared.outcome.Form.TheVariants.{Ran, Unreachable as NoAnswer}
 use Rattle.pb_play.specs.declared.modules.Module.TheVariants.{Debug, Shell}
 use Rattle.pb_state.specs.declared.event.Event.{Event}
 use Rattle.pb_state.specs.declared.event.Event.TheVariants.{Open, Start, Send, Report as Reported, Turn, Close}
-use Rattle.pb_one_host.specs.declared.row.Counts.{Counts}
+use Rattle.pb_host.specs.declared.host.Counts.{Counts}
 use Rattle.pb_places.specs.Place.{bare_place}
 use Rattle.pb_plan.specs.Plan.{PlanOf, bare_play, bare_plan, bare_tree}
-use Rattle.pb_one_host.specs.Row.{none_counted}
+use Rattle.pb_host.specs.Host.{none_counted}
 use Rattle.pb_state.specs.Run.{IsLegalUnder}
 use Rattle.pb_lanes.specs.declared.kind.CountKind.TheVariants.{Okay, Changed, Unreachable, Failed, Ignored}
 use Rattle.pb_lanes.specs.ColumnsOf.{ColumnsOf, bumped, no_counts}

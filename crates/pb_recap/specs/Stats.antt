@@ -2,7 +2,7 @@
 use Rattle.std.specs.Prelude.{ℕ, List, [], ◌∷◌, ◌++◌, codes}
 use Rattle.serde_json.specs.Data.{Data, unsigned, number, string, object, Members, no_members, member, put}
 use Rattle.serde_json.specs.Written.{compact_text}
-use Rattle.pb_one_host.specs.declared.row.Counts.{Counts}
+use Rattle.pb_host.specs.declared.host.Counts.{Counts}
 use Rattle.pb_recap.specs.Hosts.{hosts_with_count}
 
 abbrev pub counted_as : List ℕ → ℕ → Members → Members

@@ -1,6 +1,6 @@
 -- The text of the recap: a heading, and a line for each host that has a count. A host's name is printed as it is.
 use Rattle.std.specs.Prelude.{ℕ, List, [], ◌∷◌, ◌++◌, codes, decimal}
-use Rattle.pb_one_host.specs.declared.row.Counts.{Counts}
+use Rattle.pb_host.specs.declared.host.Counts.{Counts}
 use Rattle.pb_recap.specs.Hosts.{hosts_with_count}
 
 abbrev pub shown : List ℕ → ℕ → List ℕ

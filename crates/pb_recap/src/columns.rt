@@ -3,8 +3,8 @@
 ghost use Rattle.std.specs.Prelude.{◌≡◌, ◌<◌, ◌-◌, ◌^◌, IfOk, map, slice_get, slice_index, sum_by};
 ghost use Rattle.std.specs.List.{list_any};
 ghost use Rattle.pb_lanes.specs.ColumnsOf.{column, hosts_in};
-ghost use Rattle.pb_one_host.specs.Ends.{IsAtMost};
-ghost use Rattle.pb_one_host.specs.Row.{HostRow};
+ghost use Rattle.pb_host.specs.Ends.{IsAtMost};
+ghost use Rattle.pb_host.specs.Host.{HostOf};
 ghost use Rattle.pb_recap.specs.InColumns.{counts_of, rows_of, with_counts};
 ghost use Rattle.pb_recap.specs.Kinds.{count_of, has, has_count};
 
@@ -30,7 +30,7 @@ fn put_counts(columns: &mut Columns, host: HostNo, counts: Counts)
 
 /// The counts of a state's hosts. The only error is want of memory.
 pub(crate) fn columns_of(alloc: Global, state: &EngineState) -> Result<Columns, AllocError>
-    ensures { IfOk result (λ columns. rows_of columns ≡ map (λ (row : HostRow). row.counts) state.now.rows) }
+    ensures { IfOk result (λ columns. rows_of columns ≡ map (λ (row : HostOf). row.counts) state.now.rows) }
 {
     let hosts = state.hosts() as u32;
     let mut columns = Columns::new(alloc, hosts)?;

@@ -2,7 +2,7 @@
 
 ghost use Rattle.std.specs.Prelude.{◌≡◌, ◌<◌, ◌-◌, ◌^◌, ℕ, IfSome, Some, option_map, slice_get, slice_index};
 ghost use Rattle.pb_lanes.specs.ColumnsOf.{column, with_count};
-ghost use Rattle.pb_one_host.specs.Ends.{more};
+ghost use Rattle.pb_host.specs.Ends.{more};
 ghost use Rattle.pb_recap.specs.InColumns.{HasHost, counts_of, rows_of, with_counts};
 ghost use Rattle.pb_recap.specs.Counting.{HasRoom, with_task, with_finished, host_of, task_in};
 ghost use Rattle.pb_recap.specs.Recap.{FinishedTask, finished_in, result_counts, counts_at_all, counts_under};
@@ -98,8 +98,8 @@ fn host_of(event: &Event) -> Option<HostNo>
 fn task_of(state: &EngineState) -> Option<TaskEnd>
     ensures { result ≡ task_in state.now }
 {
-    match state.decided() {
-        Some(decided) => match &decided.done {
+    match state.step_result() {
+        Some(step_result) => match &step_result.done {
             Some(done) => Some(done.task),
             None => None,
         },

@@ -2,7 +2,7 @@
 
 ghost use Rattle.std.specs.Prelude.{◌≡◌, ◌<◌, ◌++◌, ◌∷◌, [], ℕ, List, length, map, replicate, slice_get, sum_by, IfOk, IfSome, string_bytes};
 ghost use Rattle.pb_plan.specs.Plan.{PlanOf};
-ghost use Rattle.pb_one_host.specs.Row.{HostRow, none_counted};
+ghost use Rattle.pb_host.specs.Host.{HostOf, none_counted};
 ghost use Rattle.pb_state.specs.Run.{IsRun, IsStep};
 ghost use Rattle.pb_state.specs.State.{State};
 ghost use Rattle.pb_state.specs.declared.event.Event.{Event};
@@ -29,7 +29,7 @@ pub struct Recap {
 
 impl Model for Recap {
     ghost use Rattle.std.specs.Prelude.{List};
-    ghost use Rattle.pb_one_host.specs.declared.row.Counts.{Counts};
+    ghost use Rattle.pb_host.specs.declared.host.Counts.{Counts};
     ghost use Rattle.pb_recap.specs.InColumns.{rows_of};
 
     ghost Value = { List Counts };
@@ -42,7 +42,7 @@ impl Recap {
     /// run's events finished. The only error is want of memory.
     #[tactic(auto, using(crate::proofs::Counted::recap_of_run))]
     pub fn of(alloc: Global, state: &EngineState) -> Result<Recap, AllocError>
-        ensures counts { IfOk result (λ r. r ≡ map (λ (row : HostRow). row.counts) state.now.rows) }
+        ensures counts { IfOk result (λ r. r ≡ map (λ (row : HostOf). row.counts) state.now.rows) }
         ensures scratch { IfOk result (λ r. (plan : PlanOf) (pool : ℕ) (trail : List Event) → IsRun plan pool trail state.now → r ≡ recap plan pool trail) }
     {
         Ok(Recap {

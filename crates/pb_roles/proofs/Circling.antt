@@ -11,17 +11,17 @@ use Rattle.pb_role_files.specs.RoleFiles.{handlers_of_file, meta_of_file, nodes_
 use Rattle.pb_role_files.specs.declared.meta.RoleMeta.{RoleMeta}
 use Rattle.pb_written.specs.declared.fault.LoadFault.{LoadFault}
 use Rattle.pb_roles.specs.Circles.{CyclesAreCircles, DependsOn, IsCircle, LeadsTo, is_among}
-use Rattle.pb_roles.specs.Entries.{came_of, has_come}
+use Rattle.pb_roles.specs.Entries.{key_of, has_come}
 use Rattle.pb_roles.specs.Expansion.{closed, in_order, is_open, meets, most_open, nothing_met, opened, role_in, role_of, unless_again, with_come}
 use Rattle.pb_roles.specs.Files.{RoleRead, file_of, in_file, loaded, no_meta, read_of}
 use Rattle.pb_roles.specs.Open.{dependencies_of, entries_in}
-use Rattle.pb_roles.specs.declared.came.Came.{Came}
+use Rattle.pb_roles.specs.declared.entry_key.EntryKey.{EntryKey}
 use Rattle.pb_roles.specs.declared.fault.RoleFault.{RoleFault}
 use Rattle.pb_roles.specs.declared.fault.RoleFault.TheVariants.{Unknown, Cycle}
 use Rattle.pb_roles.specs.declared.files.RoleFile.{RoleFile}
 use Rattle.pb_roles.specs.declared.files.RoleFiles.{RoleFiles}
-use Rattle.pb_roles.specs.declared.met.Met.{Met}
-use Rattle.pb_roles.specs.declared.opened.OpenRole.{OpenRole}
+use Rattle.pb_roles.specs.declared.collected.Expansion.{Expansion}
+use Rattle.pb_roles.specs.declared.open_role.OpenRole.{OpenRole}
 use Rattle.pb_roles.proofs.FewOpen.{AreDistinct, few_open}
 use Rattle.pb_roles.proofs.Stack.{meets_fault, meets_found}
 use Rattle.pb_roles.proofs.Taking.{counts, first_time, opened_is, role_found}
@@ -65,16 +65,16 @@ circle reads (x ∷ names) name led chain e = circle_in reads x names name [] le
 
 -- ---- entries one after another
 
-abbrev EachCircles : (List ℕ → RoleRead) → (RoleEntry → Type 0) → (RoleEntry → Met → Result Met RoleFault) → Type 0
-EachCircles reads P brings = (entry : RoleEntry) (met : Met) → P entry → brings entry met ≡ Err Cycle → IsCircle reads
+abbrev EachCircles : (List ℕ → RoleRead) → (RoleEntry → Type 0) → (RoleEntry → Expansion → Result Expansion RoleFault) → Type 0
+EachCircles reads P brings = (entry : RoleEntry) (met : Expansion) → P entry → brings entry met ≡ Err Cycle → IsCircle reads
 
-one_cycles : (reads : List ℕ → RoleRead) (r : Result Met RoleFault) (f : Met → Result Met RoleFault) → (r ≡ Err Cycle → IsCircle reads)
-    → ((mid : Met) → f mid ≡ Err Cycle → IsCircle reads) → and_then r f ≡ Err Cycle → IsCircle reads
+one_cycles : (reads : List ℕ → RoleRead) (r : Result Expansion RoleFault) (f : Expansion → Result Expansion RoleFault) → (r ≡ Err Cycle → IsCircle reads)
+    → ((mid : Expansion) → f mid ≡ Err Cycle → IsCircle reads) → and_then r f ≡ Err Cycle → IsCircle reads
 one_cycles reads (Ok mid) f h k e = k mid e
 one_cycles reads (Err fault) f h k e = h e
 
-all_cycle : (reads : List ℕ → RoleRead) (P : RoleEntry → Type 0) (brings : RoleEntry → Met → Result Met RoleFault) → EachCircles reads P brings
-    → (entries : List RoleEntry) (met : Met) → AllByRecursion P entries → in_order brings entries met ≡ Err Cycle → IsCircle reads
+all_cycle : (reads : List ℕ → RoleRead) (P : RoleEntry → Type 0) (brings : RoleEntry → Expansion → Result Expansion RoleFault) → EachCircles reads P brings
+    → (entries : List RoleEntry) (met : Expansion) → AllByRecursion P entries → in_order brings entries met ≡ Err Cycle → IsCircle reads
 all_cycle reads P brings each [] met a e = cc
 all_cycle reads P brings each (entry ∷ entries) met a e =
     one_cycles reads (brings entry met) (in_order brings entries) (λ f. each entry met (a.0) f) (λ mid f. all_cycle reads P brings each entries mid (a.1) f) e
@@ -91,18 +91,18 @@ all_among (entry ∷ entries) = (
 
 -- reading files is never a cycle, and there is room for all that may be open
 record AreBounded (most : ℕ) (reads : List ℕ → RoleRead) : Type 0 where
-  clean : (n : ℕ) (outer : List Tree) (entry : RoleEntry) (came : List Came) → role_of n reads outer entry came ≡ Err Cycle → ⊥
+  clean : (n : ℕ) (outer : List Tree) (entry : RoleEntry) (came : List EntryKey) → role_of n reads outer entry came ≡ Err Cycle → ⊥
   room : (names : List (List ℕ)) → AreDistinct names → AllByRecursion (λ (name : List ℕ). (reads name).is_missing ≡ false) names → suc (length names) ≤ most
 
 abbrev Cycles : ℕ → (List ℕ → RoleRead) → ℕ → Type 0
 Cycles most reads n =
     (names : List (List ℕ)) (outer : List Tree) → AreOpen reads names → length names + n ≡ most → EachCircles reads (λ (entry : RoleEntry). IsLed reads names entry.name) (meets n reads names outer)
 
-cycle_mapped : (r : Result Met RoleFault) (f : Met → Met) → map_ok f r ≡ Err Cycle → r ≡ Err Cycle
+cycle_mapped : (r : Result Expansion RoleFault) (f : Expansion → Expansion) → map_ok f r ≡ Err Cycle → r ≡ Err Cycle
 cycle_mapped (Ok met) f e = cc
 cycle_mapped (Err fault) f e = cc
 
-opens : (most n : ℕ) (reads : List ℕ → RoleRead) (names : List (List ℕ)) (outer : List Tree) (entry : RoleEntry) (role : OpenRole) (met : Met) → Cycles most reads n
+opens : (most n : ℕ) (reads : List ℕ → RoleRead) (names : List (List ℕ)) (outer : List Tree) (entry : RoleEntry) (role : OpenRole) (met : Expansion) → Cycles most reads n
     → AreOpen reads names → length names + suc n ≡ most → IsLed reads names entry.name → is_open entry.name names ≡ false
     → role_of n reads outer entry met.came ≡ Ok (Some role)
     → map_ok (closed role) (in_order (meets n reads (role.name ∷ names) role.origin.conditions) role.dependencies (with_come entry met)) ≡ Err Cycle
@@ -122,7 +122,7 @@ opens most n reads names outer entry role met inside sits long led shut e f =
     (cycle_mapped _ (closed role)
     (subst (λ (name : List ℕ). map_ok (closed role) (in_order (meets n reads (name ∷ names) role.origin.conditions) role.dependencies (with_come entry met)) ≡ Err Cycle) (same.0) f))
 
-which_fault : (r : Result Met RoleFault) (fault : RoleFault) → r ≡ Err fault → r ≡ Err Cycle → fault ≡ Cycle
+which_fault : (r : Result Expansion RoleFault) (fault : RoleFault) → r ≡ Err fault → r ≡ Err Cycle → fault ≡ Cycle
 which_fault r fault e f = cc
 
 enters : (most n : ℕ) (reads : List ℕ → RoleRead) → AreBounded most reads → Cycles most reads n → Cycles most reads (suc n)
@@ -185,9 +185,9 @@ opened_clean left read outer entry dependencies clean e =
     then_clean read.nodes _ clean.nodes (λ nodes h.
     then_clean read.handlers _ clean.handlers (λ handlers wrong. cc) h) g) f) e
 
-again_clean : (left : ℕ) (read : RoleRead) (outer : List Tree) (entry : RoleEntry) (came : List Came) (meta : RoleMeta) → IsClean read
+again_clean : (left : ℕ) (read : RoleRead) (outer : List Tree) (entry : RoleEntry) (came : List EntryKey) (meta : RoleMeta) → IsClean read
     → unless_again left read outer entry came meta ≡ Err Cycle → ⊥
-again_clean left read outer entry came meta clean e = by_test (not meta.allow_duplicates && has_come (came_of entry) came) e
+again_clean left read outer entry came meta clean e = by_test (not meta.allow_duplicates && has_come (key_of entry) came) e
   where
     mapped : (r : Result OpenRole RoleFault) → (r ≡ Err Cycle → ⊥) → map_ok Some r ≡ Err Cycle → ⊥
     mapped (Ok role) h f = cc
@@ -197,14 +197,14 @@ again_clean left read outer entry came meta clean e = by_test (not meta.allow_du
     by_test true f = cc
     by_test false f = mapped (opened left read outer entry meta.dependencies) (opened_clean left read outer entry meta.dependencies clean) f
 
-role_clean : (left : ℕ) (read : RoleRead) (outer : List Tree) (entry : RoleEntry) (came : List Came) → IsClean read → role_in left read outer entry came ≡ Err Cycle → ⊥
+role_clean : (left : ℕ) (read : RoleRead) (outer : List Tree) (entry : RoleEntry) (came : List EntryKey) → IsClean read → role_in left read outer entry came ≡ Err Cycle → ⊥
 role_clean left read outer entry came clean e = by_missing read.is_missing e
   where
     by_missing : (b : Bool) → (if b then Err (Unknown entry.name) else and_then read.meta (unless_again left read outer entry came)) ≡ Err Cycle → ⊥
     by_missing true f = cc
     by_missing false f = then_clean read.meta (unless_again left read outer entry came) clean.meta (λ meta g. again_clean left read outer entry came meta clean g) f
 
-role_of_clean : (files : RoleFiles) (left : ℕ) (outer : List Tree) (entry : RoleEntry) (came : List Came) → role_of left (read_of files) outer entry came ≡ Err Cycle → ⊥
+role_of_clean : (files : RoleFiles) (left : ℕ) (outer : List Tree) (entry : RoleEntry) (came : List EntryKey) → role_of left (read_of files) outer entry came ≡ Err Cycle → ⊥
 unfolding role_of
 role_of_clean files left outer entry came e = role_clean left (read_of files entry.name) outer entry came (read_clean files entry.name) e
 

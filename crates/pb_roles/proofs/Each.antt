@@ -17,8 +17,8 @@ use Rattle.pb_roles.specs.Unknown.{unknown_of, unknown_with}
 use Rattle.pb_roles.specs.declared.fault.RoleFault.{RoleFault}
 use Rattle.pb_roles.specs.declared.fault.RoleFault.TheVariants.{Unknown, Cycle, Load, Memory, TooLarge}
 use Rattle.pb_roles.specs.declared.files.RoleFiles.{RoleFiles}
-use Rattle.pb_roles.specs.declared.met.HandlerIn.{HandlerIn}
-use Rattle.pb_roles.specs.declared.met.Met.{Met}
+use Rattle.pb_roles.specs.declared.collected.HandlerIn.{HandlerIn}
+use Rattle.pb_roles.specs.declared.collected.Expansion.{Expansion}
 use Rattle.pb_roles.specs.declared.sections.Expanded.{Expanded}
 use Rattle.pb_roles.specs.declared.sections.Head.{Head}
 use Rattle.pb_roles.specs.declared.sections.Sections.{Sections}
@@ -110,10 +110,10 @@ checked_is names head play e same none small is =
     ∙ small_is (has_too_many_places play || is_too_deep play) (built head play) small
     ∙ ap Ok (sym is)
 
-then_fault : (r : Result Met RoleFault) (f : Met → Result Expanded RoleFault) (e : RoleFault) → r ≡ Err e → and_then r f ≡ Err e
+then_fault : (r : Result Expansion RoleFault) (f : Expansion → Result Expanded RoleFault) (e : RoleFault) → r ≡ Err e → and_then r f ≡ Err e
 then_fault r f e is = rw is refl
 
-then_ok : (r : Result Met RoleFault) (f : Met → Result Expanded RoleFault) (met : Met) → r ≡ Ok met → and_then r f ≡ f met
+then_ok : (r : Result Expansion RoleFault) (f : Expansion → Result Expanded RoleFault) (met : Expansion) → r ≡ Ok met → and_then r f ≡ f met
 then_ok r f met is = rw is refl
 
 pub roles_fault : (files : RoleFiles) (play : Play) (entries : List RoleEntry) (e : RoleFault) → entries ≡ play.roles → Faults e (roles_of files entries) → Faults e (expanded files play)
@@ -121,7 +121,7 @@ roles_fault files play entries e same =
     faults_pass e (roles_of files entries) (expanded files play)
     (λ f is. then_fault (roles_of files play.roles) (λ met. checked (head_of play met) (sections_of play met)) f (subst (λ (es : List RoleEntry). roles_of files es ≡ Err f) same is))
 
-pub expanded_is : (files : RoleFiles) (play : Play) (entries : List RoleEntry) (met : Met) (head : Head) (sections : Sections) → entries ≡ play.roles → roles_of files entries ≡ Ok met
+pub expanded_is : (files : RoleFiles) (play : Play) (entries : List RoleEntry) (met : Expansion) (head : Head) (sections : Sections) → entries ≡ play.roles → roles_of files entries ≡ Ok met
     → head ≡ head_of play met → sections ≡ sections_of play met → checked head sections ≡ expanded files play
 expanded_is files play entries met head sections same is of_head of_sections =
     rw (of_head, of_sections)

@@ -9,13 +9,13 @@ use Rattle.pb_play_reading.specs.declared.handlers.Handler.{Handler}
 use Rattle.pb_role_entries.specs.declared.entry.RoleEntry.{RoleEntry}
 use Rattle.pb_role_files.specs.declared.meta.RoleMeta.{RoleMeta}
 use Rattle.pb_roles.specs.Answers.{Faults, Gives}
-use Rattle.pb_roles.specs.Entries.{came_of, has_come}
+use Rattle.pb_roles.specs.Entries.{key_of, has_come}
 use Rattle.pb_roles.specs.Expansion.{opened, role_of}
 use Rattle.pb_roles.specs.Files.{RoleRead}
-use Rattle.pb_roles.specs.declared.came.Came.{Came}
+use Rattle.pb_roles.specs.declared.entry_key.EntryKey.{EntryKey}
 use Rattle.pb_roles.specs.declared.fault.RoleFault.{RoleFault}
 use Rattle.pb_roles.specs.declared.fault.RoleFault.TheVariants.{Unknown}
-use Rattle.pb_roles.specs.declared.opened.OpenRole.{OpenRole}
+use Rattle.pb_roles.specs.declared.open_role.OpenRole.{OpenRole}
 use Rattle.pb_roles.proofs.Stack.{faults_pass}
 
 abbrev depending : List RoleEntry → OpenRole → OpenRole
@@ -37,28 +37,28 @@ opened_with : (left : ℕ) (read : RoleRead) (outer : List Tree) (entry : RoleEn
 opened_with left read outer entry dependencies = opened_on left outer entry dependencies read.is_missing read.meta read.defaults read.vars read.nodes read.handlers
 
 -- ---- each way in which an entry is met
-pub missing : (left : ℕ) (reads : List ℕ → RoleRead) (outer : List Tree) (entry : RoleEntry) (came : List Came) (none : Bool) → none ≡ (reads entry.name).is_missing → none ≡ true
+pub missing : (left : ℕ) (reads : List ℕ → RoleRead) (outer : List Tree) (entry : RoleEntry) (came : List EntryKey) (none : Bool) → none ≡ (reads entry.name).is_missing → none ≡ true
     → role_of left reads outer entry came ≡ Err (Unknown entry.name)
 unfolding role_of
 missing left reads outer entry came none is t = rw (sym is ∙ t) refl
 
-pub faulty_meta : (left : ℕ) (reads : List ℕ → RoleRead) (outer : List Tree) (entry : RoleEntry) (came : List Came) (none : Bool) (e : RoleFault) → none ≡ (reads entry.name).is_missing → none ≡ false
+pub faulty_meta : (left : ℕ) (reads : List ℕ → RoleRead) (outer : List Tree) (entry : RoleEntry) (came : List EntryKey) (none : Bool) (e : RoleFault) → none ≡ (reads entry.name).is_missing → none ≡ false
     → Faults e (reads entry.name).meta → Faults e (role_of left reads outer entry came)
 unfolding role_of
 faulty_meta left reads outer entry came none e is f = faults_pass e (reads entry.name).meta (role_of left reads outer entry came) (λ g m. rw (sym is ∙ f) (rw m refl))
 
-pub left_out : (left : ℕ) (reads : List ℕ → RoleRead) (outer : List Tree) (entry : RoleEntry) (came : List Came) (none : Bool) (meta : RoleMeta) (this : Came) (out : Bool)
-    → none ≡ (reads entry.name).is_missing → none ≡ false → (reads entry.name).meta ≡ Ok meta → this ≡ came_of entry → out ≡ (not meta.allow_duplicates && has_come this came) → out ≡ true
+pub left_out : (left : ℕ) (reads : List ℕ → RoleRead) (outer : List Tree) (entry : RoleEntry) (came : List EntryKey) (none : Bool) (meta : RoleMeta) (this : EntryKey) (out : Bool)
+    → none ≡ (reads entry.name).is_missing → none ≡ false → (reads entry.name).meta ≡ Ok meta → this ≡ key_of entry → out ≡ (not meta.allow_duplicates && has_come this came) → out ≡ true
     → role_of left reads outer entry came ≡ Ok None
 unfolding role_of
-left_out left reads outer entry came none meta this out is f m t o again = rw (sym is ∙ f) (rw m (rw (ap (λ (c : Came). not meta.allow_duplicates && has_come c came) (sym t) ∙ sym o ∙ again) refl))
+left_out left reads outer entry came none meta this out is f m t o again = rw (sym is ∙ f) (rw m (rw (ap (λ (c : EntryKey). not meta.allow_duplicates && has_come c came) (sym t) ∙ sym o ∙ again) refl))
 
-counts : (left : ℕ) (reads : List ℕ → RoleRead) (outer : List Tree) (entry : RoleEntry) (came : List Came) (none : Bool) (meta : RoleMeta) (this : Came) (out : Bool)
-    → none ≡ (reads entry.name).is_missing → none ≡ false → (reads entry.name).meta ≡ Ok meta → this ≡ came_of entry → out ≡ (not meta.allow_duplicates && has_come this came) → out ≡ false
+counts : (left : ℕ) (reads : List ℕ → RoleRead) (outer : List Tree) (entry : RoleEntry) (came : List EntryKey) (none : Bool) (meta : RoleMeta) (this : EntryKey) (out : Bool)
+    → none ≡ (reads entry.name).is_missing → none ≡ false → (reads entry.name).meta ≡ Ok meta → this ≡ key_of entry → out ≡ (not meta.allow_duplicates && has_come this came) → out ≡ false
     → role_of left reads outer entry came ≡ map_ok Some (map_ok (depending meta.dependencies) (opened left (reads entry.name) outer entry []))
 unfolding role_of
 counts left reads outer entry came none meta this out is f m t o nay =
-    rw (sym is ∙ f) (rw m (rw (ap (λ (c : Came). not meta.allow_duplicates && has_come c came) (sym t) ∙ sym o ∙ nay) (ap (map_ok Some) (opened_with left (reads entry.name) outer entry meta.dependencies))))
+    rw (sym is ∙ f) (rw m (rw (ap (λ (c : EntryKey). not meta.allow_duplicates && has_come c came) (sym t) ∙ sym o ∙ nay) (ap (map_ok Some) (opened_with left (reads entry.name) outer entry meta.dependencies))))
 
 mapped_fault : {A B : Type 0} (f : A → B) (r : Result A RoleFault) (e : RoleFault) → r ≡ Err e → map_ok f r ≡ Err e
 mapped_fault f r e is = rw is refl
@@ -66,16 +66,16 @@ mapped_fault f r e is = rw is refl
 mapped_ok : {A B : Type 0} (f : A → B) (r : Result A RoleFault) (x : A) → r ≡ Ok x → map_ok f r ≡ Ok (f x)
 mapped_ok f r x is = rw is refl
 
-pub faulty : (left : ℕ) (reads : List ℕ → RoleRead) (outer : List Tree) (entry : RoleEntry) (came : List Came) (none : Bool) (meta : RoleMeta) (this : Came) (out : Bool) (e : RoleFault)
-    → none ≡ (reads entry.name).is_missing → none ≡ false → (reads entry.name).meta ≡ Ok meta → this ≡ came_of entry → out ≡ (not meta.allow_duplicates && has_come this came) → out ≡ false
+pub faulty : (left : ℕ) (reads : List ℕ → RoleRead) (outer : List Tree) (entry : RoleEntry) (came : List EntryKey) (none : Bool) (meta : RoleMeta) (this : EntryKey) (out : Bool) (e : RoleFault)
+    → none ≡ (reads entry.name).is_missing → none ≡ false → (reads entry.name).meta ≡ Ok meta → this ≡ key_of entry → out ≡ (not meta.allow_duplicates && has_come this came) → out ≡ false
     → Faults e (opened left (reads entry.name) outer entry []) → Faults e (role_of left reads outer entry came)
 faulty left reads outer entry came none meta this out e is f m t o nay =
     faults_pass e (opened left (reads entry.name) outer entry []) (role_of left reads outer entry came)
     (λ g r. counts left reads outer entry came none meta this out is f m t o nay
     ∙ mapped_fault Some (map_ok (depending meta.dependencies) (opened left (reads entry.name) outer entry [])) g (mapped_fault (depending meta.dependencies) (opened left (reads entry.name) outer entry []) g r))
 
-pub opens : (left : ℕ) (reads : List ℕ → RoleRead) (outer : List Tree) (entry : RoleEntry) (came : List Came) (none : Bool) (meta : RoleMeta) (this : Came) (out : Bool) (role : OpenRole) (dependencies : List RoleEntry)
-    → none ≡ (reads entry.name).is_missing → none ≡ false → (reads entry.name).meta ≡ Ok meta → this ≡ came_of entry → out ≡ (not meta.allow_duplicates && has_come this came) → out ≡ false
+pub opens : (left : ℕ) (reads : List ℕ → RoleRead) (outer : List Tree) (entry : RoleEntry) (came : List EntryKey) (none : Bool) (meta : RoleMeta) (this : EntryKey) (out : Bool) (role : OpenRole) (dependencies : List RoleEntry)
+    → none ≡ (reads entry.name).is_missing → none ≡ false → (reads entry.name).meta ≡ Ok meta → this ≡ key_of entry → out ≡ (not meta.allow_duplicates && has_come this came) → out ≡ false
     → opened left (reads entry.name) outer entry [] ≡ Ok role → dependencies ≡ meta.dependencies → role_of left reads outer entry came ≡ Ok (Some (record role { dependencies = dependencies }))
 opens left reads outer entry came none meta this out role dependencies is f m t o nay r d =
     counts left reads outer entry came none meta this out is f m t o nay

@@ -14,18 +14,18 @@ use Rattle.pb_tree.specs.Walk.{is_empty}
 use Rattle.pb_places.specs.Caught.{are_caught, caught_in, caught_places}
 use Rattle.pb_places.specs.Place.{PlaceOf}
 use Rattle.pb_handlers.specs.declared.naming.HandlerNames.{HandlerNames}
-use Rattle.pb_roles.specs.Building.{Flushed, RoundOf, TaskIn, inside, is_nothing, all_places, flush_from, flush_places, flushed_in, part_places, places_of, nodes_of, nodes_then, round_of, section_places, sections_then, task_of, tree_of}
+use Rattle.pb_roles.specs.Building.{Flushed, InheritedOf, TaskIn, inside, is_nothing, all_places, flush_from, flush_places, flushed_in, part_places, places_of, nodes_of, nodes_then, inherited_of, section_places, sections_then, task_of, tree_of}
 use Rattle.pb_roles.specs.Seen.{alone, places_in, places_in_all}
 use Rattle.pb_roles.specs.Plays.{IsBuilt, built, checked, expanded, expansion_of, has_too_many_places, head_of, is_too_deep, max_places, unless_unknown, within_limits}
 use Rattle.pb_roles.specs.Expansion.{roles_of}
 use Rattle.pb_roles.specs.Sections.{sections_of}
 use Rattle.pb_roles.specs.Unknown.{unknown_of}
-use Rattle.pb_roles.specs.declared.met.Met.{Met}
+use Rattle.pb_roles.specs.declared.collected.Expansion.{Expansion}
 use Rattle.pb_roles.specs.declared.fault.RoleFault.{RoleFault}
 use Rattle.pb_roles.specs.declared.fault.RoleFault.TheVariants.{TooLarge}
 use Rattle.pb_roles.specs.declared.files.RoleFiles.{RoleFiles}
-use Rattle.pb_roles.specs.declared.met.HandlerIn.{HandlerIn}
-use Rattle.pb_roles.specs.declared.met.Section.{Section}
+use Rattle.pb_roles.specs.declared.collected.HandlerIn.{HandlerIn}
+use Rattle.pb_roles.specs.declared.collected.Section.{Section}
 use Rattle.pb_roles.specs.declared.sections.Expanded.{Expanded}
 use Rattle.pb_roles.specs.declared.sections.Head.{Head}
 use Rattle.pb_roles.specs.declared.sections.PlayKeys.{PlayKeys}
@@ -41,17 +41,17 @@ flush_caught names is_caught n [] = refl
 flush_caught names is_caught n (h ∷ handlers) = ap (λ (l : List Bool). is_caught ∷ l) (flush_caught names is_caught (n + 1) handlers)
 
 -- each place of the nodes has its record
-pub as_many : (flushed : Flushed) (round : RoundOf) (is_caught : Bool) (w : Written) → length (places_of flushed round is_caught w) ≡ places_in (length flushed.handlers) w
-as_many flushed round is_caught written.Nothing = refl
-as_many flushed round is_caught (written.Task task rest) = omega (arith, as_many flushed round is_caught rest)
-as_many flushed round is_caught (written.Block block body rescue always rest) =
-    let b = as_many flushed (inside round block) (is_caught || not (is_nothing rescue)) body in
-    let r = as_many flushed (inside round block) is_caught rescue in
-    let a = as_many flushed (inside round block) is_caught always in
-    let m = as_many flushed round is_caught rest in
+pub as_many : (flushed : Flushed) (inherited : InheritedOf) (is_caught : Bool) (w : Written) → length (places_of flushed inherited is_caught w) ≡ places_in (length flushed.handlers) w
+as_many flushed inherited is_caught written.Nothing = refl
+as_many flushed inherited is_caught (written.Task task rest) = omega (arith, as_many flushed inherited is_caught rest)
+as_many flushed inherited is_caught (written.Block block body rescue always rest) =
+    let b = as_many flushed (inside inherited block) (is_caught || not (is_nothing rescue)) body in
+    let r = as_many flushed (inside inherited block) is_caught rescue in
+    let a = as_many flushed (inside inherited block) is_caught always in
+    let m = as_many flushed inherited is_caught rest in
     rw (length-append, length-append, length-append, b, r, a, m) refl
-as_many flushed round is_caught (written.Flush rest) =
-    rw (length-append, flush_many flushed.names is_caught 0 flushed.handlers, as_many flushed round is_caught rest) refl
+as_many flushed inherited is_caught (written.Flush rest) =
+    rw (length-append, flush_many flushed.names is_caught 0 flushed.handlers, as_many flushed inherited is_caught rest) refl
 
 none_is_empty : (w : Written) → is_empty (alone w) ≡ is_nothing w
 none_is_empty written.Nothing = refl
@@ -67,38 +67,38 @@ two_caught : (fs ms : List PlaceOf) (rest : List Bool) → are_caught fs ++ (are
 two_caught fs ms rest = simp (map-append, append_assoc) refl
 
 -- it says of a failure there what the tree says
-caught_then : (flushed : Flushed) (round : RoundOf) (is_caught : Bool) (w : Written) (rest : Nodes)
-    → caught_in (length flushed.handlers) is_caught (nodes_then w rest) ≡ are_caught (places_of flushed round is_caught w) ++ caught_in (length flushed.handlers) is_caught rest
-caught_then flushed round is_caught written.Nothing rest = refl
-caught_then flushed round is_caught (written.Task task more) rest = ap (λ (l : List Bool). is_caught ∷ l) (caught_then flushed round is_caught more rest)
-caught_then flushed round is_caught (written.Block block body rescue always more) rest =
-    let b = caught_then flushed (inside round block) (is_caught || not (is_nothing rescue)) body Nothing in
-    let r = caught_then flushed (inside round block) is_caught rescue Nothing in
-    let a = caught_then flushed (inside round block) is_caught always Nothing in
-    let m = caught_then flushed round is_caught more rest in
+caught_then : (flushed : Flushed) (inherited : InheritedOf) (is_caught : Bool) (w : Written) (rest : Nodes)
+    → caught_in (length flushed.handlers) is_caught (nodes_then w rest) ≡ are_caught (places_of flushed inherited is_caught w) ++ caught_in (length flushed.handlers) is_caught rest
+caught_then flushed inherited is_caught written.Nothing rest = refl
+caught_then flushed inherited is_caught (written.Task task more) rest = ap (λ (l : List Bool). is_caught ∷ l) (caught_then flushed inherited is_caught more rest)
+caught_then flushed inherited is_caught (written.Block block body rescue always more) rest =
+    let b = caught_then flushed (inside inherited block) (is_caught || not (is_nothing rescue)) body Nothing in
+    let r = caught_then flushed (inside inherited block) is_caught rescue Nothing in
+    let a = caught_then flushed (inside inherited block) is_caught always Nothing in
+    let m = caught_then flushed inherited is_caught more rest in
     rw (none_is_empty rescue, b, r, a, m)
-    (four_caught (places_of flushed (inside round block) (is_caught || not (is_nothing rescue)) body) (places_of flushed (inside round block) is_caught rescue)
-    (places_of flushed (inside round block) is_caught always) (places_of flushed round is_caught more) (caught_in (length flushed.handlers) is_caught rest))
-caught_then flushed round is_caught (written.Flush more) rest =
-    rw (caught_then flushed round is_caught more rest, sym (flush_caught flushed.names is_caught 0 flushed.handlers))
-    (two_caught (flush_places flushed is_caught) (places_of flushed round is_caught more) (caught_in (length flushed.handlers) is_caught rest))
+    (four_caught (places_of flushed (inside inherited block) (is_caught || not (is_nothing rescue)) body) (places_of flushed (inside inherited block) is_caught rescue)
+    (places_of flushed (inside inherited block) is_caught always) (places_of flushed inherited is_caught more) (caught_in (length flushed.handlers) is_caught rest))
+caught_then flushed inherited is_caught (written.Flush more) rest =
+    rw (caught_then flushed inherited is_caught more rest, sym (flush_caught flushed.names is_caught 0 flushed.handlers))
+    (two_caught (flush_places flushed is_caught) (places_of flushed inherited is_caught more) (caught_in (length flushed.handlers) is_caught rest))
 
 sections_many : (flushed : Flushed) (keys : PlayKeys) (sections : List Section) → length (part_places flushed keys sections) ≡ places_in_all (length flushed.handlers) sections
 sections_many flushed keys [] = flush_many flushed.names false 0 flushed.handlers
 sections_many flushed keys (s ∷ sections) =
-    let a = as_many flushed (round_of keys s.origin) false s.nodes in
+    let a = as_many flushed (inherited_of keys s.origin) false s.nodes in
     let b = sections_many flushed keys sections in
-    rw (append_assoc (places_of flushed (round_of keys s.origin) false s.nodes) (section_places flushed keys sections) (flush_places flushed false), length-append, a, b) refl
+    rw (append_assoc (places_of flushed (inherited_of keys s.origin) false s.nodes) (section_places flushed keys sections) (flush_places flushed false), length-append, a, b) refl
 
 sections_caught : (flushed : Flushed) (keys : PlayKeys) (sections : List Section) (rest : Nodes)
     → caught_in (length flushed.handlers) false (sections_then sections (Flush rest)) ≡ are_caught (part_places flushed keys sections) ++ caught_in (length flushed.handlers) false rest
 sections_caught flushed keys [] rest = ap (λ (l : List Bool). l ++ caught_in (length flushed.handlers) false rest) (sym (flush_caught flushed.names false 0 flushed.handlers))
 sections_caught flushed keys (s ∷ sections) rest =
-    caught_then flushed (round_of keys s.origin) false s.nodes (sections_then sections (Flush rest))
-    ∙ ap (λ (l : List Bool). are_caught (places_of flushed (round_of keys s.origin) false s.nodes) ++ l) (sections_caught flushed keys sections rest)
-    ∙ two_caught (places_of flushed (round_of keys s.origin) false s.nodes) (part_places flushed keys sections) (caught_in (length flushed.handlers) false rest)
+    caught_then flushed (inherited_of keys s.origin) false s.nodes (sections_then sections (Flush rest))
+    ∙ ap (λ (l : List Bool). are_caught (places_of flushed (inherited_of keys s.origin) false s.nodes) ++ l) (sections_caught flushed keys sections rest)
+    ∙ two_caught (places_of flushed (inherited_of keys s.origin) false s.nodes) (part_places flushed keys sections) (caught_in (length flushed.handlers) false rest)
     ∙ ap (λ (ps : List PlaceOf). are_caught ps ++ caught_in (length flushed.handlers) false rest)
-    (sym (append_assoc (places_of flushed (round_of keys s.origin) false s.nodes) (section_places flushed keys sections) (flush_places flushed false)))
+    (sym (append_assoc (places_of flushed (inherited_of keys s.origin) false s.nodes) (section_places flushed keys sections) (flush_places flushed false)))
 
 map_many : (keys : PlayKeys) (handlers : List HandlerIn) → length (map (task_of keys) handlers) ≡ length handlers
 map_many keys [] = refl
@@ -161,7 +161,7 @@ unless_fits : (head : Head) (play : Sections) (e : Expanded) (found : Option (Li
 unless_fits head play e None r = within_fits head play e r
 unless_fits head play e (Some name) r = absurd (let never : ⊥ = cc in never)
 
-roles_fit : (r : Result Met RoleFault) (play : Play) (e : Expanded) → and_then r (λ met. checked (head_of play met) (sections_of play met)) ≡ Ok e → IsBuilt e
+roles_fit : (r : Result Expansion RoleFault) (play : Play) (e : Expanded) → and_then r (λ met. checked (head_of play met) (sections_of play met)) ≡ Ok e → IsBuilt e
 roles_fit (Ok met) play e is = unless_fits (head_of play met) (sections_of play met) e (unknown_of (sections_of play met)) is
 roles_fit (Err f) play e is = absurd (let never : ⊥ = cc in never)
 

@@ -11,68 +11,68 @@ use Rattle.pb_play.specs.View.{node_of, node_step, written_of}
 use Rattle.pb_play.specs.declared.task.Task.{Task as OneTask}
 use Rattle.pb_places.specs.Place.{PlaceOf}
 use Rattle.pb_handlers.specs.declared.naming.HandlerNames.{HandlerNames}
-use Rattle.pb_roles.specs.Building.{Flushed, RoundOf, TaskIn, inside, is_nothing, all_places, flush_from, flush_places, flushed_in, part_places, placed, places_of, round_of, section_places, task_of}
+use Rattle.pb_roles.specs.Building.{Flushed, InheritedOf, TaskIn, inside, is_nothing, all_places, flush_from, flush_places, flushed_in, part_places, placed, places_of, inherited_of, section_places, task_of}
 use Rattle.pb_roles.specs.Sections.{names_of}
-use Rattle.pb_roles.specs.declared.met.HandlerIn.{HandlerIn}
-use Rattle.pb_roles.specs.declared.met.Section.{Section}
+use Rattle.pb_roles.specs.declared.collected.HandlerIn.{HandlerIn}
+use Rattle.pb_roles.specs.declared.collected.Section.{Section}
 use Rattle.pb_roles.specs.declared.sections.PlayKeys.{PlayKeys}
 use Rattle.pb_roles.specs.declared.sections.Sections.{Sections}
 use Rattle.pb_roles.proofs.PlayNodes.{each_level, is_none, written_block, written_flush, written_task, written_turn}
 
 -- ---- places
 
-step_places : (flushed : Flushed) (round : RoundOf) (is_caught : Bool) (rest : Written) (n : Node-F (Written → Written))
-    → places_of flushed round is_caught (node_step n rest) ≡ places_of flushed round is_caught (node_step n Nothing) ++ places_of flushed round is_caught rest
-step_places flushed round is_caught rest (OpenTask task) = refl
-step_places flushed round is_caught rest (OpenBlock block body rescue always) = ap (λ (ps : List PlaceOf). ps ++ places_of flushed round is_caught rest) (sym (append-nil _))
-step_places flushed round is_caught rest OpenFlush = ap (λ (ps : List PlaceOf). ps ++ places_of flushed round is_caught rest) (sym (append-nil _))
+step_places : (flushed : Flushed) (inherited : InheritedOf) (is_caught : Bool) (rest : Written) (n : Node-F (Written → Written))
+    → places_of flushed inherited is_caught (node_step n rest) ≡ places_of flushed inherited is_caught (node_step n Nothing) ++ places_of flushed inherited is_caught rest
+step_places flushed inherited is_caught rest (OpenTask task) = refl
+step_places flushed inherited is_caught rest (OpenBlock block body rescue always) = ap (λ (ps : List PlaceOf). ps ++ places_of flushed inherited is_caught rest) (sym (append-nil _))
+step_places flushed inherited is_caught rest OpenFlush = ap (λ (ps : List PlaceOf). ps ++ places_of flushed inherited is_caught rest) (sym (append-nil _))
 
 -- the places of a node, and of those behind it
-pub places_split : (flushed : Flushed) (round : RoundOf) (is_caught : Bool) (n : Node) (rest : Written)
-    → places_of flushed round is_caught (node_of n rest) ≡ places_of flushed round is_caught (node_of n Nothing) ++ places_of flushed round is_caught rest
-places_split flushed round is_caught n rest =
-    each_level (λ g. places_of flushed round is_caught (g rest) ≡ places_of flushed round is_caught (g Nothing) ++ places_of flushed round is_caught rest) (step_places flushed round is_caught rest) n
+pub places_split : (flushed : Flushed) (inherited : InheritedOf) (is_caught : Bool) (n : Node) (rest : Written)
+    → places_of flushed inherited is_caught (node_of n rest) ≡ places_of flushed inherited is_caught (node_of n Nothing) ++ places_of flushed inherited is_caught rest
+places_split flushed inherited is_caught n rest =
+    each_level (λ g. places_of flushed inherited is_caught (g rest) ≡ places_of flushed inherited is_caught (g Nothing) ++ places_of flushed inherited is_caught rest) (step_places flushed inherited is_caught rest) n
 
 -- the places of one node were added, and those of the nodes behind it are to come
-pub node_placed : (flushed : Flushed) (round : RoundOf) (is_caught : Bool) (old mid new : List PlaceOf) (nodes rest : List Node) (n : Node) (all : Written) → nodes ≡ n ∷ rest
-    → mid ++ places_of flushed round is_caught (written_of nodes) ≡ old ++ places_of flushed round is_caught all
-    → new ≡ mid ++ places_of flushed round is_caught (node_of n Nothing)
-    → new ++ places_of flushed round is_caught (written_of rest) ≡ old ++ places_of flushed round is_caught all
-node_placed flushed round is_caught old mid new nodes rest n all steps before pushed =
-    ap (λ (ps : List PlaceOf). ps ++ places_of flushed round is_caught (written_of rest)) pushed
-    ∙ append_assoc mid (places_of flushed round is_caught (node_of n Nothing)) (places_of flushed round is_caught (written_of rest))
-    ∙ ap (λ (ps : List PlaceOf). mid ++ ps) (sym (places_split flushed round is_caught n (written_of rest)) ∙ ap (λ (ns : List Node). places_of flushed round is_caught (written_of ns)) (sym steps))
+pub node_placed : (flushed : Flushed) (inherited : InheritedOf) (is_caught : Bool) (old mid new : List PlaceOf) (nodes rest : List Node) (n : Node) (all : Written) → nodes ≡ n ∷ rest
+    → mid ++ places_of flushed inherited is_caught (written_of nodes) ≡ old ++ places_of flushed inherited is_caught all
+    → new ≡ mid ++ places_of flushed inherited is_caught (node_of n Nothing)
+    → new ++ places_of flushed inherited is_caught (written_of rest) ≡ old ++ places_of flushed inherited is_caught all
+node_placed flushed inherited is_caught old mid new nodes rest n all steps before pushed =
+    ap (λ (ps : List PlaceOf). ps ++ places_of flushed inherited is_caught (written_of rest)) pushed
+    ∙ append_assoc mid (places_of flushed inherited is_caught (node_of n Nothing)) (places_of flushed inherited is_caught (written_of rest))
+    ∙ ap (λ (ps : List PlaceOf). mid ++ ps) (sym (places_split flushed inherited is_caught n (written_of rest)) ∙ ap (λ (ns : List Node). places_of flushed inherited is_caught (written_of ns)) (sym steps))
     ∙ before
 
-pub all_placed : (flushed : Flushed) (round : RoundOf) (is_caught : Bool) (old new : List PlaceOf) (nodes : List Node) (all : Written) → nodes ≡ []
-    → new ++ places_of flushed round is_caught (written_of nodes) ≡ old ++ places_of flushed round is_caught all → new ≡ old ++ places_of flushed round is_caught all
-all_placed flushed round is_caught old new nodes all none is =
-    sym (append-nil new) ∙ ap (λ (ns : List Node). new ++ places_of flushed round is_caught (written_of ns)) (sym none) ∙ is
+pub all_placed : (flushed : Flushed) (inherited : InheritedOf) (is_caught : Bool) (old new : List PlaceOf) (nodes : List Node) (all : Written) → nodes ≡ []
+    → new ++ places_of flushed inherited is_caught (written_of nodes) ≡ old ++ places_of flushed inherited is_caught all → new ≡ old ++ places_of flushed inherited is_caught all
+all_placed flushed inherited is_caught old new nodes all none is =
+    sym (append-nil new) ∙ ap (λ (ns : List Node). new ++ places_of flushed inherited is_caught (written_of ns)) (sym none) ∙ is
 
 -- a task of its own, and a place for handlers
-pub task_placed : (flushed : Flushed) (names : List HandlerNames) (round : RoundOf) (is_caught : Bool) (old new : List PlaceOf) (n : Node) (task : OneTask) → n ≡ ATask task → names ≡ flushed.names
-    → new ≡ old ++ placed names round is_caught None task ∷ [] → new ≡ old ++ places_of flushed round is_caught (node_of n Nothing)
-task_placed flushed names round is_caught old new n task is same pushed =
+pub task_placed : (flushed : Flushed) (names : List HandlerNames) (inherited : InheritedOf) (is_caught : Bool) (old new : List PlaceOf) (n : Node) (task : OneTask) → n ≡ ATask task → names ≡ flushed.names
+    → new ≡ old ++ placed names inherited is_caught None task ∷ [] → new ≡ old ++ places_of flushed inherited is_caught (node_of n Nothing)
+task_placed flushed names inherited is_caught old new n task is same pushed =
     pushed
-    ∙ ap (λ (ns : List HandlerNames). old ++ placed ns round is_caught None task ∷ []) same
-    ∙ sym (ap (λ (m : Node). old ++ places_of flushed round is_caught (node_of m Nothing)) is ∙ ap (λ (w : Written). old ++ places_of flushed round is_caught w) (written_task task Nothing))
+    ∙ ap (λ (ns : List HandlerNames). old ++ placed ns inherited is_caught None task ∷ []) same
+    ∙ sym (ap (λ (m : Node). old ++ places_of flushed inherited is_caught (node_of m Nothing)) is ∙ ap (λ (w : Written). old ++ places_of flushed inherited is_caught w) (written_task task Nothing))
 
-pub flush_placed : (flushed : Flushed) (round : RoundOf) (is_caught : Bool) (old new : List PlaceOf) (n : Node) → n ≡ AFlush → new ≡ old ++ flush_places flushed is_caught
-    → new ≡ old ++ places_of flushed round is_caught (node_of n Nothing)
-flush_placed flushed round is_caught old new n is pushed =
+pub flush_placed : (flushed : Flushed) (inherited : InheritedOf) (is_caught : Bool) (old new : List PlaceOf) (n : Node) → n ≡ AFlush → new ≡ old ++ flush_places flushed is_caught
+    → new ≡ old ++ places_of flushed inherited is_caught (node_of n Nothing)
+flush_placed flushed inherited is_caught old new n is pushed =
     pushed
     ∙ ap (λ (ps : List PlaceOf). old ++ ps) (sym (append-nil (flush_places flushed is_caught)))
-    ∙ sym (ap (λ (m : Node). old ++ places_of flushed round is_caught (node_of m Nothing)) is ∙ ap (λ (w : Written). old ++ places_of flushed round is_caught w) (written_flush Nothing))
+    ∙ sym (ap (λ (m : Node). old ++ places_of flushed inherited is_caught (node_of m Nothing)) is ∙ ap (λ (w : Written). old ++ places_of flushed inherited is_caught w) (written_flush Nothing))
 
 -- the three parts of a block
-pub block_placed : (flushed : Flushed) (round within : RoundOf) (is_caught is_rescued : Bool) (old one two three : List PlaceOf) (n : Node) (block : BlockKeys) (body rescue always : Vec Node Global)
-    → n ≡ ABlock block body rescue always → within ≡ inside round block → is_rescued ≡ (is_caught || not (is_nothing (written_of rescue.items)))
+pub block_placed : (flushed : Flushed) (inherited within : InheritedOf) (is_caught is_rescued : Bool) (old one two three : List PlaceOf) (n : Node) (block : BlockKeys) (body rescue always : Vec Node Global)
+    → n ≡ ABlock block body rescue always → within ≡ inside inherited block → is_rescued ≡ (is_caught || not (is_nothing (written_of rescue.items)))
     → one ≡ old ++ places_of flushed within is_rescued (written_of body.items)
     → two ≡ one ++ places_of flushed within is_caught (written_of rescue.items)
     → three ≡ two ++ places_of flushed within is_caught (written_of always.items)
-    → three ≡ old ++ places_of flushed round is_caught (node_of n Nothing)
-block_placed flushed round within is_caught is_rescued old one two three n block body rescue always is round_is rescued a b c =
-    rw (is, written_block block body rescue always Nothing, c, b, a, round_is, rescued) (joined old _ _ _)
+    → three ≡ old ++ places_of flushed inherited is_caught (node_of n Nothing)
+block_placed flushed inherited within is_caught is_rescued old one two three n block body rescue always is inherited_is rescued a b c =
+    rw (is, written_block block body rescue always Nothing, c, b, a, inherited_is, rescued) (joined old _ _ _)
   where
     joined : (os xs ys zs : List PlaceOf) → ((os ++ xs) ++ ys) ++ zs ≡ os ++ (((xs ++ ys) ++ zs) ++ [])
     joined os xs ys zs = simp (append_assoc, append-nil) refl
@@ -83,11 +83,11 @@ rescued_is is_caught is_empty rescue e = ap (λ (b : Bool). is_caught || not b) 
 -- the places of one section were added, and those of the sections behind it are to come
 pub section_placed : (flushed : Flushed) (keys : PlayKeys) (old mid new : List PlaceOf) (sections rest all : List Section) (s : Section) → sections ≡ s ∷ rest
     → mid ++ section_places flushed keys sections ≡ old ++ section_places flushed keys all
-    → new ≡ mid ++ places_of flushed (round_of keys s.origin) false s.nodes
+    → new ≡ mid ++ places_of flushed (inherited_of keys s.origin) false s.nodes
     → new ++ section_places flushed keys rest ≡ old ++ section_places flushed keys all
 section_placed flushed keys old mid new sections rest all s steps before pushed =
     ap (λ (ps : List PlaceOf). ps ++ section_places flushed keys rest) pushed
-    ∙ append_assoc mid (places_of flushed (round_of keys s.origin) false s.nodes) (section_places flushed keys rest)
+    ∙ append_assoc mid (places_of flushed (inherited_of keys s.origin) false s.nodes) (section_places flushed keys rest)
     ∙ ap (λ (ss : List Section). mid ++ section_places flushed keys ss) (sym steps)
     ∙ before
 
@@ -101,7 +101,7 @@ part_placed flushed keys old mid new sections all none is pushed =
 
 -- the place of one handler was added, and those of the handlers behind it are to come
 pub handler_placed : (names : List HandlerNames) (is_caught : Bool) (handlers : List TaskIn) (n : ℕ) (handler : TaskIn) (place : PlaceOf) (mid new all : List PlaceOf) → n < length handlers
-    → handler ≡ get_or handlers n handler → place ≡ placed names handler.round is_caught (Some n) handler.task → new ≡ mid ++ place ∷ []
+    → handler ≡ get_or handlers n handler → place ≡ placed names handler.inherited is_caught (Some n) handler.task → new ≡ mid ++ place ∷ []
     → mid ++ flush_from names is_caught n (drop n handlers) ≡ all → new ++ flush_from names is_caught (n + 1) (drop (n + 1) handlers) ≡ all
 handler_placed names is_caught handlers n handler place mid new all lt at is pushed before =
     ap (λ (ps : List PlaceOf). ps ++ flush_from names is_caught (n + 1) (drop (n + 1) handlers)) pushed
@@ -112,14 +112,14 @@ handler_placed names is_caught handlers n handler place mid new all lt at is pus
 
 -- the same by what the code reads: its own names and handlers, which are these
 pub handler_read : (names read : List HandlerNames) (is_caught : Bool) (handlers all_read : List TaskIn) (n number : ℕ) (handler it : TaskIn) (place : PlaceOf) (mid new all : List PlaceOf) → read ≡ names
-    → all_read ≡ handlers → number ≡ n → it ≡ handler → n < length all_read → handler ≡ get_or all_read n handler → place ≡ placed read it.round is_caught (Some number) it.task
+    → all_read ≡ handlers → number ≡ n → it ≡ handler → n < length all_read → handler ≡ get_or all_read n handler → place ≡ placed read it.inherited is_caught (Some number) it.task
     → new ≡ mid ++ place ∷ [] → mid ++ flush_from names is_caught n (drop n handlers) ≡ all → new ++ flush_from names is_caught (n + 1) (drop (n + 1) handlers) ≡ all
 handler_read names read is_caught handlers all_read n number handler it place mid new all same_names same same_number same_handler lt at is pushed before =
     handler_placed names is_caught handlers n handler place mid new all (subst (λ (hs : List TaskIn). n < length hs) same lt) (at ∙ ap (λ (hs : List TaskIn). get_or hs n handler) same)
     (is
-    ∙ ap (λ (ns : List HandlerNames). placed ns it.round is_caught (Some number) it.task) same_names
-    ∙ ap (λ (m : ℕ). placed names it.round is_caught (Some m) it.task) same_number
-    ∙ ap (λ (h : TaskIn). placed names h.round is_caught (Some n) h.task) same_handler) pushed before
+    ∙ ap (λ (ns : List HandlerNames). placed ns it.inherited is_caught (Some number) it.task) same_names
+    ∙ ap (λ (m : ℕ). placed names it.inherited is_caught (Some m) it.task) same_number
+    ∙ ap (λ (h : TaskIn). placed names h.inherited is_caught (Some n) h.task) same_handler) pushed before
 
 pub handlers_read : (names : List HandlerNames) (is_caught : Bool) (handlers all_read : List TaskIn) (n : ℕ) (mid all : List PlaceOf) → all_read ≡ handlers → length all_read ≤ n
     → mid ++ flush_from names is_caught n (drop n handlers) ≡ all → mid ≡ all

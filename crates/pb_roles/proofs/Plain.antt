@@ -8,7 +8,7 @@ use Rattle.pb_places.specs.Place.{no_role, place_of}
 use Rattle.pb_play.specs.Couplings.{uncoupled}
 use Rattle.pb_play.specs.declared.couplings.Couplings.{Couplings}
 use Rattle.pb_play.specs.declared.task.Task.{Task as OneTask}
-use Rattle.pb_roles.specs.Building.{RoundOf, inner_couplings, placed}
+use Rattle.pb_roles.specs.Building.{InheritedOf, inner_couplings, placed}
 
 or_none : {A : Type 0} (own : Option A) → or_else own None ≡ own
 or_none (Some x) = refl
@@ -28,15 +28,15 @@ inner_uncoupled outer own e =
       run_once = or_none own.run_once i;
     }
 
-pub plain_place : (round : RoundOf) (is_caught : Bool) (names : List HandlerNames) (task : OneTask) → round.keys.conditions ≡ [] → round.block_vars ≡ [] → round.role ≡ no_role → is_caught ≡ false
-    → unwrap_or round.keys.ignore_errors false ≡ false → unwrap_or round.keys.throttle 0 ≡ 0 → round.keys.couplings ≡ uncoupled → notified_from task.notify 0 names ≡ []
-    → placed names round is_caught None task ≡ place_of task
-plain_place round is_caught names task conditions vars role caught ignores throttle couplings notified =
-    let ignore_errors = inner_alone task.ignore_errors round.keys.ignore_errors false ignores in
-    let at_once = inner_alone task.throttle round.keys.throttle 0 throttle in
-    let coupled = inner_uncoupled round.keys.couplings task.couplings couplings in
-    let fatal : or_else task.couplings.any_errors_fatal round.keys.couplings.any_errors_fatal ≡ task.couplings.any_errors_fatal = ap (λ (c : Couplings). c.any_errors_fatal) coupled in
-    let gives : or_else task.couplings.delegate_facts round.keys.couplings.delegate_facts ≡ task.couplings.delegate_facts = ap (λ (c : Couplings). c.delegate_facts) coupled in
-    let to : or_else task.couplings.delegate_to round.keys.couplings.delegate_to ≡ task.couplings.delegate_to = ap (λ (c : Couplings). c.delegate_to) coupled in
-    let once : or_else task.couplings.run_once round.keys.couplings.run_once ≡ task.couplings.run_once = ap (λ (c : Couplings). c.run_once) coupled in
+pub plain_place : (inherited : InheritedOf) (is_caught : Bool) (names : List HandlerNames) (task : OneTask) → inherited.keys.conditions ≡ [] → inherited.block_vars ≡ [] → inherited.role ≡ no_role → is_caught ≡ false
+    → unwrap_or inherited.keys.ignore_errors false ≡ false → unwrap_or inherited.keys.throttle 0 ≡ 0 → inherited.keys.couplings ≡ uncoupled → notified_from task.notify 0 names ≡ []
+    → placed names inherited is_caught None task ≡ place_of task
+plain_place inherited is_caught names task conditions vars role caught ignores throttle couplings notified =
+    let ignore_errors = inner_alone task.ignore_errors inherited.keys.ignore_errors false ignores in
+    let at_once = inner_alone task.throttle inherited.keys.throttle 0 throttle in
+    let coupled = inner_uncoupled inherited.keys.couplings task.couplings couplings in
+    let fatal : or_else task.couplings.any_errors_fatal inherited.keys.couplings.any_errors_fatal ≡ task.couplings.any_errors_fatal = ap (λ (c : Couplings). c.any_errors_fatal) coupled in
+    let gives : or_else task.couplings.delegate_facts inherited.keys.couplings.delegate_facts ≡ task.couplings.delegate_facts = ap (λ (c : Couplings). c.delegate_facts) coupled in
+    let to : or_else task.couplings.delegate_to inherited.keys.couplings.delegate_to ≡ task.couplings.delegate_to = ap (λ (c : Couplings). c.delegate_to) coupled in
+    let once : or_else task.couplings.run_once inherited.keys.couplings.run_once ≡ task.couplings.run_once = ap (λ (c : Couplings). c.run_once) coupled in
     rw (conditions, vars, role, caught, ignore_errors, at_once, fatal, gives, to, once, notified) refl

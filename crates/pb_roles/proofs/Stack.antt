@@ -6,17 +6,17 @@ use Rattle.pb_expr_syntax.specs.Tree.{Tree}
 use Rattle.pb_play_reading.specs.declared.handlers.Handler.{Handler}
 use Rattle.pb_role_entries.specs.declared.entry.RoleEntry.{RoleEntry}
 use Rattle.pb_roles.specs.Answers.{Faults}
-use Rattle.pb_roles.specs.Entries.{came_of}
+use Rattle.pb_roles.specs.Entries.{key_of}
 use Rattle.pb_roles.specs.Expansion.{closed, finished, handlers_in, in_order, is_open, meets, role_of, with_come}
 use Rattle.pb_roles.specs.Open.{conditions_in, cost_in, cost_of, dependencies_of, left_in, names_of, pushed, rest_of, to_do}
 use Rattle.pb_roles.specs.declared.fault.RoleFault.{RoleFault}
 use Rattle.pb_roles.specs.declared.fault.RoleFault.TheVariants.{Unknown, Cycle, Load, Memory, TooLarge}
 use Rattle.pb_roles.specs.Files.{RoleRead}
 use Rattle.pb_roles.specs.Origins.{OriginOf}
-use Rattle.pb_roles.specs.declared.came.Came.{Came}
-use Rattle.pb_roles.specs.declared.met.HandlerIn.{HandlerIn}
-use Rattle.pb_roles.specs.declared.met.Met.{Met}
-use Rattle.pb_roles.specs.declared.opened.OpenRole.{OpenRole}
+use Rattle.pb_roles.specs.declared.entry_key.EntryKey.{EntryKey}
+use Rattle.pb_roles.specs.declared.collected.HandlerIn.{HandlerIn}
+use Rattle.pb_roles.specs.declared.collected.Expansion.{Expansion}
+use Rattle.pb_roles.specs.declared.open_role.OpenRole.{OpenRole}
 
 pub and_ok : {A E : Type 0} (r : Result A E) (f : A → Result A E) → ((x : A) → f x ≡ Ok x) → and_then r f ≡ r
 and_ok (Ok x) f h = h x
@@ -38,48 +38,48 @@ faults_pass (Load path fault) r s h k = h (Load path fault) k
 faults_pass Memory r s h k = tt
 faults_pass TooLarge r s h k = h TooLarge k
 
-pub meets_found : (n : ℕ) (reads : List ℕ → RoleRead) (names : List (List ℕ)) (outer : List Tree) (entry : RoleEntry) (met : Met) (found : Option OpenRole)
+pub meets_found : (n : ℕ) (reads : List ℕ → RoleRead) (names : List (List ℕ)) (outer : List Tree) (entry : RoleEntry) (met : Expansion) (found : Option OpenRole)
     → is_open entry.name names ≡ false → role_of n reads outer entry met.came ≡ Ok found
     → meets (suc n) reads names outer entry met ≡ finished (λ role. meets n reads (role.name ∷ names) role.origin.conditions) found (with_come entry met)
 unfolding meets
 meets_found n reads names outer entry met found h k = rw h (rw k refl)
 
-pub meets_fault : (n : ℕ) (reads : List ℕ → RoleRead) (names : List (List ℕ)) (outer : List Tree) (entry : RoleEntry) (met : Met) (e : RoleFault)
+pub meets_fault : (n : ℕ) (reads : List ℕ → RoleRead) (names : List (List ℕ)) (outer : List Tree) (entry : RoleEntry) (met : Expansion) (e : RoleFault)
     → is_open entry.name names ≡ false → role_of n reads outer entry met.came ≡ Err e → meets (suc n) reads names outer entry met ≡ Err e
 unfolding meets
 meets_fault n reads names outer entry met e h k = rw h (rw k refl)
 
-pub meets_open : (n : ℕ) (reads : List ℕ → RoleRead) (names : List (List ℕ)) (outer : List Tree) (entry : RoleEntry) (met : Met)
+pub meets_open : (n : ℕ) (reads : List ℕ → RoleRead) (names : List (List ℕ)) (outer : List Tree) (entry : RoleEntry) (met : Expansion)
     → is_open entry.name names ≡ true → meets n reads names outer entry met ≡ Err Cycle
 unfolding meets
 meets_open zero reads names outer entry met h = refl
 meets_open (suc n) reads names outer entry met h = rw h refl
 
-finished_rest : (n : ℕ) (reads : List ℕ → RoleRead) (roles : List OpenRole) (found : Option OpenRole) (met : Met)
+finished_rest : (n : ℕ) (reads : List ℕ → RoleRead) (roles : List OpenRole) (found : Option OpenRole) (met : Expansion)
     → IfSome found (λ role. role.left ≡ n)
     → and_then (finished (λ role. meets n reads (role.name ∷ names_of roles) role.origin.conditions) found met) (rest_of reads roles) ≡ rest_of reads (pushed found roles) met
 finished_rest n reads roles None met h = refl
 finished_rest n reads roles (Some role) met h =
     rw h (and_map (in_order (meets n reads (role.name ∷ names_of roles) role.origin.conditions) role.dependencies met) (closed role) (rest_of reads roles))
 
-pub entered : (n : ℕ) (most : ℕ) (reads : List ℕ → RoleRead) (roles : List OpenRole) (entry : RoleEntry) (met : Met) (found : Option OpenRole)
+pub entered : (n : ℕ) (most : ℕ) (reads : List ℕ → RoleRead) (roles : List OpenRole) (entry : RoleEntry) (met : Expansion) (found : Option OpenRole)
     → left_in most roles ≡ suc n → is_open entry.name (names_of roles) ≡ false → role_of n reads (conditions_in roles) entry met.came ≡ Ok found
     → IfSome found (λ role. role.left ≡ n) → rest_of reads (pushed found roles) (with_come entry met) ≡ to_do most reads roles entry met
 entered n most reads roles entry met found h k l m =
     sym (rw h (rw (meets_found n reads (names_of roles) (conditions_in roles) entry met found k l) (finished_rest n reads roles found (with_come entry met) m)))
 
-pub enter_fault : (n : ℕ) (most : ℕ) (reads : List ℕ → RoleRead) (roles : List OpenRole) (entry : RoleEntry) (met : Met) (e : RoleFault)
+pub enter_fault : (n : ℕ) (most : ℕ) (reads : List ℕ → RoleRead) (roles : List OpenRole) (entry : RoleEntry) (met : Expansion) (e : RoleFault)
     → left_in most roles ≡ suc n → is_open entry.name (names_of roles) ≡ false → Faults e (role_of n reads (conditions_in roles) entry met.came)
     → Faults e (to_do most reads roles entry met)
 enter_fault n most reads roles entry met e h k l =
     faults_pass e (role_of n reads (conditions_in roles) entry met.came) (to_do most reads roles entry met)
     (λ f r. rw h (rw (meets_fault n reads (names_of roles) (conditions_in roles) entry met f k r) refl)) l
 
-pub enter_open : (most : ℕ) (reads : List ℕ → RoleRead) (roles : List OpenRole) (entry : RoleEntry) (met : Met)
+pub enter_open : (most : ℕ) (reads : List ℕ → RoleRead) (roles : List OpenRole) (entry : RoleEntry) (met : Expansion)
     → is_open entry.name (names_of roles) ≡ true → to_do most reads roles entry met ≡ Err Cycle
 enter_open most reads roles entry met h = rw (meets_open (left_in most roles) reads (names_of roles) (conditions_in roles) entry met h) refl
 
-pub enter_none : (most : ℕ) (reads : List ℕ → RoleRead) (roles : List OpenRole) (entry : RoleEntry) (met : Met) → left_in most roles ≡ 0 → to_do most reads roles entry met ≡ Err Cycle
+pub enter_none : (most : ℕ) (reads : List ℕ → RoleRead) (roles : List OpenRole) (entry : RoleEntry) (met : Expansion) → left_in most roles ≡ 0 → to_do most reads roles entry met ≡ Err Cycle
 unfolding meets
 enter_none most reads roles entry met h = rw h refl
 
@@ -96,7 +96,7 @@ pub cost_entered : (n : ℕ) (most : ℕ) (reads : List ℕ → RoleRead) (roles
 cost_entered n most reads roles entry found l h k = rw l (cost_pushed n reads roles entry found h k)
 
 -- the next entry of the innermost role
-pub next_entry : (most : ℕ) (reads : List ℕ → RoleRead) (role : OpenRole) (roles : List OpenRole) (entry : RoleEntry) (entries : List RoleEntry) (met : Met)
+pub next_entry : (most : ℕ) (reads : List ℕ → RoleRead) (role : OpenRole) (roles : List OpenRole) (entry : RoleEntry) (entries : List RoleEntry) (met : Expansion)
     → role.dependencies ≡ entry ∷ entries → rest_of reads (role ∷ roles) met ≡ to_do most reads (record role { dependencies = entries } ∷ roles) entry met
 next_entry most reads role roles entry entries met h =
     rw h (and_and (meets role.left reads (role.name ∷ names_of roles) role.origin.conditions entry met)
@@ -108,15 +108,15 @@ pub cost_next : (reads : List ℕ → RoleRead) (role : OpenRole) (roles : List 
 cost_next reads role roles entry entries h = rw h (omega arith)
 
 -- no entry is left in it
-pub no_entry : (reads : List ℕ → RoleRead) (role : OpenRole) (roles : List OpenRole) (met : Met) → role.dependencies ≡ [] → rest_of reads (role ∷ roles) met ≡ rest_of reads roles (closed role met)
+pub no_entry : (reads : List ℕ → RoleRead) (role : OpenRole) (roles : List OpenRole) (met : Expansion) → role.dependencies ≡ [] → rest_of reads (role ∷ roles) met ≡ rest_of reads roles (closed role met)
 no_entry reads role roles met h = rw h refl
 
 pub cost_none : (reads : List ℕ → RoleRead) (role : OpenRole) (roles : List OpenRole) → role.dependencies ≡ [] → cost_in reads (role ∷ roles) ≡ 1 + cost_in reads roles
 cost_none reads role roles h = rw h (omega arith)
 
-pub entered_by : (left : ℕ) (most : ℕ) (reads : List ℕ → RoleRead) (roles new : List OpenRole) (entry : RoleEntry) (met : Met) (outer : List Tree) (found : Option OpenRole) (came : List Came)
+pub entered_by : (left : ℕ) (most : ℕ) (reads : List ℕ → RoleRead) (roles new : List OpenRole) (entry : RoleEntry) (met : Expansion) (outer : List Tree) (found : Option OpenRole) (came : List EntryKey)
     → left ≡ left_in most roles → (left ≡ 0 → ⊥) → is_open entry.name (names_of roles) ≡ false → outer ≡ conditions_in roles
-    → role_of (left - 1) reads outer entry met.came ≡ Ok found → came ≡ met.came ++ came_of entry ∷ [] → IfSome found (λ role. role.left ≡ left - 1)
+    → role_of (left - 1) reads outer entry met.came ≡ Ok found → came ≡ met.came ++ key_of entry ∷ [] → IfSome found (λ role. role.left ≡ left - 1)
     → new ≡ pushed found roles
     → rest_of reads new (record { came = came; sections = met.sections; handlers = met.handlers }) ≡ to_do most reads roles entry met
 entered_by left most reads roles new entry met outer found came h some k o l m i n =

@@ -7,17 +7,17 @@ use Rattle.pb_expr_syntax.specs.Tree.{Tree}
 use Rattle.pb_operators.specs.Values.{same}
 use Rattle.pb_role_entries.specs.declared.entry.RoleEntry.{RoleEntry}
 use Rattle.pb_role_files.specs.declared.meta.RoleMeta.{RoleMeta}
-use Rattle.pb_roles.specs.Entries.{are_written_alike, came_of, has_come, is_again}
+use Rattle.pb_roles.specs.Entries.{are_written_alike, key_of, has_come, is_again}
 use Rattle.pb_roles.specs.Expansion.{closed, handlers_in, in_order, is_open, meets, most_open, nothing_met, opened, role_in, role_of, unless_again, with_come}
 use Rattle.pb_roles.specs.Files.{RoleRead, read_of}
 use Rattle.pb_roles.specs.Taken.{AreInOrder, IsOneOf, IsRead, RolesAreInOrder, Taken, dependencies_in, handlers_of, has_alike, has_role, section_of}
-use Rattle.pb_roles.specs.declared.came.Came.{Came}
+use Rattle.pb_roles.specs.declared.entry_key.EntryKey.{EntryKey}
 use Rattle.pb_roles.specs.declared.fault.RoleFault.{RoleFault}
 use Rattle.pb_roles.specs.declared.fault.RoleFault.TheVariants.{Unknown, Cycle}
-use Rattle.pb_roles.specs.declared.met.HandlerIn.{HandlerIn}
-use Rattle.pb_roles.specs.declared.met.Met.{Met}
-use Rattle.pb_roles.specs.declared.met.Section.{Section}
-use Rattle.pb_roles.specs.declared.opened.OpenRole.{OpenRole}
+use Rattle.pb_roles.specs.declared.collected.HandlerIn.{HandlerIn}
+use Rattle.pb_roles.specs.declared.collected.Expansion.{Expansion}
+use Rattle.pb_roles.specs.declared.collected.Section.{Section}
+use Rattle.pb_roles.specs.declared.open_role.OpenRole.{OpenRole}
 use Rattle.pb_roles.proofs.Stack.{meets_fault, meets_found, meets_open}
 use Rattle.pb_roles.proofs.Tests.{all_append, all_map, and_first, and_second, any_append, any_left, any_right, is_itself, none_append, none_first, none_left, none_right, none_second, or_left, or_none, or_right, same_name}
 
@@ -27,16 +27,16 @@ map_append (x ∷ xs) ys = ap (λ (s : List Section). section_of x ∷ s) (map_a
 
 -- ---- what stands while roles of these names are open
 
-abbrev IsKnown : List (List ℕ) → List Taken → Came → Type 0
+abbrev IsKnown : List (List ℕ) → List Taken → EntryKey → Type 0
 IsKnown names taken came = (is_open came.name names || has_role taken came.name) ≡ true
 
 -- the role of each entry that has come is open, or taken; and an entry has come that asked for a role that is taken
-record Stands (names : List (List ℕ)) (taken : List Taken) (came : List Came) : Type 0 where
+record Stands (names : List (List ℕ)) (taken : List Taken) (came : List EntryKey) : Type 0 where
   known : AllByRecursion (IsKnown names taken) came
-  covered : (entry : Came) → has_come entry came ≡ false → has_alike taken entry ≡ false
+  covered : (entry : EntryKey) → has_come entry came ≡ false → has_alike taken entry ≡ false
 
 -- what is taken for these entries behind what was taken before, while roles of these names are open
-record Takes (reads : List ℕ → RoleRead) (names : List (List ℕ)) (before : List Taken) (entries : List RoleEntry) (met after : Met) : Type 0 where
+record Takes (reads : List ℕ → RoleRead) (names : List (List ℕ)) (before : List Taken) (entries : List RoleEntry) (met after : Expansion) : Type 0 where
   inside : List Taken
   read : AllByRecursion (IsRead reads) inside
   order : AreInOrder before inside
@@ -45,11 +45,11 @@ record Takes (reads : List ℕ → RoleRead) (names : List (List ℕ)) (before :
   asked : AllByRecursion (λ (it : Taken). IsOneOf it.entry (entries ++ dependencies_in inside)) inside
   sections : after.sections ≡ met.sections ++ map section_of inside
   handlers : after.handlers ≡ met.handlers ++ handlers_of inside
-  more : List Came
+  more : List EntryKey
   came : after.came ≡ met.came ++ more
   stands : Stands names (before ++ inside) after.came
 
-come_first : (names : List (List ℕ)) (taken : List Taken) (entry c : Came) (rest b : Bool) → is_again entry c ≡ b → IsKnown names taken c
+come_first : (names : List (List ℕ)) (taken : List Taken) (entry c : EntryKey) (rest b : Bool) → is_again entry c ≡ b → IsKnown names taken c
     → (rest ≡ true → IsKnown names taken entry) → (b || rest) ≡ true → IsKnown names taken entry
 come_first names taken entry c rest true f known later e =
     subst (λ (name : List ℕ). (is_open name names || has_role taken name) ≡ true)
@@ -57,7 +57,7 @@ come_first names taken entry c rest true f known later e =
 come_first names taken entry c rest false f known later e = later e
 
 -- an entry that has come has its role open, or taken
-come_known : (names : List (List ℕ)) (taken : List Taken) (entry : Came) (came : List Came)
+come_known : (names : List (List ℕ)) (taken : List Taken) (entry : EntryKey) (came : List EntryKey)
     → AllByRecursion (IsKnown names taken) came → has_come entry came ≡ true → IsKnown names taken entry
 come_known names taken entry [] a e = cc
 come_known names taken entry (c ∷ came) a e =
@@ -144,7 +144,7 @@ handlers_append (x ∷ xs) ys =
 behind : {X : Type 0} (a b c d e : List X) → b ≡ a ++ d → c ≡ b ++ e → c ≡ a ++ (d ++ e)
 behind a b c d e f g = g ∙ ap (λ xs. xs ++ e) f ∙ append_assoc a d e
 
-takes_none : (reads : List ℕ → RoleRead) (names : List (List ℕ)) (before : List Taken) (met : Met) → Stands names before met.came → Takes reads names before [] met met
+takes_none : (reads : List ℕ → RoleRead) (names : List (List ℕ)) (before : List Taken) (met : Expansion) → Stands names before met.came → Takes reads names before [] met met
 takes_none reads names before met stands =
     record {
       inside = [];
@@ -160,7 +160,7 @@ takes_none reads names before met stands =
       stands = subst (λ (ts : List Taken). Stands names ts met.came) (sym (append-nil before)) stands;
     }
 
-takes_both : (reads : List ℕ → RoleRead) (names : List (List ℕ)) (before : List Taken) (entry : RoleEntry) (entries : List RoleEntry) (met mid after : Met)
+takes_both : (reads : List ℕ → RoleRead) (names : List (List ℕ)) (before : List Taken) (entry : RoleEntry) (entries : List RoleEntry) (met mid after : Expansion)
     → (a : Takes reads names before (entry ∷ []) met mid) → Takes reads names (before ++ a.inside) entries mid after → Takes reads names before (entry ∷ entries) met after
 takes_both reads names before entry entries met mid after a b =
     record {
@@ -191,9 +191,9 @@ takes_both reads names before entry entries met mid after a b =
     whole = append_assoc before a.inside b.inside
 
 -- what each entry brings
-abbrev EachTakes : (List ℕ → RoleRead) → List (List ℕ) → (RoleEntry → Met → Result Met RoleFault) → Type 0
+abbrev EachTakes : (List ℕ → RoleRead) → List (List ℕ) → (RoleEntry → Expansion → Result Expansion RoleFault) → Type 0
 EachTakes reads names brings =
-    (entry : RoleEntry) (met after : Met) (before : List Taken) → Stands names before met.came → brings entry met ≡ Ok after → Takes reads names before (entry ∷ []) met after
+    (entry : RoleEntry) (met after : Expansion) (before : List Taken) → Stands names before met.came → brings entry met ≡ Ok after → Takes reads names before (entry ∷ []) met after
 
 same_ok : {A E : Type 0} (r : Result A E) (x y : A) → r ≡ Ok x → r ≡ Ok y → x ≡ y
 same_ok r x y e f = cc
@@ -202,11 +202,11 @@ pub then_ok : {A B E : Type 0} (r : Result A E) (f : A → Result B E) (y : B) �
 then_ok (Ok x) f y e = (x, refl, e)
 then_ok (Err fault) f y e = cc
 
-all_take : (reads : List ℕ → RoleRead) (names : List (List ℕ)) (brings : RoleEntry → Met → Result Met RoleFault) → EachTakes reads names brings
-    → (entries : List RoleEntry) (met after : Met) (before : List Taken) → Stands names before met.came → in_order brings entries met ≡ Ok after
+all_take : (reads : List ℕ → RoleRead) (names : List (List ℕ)) (brings : RoleEntry → Expansion → Result Expansion RoleFault) → EachTakes reads names brings
+    → (entries : List RoleEntry) (met after : Expansion) (before : List Taken) → Stands names before met.came → in_order brings entries met ≡ Ok after
     → Takes reads names before entries met after
 all_take reads names brings each [] met after before stands e =
-    subst (λ (m : Met). Takes reads names before [] met m) (same_ok (in_order brings [] met) met after refl e) (takes_none reads names before met stands)
+    subst (λ (m : Expansion). Takes reads names before [] met m) (same_ok (in_order brings [] met) met after refl e) (takes_none reads names before met stands)
 all_take reads names brings each (entry ∷ entries) met after before stands e =
     let found = then_ok (brings entry met) (in_order brings entries) after e in
     let first = each entry met (found.0) before stands (found.1) in
@@ -216,8 +216,8 @@ all_take reads names brings each (entry ∷ entries) met after before stands e =
 -- ---- one entry
 
 -- one that is left out
-left_out : (reads : List ℕ → RoleRead) (names : List (List ℕ)) (before : List Taken) (entry : RoleEntry) (met : Met)
-    → Stands names before met.came → is_open entry.name names ≡ false → has_come (came_of entry) met.came ≡ true → Takes reads names before (entry ∷ []) met (with_come entry met)
+left_out : (reads : List ℕ → RoleRead) (names : List (List ℕ)) (before : List Taken) (entry : RoleEntry) (met : Expansion)
+    → Stands names before met.came → is_open entry.name names ≡ false → has_come (key_of entry) met.came ≡ true → Takes reads names before (entry ∷ []) met (with_come entry met)
 left_out reads names before entry met stands shut come =
     record {
       inside = [];
@@ -228,13 +228,13 @@ left_out reads names before entry met stands shut come =
       asked = tt;
       sections = sym (append-nil met.sections);
       handlers = sym (append-nil met.handlers);
-      more = came_of entry ∷ [];
+      more = key_of entry ∷ [];
       came = refl;
       stands =
-          subst (λ (ts : List Taken). Stands names ts (met.came ++ came_of entry ∷ [])) (sym (append-nil before))
+          subst (λ (ts : List Taken). Stands names ts (met.came ++ key_of entry ∷ [])) (sym (append-nil before))
           (record {
-            known = all_append (IsKnown names before) met.came (came_of entry ∷ []) stands.known (or_right (is_open entry.name names) (has_role before entry.name) there, tt);
-            covered = λ e none. stands.covered e (none_left (is_again e) met.came (came_of entry ∷ []) none);
+            known = all_append (IsKnown names before) met.came (key_of entry ∷ []) stands.known (or_right (is_open entry.name names) (has_role before entry.name) there, tt);
+            covered = λ e none. stands.covered e (none_left (is_again e) met.came (key_of entry ∷ []) none);
           });
     }
   where
@@ -243,18 +243,18 @@ left_out reads names before entry met stands shut come =
     taken_or false b e f = e
 
     there : has_role before entry.name ≡ true
-    there = taken_or (is_open entry.name names) (has_role before entry.name) (come_known names before (came_of entry) met.came stands.known come) shut
+    there = taken_or (is_open entry.name names) (has_role before entry.name) (come_known names before (key_of entry) met.came stands.known come) shut
 
 -- while a role is open its entry has come
-opening : (names : List (List ℕ)) (before : List Taken) (entry : RoleEntry) (came : List Came) → Stands names before came
-    → Stands (entry.name ∷ names) before (came ++ came_of entry ∷ [])
+opening : (names : List (List ℕ)) (before : List Taken) (entry : RoleEntry) (came : List EntryKey) → Stands names before came
+    → Stands (entry.name ∷ names) before (came ++ key_of entry ∷ [])
 opening names before entry came stands =
     record {
       known =
-          all_append (IsKnown (entry.name ∷ names) before) came (came_of entry ∷ [])
+          all_append (IsKnown (entry.name ∷ names) before) came (key_of entry ∷ [])
           (all_map (IsKnown names before) (IsKnown (entry.name ∷ names) before) (λ c known. wider (bytes_eq c.name entry.name) (is_open c.name names) (has_role before c.name) known) came stands.known)
           (or_left (is_open entry.name (entry.name ∷ names)) (has_role before entry.name) (or_left (bytes_eq entry.name entry.name) (is_open entry.name names) (is_itself entry.name)), tt);
-      covered = λ e none. stands.covered e (none_left (is_again e) came (came_of entry ∷ []) none);
+      covered = λ e none. stands.covered e (none_left (is_again e) came (key_of entry ∷ []) none);
     }
   where
     wider : (a b c : Bool) → (b || c) ≡ true → ((a || b) || c) ≡ true
@@ -267,10 +267,10 @@ taken_for entry meta role = record { entry = entry; meta = meta; role = role }
 
 -- no role inside it is asked for by an entry like its own
 none_alike : (names : List (List ℕ)) (entry : RoleEntry) (inside : List Taken)
-    → AllByRecursion (λ (it : Taken). is_open it.entry.name (entry.name ∷ names) ≡ false) inside → has_alike inside (came_of entry) ≡ false
+    → AllByRecursion (λ (it : Taken). is_open it.entry.name (entry.name ∷ names) ≡ false) inside → has_alike inside (key_of entry) ≡ false
 none_alike names entry [] a = refl
 none_alike names entry (it ∷ inside) a =
-    or_none (is_again (came_of entry) (came_of it.entry)) (has_alike inside (came_of entry))
+    or_none (is_again (key_of entry) (key_of it.entry)) (has_alike inside (key_of entry))
     (by_name (bytes_eq entry.name it.entry.name) _ refl (none_first (bytes_eq it.entry.name entry.name) (is_open it.entry.name names) (a.0)))
     (none_alike names entry inside (a.1))
   where
@@ -279,15 +279,15 @@ none_alike names entry (it ∷ inside) a =
     by_name false more e f = refl
 
 -- its entry is a new one, unless it may come again
-may_come : (names : List (List ℕ)) (before inside : List Taken) (entry : RoleEntry) (allows : Bool) (came : List Came) → Stands names before came
-    → (not allows && has_come (came_of entry) came) ≡ false → has_alike inside (came_of entry) ≡ false → (allows || not (has_alike (before ++ inside) (came_of entry))) ≡ true
+may_come : (names : List (List ℕ)) (before inside : List Taken) (entry : RoleEntry) (allows : Bool) (came : List EntryKey) → Stands names before came
+    → (not allows && has_come (key_of entry) came) ≡ false → has_alike inside (key_of entry) ≡ false → (allows || not (has_alike (before ++ inside) (key_of entry))) ≡ true
 may_come names before inside entry true came stands e f = refl
 may_come names before inside entry false came stands e f =
-    ap not (none_append (λ (it : Taken). is_again (came_of entry) (came_of it.entry)) before inside (stands.covered (came_of entry) e) f)
+    ap not (none_append (λ (it : Taken). is_again (key_of entry) (key_of it.entry)) before inside (stands.covered (key_of entry) e) f)
 
 -- once it is closed, its role is taken
-closing : (names : List (List ℕ)) (before inside : List Taken) (entry : RoleEntry) (meta : RoleMeta) (role : OpenRole) (came more whole : List Came)
-    → Stands (entry.name ∷ names) (before ++ inside) whole → whole ≡ (came ++ came_of entry ∷ []) ++ more
+closing : (names : List (List ℕ)) (before inside : List Taken) (entry : RoleEntry) (meta : RoleMeta) (role : OpenRole) (came more whole : List EntryKey)
+    → Stands (entry.name ∷ names) (before ++ inside) whole → whole ≡ (came ++ key_of entry ∷ []) ++ more
     → Stands names (before ++ (inside ++ taken_for entry meta role ∷ [])) whole
 closing names before inside entry meta role came more whole stands e =
     subst (λ (ts : List Taken). Stands names ts whole) (append_assoc before inside (it ∷ []))
@@ -299,9 +299,9 @@ closing names before inside entry meta role came more whole stands e =
           ∙ turned (bytes_eq c.name entry.name) (is_open c.name names) (has_role (before ++ inside) c.name) known)
           whole stands.known;
       covered = λ c none.
-          none_append (λ (t : Taken). is_again c (came_of t.entry)) (before ++ inside) (it ∷ []) (stands.covered c none)
-          (none_right (is_again c) came (came_of entry ∷ [])
-          (none_left (is_again c) (came ++ came_of entry ∷ []) more (subst (λ (cs : List Came). has_come c cs ≡ false) e none)));
+          none_append (λ (t : Taken). is_again c (key_of t.entry)) (before ++ inside) (it ∷ []) (stands.covered c none)
+          (none_right (is_again c) came (key_of entry ∷ [])
+          (none_left (is_again c) (came ++ key_of entry ∷ []) more (subst (λ (cs : List EntryKey). has_come c cs ≡ false) e none)));
     })
   where
     it : Taken
@@ -313,9 +313,9 @@ closing names before inside entry meta role came more whole stands e =
     turned true false false f = refl
     turned false false false f = f
 
-taken : (reads : List ℕ → RoleRead) (names : List (List ℕ)) (before : List Taken) (entry : RoleEntry) (meta : RoleMeta) (role : OpenRole) (met mid : Met)
+taken : (reads : List ℕ → RoleRead) (names : List (List ℕ)) (before : List Taken) (entry : RoleEntry) (meta : RoleMeta) (role : OpenRole) (met mid : Expansion)
     → Stands names before met.came → is_open entry.name names ≡ false → IsRead reads (taken_for entry meta role)
-    → (not meta.allow_duplicates && has_come (came_of entry) met.came) ≡ false
+    → (not meta.allow_duplicates && has_come (key_of entry) met.came) ≡ false
     → Takes reads (entry.name ∷ names) before meta.dependencies (with_come entry met) mid → Takes reads names before (entry ∷ []) met (closed role mid)
 taken reads names before entry meta role met mid stands shut read fresh d =
     record {
@@ -345,8 +345,8 @@ taken reads names before entry meta role met mid stands shut read fresh d =
           behind met.handlers mid.handlers (mid.handlers ++ brought) (handlers_of d.inside) (handlers_of (it ∷ [])) d.handlers
           (ap (λ (hs : List HandlerIn). mid.handlers ++ hs) (sym (append-nil brought)))
           ∙ ap (λ (hs : List HandlerIn). met.handlers ++ hs) (sym (handlers_append d.inside (it ∷ [])));
-      more = came_of entry ∷ d.more;
-      came = d.came ∙ append_assoc met.came (came_of entry ∷ []) d.more;
+      more = key_of entry ∷ d.more;
+      came = d.came ∙ append_assoc met.came (key_of entry ∷ []) d.more;
       stands = closing names before d.inside entry meta role met.came d.more mid.came d.stands d.came;
     }
   where
@@ -373,7 +373,7 @@ mapped_ok f (Ok x) y e = (x, refl, same_ok (map_ok f (Ok x)) (f x) y refl e)
 mapped_ok f (Err fault) y e = cc
 
 -- a role that counts is there, with its dependencies
-pub counts : (n : ℕ) (read : RoleRead) (outer : List Tree) (entry : RoleEntry) (came : List Came) (found : Option OpenRole)
+pub counts : (n : ℕ) (read : RoleRead) (outer : List Tree) (entry : RoleEntry) (came : List EntryKey) (found : Option OpenRole)
     → role_in n read outer entry came ≡ Ok found
     → (read.is_missing ≡ false) × (meta : RoleMeta) × (read.meta ≡ Ok meta) × (unless_again n read outer entry came meta ≡ Ok found)
 counts n read outer entry came found e = by_missing read.is_missing refl e
@@ -384,26 +384,26 @@ counts n read outer entry came found e = by_missing read.is_missing refl e
     by_missing true f g = cc
     by_missing false f g = let meta = then_ok read.meta (unless_again n read outer entry came) found g in (f, meta.0, meta.1, meta.2)
 
-again : (n : ℕ) (read : RoleRead) (outer : List Tree) (entry : RoleEntry) (came : List Came) (meta : RoleMeta)
-    → unless_again n read outer entry came meta ≡ Ok None → has_come (came_of entry) came ≡ true
-again n read outer entry came meta e = by_test (not meta.allow_duplicates && has_come (came_of entry) came) refl e
+again : (n : ℕ) (read : RoleRead) (outer : List Tree) (entry : RoleEntry) (came : List EntryKey) (meta : RoleMeta)
+    → unless_again n read outer entry came meta ≡ Ok None → has_come (key_of entry) came ≡ true
+again n read outer entry came meta e = by_test (not meta.allow_duplicates && has_come (key_of entry) came) refl e
   where
-    by_test : (b : Bool) → (not meta.allow_duplicates && has_come (came_of entry) came) ≡ b
-        → (if b then Ok None else map_ok Some (opened n read outer entry meta.dependencies)) ≡ Ok None → has_come (came_of entry) came ≡ true
-    by_test true f g = and_second (not meta.allow_duplicates) (has_come (came_of entry) came) f
+    by_test : (b : Bool) → (not meta.allow_duplicates && has_come (key_of entry) came) ≡ b
+        → (if b then Ok None else map_ok Some (opened n read outer entry meta.dependencies)) ≡ Ok None → has_come (key_of entry) came ≡ true
+    by_test true f g = and_second (not meta.allow_duplicates) (has_come (key_of entry) came) f
     by_test false f g = let found = mapped_ok Some (opened n read outer entry meta.dependencies) None g in let wrong = found.2 in cc
 
-pub first_time : (n : ℕ) (read : RoleRead) (outer : List Tree) (entry : RoleEntry) (came : List Came) (meta : RoleMeta) (role : OpenRole)
+pub first_time : (n : ℕ) (read : RoleRead) (outer : List Tree) (entry : RoleEntry) (came : List EntryKey) (meta : RoleMeta) (role : OpenRole)
     → unless_again n read outer entry came meta ≡ Ok (Some role)
-    → ((not meta.allow_duplicates && has_come (came_of entry) came) ≡ false) × (opened n read outer entry meta.dependencies ≡ Ok role)
-first_time n read outer entry came meta role e = by_test (not meta.allow_duplicates && has_come (came_of entry) came) refl e
+    → ((not meta.allow_duplicates && has_come (key_of entry) came) ≡ false) × (opened n read outer entry meta.dependencies ≡ Ok role)
+first_time n read outer entry came meta role e = by_test (not meta.allow_duplicates && has_come (key_of entry) came) refl e
   where
     some : (a b : OpenRole) → Some a ≡ Some b → a ≡ b
     some a b s = cc
 
-    by_test : (b : Bool) → (not meta.allow_duplicates && has_come (came_of entry) came) ≡ b
+    by_test : (b : Bool) → (not meta.allow_duplicates && has_come (key_of entry) came) ≡ b
         → (if b then Ok None else map_ok Some (opened n read outer entry meta.dependencies)) ≡ Ok (Some role)
-        → ((not meta.allow_duplicates && has_come (came_of entry) came) ≡ false) × (opened n read outer entry meta.dependencies ≡ Ok role)
+        → ((not meta.allow_duplicates && has_come (key_of entry) came) ≡ false) × (opened n read outer entry meta.dependencies ≡ Ok role)
     by_test true f g = cc
     by_test false f g =
         let found = mapped_ok Some (opened n read outer entry meta.dependencies) (Some role) g in
@@ -411,12 +411,12 @@ first_time n read outer entry came meta role e = by_test (not meta.allow_duplica
 
 -- ---- entries
 
-pub role_found : (n : ℕ) (reads : List ℕ → RoleRead) (outer : List Tree) (entry : RoleEntry) (came : List Came) (found : Option OpenRole)
+pub role_found : (n : ℕ) (reads : List ℕ → RoleRead) (outer : List Tree) (entry : RoleEntry) (came : List EntryKey) (found : Option OpenRole)
     → role_of n reads outer entry came ≡ Ok found → role_in n (reads entry.name) outer entry came ≡ Ok found
 unfolding role_of
 role_found n reads outer entry came found e = e
 
-opens : (n : ℕ) (reads : List ℕ → RoleRead) (names : List (List ℕ)) (outer : List Tree) (before : List Taken) (entry : RoleEntry) (role : OpenRole) (met after : Met)
+opens : (n : ℕ) (reads : List ℕ → RoleRead) (names : List (List ℕ)) (outer : List Tree) (before : List Taken) (entry : RoleEntry) (role : OpenRole) (met after : Expansion)
     → ((names : List (List ℕ)) (outer : List Tree) → EachTakes reads names (meets n reads names outer))
     → Stands names before met.came → is_open entry.name names ≡ false → role_of n reads outer entry met.came ≡ Ok (Some role)
     → map_ok (closed role) (in_order (meets n reads (role.name ∷ names) role.origin.conditions) role.dependencies (with_come entry met)) ≡ Ok after
@@ -426,7 +426,7 @@ opens n reads names outer before entry role met after each stands shut e f =
     let new = first_time n (reads entry.name) outer entry met.came (read.1) role (read.3) in
     let same = opened_is n (reads entry.name) outer entry read.1.dependencies role (new.1) in
     let ended = mapped_ok (closed role) (in_order (meets n reads (role.name ∷ names) role.origin.conditions) role.dependencies (with_come entry met)) after f in
-    subst (λ (m : Met). Takes reads names before (entry ∷ []) met m) (ended.2)
+    subst (λ (m : Expansion). Takes reads names before (entry ∷ []) met m) (ended.2)
     (taken reads names before entry (read.1) role met (ended.0) stands shut
     (record { there = read.0; meta = read.2; left = n; outer = outer; role = new.1 })
     (new.0)
@@ -435,7 +435,7 @@ opens n reads names outer before entry role met after each stands shut e f =
     (subst (λ (deps : List RoleEntry). in_order (meets n reads (entry.name ∷ names) role.origin.conditions) deps (with_come entry met) ≡ Ok (ended.0)) (same.1)
     (subst (λ (name : List ℕ). in_order (meets n reads (name ∷ names) role.origin.conditions) role.dependencies (with_come entry met) ≡ Ok (ended.0)) (same.0) (ended.1)))))
 
-pub none_left_to_open : (reads : List ℕ → RoleRead) (names : List (List ℕ)) (outer : List Tree) (entry : RoleEntry) (met : Met) → meets zero reads names outer entry met ≡ Err Cycle
+pub none_left_to_open : (reads : List ℕ → RoleRead) (names : List (List ℕ)) (outer : List Tree) (entry : RoleEntry) (met : Expansion) → meets zero reads names outer entry met ≡ Err Cycle
 unfolding meets
 none_left_to_open reads names outer entry met = refl
 
@@ -447,7 +447,7 @@ enters n reads each names outer entry met after before stands e = by_open (is_op
     by_role (Err fault) shut f = let wrong = sym (meets_fault n reads names outer entry met fault shut f) ∙ e in cc
     by_role (Ok None) shut f =
         let read = counts n (reads entry.name) outer entry met.came None (role_found n reads outer entry met.came None f) in
-        subst (λ (m : Met). Takes reads names before (entry ∷ []) met m)
+        subst (λ (m : Expansion). Takes reads names before (entry ∷ []) met m)
         (same_ok (meets (suc n) reads names outer entry met) (with_come entry met) after (meets_found n reads names outer entry met None shut f) e)
         (left_out reads names before entry met stands shut (again n (reads entry.name) outer entry met.came (read.1) (read.3)))
     by_role (Ok (Some role)) shut f =

@@ -13,7 +13,7 @@ use Rattle.pb_flat.specs.Deep.{always_depth}
 use Rattle.pb_roles.specs.Building as building
 use Rattle.pb_roles.specs.Building.{nodes_of, nodes_then, sections_then}
 use Rattle.pb_roles.specs.Seen.{in_front, IsNode, AddsNodes, AddsPart, alone, places_in, places_in_all, depth_in, depth_in_all}
-use Rattle.pb_roles.specs.declared.met.Section.{Section}
+use Rattle.pb_roles.specs.declared.collected.Section.{Section}
 use Rattle.pb_roles.specs.declared.sections.Sections.{Sections}
 use Rattle.pb_roles.proofs.TreeNodes.{tree_flush, front_both, front_is}
 use Rattle.pb_roles.proofs.PlayNodes.{written_turn, then_split}

@@ -9,8 +9,8 @@ use Rattle.pb_play.specs.View.{joined, node_of, node_step, written_of}
 use Rattle.pb_handlers.specs.Naming.{first_unknown}
 use Rattle.pb_handlers.specs.declared.naming.HandlerNames.{HandlerNames}
 use Rattle.pb_roles.specs.Unknown.{unknown_in, unknown_in_handlers, unknown_in_sections}
-use Rattle.pb_roles.specs.declared.met.HandlerIn.{HandlerIn}
-use Rattle.pb_roles.specs.declared.met.Section.{Section}
+use Rattle.pb_roles.specs.declared.collected.HandlerIn.{HandlerIn}
+use Rattle.pb_roles.specs.declared.collected.Section.{Section}
 use Rattle.pb_roles.proofs.PlayNodes.{each_level, written_turn}
 
 or_none : (a : Option (List ℕ)) → or_else a None ≡ a

@@ -17,8 +17,8 @@ use Rattle.pb_handlers.specs.Naming.{notified_from}
 use Rattle.pb_handlers.specs.declared.naming.HandlerNames.{HandlerNames}
 use Rattle.pb_roles.specs.Origins.{OriginOf}
 use Rattle.pb_roles.specs.Sections.{names_of}
-use Rattle.pb_roles.specs.declared.met.HandlerIn.{HandlerIn}
-use Rattle.pb_roles.specs.declared.met.Section.{Section}
+use Rattle.pb_roles.specs.declared.collected.HandlerIn.{HandlerIn}
+use Rattle.pb_roles.specs.declared.collected.Section.{Section}
 use Rattle.pb_roles.specs.declared.sections.PlayKeys.{PlayKeys}
 use Rattle.pb_roles.specs.declared.sections.Sections.{Sections}
 
@@ -56,15 +56,15 @@ inner outer own =
     }
 
 -- what stands round a node: the keys that its role, its blocks and its play hand down, the variables of the blocks, the inner over the outer, and those of the role
-pub record RoundOf : Type 0 where
+pub record InheritedOf : Type 0 where
   pub keys : KeysOf
   pub block_vars : Map
   pub role : Role
 
 -- what stands round all that comes from there: a role has conditions, and the play says which failures are ignored and which end it for all hosts, but nothing
 -- of how many hosts may run a task at once, nor of who runs it
-abbrev pub round_of : PlayKeys → OriginOf → RoundOf
-round_of play origin =
+abbrev pub inherited_of : PlayKeys → OriginOf → InheritedOf
+inherited_of play origin =
     record {
       keys = record {
         conditions = origin.conditions;
@@ -77,17 +77,17 @@ round_of play origin =
     }
 
 -- what stands round the nodes of a block
-abbrev pub inside : RoundOf → BlockKeys → RoundOf
-inside round block = record { keys = inner round.keys (keys_of_block block); block_vars = put_all block.vars round.block_vars; role = round.role }
+abbrev pub inside : InheritedOf → BlockKeys → InheritedOf
+inside inherited block = record { keys = inner inherited.keys (keys_of_block block); block_vars = put_all block.vars inherited.block_vars; role = inherited.role }
 
 -- what stands at a task's place: the task, with what is handed down to it, and the numbers of the handlers that it notifies; in a Flush its own number
-abbrev pub placed_with : List HandlerNames → KeysOf → RoundOf → Bool → Option ℕ → OneTask → PlaceOf
-placed_with names keys round is_caught handler task =
+abbrev pub placed_with : List HandlerNames → KeysOf → InheritedOf → Bool → Option ℕ → OneTask → PlaceOf
+placed_with names keys inherited is_caught handler task =
     record {
       task = task;
       conditions = keys.conditions;
-      block_vars = round.block_vars;
-      role = round.role;
+      block_vars = inherited.block_vars;
+      role = inherited.role;
       ignore_errors = unwrap_or keys.ignore_errors false;
       any_errors_fatal = unwrap_or keys.couplings.any_errors_fatal false;
       throttle = unwrap_or keys.throttle 0;
@@ -99,22 +99,22 @@ placed_with names keys round is_caught handler task =
       handler = handler;
     }
 
-abbrev pub placed : List HandlerNames → RoundOf → Bool → Option ℕ → OneTask → PlaceOf
-placed names round is_caught handler task = placed_with names (inner round.keys (keys_of_task task)) round is_caught handler task
+abbrev pub placed : List HandlerNames → InheritedOf → Bool → Option ℕ → OneTask → PlaceOf
+placed names inherited is_caught handler task = placed_with names (inner inherited.keys (keys_of_task task)) inherited is_caught handler task
 
 -- a task with what stands round it
 pub record TaskIn : Type 0 where
   pub task : OneTask
-  pub round : RoundOf
+  pub inherited : InheritedOf
 
 -- a handler has its own role round it, or the play: never what stands round the Flush in which it runs
 abbrev pub task_of : PlayKeys → HandlerIn → TaskIn
-task_of keys handler = record { task = handler.handler.task; round = round_of keys handler.origin }
+task_of keys handler = record { task = handler.handler.task; inherited = inherited_of keys handler.origin }
 
 -- what stands at the places of a Flush: each handler, from the one with number n on
 abbrev pub flush_from : List HandlerNames → Bool → ℕ → List TaskIn → List PlaceOf
 flush_from names is_caught n [] = []
-flush_from names is_caught n (handler ∷ handlers) = placed names handler.round is_caught (Some n) handler.task ∷ flush_from names is_caught (n + 1) handlers
+flush_from names is_caught n (handler ∷ handlers) = placed names handler.inherited is_caught (Some n) handler.task ∷ flush_from names is_caught (n + 1) handlers
 
 -- what is told of a play's handlers: what they are notified by, and what stands round each
 pub record Flushed : Type 0 where
@@ -131,13 +131,13 @@ is_nothing (Block block body rescue always rest) = false
 is_nothing (Flush rest) = false
 
 -- what stands at the places of these nodes; a failure in the body of a block that has a rescue is caught
-abbrev pub places_of : Flushed → RoundOf → Bool → Written → List PlaceOf
-places_of flushed round is_caught Nothing = []
-places_of flushed round is_caught (Task task rest) = placed flushed.names round is_caught None task ∷ places_of flushed round is_caught rest
-places_of flushed round is_caught (Block block body rescue always rest) =
-    places_of flushed (inside round block) (is_caught || not (is_nothing rescue)) body ++ places_of flushed (inside round block) is_caught rescue
-    ++ places_of flushed (inside round block) is_caught always ++ places_of flushed round is_caught rest
-places_of flushed round is_caught (Flush rest) = flush_places flushed is_caught ++ places_of flushed round is_caught rest
+abbrev pub places_of : Flushed → InheritedOf → Bool → Written → List PlaceOf
+places_of flushed inherited is_caught Nothing = []
+places_of flushed inherited is_caught (Task task rest) = placed flushed.names inherited is_caught None task ∷ places_of flushed inherited is_caught rest
+places_of flushed inherited is_caught (Block block body rescue always rest) =
+    places_of flushed (inside inherited block) (is_caught || not (is_nothing rescue)) body ++ places_of flushed (inside inherited block) is_caught rescue
+    ++ places_of flushed (inside inherited block) is_caught always ++ places_of flushed inherited is_caught rest
+places_of flushed inherited is_caught (Flush rest) = flush_places flushed is_caught ++ places_of flushed inherited is_caught rest
 
 -- these nodes in a tree, in front of others
 abbrev pub nodes_then : Written → Nodes → Nodes
@@ -154,7 +154,7 @@ sections_then (section ∷ sections) rest = nodes_then section.nodes (sections_t
 abbrev pub section_places : Flushed → PlayKeys → List Section → List PlaceOf
 section_places flushed keys [] = []
 section_places flushed keys (section ∷ sections) =
-    places_of flushed (round_of keys section.origin) false section.nodes ++ section_places flushed keys sections
+    places_of flushed (inherited_of keys section.origin) false section.nodes ++ section_places flushed keys sections
 
 -- a play has three lists of nodes, and behind each its handlers run
 abbrev pub nodes_of : Sections → Nodes

@@ -7,10 +7,10 @@ use Rattle.pb_value.specs.Datum.{Datum, dict, members_of}
 use Rattle.pb_operators.specs.Values.{same}
 use Rattle.pb_role_entries.specs.declared.entry.EntryAsWritten.{EntryAsWritten}
 use Rattle.pb_role_entries.specs.declared.entry.RoleEntry.{RoleEntry}
-use Rattle.pb_roles.specs.declared.came.Came.{Came}
+use Rattle.pb_roles.specs.declared.entry_key.EntryKey.{EntryKey}
 
-abbrev pub came_of : RoleEntry → Came
-came_of entry = record { name = entry.name; params = dict (members_of entry.params); as_written = entry.as_written }
+abbrev pub key_of : RoleEntry → EntryKey
+key_of entry = record { name = entry.name; params = dict (members_of entry.params); as_written = entry.as_written }
 
 -- values of a key, as they are written: a key that isn't there is like another one that isn't there alone
 abbrev pub are_same : Option Datum → Option Datum → Bool
@@ -22,8 +22,8 @@ abbrev pub are_written_alike : EntryAsWritten → EntryAsWritten → Bool
 are_written_alike a b = are_same a.vars b.vars && (are_same a.when b.when && are_same a.tags b.tags)
 
 -- one name, and the same parameters, `vars`, `when` and `tags`
-abbrev pub is_again : Came → Came → Bool
+abbrev pub is_again : EntryKey → EntryKey → Bool
 is_again a b = bytes_eq a.name b.name && (same a.params b.params && are_written_alike a.as_written b.as_written)
 
-abbrev pub has_come : Came → List Came → Bool
+abbrev pub has_come : EntryKey → List EntryKey → Bool
 has_come entry came = list_any (is_again entry) came

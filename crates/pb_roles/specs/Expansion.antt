@@ -10,16 +10,16 @@ use Rattle.pb_facts.specs.Facts.{put_all}
 use Rattle.pb_play_reading.specs.declared.handlers.Handler.{Handler}
 use Rattle.pb_role_entries.specs.declared.entry.RoleEntry.{RoleEntry}
 use Rattle.pb_role_files.specs.declared.meta.RoleMeta.{RoleMeta}
-use Rattle.pb_roles.specs.Entries.{came_of, has_come}
+use Rattle.pb_roles.specs.Entries.{key_of, has_come}
 use Rattle.pb_roles.specs.Files.{RoleRead, read_of}
 use Rattle.pb_roles.specs.Origins.{OriginOf}
 use Rattle.pb_roles.specs.declared.fault.RoleFault.{RoleFault}
 use Rattle.pb_roles.specs.declared.fault.RoleFault.TheVariants.{Unknown, Cycle}
 use Rattle.pb_roles.specs.declared.files.RoleFiles.{RoleFiles}
-use Rattle.pb_roles.specs.declared.came.Came.{Came}
-use Rattle.pb_roles.specs.declared.met.HandlerIn.{HandlerIn}
-use Rattle.pb_roles.specs.declared.met.Met.{Met}
-use Rattle.pb_roles.specs.declared.opened.OpenRole.{OpenRole}
+use Rattle.pb_roles.specs.declared.entry_key.EntryKey.{EntryKey}
+use Rattle.pb_roles.specs.declared.collected.HandlerIn.{HandlerIn}
+use Rattle.pb_roles.specs.declared.collected.Expansion.{Expansion}
+use Rattle.pb_roles.specs.declared.open_role.OpenRole.{OpenRole}
 
 -- A role stands under the conditions of the roles that depend on it, and under its entry's own behind them. Its entry's `vars` go over the variables of its
 -- files, and the entry's other keys are its parameters.
@@ -38,27 +38,27 @@ opened left role outer entry dependencies =
 
 -- An entry that has come already in the play is left out, unless its role allows that it comes again. The other files of such a role were read without a
 -- fault when it came.
-abbrev pub unless_again : ℕ → RoleRead → List Tree → RoleEntry → List Came → RoleMeta → Result (Option OpenRole) RoleFault
+abbrev pub unless_again : ℕ → RoleRead → List Tree → RoleEntry → List EntryKey → RoleMeta → Result (Option OpenRole) RoleFault
 unless_again left role outer entry came meta =
-    if not meta.allow_duplicates && has_come (came_of entry) came then Ok None else map_ok Some (opened left role outer entry meta.dependencies)
+    if not meta.allow_duplicates && has_come (key_of entry) came then Ok None else map_ok Some (opened left role outer entry meta.dependencies)
 
 -- the role that an entry names, if the entry counts; a role without files isn't there
-abbrev pub role_in : ℕ → RoleRead → List Tree → RoleEntry → List Came → Result (Option OpenRole) RoleFault
+abbrev pub role_in : ℕ → RoleRead → List Tree → RoleEntry → List EntryKey → Result (Option OpenRole) RoleFault
 role_in left role outer entry came =
     if role.is_missing then Err (Unknown entry.name) else and_then role.meta (unless_again left role outer entry came)
 
-unfoldable pub role_of : ℕ → (List ℕ → RoleRead) → List Tree → RoleEntry → List Came → Result (Option OpenRole) RoleFault
+unfoldable pub role_of : ℕ → (List ℕ → RoleRead) → List Tree → RoleEntry → List EntryKey → Result (Option OpenRole) RoleFault
 role_of left reads outer entry came = role_in left (reads entry.name) outer entry came
 
-abbrev pub with_come : RoleEntry → Met → Met
-with_come entry met = record met { came = met.came ++ came_of entry ∷ [] }
+abbrev pub with_come : RoleEntry → Expansion → Expansion
+with_come entry met = record met { came = met.came ++ key_of entry ∷ [] }
 
 -- what a role brings comes behind what its dependencies brought
 abbrev pub handlers_in : OriginOf → List Handler → List HandlerIn
 handlers_in origin [] = []
 handlers_in origin (handler ∷ handlers) = record { handler = handler; origin = origin } ∷ handlers_in origin handlers
 
-abbrev pub closed : OpenRole → Met → Met
+abbrev pub closed : OpenRole → Expansion → Expansion
 closed role met =
     record {
       came = met.came;
@@ -67,12 +67,12 @@ closed role met =
     }
 
 -- entries in their order, each after what the ones before it brought
-abbrev pub in_order : (RoleEntry → Met → Result Met RoleFault) → List RoleEntry → Met → Result Met RoleFault
+abbrev pub in_order : (RoleEntry → Expansion → Result Expansion RoleFault) → List RoleEntry → Expansion → Result Expansion RoleFault
 in_order meets [] met = Ok met
 in_order meets (entry ∷ entries) met = and_then (meets entry met) (in_order meets entries)
 
 -- the entries of the roles that an open role depends on, and then the role itself
-abbrev pub finished : (OpenRole → RoleEntry → Met → Result Met RoleFault) → Option OpenRole → Met → Result Met RoleFault
+abbrev pub finished : (OpenRole → RoleEntry → Expansion → Result Expansion RoleFault) → Option OpenRole → Expansion → Result Expansion RoleFault
 finished meets None met = Ok met
 finished meets (Some role) met = map_ok (closed role) (in_order (meets role) role.dependencies met)
 
@@ -82,7 +82,7 @@ is_open name names = list_any (bytes_eq name) names
 
 -- An entry is met while the roles of these names are open, under these conditions: one whose role is open is a cycle. The names of open roles differ, and
 -- each has a file, so there are never more than there are files: where so many are open, a further one can't be told from a cycle.
-unfoldable pub meets : (left : ℕ) → (List ℕ → RoleRead) → (names : List (List ℕ)) → List Tree → RoleEntry → Met → Result Met RoleFault
+unfoldable pub meets : (left : ℕ) → (List ℕ → RoleRead) → (names : List (List ℕ)) → List Tree → RoleEntry → Expansion → Result Expansion RoleFault
 meets zero reads names outer entry met = Err Cycle
 meets (suc left) reads names outer entry met =
     if is_open entry.name names then Err Cycle
@@ -90,15 +90,15 @@ meets (suc left) reads names outer entry met =
     finished (λ role. meets left reads (role.name ∷ names) role.origin.conditions) found (with_come entry met))
 
 -- nothing has come yet
-abbrev pub nothing_met : Met
+abbrev pub nothing_met : Expansion
 nothing_met = record { came = []; sections = []; handlers = [] }
 
 abbrev pub most_open : RoleFiles → ℕ
 most_open files = suc (length files.files)
 
 -- what the roles of a play bring, where so many may be open, and this is read of each
-abbrev pub roles_with : ℕ → (List ℕ → RoleRead) → List RoleEntry → Result Met RoleFault
+abbrev pub roles_with : ℕ → (List ℕ → RoleRead) → List RoleEntry → Result Expansion RoleFault
 roles_with most reads entries = in_order (meets most reads [] []) entries nothing_met
 
-abbrev pub roles_of : RoleFiles → List RoleEntry → Result Met RoleFault
+abbrev pub roles_of : RoleFiles → List RoleEntry → Result Expansion RoleFault
 roles_of files entries = roles_with (most_open files) (read_of files) entries

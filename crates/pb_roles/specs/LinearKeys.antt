@@ -8,9 +8,9 @@ use Rattle.pb_play_reading.specs.declared.handlers.Handler.{Handler}
 use Rattle.pb_play_reading.specs.declared.play.Play.{Play}
 use Rattle.pb_roles.specs.declared.linear_keys.CoupledKey.{CoupledKey}
 use Rattle.pb_roles.specs.declared.linear_keys.CoupledKey.TheVariants.{AnyErrorsFatal, RunOnce}
-use Rattle.pb_roles.specs.declared.met.HandlerIn.{HandlerIn}
-use Rattle.pb_roles.specs.declared.met.Met.{Met}
-use Rattle.pb_roles.specs.declared.met.Section.{Section}
+use Rattle.pb_roles.specs.declared.collected.HandlerIn.{HandlerIn}
+use Rattle.pb_roles.specs.declared.collected.Expansion.{Expansion}
+use Rattle.pb_roles.specs.declared.collected.Section.{Section}
 use Rattle.pb_roles.specs.declared.sections.LinearKeys.{LinearKeys}
 
 -- whether a task or a block has the key
@@ -40,11 +40,11 @@ abbrev pub stands_in_play : CoupledKey → Play → Bool
 stands_in_play key play =
     stands_in key play.pre_tasks || (stands_in key play.tasks || (stands_in key play.post_tasks || list_any (handler_has key) play.handlers))
 
-abbrev pub stands_in_roles : CoupledKey → Met → Bool
+abbrev pub stands_in_roles : CoupledKey → Expansion → Bool
 stands_in_roles key met = list_any (section_has key) met.sections || list_any (role_handler_has key) met.handlers
 
 -- those of a play whose roles brought this
-abbrev pub linear_keys_of : Play → Met → LinearKeys
+abbrev pub linear_keys_of : Play → Expansion → LinearKeys
 linear_keys_of play met =
     record {
       any_errors_fatal = is_some play.any_errors_fatal || (stands_in_play AnyErrorsFatal play || stands_in_roles AnyErrorsFatal met);

@@ -7,8 +7,8 @@ use Rattle.pb_role_files.specs.declared.meta.RoleMeta.{RoleMeta}
 use Rattle.pb_roles.specs.Expansion.{closed, in_order, meets}
 use Rattle.pb_roles.specs.Files.{RoleRead}
 use Rattle.pb_roles.specs.declared.fault.RoleFault.{RoleFault}
-use Rattle.pb_roles.specs.declared.met.Met.{Met}
-use Rattle.pb_roles.specs.declared.opened.OpenRole.{OpenRole}
+use Rattle.pb_roles.specs.declared.collected.Expansion.{Expansion}
+use Rattle.pb_roles.specs.declared.open_role.OpenRole.{OpenRole}
 
 abbrev pub names_of : List OpenRole → List (List ℕ)
 names_of [] = []
@@ -25,7 +25,7 @@ conditions_in [] = []
 conditions_in (role ∷ roles) = role.origin.conditions
 
 -- their other dependencies, and then they themselves
-abbrev pub rest_of : (List ℕ → RoleRead) → List OpenRole → Met → Result Met RoleFault
+abbrev pub rest_of : (List ℕ → RoleRead) → List OpenRole → Expansion → Result Expansion RoleFault
 rest_of reads [] met = Ok met
 rest_of reads (role ∷ roles) met =
     and_then (in_order (meets role.left reads (role.name ∷ names_of roles) role.origin.conditions) role.dependencies met) (λ after. rest_of reads roles (closed role after))
@@ -36,7 +36,7 @@ pushed None roles = roles
 pushed (Some role) roles = role ∷ roles
 
 -- what is to be done where an entry is met inside open roles
-abbrev pub to_do : (most : ℕ) → (List ℕ → RoleRead) → List OpenRole → RoleEntry → Met → Result Met RoleFault
+abbrev pub to_do : (most : ℕ) → (List ℕ → RoleRead) → List OpenRole → RoleEntry → Expansion → Result Expansion RoleFault
 to_do most reads roles entry met = and_then (meets (left_in most roles) reads (names_of roles) (conditions_in roles) entry met) (rest_of reads roles)
 
 -- How much there is to be done at most, whatever is left out: this many times an entry is met, or a role closed.

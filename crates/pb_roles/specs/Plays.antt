@@ -14,7 +14,7 @@ use Rattle.pb_roles.specs.Unknown.{unknown_of}
 use Rattle.pb_roles.specs.declared.fault.RoleFault.{RoleFault}
 use Rattle.pb_roles.specs.declared.fault.RoleFault.TheVariants.{Unknown, TooLarge}
 use Rattle.pb_roles.specs.declared.files.RoleFiles.{RoleFiles}
-use Rattle.pb_roles.specs.declared.met.Met.{Met}
+use Rattle.pb_roles.specs.declared.collected.Expansion.{Expansion}
 use Rattle.pb_roles.specs.declared.sections.Expanded.{Expanded}
 use Rattle.pb_roles.specs.declared.sections.Head.{Head}
 use Rattle.pb_roles.specs.declared.sections.LinearKeys.{LinearKeys}
@@ -34,7 +34,7 @@ abbrev pub is_too_deep : Sections → Bool
 is_too_deep play = nat_lt max_depth (always_depth (nodes_of play))
 
 -- What stays of a play as it is. Where it doesn't say how many hosts may fail, all may.
-abbrev pub head_of : Play → Met → Head
+abbrev pub head_of : Play → Expansion → Head
 head_of play met =
     record {
       name = play.name;

@@ -29,9 +29,9 @@ use Rattle.pb_roles.specs.Sections.{counted, own}
 use Rattle.pb_roles.specs.Unknown.{unknown_of}
 use Rattle.pb_roles.specs.declared.fault.RoleFault.{RoleFault}
 use Rattle.pb_roles.specs.declared.fault.RoleFault.TheVariants.{Unknown, Cycle, Load}
-use Rattle.pb_roles.specs.declared.met.HandlerIn.{HandlerIn}
-use Rattle.pb_roles.specs.declared.met.Met.{Met}
-use Rattle.pb_roles.specs.declared.met.Section.{Section}
+use Rattle.pb_roles.specs.declared.collected.HandlerIn.{HandlerIn}
+use Rattle.pb_roles.specs.declared.collected.Expansion.{Expansion}
+use Rattle.pb_roles.specs.declared.collected.Section.{Section}
 use Rattle.pb_roles.specs.declared.sections.Sections.{Sections}
 use Rattle.pb_strategies.specs.declared.strategy.Strategy.TheVariants.{Free}
 
@@ -82,8 +82,8 @@ abbrev title : Section → List ℕ
 title section = first_name section.nodes
 
 -- the names of the tasks that the roles bring
-abbrev titles : Result Met RoleFault → Result (List (List ℕ)) RoleFault
-titles = map_ok (λ (met : Met). map title met.sections)
+abbrev titles : Result Expansion RoleFault → Result (List (List ℕ)) RoleFault
+titles = map_ok (λ (met : Expansion). map title met.sections)
 
 abbrev brought : (List ℕ → RoleRead) → List RoleEntry → Result (List (List ℕ)) RoleFault
 brought reads entries = titles (roles_with 3 reads entries)
@@ -198,8 +198,8 @@ full_entry = record (asked app) { vars = number 3; conditions = when (codes "a")
 abbrev full_role : RoleRead
 full_role = record (role app (record (asked base) { conditions = when (codes "b") } ∷ []) false) { defaults = Ok (number 1); vars = Ok ((codes "w", int (pos 0)) ∷ number 2) }
 
-abbrev origins : Result Met RoleFault → Result (List (Role × List Tree)) RoleFault
-origins = map_ok (λ (met : Met). map (λ (s : Section). (s.origin.role, s.origin.conditions)) met.sections)
+abbrev origins : Result Expansion RoleFault → Result (List (Role × List Tree)) RoleFault
+origins = map_ok (λ (met : Expansion). map (λ (s : Section). (s.origin.role, s.origin.conditions)) met.sections)
 
 -- a dependency has the conditions of the role in front of its own, and none of the role's variables
 what_they_bring : origins (roles_with 3 (two_roles full_role (role base [] false)) (full_entry ∷ []))
@@ -225,7 +225,7 @@ handling name read = record read { handlers = Ok (handler name [] ∷ []) }
 abbrev handler_names : List HandlerIn → List (List ℕ)
 handler_names handlers = map (λ (h : HandlerIn). h.handler.task.name) handlers
 
-handlers_as_roles : map_ok (λ (met : Met). handler_names met.handlers)
+handlers_as_roles : map_ok (λ (met : Expansion). handler_names met.handlers)
     (roles_with 3 (two_roles (handling (codes "h1") (role app (asked base ∷ []) false)) (handling (codes "h2") (role base [] false))) (asked app ∷ []))
     ≡ Ok (codes "h2" ∷ codes "h1" ∷ [])
 unfolding meets role_of
@@ -306,11 +306,11 @@ in_a_block =
 abbrev only_caught : PlaceOf
 only_caught = record (place_of (said (codes "h"))) { is_caught = true; handler = Some 0 }
 
-abbrev flush_round : List PlaceOf → Option PlaceOf
-flush_round (before ∷ inside ∷ others) = Some inside
-flush_round _ = None
+abbrev flush_inherited : List PlaceOf → Option PlaceOf
+flush_inherited (before ∷ inside ∷ others) = Some inside
+flush_inherited _ = None
 
-only_the_catch : flush_round (all_places in_a_block) ≡ Some only_caught
+only_the_catch : flush_inherited (all_places in_a_block) ≡ Some only_caught
 only_the_catch = refl
 
 -- how many hosts may run a task at once its own key says, or else that of the nearest block round it; 0, which is any number, counts as it is written. A

@@ -7,9 +7,9 @@ use Rattle.pb_handlers.specs.Naming.{counting, kept}
 use Rattle.pb_handlers.specs.declared.naming.HandlerNames.{HandlerNames}
 use Rattle.pb_roles.specs.Expansion.{handlers_in}
 use Rattle.pb_roles.specs.Origins.{from_play}
-use Rattle.pb_roles.specs.declared.met.HandlerIn.{HandlerIn}
-use Rattle.pb_roles.specs.declared.met.Met.{Met}
-use Rattle.pb_roles.specs.declared.met.Section.{Section}
+use Rattle.pb_roles.specs.declared.collected.HandlerIn.{HandlerIn}
+use Rattle.pb_roles.specs.declared.collected.Expansion.{Expansion}
+use Rattle.pb_roles.specs.declared.collected.Section.{Section}
 use Rattle.pb_roles.specs.declared.sections.Own.{Own}
 use Rattle.pb_roles.specs.declared.sections.PlayKeys.{PlayKeys}
 use Rattle.pb_roles.specs.declared.sections.Sections.{Sections}
@@ -31,7 +31,7 @@ abbrev pub own_of : Play → Own
 own_of play = record { pre = play.pre_tasks; tasks = play.tasks; post = play.post_tasks; handlers = play.handlers }
 
 -- the same with what its roles brought, in a play that hands this down
-abbrev pub with_roles : Met → PlayKeys → Bool → Own → Sections
+abbrev pub with_roles : Expansion → PlayKeys → Bool → Own → Sections
 with_roles met keys force_handlers o =
     record {
       keys = keys;
@@ -43,7 +43,7 @@ with_roles met keys force_handlers o =
     }
 
 -- the roles stand between the play's pre_tasks and its own tasks, and their handlers in front of its own
-abbrev pub sections_of : Play → Met → Sections
+abbrev pub sections_of : Play → Expansion → Sections
 sections_of play met =
     record {
       keys = record { any_errors_fatal = play.any_errors_fatal; ignore_errors = play.ignore_errors };

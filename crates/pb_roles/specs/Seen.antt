@@ -6,7 +6,7 @@ use Rattle.pb_tree.specs.declared.tree.Node.{Node}
 use Rattle.pb_tree.specs.Tree.{Nodes, Nothing, Flush, size}
 use Rattle.pb_tree.specs.View.{node_of}
 use Rattle.pb_roles.specs.Building.{nodes_then, sections_then}
-use Rattle.pb_roles.specs.declared.met.Section.{Section}
+use Rattle.pb_roles.specs.declared.collected.Section.{Section}
 
 -- the nodes of a tree in front of others
 abbrev pub joined_then : List (Nodes → Nodes) → Nodes → Nodes

@@ -6,15 +6,15 @@ use Rattle.std.specs.Str.{bytes_eq}
 use Rattle.pb_expr_syntax.specs.Tree.{Tree}
 use Rattle.pb_role_entries.specs.declared.entry.RoleEntry.{RoleEntry}
 use Rattle.pb_role_files.specs.declared.meta.RoleMeta.{RoleMeta}
-use Rattle.pb_roles.specs.Entries.{came_of, is_again}
+use Rattle.pb_roles.specs.Entries.{key_of, is_again}
 use Rattle.pb_roles.specs.Expansion.{handlers_in, opened, roles_of}
 use Rattle.pb_roles.specs.Files.{RoleRead, read_of}
-use Rattle.pb_roles.specs.declared.came.Came.{Came}
+use Rattle.pb_roles.specs.declared.entry_key.EntryKey.{EntryKey}
 use Rattle.pb_roles.specs.declared.files.RoleFiles.{RoleFiles}
-use Rattle.pb_roles.specs.declared.met.HandlerIn.{HandlerIn}
-use Rattle.pb_roles.specs.declared.met.Met.{Met}
-use Rattle.pb_roles.specs.declared.met.Section.{Section}
-use Rattle.pb_roles.specs.declared.opened.OpenRole.{OpenRole}
+use Rattle.pb_roles.specs.declared.collected.HandlerIn.{HandlerIn}
+use Rattle.pb_roles.specs.declared.collected.Expansion.{Expansion}
+use Rattle.pb_roles.specs.declared.collected.Section.{Section}
+use Rattle.pb_roles.specs.declared.open_role.OpenRole.{OpenRole}
 
 -- a role that a play takes: the entry that asks for it, what its file of dependencies says, and what it brings
 pub record Taken : Type 0 where
@@ -35,13 +35,13 @@ abbrev pub has_role : List Taken → List ℕ → Bool
 has_role taken name = list_any (λ it. bytes_eq name it.entry.name) taken
 
 -- whether one of them was asked for by an entry like this one
-abbrev pub has_alike : List Taken → Came → Bool
-has_alike taken entry = list_any (λ it. is_again entry (came_of it.entry)) taken
+abbrev pub has_alike : List Taken → EntryKey → Bool
+has_alike taken entry = list_any (λ it. is_again entry (key_of it.entry)) taken
 
 -- Each role that it depends on stands before it, and none that an entry like its own asked for, unless it may come again.
 abbrev pub MayFollow : List Taken → Taken → Type 0
 MayFollow before it =
-    AllByRecursion (λ entry. has_role before entry.name ≡ true) it.meta.dependencies × ((it.meta.allow_duplicates || not (has_alike before (came_of it.entry))) ≡ true)
+    AllByRecursion (λ entry. has_role before entry.name ≡ true) it.meta.dependencies × ((it.meta.allow_duplicates || not (has_alike before (key_of it.entry))) ≡ true)
 
 -- each may follow those before it
 abbrev pub AreInOrder : List Taken → List Taken → Type 0
@@ -66,7 +66,7 @@ IsOneOf entry (first ∷ entries) = (entry ≡ first) ⊎ IsOneOf entry entries
 
 -- The roles that a play takes for its entries: each entry has its role among them, nothing else is taken than what the play and these roles ask for, and what
 -- they bring comes in their order.
-pub record AreTaken (reads : List ℕ → RoleRead) (entries : List RoleEntry) (met : Met) : Type 0 where
+pub record AreTaken (reads : List ℕ → RoleRead) (entries : List RoleEntry) (met : Expansion) : Type 0 where
   pub taken : List Taken
   pub read : AllByRecursion (IsRead reads) taken
   pub order : AreInOrder [] taken
@@ -76,4 +76,4 @@ pub record AreTaken (reads : List ℕ → RoleRead) (entries : List RoleEntry) (
   pub handlers : met.handlers ≡ handlers_of taken
 
 abbrev pub RolesAreInOrder : Type 0
-RolesAreInOrder = (files : RoleFiles) (entries : List RoleEntry) (met : Met) → roles_of files entries ≡ Ok met → AreTaken (read_of files) entries met
+RolesAreInOrder = (files : RoleFiles) (entries : List RoleEntry) (met : Expansion) → roles_of files entries ≡ Ok met → AreTaken (read_of files) entries met

@@ -5,8 +5,8 @@ use Rattle.pb_play.specs.Nodes.{Written, Nothing, Task, Block, Flush}
 use Rattle.pb_handlers.specs.Naming.{first_unknown}
 use Rattle.pb_handlers.specs.declared.naming.HandlerNames.{HandlerNames}
 use Rattle.pb_roles.specs.Sections.{names_of}
-use Rattle.pb_roles.specs.declared.met.HandlerIn.{HandlerIn}
-use Rattle.pb_roles.specs.declared.met.Section.{Section}
+use Rattle.pb_roles.specs.declared.collected.HandlerIn.{HandlerIn}
+use Rattle.pb_roles.specs.declared.collected.Section.{Section}
 use Rattle.pb_roles.specs.declared.sections.Sections.{Sections}
 
 abbrev pub unknown_in : List HandlerNames → Written → Option (List ℕ)

@@ -1,18 +1,18 @@
 //! The role that an entry names.
 ghost use Rattle.std.specs.Prelude.{◌≡◌, ◌++◌, ◌∷◌, ◌&&◌, [], IfOk, IfSome, OnOk, not};
 ghost use Rattle.pb_roles.specs.Answers.{Gives};
-ghost use Rattle.pb_roles.specs.Entries.{are_same, are_written_alike, came_of, has_come, is_again};
+ghost use Rattle.pb_roles.specs.Entries.{are_same, are_written_alike, key_of, has_come, is_again};
 ghost use Rattle.pb_roles.specs.Expansion.{opened, role_of, origin_of};
 ghost use Rattle.pb_roles.specs.Files.{read_of};
 ghost use Rattle.pb_roles.specs.Open.{dependencies_of};
 
-use crate::came::Came;
+use crate::entry_key::EntryKey;
 use crate::fault::RoleFault;
 use crate::files::{RoleFiles, has_none};
-use crate::line::Line;
 use crate::load::{load_handlers, load_meta, load_nodes, load_variables};
-use crate::opened::OpenRole;
+use crate::open_role::OpenRole;
 use crate::origin::Origin;
+use crate::queue::Queue;
 use pb_expr_syntax::tree::Expr;
 use pb_facts::put::put_all;
 use pb_operators::compare::is_same;
@@ -42,7 +42,7 @@ fn are_written_alike(a: &EntryAsWritten, b: &EntryAsWritten) -> bool
 }
 
 /// Whether two entries are one and the same.
-fn is_again(a: &Came, b: &Came) -> bool
+fn is_again(a: &EntryKey, b: &EntryKey) -> bool
     ensures { result ≡ is_again a.now b.now }
 {
     a.name.as_str() == b.name.as_str()
@@ -51,7 +51,7 @@ fn is_again(a: &Came, b: &Came) -> bool
 }
 
 /// Whether an entry has come.
-fn has_come(entry: &Came, came: &[Came]) -> bool
+fn has_come(entry: &EntryKey, came: &[EntryKey]) -> bool
     ensures { result ≡ has_come entry.now came.now }
 {
     for other in came {
@@ -63,7 +63,7 @@ fn has_come(entry: &Came, came: &[Came]) -> bool
 }
 
 /// Whether an entry is left out, whose role allows that it comes again or not.
-fn is_left_out(allow_duplicates: bool, entry: &Came, came: &[Came]) -> bool
+fn is_left_out(allow_duplicates: bool, entry: &EntryKey, came: &[EntryKey]) -> bool
     ensures { result ≡ (not allow_duplicates && has_come entry.now came.now) }
 {
     !allow_duplicates && has_come(entry, came)
@@ -80,15 +80,15 @@ fn copy_of(alloc: Global, value: &Option<Val>) -> Result<Option<Val>, AllocError
 }
 
 /// What an entry is told apart by.
-fn came_of(alloc: Global, entry: &RoleEntry) -> Result<Came, AllocError>
-    ensures { IfOk result (λ came. came ≡ came_of entry.now) }
+fn key_of(alloc: Global, entry: &RoleEntry) -> Result<EntryKey, AllocError>
+    ensures { IfOk result (λ came. came ≡ key_of entry.now) }
 {
     let name = entry.name.try_clone()?;
     let params = Val::dict(entry.params.try_clone(alloc)?);
     let vars = copy_of(alloc, &entry.as_written.vars)?;
     let when = copy_of(alloc, &entry.as_written.when)?;
     let tags = copy_of(alloc, &entry.as_written.tags)?;
-    Ok(Came {
+    Ok(EntryKey {
         name,
         params,
         as_written: EntryAsWritten { vars, when, tags },
@@ -140,7 +140,7 @@ fn open_role(
         origin,
         nodes,
         handlers,
-        dependencies: Line::of(Items::new(alloc)),
+        dependencies: Queue::of(Items::new(alloc)),
     })
 }
 
@@ -151,10 +151,10 @@ pub(crate) fn role_of(
     left: usize,
     outer: &[Expr],
     entry: &RoleEntry,
-    came: &mut Items<Came>,
+    came: &mut Items<EntryKey>,
 ) -> Result<Option<OpenRole>, RoleFault>
     ensures value { Gives result (role_of left (read_of files.now) outer.now entry.now came.old) }
-    ensures came { OnOk result (came.new ≡ came.old ++ came_of entry.now ∷ []) }
+    ensures came { OnOk result (came.new ≡ came.old ++ key_of entry.now ∷ []) }
     ensures left { IfOk result (λ found. IfSome found (λ role. role.left ≡ left)) }
     ensures dependencies { IfOk result (λ found. IfSome found (λ role. role.dependencies ≡ dependencies_of (read_of files.now) entry.now.name)) }
 {
@@ -164,13 +164,13 @@ pub(crate) fn role_of(
         return Err(RoleFault::Unknown { name });
     }
     let meta = load_meta(alloc, files, &entry.name)?;
-    let this = came_of(alloc, entry)?;
+    let this = key_of(alloc, entry)?;
     let out = is_left_out(meta.allow_duplicates, &this, came.as_slice());
     came.push(this)?;
     if out {
         return Ok(None);
     }
     let mut role = open_role(alloc, files, left, outer, entry)?;
-    role.dependencies = Line::of(meta.dependencies);
+    role.dependencies = Queue::of(meta.dependencies);
     Ok(Some(role))
 }

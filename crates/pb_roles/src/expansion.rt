@@ -8,14 +8,14 @@ ghost use Rattle.pb_roles.specs.Origins.{from_play};
 ghost use Rattle.pb_roles.specs.Plays.{built, checked, expanded, expansion_of, has_too_many_places, head_of, head_with, is_too_deep, IsBuilt};
 ghost use Rattle.pb_roles.specs.Sections.{counted, names_of, own, own_of, sections_of};
 
+use crate::collected::{Expansion, HandlerIn, Section};
 use crate::fault::RoleFault;
 use crate::files::RoleFiles;
 use crate::flush::all_names;
-use crate::line::Line;
 use crate::linear_keys::linear_keys_of;
-use crate::met::{HandlerIn, Met, Section};
 use crate::nodes::{is_part_deeper, part_left, tree_of};
 use crate::origin::Origin;
+use crate::queue::Queue;
 use crate::roles::{push_handlers, roles_of};
 use crate::sections::{Expanded, Head, LinearKeys, Own, PlayKeys, Sections};
 use crate::unknown::unknown_with;
@@ -55,7 +55,7 @@ fn kept(
     ensures { IfOk result (λ all. all ≡ kept marks.now handlers) }
 {
     let mut all = Items::new(alloc);
-    let mut rest = Line::of(handlers);
+    let mut rest = Queue::of(handlers);
     for is_kept in marks {
         let Some(handler) = rest.pop() else {
             return Ok(all);
@@ -139,7 +139,7 @@ fn parted(play: Play, linear_keys: LinearKeys) -> (Head, Own)
 }
 
 /// A play whose roles brought this: what stays of it as it is, and what stands in it.
-fn sections_of(alloc: Global, play: Play, met: Met) -> Result<(Head, Sections), AllocError>
+fn sections_of(alloc: Global, play: Play, met: Expansion) -> Result<(Head, Sections), AllocError>
     ensures head { IfOk result (λ r. r.0 ≡ head_of play met) }
     ensures sections { IfOk result (λ r. r.1 ≡ sections_of play met) }
 {

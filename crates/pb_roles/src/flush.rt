@@ -3,10 +3,10 @@ ghost use Rattle.std.specs.Prelude.{◌≡◌, ◌++◌, map, IfOk, OnOk};
 ghost use Rattle.pb_roles.specs.Building.{flush_places, flushed_in, task_of};
 ghost use Rattle.pb_roles.specs.Sections.{names_of};
 
-use crate::met::HandlerIn;
+use crate::collected::HandlerIn;
+use crate::flush_tasks::{Flushes, HandlerTask};
+use crate::inherited::Inherited;
 use crate::nodes::number_of;
-use crate::ready::{Flushes, HandlerTask};
-use crate::round::Round;
 use crate::sections::PlayKeys;
 use pb_handlers::{HandlerNames, Handlers};
 use pb_places::{Place, SearchedTask};
@@ -57,9 +57,9 @@ fn task_of(alloc: Global, keys: PlayKeys, handler: HandlerIn) -> Result<HandlerT
     let HandlerIn { handler, origin } = handler;
     let Handler { task, listens } = handler;
     drop(listens);
-    let round = Round::of(keys, &origin)?;
+    let inherited = Inherited::of(keys, &origin)?;
     let task = Arc::new(alloc, SearchedTask::new(task))?;
-    Ok(HandlerTask { task, round })
+    Ok(HandlerTask { task, inherited })
 }
 
 /// The handlers of a play that hands this down.
@@ -89,7 +89,7 @@ pub(crate) fn push_flush(
     for (number, handler) in flushes.handlers.as_slice().iter().enumerate() {
         let number = number_of(number)?;
         let place = handler
-            .round
+            .inherited
             .handler_place(alloc, &flushes.names, is_caught, number, &handler.task)?;
         places.push(place)?;
     }

@@ -8,23 +8,23 @@
 ghost use Rattle.pb_roles.specs.Circles.{CyclesAreCircles};
 ghost use Rattle.pb_roles.specs.Taken.{RolesAreInOrder};
 
-mod came;
+mod collected;
 mod enter;
+mod entry_key;
 mod expansion;
 mod fault;
 mod files;
 mod flush;
-mod line;
+mod flush_tasks;
+mod inherited;
 mod linear_keys;
 mod load;
-mod met;
 mod nodes;
-mod opened;
+mod open_role;
 mod origin;
 mod placing;
-mod ready;
+mod queue;
 mod roles;
-mod round;
 mod sections;
 mod unknown;
 

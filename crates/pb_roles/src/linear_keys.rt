@@ -5,7 +5,7 @@ ghost use Rattle.pb_play.specs.Nodes.{Nothing};
 ghost use Rattle.pb_play.specs.View.{node_of, written_of};
 ghost use Rattle.pb_roles.specs.LinearKeys.{handler_has, has_key, linear_keys_of, role_handler_has, section_has, stands_in, stands_in_play, stands_in_roles};
 
-use crate::met::{HandlerIn, Met, Section};
+use crate::collected::{Expansion, HandlerIn, Section};
 use crate::nodes::nodes_in;
 use crate::sections::LinearKeys;
 use pb_play::couplings::Couplings;
@@ -21,7 +21,7 @@ pub enum CoupledKey {
 }
 
 /// Which of the keys that linear plays alone heed are written in a play whose roles brought this.
-pub(crate) fn linear_keys_of(play: &Play, met: &Met) -> LinearKeys
+pub(crate) fn linear_keys_of(play: &Play, met: &Expansion) -> LinearKeys
     ensures { result ≡ linear_keys_of play.now met.now }
 {
     LinearKeys {
@@ -55,7 +55,7 @@ fn stands_in_play(key: CoupledKey, play: &Play) -> bool
 }
 
 /// Whether it stands in what the roles bring.
-fn stands_in_roles(key: CoupledKey, met: &Met) -> bool
+fn stands_in_roles(key: CoupledKey, met: &Expansion) -> bool
     ensures { result ≡ stands_in_roles key met.now }
 {
     stands_in_sections(key, met.sections.as_slice())

@@ -7,7 +7,7 @@ ghost use Rattle.pb_tree.specs.View.{tree_of as code_tree};
 ghost use Rattle.pb_roles.specs.Building.{nodes_of, tree_of};
 ghost use Rattle.pb_roles.specs.Seen.{IsNode, AddsNodes, AddsPart, alone, places_in, places_in_all, depth_in, depth_in_all};
 
-use crate::met::Section;
+use crate::collected::Section;
 use crate::sections::Sections;
 use pb_play::node::Node as Written;
 use pb_tree::{Node, PlayTree};

@@ -3,12 +3,12 @@
 ghost use Rattle.std.specs.Prelude.{◌≡◌, ◌||◌, not, ◌++◌, ◌∷◌, [], false, None, IfOk};
 ghost use Rattle.pb_play.specs.Nodes.{Nothing};
 ghost use Rattle.pb_play.specs.View.{node_of, written_of};
-ghost use Rattle.pb_roles.specs.Building.{is_nothing, part_places, places_of, placed, round_of};
+ghost use Rattle.pb_roles.specs.Building.{is_nothing, part_places, places_of, placed, inherited_of};
 
+use crate::collected::Section;
 use crate::flush::push_flush;
-use crate::met::Section;
-use crate::ready::Flushes;
-use crate::round::Round;
+use crate::flush_tasks::Flushes;
+use crate::inherited::Inherited;
 use crate::sections::PlayKeys;
 use pb_handlers::Handlers;
 use pb_places::Place;
@@ -41,11 +41,11 @@ fn push_section(
     keys: PlayKeys,
     section: Section,
 ) -> Result<(), AllocError>
-    ensures { IfOk result (λ _. places.new.items ≡ places.old.items ++ places_of flushes.now (round_of keys section.origin) false section.nodes) }
+    ensures { IfOk result (λ _. places.new.items ≡ places.old.items ++ places_of flushes.now (inherited_of keys section.origin) false section.nodes) }
 {
     let Section { origin, nodes } = section;
-    let round = Round::of(keys, &origin)?;
-    push_all(alloc, places, flushes, &round, false, nodes.nodes)
+    let inherited = Inherited::of(keys, &origin)?;
+    push_all(alloc, places, flushes, &inherited, false, nodes.nodes)
 }
 
 /// Adds the places of these nodes.
@@ -54,14 +54,14 @@ fn push_all(
     alloc: Global,
     places: &mut Vec<Place>,
     flushes: &Flushes,
-    round: &Round,
+    inherited: &Inherited,
     is_caught: bool,
     nodes: Vec<Node>,
 ) -> Result<(), AllocError>
-    ensures { IfOk result (λ _. places.new.items ≡ places.old.items ++ places_of flushes.now round.now is_caught (written_of nodes.items)) }
+    ensures { IfOk result (λ _. places.new.items ≡ places.old.items ++ places_of flushes.now inherited.now is_caught (written_of nodes.items)) }
 {
     for node in nodes {
-        push_one(alloc, places, flushes, round, is_caught, node)?;
+        push_one(alloc, places, flushes, inherited, is_caught, node)?;
     }
     Ok(())
 }
@@ -72,21 +72,21 @@ fn push_one(
     alloc: Global,
     places: &mut Vec<Place>,
     flushes: &Flushes,
-    round: &Round,
+    inherited: &Inherited,
     is_caught: bool,
     node: Node,
 ) -> Result<(), AllocError>
-    ensures { IfOk result (λ _. places.new.items ≡ places.old.items ++ places_of flushes.now round.now is_caught (node_of node Nothing)) }
+    ensures { IfOk result (λ _. places.new.items ≡ places.old.items ++ places_of flushes.now inherited.now is_caught (node_of node Nothing)) }
 {
     match node {
-        Node::Task(task) => push_task(alloc, places, &flushes.names, round, is_caught, task),
+        Node::Task(task) => push_task(alloc, places, &flushes.names, inherited, is_caught, task),
         Node::Block {
             keys,
             body,
             rescue,
             always,
         } => {
-            let inside = round.inside(alloc, &keys)?;
+            let inside = inherited.inside(alloc, &keys)?;
             let is_rescued = is_caught_in(is_caught, &rescue);
             push_all(alloc, places, flushes, &inside, is_rescued, body)?;
             push_all(alloc, places, flushes, &inside, is_caught, rescue)?;
@@ -109,13 +109,13 @@ fn push_task(
     alloc: Global,
     places: &mut Vec<Place>,
     names: &Handlers,
-    round: &Round,
+    inherited: &Inherited,
     is_caught: bool,
     task: Task,
 ) -> Result<(), AllocError>
-    ensures { IfOk result (λ _. places.new.items ≡ places.old.items ++ placed names.now round.now is_caught None task ∷ []) }
+    ensures { IfOk result (λ _. places.new.items ≡ places.old.items ++ placed names.now inherited.now is_caught None task ∷ []) }
 {
-    let place = round.place(alloc, names, is_caught, task)?;
+    let place = inherited.place(alloc, names, is_caught, task)?;
     places.push(place)?;
     Ok(())
 }

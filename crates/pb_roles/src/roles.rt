@@ -6,11 +6,11 @@ ghost use Rattle.pb_roles.specs.Expansion.{closed, handlers_in, is_open, meets, 
 ghost use Rattle.pb_roles.specs.Files.{read_of};
 ghost use Rattle.pb_roles.specs.Open.{conditions_in, cost_in, cost_of, left_in, names_of, pushed, rest_of, to_do};
 
+use crate::collected::{Expansion, HandlerIn, Section};
 use crate::enter::role_of;
 use crate::fault::RoleFault;
 use crate::files::RoleFiles;
-use crate::met::{HandlerIn, Met, Section};
-use crate::opened::OpenRole;
+use crate::open_role::OpenRole;
 use crate::origin::Origin;
 use pb_expr_syntax::tree::Expr;
 use pb_play_reading::handlers::Handler;
@@ -69,7 +69,7 @@ fn enter(
     files: &RoleFiles,
     roles: &mut VecDeque<OpenRole>,
     entry: &RoleEntry,
-    met: &mut Met,
+    met: &mut Expansion,
 ) -> Result<(), RoleFault>
     ensures value { OnOk result (rest_of (read_of files.now) roles.new.items met.new ≡ to_do (most_open files.now) (read_of files.now) roles.old.items entry.now met.old) }
     ensures cost { OnOk result (cost_in (read_of files.now) roles.new.items + 1 ≤ cost_in (read_of files.now) roles.old.items + cost_of (left_in (most_open files.now) roles.old.items) (read_of files.now) entry.now) }
@@ -110,7 +110,7 @@ pub(crate) fn push_handlers(
 }
 
 /// The dependencies of a role are through: what it brings comes behind what they brought.
-fn close(role: OpenRole, met: &mut Met) -> Result<(), AllocError>
+fn close(role: OpenRole, met: &mut Expansion) -> Result<(), AllocError>
     ensures { OnOk result (met.new ≡ closed role met.old) }
 {
     let (origin, nodes, handlers) = role.into_parts();
@@ -126,7 +126,7 @@ fn step(
     files: &RoleFiles,
     roles: &mut VecDeque<OpenRole>,
     role: OpenRole,
-    met: &mut Met,
+    met: &mut Expansion,
 ) -> Result<(), RoleFault>
     ensures value { OnOk result (rest_of (read_of files.now) roles.new.items met.new ≡ rest_of (read_of files.now) (role ∷ roles.old.items) met.old) }
     ensures cost { OnOk result (cost_in (read_of files.now) roles.new.items + 1 ≤ cost_in (read_of files.now) (role ∷ roles.old.items)) }
@@ -152,7 +152,12 @@ fn step(
 }
 
 /// An entry of a play is met, with all that its role depends on.
-fn meet(alloc: Global, files: &RoleFiles, entry: &RoleEntry, met: &mut Met) -> Result<(), RoleFault>
+fn meet(
+    alloc: Global,
+    files: &RoleFiles,
+    entry: &RoleEntry,
+    met: &mut Expansion,
+) -> Result<(), RoleFault>
     ensures value { OnOk result (meets (most_open files.now) (read_of files.now) [] [] entry.now met.old ≡ Ok met.new) }
     ensures fault { IfErr result (λ e. Faults e (meets (most_open files.now) (read_of files.now) [] [] entry.now met.old)) }
 {
@@ -169,10 +174,10 @@ pub(crate) fn roles_of(
     alloc: Global,
     files: &RoleFiles,
     entries: &[RoleEntry],
-) -> Result<Met, RoleFault>
+) -> Result<Expansion, RoleFault>
     ensures { Gives result (roles_of files.now entries.now) }
 {
-    let mut met = Met {
+    let mut met = Expansion {
         came: Items::new(alloc),
         sections: Items::new(alloc),
         handlers: Items::new(alloc),

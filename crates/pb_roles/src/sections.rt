@@ -4,10 +4,10 @@ ghost use Rattle.pb_roles.specs.Building.{all_places};
 ghost use Rattle.pb_roles.specs.Plays.{with_tree};
 ghost use Rattle.pb_roles.specs.Sections.{names_of};
 
+use crate::collected::{HandlerIn, Section};
 use crate::flush::all_tasks;
-use crate::met::{HandlerIn, Section};
+use crate::flush_tasks::Flushes;
 use crate::placing::push_part;
-use crate::ready::Flushes;
 use pb_batches::Serial;
 use pb_handlers::Handlers;
 use pb_patterns::pattern::Pattern;

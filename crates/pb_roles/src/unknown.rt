@@ -5,7 +5,7 @@ ghost use Rattle.pb_play.specs.Nodes.{Nothing};
 ghost use Rattle.pb_play.specs.View.{node_of, written_of};
 ghost use Rattle.pb_roles.specs.Unknown.{unknown_in, unknown_in_sections, unknown_in_handlers, unknown_with};
 
-use crate::met::{HandlerIn, Section};
+use crate::collected::{HandlerIn, Section};
 use crate::nodes::nodes_in;
 use crate::sections::Sections;
 use pb_handlers::Handlers;

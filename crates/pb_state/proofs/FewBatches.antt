@@ -3,9 +3,9 @@ use Rattle.std.proofs.Common.{◌≡◌, ℕ, zero, suc, ◌-◌, ◌<◌, ◌�
 use Rattle.std.specs.Prelude.{None, slice_get}
 use Rattle.pb_batches.specs.declared.serial.Entry.{Entry}
 use Rattle.pb_batches.specs.Sizes.{first_size, entries_behind, sizes_from, batch_sizes}
-use Rattle.pb_all_hosts.specs.Batches.{called_count}
-use Rattle.pb_one_host.specs.Row.{HostRow}
-use Rattle.pb_all_hosts.proofs.Batching.{few_called}
+use Rattle.pb_hosts.specs.Batches.{play_host_count}
+use Rattle.pb_host.specs.Host.{HostOf}
+use Rattle.pb_hosts.proofs.Batching.{few_play_hosts}
 
 -- there are as many batches as hosts at most
 few_from : (most n left : ℕ) (entries : List Entry) → length (sizes_from most n left entries) ≤ most
@@ -18,10 +18,10 @@ few_from (suc most) n (suc left) entries =
 pub few_batches : (entries : List Entry) (n : ℕ) → length (batch_sizes entries n) ≤ n
 few_batches entries n = few_from n n n entries
 
-pub few_sizes : (sizes : List ℕ) (entries : List Entry) (hosts : List Bool) (rows : List HostRow) (n : ℕ) → sizes ≡ batch_sizes entries n → n ≡ called_count hosts rows → length rows ≤ 1048576 → length sizes ≤ 1048576
+pub few_sizes : (sizes : List ℕ) (entries : List Entry) (hosts : List Bool) (rows : List HostOf) (n : ℕ) → sizes ≡ batch_sizes entries n → n ≡ play_host_count hosts rows → length rows ≤ 1048576 → length sizes ≤ 1048576
 few_sizes sizes entries hosts rows n s c most =
     let same : length sizes ≡ length (batch_sizes entries n) = ap length s in
-    omega (arith, same, few_batches entries n, c, few_called hosts rows, most)
+    omega (arith, same, few_batches entries n, c, few_play_hosts hosts rows, most)
 
 -- and some where there are hosts
 pub some_batch : (entries : List Entry) (n : ℕ) → 0 < n → slice_get (batch_sizes entries n) 0 ≡ None → ⊥

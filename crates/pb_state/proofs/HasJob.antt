@@ -9,12 +9,12 @@ use Rattle.pb_tree.proofs.Paths.{length_paths}
 use Rattle.pb_outcome.specs.declared.job.Call.{Call}
 use Rattle.pb_outcome.specs.Items.{next_item}
 use Rattle.pb_plan.specs.Plan.{PlayOf, PlanOf}
-use Rattle.pb_one_host.specs.declared.row.Running.{Running}
-use Rattle.pb_one_host.specs.Calls.{call_in, delegate_in}
-use Rattle.pb_one_host.specs.Row.{HostRow}
-use Rattle.pb_one_host.specs.Runs.{is_running}
-use Rattle.pb_one_host.proofs.InOrder.{goes_on_at, has_call}
-use Rattle.pb_all_hosts.specs.Hosts.{at_row}
+use Rattle.pb_host.specs.declared.host.Running.{Running}
+use Rattle.pb_host.specs.Calls.{call_in, delegate_in}
+use Rattle.pb_host.specs.Host.{HostOf}
+use Rattle.pb_host.specs.Runs.{is_running}
+use Rattle.pb_host.proofs.InOrder.{goes_on_at, has_call}
+use Rattle.pb_hosts.specs.Hosts.{at_row}
 use Rattle.pb_state.specs.Jobs.{AttemptOf, job_of, job_in, row_job, running_job, item_job, placed_job, connector_for, job_with, next_attempt as attempt_of_job}
 use Rattle.pb_state.specs.Machine.{open_play}
 use Rattle.pb_state.specs.State.{State}
@@ -24,7 +24,7 @@ pub row_runs : (test : Running → Bool) (running : Option Running) → option_m
 row_runs test None e = cc
 row_runs test (Some r) e = refl
 
-pub at_runs : (test : HostRow → Bool) → ((row : HostRow) → test row ≡ true → is_running row ≡ true) → (rows : List HostRow) (h : ℕ) → at_row test rows h ≡ true → at_row is_running rows h ≡ true
+pub at_runs : (test : HostOf → Bool) → ((row : HostOf) → test row ≡ true → is_running row ≡ true) → (rows : List HostOf) (h : ℕ) → at_row test rows h ≡ true → at_row is_running rows h ≡ true
 at_runs test runs [] h e = cc
 at_runs test runs (row ∷ rows) zero e = runs row e
 at_runs test runs (row ∷ rows) (suc h) e = at_runs test runs rows h e
@@ -34,7 +34,7 @@ placed_running : (size sends : ℕ) (running : Option Running) → is_some runni
 placed_running size sends None e held = cc
 placed_running size sends (Some r) e held = omega (arith, held.0)
 
-pub placed_row : (size sends : ℕ) (rows : List HostRow) (h : ℕ) → at_row is_running rows h ≡ true → AreHeld size sends rows → 0 < size
+pub placed_row : (size sends : ℕ) (rows : List HostOf) (h : ℕ) → at_row is_running rows h ≡ true → AreHeld size sends rows → 0 < size
 placed_row size sends [] h e held = cc
 placed_row size sends (row ∷ rows) zero e held = placed_running size sends row.running e held.0
 placed_row size sends (row ∷ rows) (suc h) e held = placed_row size sends rows h e held.1
@@ -45,7 +45,7 @@ get_some [] i b = absurd (omega (arith, b))
 get_some (x ∷ xs) zero b = refl
 get_some (x ∷ xs) (suc i) b = get_some xs i (omega (arith, b))
 
-row_within : (test : HostRow → Bool) (rows : List HostRow) (h : ℕ) → at_row test rows h ≡ true → h < length rows
+row_within : (test : HostOf → Bool) (rows : List HostOf) (h : ℕ) → at_row test rows h ≡ true → h < length rows
 row_within test [] h e = cc
 row_within test (row ∷ rows) zero e = omega arith
 row_within test (row ∷ rows) (suc h) e = let rest = row_within test rows h e in omega (arith, rest)
@@ -78,7 +78,7 @@ task_job plan number sends host ticket play (Some r) b e held =
     let sent = has_call r.items next.0 next.1 in
     next_job plan number host ticket play r next.0 sent.0 (next_item r.items) b held.0 next.1 sent.1
 
-row_has_job : (plan : PlanOf) (number sends : ℕ) (host : HostNo) (ticket : Ticket) (play : PlayOf) (rows : List HostRow) (h : ℕ) → host.0 < length plan.inventory.hosts → at_row is_running rows h ≡ true → AreHeld (size_of play.tree) sends rows → is_some (option_map_or (row_job plan number host ticket play) (slice_get rows h) None) ≡ true
+row_has_job : (plan : PlanOf) (number sends : ℕ) (host : HostNo) (ticket : Ticket) (play : PlayOf) (rows : List HostOf) (h : ℕ) → host.0 < length plan.inventory.hosts → at_row is_running rows h ≡ true → AreHeld (size_of play.tree) sends rows → is_some (option_map_or (row_job plan number host ticket play) (slice_get rows h) None) ≡ true
 row_has_job plan number sends host ticket play [] h b e held = cc
 row_has_job plan number sends host ticket play (row ∷ rows) zero b e held = task_job plan number sends host ticket play row.running b e held.0
 row_has_job plan number sends host ticket play (row ∷ rows) (suc h) b e held = row_has_job plan number sends host ticket play rows h b e held.1

@@ -14,26 +14,26 @@ use Rattle.pb_outcome.specs.declared.item.Item.{Item}
 use Rattle.pb_outcome.specs.declared.job.Report.{Report}
 use Rattle.pb_outcome.specs.declared.outcome.Form.{Form}
 use Rattle.pb_outcome.specs.Items.{is_over}
-use Rattle.pb_sight.specs.Results.{items_at}
+use Rattle.pb_task_vars.specs.Results.{items_at}
 use Rattle.pb_state.specs.declared.event.Event.{Event}
 use Rattle.pb_state.specs.declared.event.Event.TheVariants.{Open, Start, Send, Report as Reported, Turn, Close, Stop, Forks}
-use Rattle.pb_one_host.specs.declared.row.Running.{Running}
+use Rattle.pb_host.specs.declared.host.Running.{Running}
 use Rattle.pb_plan.specs.Plan.{PlayOf, PlanOf}
-use Rattle.pb_all_hosts.specs.Batches.{room_behind, joined_first}
-use Rattle.pb_one_host.specs.Row.{HostRow, first_rows, called, place_of, next_place, ended, items_after, progressed, sent, sent_running, reported, reported_running, left}
+use Rattle.pb_hosts.specs.Batches.{room_behind, joined_first}
+use Rattle.pb_host.specs.Host.{HostOf, first_rows, as_play_begins, place_of, next_place, ended, items_after, progressed, sent, sent_running, reported, reported_running, left}
 use Rattle.pb_state.specs.State.{State}
 use Rattle.pb_inventory.specs.InventoryOf.{InventoryOf}
-use Rattle.pb_sight.specs.declared.gifts.Gift.{Gift}
-use Rattle.pb_all_hosts.proofs.Giving.{given_keeps, length-given}
-use Rattle.pb_all_hosts.specs.Hosts.{change, at_row}
-use Rattle.pb_all_hosts.specs.Giving.{takes, given_to, gifts_at, report_gives}
+use Rattle.pb_task_vars.specs.declared.gifts.DelegatedFacts.{DelegatedFacts}
+use Rattle.pb_hosts.proofs.Giving.{given_keeps, length-given}
+use Rattle.pb_hosts.specs.Hosts.{change, at_row}
+use Rattle.pb_hosts.specs.Giving.{takes, with_delegated, gifts_at, report_gives}
 use Rattle.pb_state.specs.Machine.{possible, after, open_play, same_place, may_start_in, may_send_in, after_open, started_in, next_at, facts_at, plan_seen, start_at, sent_in, reported_in, batch_of, turned_in, first_state}
 use Rattle.pb_state.specs.Run.{legal_from, state_from, IsRun}
-use Rattle.pb_all_hosts.proofs.Batching.{length-joined}
-use Rattle.pb_all_hosts.proofs.FirstRows.{length-first}
+use Rattle.pb_hosts.proofs.Batching.{length-joined}
+use Rattle.pb_hosts.proofs.FirstRows.{length-first}
 use Rattle.pb_state.proofs.Opening.{open_case, rows_case}
 use Rattle.pb_state.proofs.Stands.{stands_at, start_stands}
-use Rattle.pb_all_hosts.proofs.Turning.{Goes, goes_running, turned_by_case, turned_hosts}
+use Rattle.pb_hosts.proofs.Turning.{Goes, goes_running, turned_by_case, turned_hosts}
 use Rattle.pb_state.proofs.Walks.{IsIn, AllIn, IsOfPlan, step_of, first_of}
 use Rattle.pb_state.specs.Over.{IsUnfinished, AreUnfinished, IsGoing}
 
@@ -55,7 +55,7 @@ abbrev pub IsHeldTask : ℕ → ℕ → Option Running → Type 0
 IsHeldTask size sends None = Unit {0}
 IsHeldTask size sends (Some r) = (r.place < size) × IsOutBelow sends r.out × (is_over r.items ≡ false)
 
-abbrev pub AreHeld : ℕ → ℕ → List HostRow → Type 0
+abbrev pub AreHeld : ℕ → ℕ → List HostOf → Type 0
 AreHeld size sends [] = Unit {0}
 AreHeld size sends (row ∷ rows) = IsHeldTask size sends row.running × AreHeld size sends rows
 
@@ -69,7 +69,7 @@ pub record IsHeld (plan : PlanOf) (s : State) : Type 0 where
   pub tasks : AreHeld (places_in (open_play plan s)) s.sends s.rows
 
 -- rows in which no host runs
-none_run : (f : HostRow → HostRow) → ((row : HostRow) → (f row).running ≡ None) → (size sends : ℕ) (rows : List HostRow) → AreHeld size sends (map f rows)
+none_run : (f : HostOf → HostOf) → ((row : HostOf) → (f row).running ≡ None) → (size sends : ℕ) (rows : List HostOf) → AreHeld size sends (map f rows)
 none_run f idle size sends [] = tt
 none_run f idle size sends (row ∷ rows) = (rw (idle row) tt, none_run f idle size sends rows)
 
@@ -78,25 +78,25 @@ none_first size sends h zero = tt
 none_first size sends h (suc n) = (tt, none_first size sends (h + 1) n)
 
 -- one row changed
-length-changed : (rows : List HostRow) (h : ℕ) (f : HostRow → HostRow) (found : Option HostRow) → length (option_map_or (λ row. slice_set rows h (f row)) found rows) ≡ length rows
+length-changed : (rows : List HostOf) (h : ℕ) (f : HostOf → HostOf) (found : Option HostOf) → length (option_map_or (λ row. slice_set rows h (f row)) found rows) ≡ length rows
 length-changed rows h f None = refl
 length-changed rows h f (Some row) = length-set rows h (f row)
 
-length-change : (rows : List HostRow) (h : ℕ) (f : HostRow → HostRow) → length (change rows h f) ≡ length rows
+length-change : (rows : List HostOf) (h : ℕ) (f : HostOf → HostOf) → length (change rows h f) ≡ length rows
 length-change rows h f = length-changed rows h f (slice_get rows h)
 
-change_on : (row : HostRow) (rows : List HostRow) (h : ℕ) (f : HostRow → HostRow) (found : Option HostRow) → slice_get rows h ≡ found → change (row ∷ rows) (suc h) f ≡ row ∷ change rows h f
+change_on : (row : HostOf) (rows : List HostOf) (h : ℕ) (f : HostOf → HostOf) (found : Option HostOf) → slice_get rows h ≡ found → change (row ∷ rows) (suc h) f ≡ row ∷ change rows h f
 change_on row rows h f None e = rw e refl
 change_on row rows h f (Some r) e = rw e refl
 
-held_change : (size sends : ℕ) (f : HostRow → HostRow) → ((row : HostRow) → IsHeldTask size sends row.running → IsHeldTask size sends (f row).running) → (rows : List HostRow) (h : ℕ) → AreHeld size sends rows → AreHeld size sends (change rows h f)
+held_change : (size sends : ℕ) (f : HostOf → HostOf) → ((row : HostOf) → IsHeldTask size sends row.running → IsHeldTask size sends (f row).running) → (rows : List HostOf) (h : ℕ) → AreHeld size sends rows → AreHeld size sends (change rows h f)
 held_change size sends f keeps [] h held = tt
 held_change size sends f keeps (row ∷ rows) zero held = (keeps row held.0, held.1)
 held_change size sends f keeps (row ∷ rows) (suc h) held =
     rw (change_on row rows h f (slice_get rows h) refl) (held.0, held_change size sends f keeps rows h held.1)
 
 -- what hosts are given leaves their tasks as they are
-given_held : (size sends : ℕ) (gifts : List Gift) (rows : List HostRow) → AreHeld size sends rows → AreHeld size sends (given_to gifts rows)
+given_held : (size sends : ℕ) (gifts : List DelegatedFacts) (rows : List HostOf) → AreHeld size sends rows → AreHeld size sends (with_delegated gifts rows)
 given_held size sends gifts rows held = given_keeps (AreHeld size sends) (λ gift all held. held_change size sends (takes gift) (λ row task. task) all gift.host.0 held) gifts rows held
 
 -- more was sent
@@ -108,12 +108,12 @@ task_more : (size sends : ℕ) (running : Option Running) → IsHeldTask size se
 task_more size sends None held = tt
 task_more size sends (Some r) held = (held.0, below_more sends r.out held.1, held.2)
 
-held_more : (size sends : ℕ) (rows : List HostRow) → AreHeld size sends rows → AreHeld size (sends + 1) rows
+held_more : (size sends : ℕ) (rows : List HostOf) → AreHeld size sends rows → AreHeld size (sends + 1) rows
 held_more size sends [] held = tt
 held_more size sends (row ∷ rows) held = (task_more size sends row.running held.0, held_more size sends rows held.1)
 
 -- a task that has come to some items
-progressed_held : (p size sends : ℕ) (inventory : InventoryOf) (play : PlayOf) (items : List Item) (row : HostRow) → p < size → IsHeldTask size sends (progressed inventory play p items row).running
+progressed_held : (p size sends : ℕ) (inventory : InventoryOf) (play : PlayOf) (items : List Item) (row : HostOf) → p < size → IsHeldTask size sends (progressed inventory play p items row).running
 progressed_held p size sends inventory play items row below = by_over (is_over items) refl
   where
     by_over : (over : Bool) → is_over items ≡ over → IsHeldTask size sends (if over then ended inventory play p items row else record row { running = Some (record { place = p; items = items; out = None }) }).running
@@ -126,18 +126,18 @@ same_is (Some p) (Some q) e = ap Some (eqb-true p q e)
 same_is (Some p) None e = cc
 same_is None q e = cc
 
-place_below : (tree : TreeOf) (row : HostRow) (p : ℕ) (reached : Reach) → reach tree row.answers ≡ reached → place_of reached ≡ Some p → p < size_of tree
+place_below : (tree : TreeOf) (row : HostOf) (p : ℕ) (reached : Reach) → reach tree row.answers ≡ reached → place_of reached ≡ Some p → p < size_of tree
 place_below tree row p (At q) r e = let b = (places_bounded tree row.answers q r).0 in let same : q ≡ p = cc in rw (← same) b
 place_below tree row p (Done ending) r e = cc
 
-next_below : (tree : TreeOf) (row : HostRow) (p : ℕ) → IsIn tree row → next_place row ≡ Some p → p < size_of tree
+next_below : (tree : TreeOf) (row : HostOf) (p : ℕ) → IsIn tree row → next_place row ≡ Some p → p < size_of tree
 next_below tree row p is e = by_batch row.in_batch refl e
   where
     by_batch : (b : Bool) → row.in_batch ≡ b → (if b then place_of (reach row.tree row.answers) else None) ≡ Some p → p < size_of tree
     by_batch true i n = subst (λ (t : TreeOf). p < size_of t) (is i) (place_below row.tree row p (reach row.tree row.answers) refl n)
     by_batch false i n = cc
 
-place_at : (tree : TreeOf) (p : ℕ) (rows : List HostRow) (h : ℕ) → AllIn tree rows → at_row (stands_at (Some p)) rows h ≡ true → p < size_of tree
+place_at : (tree : TreeOf) (p : ℕ) (rows : List HostOf) (h : ℕ) → AllIn tree rows → at_row (stands_at (Some p)) rows h ≡ true → p < size_of tree
 place_at tree p [] h all e = cc
 place_at tree p (row ∷ rows) zero all e = next_below tree row p all.0 (same_is (next_place row) (Some p) (and_right _ _ e))
 place_at tree p (row ∷ rows) (suc h) all e = place_at tree p rows h all.1 e
@@ -184,7 +184,7 @@ sent_in_held plan s h item attempt ticket (Some play) o held e =
     }
 
 -- a report
-reported_held : (plan : PlanOf) (play : PlayOf) (outcome : Form) (size sends : ℕ) (row : HostRow) → IsHeldTask size sends row.running → IsHeldTask size sends (reported plan play outcome row).running
+reported_held : (plan : PlanOf) (play : PlayOf) (outcome : Form) (size sends : ℕ) (row : HostOf) → IsHeldTask size sends row.running → IsHeldTask size sends (reported plan play outcome row).running
 reported_held plan play outcome size sends row held = by_running row.running held
   where
     by_running : (running : Option Running) → IsHeldTask size sends running → IsHeldTask size sends (option_map_or (reported_running plan play outcome row) running row).running
@@ -203,9 +203,9 @@ reported_in_held plan s r (Some play) o held = record {
 }
 
 -- the others
-none_joined : (size sends : ℕ) (tree : TreeOf) (room : ℕ) (rows : List HostRow) → AreHeld size sends (joined_first tree room rows)
+none_joined : (size sends : ℕ) (tree : TreeOf) (room : ℕ) (rows : List HostOf) → AreHeld size sends (joined_first tree room rows)
 none_joined size sends tree room [] = tt
-none_joined size sends tree room (row ∷ rows) = (tt, none_joined size sends tree (room_behind room row.waits) rows)
+none_joined size sends tree room (row ∷ rows) = (tt, none_joined size sends tree (room_behind room row.awaits_batch) rows)
 
 opened_held : (plan : PlanOf) (s : State) → IsHeld plan s → IsHeld plan (after_open plan s)
 opened_held plan s held =
@@ -214,12 +214,12 @@ opened_held plan s held =
     record {
       hosts =
           length-joined play.tree size rows
-          ∙ rows_case (λ (calls : List HostRow). length calls ≡ length s.rows) plan s n batch sizes rows play size is refl (λ hosts. length-map s.rows (called hosts)) ∙ held.hosts;
+          ∙ rows_case (λ (calls : List HostOf). length calls ≡ length s.rows) plan s n batch sizes rows play size is refl (λ hosts. length-map s.rows (as_play_begins hosts)) ∙ held.hosts;
       tasks = none_joined _ s.sends play.tree size rows;
     })
 
 -- a turn leaves what hosts run as it is
-goes_held : (f : HostRow → HostRow) → Goes f → (size sends : ℕ) (rows : List HostRow) → AreHeld size sends rows → AreHeld size sends (map f rows)
+goes_held : (f : HostOf → HostOf) → Goes f → (size sends : ℕ) (rows : List HostOf) → AreHeld size sends rows → AreHeld size sends (map f rows)
 goes_held f goes size sends [] held = tt
 goes_held f goes size sends (row ∷ rows) held = (subst (IsHeldTask size sends) (sym (goes_running f goes row)) held.0, goes_held f goes size sends rows held.1)
 
@@ -266,7 +266,7 @@ unfinished_row : (size sends : ℕ) (running : Option Running) → IsHeldTask si
 unfinished_row size sends None held = tt
 unfinished_row size sends (Some r) held = held.2
 
-unfinished_rows : (size sends : ℕ) (rows : List HostRow) → AreHeld size sends rows → AreUnfinished rows
+unfinished_rows : (size sends : ℕ) (rows : List HostOf) → AreHeld size sends rows → AreUnfinished rows
 unfinished_rows size sends [] held = tt
 unfinished_rows size sends (row ∷ rows) held = (unfinished_row size sends row.running held.0, unfinished_rows size sends rows held.1)
 

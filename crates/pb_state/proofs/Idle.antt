@@ -14,14 +14,14 @@ use Rattle.pb_strategies.specs.declared.strategy.Strategy.{Strategy}
 use Rattle.pb_strategies.specs.declared.strategy.Strategy.TheVariants.{Linear, Free, HostPinned}
 use Rattle.pb_strategies.specs.Hosts.{is_running as standing_runs, is_under_way, is_next_at, runs_in, same_place as same_there}
 use Rattle.pb_strategies.specs.MayStart.{ViewOf, has_room, has_room_at, has_room_to_begin, runs_once, is_open_once, is_first_at, may_run_once, suits, may_start_at, may_start_from, may_start, is_linear, is_idle, ready as starting}
-use Rattle.pb_one_host.specs.declared.row.Running.{Running}
-use Rattle.pb_one_host.specs.Row.{HostRow, next_place, runs_once_at}
+use Rattle.pb_host.specs.declared.host.Running.{Running}
+use Rattle.pb_host.specs.Host.{HostOf, next_place, runs_once_at}
 use Rattle.pb_state.specs.State.{State}
-use Rattle.pb_all_hosts.specs.Turn.{has_settled, is_settled, is_settled_at, settler, source}
-use Rattle.pb_one_host.specs.Standing.{has_begun, standing}
+use Rattle.pb_hosts.specs.Turn.{has_done_run_once, is_run_once_done, is_run_once_done_at, run_once_host, source}
+use Rattle.pb_host.specs.Standing.{has_begun, standing}
 use Rattle.pb_state.specs.Strategies.{view_of}
-use Rattle.pb_one_host.specs.Runs.{is_running}
-use Rattle.pb_all_hosts.specs.Hosts.{at_row, lesser, least_place}
+use Rattle.pb_host.specs.Runs.{is_running}
+use Rattle.pb_hosts.specs.Hosts.{at_row, lesser, least_place}
 use Rattle.pb_state.specs.Machine.{same_place, may_turn_in}
 use Rattle.pb_state.proofs.Stands.{both, runs_same, linear_is, none_starts}
 
@@ -50,7 +50,7 @@ not_false true e = cc
 not_false false e = refl
 
 -- ---- nobody runs
-pub idle_runs : (rows : List HostRow) → list_any is_running rows ≡ false → running (runs_in (map standing rows)) ≡ 0
+pub idle_runs : (rows : List HostOf) → list_any is_running rows ≡ false → running (runs_in (map standing rows)) ≡ 0
 idle_runs [] e = refl
 idle_runs (row ∷ rows) e =
     let rest = idle_runs rows (or_right (is_running row) _ e) in
@@ -62,7 +62,7 @@ none_false : (a b : Bool) → a ≡ false → b ≡ false → (a || b) ≡ false
 none_false true b e f = e
 none_false false b e f = f
 
-pub runs_idle : (rows : List HostRow) → running (runs_in (map standing rows)) ≡ 0 → list_any is_running rows ≡ false
+pub runs_idle : (rows : List HostOf) → running (runs_in (map standing rows)) ≡ 0 → list_any is_running rows ≡ false
 runs_idle [] e = refl
 runs_idle (row ∷ rows) e =
     let on = sum_by-cons (λ (r : Option ℕ). cond (is_some r) 1 0) (option_map (λ (r : Running). r.place) row.running) (runs_in (map standing rows)) in
@@ -77,7 +77,7 @@ idle_at : (p : ℕ) (found : Option Running) → is_some found ≡ false → run
 idle_at p None e = refl
 idle_at p (Some r) e = cc
 
-none_at : (p : ℕ) (rows : List HostRow) → list_any is_running rows ≡ false → running_at (runs_in (map standing rows)) p ≡ 0
+none_at : (p : ℕ) (rows : List HostOf) → list_any is_running rows ≡ false → running_at (runs_in (map standing rows)) p ≡ 0
 none_at p [] e = refl
 none_at p (row ∷ rows) e =
     let rest = none_at p rows (or_right (is_running row) _ e) in
@@ -98,8 +98,8 @@ idle_room s play st e f =
     both (not s.stopped) (nat_lt (running (runs_in (map standing s.rows))) s.forks) (ap not st) (ap (λ (n : ℕ). nat_lt n s.forks) (idle_runs s.rows e) ∙ lt-ltb 0 s.forks f)
 
 -- a host that passes a test starts, where the strategy asks no more of one that does
-starts_there : (view : ViewOf) (n : ℕ) (test : HostRow → Bool) (rows : List HostRow) (h : ℕ) → list_any is_running rows ≡ false
-    → ((row : HostRow) → test row ≡ true → option_map_or (may_start_at view n (standing row)) (next_place row) false ≡ true) → at_row test rows h ≡ true
+starts_there : (view : ViewOf) (n : ℕ) (test : HostOf → Bool) (rows : List HostOf) (h : ℕ) → list_any is_running rows ≡ false
+    → ((row : HostOf) → test row ≡ true → option_map_or (may_start_at view n (standing row)) (next_place row) false ≡ true) → at_row test rows h ≡ true
     → option_map_or (may_start_from view n) (slice_get (map standing rows) h) false ≡ true
 starts_there view n test [] h idle each e = cc
 starts_there view n test (row ∷ rows) zero idle each e =
@@ -110,8 +110,8 @@ never : (a : Bool) → a ≡ false → (a ≡ true → ⊥)
 never a e f = let both_ways : true ≡ false = sym f ∙ e in cc
 
 -- so that no host passes it where nobody may start
-none_passes : (s : State) (play : PlayOf) (test : HostRow → Bool) → s.stopped ≡ false → list_any is_running s.rows ≡ false → 0 < s.forks → has_some (starting (view_of s play)) ≡ false
-    → ((n : ℕ) (row : HostRow) → test row ≡ true → option_map_or (may_start_at (view_of s play) n (standing row)) (next_place row) false ≡ true) → (h : ℕ) → at_row test s.rows h ≡ false
+none_passes : (s : State) (play : PlayOf) (test : HostOf → Bool) → s.stopped ≡ false → list_any is_running s.rows ≡ false → 0 < s.forks → has_some (starting (view_of s play)) ≡ false
+    → ((n : ℕ) (row : HostOf) → test row ≡ true → option_map_or (may_start_at (view_of s play) n (standing row)) (next_place row) false ≡ true) → (h : ℕ) → at_row test s.rows h ≡ false
 none_passes s play test st idle f none each h = by_test (at_row test s.rows h) refl
   where
     by_test : (b : Bool) → at_row test s.rows h ≡ b → b ≡ false
@@ -134,7 +134,7 @@ same_self a p e = rw e (eq-eqb p p refl)
 there_self : (a : Option ℕ) (p : ℕ) → a ≡ Some p → same_there a (Some p) ≡ true
 there_self a p e = rw e (eq-eqb p p refl)
 
-linear_each : (s : State) (play : PlayOf) (p n : ℕ) (row : HostRow) → play.strategy ≡ Linear → s.place ≡ Some p → list_any is_running s.rows ≡ false
+linear_each : (s : State) (play : PlayOf) (p n : ℕ) (row : HostOf) → play.strategy ≡ Linear → s.place ≡ Some p → list_any is_running s.rows ≡ false
     → (not (runs_once (view_of s play) p) || may_run_once (view_of s play) n p) ≡ true → same_place (next_place row) (Some p) ≡ true → option_map_or (may_start_at (view_of s play) n (standing row)) (next_place row) false ≡ true
 linear_each s play p n row l at idle once e =
     ap (λ (next : Option ℕ). option_map_or (may_start_at (view_of s play) n (standing row)) next false) (same_is (next_place row) (Some p) e)
@@ -151,16 +151,16 @@ lesser_is (Some a) None p e = inl e
 lesser_is (Some a) (Some b) p e = elim (min_is a b (nat_le a b) refl) [ inl m ↦ inl (cc) | inr m ↦ inr (cc) ]
 
 -- the first of these hosts whose next place this is
-record FirstAt (p : ℕ) (rows : List HostRow) : Type 0 where
+record FirstAt (p : ℕ) (rows : List HostOf) : Type 0 where
   at : ℕ
-  here : at_row (λ (row : HostRow). same_place (next_place row) (Some p)) rows at ≡ true
+  here : at_row (λ (row : HostOf). same_place (next_place row) (Some p)) rows at ≡ true
   before : list_any (is_next_at (Some p)) (take at (map standing rows)) ≡ false
 
 same_both : (next : Option ℕ) (p : ℕ) → same_there next (Some p) ≡ same_place next (Some p)
 same_both (Some q) p = refl
 same_both None p = refl
 
-first_by : (p : ℕ) (row : HostRow) (rows : List HostRow) (b : Bool) → same_place (next_place row) (Some p) ≡ b → (least_place rows ≡ Some p → FirstAt p rows) → least_place (row ∷ rows) ≡ Some p → FirstAt p (row ∷ rows)
+first_by : (p : ℕ) (row : HostOf) (rows : List HostOf) (b : Bool) → same_place (next_place row) (Some p) ≡ b → (least_place rows ≡ Some p → FirstAt p rows) → least_place (row ∷ rows) ≡ Some p → FirstAt p (row ∷ rows)
 first_by p row rows true t behind e = record { at = 0; here = t; before = refl }
 first_by p row rows false t behind e =
     elim (lesser_is (next_place row) (least_place rows) p e) [
@@ -174,44 +174,44 @@ first_by p row rows false t behind e =
           }
     ]
 
-first_at : (p : ℕ) (rows : List HostRow) → least_place rows ≡ Some p → FirstAt p rows
+first_at : (p : ℕ) (rows : List HostOf) → least_place rows ≡ Some p → FirstAt p rows
 first_at p [] e = cc
 first_at p (row ∷ rows) e = first_by p row rows (same_place (next_place row) (Some p)) refl (first_at p rows) e
 
 -- the host whose answer the others get settled the task, and where there is none it isn't settled
-settled_found : (p : ℕ) (b : Bool) (row from : HostRow) (found : Option HostRow) → has_settled p row ≡ b → (found ≡ Some from → has_settled p from ≡ true) → (if b then Some row else found) ≡ Some from → has_settled p from ≡ true
-settled_found p true row from found t behind e = let same : row ≡ from = cc in subst (λ (r : HostRow). has_settled p r ≡ true) same t
-settled_found p false row from found t behind e = behind e
+run_once_found : (p : ℕ) (b : Bool) (row from : HostOf) (found : Option HostOf) → has_done_run_once p row ≡ b → (found ≡ Some from → has_done_run_once p from ≡ true) → (if b then Some row else found) ≡ Some from → has_done_run_once p from ≡ true
+run_once_found p true row from found t behind e = let same : row ≡ from = cc in subst (λ (r : HostOf). has_done_run_once p r ≡ true) same t
+run_once_found p false row from found t behind e = behind e
 
-settler_settles : (p : ℕ) (rows : List HostRow) (from : HostRow) → settler p rows ≡ Some from → has_settled p from ≡ true
-settler_settles p [] from e = cc
-settler_settles p (row ∷ rows) from e = settled_found p (has_settled p row) row from (settler p rows) refl (settler_settles p rows from) e
+run_once_host_did : (p : ℕ) (rows : List HostOf) (from : HostOf) → run_once_host p rows ≡ Some from → has_done_run_once p from ≡ true
+run_once_host_did p [] from e = cc
+run_once_host_did p (row ∷ rows) from e = run_once_found p (has_done_run_once p row) row from (run_once_host p rows) refl (run_once_host_did p rows from) e
 
-source_settles : (once : Bool) (p : ℕ) (rows : List HostRow) (from : HostRow) → (if once then settler p rows else None) ≡ Some from → has_settled p from ≡ true
-source_settles true p rows from e = settler_settles p rows from e
-source_settles false p rows from e = cc
+source_did_run_once : (once : Bool) (p : ℕ) (rows : List HostOf) (from : HostOf) → (if once then run_once_host p rows else None) ≡ Some from → has_done_run_once p from ≡ true
+source_did_run_once true p rows from e = run_once_host_did p rows from e
+source_did_run_once false p rows from e = cc
 
-unsettled_behind : (b rest : Bool) (row : HostRow) (found : Option HostRow) → (found ≡ None → rest ≡ false) → (if b then Some row else found) ≡ None → (b || rest) ≡ false
-unsettled_behind true rest row found behind e = cc
-unsettled_behind false rest row found behind e = behind e
+not_run_once_behind : (b rest : Bool) (row : HostOf) (found : Option HostOf) → (found ≡ None → rest ≡ false) → (if b then Some row else found) ≡ None → (b || rest) ≡ false
+not_run_once_behind true rest row found behind e = cc
+not_run_once_behind false rest row found behind e = behind e
 
-no_settler : (p : ℕ) (rows : List HostRow) → settler p rows ≡ None → list_any (has_settled p) rows ≡ false
-no_settler p [] e = refl
-no_settler p (row ∷ rows) e = unsettled_behind (has_settled p row) (list_any (has_settled p) rows) row (settler p rows) (no_settler p rows) e
+no_run_once_host : (p : ℕ) (rows : List HostOf) → run_once_host p rows ≡ None → list_any (has_done_run_once p) rows ≡ false
+no_run_once_host p [] e = refl
+no_run_once_host p (row ∷ rows) e = not_run_once_behind (has_done_run_once p row) (list_any (has_done_run_once p) rows) row (run_once_host p rows) (no_run_once_host p rows) e
 
-no_source : (once : Bool) (p : ℕ) (rows : List HostRow) → (if once then settler p rows else None) ≡ None → (once && list_any (has_settled p) rows) ≡ false
-no_source true p rows e = no_settler p rows e
+no_source : (once : Bool) (p : ℕ) (rows : List HostOf) → (if once then run_once_host p rows else None) ≡ None → (once && list_any (has_done_run_once p) rows) ≡ false
+no_source true p rows e = no_run_once_host p rows e
 no_source false p rows e = refl
 
 -- where it isn't settled, the first host there may run it
 once_open : (s : State) (play : PlayOf) (p n : ℕ) → s.place ≡ Some p → list_any is_running s.rows ≡ false → source play p s.rows ≡ None → list_any (is_next_at (Some p)) (take n (map standing s.rows)) ≡ false
     → (not (runs_once (view_of s play) p) || may_run_once (view_of s play) n p) ≡ true
 once_open s play p n at idle none first =
-    let settled : is_settled play s.rows s.place ≡ false = ap (λ (place : Option ℕ). option_map_or (is_settled_at play s.rows) place false) at ∙ no_source (runs_once_at play p) p s.rows none in
+    let settled : is_run_once_done play s.rows s.place ≡ false = ap (λ (place : Option ℕ). option_map_or (is_run_once_done_at play s.rows) place false) at ∙ no_source (runs_once_at play p) p s.rows none in
     let nobody = eq-eqb (running_at (runs_in (map standing s.rows)) p) 0 (none_at p s.rows idle) in
     let may : may_run_once (view_of s play) n p ≡ true =
     both (is_open_once (view_of s play) p) (is_first_at (map standing s.rows) p n)
-    (both (nat_eq (running_at (runs_in (map standing s.rows)) p) 0) (not (is_settled play s.rows s.place)) nobody (ap not settled)) (ap not first) in
+    (both (nat_eq (running_at (runs_in (map standing s.rows)) p) 0) (not (is_run_once_done play s.rows s.place)) nobody (ap not settled)) (ap not first) in
     ap (λ (b : Bool). not (runs_once (view_of s play) p) || b) may ∙ or_true (not (runs_once (view_of s play) p))
 
 -- what a turn is possible under
@@ -240,18 +240,18 @@ turn_none : (s : State) (play : PlayOf) → may_turn_in s play ≡ true → has_
 turn_none s play may = not_false (has_some (starting (view_of s play))) (and_right (is_idle (view_of s play) && is_some s.place) _ may)
 
 -- a turn is possible at a current place that is the least only where a host settled the task there, which runs once
-pub turn_settles : (s : State) (play : PlayOf) (p : ℕ) → 0 < s.forks → may_turn_in s play ≡ true → s.place ≡ Some p → least_place s.rows ≡ Some p → (from : HostRow) × (source play p s.rows ≡ Some from) × (has_settled p from ≡ true)
-turn_settles s play p f may at least = by_source (source play p s.rows) refl
+pub turn_does_run_once : (s : State) (play : PlayOf) (p : ℕ) → 0 < s.forks → may_turn_in s play ≡ true → s.place ≡ Some p → least_place s.rows ≡ Some p → (from : HostOf) × (source play p s.rows ≡ Some from) × (has_done_run_once p from ≡ true)
+turn_does_run_once s play p f may at least = by_source (source play p s.rows) refl
   where
-    by_source : (found : Option HostRow) → source play p s.rows ≡ found → (from : HostRow) × (source play p s.rows ≡ Some from) × (has_settled p from ≡ true)
-    by_source (Some from) e = (from, e, source_settles (runs_once_at play p) p s.rows from e)
+    by_source : (found : Option HostOf) → source play p s.rows ≡ found → (from : HostOf) × (source play p s.rows ≡ Some from) × (has_done_run_once p from ≡ true)
+    by_source (Some from) e = (from, e, source_did_run_once (runs_once_at play p) p s.rows from e)
     by_source None none =
         let first = first_at p s.rows least in
         let idle = turn_idle s play may in
         absurd
         (never (may_start (view_of s play) first.at) (none_starts s play first.at (turn_none s play may))
         (both (has_room (view_of s play)) (option_map_or (may_start_from (view_of s play) first.at) (slice_get (map standing s.rows) first.at) false) (idle_room s play (turn_stopped s play may) idle f)
-        (starts_there (view_of s play) first.at (λ (row : HostRow). same_place (next_place row) (Some p)) s.rows first.at idle
+        (starts_there (view_of s play) first.at (λ (row : HostOf). same_place (next_place row) (Some p)) s.rows first.at idle
         (λ row e. linear_each s play p first.at row (turn_linear_is s play may) at idle (once_open s play p first.at at idle none first.before) e) first.here)))
 
 -- where nobody runs and nobody may start, it is possible
@@ -264,10 +264,10 @@ turns s play l st idle at none =
     (ap not none)
 
 -- ---- the others
-abbrev has_next : HostRow → Bool
+abbrev has_next : HostOf → Bool
 has_next row = is_some (next_place row)
 
-none_next : (rows : List HostRow) → ((h : ℕ) → at_row has_next rows h ≡ false) → least_place rows ≡ None
+none_next : (rows : List HostOf) → ((h : ℕ) → at_row has_next rows h ≡ false) → least_place rows ≡ None
 none_next [] none = refl
 none_next (row ∷ rows) none = ap (λ (next : Option ℕ). lesser next (least_place rows)) (nothing (next_place row) (none 0)) ∙ none_next rows (λ h. none (suc h))
   where
@@ -275,7 +275,7 @@ none_next (row ∷ rows) none = ap (λ (next : Option ℕ). lesser next (least_p
     nothing None e = refl
     nothing (Some p) e = cc
 
-each_next : (s : State) (play : PlayOf) (n : ℕ) (row : HostRow) (next : Option ℕ) → list_any is_running s.rows ≡ false → ((p : ℕ) → suits play.strategy (view_of s play) n (standing row) p ≡ true) → is_some next ≡ true
+each_next : (s : State) (play : PlayOf) (n : ℕ) (row : HostOf) (next : Option ℕ) → list_any is_running s.rows ≡ false → ((p : ℕ) → suits play.strategy (view_of s play) n (standing row) p ≡ true) → is_some next ≡ true
     → option_map_or (may_start_at (view_of s play) n (standing row)) next false ≡ true
 each_next s play n row None idle asked e = cc
 each_next s play n row (Some p) idle asked e =
@@ -288,10 +288,10 @@ free_done s play l st idle f none =
     (λ n row e. each_next s play n row (next_place row) idle (λ p. ap (λ (strategy : Strategy). suits strategy (view_of s play) n (standing row) p) l) e))
 
 -- under host_pinned no host is under way then, so that any other may begin
-abbrev begun_next : HostRow → Bool
+abbrev begun_next : HostOf → Bool
 begun_next row = has_begun row && is_some (next_place row)
 
-none_under_way : (rows : List HostRow) → ((h : ℕ) → at_row begun_next rows h ≡ false) → count_by is_under_way (map standing rows) ≡ 0
+none_under_way : (rows : List HostOf) → ((h : ℕ) → at_row begun_next rows h ≡ false) → count_by is_under_way (map standing rows) ≡ 0
 none_under_way [] none = refl
 none_under_way (row ∷ rows) none =
     let rest = none_under_way rows (λ h. none (suc h)) in

@@ -18,15 +18,15 @@ use Rattle.pb_variables.specs.Magic.{hostvars, hosts_magic}
 use Rattle.pb_places.specs.Place.{PlaceOf}
 use Rattle.pb_play.specs.declared.modules.Module.{Module}
 use Rattle.pb_plan.specs.Plan.{PlayOf, PlanOf}
-use Rattle.pb_sight.specs.Delegates.{kept}
-use Rattle.pb_sight.specs.Ends.{has_run}
-use Rattle.pb_sight.specs.Learning.{gives_of, gives_if, learns_at, taught_by}
-use Rattle.pb_sight.specs.Results.{items_at}
-use Rattle.pb_sight.specs.declared.gifts.Gift.{Gift}
-use Rattle.pb_one_host.specs.declared.row.Running.{Running}
-use Rattle.pb_one_host.specs.Row.{HostRow, ended, items_after, progressed, reported, reported_running, sent, task_at}
-use Rattle.pb_all_hosts.specs.Hosts.{change}
-use Rattle.pb_all_hosts.specs.Giving.{given_to, gifts_at, gifts_of}
+use Rattle.pb_task_vars.specs.Delegates.{kept}
+use Rattle.pb_task_vars.specs.Ends.{has_run}
+use Rattle.pb_task_vars.specs.Learning.{gives_of, gives_if, learns_at, facts_after_end}
+use Rattle.pb_task_vars.specs.Results.{items_at}
+use Rattle.pb_task_vars.specs.declared.gifts.DelegatedFacts.{DelegatedFacts}
+use Rattle.pb_host.specs.declared.host.Running.{Running}
+use Rattle.pb_host.specs.Host.{HostOf, ended, items_after, progressed, reported, reported_running, sent, task_at}
+use Rattle.pb_hosts.specs.Hosts.{change}
+use Rattle.pb_hosts.specs.Giving.{with_delegated, gifts_at, gifts_of}
 use Rattle.pb_state.specs.declared.event.Event.{Event}
 use Rattle.pb_state.specs.declared.event.Event.TheVariants.{Open, Start, Send, Report as Reported, Turn, Close, Stop, Forks}
 use Rattle.pb_state.specs.State.{State}
@@ -77,10 +77,10 @@ if_same : (b : Bool) (facts known : FactsOf) → known ≡ facts → (if b then 
 if_same true facts known e = refl
 if_same false facts known e = e
 
-taught_none : (inventory : InventoryOf) (play : PlayOf) (p : ℕ) (starter : Option ℕ) (task : TaskResult) (result : Datum) (items : List Item) (facts : FactsOf) →
-    teaches_nothing_at play p ≡ true → taught_by inventory play p starter task result items facts ≡ facts
-unfolding taught_by
-taught_none inventory play p starter task result items facts e =
+facts_after_none : (inventory : InventoryOf) (play : PlayOf) (p : ℕ) (starter : Option ℕ) (task : TaskResult) (result : Datum) (items : List Item) (facts : FactsOf) →
+    teaches_nothing_at play p ≡ true → facts_after_end inventory play p starter task result items facts ≡ facts
+unfolding facts_after_end
+facts_after_none inventory play p starter task result items facts e =
     if_same task.unreachable facts (option_map_or (learns_at inventory starter result (has_run task) items facts) (slice_get play.places p) facts) (by_place (slice_get play.places p) e)
   where
     by_place : (found : Option PlaceOf) → option_map_or teaches_nothing found true ≡ true → option_map_or (learns_at inventory starter result (has_run task) items facts) found facts ≡ facts
@@ -89,11 +89,11 @@ taught_none inventory play p starter task result items facts e =
         learnt_none (gives_if (has_run task) place.task.«module») place.task.register result (kept inventory starter place.delegate_facts items) facts
         (gives_none (has_run task) place.task.«module» (gives_none_at place e)) (registers_none place e)
 
-progressed_knows : (inventory : InventoryOf) (play : PlayOf) (p : ℕ) (items : List Item) (row : HostRow) → teaches_nothing_at play p ≡ true → (progressed inventory play p items row).facts ≡ row.facts
+progressed_knows : (inventory : InventoryOf) (play : PlayOf) (p : ℕ) (items : List Item) (row : HostOf) → teaches_nothing_at play p ≡ true → (progressed inventory play p items row).facts ≡ row.facts
 progressed_knows inventory play p items row e = by_over (is_over items)
   where
     by_over : (b : Bool) → (if b then ended inventory play p items row else record row { running = Some (record { place = p; items = items; out = None }) }).facts ≡ row.facts
-    by_over true = taught_none inventory play p (Some row.host) (task_at play p items).result _ items row.facts e
+    by_over true = facts_after_none inventory play p (Some row.host) (task_at play p items).result _ items row.facts e
     by_over false = refl
 
 -- and gives nothing to other hosts
@@ -105,19 +105,19 @@ alone play p e = by_place (slice_get play.places p) e
     by_place (Some place) e = second_is (says_nothing place) (not place.delegate_facts) e
 
 -- ---- the rows of all hosts
-set_knows : (rows : List HostRow) (h : ℕ) (row changed : HostRow) → slice_get rows h ≡ Some row → changed.facts ≡ row.facts → learnt_by (slice_set rows h changed) ≡ learnt_by rows
+set_knows : (rows : List HostOf) (h : ℕ) (row changed : HostOf) → slice_get rows h ≡ Some row → changed.facts ≡ row.facts → learnt_by (slice_set rows h changed) ≡ learnt_by rows
 set_knows [] h row changed e same = cc
-set_knows (r ∷ rows) zero row changed e same = let first : row ≡ r = cc in ap (λ (x : FactsOf). x ∷ learnt_by rows) (same ∙ ap (λ (x : HostRow). x.facts) first)
+set_knows (r ∷ rows) zero row changed e same = let first : row ≡ r = cc in ap (λ (x : FactsOf). x ∷ learnt_by rows) (same ∙ ap (λ (x : HostOf). x.facts) first)
 set_knows (r ∷ rows) (suc h) row changed e same = ap (λ (xs : List FactsOf). r.facts ∷ xs) (set_knows rows h row changed e same)
 
-change_knows : (rows : List HostRow) (h : ℕ) (f : HostRow → HostRow) (found : Option HostRow) → slice_get rows h ≡ found → IfSome found (λ row. (f row).facts ≡ row.facts) → learnt_by (change rows h f) ≡ learnt_by rows
-change_knows rows h f None e same = ap (λ (o : Option HostRow). learnt_by (option_map_or (λ row. slice_set rows h (f row)) o rows)) e
-change_knows rows h f (Some row) e same = ap (λ (o : Option HostRow). learnt_by (option_map_or (λ row. slice_set rows h (f row)) o rows)) e ∙ set_knows rows h row (f row) e same
+change_knows : (rows : List HostOf) (h : ℕ) (f : HostOf → HostOf) (found : Option HostOf) → slice_get rows h ≡ found → IfSome found (λ row. (f row).facts ≡ row.facts) → learnt_by (change rows h f) ≡ learnt_by rows
+change_knows rows h f None e same = ap (λ (o : Option HostOf). learnt_by (option_map_or (λ row. slice_set rows h (f row)) o rows)) e
+change_knows rows h f (Some row) e same = ap (λ (o : Option HostOf). learnt_by (option_map_or (λ row. slice_set rows h (f row)) o rows)) e ∙ set_knows rows h row (f row) e same
 
-given_knows : (gifts : List Gift) (rows all : List HostRow) → gifts ≡ [] → learnt_by rows ≡ learnt_by all → learnt_by (given_to gifts rows) ≡ learnt_by all
-given_knows gifts rows all e same = ap (λ (gs : List Gift). learnt_by (given_to gs rows)) e ∙ same
+given_knows : (gifts : List DelegatedFacts) (rows all : List HostOf) → gifts ≡ [] → learnt_by rows ≡ learnt_by all → learnt_by (with_delegated gifts rows) ≡ learnt_by all
+given_knows gifts rows all e same = ap (λ (gs : List DelegatedFacts). learnt_by (with_delegated gs rows)) e ∙ same
 
-for_each : (P : HostRow → Type 0) → ((row : HostRow) → P row) → (found : Option HostRow) → IfSome found P
+for_each : (P : HostOf → Type 0) → ((row : HostOf) → P row) → (found : Option HostOf) → IfSome found P
 for_each P f None = tt
 for_each P f (Some row) = f row
 
@@ -128,7 +128,7 @@ start_knows plan s h play p e =
     (change_knows s.rows h (progressed plan.inventory play p items) (slice_get s.rows h) refl
     (for_each (λ row. (progressed plan.inventory play p items row).facts ≡ row.facts) (λ row. progressed_knows plan.inventory play p items row e) (slice_get s.rows h)))
 
-reported_knows : (plan : PlanOf) (play : PlayOf) (outcome : Form) (row : HostRow) (running : Option Running) → option_map_or (teaches_nothing_at play) (run_place running) true ≡ true →
+reported_knows : (plan : PlanOf) (play : PlayOf) (outcome : Form) (row : HostOf) (running : Option Running) → option_map_or (teaches_nothing_at play) (run_place running) true ≡ true →
     (option_map_or (reported_running plan play outcome row) running row).facts ≡ row.facts
 reported_knows plan play outcome row None e = refl
 reported_knows plan play outcome row (Some r) e = progressed_knows plan.inventory play r.place (items_after plan play row.host row.facts outcome r) row e
@@ -137,9 +137,9 @@ alone_run : (play : PlayOf) (place : Option ℕ) → option_map_or (teaches_noth
 alone_run play None e = refl
 alone_run play (Some p) e = alone play p e
 
-reports_know : (plan : PlanOf) (play : PlayOf) (outcome : Form) (rows : List HostRow) (h : ℕ) (found : Option HostRow) → slice_get rows h ≡ found →
-    option_map_or (teaches_nothing_at play) (option_map_or (λ (row : HostRow). run_place row.running) found None) true ≡ true →
-    learnt_by (given_to (option_map_or (gifts_of plan play outcome h) found []) (change rows h (reported plan play outcome))) ≡ learnt_by rows
+reports_know : (plan : PlanOf) (play : PlayOf) (outcome : Form) (rows : List HostOf) (h : ℕ) (found : Option HostOf) → slice_get rows h ≡ found →
+    option_map_or (teaches_nothing_at play) (option_map_or (λ (row : HostOf). run_place row.running) found None) true ≡ true →
+    learnt_by (with_delegated (option_map_or (gifts_of plan play outcome h) found []) (change rows h (reported plan play outcome))) ≡ learnt_by rows
 reports_know plan play outcome rows h None is e = change_knows rows h (reported plan play outcome) None is tt
 reports_know plan play outcome rows h (Some row) is e =
     given_knows (gifts_of plan play outcome h row) (change rows h (reported plan play outcome)) rows (report_none plan play outcome h row row.running (alone_run play (run_place row.running) e))

@@ -13,15 +13,15 @@ use Rattle.pb_outcome.specs.Items.{is_over}
 use Rattle.pb_variables.specs.Renewed.{LearnsAlone}
 use Rattle.pb_places.specs.Place.{PlaceOf}
 use Rattle.pb_plan.specs.Plan.{PlayOf, PlanOf}
-use Rattle.pb_sight.specs.Ends.{has_run}
-use Rattle.pb_sight.specs.Gifts.{gifts_from, gifts_of as gifts_with, given_by}
-use Rattle.pb_sight.specs.Learning.{gives_of}
-use Rattle.pb_sight.specs.Results.{items_at}
-use Rattle.pb_sight.specs.declared.gifts.Gift.{Gift}
-use Rattle.pb_one_host.specs.declared.row.Running.{Running}
-use Rattle.pb_one_host.specs.Row.{HostRow, items_after, progressed, reported, task_at}
-use Rattle.pb_all_hosts.specs.Hosts.{change}
-use Rattle.pb_all_hosts.specs.Giving.{given_to, gifts_at, gifts_by, gifts_of}
+use Rattle.pb_task_vars.specs.Ends.{has_run}
+use Rattle.pb_task_vars.specs.Gifts.{gifts_from, gifts_of as gifts_with, given_by}
+use Rattle.pb_task_vars.specs.Learning.{gives_of}
+use Rattle.pb_task_vars.specs.Results.{items_at}
+use Rattle.pb_task_vars.specs.declared.gifts.DelegatedFacts.{DelegatedFacts}
+use Rattle.pb_host.specs.declared.host.Running.{Running}
+use Rattle.pb_host.specs.Host.{HostOf, items_after, progressed, reported, task_at}
+use Rattle.pb_hosts.specs.Hosts.{change}
+use Rattle.pb_hosts.specs.Giving.{with_delegated, gifts_at, gifts_by, gifts_of}
 use Rattle.pb_state.specs.declared.event.Event.{Event}
 use Rattle.pb_state.specs.declared.event.Event.TheVariants.{Open, Start, Send, Report as Reported, Turn, Close, Stop, Forks}
 use Rattle.pb_state.specs.State.{State}
@@ -53,33 +53,33 @@ gifts_none inventory play p h items e = by_over (is_over items)
 abbrev pub run_place : Option Running → Option ℕ
 run_place running = option_map_or (λ (r : Running). Some r.place) running None
 
-pub report_none : (plan : PlanOf) (play : PlayOf) (outcome : Form) (h : ℕ) (row : HostRow) (running : Option Running) → option_map_or (teaches_alone_at play) (run_place running) true ≡ true →
+pub report_none : (plan : PlanOf) (play : PlayOf) (outcome : Form) (h : ℕ) (row : HostOf) (running : Option Running) → option_map_or (teaches_alone_at play) (run_place running) true ≡ true →
     option_map_or (gifts_by plan play outcome h row) running [] ≡ []
 report_none plan play outcome h row None e = refl
 report_none plan play outcome h row (Some r) e = gifts_none plan.inventory play r.place h (items_after plan play row.host row.facts outcome r) e
 
-reports_none : (plan : PlanOf) (play : PlayOf) (outcome : Form) (h : ℕ) (found : Option HostRow) → option_map_or (teaches_alone_at play) (option_map_or (λ (row : HostRow). run_place row.running) found None) true ≡ true →
+reports_none : (plan : PlanOf) (play : PlayOf) (outcome : Form) (h : ℕ) (found : Option HostOf) → option_map_or (teaches_alone_at play) (option_map_or (λ (row : HostOf). run_place row.running) found None) true ≡ true →
     option_map_or (gifts_of plan play outcome h) found [] ≡ []
 reports_none plan play outcome h None e = refl
 reports_none plan play outcome h (Some row) e = report_none plan play outcome h row row.running e
 
 -- ---- the rows of all hosts: where one changes, the others have learnt what they had
-set_apart : (rows : List HostRow) (h k : ℕ) (row : HostRow) → k ≢ h → row_of (learnt_by (slice_set rows h row)) k ≡ row_of (learnt_by rows) k
+set_apart : (rows : List HostOf) (h k : ℕ) (row : HostOf) → k ≢ h → row_of (learnt_by (slice_set rows h row)) k ≡ row_of (learnt_by rows) k
 set_apart [] h k row apart = refl
 set_apart (r ∷ rows) zero zero row apart = absurd (apart refl)
 set_apart (r ∷ rows) zero (suc k) row apart = refl
 set_apart (r ∷ rows) (suc h) zero row apart = refl
 set_apart (r ∷ rows) (suc h) (suc k) row apart = set_apart rows h k row (λ same. apart (ap suc same))
 
-change_alone : (rows : List HostRow) (h : ℕ) (f : HostRow → HostRow) → LearnsAlone h (learnt_by rows) (learnt_by (change rows h f))
+change_alone : (rows : List HostOf) (h : ℕ) (f : HostOf → HostOf) → LearnsAlone h (learnt_by rows) (learnt_by (change rows h f))
 change_alone rows h f = λ k apart. by_found k apart (slice_get rows h)
   where
-    by_found : (k : ℕ) → k ≢ h → (found : Option HostRow) → row_of (learnt_by (option_map_or (λ (row : HostRow). slice_set rows h (f row)) found rows)) k ≡ row_of (learnt_by rows) k
+    by_found : (k : ℕ) → k ≢ h → (found : Option HostOf) → row_of (learnt_by (option_map_or (λ (row : HostOf). slice_set rows h (f row)) found rows)) k ≡ row_of (learnt_by rows) k
     by_found k apart None = refl
     by_found k apart (Some row) = set_apart rows h k (f row) apart
 
-given_alone : (gifts : List Gift) (rows : List HostRow) (h : ℕ) (f : HostRow → HostRow) → gifts ≡ [] → LearnsAlone h (learnt_by rows) (learnt_by (given_to gifts (change rows h f)))
-given_alone gifts rows h f e = λ k apart. ap (λ (gs : List Gift). row_of (learnt_by (given_to gs (change rows h f))) k) e ∙ change_alone rows h f k apart
+given_alone : (gifts : List DelegatedFacts) (rows : List HostOf) (h : ℕ) (f : HostOf → HostOf) → gifts ≡ [] → LearnsAlone h (learnt_by rows) (learnt_by (with_delegated gifts (change rows h f)))
+given_alone gifts rows h f e = λ k apart. ap (λ (gs : List DelegatedFacts). row_of (learnt_by (with_delegated gs (change rows h f))) k) e ∙ change_alone rows h f k apart
 
 -- ---- each event
 start_in_alone : (plan : PlanOf) (s : State) (h : ℕ) (play : PlayOf) (next : Option ℕ) → option_map_or (teaches_alone_at play) next true ≡ true

@@ -4,11 +4,11 @@ use Rattle.std.specs.Prelude.{◌==◌, Option, Some, None, is_none, slice_get}
 use Rattle.std.specs.Option.{option_map_or}
 use Rattle.pb_ids.specs.declared.numbers.Ticket.{Ticket}
 use Rattle.pb_plan.specs.Plan.{PlayOf}
-use Rattle.pb_one_host.specs.declared.row.Running.{Running}
-use Rattle.pb_one_host.specs.Row.{HostRow}
+use Rattle.pb_host.specs.declared.host.Running.{Running}
+use Rattle.pb_host.specs.Host.{HostOf}
 use Rattle.pb_state.specs.State.{State}
-use Rattle.pb_one_host.specs.Runs.{has_send, may_send_item, sends_running}
-use Rattle.pb_all_hosts.specs.Hosts.{at_row}
+use Rattle.pb_host.specs.Runs.{has_send, may_send_item, sends_running}
+use Rattle.pb_hosts.specs.Hosts.{at_row}
 use Rattle.pb_state.specs.Machine.{may_send_in}
 
 -- the host of a send has one
@@ -27,6 +27,6 @@ item_sends item attempt (Some r) e = and_left (is_none r.out) _ e
 pub may_has_send : (s : State) (h item attempt : ℕ) (ticket : Ticket) (play : PlayOf) → may_send_in s h item attempt ticket play ≡ true → at_row has_send s.rows h ≡ true
 may_has_send s h item attempt ticket play e = by_found (slice_get s.rows h) (and_right (not s.stopped && (ticket.0 == s.sends)) (at_row (may_send_item item attempt) s.rows h) e)
   where
-    by_found : (found : Option HostRow) → option_map_or (may_send_item item attempt) found false ≡ true → option_map_or has_send found false ≡ true
+    by_found : (found : Option HostOf) → option_map_or (may_send_item item attempt) found false ≡ true → option_map_or has_send found false ≡ true
     by_found None f = f
     by_found (Some row) f = item_sends item attempt row.running f

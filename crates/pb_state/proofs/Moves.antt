@@ -5,24 +5,24 @@ use Rattle.std.specs.List.{list_any}
 use Rattle.std.specs.Option.{option_map_or}
 use Rattle.pb_ids.specs.declared.numbers.Ticket.{Ticket}
 use Rattle.pb_outcome.specs.declared.job.Report.{Report}
-use Rattle.pb_sight.specs.Results.{items_at}
-use Rattle.pb_sight.proofs.FewItems.{few_items}
+use Rattle.pb_task_vars.specs.Results.{items_at}
+use Rattle.pb_task_vars.proofs.FewItems.{few_items}
 use Rattle.pb_state.specs.declared.event.Event.{Event}
 use Rattle.pb_state.specs.declared.event.Event.TheVariants.{Open, Start, Send, Report as Reported, Turn, Close, Stop, Forks}
 use Rattle.pb_inventory.specs.InventoryOf.{InventoryOf}
 use Rattle.pb_plan.specs.Plan.{PlayOf, PlanOf}
-use Rattle.pb_all_hosts.specs.Batches.{has_later}
-use Rattle.pb_one_host.specs.Row.{HostRow, progressed, sent, reported}
+use Rattle.pb_hosts.specs.Batches.{has_batch_left}
+use Rattle.pb_host.specs.Host.{HostOf, progressed, sent, reported}
 use Rattle.pb_state.specs.State.{State}
-use Rattle.pb_sight.specs.declared.gifts.Gift.{Gift}
-use Rattle.pb_one_host.specs.Runs.{is_running, may_send_item, awaits}
-use Rattle.pb_all_hosts.specs.Hosts.{change, at_row}
-use Rattle.pb_all_hosts.specs.Giving.{given_to, gifts_at, report_gives}
+use Rattle.pb_task_vars.specs.declared.gifts.DelegatedFacts.{DelegatedFacts}
+use Rattle.pb_host.specs.Runs.{is_running, may_send_item, awaits}
+use Rattle.pb_hosts.specs.Hosts.{change, at_row}
+use Rattle.pb_hosts.specs.Giving.{with_delegated, gifts_at, report_gives}
 use Rattle.pb_state.specs.Machine.{possible, after, open_play, may_start_in, may_send_in, may_report_in, may_turn_in, may_close_in, opened_by, after_open, play_behind, closed, started_in, next_at, facts_at, plan_seen, start_at, sent_in, reported_in, batch_of, turned_in}
 use Rattle.pb_state.proofs.Idle.{turn_idle}
 use Rattle.pb_state.proofs.Opening.{GoesOn, Begins, open_case}
 use Rattle.pb_state.proofs.Stands.{stands_at, start_stands}
-use Rattle.pb_all_hosts.proofs.Turning.{turned_by_case, idle_map}
+use Rattle.pb_hosts.proofs.Turning.{turned_by_case, idle_map}
 use Rattle.pb_state.proofs.Walked.{stands_in}
 use Rattle.pb_state.proofs.StepNumbers.{and_left, and_right, FoundFrom, FoundBegun, FoundOut, progressed_from, stands, start_number, send_number, sent_from, reported_from, change_keeps, found_test, joined_from, out_stays, left_out, begun_keeps, out_keeps, progressed_inside, progressed_waits, reported_inside, reported_waits, given_from, given_begun, given_out, turn_from, turn_begun, turn_out}
 
@@ -37,12 +37,12 @@ abbrev pub IsPast : State → ℕ → ℕ → ℕ → Type 0
 IsPast s h play n =
     (play < s.play)
     ⊎ (((play ≡ s.play) × (s.is_open ≡ true) × FoundFrom n (slice_get s.rows h) × FoundBegun (slice_get s.rows h))
-    ⊎ ((play ≡ s.play) × (s.is_open ≡ false) × (has_later s.later ≡ true) × FoundOut (slice_get s.rows h)))
+    ⊎ ((play ≡ s.play) × (s.is_open ≡ false) × (has_batch_left s.sizes_left ≡ true) × FoundOut (slice_get s.rows h)))
 
 -- What an event does to the batch: it stays, opens or closes. A turn may drop the batches that are left, while one is open.
 abbrev pub Stays : State → State → Type 0
 Stays s new =
-    (new.play ≡ s.play) × (new.is_open ≡ s.is_open) × (s.is_open ≡ false → new.later ≡ s.later) × ((h n : ℕ) → FoundFrom n (slice_get s.rows h) → FoundFrom n (slice_get new.rows h))
+    (new.play ≡ s.play) × (new.is_open ≡ s.is_open) × (s.is_open ≡ false → new.sizes_left ≡ s.sizes_left) × ((h n : ℕ) → FoundFrom n (slice_get s.rows h) → FoundFrom n (slice_get new.rows h))
     × ((h : ℕ) → FoundBegun (slice_get s.rows h) → FoundBegun (slice_get new.rows h)) × ((h : ℕ) → FoundOut (slice_get s.rows h) → FoundOut (slice_get new.rows h))
 
 -- where the play goes on, and where another one begins
@@ -51,14 +51,14 @@ OpensNext s new =
     (new.play ≡ s.play) × ((h n : ℕ) → FoundOut (slice_get s.rows h) → FoundFrom n (slice_get new.rows h) × FoundBegun (slice_get new.rows h))
 
 abbrev pub OpensFirst : State → State → Type 0
-OpensFirst s new = (has_later s.later ≡ false) × (s.play ≤ new.play)
+OpensFirst s new = (has_batch_left s.sizes_left ≡ false) × (s.play ≤ new.play)
 
 abbrev pub Opens : State → State → Type 0
 Opens s new = (s.is_open ≡ false) × (new.is_open ≡ true) × ((h : ℕ) → FoundFrom 0 (slice_get new.rows h)) × (OpensNext s new ⊎ OpensFirst s new)
 
 -- where batches are left, and where none is
 abbrev pub ClosesOne : State → State → Type 0
-ClosesOne s new = (new.play ≡ s.play) × (has_later new.later ≡ true) × ((h : ℕ) → FoundBegun (slice_get s.rows h) → FoundOut (slice_get new.rows h))
+ClosesOne s new = (new.play ≡ s.play) × (has_batch_left new.sizes_left ≡ true) × ((h : ℕ) → FoundBegun (slice_get s.rows h) → FoundOut (slice_get new.rows h))
 
 abbrev pub Closes : State → State → Type 0
 Closes s new = (s.is_open ≡ true) × (new.is_open ≡ false) × (ClosesOne s new ⊎ (new.play ≡ s.play + 1))
@@ -70,9 +70,9 @@ opens_later : (s new : State) (play : ℕ) → OpensNext s new ⊎ OpensFirst s 
 opens_later s new play (inl next) l = omega (arith, l, next.0)
 opens_later s new play (inr first) l = omega (arith, l, first.1)
 
-opens_past : (s new : State) (h play n : ℕ) → new.is_open ≡ true → OpensNext s new ⊎ OpensFirst s new → play ≡ s.play → has_later s.later ≡ true → FoundOut (slice_get s.rows h) → IsPast new h play n
-opens_past s new h play n o (inl next) e later out = let found = next.1 h n out in inr (inl (e ∙ sym next.0, o, found.0, found.1))
-opens_past s new h play n o (inr first) e later out = absurd (let none = first.0 in cc)
+opens_past : (s new : State) (h play n : ℕ) → new.is_open ≡ true → OpensNext s new ⊎ OpensFirst s new → play ≡ s.play → has_batch_left s.sizes_left ≡ true → FoundOut (slice_get s.rows h) → IsPast new h play n
+opens_past s new h play n o (inl next) e sizes_left out = let found = next.1 h n out in inr (inl (e ∙ sym next.0, o, found.0, found.1))
+opens_past s new h play n o (inr first) e sizes_left out = absurd (let none = first.0 in cc)
 
 closes_later : (s new : State) (play : ℕ) → ClosesOne s new ⊎ (new.play ≡ s.play + 1) → play < s.play → play < new.play
 closes_later s new play (inl one) l = omega (arith, l, one.0)
@@ -85,7 +85,7 @@ closes_past s new h play n c (inr last) e begun = inl (omega (arith, e, last))
 pub past_kept : (s new : State) (h play n : ℕ) → Moves s new → IsPast s h play n → IsPast new h play n
 past_kept s new h play n (inl stays) (inl l) = inl (omega (arith, l, stays.0))
 past_kept s new h play n (inl stays) (inr (inl w)) = inr (inl (w.0 ∙ sym stays.0, stays.1 ∙ w.1, stays.3 h n w.2, stays.4 h w.3))
-past_kept s new h play n (inl stays) (inr (inr w)) = inr (inr (w.0 ∙ sym stays.0, stays.1 ∙ w.1, ap has_later (stays.2 w.1) ∙ w.2, stays.5 h w.3))
+past_kept s new h play n (inl stays) (inr (inr w)) = inr (inr (w.0 ∙ sym stays.0, stays.1 ∙ w.1, ap has_batch_left (stays.2 w.1) ∙ w.2, stays.5 h w.3))
 past_kept s new h play n (inr (inl opens)) (inl l) = inl (opens_later s new play opens.3 l)
 past_kept s new h play n (inr (inl opens)) (inr (inl w)) = absurd (let shut = opens.0 in let opened = w.1 in cc)
 past_kept s new h play n (inr (inl opens)) (inr (inr w)) = opens_past s new h play n opens.1 opens.3 w.0 w.2 w.3
@@ -109,20 +109,20 @@ pub open_of : (plan : PlanOf) (s : State) (test : PlayOf → Bool) (found : Opti
 open_of plan s test None o e = cc
 open_of plan s test (Some play) o e = is_opened plan s s.is_open play refl o
 
-stays_in : (s new : State) (gifts : List Gift) (k : ℕ) (f : HostRow → HostRow) → new.play ≡ s.play → new.is_open ≡ s.is_open → new.later ≡ s.later → new.rows ≡ given_to gifts (change s.rows k f)
-    → ((row : HostRow) → (f row).in_batch ≡ row.in_batch) → ((row : HostRow) → (f row).waits ≡ row.waits)
+stays_in : (s new : State) (gifts : List DelegatedFacts) (k : ℕ) (f : HostOf → HostOf) → new.play ≡ s.play → new.is_open ≡ s.is_open → new.sizes_left ≡ s.sizes_left → new.rows ≡ with_delegated gifts (change s.rows k f)
+    → ((row : HostOf) → (f row).in_batch ≡ row.in_batch) → ((row : HostOf) → (f row).awaits_batch ≡ row.awaits_batch)
     → ((h n : ℕ) → FoundFrom n (slice_get s.rows h) → FoundFrom n (slice_get (change s.rows k f) h)) → Moves s new
-stays_in s new gifts k f p b l r inside waits from =
+stays_in s new gifts k f p b l r inside awaits_batch from =
     inl (
       p,
       b,
       λ shut. l,
       λ h n w. rw r (given_from n h gifts (change s.rows k f) (from h n w)),
-      λ h w. rw r (given_begun h gifts (change s.rows k f) (begun_keeps f inside waits s.rows k h w)),
-      λ h w. rw r (given_out h gifts (change s.rows k f) (out_keeps f waits s.rows k h w)),
+      λ h w. rw r (given_begun h gifts (change s.rows k f) (begun_keeps f inside awaits_batch s.rows k h w)),
+      λ h w. rw r (given_out h gifts (change s.rows k f) (out_keeps f awaits_batch s.rows k h w)),
     )
 
-same_rows : (s new : State) → new.play ≡ s.play → new.is_open ≡ s.is_open → new.later ≡ s.later → new.rows ≡ s.rows → Moves s new
+same_rows : (s new : State) → new.play ≡ s.play → new.is_open ≡ s.is_open → new.sizes_left ≡ s.sizes_left → new.rows ≡ s.rows → Moves s new
 same_rows s new p b l r = inl (p, b, λ shut. l, λ h n w. rw r w, λ h w. rw r w, λ h w. rw r w)
 
 start_at_moves : (plan : PlanOf) (s : State) (k : ℕ) (play : PlayOf) (place : Option ℕ) → open_play plan s ≡ Some play → at_row (stands_at place) s.rows k ≡ true → Moves s (option_map_or (start_at plan s k play) place s)
@@ -165,17 +165,17 @@ turned_moves inventory s play o idle =
       refl,
       refl,
       λ shut. absurd (let both : true ≡ false = sym o ∙ shut in cc),
-      λ h n w. (turned_by_case (λ (all : List HostRow). (list_any is_running all ≡ false) × FoundFrom n (slice_get all h))
+      λ h n w. (turned_by_case (λ (all : List HostOf). (list_any is_running all ≡ false) × FoundFrom n (slice_get all h))
           (λ f goes all holds. (sym (idle_map f goes all) ∙ holds.0, turn_from n f goes all h holds.0 holds.1)) inventory play (batch_of s) s.place (idle, w)).1,
-      λ h w. turned_by_case (λ (all : List HostRow). FoundBegun (slice_get all h)) (λ f goes all v. turn_begun f goes all h v) inventory play (batch_of s) s.place w,
-      λ h w. turned_by_case (λ (all : List HostRow). FoundOut (slice_get all h)) (λ f goes all v. turn_out f goes all h v) inventory play (batch_of s) s.place w,
+      λ h w. turned_by_case (λ (all : List HostOf). FoundBegun (slice_get all h)) (λ f goes all v. turn_begun f goes all h v) inventory play (batch_of s) s.place w,
+      λ h w. turned_by_case (λ (all : List HostOf). FoundOut (slice_get all h)) (λ f goes all v. turn_out f goes all h v) inventory play (batch_of s) s.place w,
     )
 
 turn_moves : (plan : PlanOf) (s : State) (found : Option PlayOf) → open_play plan s ≡ found → option_map_or (may_turn_in s) found false ≡ true → Moves s (option_map_or (turned_in plan.inventory s) found s)
 turn_moves plan s None o e = cc
 turn_moves plan s (Some play) o e = turned_moves plan.inventory s play (is_opened plan s s.is_open play refl o) (turn_idle s play e)
 
-opened_how : (s : State) (n batch : ℕ) (sizes : List ℕ) (rows : List HostRow) (play : PlayOf) (size : ℕ) → GoesOn s n batch sizes rows ⊎ Begins s n batch sizes rows play
+opened_how : (s : State) (n batch : ℕ) (sizes : List ℕ) (rows : List HostOf) (play : PlayOf) (size : ℕ) → GoesOn s n batch sizes rows ⊎ Begins s n batch sizes rows play
     → OpensNext s (opened_by s n batch sizes rows play size) ⊎ OpensFirst s (opened_by s n batch sizes rows play size)
 opened_how s n batch sizes rows play size (inl on) = inl (on.1, λ h m out. out_stays play.tree size rows h m (rw on.4 out))
 opened_how s n batch sizes rows play size (inr begun) = inr (begun.0, begun.1)
@@ -185,12 +185,12 @@ open_moves plan s c =
     open_case (Moves s) plan s (λ none. same_rows s s refl refl refl refl)
     (λ n batch sizes rows play size is. inr (inl (c, refl, λ h. joined_from play.tree size rows h, opened_how s n batch sizes rows play size is.how)))
 
-closed_how : (s : State) (later : Bool) → has_later s.later ≡ later → ClosesOne s (closed s) ⊎ ((closed s).play ≡ s.play + 1)
+closed_how : (s : State) (sizes_left : Bool) → has_batch_left s.sizes_left ≡ sizes_left → ClosesOne s (closed s) ⊎ ((closed s).play ≡ s.play + 1)
 closed_how s true l = inl (ap (λ (b : Bool). play_behind b s.play) l, l, λ h w. left_out s.rows h w)
 closed_how s false l = inr (ap (λ (b : Bool). play_behind b s.play) l)
 
 close_moves : (plan : PlanOf) (s : State) → possible plan s Close ≡ true → Moves s (closed s)
-close_moves plan s p = inr (inr (open_of plan s (may_close_in s) (open_play plan s) refl p, refl, closed_how s (has_later s.later) refl))
+close_moves plan s p = inr (inr (open_of plan s (may_close_in s) (open_play plan s) refl p, refl, closed_how s (has_batch_left s.sizes_left) refl))
 
 may_open_closed : (stopped opened ended more : Bool) → (not stopped && not opened && not ended && more) ≡ true → opened ≡ false
 may_open_closed stopped true ended more e =

@@ -2,10 +2,10 @@
 use Rattle.std.proofs.Common.{◌≡◌, ℕ, ◌+◌, ◌*◌, ◌<◌, ◌≤◌, Bool, true, false, ◌&&◌, length, refl, arith}
 use Rattle.std.specs.Prelude.{nat_lt, if◌then◌else◌}
 use Rattle.std.proofs.lemmas.Bool.{ltb-true, eqb-true}
-use Rattle.pb_one_host.specs.declared.row.Running.{Running}
-use Rattle.pb_one_host.specs.Attempts.{tried_next, attempt_after, attempt_next, rank}
-use Rattle.pb_one_host.specs.Runs.{is_item, is_next}
-use Rattle.pb_one_host.proofs.InOrder.{next_rank}
+use Rattle.pb_host.specs.declared.host.Running.{Running}
+use Rattle.pb_host.specs.Attempts.{tried_next, attempt_after, attempt_next, rank}
+use Rattle.pb_host.specs.Runs.{is_item, is_next}
+use Rattle.pb_host.proofs.InOrder.{next_rank}
 
 and_left : (a b : Bool) → (a && b) ≡ true → a ≡ true
 and_left true b e = refl

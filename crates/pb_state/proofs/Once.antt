@@ -4,17 +4,17 @@ use Rattle.std.specs.Prelude.{Option, Some, None, option_map, slice_get, nat_eq}
 use Rattle.std.specs.Option.{option_map_or}
 use Rattle.pb_ids.specs.declared.numbers.HostNo.{HostNo}
 use Rattle.pb_ids.specs.declared.numbers.Ticket.{Ticket}
-use Rattle.pb_sight.specs.Results.{items_at}
-use Rattle.pb_sight.proofs.FewItems.{few_items}
+use Rattle.pb_task_vars.specs.Results.{items_at}
+use Rattle.pb_task_vars.proofs.FewItems.{few_items}
 use Rattle.pb_state.specs.declared.event.Event.{Event}
 use Rattle.pb_state.specs.declared.event.Event.TheVariants.{Start, Send}
-use Rattle.pb_one_host.specs.declared.row.Running.{Running}
+use Rattle.pb_host.specs.declared.host.Running.{Running}
 use Rattle.pb_plan.specs.Plan.{PlayOf, PlanOf}
-use Rattle.pb_one_host.specs.Row.{HostRow, next_place, progressed, sent}
+use Rattle.pb_host.specs.Host.{HostOf, next_place, progressed, sent}
 use Rattle.pb_state.specs.State.{State}
-use Rattle.pb_one_host.specs.Runs.{is_running, sends_running, may_send_item}
-use Rattle.pb_all_hosts.specs.Hosts.{change, at_row}
-use Rattle.pb_all_hosts.specs.Giving.{gifts_at}
+use Rattle.pb_host.specs.Runs.{is_running, sends_running, may_send_item}
+use Rattle.pb_hosts.specs.Hosts.{change, at_row}
+use Rattle.pb_hosts.specs.Giving.{gifts_at}
 use Rattle.pb_state.specs.Machine.{possible, after, open_play, same_place, may_start_in, may_send_in, started_in, next_at, facts_at, plan_seen, start_at, sent_in, first_state}
 use Rattle.pb_state.specs.Run.{legal_from, IsRun}
 use Rattle.pb_state.proofs.Stands.{stands_at, start_stands}
@@ -28,7 +28,7 @@ none_same : (a : Option ℕ) → same_place a None ≡ false
 none_same (Some p) = refl
 none_same None = refl
 
-none_stands : (found : Option HostRow) → option_map_or (stands_at None) found false ≡ true → ⊥
+none_stands : (found : Option HostOf) → option_map_or (stands_at None) found false ≡ true → ⊥
 none_stands None e = cc
 none_stands (Some row) e = let same = and_right (not (is_running row)) _ e in let no = none_same (next_place row) in cc
 
@@ -67,7 +67,7 @@ start_raises plan s k p None w o f e = cc
 start_raises plan s k p (Some play) w o f e = start_at_raises plan s k play (next_at s k) p w o f (start_stands s k play e)
 
 -- a host that is past a start doesn't start there
-found_start : (n p : ℕ) (found : Option HostRow) → option_map_or (stands_at (Some p)) found false ≡ true → FoundFrom n found → n ≤ 1010002 * p
+found_start : (n p : ℕ) (found : Option HostOf) → option_map_or (stands_at (Some p)) found false ≡ true → FoundFrom n found → n ≤ 1010002 * p
 found_start n p None e w = cc
 found_start n p (Some row) e w = start_number n p row e w
 
@@ -111,7 +111,7 @@ starts_once plan s (e ∷ es) w l =
 
 -- ---- sends
 -- a send is at a place
-found_send : (item attempt : ℕ) (found : Option HostRow) → option_map_or (may_send_item item attempt) found false ≡ true → (p : ℕ) × (option_map_or running_place found None ≡ Some p)
+found_send : (item attempt : ℕ) (found : Option HostOf) → option_map_or (may_send_item item attempt) found false ≡ true → (p : ℕ) × (option_map_or running_place found None ≡ Some p)
 found_send item attempt None e = cc
 found_send item attempt (Some row) e = by_running row.running e
   where
@@ -126,12 +126,12 @@ send_place : (s : State) (k : HostNo) (item attempt : ℕ) (ticket : Ticket) (fo
 send_place s k item attempt ticket None e = cc
 send_place s k item attempt ticket (Some play) e = found_send item attempt (slice_get s.rows k.0) (send_test s k.0 item attempt ticket play e)
 
-found_place : (row : HostRow) (p : ℕ) (found : Option HostRow) → found ≡ Some row → option_map_or running_place found None ≡ Some p → running_place row ≡ Some p
+found_place : (row : HostOf) (p : ℕ) (found : Option HostOf) → found ≡ Some row → option_map_or running_place found None ≡ Some p → running_place row ≡ Some p
 found_place row p None is e = cc
 found_place row p (Some r) is e = let same : r ≡ row = cc in rw (← same) e
 
 -- a host that sends is in the batch
-sends_inside : (n item attempt : ℕ) (row : HostRow) → may_send_item item attempt row ≡ true → RowFrom n row → row.in_batch ≡ true
+sends_inside : (n item attempt : ℕ) (row : HostOf) → may_send_item item attempt row ≡ true → RowFrom n row → row.in_batch ≡ true
 sends_inside n item attempt row e w = by_running row.running e w
   where
     by_running : (running : Option Running) → option_map_or (sends_running item attempt) running false ≡ true → RunsFrom n row running → row.in_batch ≡ true
@@ -155,7 +155,7 @@ send_raises plan s k item attempt p ticket (Some play) w o f e =
     ))
 
 -- a host that is past a send doesn't send there
-send_least_in : (n p item attempt : ℕ) (found : Option HostRow) → option_map_or (may_send_item item attempt) found false ≡ true → option_map_or running_place found None ≡ Some p → FoundFrom n found → n ≤ 1010002 * p + 101 * item + attempt
+send_least_in : (n p item attempt : ℕ) (found : Option HostOf) → option_map_or (may_send_item item attempt) found false ≡ true → option_map_or running_place found None ≡ Some p → FoundFrom n found → n ≤ 1010002 * p + 101 * item + attempt
 send_least_in n p item attempt None e f w = cc
 send_least_in n p item attempt (Some row) e f w = send_number n p item attempt row e f w
 

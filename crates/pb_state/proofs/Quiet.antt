@@ -9,18 +9,18 @@ use Rattle.pb_ids.specs.declared.numbers.Ticket.{Ticket}
 use Rattle.pb_planes.specs.Set.{has_some}
 use Rattle.pb_state.specs.declared.event.Event.{Event}
 use Rattle.pb_state.specs.declared.event.Event.TheVariants.{Open, Start, Send, Report as Reported, Turn, Close, Stop, Forks}
-use Rattle.pb_one_host.specs.declared.row.Running.{Running}
+use Rattle.pb_host.specs.declared.host.Running.{Running}
 use Rattle.pb_outcome.specs.declared.job.Report.{Report}
 use Rattle.pb_outcome.specs.Items.{next_item}
 use Rattle.pb_plan.specs.Plan.{PlayOf, PlanOf}
-use Rattle.pb_one_host.specs.Attempts.{attempt_next}
-use Rattle.pb_one_host.specs.Row.{HostRow}
+use Rattle.pb_host.specs.Attempts.{attempt_next}
+use Rattle.pb_host.specs.Host.{HostOf}
 use Rattle.pb_state.specs.State.{State}
-use Rattle.pb_one_host.specs.Runs.{may_send_item, has_send, sends_running, is_ticket, is_next, is_out, awaits, awaits_running, item_of, attempt_of}
-use Rattle.pb_all_hosts.specs.Hosts.{at_row}
+use Rattle.pb_host.specs.Runs.{may_send_item, has_send, sends_running, is_ticket, is_next, is_out, awaits, awaits_running, item_of, attempt_of}
+use Rattle.pb_hosts.specs.Hosts.{at_row}
 use Rattle.pb_state.specs.Machine.{possible, ready, ready_in, may_open, may_start_in, may_send_in, may_report_in, may_turn_in, may_close_in, item_at, attempt_at, open_play}
 use Rattle.pb_state.specs.Run.{is_command, IsQuiet, IsFinished}
-use Rattle.pb_one_host.proofs.InOrder.{goes_on_at}
+use Rattle.pb_host.proofs.InOrder.{goes_on_at}
 use Rattle.pb_state.proofs.Readies.{none_start, none_sends_at, ready_either, length_ready_in}
 use Rattle.pb_state.proofs.Stands.{both, none_starts}
 use Rattle.pb_state.specs.Over.{IsUnfinished, AreUnfinished, IsGoing}
@@ -54,7 +54,7 @@ and_none true b e = cc
 and_none false b e = refl
 
 -- a test that implies one that a row fails
-none_at : (p q : HostRow → Bool) → ((row : HostRow) → q row ≡ false → p row ≡ false) → (rows : List HostRow) (h : ℕ) → at_row q rows h ≡ false → at_row p rows h ≡ false
+none_at : (p q : HostOf → Bool) → ((row : HostOf) → q row ≡ false → p row ≡ false) → (rows : List HostOf) (h : ℕ) → at_row q rows h ≡ false → at_row p rows h ≡ false
 none_at p q imp [] h e = refl
 none_at p q imp (row ∷ rows) zero e = imp row e
 none_at p q imp (row ∷ rows) (suc h) e = none_at p q imp rows h e
@@ -91,7 +91,7 @@ quiet plan s r t c o Stop m = cc
 quiet plan s r t c o (Forks n) m = cc
 
 -- where no job is out, no report is waited for
-any_none : (p q : HostRow → Bool) → ((row : HostRow) → q row ≡ false → p row ≡ false) → (rows : List HostRow) (h : ℕ) → list_any q rows ≡ false → at_row p rows h ≡ false
+any_none : (p q : HostOf → Bool) → ((row : HostOf) → q row ≡ false → p row ≡ false) → (rows : List HostOf) (h : ℕ) → list_any q rows ≡ false → at_row p rows h ≡ false
 any_none p q imp [] h e = refl
 any_none p q imp (row ∷ rows) zero e = imp row (or_left (q row) (list_any q rows) e)
 any_none p q imp (row ∷ rows) (suc h) e = any_none p q imp rows h (or_right (q row) (list_any q rows) e)
@@ -137,7 +137,7 @@ sends_its : (item attempt : ℕ) (running : Option Running) → option_map_or (�
 sends_its item attempt None e f = refl
 sends_its item attempt (Some r) e f = next_alone (is_none r.out) (next_item r.items) (attempt_next r.items) item attempt e f
 
-sends_at : (item attempt : ℕ) (found : Option HostRow) → option_map_or item_of found None ≡ Some item → option_map_or attempt_of found 1 ≡ attempt → option_map_or (may_send_item item attempt) found false ≡ option_map_or has_send found false
+sends_at : (item attempt : ℕ) (found : Option HostOf) → option_map_or item_of found None ≡ Some item → option_map_or attempt_of found 1 ≡ attempt → option_map_or (may_send_item item attempt) found false ≡ option_map_or has_send found false
 sends_at item attempt None e f = refl
 sends_at item attempt (Some row) e f = sends_its item attempt row.running e f
 
@@ -146,7 +146,7 @@ no_item : (running : Option Running) → IsUnfinished running → option_map_or 
 no_item None going e = refl
 no_item (Some r) going e = let next = goes_on_at r.items going in absurd (let both : Some next.0 ≡ None = sym next.1 ∙ e in cc)
 
-pub no_item_at : (rows : List HostRow) (h : ℕ) → AreUnfinished rows → option_map_or item_of (slice_get rows h) None ≡ None → at_row has_send rows h ≡ false
+pub no_item_at : (rows : List HostOf) (h : ℕ) → AreUnfinished rows → option_map_or item_of (slice_get rows h) None ≡ None → at_row has_send rows h ≡ false
 no_item_at [] h going e = refl
 no_item_at (row ∷ rows) zero going e = no_item row.running going.0 e
 no_item_at (row ∷ rows) (suc h) going e = no_item_at rows h going.1 e

@@ -8,12 +8,12 @@ use Rattle.std.proofs.lemmas.Simd.{length-zip2}
 use Rattle.pb_planes.specs.Set.{has_some}
 use Rattle.pb_plan.specs.Plan.{PlayOf}
 use Rattle.pb_strategies.specs.MayStart.{may_start, ready as starting}
-use Rattle.pb_one_host.specs.Row.{HostRow}
+use Rattle.pb_host.specs.Host.{HostOf}
 use Rattle.pb_state.specs.State.{State}
-use Rattle.pb_one_host.specs.Standing.{standing}
+use Rattle.pb_host.specs.Standing.{standing}
 use Rattle.pb_state.specs.Strategies.{view_of}
-use Rattle.pb_one_host.specs.Runs.{has_send}
-use Rattle.pb_all_hosts.specs.Hosts.{at_row}
+use Rattle.pb_host.specs.Runs.{has_send}
+use Rattle.pb_hosts.specs.Hosts.{at_row}
 use Rattle.pb_state.specs.Machine.{with_sends, ready_in, may_start_in}
 use Rattle.pb_state.proofs.Stands.{some_starts}
 
@@ -57,7 +57,7 @@ none_start s play e = by_stopped s.stopped e
     by_stopped false n = none_left (starting (view_of s play)) (map has_send s.rows) (widths s play) n
 
 -- and in a run that wasn't told to stop nobody has a send
-none_of : (rows : List HostRow) (h : ℕ) → has_some (map has_send rows) ≡ false → at_row has_send rows h ≡ false
+none_of : (rows : List HostOf) (h : ℕ) → has_some (map has_send rows) ≡ false → at_row has_send rows h ≡ false
 none_of [] h e = refl
 none_of (row ∷ rows) zero e = or_left (has_send row) _ e
 none_of (row ∷ rows) (suc h) e = none_of rows h (or_right (has_send row) _ e)
@@ -79,7 +79,7 @@ either : (a b : Bool) → (a || b) ≡ true → (a ≡ true) ⊎ (b ≡ true)
 either true b e = inl refl
 either false b e = inr e
 
-some_either : (starts : List Bool) (rows : List HostRow) (h : ℕ) → slice_get (zip2 (λ (a b : Bool). a || b) starts (map has_send rows)) h ≡ Some true → (slice_get starts h ≡ Some true) ⊎ (at_row has_send rows h ≡ true)
+some_either : (starts : List Bool) (rows : List HostOf) (h : ℕ) → slice_get (zip2 (λ (a b : Bool). a || b) starts (map has_send rows)) h ≡ Some true → (slice_get starts h ≡ Some true) ⊎ (at_row has_send rows h ≡ true)
 some_either [] rows h e = cc
 some_either (a ∷ starts) [] h e = cc
 some_either (a ∷ starts) (row ∷ rows) zero e = elim (either a (has_send row) (held (a || has_send row) e)) [ inl x ↦ inl (ap Some x) | inr x ↦ inr x ]

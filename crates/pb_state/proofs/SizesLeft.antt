@@ -1,14 +1,14 @@
 -- The sizes of the batches that are left.
 use Rattle.std.proofs.Common.{◌≡◌, ℕ, zero, suc, ◌+◌, ◌<◌, ◌≤◌, true, false, List, [], ◌∷◌, length, drop, refl, ◌∙◌, ap, arith}
 use Rattle.std.specs.Prelude.{Some, None, slice_get}
-use Rattle.pb_all_hosts.specs.Batches.{has_later}
+use Rattle.pb_hosts.specs.Batches.{has_batch_left}
 
-pub some_left : (sizes : List ℕ) (n : ℕ) → n < length sizes → has_later (drop n sizes) ≡ true
+pub some_left : (sizes : List ℕ) (n : ℕ) → n < length sizes → has_batch_left (drop n sizes) ≡ true
 some_left [] n e = absurd (omega (arith, e))
 some_left (size ∷ sizes) zero e = refl
 some_left (size ∷ sizes) (suc n) e = some_left sizes n (omega (arith, e))
 
-pub none_left : (sizes : List ℕ) (n : ℕ) → length sizes ≤ n → has_later (drop n sizes) ≡ false
+pub none_left : (sizes : List ℕ) (n : ℕ) → length sizes ≤ n → has_batch_left (drop n sizes) ≡ false
 none_left [] zero e = refl
 none_left [] (suc n) e = refl
 none_left (size ∷ sizes) zero e = absurd (omega (arith, e))
@@ -36,10 +36,10 @@ none_more (size ∷ sizes) zero e = absurd (omega (arith, e))
 none_more (size ∷ sizes) (suc n) e = none_more sizes n (omega (arith, e))
 
 -- where some are left there is a first one
-pub later_some : (later : List ℕ) → has_later later ≡ true → slice_get later 0 ≡ None → ⊥
+pub later_some : (sizes_left : List ℕ) → has_batch_left sizes_left ≡ true → slice_get sizes_left 0 ≡ None → ⊥
 later_some [] e f = cc
-later_some (size ∷ later) e f = cc
+later_some (size ∷ sizes_left) e f = cc
 
-pub later_one : (later : List ℕ) (size : ℕ) → slice_get later 0 ≡ Some size → length later ≡ suc (length (drop 1 later))
+pub later_one : (sizes_left : List ℕ) (size : ℕ) → slice_get sizes_left 0 ≡ Some size → length sizes_left ≡ suc (length (drop 1 sizes_left))
 later_one [] size e = cc
-later_one (first ∷ later) size e = refl
+later_one (first ∷ sizes_left) size e = refl

@@ -12,13 +12,13 @@ use Rattle.pb_strategies.specs.declared.strategy.Strategy.{Strategy}
 use Rattle.pb_strategies.specs.declared.strategy.Strategy.TheVariants.{Linear, Free, HostPinned}
 use Rattle.pb_strategies.specs.Hosts.{is_running as standing_runs, same_place as same_there}
 use Rattle.pb_strategies.specs.MayStart.{ViewOf, has_room, has_room_at, suits, may_start_at, may_start_from, may_start, is_linear, ready as starting}
-use Rattle.pb_one_host.specs.declared.row.Running.{Running}
-use Rattle.pb_one_host.specs.Row.{HostRow, next_place}
+use Rattle.pb_host.specs.declared.host.Running.{Running}
+use Rattle.pb_host.specs.Host.{HostOf, next_place}
 use Rattle.pb_state.specs.State.{State}
-use Rattle.pb_one_host.specs.Standing.{standing}
+use Rattle.pb_host.specs.Standing.{standing}
 use Rattle.pb_state.specs.Strategies.{view_of}
-use Rattle.pb_one_host.specs.Runs.{is_running}
-use Rattle.pb_all_hosts.specs.Hosts.{at_row}
+use Rattle.pb_host.specs.Runs.{is_running}
+use Rattle.pb_hosts.specs.Hosts.{at_row}
 use Rattle.pb_state.specs.Machine.{same_place, next_at, may_start_in}
 
 and_left : (a b : Bool) → (a && b) ≡ true → a ≡ true
@@ -46,7 +46,7 @@ both true b e f = f
 both false b e f = cc
 
 -- a host that runs nothing, and whose next place is this one
-abbrev pub stands_at : Option ℕ → HostRow → Bool
+abbrev pub stands_at : Option ℕ → HostOf → Bool
 stands_at place row = not (is_running row) && same_place (next_place row) place
 
 pub runs_same : (running : Option Running) → is_some (option_map (λ (r : Running). r.place) running) ≡ is_some running
@@ -57,12 +57,12 @@ has_next : (view : ViewOf) (n : ℕ) (host : Standing) (next : Option ℕ) → o
 has_next view n host None e = cc
 has_next view n host (Some p) e = eq-eqb p p refl
 
-from_row : (view : ViewOf) (n : ℕ) (row : HostRow) → may_start_from view n (standing row) ≡ true → stands_at (next_place row) row ≡ true
+from_row : (view : ViewOf) (n : ℕ) (row : HostOf) → may_start_from view n (standing row) ≡ true → stands_at (next_place row) row ≡ true
 from_row view n row e =
     let idle : not (is_running row) ≡ true = ap not (sym (runs_same row.running)) ∙ and_left (not (standing_runs (standing row))) _ e in
     both (not (is_running row)) (same_place (next_place row) (next_place row)) idle (has_next view n (standing row) (next_place row) (and_right (not (standing_runs (standing row))) _ e))
 
-from_rows : (view : ViewOf) (n : ℕ) (rows : List HostRow) (h : ℕ) → option_map_or (may_start_from view n) (slice_get (map standing rows) h) false ≡ true
+from_rows : (view : ViewOf) (n : ℕ) (rows : List HostOf) (h : ℕ) → option_map_or (may_start_from view n) (slice_get (map standing rows) h) false ≡ true
     → at_row (stands_at (option_map_or next_place (slice_get rows h) None)) rows h ≡ true
 from_rows view n [] h e = cc
 from_rows view n (row ∷ rows) zero e = from_row view n row e

@@ -10,23 +10,23 @@ use Rattle.pb_state.specs.declared.event.Event.{Event}
 use Rattle.pb_state.specs.declared.event.Event.TheVariants.{Open, Start, Send, Report as Reported, Turn, Close, Stop, Forks}
 use Rattle.pb_inventory.specs.InventoryOf.{InventoryOf}
 use Rattle.pb_plan.specs.Plan.{PlayOf, PlanOf}
-use Rattle.pb_sight.specs.Results.{items_at}
-use Rattle.pb_one_host.specs.Row.{HostRow, progressed, reported, called, left}
+use Rattle.pb_task_vars.specs.Results.{items_at}
+use Rattle.pb_host.specs.Host.{HostOf, progressed, reported, as_play_begins, left}
 use Rattle.pb_state.specs.State.{State}
-use Rattle.pb_all_hosts.specs.Hosts.{change}
-use Rattle.pb_all_hosts.specs.Giving.{gifts_at, report_gives}
+use Rattle.pb_hosts.specs.Hosts.{change}
+use Rattle.pb_hosts.specs.Giving.{gifts_at, report_gives}
 use Rattle.pb_state.specs.Machine.{possible, after, facts_at, plan_seen, open_play, opened_by, after_open, started_in, next_at, start_at, sent_in, reported_in, batch_of, turned_in, closed, stopped, first_state}
 use Rattle.pb_state.specs.Run.{state_from, IsRun}
-use Rattle.pb_all_hosts.proofs.Batching.{length-joined}
-use Rattle.pb_all_hosts.proofs.Giving.{length-given}
+use Rattle.pb_hosts.proofs.Batching.{length-joined}
+use Rattle.pb_hosts.proofs.Giving.{length-given}
 use Rattle.pb_state.proofs.Opening.{open_case, rows_case}
-use Rattle.pb_all_hosts.proofs.Turning.{turned_hosts}
+use Rattle.pb_hosts.proofs.Turning.{turned_hosts}
 
-length-changed : (rows : List HostRow) (h : ℕ) (f : HostRow → HostRow) (found : Option HostRow) → length (option_map_or (λ row. set rows h (f row)) found rows) ≡ length rows
+length-changed : (rows : List HostOf) (h : ℕ) (f : HostOf → HostOf) (found : Option HostOf) → length (option_map_or (λ row. set rows h (f row)) found rows) ≡ length rows
 length-changed rows h f None = refl
 length-changed rows h f (Some row) = length-set rows h (f row)
 
-pub length-change : (rows : List HostRow) (h : ℕ) (f : HostRow → HostRow) → length (change rows h f) ≡ length rows
+pub length-change : (rows : List HostOf) (h : ℕ) (f : HostOf → HostOf) → length (change rows h f) ≡ length rows
 length-change rows h f = length-changed rows h f (slice_get rows h)
 
 -- what a step in a play keeps of the hosts' number, of the forks and of the jobs' number
@@ -43,7 +43,7 @@ open_keeps : (plan : PlanOf) (s : State) → Keeps s (after_open plan s)
 open_keeps plan s =
     open_case (Keeps s) plan s (λ none. same_sends s s refl refl refl)
     (λ n batch sizes rows play size is.
-    let stay : length rows ≡ length s.rows = rows_case (λ (all : List HostRow). length all ≡ length s.rows) plan s n batch sizes rows play size is refl (λ hosts. length-map s.rows (called hosts)) in
+    let stay : length rows ≡ length s.rows = rows_case (λ (all : List HostOf). length all ≡ length s.rows) plan s n batch sizes rows play size is refl (λ hosts. length-map s.rows (as_play_begins hosts)) in
     same_sends s (opened_by s n batch sizes rows play size) (length-joined play.tree size rows ∙ stay) refl refl)
 
 start_keeps : (plan : PlanOf) (s : State) (h : ℕ) (play : PlayOf) (place : Option ℕ) → Keeps s (option_map_or (start_at plan s h play) place s)

@@ -10,13 +10,13 @@ use Rattle.pb_inventory.specs.InventoryOf.{InventoryOf}
 use Rattle.pb_outcome.specs.declared.job.Report.{Report}
 use Rattle.pb_state.specs.declared.event.Event.{Event}
 use Rattle.pb_state.specs.declared.event.Event.TheVariants.{Open, Start, Send, Report as Reported, Turn, Close, Stop, Forks}
-use Rattle.pb_one_host.specs.declared.row.Running.{Running}
+use Rattle.pb_host.specs.declared.host.Running.{Running}
 use Rattle.pb_plan.specs.Plan.{PlayOf, PlanOf}
-use Rattle.pb_all_hosts.specs.Batches.{has_later, room_behind, joined_first}
-use Rattle.pb_one_host.specs.Row.{HostRow}
+use Rattle.pb_hosts.specs.Batches.{has_batch_left, room_behind, joined_first}
+use Rattle.pb_host.specs.Host.{HostOf}
 use Rattle.pb_state.specs.State.{State}
-use Rattle.pb_one_host.specs.Runs.{is_running, is_out, has_send, sends_running, may_send_item, awaits_running, awaits}
-use Rattle.pb_all_hosts.specs.Hosts.{at_row, has_hosts, first_play, least_place}
+use Rattle.pb_host.specs.Runs.{is_running, is_out, has_send, sends_running, may_send_item, awaits_running, awaits}
+use Rattle.pb_hosts.specs.Hosts.{at_row, has_hosts, first_play, least_place}
 use Rattle.pb_state.specs.Machine.{possible, after, ready, ready_in, may_open, may_start_in, may_send_in, may_report_in, may_turn_in, may_close_in, next_play, is_left, open_play, opened_by, after_open, started_in, next_at, start_at, sent_in, reported_in, batch_of, turned_in, stopped, with_forks, first_state}
 use Rattle.pb_state.specs.Run.{legal_from, state_from, IsRun}
 use Rattle.pb_strategies.specs.MayStart.{is_linear, ready as starting}
@@ -25,7 +25,7 @@ use Rattle.pb_state.proofs.Idle.{turn_linear, turn_idle, turns, others_done}
 use Rattle.pb_state.proofs.Opening.{open_case}
 use Rattle.pb_state.proofs.Readies.{none_start, none_sends}
 use Rattle.pb_state.proofs.Stands.{both, linear_place}
-use Rattle.pb_all_hosts.proofs.Turning.{turned_idle}
+use Rattle.pb_hosts.proofs.Turning.{turned_idle}
 use Rattle.pb_state.specs.Over.{has_more, IsOver, IsPlaced, IsPlacedBy, IsPlacedIn}
 
 and_left : (a b : Bool) → (a && b) ≡ true → a ≡ true
@@ -49,7 +49,7 @@ not_false true e = cc
 not_false false e = refl
 
 -- a host that has a send, or waits for a report, runs
-none_runs : (test : HostRow → Bool) → ((row : HostRow) → is_running row ≡ false → test row ≡ false) → (rows : List HostRow) (h : ℕ) → list_any is_running rows ≡ false → at_row test rows h ≡ false
+none_runs : (test : HostOf → Bool) → ((row : HostOf) → is_running row ≡ false → test row ≡ false) → (rows : List HostOf) (h : ℕ) → list_any is_running rows ≡ false → at_row test rows h ≡ false
 none_runs test idle [] h e = refl
 none_runs test idle (row ∷ rows) zero e = idle row (or_left (is_running row) (list_any is_running rows) e)
 none_runs test idle (row ∷ rows) (suc h) e = none_runs test idle rows h (or_right (is_running row) (list_any is_running rows) e)
@@ -70,9 +70,9 @@ idle_awaits item attempt ticket None e = refl
 idle_awaits item attempt ticket (Some r) e = cc
 
 -- each event keeps it that an open batch has its play, and its least place where no host runs
-idle_joined : (tree : TreeOf) (room : ℕ) (rows : List HostRow) → list_any is_running (joined_first tree room rows) ≡ false
+idle_joined : (tree : TreeOf) (room : ℕ) (rows : List HostOf) → list_any is_running (joined_first tree room rows) ≡ false
 idle_joined tree room [] = refl
-idle_joined tree room (row ∷ rows) = idle_joined tree (room_behind room row.waits) rows
+idle_joined tree room (row ∷ rows) = idle_joined tree (room_behind room row.awaits_batch) rows
 
 placed_new : (linear : Bool) (s : State) → s.place ≡ (if linear then least_place s.rows else None) → list_any is_running s.rows ≡ false → IsPlacedBy linear s
 placed_new true s e idle = λ none. (sym e ∙ none, idle)
@@ -180,7 +180,7 @@ both_false : (a b : Bool) → a ≡ false → b ≡ false → (a || b) ≡ false
 both_false true b e f = e
 both_false false b e f = f
 
-none_running : (rows : List HostRow) → has_some (map has_send rows) ≡ false → list_any is_out rows ≡ false → list_any is_running rows ≡ false
+none_running : (rows : List HostOf) → has_some (map has_send rows) ≡ false → list_any is_out rows ≡ false → list_any is_running rows ≡ false
 none_running [] e f = refl
 none_running (row ∷ rows) e f =
     both_false (is_running row) (list_any is_running rows)
@@ -209,7 +209,7 @@ closed_in s (Some play) f st placed out r t c =
     ]
 
 -- a play opens next where one is left that has hosts
-some_left : (rows : List HostRow) (n : ℕ) (plays : List PlayOf) → is_some (first_play rows n plays) ≡ list_any (has_hosts rows) plays
+some_left : (rows : List HostOf) (n : ℕ) (plays : List PlayOf) → is_some (first_play rows n plays) ≡ list_any (has_hosts rows) plays
 some_left rows n [] = refl
 some_left rows n (play ∷ plays) = by_hosts (has_hosts rows play) (some_left rows (n + 1) plays)
   where
@@ -217,8 +217,8 @@ some_left rows n (play ∷ plays) = by_hosts (has_hosts rows play) (some_left ro
     by_hosts true e = refl
     by_hosts false e = e
 
-left_same : (plan : PlanOf) (s : State) (later : Bool)
-    → (if later then is_some (slice_get plan.plays s.play) else is_some (next_play plan s)) ≡ (if later then is_some (slice_get plan.plays s.play) else list_any (has_hosts s.rows) (drop s.play plan.plays))
+left_same : (plan : PlanOf) (s : State) (sizes_left : Bool)
+    → (if sizes_left then is_some (slice_get plan.plays s.play) else is_some (next_play plan s)) ≡ (if sizes_left then is_some (slice_get plan.plays s.play) else list_any (has_hosts s.rows) (drop s.play plan.plays))
 left_same plan s true = refl
 left_same plan s false = some_left s.rows s.play (drop s.play plan.plays)
 
@@ -230,4 +230,4 @@ over_in false false false next left l e m = inr (inr (refl, sym l ∙ m))
 
 pub over_now : (plan : PlanOf) (s : State) → 0 < s.forks → IsPlaced plan s → has_some (ready plan s) ≡ false → option_map_or (may_turn_in s) (open_play plan s) false ≡ false → option_map_or (may_close_in s) (open_play plan s) false ≡ false → may_open plan s ≡ false → list_any is_out s.rows ≡ false → IsOver plan s
 over_now plan s f placed r t c o out =
-    over_in s.stopped s.is_open s.ended (is_left plan s) (has_more plan s) (left_same plan s (has_later s.later)) (λ st. closed_in s (open_play plan s) f st placed out r t c) o
+    over_in s.stopped s.is_open s.ended (is_left plan s) (has_more plan s) (left_same plan s (has_batch_left s.sizes_left)) (λ st. closed_in s (open_play plan s) f st placed out r t c) o

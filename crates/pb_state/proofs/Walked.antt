@@ -9,11 +9,11 @@ use Rattle.pb_tree.specs.Tree.{TreeOf, size_of}
 use Rattle.pb_tree.specs.Answer.{AnswerOf}
 use Rattle.pb_tree.specs.Walk.{reach, one_halted, without_halted, is_halted}
 use Rattle.pb_tree.proofs.Rise.{places_bounded}
-use Rattle.pb_sight.specs.Ends.{has_run}
-use Rattle.pb_one_host.specs.declared.decided.TaskEnd.{TaskEnd}
-use Rattle.pb_one_host.specs.Ends.{fails, ends_play, kind_if, kind_of, answer_of}
-use Rattle.pb_one_host.specs.Row.{HostRow, place_of, next_place}
-use Rattle.pb_one_host.specs.Runs.{is_running}
+use Rattle.pb_task_vars.specs.Ends.{has_run}
+use Rattle.pb_host.specs.declared.step_result.TaskEnd.{TaskEnd}
+use Rattle.pb_host.specs.Ends.{fails, ends_play, kind_if, kind_of, answer_of}
+use Rattle.pb_host.specs.Host.{HostOf, place_of, next_place}
+use Rattle.pb_host.specs.Runs.{is_running}
 use Rattle.pb_state.specs.Machine.{same_place}
 use Rattle.pb_state.proofs.Stands.{stands_at}
 
@@ -84,7 +84,7 @@ and_right true b e = e
 and_right false b e = cc
 
 -- a host that stands somewhere has answers to give
-pub stands_below : (place : Option ℕ) (row : HostRow) → stands_at place row ≡ true → length (one_halted row.answers) < size_of row.tree
+pub stands_below : (place : Option ℕ) (row : HostOf) → stands_at place row ≡ true → length (one_halted row.answers) < size_of row.tree
 stands_below place row e =
     let stood = same_is (next_place row) place (and_right (not (is_running row)) _ e) in
     at_below row.tree row.answers stood.0 (place_at (reach row.tree row.answers) row.in_batch stood.0 stood.1)
@@ -94,7 +94,7 @@ pub in_if : (b : Bool) (next : Option ℕ) (p : ℕ) → (if b then next else No
 in_if true next p e = refl
 in_if false next p e = cc
 
-pub stands_in : (place : Option ℕ) (row : HostRow) → stands_at place row ≡ true → row.in_batch ≡ true
+pub stands_in : (place : Option ℕ) (row : HostOf) → stands_at place row ≡ true → row.in_batch ≡ true
 stands_in place row e =
     let stood = same_is (next_place row) place (and_right (not (is_running row)) _ e) in
     in_if row.in_batch (place_of (reach row.tree row.answers)) stood.0 stood.1

@@ -7,32 +7,32 @@ use Rattle.pb_tree.specs.Tree.{TreeOf}
 use Rattle.pb_tree.specs.Walk.{reach}
 use Rattle.pb_outcome.specs.declared.job.Report.{Report}
 use Rattle.pb_outcome.specs.declared.outcome.Form.{Form}
-use Rattle.pb_sight.specs.Results.{items_at}
+use Rattle.pb_task_vars.specs.Results.{items_at}
 use Rattle.pb_state.specs.declared.event.Event.{Event}
 use Rattle.pb_state.specs.declared.event.Event.TheVariants.{Open, Start, Send, Report as Reported, Turn, Close, Stop, Forks}
 use Rattle.pb_outcome.specs.declared.item.Item.{Item}
 use Rattle.pb_outcome.specs.Items.{is_over}
-use Rattle.pb_one_host.specs.declared.row.Running.{Running}
+use Rattle.pb_host.specs.declared.host.Running.{Running}
 use Rattle.pb_inventory.specs.InventoryOf.{InventoryOf}
 use Rattle.pb_plan.specs.Plan.{PlayOf, PlanOf}
-use Rattle.pb_one_host.specs.Row.{HostRow, no_tree, place_of, ended, items_after, progressed, sent, reported, reported_running, called, left, first_rows}
+use Rattle.pb_host.specs.Host.{HostOf, no_tree, place_of, ended, items_after, progressed, sent, reported, reported_running, as_play_begins, left, first_rows}
 use Rattle.pb_state.specs.State.{State}
-use Rattle.pb_all_hosts.specs.Batches.{joins, room_behind, joined_first}
-use Rattle.pb_sight.specs.declared.gifts.Gift.{Gift}
-use Rattle.pb_all_hosts.specs.Hosts.{change}
-use Rattle.pb_all_hosts.specs.Giving.{takes, given_to, gifts_at, report_gives}
+use Rattle.pb_hosts.specs.Batches.{joins, room_behind, joined_first}
+use Rattle.pb_task_vars.specs.declared.gifts.DelegatedFacts.{DelegatedFacts}
+use Rattle.pb_hosts.specs.Hosts.{change}
+use Rattle.pb_hosts.specs.Giving.{takes, with_delegated, gifts_at, report_gives}
 use Rattle.pb_state.specs.Machine.{after, open_play, after_open, started_in, next_at, facts_at, plan_seen, start_at, sent_in, reported_in, batch_of, turned_in, first_state}
 use Rattle.pb_state.specs.Run.{state_from, IsRun}
 use Rattle.pb_state.specs.Walks.{walks_in, IsWalked, AreWalked, IsTracked, AreNumbered, RowsStay, WalksLead}
-use Rattle.pb_all_hosts.proofs.Giving.{given_keeps}
+use Rattle.pb_hosts.proofs.Giving.{given_keeps}
 use Rattle.pb_state.proofs.Opening.{open_case, rows_case}
-use Rattle.pb_all_hosts.proofs.Turning.{Goes as RowGoes, turned_by_case, goes_host, goes_tree, goes_inside}
+use Rattle.pb_hosts.proofs.Turning.{Goes as RowGoes, turned_by_case, goes_host, goes_tree, goes_inside}
 
 -- a host of the batch walks this tree
-abbrev pub IsIn : TreeOf → HostRow → Type 0
+abbrev pub IsIn : TreeOf → HostOf → Type 0
 IsIn tree row = row.in_batch ≡ true → row.tree ≡ tree
 
-abbrev pub AllIn : TreeOf → List HostRow → Type 0
+abbrev pub AllIn : TreeOf → List HostOf → Type 0
 AllIn tree [] = Unit {0}
 AllIn tree (row ∷ rows) = IsIn tree row × AllIn tree rows
 
@@ -40,35 +40,35 @@ abbrev pub IsOfPlan : PlanOf → State → Type 0
 IsOfPlan plan s = (play : PlayOf) → open_play plan s ≡ Some play → AllIn play.tree s.rows
 
 -- one row changed
-change_on : (row : HostRow) (rows : List HostRow) (h : ℕ) (f : HostRow → HostRow) (found : Option HostRow) → slice_get rows h ≡ found → change (row ∷ rows) (suc h) f ≡ row ∷ change rows h f
+change_on : (row : HostOf) (rows : List HostOf) (h : ℕ) (f : HostOf → HostOf) (found : Option HostOf) → slice_get rows h ≡ found → change (row ∷ rows) (suc h) f ≡ row ∷ change rows h f
 change_on row rows h f None e = rw e refl
 change_on row rows h f (Some r) e = rw e refl
 
-in_change : (tree : TreeOf) (f : HostRow → HostRow) → ((row : HostRow) → IsIn tree row → IsIn tree (f row)) → (rows : List HostRow) (h : ℕ) → AllIn tree rows → AllIn tree (change rows h f)
+in_change : (tree : TreeOf) (f : HostOf → HostOf) → ((row : HostOf) → IsIn tree row → IsIn tree (f row)) → (rows : List HostOf) (h : ℕ) → AllIn tree rows → AllIn tree (change rows h f)
 in_change tree f keeps [] h all = tt
 in_change tree f keeps (row ∷ rows) zero all = (keeps row all.0, all.1)
 in_change tree f keeps (row ∷ rows) (suc h) all = rw (change_on row rows h f (slice_get rows h) refl) (all.0, in_change tree f keeps rows h all.1)
 
-given_in : (tree : TreeOf) (gifts : List Gift) (rows : List HostRow) → AllIn tree rows → AllIn tree (given_to gifts rows)
+given_in : (tree : TreeOf) (gifts : List DelegatedFacts) (rows : List HostOf) → AllIn tree rows → AllIn tree (with_delegated gifts rows)
 given_in tree gifts rows all = given_keeps (AllIn tree) (λ gift rows all. in_change tree (takes gift) (λ row is. is) rows gift.host.0 all) gifts rows all
 
-progressed_in_tree : (tree : TreeOf) (inventory : InventoryOf) (play : PlayOf) (p : ℕ) (items : List Item) (row : HostRow) → IsIn tree row → IsIn tree (progressed inventory play p items row)
+progressed_in_tree : (tree : TreeOf) (inventory : InventoryOf) (play : PlayOf) (p : ℕ) (items : List Item) (row : HostOf) → IsIn tree row → IsIn tree (progressed inventory play p items row)
 progressed_in_tree tree inventory play p items row is = by_over (is_over items)
   where
     by_over : (over : Bool) → IsIn tree (if over then ended inventory play p items row else record row { running = Some (record { place = p; items = items; out = None }) })
     by_over true = is
     by_over false = is
 
-reported_in_tree : (tree : TreeOf) (plan : PlanOf) (play : PlayOf) (outcome : Form) (row : HostRow) → IsIn tree row → IsIn tree (reported plan play outcome row)
+reported_in_tree : (tree : TreeOf) (plan : PlanOf) (play : PlayOf) (outcome : Form) (row : HostOf) → IsIn tree row → IsIn tree (reported plan play outcome row)
 reported_in_tree tree plan play outcome row is = by_running row.running
   where
     by_running : (running : Option Running) → IsIn tree (option_map_or (reported_running plan play outcome row) running row)
     by_running None = is
     by_running (Some r) = progressed_in_tree tree plan.inventory play r.place (items_after plan play row.host row.facts outcome r) row is
 
-joined_in_tree : (tree : TreeOf) (room : ℕ) (rows : List HostRow) → AllIn tree (joined_first tree room rows)
+joined_in_tree : (tree : TreeOf) (room : ℕ) (rows : List HostOf) → AllIn tree (joined_first tree room rows)
 joined_in_tree tree room [] = tt
-joined_in_tree tree room (row ∷ rows) = (λ e. chosen (joins room row.waits) e, joined_in_tree tree (room_behind room row.waits) rows)
+joined_in_tree tree room (row ∷ rows) = (λ e. chosen (joins room row.awaits_batch) e, joined_in_tree tree (room_behind room row.awaits_batch) rows)
   where
     chosen : (b : Bool) → b ≡ true → (if b then tree else no_tree) ≡ tree
     chosen true e = refl
@@ -111,7 +111,7 @@ reported_goes plan s r (Some play) =
           (in_change tree (reported (plan_seen plan s) play r.outcome) (λ row is. reported_in_tree tree (plan_seen plan s) play r.outcome row is) s.rows r.host.0 all);
     }
 
-in_map : (tree : TreeOf) (f : HostRow → HostRow) → RowGoes f → (rows : List HostRow) → AllIn tree rows → AllIn tree (map f rows)
+in_map : (tree : TreeOf) (f : HostOf → HostOf) → RowGoes f → (rows : List HostOf) → AllIn tree rows → AllIn tree (map f rows)
 in_map tree f goes [] all = tt
 in_map tree f goes (row ∷ rows) all = (λ e. goes_tree f goes row ∙ all.0 (sym (goes_inside f goes row) ∙ e), in_map tree f goes rows all.1)
 
@@ -146,7 +146,7 @@ of_from plan s [] is = is
 of_from plan s (e ∷ es) is = of_from plan (after plan s e) es (step_of plan s e is)
 
 -- so a next place is where the answers lead
-walked_row : (tree : TreeOf) (row : HostRow) → IsIn tree row → IsWalked tree row
+walked_row : (tree : TreeOf) (row : HostOf) → IsIn tree row → IsWalked tree row
 walked_row tree row is =
     record {
       next = λ e. in_if row.in_batch (place_of (reach row.tree row.answers)) e ∙ ap (λ t. walks_in t row) (is e);
@@ -162,7 +162,7 @@ walked_row tree row is =
     out_if true next e = cc
     out_if false next e = refl
 
-walked_rows : (tree : TreeOf) (rows : List HostRow) → AllIn tree rows → AreWalked tree rows
+walked_rows : (tree : TreeOf) (rows : List HostOf) → AllIn tree rows → AreWalked tree rows
 walked_rows tree [] all = tt
 walked_rows tree (row ∷ rows) all = (walked_row tree row all.0, walked_rows tree rows all.1)
 
@@ -176,26 +176,26 @@ pub run_walks : (plan : PlanOf) (pool : ℕ) (trail : List Event) (s : State) �
 run_walks plan pool trail s run = subst (IsTracked plan) run.ends (walks_lead plan plan.forks pool trail)
 
 -- each row keeps its host's number
-number_change : (h k : ℕ) (f : HostRow → HostRow) → ((row : HostRow) → (f row).host ≡ row.host) → (rows : List HostRow) → AreNumbered h rows → AreNumbered h (change rows k f)
+number_change : (h k : ℕ) (f : HostOf → HostOf) → ((row : HostOf) → (f row).host ≡ row.host) → (rows : List HostOf) → AreNumbered h rows → AreNumbered h (change rows k f)
 number_change h k f same [] all = tt
 number_change h zero f same (row ∷ rows) all = (same row ∙ all.0, all.1)
 number_change h (suc k) f same (row ∷ rows) all = rw (change_on row rows k f (slice_get rows k) refl) (all.0, number_change (h + 1) k f same rows all.1)
 
-number_map : (h : ℕ) (f : HostRow → HostRow) → ((row : HostRow) → (f row).host ≡ row.host) → (rows : List HostRow) → AreNumbered h rows → AreNumbered h (map f rows)
+number_map : (h : ℕ) (f : HostOf → HostOf) → ((row : HostOf) → (f row).host ≡ row.host) → (rows : List HostOf) → AreNumbered h rows → AreNumbered h (map f rows)
 number_map h f same [] all = tt
 number_map h f same (row ∷ rows) all = (same row ∙ all.0, number_map (h + 1) f same rows all.1)
 
-number_given : (gifts : List Gift) (rows : List HostRow) → AreNumbered 0 rows → AreNumbered 0 (given_to gifts rows)
+number_given : (gifts : List DelegatedFacts) (rows : List HostOf) → AreNumbered 0 rows → AreNumbered 0 (with_delegated gifts rows)
 number_given gifts rows all = given_keeps (AreNumbered 0) (λ gift rows all. number_change 0 gift.host.0 (takes gift) (λ row. refl) rows all) gifts rows all
 
-progressed_host : (inventory : InventoryOf) (play : PlayOf) (p : ℕ) (items : List Item) (row : HostRow) → (progressed inventory play p items row).host ≡ row.host
+progressed_host : (inventory : InventoryOf) (play : PlayOf) (p : ℕ) (items : List Item) (row : HostOf) → (progressed inventory play p items row).host ≡ row.host
 progressed_host inventory play p items row = by_over (is_over items)
   where
     by_over : (over : Bool) → (if over then ended inventory play p items row else record row { running = Some (record { place = p; items = items; out = None }) }).host ≡ row.host
     by_over true = refl
     by_over false = refl
 
-reported_host : (plan : PlanOf) (play : PlayOf) (outcome : Form) (row : HostRow) → (reported plan play outcome row).host ≡ row.host
+reported_host : (plan : PlanOf) (play : PlayOf) (outcome : Form) (row : HostOf) → (reported plan play outcome row).host ≡ row.host
 reported_host plan play outcome row = by_running row.running
   where
     by_running : (running : Option Running) → (option_map_or (reported_running plan play outcome row) running row).host ≡ row.host
@@ -229,16 +229,16 @@ turned_numbers : (inventory : InventoryOf) (s : State) (found : Option PlayOf) �
 turned_numbers inventory s None = λ all. all
 turned_numbers inventory s (Some play) = λ all. turned_by_case (AreNumbered 0) (λ f goes rows now. number_map 0 f (goes_host f goes) rows now) inventory play (batch_of s) s.place all
 
-number_joined : (h : ℕ) (tree : TreeOf) (room : ℕ) (rows : List HostRow) → AreNumbered h rows → AreNumbered h (joined_first tree room rows)
+number_joined : (h : ℕ) (tree : TreeOf) (room : ℕ) (rows : List HostOf) → AreNumbered h rows → AreNumbered h (joined_first tree room rows)
 number_joined h tree room [] all = tt
-number_joined h tree room (row ∷ rows) all = (all.0, number_joined (h + 1) tree (room_behind room row.waits) rows all.1)
+number_joined h tree room (row ∷ rows) all = (all.0, number_joined (h + 1) tree (room_behind room row.awaits_batch) rows all.1)
 
 opened_numbers : (plan : PlanOf) (s : State) → AreNumbered 0 s.rows → AreNumbered 0 (after_open plan s).rows
 opened_numbers plan s all =
     open_case (λ (new : State). AreNumbered 0 new.rows) plan s (λ none. all)
     (λ n batch sizes rows play size is.
     number_joined 0 play.tree size rows
-    (rows_case (λ (calls : List HostRow). AreNumbered 0 calls) plan s n batch sizes rows play size is all (λ hosts. number_map 0 (called hosts) (λ row. refl) s.rows all)))
+    (rows_case (λ (calls : List HostOf). AreNumbered 0 calls) plan s n batch sizes rows play size is all (λ hosts. number_map 0 (as_play_begins hosts) (λ row. refl) s.rows all)))
 
 step_numbers : (plan : PlanOf) (s : State) (e : Event) → KeepsNumbers s (after plan s e)
 step_numbers plan s Open = opened_numbers plan s

@@ -9,15 +9,15 @@ use Rattle.pb_tree.specs.Tree.{TreeOf, size_of}
 use Rattle.pb_state.specs.declared.event.Event.{Event}
 use Rattle.pb_state.specs.declared.event.Event.TheVariants.{Open, Start, Send, Report as Reported, Turn, Close, Stop, Forks}
 use Rattle.pb_plan.specs.Plan.{PlayOf, PlanOf}
-use Rattle.pb_all_hosts.specs.Batches.{has_later, called_count, joins, room_behind, joined_first}
-use Rattle.pb_one_host.specs.Row.{HostRow, no_tree, next_place, called, joined, left}
+use Rattle.pb_hosts.specs.Batches.{has_batch_left, play_host_count, joins, room_behind, joined_first}
+use Rattle.pb_host.specs.Host.{HostOf, no_tree, next_place, as_play_begins, joined, left}
 use Rattle.pb_state.specs.State.{State}
-use Rattle.pb_all_hosts.specs.Hosts.{least_place}
+use Rattle.pb_hosts.specs.Hosts.{least_place}
 use Rattle.pb_state.specs.Machine.{possible, after, open_play, may_open, is_left, may_close_in, opened_by, after_open, play_behind, closed}
 use Rattle.pb_batches.specs.Sizes.{batch_sizes}
 use Rattle.pb_state.specs.Run.{is_command}
 use Rattle.pb_state.specs.Work.{most_events, place_work, row_work, batch_work, batches_work, later_work, rest_work, between_work, work_in, work}
-use Rattle.pb_all_hosts.proofs.Batching.{few_called, length-joined}
+use Rattle.pb_hosts.proofs.Batching.{few_play_hosts, length-joined}
 use Rattle.pb_state.proofs.FewBatches.{few_batches}
 use Rattle.pb_state.proofs.SizesLeft.{later_one}
 use Rattle.pb_state.proofs.Opening.{GoesOn, Begins, IsOpening, open_case, rows_case}
@@ -34,24 +34,24 @@ play_there plan s play false o = cc
 
 -- where batches are left the play is the same, and else the next one
 abbrev closed_by : PlanOf → State → Bool → ℕ
-closed_by plan s later =
-    if later then option_map_or (rest_work plan (length (map left s.rows)) s.later (play_behind later s.play)) (slice_get plan.plays (play_behind later s.play)) 0
-    else later_work (length (map left s.rows)) (drop (play_behind later s.play) plan.plays)
+closed_by plan s sizes_left =
+    if sizes_left then option_map_or (rest_work plan (length (map left s.rows)) s.sizes_left (play_behind sizes_left s.play)) (slice_get plan.plays (play_behind sizes_left s.play)) 0
+    else later_work (length (map left s.rows)) (drop (play_behind sizes_left s.play) plan.plays)
 
-closed_at_most : (plan : PlanOf) (s : State) (play : PlayOf) (later : Bool) → slice_get plan.plays s.play ≡ Some play → closed_by plan s later ≤ rest_work plan (length (map left s.rows)) s.later s.play play
+closed_at_most : (plan : PlanOf) (s : State) (play : PlayOf) (sizes_left : Bool) → slice_get plan.plays s.play ≡ Some play → closed_by plan s sizes_left ≤ rest_work plan (length (map left s.rows)) s.sizes_left s.play play
 closed_at_most plan s play true e =
-    let same : closed_by plan s true ≡ rest_work plan (length (map left s.rows)) s.later s.play play =
-    ap (λ (found : Option PlayOf). option_map_or (rest_work plan (length (map left s.rows)) s.later s.play) found 0) e in
+    let same : closed_by plan s true ≡ rest_work plan (length (map left s.rows)) s.sizes_left s.play play =
+    ap (λ (found : Option PlayOf). option_map_or (rest_work plan (length (map left s.rows)) s.sizes_left s.play) found 0) e in
     omega (arith, same)
 closed_at_most plan s play false e =
-    with_more (later_work (length (map left s.rows)) (drop (s.play + 1) plan.plays)) (later_work (length (map left s.rows)) (drop (s.play + 1) plan.plays)) (batches_work (length (map left s.rows)) s.later play) (omega arith)
+    with_more (later_work (length (map left s.rows)) (drop (s.play + 1) plan.plays)) (later_work (length (map left s.rows)) (drop (s.play + 1) plan.plays)) (batches_work (length (map left s.rows)) s.sizes_left play) (omega arith)
 
 close_in_less : (plan : PlanOf) (s : State) (found : Option PlayOf) → open_play plan s ≡ found → option_map_or (may_close_in s) found false ≡ true → work plan (closed s) < work plan s
 close_in_less plan s None o e = cc
 close_in_less plan s (Some play) o e =
-    let same : rest_work plan (length (map left s.rows)) s.later s.play play ≡ rest_work plan (length s.rows) s.later s.play play = rw (length-map s.rows left) refl in
+    let same : rest_work plan (length (map left s.rows)) s.sizes_left s.play play ≡ rest_work plan (length s.rows) s.sizes_left s.play play = rw (length-map s.rows left) refl in
     let old : work plan s ≡ work_in plan s (Some play) = ap (work_in plan s) o in
-    let new : work plan (closed s) ≤ rest_work plan (length (map left s.rows)) s.later s.play play = closed_at_most plan s play (has_later s.later) (play_there plan s play s.is_open o) in
+    let new : work plan (closed s) ≤ rest_work plan (length (map left s.rows)) s.sizes_left s.play play = closed_at_most plan s play (has_batch_left s.sizes_left) (play_there plan s play s.is_open o) in
     omega (arith, same, old, new)
 
 -- an open
@@ -59,19 +59,19 @@ smaller : (tree : TreeOf) (b : Bool) → size_of (if b then tree else no_tree) �
 smaller tree true = omega arith
 smaller tree false = omega arith
 
-fresh : (tree : TreeOf) (inside : Bool) (row : HostRow) → row_work (joined tree inside row) ≤ most_events * size_of tree
+fresh : (tree : TreeOf) (inside : Bool) (row : HostOf) → row_work (joined tree inside row) ≤ most_events * size_of tree
 fresh tree inside row = most (next_place (joined tree inside row))
   where
     most : (next : Option ℕ) → place_work (joined tree inside row) next ≤ most_events * size_of tree
     most None = omega arith
     most (Some p) = omega (arith, smaller tree inside)
 
-fresh_all : (tree : TreeOf) (room : ℕ) (rows : List HostRow) → sum_by row_work (joined_first tree room rows) ≤ length rows * (most_events * size_of tree)
+fresh_all : (tree : TreeOf) (room : ℕ) (rows : List HostOf) → sum_by row_work (joined_first tree room rows) ≤ length rows * (most_events * size_of tree)
 fresh_all tree room [] = omega arith
 fresh_all tree room (row ∷ rows) =
-    let one = fresh tree (joins room row.waits) row in
-    let rest = fresh_all tree (room_behind room row.waits) rows in
-    omega (arith, sum_by-cons row_work (joined tree (joins room row.waits) row) (joined_first tree (room_behind room row.waits) rows), one, rest, suc-mul (length rows) (most_events * size_of tree))
+    let one = fresh tree (joins room row.awaits_batch) row in
+    let rest = fresh_all tree (room_behind room row.awaits_batch) rows in
+    omega (arith, sum_by-cons row_work (joined tree (joins room row.awaits_batch) row) (joined_first tree (room_behind room row.awaits_batch) rows), one, rest, suc-mul (length rows) (most_events * size_of tree))
 
 later_at : (n : ℕ) (plays : List PlayOf) (i : ℕ) (play : PlayOf) → slice_get plays i ≡ Some play → later_work n (drop i plays) ≡ n * batch_work n play + later_work n (drop (i + 1) plays)
 later_at n plays i play e =
@@ -94,7 +94,7 @@ fewer : (n : ℕ) (plays : List PlayOf) (i j : ℕ) → i ≤ j → later_work n
 fewer n plays i j l = let at : (j - i) + i ≡ j = omega (arith, l) in rw at at (some_fewer n plays i (j - i))
 
 -- what is left once a batch of a play has opened
-opened_work : (plan : PlanOf) (s : State) (n batch : ℕ) (sizes : List ℕ) (rows : List HostRow) (play : PlayOf) (size : ℕ) → slice_get plan.plays n ≡ Some play → length rows ≡ length s.rows
+opened_work : (plan : PlanOf) (s : State) (n batch : ℕ) (sizes : List ℕ) (rows : List HostOf) (play : PlayOf) (size : ℕ) → slice_get plan.plays n ≡ Some play → length rows ≡ length s.rows
     → work plan (opened_by s n batch sizes rows play size) < batch_work (length s.rows) play + rest_work plan (length s.rows) (drop 1 sizes) n play
 opened_work plan s n batch sizes rows play size e l =
     let state = opened_by s n batch sizes rows play size in
@@ -112,34 +112,34 @@ first_batch plan n k sizes play size e =
     let one : batches_work k sizes play ≡ suc (length (drop 1 sizes)) * batch_work k play = ap (λ m. m * batch_work k play) (later_one sizes size e) in
     omega (arith, one, suc-mul (length (drop 1 sizes)) (batch_work k play))
 
-goes_less : (plan : PlanOf) (s : State) (n batch : ℕ) (sizes : List ℕ) (rows : List HostRow) (play : PlayOf) (size : ℕ) → s.is_open ≡ false → IsOpening plan s n batch sizes rows play size → GoesOn s n batch sizes rows
+goes_less : (plan : PlanOf) (s : State) (n batch : ℕ) (sizes : List ℕ) (rows : List HostOf) (play : PlayOf) (size : ℕ) → s.is_open ≡ false → IsOpening plan s n batch sizes rows play size → GoesOn s n batch sizes rows
     → batches_work (length s.rows) sizes play + later_work (length s.rows) (drop (n + 1) plan.plays) ≤ work plan s
 goes_less plan s n batch sizes rows play size c is on =
     let closed_work : work plan s ≡ between_work plan s = ap (λ (b : Bool). work_in plan s (if b then slice_get plan.plays s.play else None)) c in
-    let between : between_work plan s ≡ option_map_or (rest_work plan (length s.rows) s.later s.play) (slice_get plan.plays s.play) 0 =
-    ap (λ (b : Bool). if b then option_map_or (rest_work plan (length s.rows) s.later s.play) (slice_get plan.plays s.play) 0 else later_work (length s.rows) (drop s.play plan.plays)) on.0 in
+    let between : between_work plan s ≡ option_map_or (rest_work plan (length s.rows) s.sizes_left s.play) (slice_get plan.plays s.play) 0 =
+    ap (λ (b : Bool). if b then option_map_or (rest_work plan (length s.rows) s.sizes_left s.play) (slice_get plan.plays s.play) 0 else later_work (length s.rows) (drop s.play plan.plays)) on.0 in
     let there : slice_get plan.plays s.play ≡ Some play = ap (slice_get plan.plays) (sym on.1) ∙ is.there in
-    let found : option_map_or (rest_work plan (length s.rows) s.later s.play) (slice_get plan.plays s.play) 0 ≡ rest_work plan (length s.rows) s.later s.play play =
-    ap (λ (f : Option PlayOf). option_map_or (rest_work plan (length s.rows) s.later s.play) f 0) there in
-    let same : batches_work (length s.rows) sizes play + later_work (length s.rows) (drop (n + 1) plan.plays) ≡ rest_work plan (length s.rows) s.later s.play play =
+    let found : option_map_or (rest_work plan (length s.rows) s.sizes_left s.play) (slice_get plan.plays s.play) 0 ≡ rest_work plan (length s.rows) s.sizes_left s.play play =
+    ap (λ (f : Option PlayOf). option_map_or (rest_work plan (length s.rows) s.sizes_left s.play) f 0) there in
+    let same : batches_work (length s.rows) sizes play + later_work (length s.rows) (drop (n + 1) plan.plays) ≡ rest_work plan (length s.rows) s.sizes_left s.play play =
     ap (λ (k : List ℕ). batches_work (length s.rows) k play + later_work (length s.rows) (drop (n + 1) plan.plays)) on.3
-    ∙ ap (λ (m : ℕ). batches_work (length s.rows) s.later play + later_work (length s.rows) (drop (m + 1) plan.plays)) on.1 in
+    ∙ ap (λ (m : ℕ). batches_work (length s.rows) s.sizes_left play + later_work (length s.rows) (drop (m + 1) plan.plays)) on.1 in
     omega (arith, closed_work, between, found, same)
 
-begins_less : (plan : PlanOf) (s : State) (n batch : ℕ) (sizes : List ℕ) (rows : List HostRow) (play : PlayOf) (size : ℕ) → s.is_open ≡ false → IsOpening plan s n batch sizes rows play size → Begins s n batch sizes rows play
+begins_less : (plan : PlanOf) (s : State) (n batch : ℕ) (sizes : List ℕ) (rows : List HostOf) (play : PlayOf) (size : ℕ) → s.is_open ≡ false → IsOpening plan s n batch sizes rows play size → Begins s n batch sizes rows play
     → batches_work (length s.rows) sizes play + later_work (length s.rows) (drop (n + 1) plan.plays) ≤ work plan s
 begins_less plan s n batch sizes rows play size c is begun =
     let closed_work : work plan s ≡ between_work plan s = ap (λ (b : Bool). work_in plan s (if b then slice_get plan.plays s.play else None)) c in
     let between : between_work plan s ≡ later_work (length s.rows) (drop s.play plan.plays) =
-    ap (λ (b : Bool). if b then option_map_or (rest_work plan (length s.rows) s.later s.play) (slice_get plan.plays s.play) 0 else later_work (length s.rows) (drop s.play plan.plays)) begun.0 in
-    let count : length sizes ≡ length (batch_sizes play.serial (called_count play.hosts s.rows)) = ap length begun.3 in
-    let few : length sizes ≤ length s.rows = omega (arith, count, few_batches play.serial (called_count play.hosts s.rows), few_called play.hosts s.rows) in
+    ap (λ (b : Bool). if b then option_map_or (rest_work plan (length s.rows) s.sizes_left s.play) (slice_get plan.plays s.play) 0 else later_work (length s.rows) (drop s.play plan.plays)) begun.0 in
+    let count : length sizes ≡ length (batch_sizes play.serial (play_host_count play.hosts s.rows)) = ap length begun.3 in
+    let few : length sizes ≤ length s.rows = omega (arith, count, few_batches play.serial (play_host_count play.hosts s.rows), few_play_hosts play.hosts s.rows) in
     let most = times (batch_work (length s.rows) play) (length sizes) (length s.rows) few in
     let at = later_at (length s.rows) plan.plays n play is.there in
     let passed = fewer (length s.rows) plan.plays s.play n begun.1 in
     omega (arith, closed_work, between, most, at, passed)
 
-how_less : (plan : PlanOf) (s : State) (n batch : ℕ) (sizes : List ℕ) (rows : List HostRow) (play : PlayOf) (size : ℕ) → s.is_open ≡ false → IsOpening plan s n batch sizes rows play size
+how_less : (plan : PlanOf) (s : State) (n batch : ℕ) (sizes : List ℕ) (rows : List HostOf) (play : PlayOf) (size : ℕ) → s.is_open ≡ false → IsOpening plan s n batch sizes rows play size
     → GoesOn s n batch sizes rows ⊎ Begins s n batch sizes rows play → batches_work (length s.rows) sizes play + later_work (length s.rows) (drop (n + 1) plan.plays) ≤ work plan s
 how_less plan s n batch sizes rows play size c is (inl on) = goes_less plan s n batch sizes rows play size c is on
 how_less plan s n batch sizes rows play size c is (inr begun) = begins_less plan s n batch sizes rows play size c is begun
@@ -148,7 +148,7 @@ open_next_less : (plan : PlanOf) (s : State) → s.is_open ≡ false → is_left
 open_next_less plan s c left_some =
     open_case (λ (new : State). work plan new < work plan s) plan s (λ none. absurd (none left_some))
     (λ n batch sizes rows play size is.
-    let stay : length rows ≡ length s.rows = rows_case (λ (all : List HostRow). length all ≡ length s.rows) plan s n batch sizes rows play size is refl (λ hosts. length-map s.rows (called hosts)) in
+    let stay : length rows ≡ length s.rows = rows_case (λ (all : List HostOf). length all ≡ length s.rows) plan s n batch sizes rows play size is refl (λ hosts. length-map s.rows (as_play_begins hosts)) in
     let opened = opened_work plan s n batch sizes rows play size is.there stay in
     let first = first_batch plan n (length s.rows) sizes play size is.first in
     let old = how_less plan s n batch sizes rows play size c is is.how in

@@ -7,12 +7,12 @@ use Rattle.pb_outcome.specs.declared.outcome.Form.TheVariants.{Ran, Unreachable 
 use Rattle.pb_outcome.specs.declared.outcome.Form.{Form}
 use Rattle.pb_places.specs.Place.{PlaceOf}
 use Rattle.pb_plan.specs.Plan.{PlayOf, PlanOf, bare_play, bare_tree}
-use Rattle.pb_one_host.specs.declared.decided.Decided.{Decided}
-use Rattle.pb_one_host.specs.declared.decided.Retried.{Retried}
-use Rattle.pb_one_host.specs.declared.row.Counts.{Counts}
-use Rattle.pb_one_host.specs.FactRows.{on_facts}
-use Rattle.pb_one_host.specs.Row.{HostRow, none_counted}
-use Rattle.pb_one_host.specs.Runs.{is_running}
+use Rattle.pb_host.specs.declared.step_result.StepResult.{StepResult}
+use Rattle.pb_host.specs.declared.step_result.Retried.{Retried}
+use Rattle.pb_host.specs.declared.host.Counts.{Counts}
+use Rattle.pb_host.specs.FactRows.{on_facts}
+use Rattle.pb_host.specs.Host.{HostOf, none_counted}
+use Rattle.pb_host.specs.Runs.{is_running}
 use Rattle.pb_state.specs.declared.event.Event.{Event}
 use Rattle.pb_state.specs.declared.event.Event.TheVariants.{Open, Send, Report as Reported}
 use Rattle.pb_state.specs.BlockRows.{runs}
@@ -127,7 +127,7 @@ second_waits_so_long = refl
 
 -- that attempt is told of, and the task goes on
 abbrev retried_in : List Event → Option ℕ
-retried_in events = option_map_or (λ (d : Decided). option_map (λ (r : Retried). r.attempt) d.retried) (led_to lone events).decided None
+retried_in events = option_map_or (λ (d : StepResult). option_map (λ (r : Retried). r.attempt) d.retried) (led_to lone events).step_result None
 
 first_is_told_of : retried_in failed_once ≡ Some 1
 unfolding on_facts
@@ -137,7 +137,7 @@ abbrev still_runs : PlanOf → List Event → Option Bool
 still_runs plan events = option_map is_running (slice_get (led_to plan events).rows 0)
 
 abbrev counts_of : PlanOf → List Event → Option Counts
-counts_of plan events = option_map (λ (row : HostRow). row.counts) (slice_get (led_to plan events).rows 0)
+counts_of plan events = option_map (λ (row : HostOf). row.counts) (slice_get (led_to plan events).rows 0)
 
 goes_on : still_runs lone failed_once ≡ Some true
 unfolding on_facts

@@ -12,10 +12,10 @@ use Rattle.pb_tree.specs.declared.tree.Status.TheVariants.{Active, Failed}
 use Rattle.pb_state.specs.declared.event.Event.{Event}
 use Rattle.pb_state.specs.declared.event.Event.TheVariants.{Open, Start, Send, Report as Reported, Turn, Close, Stop, Forks}
 use Rattle.pb_state.specs.BlockRows.{says, runs, refuses, statuses}
-use Rattle.pb_one_host.specs.FactRows.{on_facts}
+use Rattle.pb_host.specs.FactRows.{on_facts}
 use Rattle.pb_state.specs.Machine.{first_state, possible, ready}
 use Rattle.pb_state.specs.Once.{StartOf, starts_from}
-use Rattle.pb_one_host.specs.Row.{HostRow}
+use Rattle.pb_host.specs.Host.{HostOf}
 use Rattle.pb_state.specs.Run.{IsLegal, state_after}
 use Rattle.pb_state.specs.State.{State}
 
@@ -40,7 +40,7 @@ abbrev pub led_to : PlanOf → List Event → State
 led_to plan events = state_after plan 256 events
 
 abbrev batch_of : PlanOf → List Event → List Bool
-batch_of plan events = map (λ (row : HostRow). row.in_batch) (led_to plan events).rows
+batch_of plan events = map (λ (row : HostOf). row.in_batch) (led_to plan events).rows
 
 abbrev pub may : PlanOf → List Event → Event → Bool
 may plan events e = possible plan (led_to plan events) e
@@ -112,7 +112,7 @@ without_b : batch_of out_already (first_two ++ Open ∷ []) ≡ true ∷ false �
 unfolding on_facts
 without_b = refl
 
-is_last_batch : (led_to out_already (first_two ++ Open ∷ [])).later ≡ []
+is_last_batch : (led_to out_already (first_two ++ Open ∷ [])).sizes_left ≡ []
 unfolding on_facts
 is_last_batch = refl
 

@@ -10,13 +10,13 @@ use Rattle.pb_places.specs.Place.{PlaceOf, bare_place}
 use Rattle.pb_plan.specs.Plan.{PlayOf, PlanOf, bare_play, bare_plan}
 use Rattle.pb_tree.specs.Tree.{Nodes, Nothing, Task, Block, Flush}
 use Rattle.pb_tree.specs.declared.tree.Status.{Status}
-use Rattle.pb_tree.specs.declared.tree.Status.TheVariants.{Active, Failed, Gone as Lost}
+use Rattle.pb_tree.specs.declared.tree.Status.TheVariants as status
 use Rattle.pb_state.specs.declared.event.Event.{Event}
 use Rattle.pb_state.specs.declared.event.Event.TheVariants.{Open, Start, Send, Report as Reported, Turn, Close}
-use Rattle.pb_one_host.specs.FactRows.{on_facts}
+use Rattle.pb_host.specs.FactRows.{on_facts}
 use Rattle.pb_state.specs.Machine.{first_state}
 use Rattle.pb_state.specs.Once.{StartOf, starts_from}
-use Rattle.pb_one_host.specs.Row.{HostRow}
+use Rattle.pb_host.specs.Host.{HostOf}
 use Rattle.pb_state.specs.Run.{IsLegalUnder, state_after_under}
 use Rattle.pb_state.specs.State.{State}
 
@@ -60,7 +60,7 @@ abbrev pub after_of : PlanOf → List Event → State
 after_of plan events = state_after_under plan 5 5 events
 
 abbrev pub statuses : PlanOf → List Event → List Status
-statuses plan events = map (λ (row : HostRow). row.status) (after_of plan events).rows
+statuses plan events = map (λ (row : HostOf). row.status) (after_of plan events).rows
 
 abbrev pub starts_at : PlanOf → List Event → List (Option ℕ)
 starts_at plan events = map (λ (x : StartOf). x.place) (starts_from plan (first_state plan 5 5) events)
@@ -86,7 +86,7 @@ unfolding on_facts
 may_be_rescued = refl
 
 -- a completed rescue clears the failure
-is_rescued : statuses (rescued_by says) rescued_run ≡ Active ∷ []
+is_rescued : statuses (rescued_by says) rescued_run ≡ status.Active ∷ []
 unfolding on_facts
 is_rescued = refl
 
@@ -102,12 +102,12 @@ may_fail : IsLegalUnder (rescued_by refuses) 5 5 failed_run
 unfolding on_facts
 may_fail = refl
 
-has_failed : statuses (rescued_by refuses) failed_run ≡ Failed ∷ []
+has_failed : statuses (rescued_by refuses) failed_run ≡ status.Failed ∷ []
 unfolding on_facts
 has_failed = refl
 
 -- until its walk is over the host is active, also before the always part
-still_active : statuses (rescued_by refuses) (body_comes (Ran (pos 1) [] []) (start ∷ [])) ≡ Active ∷ []
+still_active : statuses (rescued_by refuses) (body_comes (Ran (pos 1) [] []) (start ∷ [])) ≡ status.Active ∷ []
 unfolding on_facts
 still_active = refl
 
@@ -119,7 +119,7 @@ may_be_lost : IsLegalUnder (rescued_by says) 5 5 lost_run
 unfolding on_facts
 may_be_lost = refl
 
-is_lost : statuses (rescued_by says) lost_run ≡ Lost ∷ []
+is_lost : statuses (rescued_by says) lost_run ≡ status.Gone ∷ []
 unfolding on_facts
 is_lost = refl
 
@@ -134,7 +134,7 @@ may_fail_in_always : IsLegalUnder always_fails 5 5 always_fails_run
 unfolding on_facts
 may_fail_in_always = refl
 
-fails_in_always : statuses always_fails always_fails_run ≡ Failed ∷ []
+fails_in_always : statuses always_fails always_fails_run ≡ status.Failed ∷ []
 unfolding on_facts
 fails_in_always = refl
 
@@ -153,7 +153,7 @@ may_end_twice : IsLegalUnder two_plays 5 5 ending_run
 unfolding on_facts
 may_end_twice = refl
 
-ends_active : statuses two_plays ending_run ≡ Active ∷ []
+ends_active : statuses two_plays ending_run ≡ status.Active ∷ []
 unfolding on_facts
 ends_active = refl
 
@@ -182,7 +182,7 @@ ends_after = alone (a_play (Block (Task Nothing) Nothing (Task Nothing) last) (r
 abbrev pub ends_after_run : List Event
 ends_after_run = Open ∷ start ∷ Turn ∷ start ∷ Turn ∷ Close ∷ []
 
-stays_active : statuses ends_after ends_after_run ≡ Active ∷ []
+stays_active : statuses ends_after ends_after_run ≡ status.Active ∷ []
 unfolding on_facts
 stays_active = refl
 
@@ -203,6 +203,6 @@ unread_alone = alone (a_play (Task (Task last)) (unread ∷ says ∷ []) ∷ [])
 abbrev pub unread_run : List Event
 unread_run = Open ∷ start ∷ Turn ∷ Close ∷ []
 
-unread_fails : statuses unread_alone unread_run ≡ Failed ∷ []
+unread_fails : statuses unread_alone unread_run ≡ status.Failed ∷ []
 unfolding on_facts
 unread_fails = refl

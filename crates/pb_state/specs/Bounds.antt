@@ -5,11 +5,11 @@ use Rattle.pb_tree.specs.Tree.{size_of}
 use Rattle.pb_tree.specs.Walk.{one_halted}
 use Rattle.pb_ids.specs.declared.numbers.Ticket.{Ticket}
 use Rattle.pb_items.specs.Loops.{max_items}
-use Rattle.pb_one_host.specs.declared.row.Running.{Running}
-use Rattle.pb_one_host.specs.Attempts.{rank}
-use Rattle.pb_all_hosts.specs.Batches.{has_later}
-use Rattle.pb_one_host.specs.Row.{HostRow}
-use Rattle.pb_one_host.specs.Ends.{IsAtMost}
+use Rattle.pb_host.specs.declared.host.Running.{Running}
+use Rattle.pb_host.specs.Attempts.{rank}
+use Rattle.pb_hosts.specs.Batches.{has_batch_left}
+use Rattle.pb_host.specs.Host.{HostOf}
+use Rattle.pb_host.specs.Ends.{IsAtMost}
 
 -- the places at which a host was in the open batch
 abbrev pub run_places : Option Running → ℕ
@@ -30,22 +30,22 @@ running_items None = 0
 running_items (Some r) = length r.items
 
 -- The plays that a host has behind it: also the one that is under way, where its batch has closed, or where it isn't one of the play's hosts.
-abbrev pub plays_behind : Bool → ℕ → HostRow → ℕ
-plays_behind under_way play row = if under_way && not row.waits then play + 1 else play
+abbrev pub plays_behind : Bool → ℕ → HostOf → ℕ
+plays_behind under_way play row = if under_way && not row.awaits_batch then play + 1 else play
 
 -- a host in the open batch is one of the play's hosts, and one outside of it has neither answered nor started anything
-abbrev pub IsPlacedIn : Bool → HostRow → Type 0
-IsPlacedIn true row = row.waits ≡ true
+abbrev pub IsPlacedIn : Bool → HostOf → Type 0
+IsPlacedIn true row = row.awaits_batch ≡ true
 IsPlacedIn false row = length (one_halted row.answers) + run_places row.running ≡ 0
 
 -- while a batch is open, and while none is, of a play that goes on or not
-abbrev pub IsWithin : (is_open goes_on : Bool) → ℕ → HostRow → Type 0
+abbrev pub IsWithin : (is_open goes_on : Bool) → ℕ → HostOf → Type 0
 IsWithin true goes_on play row =
     IsAtMost row.counts (16384 * plays_behind true play row + length (one_halted row.answers)) × (length (one_halted row.answers) + run_places row.running ≤ 16384)
     × (size_of row.tree ≤ 16384) × (running_items row.running ≤ max_items) × IsPlacedIn row.in_batch row
 IsWithin false goes_on play row = IsAtMost row.counts (16384 * plays_behind goes_on play row)
 
-abbrev pub AllWithin : (is_open goes_on : Bool) → ℕ → List HostRow → Type 0
+abbrev pub AllWithin : (is_open goes_on : Bool) → ℕ → List HostOf → Type 0
 AllWithin is_open goes_on play [] = Unit {0}
 AllWithin is_open goes_on play (row ∷ rows) = IsWithin is_open goes_on play row × AllWithin is_open goes_on play rows
 
@@ -54,15 +54,15 @@ abbrev pub max_jobs : ℕ
 max_jobs = 101 * max_items
 
 -- the most jobs that a host can have sent
-abbrev pub most_jobs : (is_open goes_on : Bool) → ℕ → HostRow → ℕ
+abbrev pub most_jobs : (is_open goes_on : Bool) → ℕ → HostOf → ℕ
 most_jobs true goes_on play row = max_jobs * (16384 * plays_behind true play row + length (one_halted row.answers)) + running_jobs row.running
 most_jobs false goes_on play row = max_jobs * (16384 * plays_behind goes_on play row)
 
-pub record IsBounded (is_open : Bool) (batch : ℕ) (later : List ℕ) (play sends : ℕ) (rows : List HostRow) : Type 0 where
-  pub counts : AllWithin is_open (has_later later) play rows
+pub record IsBounded (is_open : Bool) (batch : ℕ) (sizes_left : List ℕ) (play sends : ℕ) (rows : List HostOf) : Type 0 where
+  pub counts : AllWithin is_open (has_batch_left sizes_left) play rows
   pub plays : play ≤ 256
-  pub under_way : OnTrue (is_open || has_later later) (play < 256)
+  pub under_way : OnTrue (is_open || has_batch_left sizes_left) (play < 256)
   pub hosts : length rows ≤ 1048576
   -- a play has as many batches as hosts at most
-  pub batches : batch + length later ≤ 1048576
-  pub jobs : sends ≤ sum_by (most_jobs is_open (has_later later) play) rows
+  pub batches : batch + length sizes_left ≤ 1048576
+  pub jobs : sends ≤ sum_by (most_jobs is_open (has_batch_left sizes_left) play) rows

@@ -13,20 +13,20 @@ use Rattle.pb_plan.specs.Plan.{PlayOf, PlanOf, bare_play, bare_plan, bare_tree}
 use Rattle.pb_play.specs.declared.modules.Module.TheVariants.{DebugVar, SetFact}
 use Rattle.pb_tree.specs.Tree.{Nodes, Nothing, Task, Block, Flush}
 use Rattle.pb_tree.specs.declared.tree.Status.{Status}
-use Rattle.pb_tree.specs.declared.tree.Status.TheVariants.{Active, Failed, Halted, Gone as Lost}
+use Rattle.pb_tree.specs.declared.tree.Status.TheVariants as status
 use Rattle.pb_state.specs.BatchRows.{start, send, went, threes, all_three, led_to, may, is_second}
 use Rattle.pb_state.specs.BlockRows.{says, runs, refuses, ends, caught, last}
 use Rattle.pb_state.specs.HandlerRows.{flush}
-use Rattle.pb_one_host.specs.declared.decided.Decided.{Decided}
-use Rattle.pb_one_host.specs.declared.decided.Done.{Done}
+use Rattle.pb_host.specs.declared.step_result.StepResult.{StepResult}
+use Rattle.pb_host.specs.declared.step_result.TaskDone.{TaskDone}
 use Rattle.pb_state.specs.declared.event.Event.{Event}
 use Rattle.pb_state.specs.declared.event.Event.TheVariants.{Open, Report as Reported, Turn, Close}
-use Rattle.pb_one_host.specs.declared.row.Counts.{Counts}
-use Rattle.pb_one_host.specs.FactRows.{on_facts}
+use Rattle.pb_host.specs.declared.host.Counts.{Counts}
+use Rattle.pb_host.specs.FactRows.{on_facts}
 use Rattle.pb_state.specs.Machine.{first_state, pending_at}
 use Rattle.pb_state.specs.Once.{StartOf, starts_from}
 use Rattle.pb_state.specs.Run.{IsLegal}
-use Rattle.pb_one_host.specs.Row.{HostRow, none_counted}
+use Rattle.pb_host.specs.Host.{HostOf, none_counted}
 
 -- a job comes to this
 abbrev comes : ℕ → ℕ → Form → Event
@@ -39,14 +39,14 @@ abbrev failed : ℕ → ℕ → Event
 failed h ticket = comes h ticket badly
 
 abbrev counts_of : PlanOf → List Event → List Counts
-counts_of plan events = map (λ (row : HostRow). row.counts) (led_to plan events).rows
+counts_of plan events = map (λ (row : HostOf). row.counts) (led_to plan events).rows
 
 abbrev statuses_of : PlanOf → List Event → List Status
-statuses_of plan events = map (λ (row : HostRow). row.status) (led_to plan events).rows
+statuses_of plan events = map (λ (row : HostOf). row.status) (led_to plan events).rows
 
 -- the result of the task that the last event ended
 abbrev told_by : PlanOf → List Event → Option Datum
-told_by plan events = option_map_or (λ (d : Decided). option_map (λ (done : Done). done.result) d.done) (led_to plan events).decided None
+told_by plan events = option_map_or (λ (d : StepResult). option_map (λ (done : TaskDone). done.result) d.done) (led_to plan events).step_result None
 
 -- a play of two hosts, with these nodes behind its first Flush
 abbrev twos : List PlayOf → PlanOf
@@ -94,7 +94,7 @@ unfolding on_facts
 half_may_fail = (refl, refl)
 
 less_than_half : IsLegal (limited 49) 256 (two_fail ++ Close ∷ []) × (counts_of (limited 49) two_fail ≡ one_failed ∷ one_done ∷ one_failed ∷ one_done ∷ [])
-    × (statuses_of (limited 49) two_fail ≡ Failed ∷ Halted ∷ Failed ∷ Halted ∷ [])
+    × (statuses_of (limited 49) two_fail ≡ status.Failed ∷ status.Halted ∷ status.Failed ∷ status.Halted ∷ [])
 unfolding on_facts
 less_than_half = (refl, refl, refl)
 
@@ -144,7 +144,7 @@ all_end = twos (both (Task (Task last)) (once ends ∷ says ∷ []) ∷ [])
 abbrev all_end_run : List Event
 all_end_run = Open ∷ start 0 ∷ Turn ∷ Close ∷ []
 
-ends_for_all : IsLegal all_end 256 all_end_run × (counts_of all_end all_end_run ≡ none_counted ∷ none_counted ∷ []) × (statuses_of all_end all_end_run ≡ Active ∷ Active ∷ [])
+ends_for_all : IsLegal all_end 256 all_end_run × (counts_of all_end all_end_run ≡ none_counted ∷ none_counted ∷ []) × (statuses_of all_end all_end_run ≡ status.Active ∷ status.Active ∷ [])
 unfolding on_facts
 ends_for_all = (refl, refl, refl)
 
@@ -187,7 +187,7 @@ fatal_alike : IsLegal (fatal_for_all 1) 256 one_by_one × (counts_of (fatal_for_
 unfolding on_facts
 fatal_alike = (refl, refl, refl, refl)
 
-halted_at_turn : (statuses_of (fatal_for_all 256) before_turn ≡ Failed ∷ Active ∷ Active ∷ []) × (statuses_of (fatal_for_all 256) all_at_once ≡ Failed ∷ Halted ∷ Halted ∷ [])
+halted_at_turn : (statuses_of (fatal_for_all 256) before_turn ≡ status.Failed ∷ status.Active ∷ status.Active ∷ []) × (statuses_of (fatal_for_all 256) all_at_once ≡ status.Failed ∷ status.Halted ∷ status.Halted ∷ [])
 unfolding on_facts
 halted_at_turn = (refl, refl)
 
@@ -199,7 +199,7 @@ abbrev block_run : List Event
 block_run = both_run badly ++ start 0 ∷ start 1 ∷ Turn ∷ Close ∷ []
 
 block_halts : IsLegal fatal_block 256 block_run × (counts_of fatal_block block_run ≡ record none_counted { ok = 1; failed = 1 } ∷ two_done ∷ [])
-    × (statuses_of fatal_block block_run ≡ Failed ∷ Halted ∷ [])
+    × (statuses_of fatal_block block_run ≡ status.Failed ∷ status.Halted ∷ [])
 unfolding on_facts
 block_halts = (refl, refl, refl)
 
@@ -231,14 +231,14 @@ drops =
     (record (bare_play (codes "all") (record { nodes = Flush (Block (Task Nothing) (Task Nothing) Nothing (Task last)); handlers = 0; force_handlers = false })
     (caught (fatal runs) ∷ says ∷ says ∷ []) all_three) { serial = Number (pos 2) ∷ [] } ∷ [])
 
-gone_is_fatal : IsLegal drops 256 (both_run (NoAnswer []) ++ Close ∷ []) × (statuses_of drops (both_run (NoAnswer [])) ≡ Lost ∷ Halted ∷ Active ∷ [])
+gone_is_fatal : IsLegal drops 256 (both_run (NoAnswer []) ++ Close ∷ []) × (statuses_of drops (both_run (NoAnswer [])) ≡ status.Gone ∷ status.Halted ∷ status.Active ∷ [])
     × (may drops (both_run (NoAnswer []) ++ Close ∷ []) Open ≡ false)
 unfolding on_facts
 gone_is_fatal = (refl, refl, refl)
 
 -- a failure that is caught isn't fatal: the batch goes on, and the next one opens
 caught_isnt : IsLegal drops 256 (both_run badly ++ start 0 ∷ Turn ∷ start 0 ∷ start 1 ∷ Turn ∷ Close ∷ Open ∷ start 2 ∷ [])
-    × (statuses_of drops (both_run badly) ≡ Active ∷ Active ∷ Active ∷ [])
+    × (statuses_of drops (both_run badly) ≡ status.Active ∷ status.Active ∷ status.Active ∷ [])
 unfolding on_facts
 caught_isnt = (refl, refl)
 
@@ -253,7 +253,7 @@ abbrev dropped_run : List Event
 dropped_run = Open ∷ start 0 ∷ start 1 ∷ Turn ∷ start 0 ∷ Turn ∷ Close ∷ []
 
 drops_later : IsLegal drops_rest 256 (dropped_run ++ Open ∷ start 1 ∷ start 2 ∷ Turn ∷ Close ∷ []) × ((led_to drops_rest (dropped_run ++ Open ∷ [])).play ≡ 1)
-    × (statuses_of drops_rest dropped_run ≡ Failed ∷ Active ∷ Active ∷ [])
+    × (statuses_of drops_rest dropped_run ≡ status.Failed ∷ status.Active ∷ status.Active ∷ [])
 unfolding on_facts
 drops_later = (refl, refl, refl)
 
@@ -264,7 +264,7 @@ copies_break = twos (both (Block (Task Nothing) Nothing (Task (Task Nothing)) la
 abbrev copies_run : List Event
 copies_run = Open ∷ start 0 ∷ Turn ∷ start 0 ∷ start 1 ∷ Turn ∷ start 0 ∷ start 1 ∷ Turn ∷ Close ∷ []
 
-copies_broken : IsLegal copies_break 256 copies_run × (statuses_of copies_break copies_run ≡ Failed ∷ Failed ∷ [])
+copies_broken : IsLegal copies_break 256 copies_run × (statuses_of copies_break copies_run ≡ status.Failed ∷ status.Failed ∷ [])
     × (counts_of copies_break copies_run ≡ record none_counted { ok = 2; failed = 1 } ∷ record none_counted { ok = 2 } ∷ [])
 unfolding on_facts
 copies_broken = (refl, refl, refl)
@@ -277,7 +277,7 @@ abbrev halted_run : List Event
 halted_run = both_run badly ++ start 0 ∷ start 1 ∷ Turn ∷ start 0 ∷ start 1 ∷ Turn ∷ Close ∷ []
 
 halted_anew : IsLegal limited_block 256 halted_run × (counts_of limited_block halted_run ≡ record none_counted { ok = 2; failed = 1 } ∷ record none_counted { ok = 3; changed = 1 } ∷ [])
-    × (statuses_of limited_block halted_run ≡ Failed ∷ Halted ∷ [])
+    × (statuses_of limited_block halted_run ≡ status.Failed ∷ status.Halted ∷ [])
 unfolding on_facts
 halted_anew = (refl, refl, refl)
 
@@ -286,7 +286,7 @@ abbrev fatal_always : PlanOf
 fatal_always = twos (both (Block Nothing Nothing (Task (Task Nothing)) last) (fatal runs ∷ says ∷ []) ∷ [])
 
 halted_within : IsLegal fatal_always 256 (both_run badly ++ Close ∷ []) × (counts_of fatal_always (both_run badly) ≡ one_failed ∷ one_done ∷ [])
-    × (statuses_of fatal_always (both_run badly) ≡ Failed ∷ Halted ∷ [])
+    × (statuses_of fatal_always (both_run badly) ≡ status.Failed ∷ status.Halted ∷ [])
 unfolding on_facts
 halted_within = (refl, refl, refl)
 

@@ -9,9 +9,9 @@ use Rattle.pb_plan.specs.Plan.{PlanOf, bare_inventory, bare_plan, bare_play, bar
 use Rattle.pb_play.specs.declared.modules.Module.TheVariants.{SetFact, Shell}
 use Rattle.pb_play.specs.declared.task.Task.{Task}
 use Rattle.pb_state.specs.declared.event.Event.TheVariants.{Open, Start}
-use Rattle.pb_one_host.specs.FactRows.{on_facts}
+use Rattle.pb_host.specs.FactRows.{on_facts}
 use Rattle.pb_state.specs.Jobs.{job_of}
-use Rattle.pb_one_host.specs.Row.{HostRow}
+use Rattle.pb_host.specs.Host.{HostOf}
 use Rattle.pb_state.specs.Run.{state_after_under}
 use Rattle.pb_state.specs.State.{State}
 
@@ -76,7 +76,7 @@ abbrev gives : Task → PlaceOf
 gives task = record (place_of task) { delegate_facts = true }
 
 abbrev learnt : PlaceOf → List FactsOf
-learnt place = map (λ (row : HostRow). row.facts) (started place).rows
+learnt place = map (λ (row : HostOf). row.facts) (started place).rows
 
 abbrev x_is_one : FactsOf
 x_is_one = record no_facts { set = (codes "x", int (pos 1)) ∷ [] }

@@ -8,14 +8,14 @@ use Rattle.pb_plan.specs.Plan.{PlanOf, bare_play}
 use Rattle.pb_tree.specs.Tree.{Nodes, Nothing, Task, Block, Flush}
 use Rattle.pb_tree.specs.declared.tree.Status.TheVariants.{Active, Failed}
 use Rattle.pb_state.specs.BlockRows.{says, runs, refuses, caught, last, alone, start, after_of, statuses, starts_at}
-use Rattle.pb_one_host.specs.declared.decided.Decided.{Decided}
-use Rattle.pb_one_host.specs.declared.decided.Done.{Done}
+use Rattle.pb_host.specs.declared.step_result.StepResult.{StepResult}
+use Rattle.pb_host.specs.declared.step_result.TaskDone.{TaskDone}
 use Rattle.pb_state.specs.declared.event.Event.{Event}
 use Rattle.pb_state.specs.declared.event.Event.TheVariants.{Open, Send, Report as Reported, Turn, Close}
-use Rattle.pb_one_host.specs.declared.row.Counts.{Counts}
-use Rattle.pb_one_host.specs.FactRows.{on_facts}
+use Rattle.pb_host.specs.declared.host.Counts.{Counts}
+use Rattle.pb_host.specs.FactRows.{on_facts}
 use Rattle.pb_state.specs.Machine.{pending_at}
-use Rattle.pb_one_host.specs.Row.{HostRow, none_counted}
+use Rattle.pb_host.specs.Host.{HostOf, none_counted}
 use Rattle.pb_state.specs.Run.{IsLegalUnder}
 
 -- a play's handlers, of which each Flush has a place for each
@@ -39,11 +39,11 @@ abbrev pub command : ℕ → List Event
 command ticket = command_to ticket (Ran (pos 0) [] [])
 
 abbrev pub counts_of : PlanOf → List Event → List Counts
-counts_of plan events = map (λ (row : HostRow). row.counts) (after_of plan events).rows
+counts_of plan events = map (λ (row : HostOf). row.counts) (after_of plan events).rows
 
 -- the handlers that the last event's task notified and that weren't pending, and those that are pending now
 abbrev pub noted_by : PlanOf → List Event → List ℕ
-noted_by plan events = option_map_or (λ (d : Decided). option_map_or (λ (done : Done). done.notified) d.done []) (after_of plan events).decided []
+noted_by plan events = option_map_or (λ (d : StepResult). option_map_or (λ (done : TaskDone). done.notified) d.done []) (after_of plan events).step_result []
 
 abbrev pub pending_of : PlanOf → List Event → List Bool
 pending_of plan events = pending_at (after_of plan events) 0

@@ -12,13 +12,13 @@ use Rattle.pb_outcome.specs.declared.job.Call.{Call}
 use Rattle.pb_outcome.specs.declared.job.Job.{Job}
 use Rattle.pb_outcome.specs.Items.{next_item}
 use Rattle.pb_plan.specs.Plan.{PlayOf, PlanOf}
-use Rattle.pb_sight.specs.Delegates.{host_named}
-use Rattle.pb_one_host.specs.declared.row.Running.{Running}
-use Rattle.pb_one_host.specs.Attempts.{attempt_next}
-use Rattle.pb_one_host.specs.Row.{HostRow}
+use Rattle.pb_task_vars.specs.Delegates.{host_named}
+use Rattle.pb_host.specs.declared.host.Running.{Running}
+use Rattle.pb_host.specs.Attempts.{attempt_next}
+use Rattle.pb_host.specs.Host.{HostOf}
 use Rattle.pb_state.specs.State.{State}
 use Rattle.pb_state.specs.Machine.{open_play}
-use Rattle.pb_one_host.specs.Calls.{call_in, delegate_in}
+use Rattle.pb_host.specs.Calls.{call_in, delegate_in}
 
 -- which attempt at which item a job is, and how many seconds lie before it
 pub record AttemptOf : Type 0 where
@@ -73,7 +73,7 @@ item_job plan number host ticket play r n = option_map_or (placed_job plan numbe
 abbrev pub running_job : PlanOf → ℕ → HostNo → Ticket → PlayOf → Running → Option Job
 running_job plan number host ticket play r = option_map_or (item_job plan number host ticket play r) (next_item r.items) None
 
-abbrev pub row_job : PlanOf → ℕ → HostNo → Ticket → PlayOf → HostRow → Option Job
+abbrev pub row_job : PlanOf → ℕ → HostNo → Ticket → PlayOf → HostOf → Option Job
 row_job plan number host ticket play row = option_map_or (running_job plan number host ticket play) row.running None
 
 abbrev pub job_in : PlanOf → State → HostNo → Ticket → PlayOf → Option Job

@@ -10,9 +10,9 @@ use Rattle.pb_variables.specs.Magic.{hostvars, hosts_magic}
 use Rattle.pb_variables.specs.Renewed.{LearnsAlone}
 use Rattle.pb_places.specs.Place.{PlaceOf}
 use Rattle.pb_plan.specs.Plan.{PlayOf, PlanOf}
-use Rattle.pb_sight.specs.Learning.{gives_of}
-use Rattle.pb_one_host.specs.declared.row.Running.{Running}
-use Rattle.pb_one_host.specs.Row.{HostRow}
+use Rattle.pb_task_vars.specs.Learning.{gives_of}
+use Rattle.pb_host.specs.declared.host.Running.{Running}
+use Rattle.pb_host.specs.Host.{HostOf}
 use Rattle.pb_state.specs.declared.event.Event.{Event}
 use Rattle.pb_state.specs.declared.event.Event.TheVariants.{Open, Start, Send, Report as Reported, Turn, Close, Stop, Forks}
 use Rattle.pb_state.specs.State.{State}
@@ -40,7 +40,7 @@ teaches_nothing_at play p = option_map_or teaches_nothing (slice_get play.places
 
 -- the place of the task that a host runs
 abbrev pub running_at : State → ℕ → Option ℕ
-running_at s h = option_map_or (λ (row : HostRow). option_map_or (λ (r : Running). Some r.place) row.running None) (slice_get s.rows h) None
+running_at s h = option_map_or (λ (row : HostOf). option_map_or (λ (r : Running). Some r.place) row.running None) (slice_get s.rows h) None
 
 abbrev pub start_keeps : State → ℕ → PlayOf → Bool
 start_keeps s h play = option_map_or (teaches_nothing_at play) (next_at s h) true

@@ -4,10 +4,10 @@
 use Rattle.std.specs.Prelude.{◌≡◌, ℕ, Bool, true, false, List, Option, Some}
 use Rattle.pb_outcome.specs.declared.job.Report.{Report}
 use Rattle.pb_plan.specs.Plan.{PlayOf, PlanOf}
-use Rattle.pb_sight.specs.Results.{items_at}
+use Rattle.pb_task_vars.specs.Results.{items_at}
 use Rattle.pb_independence.specs.Independent.{is_independent}
-use Rattle.pb_one_host.specs.Row.{HostRow, progressed, sent, reported}
-use Rattle.pb_all_hosts.specs.Hosts.{change}
+use Rattle.pb_host.specs.Host.{HostOf, progressed, sent, reported}
+use Rattle.pb_hosts.specs.Hosts.{change}
 use Rattle.pb_state.specs.declared.event.Event.{Event}
 use Rattle.pb_state.specs.declared.event.Event.TheVariants.{Open, Start, Send, Report as Reported, Turn, Close, Stop, Forks}
 use Rattle.pb_state.specs.Machine.{after, open_play, next_at}
@@ -18,7 +18,7 @@ abbrev pub under : ℕ → PlanOf → PlanOf
 under forks plan = record plan { forks = forks }
 
 -- a task as it starts on a host, which sees of all that hosts have learnt only what is its own
-abbrev pub starts : PlanOf → PlayOf → (host p : ℕ) → HostRow → HostRow
+abbrev pub starts : PlanOf → PlayOf → (host p : ℕ) → HostOf → HostOf
 starts plan play host p row = progressed plan.inventory play p (items_at plan play host row.facts p) row
 
 -- in an open play
@@ -38,16 +38,16 @@ IsLocal plan old new event = (forks : ℕ) (play : PlayOf) → is_independent pl
 
 -- what of a state says where the hosts of a batch are, and which batches are left
 pub record Place : Type 0 where
-  pub rows : List HostRow
+  pub rows : List HostOf
   pub play : ℕ
   pub batch : ℕ
-  pub later : List ℕ
+  pub sizes_left : List ℕ
   pub is_open : Bool
   pub place : Option ℕ
   pub ended : Bool
 
 abbrev pub place_in : State → Place
-place_in s = record { rows = s.rows; play = s.play; batch = s.batch; later = s.later; is_open = s.is_open; place = s.place; ended = s.ended }
+place_in s = record { rows = s.rows; play = s.play; batch = s.batch; sizes_left = s.sizes_left; is_open = s.is_open; place = s.place; ended = s.ended }
 
 abbrev pub is_shared : Event → Bool
 is_shared Open = true

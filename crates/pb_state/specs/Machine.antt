@@ -12,23 +12,23 @@ use Rattle.pb_facts.specs.Facts.{FactsOf, no_facts}
 use Rattle.pb_outcome.specs.declared.item.Item.{Item}
 use Rattle.pb_outcome.specs.declared.job.Report.{Report}
 use Rattle.pb_outcome.specs.Items.{numbered}
-use Rattle.pb_sight.specs.Results.{items_at}
-use Rattle.pb_sight.specs.Seen.{seen_with}
+use Rattle.pb_task_vars.specs.Results.{items_at}
+use Rattle.pb_task_vars.specs.WithHostvars.{seen_with}
 use Rattle.pb_batches.specs.Sizes.{batch_sizes}
 use Rattle.pb_plan.specs.Plan.{PlayOf, PlanOf}
 use Rattle.pb_strategies.specs.declared.strategy.Strategy.{Strategy}
 use Rattle.pb_strategies.specs.MayStart.{may_start, turn_ready, is_linear, ready as starting}
 use Rattle.pb_state.specs.declared.event.Event.{Event}
 use Rattle.pb_state.specs.declared.event.Event.TheVariants.{Open, Start, Send, Report as Reported, Turn, Close, Stop, Forks}
-use Rattle.pb_all_hosts.specs.Batches.{has_later, called_count, joined_first}
-use Rattle.pb_one_host.specs.Row.{HostRow, first_rows, next_place, sent, reported, called, left, progressed}
+use Rattle.pb_hosts.specs.Batches.{has_batch_left, play_host_count, joined_first}
+use Rattle.pb_host.specs.Host.{HostOf, first_rows, next_place, sent, reported, as_play_begins, left, progressed}
 use Rattle.pb_state.specs.State.{State}
 use Rattle.pb_state.specs.Strategies.{view_of}
-use Rattle.pb_all_hosts.specs.Turn.{BatchOf, turned_by}
-use Rattle.pb_one_host.specs.Runs.{is_in, is_running, has_send, may_send_item, awaits, item_of, attempt_of}
-use Rattle.pb_one_host.specs.Decides.{decided_with, report_decides}
-use Rattle.pb_all_hosts.specs.Hosts.{at_row, least_place, first_play, change, pending_in}
-use Rattle.pb_all_hosts.specs.Giving.{given_to, gifts_at, report_gives}
+use Rattle.pb_hosts.specs.Turn.{BatchOf, turned_by}
+use Rattle.pb_host.specs.Runs.{is_in, is_running, has_send, may_send_item, awaits, item_of, attempt_of}
+use Rattle.pb_host.specs.Decides.{step_result_with, report_result}
+use Rattle.pb_hosts.specs.Hosts.{at_row, least_place, first_play, change, pending_in}
+use Rattle.pb_hosts.specs.Giving.{with_delegated, gifts_at, report_gives}
 
 -- the play whose batch is open
 abbrev pub open_play : PlanOf → State → Option PlayOf
@@ -52,7 +52,7 @@ next_play plan s = first_play s.rows s.play (drop s.play plan.plays)
 
 -- a batch is left: of the play that goes on, or of one that is still to begin
 abbrev pub is_left : PlanOf → State → Bool
-is_left plan s = if has_later s.later then is_some (slice_get plan.plays s.play) else is_some (next_play plan s)
+is_left plan s = if has_batch_left s.sizes_left then is_some (slice_get plan.plays s.play) else is_some (next_play plan s)
 
 abbrev pub may_open : PlanOf → State → Bool
 may_open plan s = not s.stopped && not s.is_open && not s.ended && is_left plan s
@@ -84,7 +84,7 @@ possible plan s Stop = true
 possible plan s (Forks n) = nat_le 1 n && nat_le n s.pool
 
 -- the hosts that have a send or a start; in a run that was told to stop none has a send
-abbrev pub with_sends : Bool → List HostRow → List Bool → List Bool
+abbrev pub with_sends : Bool → List HostOf → List Bool → List Bool
 with_sends stopped rows starts = if stopped then starts else zip2 (λ (a b : Bool). a || b) starts (map has_send rows)
 
 abbrev pub ready_in : State → PlayOf → List Bool
@@ -98,64 +98,64 @@ pending_at s h = pending_in s.rows h
 
 -- what each event leads to
 -- under the linear strategy the hosts of a batch go from place to place together, and else there is no current place
-abbrev pub first_by : Strategy → List HostRow → Option ℕ
+abbrev pub first_by : Strategy → List HostOf → Option ℕ
 first_by strategy rows = if is_linear strategy then least_place rows else None
 
 abbrev pub with_place : Option ℕ → State → State
 with_place place s = record s { place = place }
 
 -- a batch of a play is open, with these sizes of those behind it
-abbrev pub opened_with : State → ℕ → ℕ → List ℕ → List HostRow → PlayOf → State
-opened_with s n batch later rows play =
+abbrev pub opened_with : State → ℕ → ℕ → List ℕ → List HostOf → PlayOf → State
+opened_with s n batch sizes_left rows play =
     record s {
       rows = rows;
       play = n;
       batch = batch;
-      later = later;
+      sizes_left = sizes_left;
       is_open = true;
       place = first_by play.strategy rows;
       begun = replicate (size_of play.tree) false;
-      decided = None;
+      step_result = None;
     }
 
 -- the first of the batches of these sizes opens
-abbrev pub opened_by : State → ℕ → ℕ → List ℕ → List HostRow → PlayOf → ℕ → State
+abbrev pub opened_by : State → ℕ → ℕ → List ℕ → List HostOf → PlayOf → ℕ → State
 opened_by s n batch sizes rows play size = opened_with s n batch (drop 1 sizes) (joined_first play.tree size rows) play
 
-abbrev pub opened : State → ℕ → ℕ → List ℕ → List HostRow → PlayOf → State
+abbrev pub opened : State → ℕ → ℕ → List ℕ → List HostOf → PlayOf → State
 opened s n batch sizes rows play = option_map_or (opened_by s n batch sizes rows play) (slice_get sizes 0) s
 
 -- the play goes on with its next batch
 abbrev pub goes_on : State → PlayOf → State
-goes_on s play = opened s s.play (s.batch + 1) s.later s.rows play
+goes_on s play = opened s s.play (s.batch + 1) s.sizes_left s.rows play
 
 -- a play begins: its hosts are those of its own that are active now
 abbrev pub begins : State → ℕ → PlayOf → State
-begins s n play = opened s n 0 (batch_sizes play.serial (called_count play.hosts s.rows)) (map (called play.hosts) s.rows) play
+begins s n play = opened s n 0 (batch_sizes play.serial (play_host_count play.hosts s.rows)) (map (as_play_begins play.hosts) s.rows) play
 
 abbrev pub begins_at : PlanOf → State → ℕ → State
 begins_at plan s n = option_map_or (begins s n) (slice_get plan.plays n) s
 
 abbrev pub after_open : PlanOf → State → State
 after_open plan s =
-    if has_later s.later then option_map_or (goes_on s) (slice_get plan.plays s.play) s
+    if has_batch_left s.sizes_left then option_map_or (goes_on s) (slice_get plan.plays s.play) s
     else option_map_or (begins_at plan s) (next_play plan s) s
 
 abbrev pub start_with : InventoryOf → State → ℕ → PlayOf → ℕ → List Item → State
 start_with inventory s h play p items =
     record s {
-      rows = given_to (gifts_at inventory play p h items) (change s.rows h (progressed inventory play p items));
+      rows = with_delegated (gifts_at inventory play p h items) (change s.rows h (progressed inventory play p items));
       begun = slice_set s.begun p true;
-      decided = Some (decided_with play p (pending_at s h) (not (is_member s.begun p)) (numbered 0 items) items);
+      step_result = Some (step_result_with play p (pending_at s h) (not (is_member s.begun p)) (numbered 0 items) items);
     }
 
 -- what a host has learnt; there is nothing of a number that is no host's
 abbrev pub facts_at : State → ℕ → FactsOf
-facts_at s h = option_map_or (λ (row : HostRow). row.facts) (slice_get s.rows h) no_facts
+facts_at s h = option_map_or (λ (row : HostOf). row.facts) (slice_get s.rows h) no_facts
 
 -- what the hosts have learnt, and the plan as tasks see it then
-abbrev pub learnt_by : List HostRow → List FactsOf
-learnt_by rows = map (λ (row : HostRow). row.facts) rows
+abbrev pub learnt_by : List HostOf → List FactsOf
+learnt_by rows = map (λ (row : HostOf). row.facts) rows
 
 abbrev pub plan_seen : PlanOf → State → PlanOf
 plan_seen plan s = seen_with plan (learnt_by s.rows)
@@ -171,14 +171,14 @@ abbrev pub started_in : PlanOf → State → ℕ → PlayOf → State
 started_in plan s h play = option_map_or (start_at plan s h play) (next_at s h) s
 
 abbrev pub sent_in : State → ℕ → Ticket → PlayOf → State
-sent_in s h ticket play = record s { rows = change s.rows h (sent ticket); sends = s.sends + 1; decided = None }
+sent_in s h ticket play = record s { rows = change s.rows h (sent ticket); sends = s.sends + 1; step_result = None }
 
 -- a report, where tasks see the plan so
 abbrev pub reported_seen : PlanOf → State → Report → PlayOf → State
 reported_seen plan s r play =
     record s {
-      rows = given_to (report_gives plan play r.outcome r.host.0 s.rows) (change s.rows r.host.0 (reported plan play r.outcome));
-      decided = option_map_or (report_decides plan play r.outcome) (slice_get s.rows r.host.0) None;
+      rows = with_delegated (report_gives plan play r.outcome r.host.0 s.rows) (change s.rows r.host.0 (reported plan play r.outcome));
+      step_result = option_map_or (report_result plan play r.outcome) (slice_get s.rows r.host.0) None;
     }
 
 abbrev pub reported_in : PlanOf → State → Report → PlayOf → State
@@ -186,14 +186,14 @@ reported_in plan s r play = reported_seen (plan_seen plan s) s r play
 
 -- the third part of a turn: the current place becomes the least next place of the batch
 abbrev pub moved : State → BatchOf → State
-moved s batch = record s { rows = batch.rows; later = batch.later; place = least_place batch.rows; decided = None }
+moved s batch = record s { rows = batch.rows; sizes_left = batch.sizes_left; place = least_place batch.rows; step_result = None }
 
 abbrev pub batch_of : State → BatchOf
-batch_of s = record { rows = s.rows; later = s.later }
+batch_of s = record { rows = s.rows; sizes_left = s.sizes_left }
 
 -- a state with these rows and later batches
 abbrev pub with_batch : BatchOf → State → State
-with_batch batch s = record s { rows = batch.rows; later = batch.later }
+with_batch batch s = record s { rows = batch.rows; sizes_left = batch.sizes_left }
 
 abbrev pub turned_in : InventoryOf → State → PlayOf → State
 turned_in inventory s play = moved s (turned_by inventory play (batch_of s) s.place)
@@ -206,18 +206,18 @@ abbrev pub closed : State → State
 closed s =
     record s {
       rows = map left s.rows;
-      play = play_behind (has_later s.later) s.play;
+      play = play_behind (has_batch_left s.sizes_left) s.play;
       is_open = false;
       begun = [];
       ended = not (list_any is_in s.rows);
-      decided = None;
+      step_result = None;
     }
 
 abbrev pub stopped : State → State
-stopped s = record s { stopped = true; decided = None }
+stopped s = record s { stopped = true; step_result = None }
 
 abbrev pub with_forks : State → ℕ → State
-with_forks s n = record s { forks = n; decided = None }
+with_forks s n = record s { forks = n; step_result = None }
 
 abbrev pub after : PlanOf → State → Event → State
 after plan s Open = after_open plan s
@@ -235,7 +235,7 @@ first_state plan forks pool =
       rows = first_rows 0 (length plan.inventory.hosts);
       play = 0;
       batch = 0;
-      later = [];
+      sizes_left = [];
       is_open = false;
       place = None;
       begun = [];
@@ -244,5 +244,5 @@ first_state plan forks pool =
       sends = 0;
       stopped = false;
       ended = false;
-      decided = None;
+      step_result = None;
     }

@@ -5,9 +5,9 @@ use Rattle.std.specs.Option.{option_map_or}
 use Rattle.pb_ids.specs.declared.numbers.HostNo.{HostNo}
 use Rattle.pb_state.specs.declared.event.Event.{Event}
 use Rattle.pb_state.specs.declared.event.Event.TheVariants.{Start, Send}
-use Rattle.pb_one_host.specs.declared.row.Running.{Running}
+use Rattle.pb_host.specs.declared.host.Running.{Running}
 use Rattle.pb_plan.specs.Plan.{PlanOf}
-use Rattle.pb_one_host.specs.Row.{HostRow}
+use Rattle.pb_host.specs.Host.{HostOf}
 use Rattle.pb_state.specs.State.{State}
 use Rattle.pb_state.specs.Machine.{after, next_at, first_state}
 use Rattle.pb_state.specs.Run.{IsLegalUnder}
@@ -27,7 +27,7 @@ pub record SendOf : Type 0 where
   pub attempt : ℕ
 
 -- the place of the task that a host runs
-abbrev pub running_place : HostRow → Option ℕ
+abbrev pub running_place : HostOf → Option ℕ
 running_place row = option_map (λ (r : Running). r.place) row.running
 
 abbrev pub place_run_by : State → HostNo → Option ℕ

@@ -4,17 +4,17 @@ use Rattle.std.specs.List.{list_any}
 use Rattle.pb_outcome.specs.Items.{is_over}
 use Rattle.pb_plan.specs.Plan.{PlayOf, PlanOf}
 use Rattle.pb_strategies.specs.MayStart.{is_linear}
-use Rattle.pb_one_host.specs.declared.row.Running.{Running}
-use Rattle.pb_all_hosts.specs.Batches.{has_later}
-use Rattle.pb_one_host.specs.Row.{HostRow}
+use Rattle.pb_host.specs.declared.host.Running.{Running}
+use Rattle.pb_hosts.specs.Batches.{has_batch_left}
+use Rattle.pb_host.specs.Host.{HostOf}
 use Rattle.pb_state.specs.State.{State}
-use Rattle.pb_one_host.specs.Runs.{is_running}
-use Rattle.pb_all_hosts.specs.Hosts.{has_hosts, least_place}
+use Rattle.pb_host.specs.Runs.{is_running}
+use Rattle.pb_hosts.specs.Hosts.{has_hosts, least_place}
 use Rattle.pb_state.specs.Machine.{open_play}
 
 -- a batch is left: of the play that goes on, or of the plays that are left one has an active host of its own
 abbrev pub has_more : PlanOf → State → Bool
-has_more plan s = if has_later s.later then is_some (slice_get plan.plays s.play) else list_any (has_hosts s.rows) (drop s.play plan.plays)
+has_more plan s = if has_batch_left s.sizes_left then is_some (slice_get plan.plays s.play) else list_any (has_hosts s.rows) (drop s.play plan.plays)
 
 abbrev pub IsOver : PlanOf → State → Type 0
 IsOver plan s = (s.stopped ≡ true) ⊎ (s.ended ≡ true) ⊎ ((s.is_open ≡ false) × (has_more plan s ≡ false))
@@ -36,7 +36,7 @@ abbrev pub IsUnfinished : Option Running → Type 0
 IsUnfinished None = Unit {0}
 IsUnfinished (Some r) = is_over r.items ≡ false
 
-abbrev pub AreUnfinished : List HostRow → Type 0
+abbrev pub AreUnfinished : List HostOf → Type 0
 AreUnfinished [] = Unit {0}
 AreUnfinished (row ∷ rows) = IsUnfinished row.running × AreUnfinished rows
 

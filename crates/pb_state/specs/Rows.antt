@@ -3,14 +3,14 @@ use Rattle.std.specs.Prelude.{◌≡◌, Bool, true, false, List, [], ◌∷◌,
 use Rattle.pb_value.specs.Datum.{text}
 use Rattle.pb_tree.specs.declared.tree.Status.TheVariants.{Failed}
 use Rattle.pb_play.specs.declared.modules.Module.TheVariants.{Debug}
-use Rattle.pb_sight.specs.Results.{on_tasks}
+use Rattle.pb_task_vars.specs.Results.{on_tasks}
 use Rattle.pb_state.specs.declared.event.Event.{Event}
 use Rattle.pb_state.specs.declared.event.Event.TheVariants.{Open, Start, Turn, Close}
 use Rattle.pb_places.specs.Place.{bare_place}
 use Rattle.pb_plan.specs.Plan.{PlayOf, PlanOf, bare_play, bare_plan, bare_tree}
-use Rattle.pb_one_host.specs.Row.{HostRow, first_row}
+use Rattle.pb_host.specs.Host.{HostOf, first_row}
 use Rattle.pb_state.specs.State.{State}
-use Rattle.pb_all_hosts.specs.Hosts.{first_play}
+use Rattle.pb_hosts.specs.Hosts.{first_play}
 use Rattle.pb_state.specs.Machine.{possible}
 use Rattle.pb_state.specs.Run.{IsLegalUnder, state_after_under}
 
@@ -32,7 +32,7 @@ abbrev b : Event
 b = Start (record { 0 = 1 })
 
 abbrev batch_of : State → List Bool
-batch_of s = map (λ (row : HostRow). row.in_batch) s.rows
+batch_of s = map (λ (row : HostOf). row.in_batch) s.rows
 
 abbrev whole : List Event
 whole = Open ∷ a ∷ Turn ∷ Close ∷ Open ∷ b ∷ Turn ∷ Close ∷ []
@@ -64,7 +64,7 @@ unfolding on_tasks
 no_play_left = refl
 
 -- so is a play whose hosts failed
-abbrev failed_row : HostRow
+abbrev failed_row : HostOf
 failed_row = record (first_row 0) { status = Failed }
 
 passes_failed : first_play (failed_row ∷ first_row 1 ∷ []) 0 (play_on (true ∷ []) ∷ play_on (true ∷ true ∷ []) ∷ []) ≡ Some 1

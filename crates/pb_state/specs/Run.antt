@@ -5,7 +5,7 @@ use Rattle.pb_state.specs.declared.event.Event.{Event}
 use Rattle.pb_state.specs.declared.event.Event.TheVariants.{Open, Start, Send, Report as Reported, Turn, Close, Stop, Forks}
 use Rattle.pb_plan.specs.Plan.{PlanOf}
 use Rattle.pb_state.specs.State.{State}
-use Rattle.pb_one_host.specs.Runs.{is_out}
+use Rattle.pb_host.specs.Runs.{is_out}
 use Rattle.pb_state.specs.Machine.{possible, after, first_state}
 
 -- one step of the machine

@@ -1,7 +1,7 @@
 -- Worked examples: each is proved by computing both sides.
 use Rattle.std.specs.Prelude.{◌≡◌, ℕ, true, false, [], ◌∷◌, refl}
 use Rattle.pb_plan.specs.Plan.{PlanOf}
-use Rattle.pb_one_host.specs.Row.{first_row}
+use Rattle.pb_host.specs.Host.{first_row}
 use Rattle.pb_tree.specs.declared.tree.Status.TheVariants.{Failed, Halted, Gone}
 use Rattle.pb_state.specs.Machine.{first_state}
 use Rattle.pb_state.specs.Through.{first_unbegun, is_done, is_selected}
@@ -10,7 +10,7 @@ use Rattle.pb_state.specs.Through.{first_unbegun, is_done, is_selected}
 active_is_done : is_done (first_row 3) ≡ true
 active_is_done = refl
 
-waiting_is_not : is_done (record (first_row 3) { waits = true }) ≡ false
+waiting_is_not : is_done (record (first_row 3) { awaits_batch = true }) ≡ false
 waiting_is_not = refl
 
 failed_is_not : is_done (record (first_row 3) { status = Failed }) ≡ false
@@ -29,7 +29,7 @@ none_begun plan forks pool = refl
 one_is_open : (plan : PlanOf) (forks pool : ℕ) → first_unbegun (record (first_state plan forks pool) { is_open = true; play = 2 }) ≡ 3
 one_is_open plan forks pool = refl
 
-one_goes_on : (plan : PlanOf) (forks pool : ℕ) → first_unbegun (record (first_state plan forks pool) { later = 5 ∷ []; play = 2 }) ≡ 3
+one_goes_on : (plan : PlanOf) (forks pool : ℕ) → first_unbegun (record (first_state plan forks pool) { sizes_left = 5 ∷ []; play = 2 }) ≡ 3
 one_goes_on plan forks pool = refl
 
 -- of no plays none has a host for its own

@@ -5,13 +5,13 @@ use Rattle.pb_ids.specs.declared.numbers.Ticket.{Ticket}
 use Rattle.pb_tree.specs.Tree.{size_of}
 use Rattle.pb_tree.specs.Walk.{one_halted}
 use Rattle.pb_items.specs.Loops.{max_items}
-use Rattle.pb_one_host.specs.declared.row.Running.{Running}
+use Rattle.pb_host.specs.declared.host.Running.{Running}
 use Rattle.pb_plan.specs.Plan.{PlayOf, PlanOf}
-use Rattle.pb_all_hosts.specs.Batches.{has_later}
-use Rattle.pb_one_host.specs.Row.{HostRow, next_place}
-use Rattle.pb_one_host.specs.Attempts.{rank}
+use Rattle.pb_hosts.specs.Batches.{has_batch_left}
+use Rattle.pb_host.specs.Host.{HostOf, next_place}
+use Rattle.pb_host.specs.Attempts.{rank}
 use Rattle.pb_state.specs.State.{State}
-use Rattle.pb_all_hosts.specs.Hosts.{least_place}
+use Rattle.pb_hosts.specs.Hosts.{least_place}
 use Rattle.pb_state.specs.Machine.{open_play, same_place}
 
 -- a task is started, and each of its items is sent and comes back, 101 times at most
@@ -19,10 +19,10 @@ abbrev pub most_events : ℕ
 most_events = 2 * (101 * max_items) + 1
 
 -- of one host: an answer at most for each place of its tree
-abbrev pub places_left : HostRow → ℕ
+abbrev pub places_left : HostOf → ℕ
 places_left row = size_of row.tree - length (one_halted row.answers)
 
-abbrev pub place_work : HostRow → Option ℕ → ℕ
+abbrev pub place_work : HostOf → Option ℕ → ℕ
 place_work row None = 0
 place_work row (Some p) = most_events * places_left row
 
@@ -34,11 +34,11 @@ out_work (Some ticket) = 1
 abbrev pub items_work : Running → ℕ
 items_work r = 2 * (101 * length r.items - rank r.items) - out_work r.out
 
-abbrev pub running_work : HostRow → Option Running → ℕ
+abbrev pub running_work : HostOf → Option Running → ℕ
 running_work row None = place_work row (next_place row)
 running_work row (Some r) = items_work r + most_events * (places_left row - 1)
 
-abbrev pub row_work : HostRow → ℕ
+abbrev pub row_work : HostOf → ℕ
 row_work row = running_work row row.running
 
 -- of a batch that hasn't opened, for n hosts at most
@@ -69,13 +69,13 @@ rest_work plan n sizes number play = batches_work n sizes play + later_work n (d
 
 abbrev pub between_work : PlanOf → State → ℕ
 between_work plan s =
-    if has_later s.later then option_map_or (rest_work plan (length s.rows) s.later s.play) (slice_get plan.plays s.play) 0
+    if has_batch_left s.sizes_left then option_map_or (rest_work plan (length s.rows) s.sizes_left s.play) (slice_get plan.plays s.play) 0
     else later_work (length s.rows) (drop s.play plan.plays)
 
 abbrev pub work_in : PlanOf → State → Option PlayOf → ℕ
 work_in plan s None = between_work plan s
 work_in plan s (Some play) =
-    2 * sum_by row_work s.rows + 1 + turn_work s.place (least_place s.rows) + rest_work plan (length s.rows) s.later s.play play
+    2 * sum_by row_work s.rows + 1 + turn_work s.place (least_place s.rows) + rest_work plan (length s.rows) s.sizes_left s.play play
 
 abbrev pub work : PlanOf → State → ℕ
 work plan s = work_in plan s (open_play plan s)

@@ -4,8 +4,8 @@ ghost use Rattle.std.specs.Prelude.{◌≡◌, ◌<◌, IfOk, slice_get, unwrap_
 ghost use Rattle.std.specs.Option.{option_copied, option_map_or};
 ghost use Rattle.pb_state.specs.Jobs.{connector_named, connector_for, delay_at, item_job, named_job, row_job, job_with};
 
+use pb_host::{Host, Running};
 use pb_ids::{HostNo, Place, PlayNo, Ticket};
-use pb_one_host::{Row, Running};
 use pb_outcome::job::{Call, Job};
 use pb_plan::{Plan, PlanPlay};
 use pb_play::retrying::delay_before;
@@ -88,7 +88,7 @@ pub(crate) fn job_in(
     alloc: Global,
     plan: &Plan,
     play: &PlanPlay,
-    row: &Row,
+    row: &Host,
     head: Head,
 ) -> Result<Option<Job>, AllocError>
     ensures { IfOk result (λ job. job ≡ row_job plan.now head.play.0 head.host head.ticket play.now row.now) }

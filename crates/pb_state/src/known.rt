@@ -1,12 +1,12 @@
 //! The map of `hostvars` that is kept from step to step, which steps leave what the hosts have learnt as it was, and after which one host alone may know more.
 
 ghost use Rattle.std.specs.Prelude.{◌≡◌, true, Option, Some, None, if◌then◌else◌};
-ghost use Rattle.pb_sight.specs.Learning.{gives_of};
+ghost use Rattle.pb_task_vars.specs.Learning.{gives_of};
 ghost use Rattle.pb_state.specs.Known.{gives_nothing, teaches_nothing, teaches_nothing_at, keeps_facts, start_keeps, report_keeps};
 ghost use Rattle.pb_state.specs.Known.{teaches_alone_at, start_alone, report_alone, if_alone, learner};
 
 use crate::event::Event;
-use crate::hosts::Shown;
+use crate::hostvars::Shown;
 use crate::state::EngineState;
 use pb_ids::HostNo;
 use pb_places::Place;

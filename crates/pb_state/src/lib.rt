@@ -2,7 +2,7 @@
 //!
 //! For the layers above: `EngineState` is the state of the strategy machine, and `step` takes exactly the events that
 //! may happen in it, each with exactly its effect; an event that may not happen is `Illegal` and changes nothing.
-//! `Plan` (pb_plan) is what the machine reads of a bundle, `pb_one_host` what a step does to one host, and `pb_all_hosts` what it does to the rows of all.
+//! `Plan` (pb_plan) is what the machine reads of a bundle, `pb_host` what a step does to one host, and `pb_hosts` what it does to the rows of all.
 #![tactic(auto)]
 
 ghost use Rattle.pb_state.specs.Walks.{WalksLead, RowsStay};
@@ -10,16 +10,16 @@ ghost use Rattle.pb_state.specs.Rising.{StartsRise};
 
 mod boxed;
 mod event;
-mod hosts;
+mod hostvars;
 mod job;
 mod known;
-mod later;
+mod sizes_left;
 mod state;
 mod through;
 
 pub use boxed::BoxedReport;
 pub use event::{Event, Trail};
-pub use pb_one_host::{Counts, Decided, Done, Retried, TaskEnd};
+pub use pb_host::{Counts, Retried, StepResult, TaskDone, TaskEnd};
 pub use pb_plan::{Plan, PlanPlay};
 pub use pb_planning::{Bundle, BundleFault, MAX_BYTES, RoleFault};
 pub use state::{EngineState, StepFault};

@@ -13,9 +13,9 @@ mod start;
 mod turn;
 
 use crate::event::Event;
-use crate::later::Later;
-use pb_all_hosts::DueRows;
-use pb_one_host::{Decided, decide};
+use crate::sizes_left::SizesLeft;
+use pb_host::{StepResult, decide};
+use pb_hosts::Hosts;
 use pb_plan::Plan;
 use pb_value::val::Dict;
 use std::alloc::{AllocError, Global};
@@ -44,10 +44,10 @@ impl From<AllocError> for StepFault {
 /// The state of a run.
 pub struct EngineState {
     alloc: Global,
-    rows: DueRows,
+    rows: Hosts,
     play: usize,
     batch: u32,
-    later: Later,
+    sizes_left: SizesLeft,
     is_open: bool,
     place: Option<usize>,
     begun: Vec<bool>,
@@ -56,7 +56,7 @@ pub struct EngineState {
     sends: u64,
     stopped: bool,
     ended: bool,
-    decided: Option<Decided>,
+    step_result: Option<StepResult>,
 }
 
 impl Drop for EngineState {
@@ -66,7 +66,7 @@ impl Drop for EngineState {
             rows,
             play: _,
             batch: _,
-            later,
+            sizes_left,
             is_open: _,
             place: _,
             begun,
@@ -75,12 +75,12 @@ impl Drop for EngineState {
             sends: _,
             stopped: _,
             ended: _,
-            decided,
+            step_result,
         } = self;
         drop(rows);
-        drop(later);
+        drop(sizes_left);
         drop(begun);
-        drop(decided);
+        drop(step_result);
     }
 }
 
@@ -98,7 +98,7 @@ impl Model for EngineState {
       rows = s.rows;
       play = s.play;
       batch = s.batch;
-      later = s.later;
+      sizes_left = s.sizes_left;
       is_open = s.is_open;
       place = s.place;
       begun = s.begun.items;
@@ -107,12 +107,12 @@ impl Model for EngineState {
       sends = s.sends;
       stopped = s.stopped;
       ended = s.ended;
-      decided = s.decided;
+      step_result = s.step_result;
     } };
 
     ghost use Rattle.pb_state.specs.Bounds.{IsBounded};
 
-    ghost invariant = { λ s. IsBounded s.is_open s.batch s.later s.play s.sends s.rows };
+    ghost invariant = { λ s. IsBounded s.is_open s.batch s.sizes_left s.play s.sends s.rows };
 }
 
 impl EngineState {
@@ -134,13 +134,13 @@ impl EngineState {
         requires most { pool ≤ 256 }
         ensures { IfOk result (λ s. s ≡ first_state plan.now forks pool) }
     {
-        let rows = DueRows::first(alloc, plan.host_count())?;
+        let rows = Hosts::first(alloc, plan.host_count())?;
         Ok(EngineState {
             alloc,
             rows,
             play: 0,
             batch: 0,
-            later: Later::none(alloc),
+            sizes_left: SizesLeft::none(alloc),
             is_open: false,
             place: None,
             begun: Vec::new(alloc),
@@ -149,7 +149,7 @@ impl EngineState {
             sends: 0,
             stopped: false,
             ended: false,
-            decided: None,
+            step_result: None,
         })
     }
 
@@ -252,12 +252,12 @@ impl EngineState {
             }
             Event::Stop => {
                 self.stopped = true;
-                decide(&mut self.decided, None);
+                decide(&mut self.step_result, None);
                 Ok(())
             }
             Event::Forks(forks) => {
                 self.forks = *forks;
-                decide(&mut self.decided, None);
+                decide(&mut self.step_result, None);
                 Ok(())
             }
         }

@@ -3,15 +3,15 @@
 ghost use Rattle.std.specs.Prelude.{◌≡◌, drop};
 ghost use Rattle.pb_state.specs.Through.{is_done, is_selected};
 
+use pb_host::Host;
 use pb_ids::HostNo;
-use pb_one_host::Row;
 use pb_plan::PlanPlay;
 
 /// Whether a host is active, and waits for nothing in the play that goes on.
-pub(crate) fn is_done(row: &Row) -> bool
+pub(crate) fn is_done(row: &Host) -> bool
     ensures { result ≡ is_done row.now }
 {
-    row.is_active() && !row.waits()
+    row.is_active() && !row.awaits_batch()
 }
 
 /// Whether one of the plays from this number on has a host for its own.

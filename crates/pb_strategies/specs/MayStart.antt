@@ -16,7 +16,7 @@ pub record ViewOf : Type 0 where
   pub forks : ℕ
   pub is_stopped : Bool
   pub place : Option ℕ
-  pub is_settled : Bool
+  pub is_run_once_done : Bool
   pub throttles : List ℕ
   pub run_once : List Bool
   pub hosts : List Standing
@@ -38,7 +38,7 @@ is_first_at hosts p h = not (list_any (is_next_at (Some p)) (take h hosts))
 
 -- a task that runs once runs on one host at a time, the first there, until it is settled
 abbrev pub is_open_once : ViewOf → ℕ → Bool
-is_open_once view p = nat_eq (running_at (runs_in view.hosts) p) 0 && not view.is_settled
+is_open_once view p = nat_eq (running_at (runs_in view.hosts) p) 0 && not view.is_run_once_done
 
 abbrev pub may_run_once : ViewOf → ℕ → ℕ → Bool
 may_run_once view h p = is_open_once view p && is_first_at view.hosts p h

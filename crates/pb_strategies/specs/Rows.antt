@@ -24,7 +24,7 @@ ended = record { next = None; runs = None; has_begun = true }
 -- three places: the second has a throttle of 1, and the third runs once
 abbrev seen : Strategy → ℕ → Option ℕ → List Standing → ViewOf
 seen strategy forks place hosts =
-    record { strategy = strategy; forks = forks; is_stopped = false; place = place; is_settled = false; throttles = 0 ∷ 1 ∷ 0 ∷ []; run_once = false ∷ false ∷ true ∷ []; hosts = hosts }
+    record { strategy = strategy; forks = forks; is_stopped = false; place = place; is_run_once_done = false; throttles = 0 ∷ 1 ∷ 0 ∷ []; run_once = false ∷ false ∷ true ∷ []; hosts = hosts }
 
 -- linear: the hosts at the current place, but neither those that run nor those that are ahead
 current : ready (seen Linear 5 (Some 0) (fresh 0 ∷ runs 0 ∷ waits 1 ∷ nowhere ∷ ended ∷ [])) ≡ true ∷ false ∷ false ∷ false ∷ false ∷ []
@@ -55,8 +55,8 @@ once_runs : ready (seen Linear 5 (Some 2) (runs 2 ∷ waits 2 ∷ [])) ≡ false
 once_runs = refl
 
 -- once it is settled it starts on none
-settled : ready (record (seen Linear 5 (Some 2) (waits 2 ∷ waits 2 ∷ [])) { is_settled = true }) ≡ false ∷ false ∷ []
-settled = refl
+run_once_done : ready (record (seen Linear 5 (Some 2) (waits 2 ∷ waits 2 ∷ [])) { is_run_once_done = true }) ≡ false ∷ false ∷ []
+run_once_done = refl
 
 -- free: each host goes on, however far ahead it is, and a task that runs once starts on each
 ahead : ready (seen Free 5 None (fresh 0 ∷ waits 2 ∷ waits 2 ∷ ended ∷ [])) ≡ true ∷ true ∷ true ∷ false ∷ []

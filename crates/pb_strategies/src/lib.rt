@@ -7,14 +7,14 @@
 //! places to watch (`stand_at`, `watch`): no contract tells that, but what is asked of the hosts there is then told without a look at each host.
 #![tactic(auto)]
 
-mod single;
+mod one_host;
 pub mod standings;
 pub mod starts;
 pub mod strategy;
 pub mod view;
 mod watched;
 
-pub use single::may_start;
+pub use one_host::may_start;
 pub use standings::{Standing, Standings};
 pub use starts::{kept, none_may_start, ready, turn_ready};
 pub use strategy::Strategy;

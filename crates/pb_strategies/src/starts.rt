@@ -58,7 +58,7 @@ pub(crate) fn runs_once(view: &View, place: usize) -> bool
 pub(crate) fn is_open_once(view: &View, place: usize) -> bool
     ensures { result ≡ is_open_once view.now place }
 {
-    view.hosts.running_at(place) == 0 && !view.is_settled
+    view.hosts.running_at(place) == 0 && !view.is_run_once_done
 }
 
 /// Whether another host may begin.

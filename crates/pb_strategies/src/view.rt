@@ -15,7 +15,7 @@ pub struct View<'a> {
     /// The current place, at which the hosts of the batch are under `Strategy::Linear`.
     pub place: Option<usize>,
     /// Whether the current place has a task that runs once, and a host has finished it other than by being gone.
-    pub is_settled: bool,
+    pub is_run_once_done: bool,
     /// How many hosts may run the task at a place at once; 0 is any number, and so it is behind the end.
     pub throttles: &'a [u32],
     /// Whether the first host of a batch runs the task at a place for all.
@@ -33,7 +33,7 @@ impl<'a> Model for View<'a> {
       forks = v.forks;
       is_stopped = v.is_stopped;
       place = v.place;
-      is_settled = v.is_settled;
+      is_run_once_done = v.is_run_once_done;
       throttles = v.throttles.now;
       run_once = v.run_once.now;
       hosts = v.hosts.now;

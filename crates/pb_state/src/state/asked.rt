@@ -3,18 +3,18 @@
 ghost use Rattle.std.specs.Prelude.{◌≡◌, ◌≤◌, ◌<◌, ◌-◌, ◌^◌, length, map, IfOk, IfSome, IfNone, Some, slice_get, option_map, true, false};
 ghost use Rattle.std.specs.List.{list_any};
 ghost use Rattle.std.specs.Option.{option_copied};
-ghost use Rattle.pb_one_host.specs.Ends.{IsAtMost};
-ghost use Rattle.pb_one_host.specs.Row.{HostRow};
+ghost use Rattle.pb_host.specs.Ends.{IsAtMost};
+ghost use Rattle.pb_host.specs.Host.{HostOf};
 ghost use Rattle.pb_state.specs.Machine.{facts_at, pending_at};
 ghost use Rattle.pb_state.specs.Through.{got_through};
 
 use super::EngineState;
 use crate::job::{Head, job_in};
 use crate::through::{is_done, is_selected};
-use pb_all_hosts::{attempt_in, counts_of, item_in};
 use pb_facts::facts::Facts;
+use pb_host::{Counts, Host, StepResult};
+use pb_hosts::{attempt_in, counts_of, item_in};
 use pb_ids::{HostNo, PlayNo, Ticket};
-use pb_one_host::{Counts, Decided, Row};
 use pb_outcome::job::Job;
 use pb_plan::{Plan, PlanPlay};
 use pb_planes::HostSet;
@@ -22,13 +22,13 @@ use pb_strategies::{kept, none_may_start, ready};
 use std::alloc::{AllocError, Global};
 
 impl EngineState {
-    ghost use Rattle.pb_all_hosts.specs.Hosts.{at_row};
+    ghost use Rattle.pb_hosts.specs.Hosts.{at_row};
     ghost use Rattle.pb_state.specs.Machine.{ready};
-    ghost use Rattle.pb_one_host.specs.Runs.{is_out, has_ticket};
+    ghost use Rattle.pb_host.specs.Runs.{is_out, has_ticket};
     ghost use Rattle.pb_state.specs.Machine.{ready_in, item_at, attempt_at};
     ghost use Rattle.pb_state.specs.Jobs.{job_of};
     ghost use Rattle.pb_ids.specs.declared.numbers.Ticket.{Ticket};
-    ghost use Rattle.pb_all_hosts.specs.Oldest.{oldest_out};
+    ghost use Rattle.pb_hosts.specs.Oldest.{oldest_out};
 
     /// How many hosts there are: at most 1,048,576.
     pub fn hosts(&self) -> usize
@@ -39,7 +39,7 @@ impl EngineState {
     }
 
     /// The row of a host, if there is such a host.
-    pub(crate) fn row_at(&self, host: HostNo) -> Option<&Row>
+    pub(crate) fn row_at(&self, host: HostNo) -> Option<&Host>
         ensures { option_copied result ≡ slice_get self.now.rows host.0 }
     {
         self.rows.as_slice().get(host.0 as usize)
@@ -202,10 +202,10 @@ impl EngineState {
     }
 
     /// What the last step decided.
-    pub fn decided(&self) -> Option<&Decided>
-        ensures { option_copied result ≡ self.now.decided }
+    pub fn step_result(&self) -> Option<&StepResult>
+        ensures { option_copied result ≡ self.now.step_result }
     {
-        self.decided.as_ref()
+        self.step_result.as_ref()
     }
 
     /// The number of the play whose batch is open, or that goes on, or of the one behind the last.
@@ -224,7 +224,7 @@ impl EngineState {
 
     /// Whether a host takes part in the open batch; none where there is no such host.
     pub fn in_batch(&self, host: HostNo) -> Option<bool>
-        ensures { result ≡ option_map (λ (row : HostRow). row.in_batch) (slice_get self.now.rows host.0) }
+        ensures { result ≡ option_map (λ (row : HostOf). row.in_batch) (slice_get self.now.rows host.0) }
     {
         match self.row_at(host) {
             Some(row) => Some(row.in_batch()),
@@ -234,7 +234,7 @@ impl EngineState {
 
     /// The hosts that take part in the open batch.
     pub fn batch_hosts(&self) -> &HostSet
-        ensures { result.now ≡ map (λ (row : HostRow). row.in_batch) self.now.rows }
+        ensures { result.now ≡ map (λ (row : HostOf). row.in_batch) self.now.rows }
     {
         self.rows.batch()
     }
@@ -244,7 +244,7 @@ impl EngineState {
     pub fn got_through(&self, plan: &Plan, host: HostNo) -> bool
         ensures { result ≡ got_through plan.now self.now host.0 }
     {
-        let is_under_way = self.is_open || self.later.has_some();
+        let is_under_way = self.is_open || self.sizes_left.has_some();
         let first_unbegun = if is_under_way {
             self.play + 1
         } else {
@@ -259,7 +259,7 @@ impl EngineState {
     /// How the finished tasks of a host count. Each count is below 2^32 - 1.
     pub fn host_counts(&self, host: HostNo) -> Counts
         requires { host.0 < length self.now.rows }
-        ensures value { slice_get (map (λ (row : HostRow). row.counts) self.now.rows) host.0 ≡ Some result }
+        ensures value { slice_get (map (λ (row : HostOf). row.counts) self.now.rows) host.0 ≡ Some result }
         ensures few { IsAtMost result (2 ^ 32 - 2) }
     {
         let row = &self.rows.as_slice()[host.0 as usize];
@@ -268,7 +268,7 @@ impl EngineState {
 
     /// How each host's finished tasks count, in the order of hosts. The only error is want of memory.
     pub fn counts(&self, alloc: Global) -> Result<Vec<Counts>, AllocError>
-        ensures { IfOk result (λ counts. counts.items ≡ map (λ (row : HostRow). row.counts) self.now.rows) }
+        ensures { IfOk result (λ counts. counts.items ≡ map (λ (row : HostOf). row.counts) self.now.rows) }
     {
         counts_of(alloc, self.rows.as_slice())
     }

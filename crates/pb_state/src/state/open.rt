@@ -3,16 +3,16 @@
 ghost use Rattle.std.specs.Prelude.{◌≡◌, ◌≤◌, ◌<◌, length, map, OnOk, OnErr, IfOk, slice_get, true, false};
 ghost use Rattle.std.specs.Prelude.{replicate};
 ghost use Rattle.std.specs.Option.{option_map_or};
-ghost use Rattle.pb_one_host.specs.Row.{called, left};
-ghost use Rattle.pb_all_hosts.specs.Batches.{has_later};
+ghost use Rattle.pb_host.specs.Host.{as_play_begins, left};
+ghost use Rattle.pb_hosts.specs.Batches.{has_batch_left};
 ghost use Rattle.pb_state.specs.Machine.{first_by};
 
 use super::EngineState;
 use crate::event::Event;
-use crate::later::{Later, first_of};
-use pb_all_hosts::{DueRows, begin_first, called_count, join_first, least_place, stand_at};
+use crate::sizes_left::{SizesLeft, first_of};
 use pb_batches::batches;
-use pb_one_host::decide;
+use pb_host::decide;
+use pb_hosts::{Hosts, begin_first, join_first, least_place, play_host_count, stand_at};
 use pb_plan::{Plan, PlanPlay};
 use pb_strategies::Strategy;
 use std::alloc::{AllocError, Global};
@@ -26,7 +26,7 @@ impl EngineState {
         ensures ok { OnOk result (self.new ≡ after plan.now self.old Event.Open) }
         ensures err { OnErr result (self.new ≡ self.old) }
     {
-        if self.later.has_some() {
+        if self.sizes_left.has_some() {
             self.go_on(plan)
         } else {
             self.begin_next(plan)
@@ -36,7 +36,7 @@ impl EngineState {
     /// The next batch opens of the play that goes on.
     pub(crate) fn go_on(&mut self, plan: &Plan) -> Result<(), AllocError>
         requires closed { self.old.is_open ≡ false }
-        requires left { has_later self.old.later ≡ true }
+        requires left { has_batch_left self.old.sizes_left ≡ true }
         ensures ok { OnOk result (self.new ≡ option_map_or (goes_on self.old) (slice_get plan.now.plays self.old.play) self.old) }
         ensures err { OnErr result (self.new ≡ self.old) }
     {
@@ -48,11 +48,11 @@ impl EngineState {
 
     pub(crate) fn go_on_in(&mut self, play: &PlanPlay) -> Result<(), AllocError>
         requires closed { self.old.is_open ≡ false }
-        requires left { has_later self.old.later ≡ true }
+        requires left { has_batch_left self.old.sizes_left ≡ true }
         ensures ok { OnOk result (self.new ≡ goes_on self.old play.now) }
         ensures err { OnErr result (self.new ≡ self.old) }
     {
-        let Some(size) = self.later.first() else {
+        let Some(size) = self.sizes_left.first() else {
             return Ok(());
         };
         let places = play.tree().places();
@@ -64,19 +64,19 @@ impl EngineState {
             play.laid(),
             play.throttles(),
         )?;
-        self.later.pass();
+        self.sizes_left.pass();
         self.batch += 1;
         self.begun = begun;
         self.is_open = true;
         self.stand_first(play.strategy());
-        decide(&mut self.decided, None);
+        decide(&mut self.step_result, None);
         Ok(())
     }
 
     /// The next play begins that has hosts, with its first batch.
     pub(crate) fn begin_next(&mut self, plan: &Plan) -> Result<(), AllocError>
         requires closed { self.old.is_open ≡ false }
-        requires none { has_later self.old.later ≡ false }
+        requires none { has_batch_left self.old.sizes_left ≡ false }
         ensures ok { OnOk result (self.new ≡ option_map_or (begins_at plan.now self.old) (next_play plan.now self.old) self.old) }
         ensures err { OnErr result (self.new ≡ self.old) }
     {
@@ -89,7 +89,7 @@ impl EngineState {
 
     pub(crate) fn begin_at(&mut self, number: usize, plays: &[PlanPlay]) -> Result<(), AllocError>
         requires closed { self.old.is_open ≡ false }
-        requires none { has_later self.old.later ≡ false }
+        requires none { has_batch_left self.old.sizes_left ≡ false }
         requires least { self.old.play ≤ number }
         requires most { length plays.now ≤ 256 }
         ensures ok { OnOk result (self.new ≡ option_map_or (begins self.old number) (slice_get plays.now number) self.old) }
@@ -103,13 +103,13 @@ impl EngineState {
 
     pub(crate) fn begin_in(&mut self, number: usize, play: &PlanPlay) -> Result<(), AllocError>
         requires closed { self.old.is_open ≡ false }
-        requires none { has_later self.old.later ≡ false }
+        requires none { has_batch_left self.old.sizes_left ≡ false }
         requires least { self.old.play ≤ number }
         requires below { number < 256 }
         ensures ok { OnOk result (self.new ≡ begins self.old number play.now) }
         ensures err { OnErr result (self.new ≡ self.old) }
     {
-        let hosts = called_count(self.rows.as_slice(), play.hosts());
+        let hosts = play_host_count(self.rows.as_slice(), play.hosts());
         let sizes = batches(self.alloc, play.serial(), hosts)?;
         match first_of(sizes.as_slice()) {
             Some(size) => self.begin_with(number, play, size, sizes),
@@ -126,11 +126,11 @@ impl EngineState {
         sizes: Vec<u32>,
     ) -> Result<(), AllocError>
         requires closed { self.old.is_open ≡ false }
-        requires none { has_later self.old.later ≡ false }
+        requires none { has_batch_left self.old.sizes_left ≡ false }
         requires least { self.old.play ≤ number }
         requires below { number < 256 }
         requires few { length sizes.items ≤ 1048576 }
-        ensures ok { OnOk result (self.new ≡ opened_by self.old number 0 sizes.items (map (called play.now.hosts) self.old.rows) play.now size) }
+        ensures ok { OnOk result (self.new ≡ opened_by self.old number 0 sizes.items (map (as_play_begins play.now.hosts) self.old.rows) play.now size) }
         ensures err { OnErr result (self.new ≡ self.old) }
     {
         let places = play.tree().places();
@@ -143,13 +143,13 @@ impl EngineState {
             play.laid(),
             play.throttles(),
         )?;
-        self.later = Later::behind(sizes);
+        self.sizes_left = SizesLeft::behind(sizes);
         self.batch = 0;
         self.play = number;
         self.begun = begun;
         self.is_open = true;
         self.stand_first(play.strategy());
-        decide(&mut self.decided, None);
+        decide(&mut self.step_result, None);
         Ok(())
     }
 
@@ -164,7 +164,7 @@ impl EngineState {
 }
 
 /// The first place of a batch of these hosts: there is no current place but under the linear strategy.
-fn first_by(strategy: Strategy, rows: &DueRows) -> Option<usize>
+fn first_by(strategy: Strategy, rows: &Hosts) -> Option<usize>
     ensures { result ≡ first_by strategy rows.now }
 {
     match strategy {

@@ -6,15 +6,15 @@ ghost use Rattle.pb_state.specs.Strategies.{view_of};
 
 use super::EngineState;
 use crate::event::Event;
-use pb_all_hosts::{first_play, is_settled, least_place};
+use pb_hosts::{first_play, is_run_once_done, least_place};
 use pb_ids::{HostNo, Ticket};
 use pb_outcome::job::Report;
 use pb_plan::{Plan, PlanPlay};
 use pb_strategies::{View, may_start, turn_ready};
 
 impl EngineState {
-    ghost use Rattle.pb_one_host.specs.Runs.{may_send_item, awaits};
-    ghost use Rattle.pb_all_hosts.specs.Hosts.{at_row};
+    ghost use Rattle.pb_host.specs.Runs.{may_send_item, awaits};
+    ghost use Rattle.pb_hosts.specs.Hosts.{at_row};
     ghost use Rattle.pb_state.specs.Machine.{open_play, next_play, is_left, may_open, may_start_in, may_send_in, may_report_in, may_turn_in, may_close_in, possible};
 
     /// The play whose batch is open.
@@ -38,7 +38,7 @@ impl EngineState {
             forks: self.forks,
             is_stopped: self.stopped,
             place: self.place,
-            is_settled: is_settled(&self.rows, play, self.place),
+            is_run_once_done: is_run_once_done(&self.rows, play, self.place),
             throttles: play.throttles(),
             run_once: play.run_once(),
             hosts: self.rows.standings(),
@@ -57,7 +57,7 @@ impl EngineState {
     pub(crate) fn is_left(&self, plan: &Plan) -> bool
         ensures { result ≡ is_left plan.now self.now }
     {
-        if self.later.has_some() {
+        if self.sizes_left.has_some() {
             plan.plays().get(self.play).is_some()
         } else {
             self.next_play(plan).is_some()

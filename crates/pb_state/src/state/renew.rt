@@ -4,7 +4,7 @@ ghost use Rattle.pb_state.specs.Known.{IsKnown, IsLearner};
 ghost use Rattle.pb_state.specs.State.{State};
 
 use super::EngineState;
-use crate::hosts::renewed_for;
+use crate::hostvars::renewed_for;
 use pb_ids::HostNo;
 use pb_plan::Plan;
 use pb_value::val::Dict;

@@ -4,24 +4,24 @@ ghost use Rattle.std.specs.Prelude.{◌≡◌, ℕ, Option, OnOk, OnErr, IfOk, I
 ghost use Rattle.std.specs.Option.{option_map_or};
 ghost use Rattle.pb_value.specs.Datum.{Datum};
 ghost use Rattle.pb_outcome.specs.declared.gather.ItemResult.{ItemResult};
-ghost use Rattle.pb_sight.specs.Results.{came_at};
-ghost use Rattle.pb_sight.specs.Seen.{with_hosts};
+ghost use Rattle.pb_task_vars.specs.Results.{came_at};
+ghost use Rattle.pb_task_vars.specs.WithHostvars.{with_hosts};
 ghost use Rattle.pb_state.specs.Machine.{plan_seen};
 ghost use Rattle.pb_state.specs.Known.{IsKnown, hosts_now};
-ghost use Rattle.pb_one_host.specs.Back.{SameTold};
+ghost use Rattle.pb_host.specs.Back.{SameAttempts};
 
 use super::EngineState;
 use crate::event::Event;
-use crate::hosts::{Shown, unread, whole};
+use crate::hostvars::{Shown, unread, whole};
 use crate::known::keep;
-use pb_all_hosts::{report_row, send_row};
 use pb_facts::facts::Facts;
+use pb_host::decide;
+use pb_hosts::{report_row, send_row};
 use pb_ids::{HostNo, Ticket};
-use pb_one_host::decide;
 use pb_outcome::job::Report;
 use pb_plan::{Plan, PlanPlay};
-use pb_sight::seen::Seen;
-use pb_sight::site::Site;
+use pb_task_vars::site::Site;
+use pb_task_vars::with_hostvars::PlanWithHostvars;
 use pb_value::val::Dict;
 use std::alloc::AllocError;
 
@@ -66,7 +66,7 @@ impl EngineState {
         let _play = play;
         send_row(&mut self.rows, host, ticket)?;
         self.sends += 1;
-        decide(&mut self.decided, None);
+        decide(&mut self.step_result, None);
         Ok(())
     }
 
@@ -96,7 +96,7 @@ impl EngineState {
         host: HostNo,
     ) -> Result<Shown, AllocError>
         ensures same { IfOk result (λ shown. IfSome (slice_get self.now.rows host.0)
-            (λ row. SameTold (with_hosts plan.now shown.hosts) (plan_seen plan.now self.now) play.now row row.running)) }
+            (λ row. SameAttempts (with_hosts plan.now shown.hosts) (plan_seen plan.now self.now) play.now row row.running)) }
         ensures whole { IfOk result (λ shown. shown.is_whole ≡ true → shown.hosts ≡ hosts_now plan.now self.now) }
     {
         let Some(row) = self.row_at(host) else {
@@ -123,7 +123,7 @@ impl EngineState {
         ensures whole { IfOk result (λ shown. shown.is_whole ≡ true → shown.hosts ≡ hosts_now plan.now self.now) }
     {
         let none = unread(self.alloc);
-        let seen = Seen::new(plan, &none.hosts);
+        let seen = PlanWithHostvars::new(plan, &none.hosts);
         let site = Site {
             plan: &seen,
             play,
@@ -154,11 +154,11 @@ impl EngineState {
         ensures known { IsKnown plan.now self.old known.new }
     {
         if let Some(hosts) = known.as_ref() {
-            let seen = Seen::new(plan, hosts);
+            let seen = PlanWithHostvars::new(plan, hosts);
             return self.report_seen(&seen, play, report);
         }
         let shown = self.hosts_back(plan, play, report.host)?;
-        let seen = Seen::new(plan, &shown.hosts);
+        let seen = PlanWithHostvars::new(plan, &shown.hosts);
         self.report_seen(&seen, play, report)?;
         keep(known, shown);
         Ok(())
@@ -167,7 +167,7 @@ impl EngineState {
     /// A report comes in, where tasks see the plan so.
     pub(crate) fn report_seen(
         &mut self,
-        plan: &Seen,
+        plan: &PlanWithHostvars,
         play: &PlanPlay,
         report: &Report,
     ) -> Result<(), AllocError>
@@ -176,7 +176,7 @@ impl EngineState {
         ensures ok { OnOk result (self.new ≡ reported_seen plan.now self.old report.now play.now) }
         ensures err { OnErr result (self.new ≡ self.old) }
     {
-        let decided = report_row(
+        let step_result = report_row(
             self.alloc,
             &mut self.rows,
             report.host,
@@ -184,7 +184,7 @@ impl EngineState {
             play,
             &report.outcome,
         )?;
-        decide(&mut self.decided, decided);
+        decide(&mut self.step_result, step_result);
         Ok(())
     }
 }

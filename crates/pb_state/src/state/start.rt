@@ -4,22 +4,22 @@ ghost use Rattle.std.specs.Prelude.{◌≡◌, ◌≤◌, OnOk, OnErr, IfOk, IfS
 ghost use Rattle.std.specs.Prelude.{slice_set};
 ghost use Rattle.std.specs.Option.{option_map_or};
 ghost use Rattle.pb_planes.specs.Set.{is_in as is_member};
-ghost use Rattle.pb_sight.specs.Results.{items_at};
+ghost use Rattle.pb_task_vars.specs.Results.{items_at};
 ghost use Rattle.pb_state.specs.Machine.{facts_at, plan_seen};
 ghost use Rattle.pb_state.specs.Known.{IsKnown, running_at};
 
 use super::EngineState;
 use crate::event::Event;
-use crate::hosts::{unread, whole};
+use crate::hostvars::{unread, whole};
 use crate::known::keep;
 use pb_facts::facts::Facts;
+use pb_host::{StepResult, TaskItems, decide, numbered};
 use pb_ids::HostNo;
 use pb_inventory::inventory::Inventory;
-use pb_one_host::{Decided, TaskItems, decide, numbered};
 use pb_outcome::item::Item;
 use pb_plan::{Plan, PlanPlay};
-use pb_sight::seen::Seen;
-use pb_sight::site::Site;
+use pb_task_vars::site::Site;
+use pb_task_vars::with_hostvars::PlanWithHostvars;
 use pb_value::items::Items;
 use pb_value::val::Dict;
 use std::alloc::AllocError;
@@ -128,14 +128,14 @@ impl EngineState {
         ensures known { IsKnown plan.now self.now known.new }
     {
         if let Some(hosts) = known.as_ref() {
-            let seen = Seen::new(plan, hosts);
+            let seen = PlanWithHostvars::new(plan, hosts);
             return self.items_seeing(&seen, play, host, facts, place);
         }
         if let Some(items) = self.unread_items(plan, play, host, facts, place)? {
             return Ok(TaskItems::of(items));
         }
         let shown = whole(self.alloc, plan, self.rows.as_slice())?;
-        let seen = Seen::new(plan, &shown.hosts);
+        let seen = PlanWithHostvars::new(plan, &shown.hosts);
         let items = self.items_seeing(&seen, play, host, facts, place)?;
         keep(known, shown);
         Ok(items)
@@ -144,7 +144,7 @@ impl EngineState {
     /// The items of the task at a place as it starts on a host that has learnt this, where it sees the plan so.
     pub(crate) fn items_seeing(
         &self,
-        plan: &Seen,
+        plan: &PlanWithHostvars,
         play: &PlanPlay,
         host: HostNo,
         facts: &Facts,
@@ -176,7 +176,7 @@ impl EngineState {
         ensures few { IfOk result (λ found. IfSome found (λ items. length items ≤ 10000)) }
     {
         let none = unread(self.alloc);
-        let seen = Seen::new(plan, &none.hosts);
+        let seen = PlanWithHostvars::new(plan, &none.hosts);
         let site = Site {
             plan: &seen,
             play,
@@ -202,18 +202,18 @@ impl EngineState {
         ensures ok { OnOk result (self.new ≡ start_with inventory.now self.old host.0 play.now place items) }
         ensures err { OnErr result (self.new ≡ self.old) }
     {
-        let told = numbered(self.alloc, &items)?;
+        let results = numbered(self.alloc, &items)?;
         let done = self
             .rows
             .start_row(self.alloc, host, inventory, play, place, items)?;
         let is_new = !has_place(self.begun.as_slice(), place);
         begin_at_place(self.begun.as_mut_slice(), place);
         decide(
-            &mut self.decided,
-            Some(Decided {
+            &mut self.step_result,
+            Some(StepResult {
                 place,
                 is_new,
-                items: told,
+                items: results,
                 retried: None,
                 done,
             }),

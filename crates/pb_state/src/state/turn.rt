@@ -8,18 +8,18 @@ ghost use Rattle.pb_state.specs.Machine.{play_behind};
 
 use super::EngineState;
 use crate::event::Event;
-use crate::later::Later;
-use pb_all_hosts::{least_place, leave_all, some_in, stand_at, turn_rows};
+use crate::sizes_left::SizesLeft;
+use pb_host::decide;
+use pb_hosts::{least_place, leave_all, some_in, stand_at, turn_rows};
 use pb_inventory::inventory::Inventory;
-use pb_one_host::decide;
 use pb_plan::{Plan, PlanPlay};
 use std::alloc::AllocError;
 
 impl EngineState {
     ghost use Rattle.pb_state.specs.Machine.{open_play, may_turn_in};
-    ghost use Rattle.pb_one_host.specs.Runs.{is_running};
+    ghost use Rattle.pb_host.specs.Runs.{is_running};
     ghost use Rattle.pb_state.specs.Machine.{after, turned_in, moved, batch_of, with_batch, closed};
-    ghost use Rattle.pb_all_hosts.specs.Turn.{turned};
+    ghost use Rattle.pb_hosts.specs.Turn.{turned};
 
     pub(crate) fn turn(&mut self, plan: &Plan) -> Result<(), AllocError>
         requires { option_map_or (may_turn_in self.old) (open_play plan.now self.old) false ≡ true }
@@ -64,7 +64,7 @@ impl EngineState {
     {
         let halts = turn_rows(self.alloc, &mut self.rows, inventory, play, place)?;
         if halts {
-            drop_later(&mut self.later, Later::none(self.alloc));
+            drop_sizes(&mut self.sizes_left, SizesLeft::none(self.alloc));
         }
         Ok(())
     }
@@ -76,7 +76,7 @@ impl EngineState {
         let place = least_place(&self.rows);
         stand_at(&mut self.rows, place);
         self.place = place;
-        decide(&mut self.decided, None);
+        decide(&mut self.step_result, None);
     }
 
     pub(crate) fn close(&mut self)
@@ -85,18 +85,18 @@ impl EngineState {
     {
         self.ended = !some_in(&self.rows);
         leave_all(&mut self.rows);
-        self.play = play_behind(self.later.has_some(), self.play);
+        self.play = play_behind(self.sizes_left.has_some(), self.play);
         self.is_open = false;
         self.begun.clear();
-        decide(&mut self.decided, None);
+        decide(&mut self.step_result, None);
     }
 }
 
 /// The sizes of the batches that are left become these.
-fn drop_later(slot: &mut Later, later: Later)
-    ensures { slot.new ≡ later }
+fn drop_sizes(slot: &mut SizesLeft, sizes_left: SizesLeft)
+    ensures { slot.new ≡ sizes_left }
 {
-    *slot = later;
+    *slot = sizes_left;
 }
 
 /// The number of the play to which a batch of this one leads.

@@ -6,8 +6,8 @@ use Rattle.pb_driver.proofs.driver.give_due.Given as goal
 abbrev pub invariant-commands : goal.invariant-commands
 invariant-commands l = record {
   taken : TakesCommands l.fn.engine l.engine;
-  along : IsAlong l.commands l.told l.engine;
+  along : IsAlong l.commands l.cursor l.engine;
 }
 
 abbrev pub decreases-commands : goal.decreases-commands
-decreases-commands l = length l.commands - l.told.given
+decreases-commands l = length l.commands - l.cursor.given

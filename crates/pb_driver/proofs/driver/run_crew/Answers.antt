@@ -3,7 +3,7 @@ use Rattle.std.specs.Prelude.{Ok}
 use Rattle.pb_plan.specs.Plan.{PlanOf}
 use Rattle.pb_state.specs.declared.event.Event.{Event}
 use Rattle.pb_state.specs.Run.{state_after}
-use Rattle.pb_one_host.specs.declared.row.Counts.{Counts}
+use Rattle.pb_host.specs.declared.host.Counts.{Counts}
 use Rattle.pb_engine.specs.EngineOf.{EngineOf, engine_of}
 use Rattle.pb_engine.specs.Laws.{EndsAsFixed}
 use Rattle.pb_recap.specs.Recap.{recap}
@@ -16,10 +16,10 @@ use Rattle.pb_driver.proofs.driver.run_crew.Goals as goal
 -- the recap and the status of the plan's run
 told_of : (plan : PlanOf) (pool : ℕ) (engine : EngineOf) (new_trail trail : List Event) (counts : List Counts) (status : ℕ) → engine_of plan pool ≡ Ok engine → counts ≡ recap engine.plan engine.pool new_trail
     → status ≡ status_of counts → EndsAsFixed plan pool trail (state_after plan pool trail) → trail ≡ new_trail → IsTold plan pool trail counts status
-told_of plan pool engine new_trail trail counts status made counted told fixed is =
+told_of plan pool engine new_trail trail counts status made counted cursor fixed is =
     let from = made_of plan pool engine made in
     let same : counts ≡ recap plan pool trail = rw (is, ← from.0, ← from.1) counted in
-    (same, told ∙ ap (λ (c : List Counts). status_of c) same, fixed)
+    (same, cursor ∙ ap (λ (c : List Counts). status_of c) same, fixed)
 
 pub returns-in-Err-clause-stopped : goal.returns-in-Err-clause-stopped
 returns-in-Err-clause-stopped g c =

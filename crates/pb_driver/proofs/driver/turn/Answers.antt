@@ -11,7 +11,7 @@ pub take_one-requires : goal.take_one-requires
 take_one-requires g c = stands_told (g.C.Crew.answers c.args.desk.now.crew.now) (g.C.Crew.fits c.args.desk.now.crew.now c.args.hand.now) c.args.engine.now c.give_due.new.engine c.give_due.ensures.commanded c.requires.stands
 
 pub count-requires : goal.count-requires
-count-requires g c = own_counts c.args.desk.now.commands.now c.give_due.new.told c.give_due.new.engine c.take_one.new.engine c.give_due.ensures.along (c.take_one.ensures.own (search rules)).0
+count-requires g c = own_counts c.args.desk.now.commands.now c.give_due.new.cursor c.give_due.new.engine c.take_one.new.engine c.give_due.ensures.along (c.take_one.ensures.own (search rules)).0
 
 pub returns-in_err-give_due-clause-off : goal.returns-in_err-give_due-clause-off
 returns-in_err-give_due-clause-off g c =
@@ -20,7 +20,7 @@ returns-in_err-give_due-clause-off g c =
 
 pub returns-in_err-give_due-clause-front : goal.returns-in_err-give_due-clause-front
 returns-in_err-give_due-clause-front g c =
-    let front = obeyed_to c.args.desk.now.commands.now c.give_due.new.told c.give_due.new.engine c.give_due.ensures.along in
+    let front = obeyed_to c.args.desk.now.commands.now c.give_due.new.cursor c.give_due.new.engine c.give_due.ensures.along in
     search (rules, front)
 
 pub returns-in_err-more-clause-off : goal.returns-in_err-more-clause-off
@@ -30,12 +30,12 @@ returns-in_err-more-clause-off g c =
 
 pub returns-in_err-more-clause-front : goal.returns-in_err-more-clause-front
 returns-in_err-more-clause-front g c =
-    let front = obeyed_most c.args.desk.now.commands.now c.give_due.new.told c.give_due.new.engine c.take_one.new.engine c.give_due.ensures.along c.in_ok-give_due.ensures.none c.in_err-more.ensures.most in
+    let front = obeyed_most c.args.desk.now.commands.now c.give_due.new.cursor c.give_due.new.engine c.take_one.new.engine c.give_due.ensures.along c.in_ok-give_due.ensures.none c.in_err-more.ensures.most in
     search (rules, front)
 
 pub returns-then-more-clause-along : goal.returns-then-more-clause-along
 returns-then-more-clause-along g c =
-    along_own c.args.desk.now.commands.now c.give_due.new.told c.count.new.told c.give_due.new.engine c.take_one.new.engine c.give_due.ensures.along c.in_ok-give_due.ensures.none (c.take_one.ensures.own (search rules)).0 c.count.ensures
+    along_own c.args.desk.now.commands.now c.give_due.new.cursor c.count.new.cursor c.give_due.new.engine c.take_one.new.engine c.give_due.ensures.along c.in_ok-give_due.ensures.none (c.take_one.ensures.own (search rules)).0 c.count.ensures
 
 pub returns-then-more-clause-on : goal.returns-then-more-clause-on
 returns-then-more-clause-on g c =
@@ -46,7 +46,7 @@ returns-then-more-clause-less g c = λ same.
     less_behind c.args.engine.now c.give_due.new.engine c.take_one.new.engine c.requires.stands.since.run c.give_due.ensures.commanded (c.take_one.ensures.own (search rules)).1
 
 pub returns-else-more-clause-along : goal.returns-else-more-clause-along
-returns-else-more-clause-along g c = along_as c.args.desk.now.commands.now c.give_due.new.told c.give_due.new.engine c.take_one.new.engine c.give_due.ensures.along (c.take_one.ensures.over (search rules)).0
+returns-else-more-clause-along g c = along_as c.args.desk.now.commands.now c.give_due.new.cursor c.give_due.new.engine c.take_one.new.engine c.give_due.ensures.along (c.take_one.ensures.over (search rules)).0
 
 pub returns-else-more-clause-on : goal.returns-else-more-clause-on
 returns-else-more-clause-on g c =

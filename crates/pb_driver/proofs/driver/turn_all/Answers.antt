@@ -29,4 +29,4 @@ pub returns-then-not-more-clause-over : goal.returns-then-not-more-clause-over
 returns-then-not-more-clause-over g c = (c.turn.ensures.over (search rules)).0
 
 pub returns-then-not-more-clause-obeyed : goal.returns-then-not-more-clause-obeyed
-returns-then-not-more-clause-obeyed g c = obeyed_end c.args.desk.now.commands.now c.turn.new.told c.turn.new.engine c.in_ok-more.ensures.along (c.turn.ensures.over (search rules)).1
+returns-then-not-more-clause-obeyed g c = obeyed_end c.args.desk.now.commands.now c.turn.new.cursor c.turn.new.engine c.in_ok-more.ensures.along (c.turn.ensures.over (search rules)).1

@@ -6,7 +6,7 @@ use Rattle.pb_driver.proofs.driver.turn_all.Given as goal
 abbrev pub invariant-turns : goal.invariant-turns
 invariant-turns g l = record {
   stands : Stands (g.C.Crew.answers l.desk.crew.now) (g.C.Crew.fits l.desk.crew.now l.hand) l.engine;
-  along : IsAlong l.desk.commands.now l.told l.engine;
+  along : IsAlong l.desk.commands.now l.cursor l.engine;
   on : GoesOn g.C.Crew.went l.fn.engine l.engine l.fn.hand l.hand (g.W.LineOut.taken l.fn.writer) (g.W.LineOut.taken l.writer) (g.W.LineOut.failures l.fn.writer) (g.W.LineOut.failures l.writer);
 }
 

@@ -1,5 +1,5 @@
 use Rattle.std.proofs.Common.{rules, ap, List}
-use Rattle.pb_one_host.specs.declared.row.Counts.{Counts}
+use Rattle.pb_host.specs.declared.host.Counts.{Counts}
 use Rattle.pb_recap.specs.Recap.{recap}
 use Rattle.pb_driver.specs.Output.{end_lines}
 use Rattle.pb_driver.proofs.Cutting.{part_as}

@@ -12,19 +12,19 @@ pub run_crew-requires-clause-fits : goal.run_crew-requires-clause-fits
 run_crew-requires-clause-fits g c = λ engine made.
     fits_first c.args.pool.now c.args.main.now c.args.plan c.forks-forks.result engine c.requires.seat c.requires.fresh.0 c.requires.fresh.1 c.forks-forks.ensures.is c.requires.forks made
 
-pub settle-requires-clause-seat : goal.settle-requires-clause-seat
-settle-requires-clause-seat g c = c.in-Ok.ensures.run.mails.0 ∙ c.requires.seat
+pub collect_rest-requires-clause-seat : goal.collect_rest-requires-clause-seat
+collect_rest-requires-clause-seat g c = c.in-Ok.ensures.run.mails.0 ∙ c.requires.seat
 
-pub settle-requires-clause-room : goal.settle-requires-clause-room
-settle-requires-clause-room g c = room_kept c.args.pool.now c.args.main.now c.run_crew.new.hand c.requires.seat c.requires.fresh.1 c.in-Ok.ensures.run.mails.1
+pub collect_rest-requires-clause-room : goal.collect_rest-requires-clause-room
+collect_rest-requires-clause-room g c = room_kept c.args.pool.now c.args.main.now c.run_crew.new.hand c.requires.seat c.requires.fresh.1 c.in-Ok.ensures.run.mails.1
 
-pub settle-requires-in-Err-clause-seat : goal.settle-requires-in-Err-clause-seat
-settle-requires-in-Err-clause-seat g c =
+pub collect_rest-requires-in-Err-clause-seat : goal.collect_rest-requires-in-Err-clause-seat
+collect_rest-requires-in-Err-clause-seat g c =
     (gone_same (IsWorkersAnswer g.N.Allows.allows) c.args.plan c.forks-forks.result c.in-Err.stopped.1.items c.in-Err.stopped.0 c.args.main.now c.run_crew.new.hand c.in-Err.ensures.stopped.lost).0
     ∙ c.requires.seat
 
-pub settle-requires-in-Err-clause-room : goal.settle-requires-in-Err-clause-room
-settle-requires-in-Err-clause-room g c =
+pub collect_rest-requires-in-Err-clause-room : goal.collect_rest-requires-in-Err-clause-room
+collect_rest-requires-in-Err-clause-room g c =
     room_kept c.args.pool.now c.args.main.now c.run_crew.new.hand c.requires.seat c.requires.fresh.1
     (gone_same (IsWorkersAnswer g.N.Allows.allows) c.args.plan c.forks-forks.result c.in-Err.stopped.1.items c.in-Err.stopped.0 c.args.main.now c.run_crew.new.hand c.in-Err.ensures.stopped.lost).1
 
@@ -34,12 +34,12 @@ returns-in-Ok-clause-run g c =
 
 pub returns-in-Ok-clause-mails : goal.returns-in-Ok-clause-mails
 returns-in-Ok-clause-mails g c =
-    posted_all c.args.plan (forks_of c.args.pool.now) c.in-Ok.ended.trail.items c.args.main.now c.run_crew.new.hand (main_view c.settle.new.main).log
+    posted_all c.args.plan (forks_of c.args.pool.now) c.in-Ok.ended.trail.items c.args.main.now c.run_crew.new.hand (main_view c.collect_rest.new.main).log
     (subst (λ (k : ℕ). HasPosted c.args.main.now (mails_of c.args.plan k c.in-Ok.ended.trail.items) c.run_crew.new.hand) c.forks-forks.ensures.is c.in-Ok.ensures.run.mails) c.requires.fresh.0
-    (c.settle.ensures.none (none_out c.args.pool.now c.run_crew.new.hand c.in-Ok.ensures.run.last))
+    (c.collect_rest.ensures.none (none_out c.args.pool.now c.run_crew.new.hand c.in-Ok.ensures.run.last))
 
 pub returns-in-Ok-clause-seat : goal.returns-in-Ok-clause-seat
-returns-in-Ok-clause-seat g c = c.settle.ensures.seat ∙ c.in-Ok.ensures.run.mails.0
+returns-in-Ok-clause-seat g c = c.collect_rest.ensures.seat ∙ c.in-Ok.ensures.run.mails.0
 
 pub returns-in-Err-clause-begun : goal.returns-in-Err-clause-begun
 returns-in-Err-clause-begun g c =
@@ -47,17 +47,17 @@ returns-in-Err-clause-begun g c =
 
 pub returns-in-Err-clause-later : goal.returns-in-Err-clause-later
 returns-in-Err-clause-later g c =
-    gone_later (IsWorkersAnswer g.N.Allows.allows) c.args.plan (forks_of c.args.pool.now) c.in-Err.stopped.1.items c.in-Err.stopped.0 c.args.main.now c.run_crew.new.hand (main_view c.settle-in-Err.new.main).log
-    (subst (λ (k : ℕ). HasGoneTo (IsWorkersAnswer g.N.Allows.allows) (λ mails. HasPosted c.args.main.now mails c.run_crew.new.hand) c.args.plan k c.in-Err.stopped.1.items c.in-Err.stopped.0) c.forks-forks.ensures.is c.in-Err.ensures.stopped.lost) c.requires.fresh.0 c.settle-in-Err.ensures.drained
+    gone_later (IsWorkersAnswer g.N.Allows.allows) c.args.plan (forks_of c.args.pool.now) c.in-Err.stopped.1.items c.in-Err.stopped.0 c.args.main.now c.run_crew.new.hand (main_view c.collect_rest-in-Err.new.main).log
+    (subst (λ (k : ℕ). HasGoneTo (IsWorkersAnswer g.N.Allows.allows) (λ mails. HasPosted c.args.main.now mails c.run_crew.new.hand) c.args.plan k c.in-Err.stopped.1.items c.in-Err.stopped.0) c.forks-forks.ensures.is c.in-Err.ensures.stopped.lost) c.requires.fresh.0 c.collect_rest-in-Err.ensures.drained
 
 pub returns-in-Ok-clause-within : goal.returns-in-Ok-clause-within
 returns-in-Ok-clause-within g c =
-    within_all c.args.pool.now c.args.main.now c.run_crew.new.hand c.settle.new.main c.requires.seat c.requires.fresh.0 c.in-Ok.ensures.run.mails.3 c.settle.ensures.within
+    within_all c.args.pool.now c.args.main.now c.run_crew.new.hand c.collect_rest.new.main c.requires.seat c.requires.fresh.0 c.in-Ok.ensures.run.mails.3 c.collect_rest.ensures.within
 
 pub returns-in-Err-clause-within : goal.returns-in-Err-clause-within
 returns-in-Err-clause-within g c =
-    within_all c.args.pool.now c.args.main.now c.run_crew.new.hand c.settle-in-Err.new.main c.requires.seat c.requires.fresh.0
-    (gone_same (IsWorkersAnswer g.N.Allows.allows) c.args.plan c.forks-forks.result c.in-Err.stopped.1.items c.in-Err.stopped.0 c.args.main.now c.run_crew.new.hand c.in-Err.ensures.stopped.lost).2 c.settle-in-Err.ensures.within
+    within_all c.args.pool.now c.args.main.now c.run_crew.new.hand c.collect_rest-in-Err.new.main c.requires.seat c.requires.fresh.0
+    (gone_same (IsWorkersAnswer g.N.Allows.allows) c.args.plan c.forks-forks.result c.in-Err.stopped.1.items c.in-Err.stopped.0 c.args.main.now c.run_crew.new.hand c.in-Err.ensures.stopped.lost).2 c.collect_rest-in-Err.ensures.within
 
 pub returns-in-Err-clause-cut : goal.returns-in-Err-clause-cut
 returns-in-Err-clause-cut g c =
@@ -74,5 +74,5 @@ returns-in-Ok-clause-quiet g c = c.in-Ok.ensures.run.quiet
 
 pub returns-in-Err-clause-seat : goal.returns-in-Err-clause-seat
 returns-in-Err-clause-seat g c =
-    c.settle-in-Err.ensures.seat
+    c.collect_rest-in-Err.ensures.seat
     ∙ (gone_same (IsWorkersAnswer g.N.Allows.allows) c.args.plan c.forks-forks.result c.in-Err.stopped.1.items c.in-Err.stopped.0 c.args.main.now c.run_crew.new.hand c.in-Err.ensures.stopped.lost).0

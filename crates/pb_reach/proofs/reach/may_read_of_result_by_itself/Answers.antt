@@ -5,4 +5,4 @@ use Rattle.pb_reach.proofs.reach.may_read_of_result_by_itself.Goals as goal
 
 pub returns-clause-told : goal.returns-clause-told
 returns-clause-told c = λ unread start other value attempt item t none same.
-    told_alone c.args.word.now c.requires start (rw t (sym c.told_names.ensures ∙ unread)) none other (loop_variable start.task.looped value) attempt item same
+    told_alone c.args.word.now c.requires start (rw t (sym c.result_names.ensures ∙ unread)) none other (loop_variable start.task.looped value) attempt item same

@@ -2,7 +2,7 @@ use Rattle.std.proofs.Common.{arith, ap, sym, ◌∙◌, ◌<◌, subst}
 use Rattle.std.specs.Prelude.{IfSome, slice_set}
 use Rattle.std.specs.Option.{option_map_or}
 use Rattle.pb_lanes.specs.ColumnsOf.{hosts_in}
-use Rattle.pb_one_host.specs.declared.row.Counts.{Counts}
+use Rattle.pb_host.specs.declared.host.Counts.{Counts}
 use Rattle.pb_recap.specs.Counting.{HasRoom, with_task}
 use Rattle.pb_recap.specs.InColumns.{counts_of, rows_of}
 use Rattle.pb_recap.proofs.InColumns.{has_all, no_row, row_at, rows_put}

@@ -11,7 +11,7 @@ pub push_one-returns-in_ok-push_all-in-Block-2 : goal.push_one-returns-in_ok-pus
 push_one-returns-in_ok-push_all-in-Block-2 t c =
     IfOk-weaker c.push_all-in-Block-2.result _ _
     (λ _ last.
-    block_placed c.args.flushes.now c.args.round.now c.in_ok-inside-in-Block.inside c.args.is_caught c.is_caught_in-is_rescued.result c.args.places.now.items c.push_all.new.places.items c.push_all-in-Block.new.places.items
+    block_placed c.args.flushes.now c.args.inherited.now c.in_ok-inside-in-Block.inside c.args.is_caught c.is_caught_in-is_rescued.result c.args.places.now.items c.push_all.new.places.items c.push_all-in-Block.new.places.items
     c.push_all-in-Block-2.new.places.items c.args.node c.in-Block.keys c.in-Block.body c.in-Block.rescue c.in-Block.always c.in-Block.is c.in_ok-inside-in-Block.ensures (rw c.deref.ensures.value at c.is_caught_in-is_rescued.ensures)
     c.in_ok-push_all-in-Block.ensures c.in_ok-push_all-in-Block-2.ensures last)
     c.push_all-in-Block-2.ensures
@@ -19,7 +19,7 @@ push_one-returns-in_ok-push_all-in-Block-2 t c =
 pub push_all-loop-node-preserved : goal.push_all-loop-node-preserved
 push_all-loop-node-preserved t c = record {
   placed =
-      node_placed c.args.flushes.now c.args.round.now c.args.is_caught c.args.places.now.items c.loop-node.places.items c.push_one.new.places.items c.loop-node.node-iterator.rest.items
+      node_placed c.args.flushes.now c.args.inherited.now c.args.is_caught c.args.places.now.items c.loop-node.places.items c.push_one.new.places.items c.loop-node.node-iterator.rest.items
       c.next.new.self.rest.items c.in-Some.node (written_of c.args.nodes.items) c.in-Some.ensures.steps.0 c.loop-node.invariant.placed c.in_ok-push_one.ensures;
   less =
       weight_later c.loop-node.node-iterator.rest.items c.next.new.self.rest.items c.in-Some.node (weight (written_of c.args.nodes.items)) c.in-Some.ensures.steps.0 c.loop-node.invariant.less;
@@ -28,7 +28,7 @@ push_all-loop-node-preserved t c = record {
 pub push_all-returns : goal.push_all-returns
 push_all-returns t c =
     let none : c.loop-node.node-iterator.rest.items ≡ [] = grind (arith, common_steps) in
-    all_placed c.args.flushes.now c.args.round.now c.args.is_caught c.args.places.now.items c.loop-node.places.items c.loop-node.node-iterator.rest.items (written_of c.args.nodes.items) none
+    all_placed c.args.flushes.now c.args.inherited.now c.args.is_caught c.args.places.now.items c.loop-node.places.items c.loop-node.node-iterator.rest.items (written_of c.args.nodes.items) none
     c.loop-node.invariant.placed
 
 pub push_all-push_one-requires : goal.push_all-push_one-requires
@@ -56,12 +56,12 @@ pub push_one-returns-in-Task : goal.push_one-returns-in-Task
 push_one-returns-in-Task t c =
     IfOk-weaker c.push_task.result _ _
     (λ _ is.
-    task_placed c.args.flushes.now c.flushes.inside.names c.args.round.now c.args.is_caught c.args.places.now.items c.push_task.new.places.items c.args.node c.in-Task.task c.in-Task.is
+    task_placed c.args.flushes.now c.flushes.inside.names c.args.inherited.now c.args.is_caught c.args.places.now.items c.push_task.new.places.items c.args.node c.in-Task.task c.in-Task.is
     (ap (λ (f : Flushed). f.names) c.flushes.view_is) is)
     c.push_task.ensures
 
 pub push_one-returns-in-Flush : goal.push_one-returns-in-Flush
 push_one-returns-in-Flush t c =
     IfOk-weaker c.push_flush.result _ _
-    (λ _ is. flush_placed c.args.flushes.now c.args.round.now c.args.is_caught c.args.places.now.items c.push_flush.new.places.items c.args.node c.in-Flush.is is)
+    (λ _ is. flush_placed c.args.flushes.now c.args.inherited.now c.args.is_caught c.args.places.now.items c.push_flush.new.places.items c.args.node c.in-Flush.is is)
     c.push_flush.ensures

@@ -13,6 +13,6 @@ decreases-push_one l = 2 * weight (node_of l.node Nothing)
 
 abbrev pub invariant-push_all-loop-node : goal.invariant-push_all-loop-node
 invariant-push_all-loop-node l = record {
-  placed : l.places.items ++ places_of l.flushes l.round l.is_caught (written_of l.node-iterator.rest.items) ≡ l.fn.places.items ++ places_of l.flushes l.round l.is_caught (written_of l.fn.nodes.items);
+  placed : l.places.items ++ places_of l.flushes l.inherited l.is_caught (written_of l.node-iterator.rest.items) ≡ l.fn.places.items ++ places_of l.flushes l.inherited l.is_caught (written_of l.fn.nodes.items);
   less : weight (written_of l.node-iterator.rest.items) ≤ weight (written_of l.fn.nodes.items);
 }

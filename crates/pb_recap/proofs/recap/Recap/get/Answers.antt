@@ -2,7 +2,7 @@ use Rattle.std.proofs.Common.{arith, ◌<◌, ◌∙◌, List, length, ap, sym}
 use Rattle.std.specs.Option.{option_map_or}
 use Rattle.std.proofs.lemmas.Option.{get_or_from_slice_get}
 use Rattle.pb_lanes.specs.ColumnsOf.{column, hosts_in}
-use Rattle.pb_one_host.specs.declared.row.Counts.{Counts}
+use Rattle.pb_host.specs.declared.host.Counts.{Counts}
 use Rattle.pb_recap.specs.Kinds.{count_at, count_of}
 use Rattle.pb_recap.proofs.InColumns.{count_is, length_rows, row_at}
 use Rattle.pb_recap.proofs.recap.Recap.get.Goals as goal

@@ -2,7 +2,7 @@ use Rattle.std.proofs.Common.{◌≡◌, ◌∙◌, length, map, ap, sym, subst,
 use Rattle.std.specs.Prelude.{replicate}
 use Rattle.pb_planes.specs.Set.{has_some}
 use Rattle.pb_strategies.specs.MayStart.{ViewOf, ready as starting}
-use Rattle.pb_one_host.specs.Runs.{has_send}
+use Rattle.pb_host.specs.Runs.{has_send}
 use Rattle.pb_state.specs.State.{State}
 use Rattle.pb_state.proofs.Readies.{ready_to_start, ready_to_send, if_kept, has_none}
 use Rattle.pb_state.proofs.state.EngineState.kept_going_in.Goals as goal

@@ -1,7 +1,7 @@
 use Rattle.std.proofs.Common.{◌∙◌, ap}
 use Rattle.pb_state.specs.State.{State}
-use Rattle.pb_all_hosts.specs.Oldest.{oldest_out}
-use Rattle.pb_all_hosts.proofs.OldestOut.{some_is_out, some_is_least, none_is_out}
+use Rattle.pb_hosts.specs.Oldest.{oldest_out}
+use Rattle.pb_hosts.proofs.OldestOut.{some_is_out, some_is_least, none_is_out}
 use Rattle.pb_state.proofs.state.EngineState.oldest_out.Goals as goal
 
 pub returns-clause-out : goal.returns-clause-out

@@ -1,7 +1,7 @@
 use Rattle.std.proofs.Common.{length, map, ◌∙◌, sym, ap}
 use Rattle.pb_strategies.specs.MayStart.{ViewOf, ready as starting}
 use Rattle.pb_state.specs.State.{State}
-use Rattle.pb_one_host.specs.Runs.{has_send}
+use Rattle.pb_host.specs.Runs.{has_send}
 use Rattle.pb_state.proofs.Readies.{widths}
 use Rattle.pb_state.proofs.state.EngineState.ready_in.Goals as goal
 

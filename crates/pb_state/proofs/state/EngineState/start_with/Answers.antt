@@ -1,7 +1,7 @@
 use Rattle.std.proofs.Common.{◌≡◌, true, subst, sym}
 use Rattle.pb_state.specs.State.{State}
-use Rattle.pb_all_hosts.specs.Hosts.{at_row}
-use Rattle.pb_all_hosts.specs.Giving.{gifts_at}
+use Rattle.pb_hosts.specs.Hosts.{at_row}
+use Rattle.pb_hosts.specs.Giving.{gifts_at}
 use Rattle.pb_state.specs.Machine.{next_at}
 use Rattle.pb_state.proofs.Stands.{stands_at, start_stands}
 use Rattle.pb_state.proofs.Within.{start_there, start_in_batch, start_bounded}
@@ -20,11 +20,11 @@ start_row-requires-clause-batch c =
 
 pub start_row-requires-clause-room : goal.start_row-requires-clause-room
 start_row-requires-clause-room c =
-    room_at c.self.inside.batch c.self.inside.later c.self.inside.play c.self.inside.sends c.args.host.0 c.self.inside.is_open c.self.inside.rows (subst (λ (v : State). v.is_open ≡ true) (sym c.self.view_is) c.requires.open) c.self.invariant
+    room_at c.self.inside.batch c.self.inside.sizes_left c.self.inside.play c.self.inside.sends c.args.host.0 c.self.inside.is_open c.self.inside.rows (subst (λ (v : State). v.is_open ≡ true) (sym c.self.view_is) c.requires.open) c.self.invariant
 
 pub invariant_of-self-2 : goal.invariant_of-self-2
 invariant_of-self-2 c =
-    start_bounded c.self.inside.batch c.self.inside.later c.self.inside.play c.self.inside.sends c.args.host.0 c.self.inside.is_open (next_at c.args.self.now c.args.host.0) c.args.inventory.now c.args.play.now c.args.place c.args.items (gifts_at c.args.inventory.now c.args.play.now c.args.place c.args.host.0 c.args.items) c.self.inside.rows
+    start_bounded c.self.inside.batch c.self.inside.sizes_left c.self.inside.play c.self.inside.sends c.args.host.0 c.self.inside.is_open (next_at c.args.self.now c.args.host.0) c.args.inventory.now c.args.play.now c.args.place c.args.items (gifts_at c.args.inventory.now c.args.play.now c.args.place c.args.host.0 c.args.items) c.self.inside.rows
     c.start_row.new.self c.numbered.ensures.most
     c.self.invariant
     (subst (λ (v : State). v.is_open ≡ true) (sym c.self.view_is) c.requires.open)

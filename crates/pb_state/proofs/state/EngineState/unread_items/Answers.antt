@@ -1,5 +1,5 @@
 use Rattle.std.proofs.Common.{ap}
-use Rattle.pb_state.specs.declared.hosts.Shown.{Shown}
+use Rattle.pb_state.specs.declared.hostvars.Shown.{Shown}
 use Rattle.pb_state.specs.Machine.{learnt_by}
 use Rattle.pb_state.proofs.ReadHosts.{found_unread}
 use Rattle.pb_state.proofs.state.EngineState.unread_items.Goals as goal

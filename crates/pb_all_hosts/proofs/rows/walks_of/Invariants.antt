@@ -1,7 +1,0 @@
-use Rattle.std.proofs.Common.{◌≡◌}
-use Rattle.std.specs.Prelude.{replicate}
-use Rattle.pb_cursors.specs.Walks.{walk_from}
-use Rattle.pb_all_hosts.proofs.rows.walks_of.Given as goal
-
-abbrev pub invariant-loop : goal.invariant-loop
-invariant-loop l = l.walks.items ≡ replicate l.counter (walk_from l.laid.value.tree)

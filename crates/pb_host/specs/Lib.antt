@@ -1,0 +1,15 @@
+pub mod Attempts
+pub mod AttemptRows
+pub mod Ends
+pub mod Handlers
+pub mod Host
+pub mod Walking
+pub mod Kept
+pub mod Turned
+pub mod Decides
+pub mod Back
+pub mod Runs
+pub mod ItemRows
+pub mod FactRows
+pub mod Calls
+pub mod Standing

@@ -1,0 +1,265 @@
+//! What a host runs: a task starts, its jobs go out and come back, and it ends.
+
+ghost use Rattle.std.specs.Prelude.{◌≡◌, ◌-◌, ◌^◌, OnOk, OnErr, IfOk, true};
+ghost use Rattle.pb_facts.specs.Update.{applied};
+ghost use Rattle.pb_host.specs.Host.{kept_items};
+ghost use Rattle.pb_host.specs.Handlers.{notified_by};
+ghost use Rattle.pb_host.specs.Back.{items_run};
+ghost use Rattle.pb_host.specs.Ends.{answer_of, IsAtMost};
+
+use super::{Host, LastTask, Running, put_last};
+use crate::ends::{breaks, counted, kind_of};
+use crate::handlers::{marks_in, notified_by};
+use crate::item_results::{done_at, item_results_in, runs_once_at};
+use crate::items::{Before, CameBack, TaskItems, none_back};
+use crate::step_result::{Retried, StepResult, TaskDone, TaskEnd};
+use pb_facts::update::FactsUpdate;
+use pb_ids::Ticket;
+use pb_inventory::inventory::Inventory;
+use pb_outcome::outcome::Outcome;
+use pb_plan::PlanPlay;
+use pb_task_vars::ends::Ended;
+use pb_task_vars::site::Site;
+use pb_task_vars::with_hostvars::PlanWithHostvars;
+use pb_tree::Answer;
+use std::alloc::{AllocError, Global};
+use std::mem;
+
+/// The items of the task that a host runs.
+fn items_run(alloc: Global, running: Option<Running>) -> TaskItems
+    ensures { result ≡ items_run running }
+{
+    match running {
+        Some(running) => running.into_items(),
+        None => TaskItems::none(alloc),
+    }
+}
+
+/// What a host answers as the task at a place ends so.
+fn answer_of(
+    alloc: Global,
+    play: &PlanPlay,
+    place: usize,
+    task: TaskEnd,
+) -> Result<Answer, AllocError>
+    ensures { IfOk result (λ answer. answer ≡ answer_of task (notified_by play.now place task)) }
+{
+    let notified = Vec::from_slice(alloc, notified_by(play, place, task))?;
+    Ok(Answer::of(kind_of(task), notified))
+}
+
+/// What is kept of the items of a task that ended.
+fn kept_items(alloc: Global, once: bool, items: TaskItems) -> TaskItems
+    ensures { result ≡ kept_items once items }
+{
+    if once { items } else { TaskItems::none(alloc) }
+}
+
+impl Host {
+    ghost use Rattle.pb_host.specs.Host.{finished, progressed, sent, pending};
+    ghost use Rattle.pb_host.specs.Decides.{done_if};
+    ghost use Rattle.pb_host.specs.Back.{back_row, retried_row, finish_run, end_recorded, with_running, waiting, went_on, ended_now, step_result_now, undone};
+
+    /// Puts down how the task at a place ended that the host runs.
+    fn record_end(&mut self, alloc: Global, once: bool, place: usize, task: TaskEnd)
+        requires { IsAtMost self.old.counts (2 ^ 64 - 2) }
+        ensures { self.new ≡ end_recorded once place task self.old }
+    {
+        let kind = kind_of(task);
+        let ran = mem::replace(&mut self.running, None);
+        let items = kept_items(alloc, once, items_run(alloc, ran));
+        put_last(&mut self.last, Some(LastTask { place, kind, items }));
+        self.is_broken = self.is_broken || breaks(task.is_caught, kind);
+        self.counts = counted(self.counts, task);
+    }
+
+    /// The task at a place that the host runs ends, and the host learns this. An `Err` changes nothing.
+    fn finish(
+        &mut self,
+        alloc: Global,
+        play: &PlanPlay,
+        place: usize,
+        task: TaskEnd,
+        update: FactsUpdate,
+    ) -> Result<(), AllocError>
+        requires batch { self.old.in_batch ≡ true }
+        requires room { IsAtMost self.old.counts (2 ^ 64 - 2) }
+        ensures ok { OnOk result (self.new ≡ finished (finish_run play.now place task self.old.running) task (notified_by play.now place task) (applied update self.old.facts) self.old) }
+        ensures err { OnErr result (self.new ≡ self.old) }
+    {
+        match answer_of(alloc, play, place, task) {
+            Ok(answer) => {
+                self.apply_and_answer(alloc, &answer, update)?;
+                self.record_end(alloc, runs_once_at(play, place), place, task);
+                Ok(())
+            }
+            Err(error) => {
+                drop(update);
+                Err(error)
+            }
+        }
+    }
+
+    /// The task at a place starts with these items: it waits for their jobs, or ends at once. An `Err` changes nothing.
+    #[tactic(auto, using(crate::proofs::Begun::begun_as))]
+    pub fn start(
+        &mut self,
+        alloc: Global,
+        inventory: &Inventory,
+        play: &PlanPlay,
+        place: usize,
+        items: TaskItems,
+    ) -> Result<Option<TaskDone>, AllocError>
+        requires batch { self.old.in_batch ≡ true }
+        requires room { IsAtMost self.old.counts (2 ^ 64 - 2) }
+        ensures row { OnOk result (self.new ≡ progressed inventory.now play.now place items self.old) }
+        ensures done { IfOk result (λ done. done ≡ done_if play.now place (pending self.old) items) }
+        ensures err { OnErr result (self.new ≡ self.old) }
+    {
+        let before = self.put_running(Some(Running {
+            place,
+            items,
+            out: None,
+        }));
+        match self.end_if_over(alloc, inventory, play) {
+            Ok(done) => Ok(done),
+            Err(error) => {
+                self.put_running(before);
+                Err(error)
+            }
+        }
+    }
+
+    /// Puts down what the host runs, and hands back what it ran.
+    fn put_running(&mut self, running: Option<Running>) -> Option<Running>
+        requires { self.old.in_batch ≡ true }
+        ensures row { self.new ≡ with_running running self.old }
+        ensures before { result ≡ self.old.running }
+    {
+        mem::replace(&mut self.running, running)
+    }
+
+    /// A job goes out.
+    pub fn send(&mut self, ticket: Ticket)
+        ensures { self.new ≡ sent ticket self.old }
+    {
+        if let Some(running) = &mut self.running {
+            running.out = Some(ticket);
+        }
+    }
+
+    /// The job that is out came to this: its item has its result, or waits for its next attempt. What the item was before is handed back, and the attempt
+    /// where another one comes behind it. An `Err` changes nothing.
+    pub fn take_back(
+        &mut self,
+        alloc: Global,
+        plan: &PlanWithHostvars,
+        play: &PlanPlay,
+        outcome: &Outcome,
+    ) -> Result<CameBack, AllocError>
+        ensures ok { OnOk result (self.new ≡ back_row plan.now play.now outcome.now self.old) }
+        ensures retried { IfOk result (λ came. came.retried ≡ retried_row plan.now play.now outcome.now self.old) }
+        ensures undo { IfOk result (λ came. undone came.before self.new ≡ self.old) }
+        ensures err { OnErr result (self.new ≡ self.old) }
+    {
+        match &mut self.running {
+            Some(running) => {
+                let site = Site {
+                    plan,
+                    play,
+                    host: self.host,
+                    facts: &self.facts,
+                    place: running.place,
+                };
+                running.items.back(alloc, &site, outcome)
+            }
+            None => Ok(none_back()),
+        }
+    }
+
+    /// Puts an item of the task that the host runs back as it was.
+    pub fn undo(&mut self, before: Option<Before>)
+        ensures { self.new ≡ undone before self.old }
+    {
+        match &mut self.running {
+            Some(running) => running.items.undo(before),
+            None => drop(before),
+        }
+    }
+
+    /// The task that the host runs waits for its next item to be sent.
+    fn wait(&mut self)
+        ensures { self.new ≡ waiting self.old }
+    {
+        if let Some(running) = &mut self.running {
+            running.out = None;
+        }
+    }
+
+    /// What is decided of the task that the host runs, of which the item with this number came back, or this attempt at it. An `Err` changes nothing.
+    pub fn decide(
+        &mut self,
+        alloc: Global,
+        inventory: &Inventory,
+        play: &PlanPlay,
+        number: Option<u32>,
+        retried: Option<Retried>,
+    ) -> Result<Option<StepResult>, AllocError>
+        requires { IsAtMost self.old.counts (2 ^ 64 - 2) }
+        ensures row { OnOk result (self.new ≡ went_on inventory.now play.now self.old) }
+        ensures decides { IfOk result (λ step_result. step_result ≡ step_result_now play.now number retried self.old) }
+        ensures err { OnErr result (self.new ≡ self.old) }
+    {
+        match &self.running {
+            None => Ok(None),
+            Some(running) => {
+                let place = running.place;
+                let items = item_results_in(alloc, &running.items, number)?;
+                let done = self.end_if_over(alloc, inventory, play)?;
+                Ok(Some(StepResult {
+                    place,
+                    is_new: false,
+                    items,
+                    retried,
+                    done,
+                }))
+            }
+        }
+    }
+
+    /// The task that the host runs goes on, or ends where it is over. An `Err` changes nothing.
+    fn end_if_over(
+        &mut self,
+        alloc: Global,
+        inventory: &Inventory,
+        play: &PlanPlay,
+    ) -> Result<Option<TaskDone>, AllocError>
+        requires { IsAtMost self.old.counts (2 ^ 64 - 2) }
+        ensures row { OnOk result (self.new ≡ went_on inventory.now play.now self.old) }
+        ensures done { IfOk result (λ done. done ≡ ended_now play.now self.old) }
+        ensures err { OnErr result (self.new ≡ self.old) }
+    {
+        match &self.running {
+            None => Ok(None),
+            Some(running) => {
+                if !running.items.is_over() {
+                    self.wait();
+                    return Ok(None);
+                }
+                let place = running.place;
+                let marks = marks_in(&self.walk);
+                let done = done_at(alloc, play, place, marks, &running.items)?;
+                let ended = Ended {
+                    inventory,
+                    play,
+                    place,
+                    result: done.task.result,
+                    items: running.items.as_slice(),
+                };
+                let update = ended.teaches(alloc, Some(self.host), &done.result, &self.facts)?;
+                self.finish(alloc, play, place, done.task, update)?;
+                Ok(Some(done))
+            }
+        }
+    }
+}

@@ -1,0 +1,24 @@
+-- Hosts learn something, one after another; and what was before, so that it can be put back.
+use Rattle.std.specs.Prelude.{◌≡◌, ℕ, List, [], ◌∷◌, IfSome, slice_get}
+use Rattle.pb_ids.specs.declared.numbers.HostNo.{HostNo}
+use Rattle.pb_facts.specs.Facts.{FactsOf}
+use Rattle.pb_facts.specs.Update.{IsUndo}
+use Rattle.pb_facts.specs.declared.update.FactsUndo.{FactsUndo}
+use Rattle.pb_host.specs.Host.{HostOf, knows}
+use Rattle.pb_host.specs.Turned.{applies}
+use Rattle.pb_hosts.specs.declared.turned.HostUpdate.{HostUpdate}
+use Rattle.pb_hosts.specs.Hosts.{change}
+
+-- the rows once hosts have learnt this, one after another
+abbrev pub with_update : List HostUpdate → List HostOf → List HostOf
+with_update [] rows = rows
+with_update (n ∷ all) rows = with_update all (change rows n.host.0 (applies n.update))
+
+-- a host learnt something, before which this was; a number that is no host's changes nothing
+abbrev pub AppliedAt : ℕ → FactsUndo → List HostOf → List HostOf → Type 0
+AppliedAt h past was now = (facts : FactsOf) × IfSome (slice_get now h) (λ (row : HostOf). IsUndo past facts row.facts) × (was ≡ change now h (knows facts))
+
+-- rows became others as these hosts learnt something, in order
+abbrev pub LeadsTo : List (HostNo × FactsUndo) → List HostOf → List HostOf → Type 0
+LeadsTo [] was now = was ≡ now
+LeadsTo (before ∷ log) was now = (mid : List HostOf) × AppliedAt before.0.0 before.1 was mid × LeadsTo log mid now

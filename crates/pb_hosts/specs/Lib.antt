@@ -1,0 +1,11 @@
+pub mod Batches
+pub mod Turn
+pub mod Hosts
+pub mod Joining
+pub mod Prepared
+pub mod Oldest
+pub mod OutRows
+pub mod Due
+pub mod Giving
+pub mod TurnMade
+pub mod Applied

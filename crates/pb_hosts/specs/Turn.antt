@@ -1,0 +1,101 @@
+-- How a batch goes on from its current place, in three parts, each on what the one before it left: what one host did for all goes to the others, hosts
+-- are halted, and the next place is the least at which one of them is (Ansible's documentation, "Controlling where tasks run", "Error handling in
+-- playbooks", and "Controlling playbook execution: strategies and more").
+use Rattle.std.specs.Prelude.{ℕ, ◌*◌, ◌==◌, nat_lt, Bool, false, ◌&&◌, ◌||◌, List, [], ◌∷◌, map, Option, Some, None, count_by, slice_get, if◌then◌else◌}
+use Rattle.std.specs.List.{list_any}
+use Rattle.std.specs.Option.{option_map_or}
+use Rattle.pb_inventory.specs.InventoryOf.{InventoryOf}
+use Rattle.pb_places.specs.Place.{PlaceOf}
+use Rattle.pb_plan.specs.Plan.{PlayOf}
+use Rattle.pb_host.specs.Ends.{breaks, plain_answer, ends_run_once, is_fatal}
+use Rattle.pb_host.specs.Host.{HostOf, answered, caught_at, runs_once_at, facts_after, is_at}
+use Rattle.pb_host.specs.declared.host.LastTask.{LastTask}
+pub use Rattle.pb_host.specs.Turned.{may_be_halted, halted}
+
+-- the rows of a batch, and the sizes of those of its play that come behind it
+pub record BatchOf : Type 0 where
+  pub rows : List HostOf
+  pub sizes_left : List ℕ
+
+-- ---- what one host did for all
+-- a task that runs once is settled as a host has finished it so
+abbrev pub ends_run_once_at : ℕ → LastTask → Bool
+ends_run_once_at p finish = (finish.place == p) && ends_run_once finish.kind
+
+abbrev pub has_done_run_once : ℕ → HostOf → Bool
+has_done_run_once p row = option_map_or (ends_run_once_at p) row.last false
+
+abbrev pub is_run_once_done_at : PlayOf → List HostOf → ℕ → Bool
+is_run_once_done_at play rows p = runs_once_at play p && list_any (has_done_run_once p) rows
+
+abbrev pub is_run_once_done : PlayOf → List HostOf → Option ℕ → Bool
+is_run_once_done play rows place = option_map_or (is_run_once_done_at play rows) place false
+
+-- the first of these hosts that did so
+abbrev pub run_once_host : ℕ → List HostOf → Option HostOf
+run_once_host p [] = None
+run_once_host p (row ∷ rows) = if has_done_run_once p row then Some row else run_once_host p rows
+
+abbrev pub source : PlayOf → ℕ → List HostOf → Option HostOf
+source play p rows = if runs_once_at play p then run_once_host p rows else None
+
+-- A host whose next place it is gets that host's answer, and learns what that one registered and learnt itself, but for the facts of a delegated item
+-- where facts are delegated: these are the delegate's alone. No handler is notified, and nothing counts.
+abbrev pub copied : InventoryOf → PlayOf → ℕ → LastTask → HostOf → HostOf
+copied inventory play p finish row =
+    record (answered (plain_answer finish.kind) row) {
+      is_broken = row.is_broken || breaks (caught_at play p) finish.kind;
+      facts = facts_after inventory play p None finish.items row.facts;
+    }
+
+abbrev pub copied_if : InventoryOf → PlayOf → ℕ → HostOf → LastTask → HostOf
+copied_if inventory play p row finish = if is_at p row then copied inventory play p finish row else row
+
+abbrev pub copied_from : InventoryOf → PlayOf → ℕ → HostOf → HostOf → HostOf
+copied_from inventory play p row from = option_map_or (copied_if inventory play p row) from.last row
+
+abbrev pub with_copy : InventoryOf → PlayOf → ℕ → Option HostOf → HostOf → HostOf
+with_copy inventory play p from row = option_map_or (copied_from inventory play p row) from row
+
+-- the first part
+abbrev pub copies : InventoryOf → PlayOf → ℕ → BatchOf → BatchOf
+copies inventory play p batch = record batch { rows = map (with_copy inventory play p (source play p batch.rows)) batch.rows }
+
+-- ---- failures that halt all
+-- a host has ended the task at a place so
+abbrev pub ends_fatally : PlayOf → ℕ → LastTask → Bool
+ends_fatally play p finish = (finish.place == p) && is_fatal (caught_at play p) finish.kind
+
+abbrev pub has_ended_fatally : PlayOf → ℕ → HostOf → Bool
+has_ended_fatally play p row = option_map_or (ends_fatally play p) row.last false
+
+abbrev pub any_errors_fatal_at : PlayOf → ℕ → Bool
+any_errors_fatal_at play p = option_map_or (λ (place : PlaceOf). place.any_errors_fatal) (slice_get play.places p) false
+
+abbrev pub is_fatal_at : PlayOf → ℕ → List HostOf → Bool
+is_fatal_at play p rows = any_errors_fatal_at play p && list_any (has_ended_fatally play p) rows
+
+-- more of the batch's hosts are broken than the play allows
+abbrev pub batch_count : List HostOf → ℕ
+batch_count rows = count_by (λ (row : HostOf). row.in_batch) rows
+
+abbrev pub broken_count : List HostOf → ℕ
+broken_count rows = count_by (λ (row : HostOf). row.is_broken) rows
+
+abbrev pub has_failed_too_often : PlayOf → List HostOf → Bool
+has_failed_too_often play rows = nat_lt (play.max_fail_percentage * batch_count rows) (100 * broken_count rows)
+
+abbrev pub is_halting : PlayOf → ℕ → List HostOf → Bool
+is_halting play p rows = is_fatal_at play p rows || has_failed_too_often play rows
+
+-- the second part: where hosts are halted, no further batch of the play opens
+abbrev pub halts : PlayOf → ℕ → BatchOf → BatchOf
+halts play p batch = if is_halting play p batch.rows then record { rows = map halted batch.rows; sizes_left = [] } else batch
+
+-- both
+abbrev pub turned : InventoryOf → PlayOf → ℕ → BatchOf → BatchOf
+turned inventory play p batch = halts play p (copies inventory play p batch)
+
+-- a batch without a current place stays as it is
+abbrev pub turned_by : InventoryOf → PlayOf → BatchOf → Option ℕ → BatchOf
+turned_by inventory play batch place = option_map_or (λ p. turned inventory play p batch) place batch

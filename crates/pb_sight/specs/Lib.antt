@@ -1,9 +1,0 @@
-pub mod Ends
-pub mod Delegates
-pub mod Learning
-pub mod Gifts
-pub mod Teaching
-pub mod Results
-pub mod Seen
-pub mod Unread
-pub mod Own

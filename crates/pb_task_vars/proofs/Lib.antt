@@ -1,0 +1,7 @@
+pub mod FewItems
+pub mod ForOthers
+pub mod Layered
+pub mod ReadHosts
+mod Settled
+pub mod FactsAfter
+pub mod AttemptsUnread

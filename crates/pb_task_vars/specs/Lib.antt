@@ -1,0 +1,9 @@
+pub mod Ends
+pub mod Delegates
+pub mod Learning
+pub mod Gifts
+pub mod Teaching
+pub mod Results
+pub mod WithHostvars
+pub mod Unread
+pub mod HostVars
