@@ -1,5 +1,5 @@
 -- How a text is cut into tokens.
-use Rattle.std.specs.Prelude.{ℕ, zero, suc, ◌+◌, ◌-◌, ◌*◌, ℤ, pos, Bool, true, false, ◌==◌, ◌||◌, nat_le, List, [], ◌∷◌, ◌++◌, Option, Some, None, Result, Ok, Err, codes, if◌then◌else◌}
+use Rattle.std.specs.Prelude.{ℕ, zero, suc, ◌+◌, ◌-◌, ◌*◌, ℤ, pos, Bool, true, false, ◌==◌, ◌||◌, nat_le, List, [], ◌∷◌, ◌++◌, Option, Some, None, Result, Ok, Err, codes, unwrap_or, if◌then◌else◌}
 use Rattle.std.specs.Char.{is_ascii_digit}
 use Rattle.std.specs.List.{prefix_len, take_while}
 use Rattle.std.specs.Str.{bytes_eq}
@@ -18,20 +18,26 @@ use Rattle.pb_expr_syntax.specs.declared.token.Token.{Token}
 abbrev pub is_space : ℕ → Bool
 is_space b = b == 32 || b == 9 || b == 10 || b == 13
 
--- the reserved words; any other word is a name
-abbrev pub word_kind : List ℕ → Kind
-word_kind word =
-    if bytes_eq word (codes "and") then kind.And else
-    if bytes_eq word (codes "or") then kind.Or else
-    if bytes_eq word (codes "not") then kind.Not else
-    if bytes_eq word (codes "in") then kind.In else
-    if bytes_eq word (codes "is") then kind.Is else
+-- the reserved words: those that join operands or turn them, and those that stand for a value; any other word is a name
+abbrev pub joining_word : List ℕ → Option Kind
+joining_word word =
+    if bytes_eq word (codes "and") then Some kind.And else
+    if bytes_eq word (codes "or") then Some kind.Or else
+    if bytes_eq word (codes "not") then Some kind.Not else
+    if bytes_eq word (codes "in") then Some kind.In else
+    if bytes_eq word (codes "is") then Some kind.Is else None
+
+abbrev pub standing_word : List ℕ → Kind
+standing_word word =
     if bytes_eq word (codes "true") then kind.True else
     if bytes_eq word (codes "True") then kind.True else
     if bytes_eq word (codes "false") then kind.False else
     if bytes_eq word (codes "False") then kind.False else
     if bytes_eq word (codes "none") then kind.Null else
     if bytes_eq word (codes "None") then kind.Null else kind.Name
+
+abbrev pub word_kind : List ℕ → Kind
+word_kind word = unwrap_or (joining_word word) (standing_word word)
 
 abbrev pub lexeme : Kind → ℕ → List ℕ → ℤ → ℕ → Lexeme
 lexeme k at text number size = record { token = record { kind = k; at = at; text = text; number = number }; size = size }

@@ -4,7 +4,7 @@ ghost use Rattle.std.specs.Char.{is_ascii_digit};
 ghost use Rattle.std.specs.List.{prefix_len};
 ghost use Rattle.pb_value.specs.Reading.{map_ok};
 ghost use Rattle.pb_value.specs.Words.{begins_name, continues_name};
-ghost use Rattle.pb_expr_syntax.specs.Tokens.{is_space, word_kind, word_at, number_after, number_at, escaped, text_from, quoted, double_sign, single_sign, sign, begins_equal, sign_at, begins_space, class_of, lexeme_at, tokens_of};
+ghost use Rattle.pb_expr_syntax.specs.Tokens.{is_space, joining_word, standing_word, word_kind, word_at, number_after, number_at, escaped, text_from, quoted, double_sign, single_sign, sign, begins_equal, sign_at, begins_space, class_of, lexeme_at, tokens_of};
 
 use crate::fault::ExprFault;
 use crate::grammar::Kind;
@@ -73,20 +73,30 @@ fn digits_length(bytes: &[u8]) -> usize
     n
 }
 
-fn word_kind(word: &str) -> Kind
-    ensures { result ≡ word_kind word.now }
+/// What a word is that joins operands or turns them.
+fn joining_word(word: &str) -> Option<Kind>
+    ensures { result ≡ joining_word word.now }
 {
     if word == "and" {
-        Kind::And
+        Some(Kind::And)
     } else if word == "or" {
-        Kind::Or
+        Some(Kind::Or)
     } else if word == "not" {
-        Kind::Not
+        Some(Kind::Not)
     } else if word == "in" {
-        Kind::In
+        Some(Kind::In)
     } else if word == "is" {
-        Kind::Is
-    } else if word == "true" || word == "True" {
+        Some(Kind::Is)
+    } else {
+        None
+    }
+}
+
+/// What any other word is.
+fn standing_word(word: &str) -> Kind
+    ensures { result ≡ standing_word word.now }
+{
+    if word == "true" || word == "True" {
         Kind::True
     } else if word == "false" || word == "False" {
         Kind::False
@@ -94,6 +104,15 @@ fn word_kind(word: &str) -> Kind
         Kind::Null
     } else {
         Kind::Name
+    }
+}
+
+fn word_kind(word: &str) -> Kind
+    ensures { result ≡ word_kind word.now }
+{
+    match joining_word(word) {
+        Some(kind) => kind,
+        None => standing_word(word),
     }
 }
 
