@@ -1,3 +1,4 @@
+pub mod Hosts
 pub mod Joined
 pub mod LentMaps
 pub mod Seen

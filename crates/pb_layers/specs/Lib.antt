@@ -4,3 +4,4 @@ pub mod Marked
 pub mod Rows
 pub mod Lent
 pub mod Merged
+pub mod Host

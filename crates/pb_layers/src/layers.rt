@@ -1,6 +1,7 @@
 ghost use Rattle.std.specs.Prelude.{◌≡◌, option_copied};
 ghost use Rattle.pb_value.specs.Datum.{value_at};
 
+use crate::host::{HostMagic, value_of_host};
 use crate::lent::Merged;
 use pb_value::val::{Dict, Val};
 use std::marker::Model;
@@ -58,12 +59,12 @@ impl<'a> Model for Layers<'a> {
         l.role_parameters.now l.extra_variables.now) l.plain.now ≡ true };
 }
 
-/// The magic variables, which the engine gives itself: where two maps have a name, the earlier one
+/// The magic variables, which the engine gives itself: where two have a name, the earlier one
 /// gives its value (Ansible's "Special variables").
 #[derive(Drop)]
 pub struct Magic<'a> {
-    /// Those of the host.
-    pub host: &'a Dict,
+    /// Those of the host, where there is one.
+    pub host: Option<HostMagic<'a>>,
     /// Those that all hosts of the play share.
     pub play: &'a Dict,
     /// Those that all plays share.
@@ -77,21 +78,22 @@ impl<'a> Model for Magic<'a> {
     ghost use Rattle.std.specs.Coded.{codes};
     ghost use Rattle.pb_value.specs.contracts.val.Dict as dict;
     ghost use Rattle.pb_layers.specs.Scope as scope;
+    ghost use Rattle.pb_layers.specs.Host.{host_map};
 
     ghost Value = { scope.Map };
 
     ghost coded = { Prim.hlevel (codes, dict.the_row.coded) };
 
-    ghost view = { λ m. m.host.now ++ m.play.now ++ (m.plan.now ++ m.hosts.now) };
+    ghost view = { λ m. host_map m.host ++ m.play.now ++ (m.plan.now ++ m.hosts.now) };
 }
 
 impl<'a> Magic<'a> {
-    /// The value of a name, from the first map that has it.
+    /// The value of a name, from the first that has it.
     #[tactic(auto, using(crate::proofs::Joined::value_in_four))]
     pub fn get(&self, name: &str) -> Option<&'a Val>
         ensures { option_copied result ≡ value_at name.now self.now }
     {
-        if let Some(value) = self.host.get(name) {
+        if let Some(value) = value_of_host(self.host, name) {
             return Some(value);
         }
         if let Some(value) = self.play.get(name) {

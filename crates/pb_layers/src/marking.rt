@@ -15,7 +15,7 @@ fn plain_name<'a>(alloc: Global, layers: &Layers, name: &'a str) -> &'a str
 {
     let none = Dict::new(alloc);
     let magic = Magic {
-        host: &none,
+        host: None,
         play: &none,
         plan: &none,
         hosts: &none,

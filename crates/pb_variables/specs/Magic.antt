@@ -54,9 +54,9 @@ unfoldable pub play_magic : InventoryOf → List Bool → List (List ℕ × Datu
 play_magic inventory hosts = (codes "ansible_play_hosts_all", texts (names_in inventory hosts)) ∷ []
 
 -- the magic variables of a host of this name, where the names of its groups are these
-abbrev pub magic_with : Datum → List ℕ → List (List ℕ × Datum)
-magic_with names name = (codes "group_names", names) ∷ (codes "inventory_hostname", text name) ∷ []
+abbrev pub magic_with : Datum → Datum → List (List ℕ × Datum)
+magic_with names name = (codes "group_names", names) ∷ (codes "inventory_hostname", name) ∷ []
 
 -- the magic variables of a host
 unfoldable pub host_magic : InventoryOf → ℕ → List (List ℕ × Datum)
-host_magic inventory host = magic_with (texts (names_of_groups inventory host)) (host_name inventory host)
+host_magic inventory host = magic_with (texts (names_of_groups inventory host)) (text (host_name inventory host))

@@ -3,7 +3,7 @@
 //! For the layers above: `read_extra` takes the bytes of a file of extra variables and answers the
 //! variables that they spell, or the first fault in them, both exactly as `specs/Extra.antt` says.
 //! `plan_magic`, `play_magic` and `host_magic` answer the magic variables that are the same for a
-//! whole plan, for a play and for a host (`specs/Magic.antt`), each as a dict of its own. `hostvars`
+//! whole plan, for a play and for a host (`specs/Magic.antt`): the first two as dicts, those of a host as two values that are lent. `hostvars`
 //! answers what stands for the variables of all hosts, with what they have learnt, and `renewed` puts those of one host anew (`specs/Renewed.antt`).
 //! `connector` answers the words of the program that connects to a host (`specs/Connector.antt`).
 //! `GroupShares` has what all hosts have from their groups, the variables of these and their names, made once for hosts of the same groups

@@ -1,6 +1,7 @@
-ghost use Rattle.std.specs.Prelude.{◌≡◌, ◌<◌, ℕ, List, [], ◌∷◌, ◌++◌, length, codes, if◌then◌else◌, IfOk, OnOk};
+ghost use Rattle.std.specs.Prelude.{◌≡◌, ◌<◌, ℕ, List, [], ◌∷◌, ◌++◌, Some, length, codes, if◌then◌else◌, IfOk, OnOk};
 ghost use Rattle.pb_planes.specs.Set.{is_in};
 ghost use Rattle.pb_value.specs.Datum.{put, value_at};
+ghost use Rattle.pb_layers.specs.Host.{host_map};
 ghost use Rattle.pb_inventory.specs.Vars.{group_name, host_name, names_of_hosts};
 ghost use Rattle.pb_variables.specs.Magic.{texts, groups_map, names_in, plan_magic, play_magic, magic_with};
 ghost use Rattle.pb_variables.specs.ByName.{value_in, hosts_under};
@@ -8,6 +9,7 @@ ghost use Rattle.pb_variables.specs.ByName.{value_in, hosts_under};
 use crate::put::texts;
 use pb_ids::{GroupNo, HostNo};
 use pb_inventory::inventory::Inventory;
+use pb_layers::host::HostMagic;
 use pb_planes::HostSet;
 use pb_value::items::Items;
 use pb_value::text::Text;
@@ -115,21 +117,13 @@ fn is_listed(hosts: &HostSet, host: HostNo) -> bool
     hosts.has(host)
 }
 
-/// The magic variables of a host: `group_names`, the list of the names of its groups, all but `all`, in byte order, which is given; and
-/// `inventory_hostname`, its own name. The only error is want of memory.
-pub fn host_magic(
-    alloc: Global,
-    inventory: &Inventory,
-    host: HostNo,
-    names: &Val,
-) -> Result<Dict, AllocError>
-    requires { host.0 < length inventory.now.hosts }
-    ensures { IfOk result (λ known. known ≡ magic_with names.now (host_name inventory.now host.0)) }
+/// The magic variables of a host: `group_names`, the list of the names of its groups, all but `all`, in byte order, and
+/// `inventory_hostname`, its own name. Both are given, and lent.
+pub fn host_magic<'a>(names: &'a Val, name: &'a Val) -> HostMagic<'a>
+    ensures { host_map (Some result) ≡ magic_with names.now name.now }
 {
-    let groups = names.try_clone(alloc)?;
-    let name = Text::from_str(alloc, inventory.name(host))?;
-    let mut known = Dict::new(alloc);
-    known.put(alloc, "group_names", groups)?;
-    known.put(alloc, "inventory_hostname", Val::text(name))?;
-    Ok(known)
+    HostMagic {
+        group_names: names,
+        inventory_hostname: name,
+    }
 }
