@@ -48,7 +48,7 @@ fn rendered(alloc: Global, variables: &Dict, text: &str) -> Result<String, Fail>
     let none = Dict::new(alloc);
     let layers = layers_of(&none, variables);
     let magic = Magic {
-        host: &none,
+        host: None,
         play: &none,
         plan: &none,
         hosts: &none,

@@ -2,3 +2,4 @@ pub mod Weights
 pub mod Members
 pub mod Steps
 pub mod Unrendered
+pub mod Whole

@@ -1,16 +1,15 @@
 -- One step of reading.
 use Rattle.std.proofs.Common.{◌≡◌, ℕ, zero, suc, ◌-◌, ◌<◌, ◌≤◌, true, false, List, [], ◌∷◌, Some, Ok, Err, length, refl, ap, ◌∙◌, arith}
-use Rattle.pb_value.specs.Datum.{Datum, dict, members_of, value_at}
-use Rattle.pb_value.specs.Reading.{and_then}
-use Rattle.pb_value.proofs.Lists.{entries_of-members_of}
-use Rattle.pb_expr_syntax.specs.Tree as tree
+use Rattle.std.specs.Prelude.{ℤ}
+use Rattle.std.specs.Fmt.{signed_decimal}
+use Rattle.pb_value.specs.Datum.{Datum, int, text, list, dict, items_of, members_of, value_at}
+use Rattle.pb_value.proofs.Lists.{list_of-items_of, entries_of-members_of}
 use Rattle.pb_expr_syntax.specs.Tree.{Tree, trees_of}
-use Rattle.pb_expr_syntax.specs.declared.tree.Filter.TheVariants as filter
 use Rattle.pb_layers.specs.Scope.{Map, found, has_templates}
 use Rattle.pb_operators.specs.declared.fault.EvalFault.TheVariants.{WrongKind}
-use Rattle.pb_operators.specs.Operators.{member_of, part_under}
+use Rattle.pb_operators.specs.Operators.{at_number, index_of, member_of, part_under}
 use Rattle.pb_operators.specs.Values.{Value}
-use Rattle.pb_expr_eval.specs.Value.{Names, value, each, defaulted}
+use Rattle.pb_expr_eval.specs.Value.{Names, each, defaulted}
 use Rattle.pb_expr_eval.specs.Rendering.{rendered}
 use Rattle.pb_expr_eval.specs.Scoped.{names_in}
 
@@ -37,11 +36,9 @@ stored_name scope (suc n) name f lt e t = rw (e, t)
 pub member_there : (ms : Map) (s : List ℕ) (v : Datum) → value_at s ms ≡ Some v → member_of (dict (members_of ms)) s ≡ Ok v
 member_there ms s v e = ap (λ es. part_under s (value_at s es)) (entries_of-members_of ms) ∙ ap (part_under s) e
 
--- a member of what was read, and what `default` gives where it was read
-pub member_lent : (names : Names) (x : Tree) (s : List ℕ) (d v : Datum) → value names x ≡ Ok d → member_of d s ≡ Ok v → value names (tree.Member x s) ≡ Ok v
-member_lent names x s d v e h = ap (λ r. and_then r (λ a. member_of a s)) e ∙ h
+-- what stands under a key that is there
+pub text_there : (ms : Map) (s : List ℕ) (v : Datum) → value_at s ms ≡ Some v → index_of (dict (members_of ms)) (text s) ≡ Ok v
+text_there ms s v e = ap (λ es. part_under s (value_at s es)) (entries_of-members_of ms) ∙ ap (part_under s) e
 
-pub default_lent : (names : Names) (x : Tree) (args : List Tree) (v : Datum) → length args ≡ 1 → value names x ≡ Ok v → value names (tree.Apply filter.Default x (trees_of args)) ≡ Ok v
-default_lent names x [] v one e = absurd (omega arith)
-default_lent names x (a ∷ []) v one e = ap (λ r. defaulted r (value names a ∷ [])) e
-default_lent names x (a ∷ b ∷ args) v one e = absurd (omega arith)
+pub number_there : (ds : List Datum) (z : ℤ) (v : Datum) → at_number ds z ≡ Some v → index_of (list (items_of ds)) (int z) ≡ Ok v
+number_there ds z v e = ap (λ xs. part_under (signed_decimal z) (at_number xs z)) (list_of-items_of ds) ∙ ap (part_under (signed_decimal z)) e

@@ -1,15 +1,19 @@
 //! The public calls.
 ghost use Rattle.std.specs.Prelude.{◌≡◌, ◌≢◌, IfOk, IfErr, Ok, Err};
+ghost use Rattle.pb_operators.specs.Values.{finished};
 ghost use Rattle.pb_operators.specs.declared.fault.EvalFault.TheVariants as fault;
 ghost use Rattle.pb_value.specs.Datum.{text};
+ghost use Rattle.pb_value.specs.Reading.{and_then};
 ghost use Rattle.pb_expr_eval.specs.Scoped.{eval_of, render_of, rendered_of};
 
-use crate::reading::{measured, rendered, rendered_parts, templated};
+use crate::reading::{measured, rendered, rendered_parts};
 use pb_expr_syntax::tree::Expr;
 use pb_layers::scope::Scope;
 use pb_operators::fault::EvalFault;
 use pb_operators::operators::finished;
+use pb_prepared::prepared::Prepared;
 use pb_template::template::Template;
+use pb_value::text::Text;
 use pb_value::val::Val;
 use std::alloc::Global;
 
@@ -52,13 +56,33 @@ pub fn render_value(alloc: Global, value: &Val, scope: &Scope) -> Result<Val, Ev
 }
 
 /// What a text gives as a template, or its first fault, with the limits of `eval`.
-#[tactic(auto, unfolding(crate::specs::Scoped::rendered_of))]
 pub fn render_text(alloc: Global, words: &str, scope: &Scope) -> Result<Val, EvalFault>
     ensures value { IfOk result (λ v. rendered_of scope.now (text words.now) ≡ Ok v) }
     ensures fault { IfErr result (λ e. e ≢ fault.Memory → rendered_of scope.now (text words.now) ≡ Err e) }
 {
-    match templated(alloc, scope, MAX_LOOK_UPS, words) {
+    let value = Val::text(Text::from_str(alloc, words)?);
+    render_value(alloc, &value, scope)
+}
+
+/// What the parts of a template give, measured at the end.
+fn whole(alloc: Global, template: &Template, scope: &Scope) -> Result<Val, EvalFault>
+    ensures value { IfOk result (λ v. and_then (render_of scope.now template.now.parts) finished ≡ Ok v) }
+    ensures fault { IfErr result (λ e. e ≢ fault.Memory → and_then (render_of scope.now template.now.parts) finished ≡ Err e) }
+{
+    match render(alloc, template, scope) {
         Ok(value) => finished(value),
         Err(fault) => Err(fault),
+    }
+}
+
+/// What a prepared value gives, as `render_value` gives it: a text that was parsed isn't parsed again.
+#[tactic(auto, using(crate::proofs::Whole::of_parts))]
+pub fn render_prepared(alloc: Global, prepared: &Prepared, scope: &Scope) -> Result<Val, EvalFault>
+    ensures value { IfOk result (λ v. rendered_of scope.now prepared.now ≡ Ok v) }
+    ensures fault { IfErr result (λ e. e ≢ fault.Memory → rendered_of scope.now prepared.now ≡ Err e) }
+{
+    match prepared.template() {
+        Some(template) => whole(alloc, template, scope),
+        None => render_value(alloc, prepared.value(), scope),
     }
 }

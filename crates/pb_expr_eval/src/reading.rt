@@ -5,7 +5,6 @@ ghost use Rattle.pb_value.specs.Datum.{items_of, members_of, named};
 ghost use Rattle.pb_value.specs.Reading.{and_then};
 ghost use Rattle.pb_expr_syntax.specs.Tree as tree;
 ghost use Rattle.pb_expr_syntax.specs.Tree.{trees_of};
-ghost use Rattle.pb_operators.specs.Operators.{member_of};
 ghost use Rattle.pb_operators.specs.declared.fault.EvalFault.TheVariants as fault;
 ghost use Rattle.pb_expr_eval.specs.Value.{value, values, each, defaulted, apply};
 ghost use Rattle.pb_template.specs.Computed.{template_of};
@@ -20,7 +19,7 @@ use pb_expr_syntax::tree::{Expr, Filter, Form, Op};
 use pb_layers::scope::{Scope, has_templates};
 use pb_operators::fault::EvalFault;
 use pb_operators::operators::{binary, finished, negate, text_within};
-use pb_operators::parts::{index, member, undefined};
+use pb_operators::parts::undefined;
 use pb_template::plain::is_plain;
 use pb_template::template::{Part, Template};
 use pb_value::text::Text;
@@ -41,8 +40,14 @@ fn value(alloc: Global, scope: &Scope, levels: u32, expr: &Expr) -> Result<Val, 
         Form::Truth(truth) => Ok(Val::boolean(*truth)),
         Form::Null => Ok(Val::null()),
         Form::List(items) => Ok(Val::list(values(alloc, scope, levels, items.as_slice())?)),
-        Form::Member(x, name) => membered(alloc, scope, levels, x, name.as_str()),
-        Form::Index(x, y) => indexed(alloc, scope, levels, x, y),
+        Form::Member(x, name) => {
+            let part = membered(alloc, scope, levels, x, name.as_str())?;
+            Ok(part.into_val(alloc)?)
+        }
+        Form::Index(x, y) => {
+            let part = indexed(alloc, scope, levels, x, y)?;
+            Ok(part.into_val(alloc)?)
+        }
         Form::Not(x) => {
             let x = operand(alloc, scope, levels, x)?;
             Ok(Val::boolean(!x.get().truthy()))
@@ -53,7 +58,8 @@ fn value(alloc: Global, scope: &Scope, levels: u32, expr: &Expr) -> Result<Val, 
         }
         Form::Binary(op, x, y) => operated(alloc, scope, levels, *op, x, y),
         Form::Apply(Filter::Default, x, args) => {
-            defaulted(alloc, scope, levels, x, args.as_slice())
+            let there = defaulted(alloc, scope, levels, x, args.as_slice())?;
+            Ok(there.into_val(alloc)?)
         }
         Form::Apply(filter, x, args) => filtered(alloc, scope, levels, *filter, x, args.as_slice()),
         Form::IsDefined(x, present) => defined(alloc, scope, levels, x, *present),
@@ -103,39 +109,8 @@ fn stored<'a>(scope: &Scope<'a>, levels: u32, name: &str) -> Option<&'a Val>
     None
 }
 
-/// The member of that name, where there is one.
-#[tactic(auto, using(crate::proofs::Steps::member_there))]
-fn part<'a>(x: &'a Val, name: &str) -> Option<&'a Val>
-    ensures { IfSome (option_copied result) (λ v. member_of x.now name.now ≡ Ok v) }
-{
-    let Node::Dict(dict) = &x.node else {
-        return None;
-    };
-    let part = dict.get(name)?;
-    Some(part)
-}
-
-/// The value of a name that is read as it is stored, or of a member of it: these are read without a copy of the whole. `hostvars` has an entry for
-/// each host. What is there is also what `default` gives.
-#[tactic(auto, using(crate::proofs::Steps::member_lent, crate::proofs::Steps::default_lent))]
-fn lent<'a>(scope: &Scope<'a>, levels: u32, expr: &Expr) -> Option<&'a Val>
-    ensures { IfSome (option_copied result) (λ v. value (names_in scope.now levels) expr.now ≡ Ok v) }
-{
-    match &expr.form {
-        Form::Name(name) => stored(scope, levels, name.as_str()),
-        Form::Member(x, name) => {
-            let part = part(lent(scope, levels, x)?, name.as_str())?;
-            Some(part)
-        }
-        Form::Apply(Filter::Default, x, args) if args.len() == 1 => {
-            let value = lent(scope, levels, x)?;
-            Some(value)
-        }
-        _ => None,
-    }
-}
-
-/// An operand, which is lent where it can be.
+/// An operand, which is lent where it can be: a name that is read as it is stored, and what stands in it, so that it is read without a copy of the whole.
+/// `hostvars` has an entry for each host.
 #[cycle(reading)]
 #[inline(never)]
 fn operand<'a>(
@@ -147,39 +122,53 @@ fn operand<'a>(
     ensures value { IfOk result (λ x. value (names_in scope.now levels) expr.now ≡ Ok (held x)) }
     ensures fault { IfErr result (λ e. e ≢ fault.Memory → value (names_in scope.now levels) expr.now ≡ Err e) }
 {
-    match lent(scope, levels, expr) {
-        Some(value) => Ok(Operand::Lent(value)),
-        None => Ok(Operand::Made(value(alloc, scope, levels, expr)?)),
+    match &expr.form {
+        Form::Name(name) => match stored(scope, levels, name.as_str()) {
+            Some(value) => Ok(Operand::Lent(value)),
+            None => Ok(Operand::Made(read(alloc, scope, levels, name.as_str())?)),
+        },
+        Form::Member(x, name) => membered(alloc, scope, levels, x, name.as_str()),
+        Form::Index(x, y) => indexed(alloc, scope, levels, x, y),
+        Form::Apply(Filter::Default, x, args) => {
+            defaulted(alloc, scope, levels, x, args.as_slice())
+        }
+        _ => Ok(Operand::Made(value(alloc, scope, levels, expr)?)),
     }
 }
 
 /// The member of that name.
 #[cycle(reading)]
 #[inline(never)]
-fn membered(
+fn membered<'a>(
     alloc: Global,
-    scope: &Scope,
+    scope: &Scope<'a>,
     levels: u32,
     x: &Expr,
     name: &str,
-) -> Result<Val, EvalFault>
-    ensures value { IfOk result (λ v. value (names_in scope.now levels) (tree.Member x.now name.now) ≡ Ok v) }
+) -> Result<Operand<'a>, EvalFault>
+    ensures value { IfOk result (λ v. value (names_in scope.now levels) (tree.Member x.now name.now) ≡ Ok (held v)) }
     ensures fault { IfErr result (λ e. e ≢ fault.Memory → value (names_in scope.now levels) (tree.Member x.now name.now) ≡ Err e) }
 {
     let x = operand(alloc, scope, levels, x)?;
-    member(alloc, x.get(), name)
+    x.member(alloc, name)
 }
 
 /// The member under a key that is read.
 #[cycle(reading)]
 #[inline(never)]
-fn indexed(alloc: Global, scope: &Scope, levels: u32, x: &Expr, y: &Expr) -> Result<Val, EvalFault>
-    ensures value { IfOk result (λ v. value (names_in scope.now levels) (tree.Index x.now y.now) ≡ Ok v) }
+fn indexed<'a>(
+    alloc: Global,
+    scope: &Scope<'a>,
+    levels: u32,
+    x: &Expr,
+    y: &Expr,
+) -> Result<Operand<'a>, EvalFault>
+    ensures value { IfOk result (λ v. value (names_in scope.now levels) (tree.Index x.now y.now) ≡ Ok (held v)) }
     ensures fault { IfErr result (λ e. e ≢ fault.Memory → value (names_in scope.now levels) (tree.Index x.now y.now) ≡ Err e) }
 {
     let x = operand(alloc, scope, levels, x)?;
     let y = operand(alloc, scope, levels, y)?;
-    index(alloc, x.get(), y.get())
+    x.index(alloc, y.get())
 }
 
 /// A filter but `default`.
@@ -219,31 +208,31 @@ fn values(alloc: Global, scope: &Scope, levels: u32, items: &[Expr]) -> Result<V
 #[cycle(reading)]
 #[inline(never)]
 #[tactic(auto, using(crate::proofs::Steps::defaulted_many))]
-fn defaulted(
+fn defaulted<'a>(
     alloc: Global,
-    scope: &Scope,
+    scope: &Scope<'a>,
     levels: u32,
     x: &Expr,
     args: &[Expr],
-) -> Result<Val, EvalFault>
+) -> Result<Operand<'a>, EvalFault>
     ensures value { IfOk result
-        (λ v. defaulted (value (names_in scope.now levels) x.now) (each (names_in scope.now levels) (trees_of args.now)) ≡ Ok v) }
+        (λ v. defaulted (value (names_in scope.now levels) x.now) (each (names_in scope.now levels) (trees_of args.now)) ≡ Ok (held v)) }
     ensures fault { IfErr result
         (λ e. e ≢ fault.Memory → defaulted (value (names_in scope.now levels) x.now) (each (names_in scope.now levels) (trees_of args.now)) ≡ Err e) }
 {
     match args {
         [] => Err(EvalFault::WrongKind),
-        [other] => match value(alloc, scope, levels, x) {
-            Err(EvalFault::Undefined { name: _ }) => value(alloc, scope, levels, other),
+        [other] => match operand(alloc, scope, levels, x) {
+            Err(EvalFault::Undefined { name: _ }) => operand(alloc, scope, levels, other),
             outcome => outcome,
         },
-        [other, if_false] => match value(alloc, scope, levels, x) {
-            Err(EvalFault::Undefined { name: _ }) => value(alloc, scope, levels, other),
+        [other, if_false] => match operand(alloc, scope, levels, x) {
+            Err(EvalFault::Undefined { name: _ }) => operand(alloc, scope, levels, other),
             Err(fault) => Err(fault),
             Ok(x) => {
-                let if_false = value(alloc, scope, levels, if_false)?;
-                if if_false.truthy() && !x.truthy() {
-                    value(alloc, scope, levels, other)
+                let if_false = operand(alloc, scope, levels, if_false)?;
+                if if_false.get().truthy() && !x.get().truthy() {
+                    operand(alloc, scope, levels, other)
                 } else {
                     Ok(x)
                 }
@@ -295,9 +284,10 @@ fn read(alloc: Global, scope: &Scope, levels: u32, name: &str) -> Result<Val, Ev
     }
 }
 
-/// A value with its texts rendered.
+/// A value with its texts rendered. A text that stands for itself isn't parsed.
 #[cycle(reading)]
 #[inline(never)]
+#[tactic(auto, using(crate::proofs::Unrendered::plain_rendered))]
 pub(crate) fn rendered(
     alloc: Global,
     scope: &Scope,
@@ -308,7 +298,12 @@ pub(crate) fn rendered(
     ensures fault { IfErr result (λ e. e ≢ fault.Memory → rendered (names_in scope.now levels) stored.now ≡ Err e) }
 {
     match &stored.node {
-        Node::Text(text) => templated(alloc, scope, levels, text.as_str()),
+        Node::Text(text) => {
+            if is_plain(stored) {
+                return Ok(stored.try_clone(alloc)?);
+            }
+            templated(alloc, scope, levels, text.as_str())
+        }
         Node::List(items) => Ok(Val::list(rendered_items(alloc, scope, levels, items)?)),
         Node::Dict(dict) => Ok(Val::dict(rendered_members(alloc, scope, levels, dict)?)),
         _ => Ok(stored.try_clone(alloc)?),
@@ -318,12 +313,7 @@ pub(crate) fn rendered(
 /// What a text gives, if it is a template.
 #[cycle(reading)]
 #[inline(never)]
-pub(crate) fn templated(
-    alloc: Global,
-    scope: &Scope,
-    levels: u32,
-    text: &str,
-) -> Result<Val, EvalFault>
+fn templated(alloc: Global, scope: &Scope, levels: u32, text: &str) -> Result<Val, EvalFault>
     ensures value { IfOk result (λ v. templated (names_in scope.now levels) (template_of text.now) ≡ Ok v) }
     ensures fault { IfErr result (λ e. e ≢ fault.Memory → templated (names_in scope.now levels) (template_of text.now) ≡ Err e) }
 {

@@ -50,7 +50,7 @@ fn fault_of(alloc: Global, variables: &Dict, expr: &Expr) -> Option<EvalFault> {
     let none = Dict::new(alloc);
     let layers = layers_of(&none, variables);
     let magic = Magic {
-        host: &none,
+        host: None,
         play: &none,
         plan: &none,
         hosts: &none,
