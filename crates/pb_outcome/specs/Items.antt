@@ -116,6 +116,17 @@ abbrev pub plain_result : List ℕ → List Item → Datum
 plain_result variable [] = no_items_result
 plain_result variable (item ∷ items) = result_from variable item items
 
+-- the result of the one item of a task without a loop: it is what the task shows and registers
+abbrev pub only_then : Option Datum → Planned → Option Datum
+only_then None (Decided result) = Some result.result
+only_then None (Sends call) = None
+only_then (Some value) step = None
+
+abbrev pub only_result : List Item → Option Datum
+only_result [] = None
+only_result (item ∷ []) = only_then item.value item.step
+only_result (item ∷ another ∷ items) = None
+
 -- what a task shows and registers, with the name of its loop variable: where an item found its host out of reach, that item's
 -- result alone
 abbrev pub result_of : List ℕ → List Item → Datum

@@ -8,6 +8,7 @@ pub mod Limits
 pub mod Output
 pub mod Putting
 pub mod Reading
+pub mod ResultNames
 pub mod Results
 pub mod Rows
 pub mod Whole

@@ -1,9 +1,11 @@
 ghost use Rattle.std.specs.Prelude.{◌≡◌, IfOk, OnOk, false, codes};
 ghost use Rattle.pb_value.specs.Datum.{boolean, put};
 ghost use Rattle.pb_outcome.specs.Decided.{said, faulty_result, debug_result, shown_result, fail_result};
+ghost use Rattle.pb_outcome.specs.Results.{facts_result};
 
 use crate::gather::{Ending, ItemResult};
 use crate::members::{flagged, put_flags};
+use crate::result_names::ResultNames;
 use pb_value::text::Text;
 use pb_value::val::{Dict, Val};
 use std::alloc::{AllocError, Global};
@@ -27,17 +29,24 @@ pub fn faulty_result(alloc: Global, msg: &str) -> Result<ItemResult, AllocError>
     })
 }
 
-/// The result of an item of `debug`, which shows this value. See Ansible's documentation of `ansible.builtin.debug`.
-pub fn debug_result(alloc: Global, msg: &Val) -> Result<ItemResult, AllocError>
-    ensures { IfOk result (λ r. r ≡ debug_result msg.now) }
+/// A result that says this, whose names are kept for many.
+fn said_by(alloc: Global, names: &ResultNames, failed: bool, msg: Val) -> Result<Val, AllocError>
+    ensures { IfOk result (λ v. v ≡ said failed msg) }
 {
-    let msg = msg.try_clone(alloc)?;
+    let values = vec![in alloc; Val::boolean(false), Val::boolean(failed), msg]?;
+    Ok(Val::dict(Dict::of_names(names.said(), values)?))
+}
+
+/// The result of an item of `debug`, which shows this value. See Ansible's documentation of `ansible.builtin.debug`.
+pub fn debug_result(alloc: Global, names: &ResultNames, msg: Val) -> Result<ItemResult, AllocError>
+    ensures { IfOk result (λ r. r ≡ debug_result msg) }
+{
     Ok(ItemResult {
         ending: Ending::Ran {
             changed: false,
             failed: false,
         },
-        result: said(alloc, false, msg)?,
+        result: said_by(alloc, names, false, msg)?,
     })
 }
 
@@ -51,10 +60,9 @@ fn put_shown(alloc: Global, members: &mut Dict, name: &str, value: Val) -> Resul
 
 /// The result of an item of `debug` that shows a value under a name, as `var` does: where the name is `changed` or
 /// `failed`, the result's own wins. See Ansible's documentation of `ansible.builtin.debug`.
-pub fn shown_result(alloc: Global, name: &str, value: &Val) -> Result<ItemResult, AllocError>
-    ensures { IfOk result (λ r. r ≡ shown_result name.now value.now) }
+pub fn shown_result(alloc: Global, name: &str, value: Val) -> Result<ItemResult, AllocError>
+    ensures { IfOk result (λ r. r ≡ shown_result name.now value) }
 {
-    let value = value.try_clone(alloc)?;
     let mut members = Dict::new(alloc);
     put_shown(alloc, &mut members, name, value)?;
     Ok(ItemResult {
@@ -67,15 +75,28 @@ pub fn shown_result(alloc: Global, name: &str, value: &Val) -> Result<ItemResult
 }
 
 /// The result of an item of `fail`, which fails with this value. See Ansible's documentation of `ansible.builtin.fail`.
-pub fn fail_result(alloc: Global, msg: &Val) -> Result<ItemResult, AllocError>
-    ensures { IfOk result (λ r. r ≡ fail_result msg.now) }
+pub fn fail_result(alloc: Global, names: &ResultNames, msg: Val) -> Result<ItemResult, AllocError>
+    ensures { IfOk result (λ r. r ≡ fail_result msg) }
 {
-    let msg = msg.try_clone(alloc)?;
     Ok(ItemResult {
         ending: Ending::Ran {
             changed: false,
             failed: true,
         },
-        result: said(alloc, true, msg)?,
+        result: said_by(alloc, names, true, msg)?,
+    })
+}
+
+/// The result of an item of `set_fact`, which sets these facts. See Ansible's documentation of `ansible.builtin.set_fact`.
+pub fn set_result(alloc: Global, names: &ResultNames, facts: Val) -> Result<ItemResult, AllocError>
+    ensures { IfOk result (λ r. r ≡ facts_result facts) }
+{
+    let values = vec![in alloc; facts, Val::boolean(false), Val::boolean(false)]?;
+    Ok(ItemResult {
+        ending: Ending::Ran {
+            changed: false,
+            failed: false,
+        },
+        result: Val::dict(Dict::of_names(names.facts(), values)?),
     })
 }

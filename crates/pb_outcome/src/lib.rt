@@ -20,5 +20,6 @@ pub mod outcome;
 pub mod output;
 pub mod reading;
 pub mod registered;
+pub mod result_names;
 mod short;
 pub mod writing;

@@ -1,9 +1,11 @@
 //! What a task shows and registers.
-ghost use Rattle.std.specs.Prelude.{◌≡◌, IfOk, OnOk};
+ghost use Rattle.std.specs.Prelude.{◌≡◌, ℕ, List, IfOk, IfSome, OnOk};
+ghost use Rattle.std.specs.Option.{option_copied};
 ghost use Rattle.pb_value.specs.Datum.{text, list, dict, items_of, members_of};
 ghost use Rattle.pb_outcome.specs.Putting.{put_no_items, put_results};
-ghost use Rattle.pb_outcome.specs.Items.{ended, lost_in, no_items_result, under_variable, members_in, loop_message, loop_result, result_of, shown_then};
+ghost use Rattle.pb_outcome.specs.Items.{ended, lost_in, no_items_result, under_variable, members_in, loop_message, loop_result, only_result, only_then, result_of, shown_then};
 
+use crate::gather::ItemResult;
 use crate::item::{Item, Planned};
 use crate::items::{are_skipped, has_changed, has_failed, has_unreachable};
 use crate::members::{flagged, put_text};
@@ -141,5 +143,59 @@ pub fn registered(alloc: Global, variable: &str, items: &[Item]) -> Result<Val, 
                 shown(alloc, &item.step)
             }
         }
+    }
+}
+
+/// The result of an item of a task without a loop, if it has one.
+fn only_then<'a>(value: &Option<Val>, step: &'a Planned) -> Option<&'a Val>
+    ensures { option_copied result ≡ only_then value.now step.now }
+{
+    match (value, step) {
+        (None, Planned::Decided(result)) => Some(&result.result),
+        (None, Planned::Sends(_)) => None,
+        (Some(_), _) => None,
+    }
+}
+
+/// The result of the one item of a task without a loop, if it has one: it is what the task shows and registers, and needn't be
+/// copied.
+pub fn only_result(items: &[Item]) -> Option<&Val>
+    ensures value { option_copied result ≡ only_result items.now }
+    ensures shown { (variable : List ℕ) → IfSome (only_result items.now) (λ v. v ≡ result_of variable items.now) }
+{
+    match items {
+        [item] => only_then(&item.value, &item.step),
+        _ => None,
+    }
+}
+
+/// An item's result itself, where its task has no loop and it has one.
+fn only_of(item: Item) -> Option<Val>
+    ensures { result ≡ only_then item.value item.step }
+{
+    let Item {
+        value,
+        delegate,
+        tried: _,
+        step,
+    } = item;
+    drop(delegate);
+    match (value, step) {
+        (None, Planned::Decided(ItemResult { ending: _, result })) => Some(result),
+        _ => None,
+    }
+}
+
+/// The result of the one item of a task without a loop, taken out of its items. It takes no memory.
+pub fn into_only_result(items: Vec<Item>) -> Option<Val>
+    ensures { result ≡ only_result items.items }
+{
+    let mut items = items;
+    if items.len() != 1 {
+        return None;
+    }
+    match items.pop() {
+        Some(item) => only_of(item),
+        None => None,
     }
 }
