@@ -12,6 +12,7 @@ use Rattle.pb_role_entries.specs.Keys.{one_more_param, key, tags, asked}
 use Rattle.pb_role_entries.specs.declared.entry.RoleEntry.{RoleEntry}
 use Rattle.pb_role_entries.specs.declared.keys.Asked.{Asked}
 use Rattle.pb_role_entries.specs.declared.keys.Params.{Params}
+use Rattle.pb_role_entries.specs.declared.reading.Given.{Given}
 
 -- the role stands at one of two keys
 abbrev pub one_name : List ℕ → Option (List ℕ) → Option (List ℕ) → Reading (List ℕ) LoadFault
@@ -39,15 +40,21 @@ entry_of name tags vars asked params =
       as_written = record { vars = option_map (λ ms. dict (members_of ms)) vars; when = written_in asked; tags = tags };
     }
 
--- an entry behind the keys for its role; that one of the two has to be there is told behind all keys
-abbrev pub rest_of_entry : List ℕ → Option (List ℕ) → Option (List ℕ) → Part Params LoadFault RoleEntry
-rest_of_entry path name role = do
+-- what it gives its role beside parameters
+abbrev pub given : Part Params LoadFault Given
+given = do
   tags ← key (codes "tags") tags
   vars ← key (codes "vars") (each_named_of template_value)
   asked ← key (codes "when") asked
+  rule (Ok (record { tags = tags; vars = vars; asked = asked }))
+
+-- an entry behind the keys for its role; that one of the two has to be there is told behind all keys
+abbrev pub rest_of_entry : List ℕ → Option (List ℕ) → Option (List ℕ) → Part Params LoadFault RoleEntry
+rest_of_entry path name role = do
+  given ← given
   told ← others one_more_param
   named ← rule (one_name path name role)
-  rule (Ok (entry_of named tags vars asked told.params))
+  rule (Ok (entry_of named given.tags given.vars given.asked told.params))
 
 abbrev pub entry_in : List ℕ → json.Data → Reading RoleEntry LoadFault
 entry_in path = object (record { params = [] }) (do

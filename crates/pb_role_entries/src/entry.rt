@@ -12,7 +12,6 @@ pub struct EntryAsWritten {
 }
 
 /// A role that is to be taken, and what it is given. See Ansible's documentation, "Roles".
-#[derive(Drop)]
 pub struct RoleEntry {
     /// The role's name.
     pub name: Text,
@@ -23,4 +22,17 @@ pub struct RoleEntry {
     /// Its parameters, as they are written: their texts are templates. They are layer 10 of the variables that its tasks see (`pb_layers`).
     pub params: Dict,
     pub as_written: EntryAsWritten,
+}
+
+// (by hand: the crates above then know nothing of what it is made of)
+impl Drop for RoleEntry {
+    fn drop(self) {
+        let RoleEntry {
+            name: _name,
+            vars: _vars,
+            conditions: _conditions,
+            params: _params,
+            as_written: _as_written,
+        } = self;
+    }
 }

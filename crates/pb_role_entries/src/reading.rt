@@ -2,10 +2,10 @@ ghost use Rattle.std.specs.Prelude.{◌≡◌, IfOk, option_map};
 ghost use Rattle.serde_json.specs.Data as json;
 ghost use Rattle.serde_json.specs.View.{view, members_view};
 ghost use Rattle.pb_value.specs.Datum.{dict, members_of};
-ghost use Rattle.pb_reading.specs.Ahead.{ahead};
+ghost use Rattle.pb_reading.specs.Ahead.{ahead, Takes};
 ghost use Rattle.pb_reading.specs.Fields.{value_of};
 ghost use Rattle.pb_reading.specs.Reading.{Gives};
-ghost use Rattle.pb_role_entries.specs.RoleEntries.{one_name, conditions_in, written_in, entry_of, rest_of_entry, entry_in, named_alone, role_entry};
+ghost use Rattle.pb_role_entries.specs.RoleEntries.{one_name, conditions_in, written_in, entry_of, given, rest_of_entry, entry_in, named_alone, role_entry};
 
 use crate::entry::{EntryAsWritten, RoleEntry};
 use crate::keys::{Asked, Params, Tags};
@@ -22,6 +22,69 @@ use pb_written::fault::LoadFault;
 use pb_written::values::TemplateValue;
 use serde_json::{Map, Value};
 use std::alloc::{AllocError, Global};
+
+/// What stands at the two keys for the role.
+struct Named {
+    name: Option<Text>,
+    role: Option<Text>,
+}
+
+// (by hand, as below: it is then dropped by one call, and not part by part at each exit)
+impl Drop for Named {
+    fn drop(self) {
+        let Named {
+            name: _name,
+            role: _role,
+        } = self;
+    }
+}
+
+impl Named {
+    /// The role of the entry at the path.
+    fn the_one(self, path: &Text) -> Result<Text, Stop<LoadFault>>
+        ensures { Gives result (one_name path.now self.name self.role) }
+    {
+        let Named { name, role } = self;
+        one_name(path, name, role)
+    }
+}
+
+/// What an entry gives its role beside parameters.
+pub(crate) struct Given {
+    tags: Option<Val>,
+    vars: Option<Dict>,
+    asked: Option<Asked>,
+}
+
+impl Drop for Given {
+    fn drop(self) {
+        let Given {
+            tags: _tags,
+            vars: _vars,
+            asked: _asked,
+        } = self;
+    }
+}
+
+impl Given {
+    /// The entry that names this role, and gives it these parameters too.
+    fn of(self, alloc: Global, name: Text, params: Dict) -> Result<RoleEntry, AllocError>
+        ensures { IfOk result (λ entry. entry ≡ entry_of name self.tags self.vars self.asked params) }
+    {
+        let Given { tags, vars, asked } = self;
+        entry_of(alloc, name, tags, vars, asked, params)
+    }
+}
+
+fn read_given(alloc: Global, keys: &mut Keys<'_, Params>) -> Result<Given, Stop<LoadFault>>
+    ensures value { Takes (λ v. v) result (ahead keys.new) (given (ahead keys.old)) }
+    ensures path { (ahead keys.new).path ≡ (ahead keys.old).path }
+{
+    let tags = keys.field::<Tags>(alloc, "tags")?;
+    let vars = keys.field::<EachNamed<TemplateValue>>(alloc, "vars")?;
+    let asked = keys.field::<Asked>(alloc, "when")?;
+    Ok(Given { tags, vars, asked })
+}
 
 /// The role, which stands at one of two keys.
 fn one_name(path: &Text, name: Option<Text>, role: Option<Text>) -> Result<Text, Stop<LoadFault>>
@@ -92,17 +155,14 @@ fn read_rest(
     alloc: Global,
     mut keys: Keys<'_, Params>,
     path: &Text,
-    name: Option<Text>,
-    role: Option<Text>,
+    named: Named,
 ) -> Result<RoleEntry, Stop<LoadFault>>
-    ensures { Gives result (value_of (rest_of_entry path.now name role (ahead keys.entry))) }
+    ensures { Gives result (value_of (rest_of_entry path.now named.name named.role (ahead keys.entry))) }
 {
-    let tags = keys.field::<Tags>(alloc, "tags")?;
-    let vars = keys.field::<EachNamed<TemplateValue>>(alloc, "vars")?;
-    let asked = keys.field::<Asked>(alloc, "when")?;
+    let given = read_given(alloc, &mut keys)?;
     let Params { params } = keys.others(alloc)?;
-    let name = one_name(path, name, role)?;
-    Ok(entry_of(alloc, name, tags, vars, asked, params)?)
+    let name = named.the_one(path)?;
+    Ok(given.of(alloc, name, params)?)
 }
 
 /// An entry, as the members of an object spell it.
@@ -119,7 +179,7 @@ fn read_members(
     let mut keys = Keys::of(path, members, none);
     let name = keys.field::<PlainText>(alloc, "name")?;
     let role = keys.field::<PlainText>(alloc, "role")?;
-    read_rest(alloc, keys, path, name, role)
+    read_rest(alloc, keys, path, Named { name, role })
 }
 
 /// The entry that names this role and gives it nothing.
