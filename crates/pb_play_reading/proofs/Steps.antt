@@ -1,7 +1,8 @@
 -- Readers of objects, once their first parts are read: what stops a part stops the reader, and what is read is handed on.
 use Rattle.std.proofs.Common.{◌≡◌, ℕ, Bool, true, List, [], Result, Ok, Err, refl, ap, sym, subst, ◌∙◌}
-use Rattle.std.specs.Prelude.{Option, codes, unwrap_or}
+use Rattle.std.specs.Prelude.{Option, codes}
 use Rattle.std.specs.Result.{IsErrAnd}
+use Rattle.pb_expr_syntax.specs.Tree.{Tree}
 use Rattle.pb_value.specs.Datum.{Datum}
 use Rattle.pb_value.specs.Reading.{and_then, map_ok}
 use Rattle.pb_reading.specs.Ahead.{Takes}
@@ -10,28 +11,32 @@ use Rattle.pb_reading.specs.Reading.{Reading, Stops, Gives, each_of, required}
 use Rattle.pb_reading.specs.Simple.{text}
 use Rattle.pb_reading.specs.declared.stop.Stop.{Stop}
 use Rattle.pb_reading.specs.declared.stop.Stop.TheVariants as stop
+use Rattle.pb_written.specs.Conditions.{conditions}
 use Rattle.pb_written.specs.Simple.{switched}
 use Rattle.pb_written.specs.Texts.{texts}
 use Rattle.pb_play_reading.specs.Arguments.{argument}
 use Rattle.pb_play_reading.specs.Assert.{said}
 use Rattle.pb_play_reading.specs.Handlers.{handler, rest_of_handler}
 use Rattle.pb_play_reading.specs.NoEffect.{has_no_effect, key, key_or}
-use Rattle.pb_play_reading.specs.Plays.{on_failure, before_hosts, tolerance, lists, play_of, rest_of_play}
+use Rattle.pb_play_reading.specs.Plays.{on_failure, before_hosts, tolerance, lists, after_hosts, play_over, rest_of_play}
 use Rattle.pb_written.specs.Values.{template_value}
-use Rattle.pb_play_reading.specs.Tasks.{tells_of_task, looping, rest_of_task}
+use Rattle.pb_play_reading.specs.Tasks.{tells_of_task, looping, begun_task, module_at, last_of_task, rest_of_task}
 use Rattle.pb_play_reading.specs.Variables.{variables}
 use Rattle.pb_play_reading.specs.declared.assert.Said.{Said}
 use Rattle.pb_written.specs.declared.fault.LoadFault.{LoadFault}
 use Rattle.pb_play_reading.specs.declared.handlers.Handler.{Handler}
 use Rattle.pb_play_reading.specs.declared.hosts.PlayHosts.{PlayHosts}
 use Rattle.pb_play.specs.declared.loops.Loop.{Loop}
+use Rattle.pb_play.specs.declared.modules.Module.{Module}
 use Rattle.pb_play_reading.specs.declared.other_keys.NoArguments.{NoArguments}
 use Rattle.pb_play_reading.specs.declared.other_keys.WithoutEffect.{WithoutEffect}
+use Rattle.pb_play_reading.specs.declared.play.AfterHosts.{AfterHosts}
 use Rattle.pb_play_reading.specs.declared.play.BeforeHosts.{BeforeHosts}
 use Rattle.pb_play_reading.specs.declared.play.Lists.{Lists}
 use Rattle.pb_play_reading.specs.declared.play.OnFailure.{OnFailure}
 use Rattle.pb_play_reading.specs.declared.play.Tolerance.{Tolerance}
 use Rattle.pb_play_reading.specs.declared.play.Play.{Play}
+use Rattle.pb_play_reading.specs.declared.task.Begun.{Begun}
 use Rattle.pb_play_reading.specs.declared.task.Modules.{Modules}
 use Rattle.pb_play.specs.declared.task.Task.{Task}
 use Rattle.pb_play_reading.specs.declared.task.Told.{Told}
@@ -56,11 +61,6 @@ stops_value : {A S : Type 0} (s : Stop LoadFault) (r : Reading (Read A S) LoadFa
 stops_value stop.Memory r stops = stops
 stops_value (stop.WrongShape path) r stops = ap value_of stops
 stops_value (stop.Fault f) r stops = ap value_of stops
-
-stops_rule : {A S : Type 0} (s : Stop LoadFault) (r : Reading A LoadFault) (a : Ahead S) → Stops s r → Stops s (rule r a)
-stops_rule stop.Memory r a stops = stops
-stops_rule (stop.WrongShape path) r a stops = ap (λ r. rule r a) stops
-stops_rule (stop.Fault f) r a stops = ap (λ r. rule r a) stops
 
 -- two parts, one behind the other, and what is made of them
 abbrev pub both_parts : {S A B C : Type 0} → (A → B → C) → Part S LoadFault A → Part S LoadFault B → Part S LoadFault C
@@ -134,80 +134,118 @@ pub before_is : (a b d g : Ahead WithoutEffect) (failure : OnFailure) (gathers :
     → before_hosts a ≡ Ok (record { value = record { on_failure = failure; gathers = gathers; handlers = handlers }; ahead = g })
 before_is a b d g failure gathers handlers e f h = behind_gathers a b d failure gathers e f ∙ ap (λ r. and_then r (with_handlers failure gathers)) h
 
--- a play behind its lists of tasks: its variables, then its other keys, then the rules over what was read
-abbrev with_hosts : BeforeHosts → Tolerance → Option (List ℕ) → Lists → List (List ℕ × Datum) → Read PlayHosts WithoutEffect → Reading (Read Play WithoutEffect) LoadFault
-with_hosts before borne name ls vars x = rule (Ok (play_of before (unwrap_or name x.value.text) x.value.pattern vars borne ls)) x.ahead
+-- what a play says between its hosts and its variables
+abbrev with_lists : Tolerance → Option (List ℕ) → Read Lists WithoutEffect → Reading (Read AfterHosts WithoutEffect) LoadFault
+with_lists borne name x = rule (Ok (record { tolerance = borne; name = name; lists = x.value })) x.ahead
 
-abbrev with_others : List ℕ → BeforeHosts → Option PlayHosts → Tolerance → Option (List ℕ) → Lists → List (List ℕ × Datum) → Read WithoutEffect WithoutEffect → Reading (Read Play WithoutEffect) LoadFault
-with_others path before hosts borne name ls vars x = and_then (rule (required path hosts) x.ahead) (with_hosts before borne name ls vars)
+abbrev with_name : Tolerance → Read (Option (List ℕ)) WithoutEffect → Reading (Read AfterHosts WithoutEffect) LoadFault
+with_name borne x = and_then (lists x.ahead) (with_lists borne x.value)
 
-abbrev with_variables : List ℕ → BeforeHosts → Option PlayHosts → Tolerance → Option (List ℕ) → Lists → Read (List (List ℕ × Datum)) WithoutEffect → Reading (Read Play WithoutEffect) LoadFault
-with_variables path before hosts borne name ls x = and_then (others has_no_effect x.ahead) (with_others path before hosts borne name ls x.value)
+behind_tolerance : (a b : Ahead WithoutEffect) (borne : Tolerance) → tolerance a ≡ Ok (record { value = borne; ahead = b }) → after_hosts a ≡ and_then (key (codes "name") text b) (with_name borne)
+behind_tolerance a b borne e = ap (λ r. and_then r (λ x. and_then (key (codes "name") text x.ahead) (with_name x.value))) e
 
--- what is read up to them
-pub record AreRead (a : Ahead WithoutEffect) (borne : Tolerance) (name : Option (List ℕ)) (ls : Lists) (after : Ahead WithoutEffect) : Type 0 where
-  pub second : Ahead WithoutEffect
-  pub third : Ahead WithoutEffect
-  pub tolerated : tolerance a ≡ Ok (record { value = borne; ahead = second })
-  pub named : key (codes "name") text second ≡ Ok (record { value = name; ahead = third })
-  pub listed : lists third ≡ Ok (record { value = ls; ahead = after })
+behind_name : (a b d : Ahead WithoutEffect) (borne : Tolerance) (name : Option (List ℕ)) → tolerance a ≡ Ok (record { value = borne; ahead = b }) → key (codes "name") text b ≡ Ok (record { value = name; ahead = d })
+    → after_hosts a ≡ and_then (lists d) (with_lists borne name)
+behind_name a b d borne name e f = behind_tolerance a b borne e ∙ ap (λ r. and_then r (with_name borne)) f
 
-behind_lists : (path : List ℕ) (before : BeforeHosts) (hosts : Option PlayHosts) (a b : Ahead WithoutEffect) (borne : Tolerance) (name : Option (List ℕ)) (ls : Lists) → AreRead a borne name ls b
-    → rest_of_play path before hosts a ≡ and_then (key_or (codes "vars") variables [] b) (with_variables path before hosts borne name ls)
-behind_lists path before hosts a b borne name ls e =
-    ap (λ r. and_then r (λ x. and_then (key (codes "name") text x.ahead) (λ y. and_then (lists y.ahead) (λ z. and_then (key_or (codes "vars") variables [] z.ahead) (with_variables path before hosts x.value y.value z.value))))) e.tolerated
-    ∙ ap (λ r. and_then r (λ y. and_then (lists y.ahead) (λ z. and_then (key_or (codes "vars") variables [] z.ahead) (with_variables path before hosts borne y.value z.value)))) e.named
-    ∙ ap (λ r. and_then r (λ z. and_then (key_or (codes "vars") variables [] z.ahead) (with_variables path before hosts borne name z.value))) e.listed
+pub name_stops : (a b : Ahead WithoutEffect) (borne : Tolerance) (s : Stop LoadFault) → tolerance a ≡ Ok (record { value = borne; ahead = b }) → Stops s (key (codes "name") text b) → Stops s (after_hosts a)
+name_stops a b borne s e stops = subst (Stops s) (sym (behind_tolerance a b borne e)) (stops_then s (key (codes "name") text b) (with_name borne) stops)
 
-behind_variables : (path : List ℕ) (before : BeforeHosts) (hosts : Option PlayHosts) (a b d : Ahead WithoutEffect) (borne : Tolerance) (name : Option (List ℕ)) (ls : Lists) (vars : List (List ℕ × Datum)) → AreRead a borne name ls b
+pub lists_stop : (a b d : Ahead WithoutEffect) (borne : Tolerance) (name : Option (List ℕ)) (s : Stop LoadFault) → tolerance a ≡ Ok (record { value = borne; ahead = b })
+    → key (codes "name") text b ≡ Ok (record { value = name; ahead = d }) → Stops s (lists d) → Stops s (after_hosts a)
+lists_stop a b d borne name s e f stops = subst (Stops s) (sym (behind_name a b d borne name e f)) (stops_then s (lists d) (with_lists borne name) stops)
+
+pub after_is : (a b d g : Ahead WithoutEffect) (borne : Tolerance) (name : Option (List ℕ)) (ls : Lists) → tolerance a ≡ Ok (record { value = borne; ahead = b })
+    → key (codes "name") text b ≡ Ok (record { value = name; ahead = d }) → lists d ≡ Ok (record { value = ls; ahead = g })
+    → after_hosts a ≡ Ok (record { value = record { tolerance = borne; name = name; lists = ls }; ahead = g })
+after_is a b d g borne name ls e f h = behind_name a b d borne name e f ∙ ap (λ r. and_then r (with_lists borne name)) h
+
+-- a play behind that: its variables, then its other keys, then the rules over what was read
+abbrev with_hosts : BeforeHosts → AfterHosts → List (List ℕ × Datum) → Read PlayHosts WithoutEffect → Reading (Read Play WithoutEffect) LoadFault
+with_hosts before after vars x = rule (Ok (play_over before after vars x.value)) x.ahead
+
+abbrev with_others : List ℕ → BeforeHosts → Option PlayHosts → AfterHosts → List (List ℕ × Datum) → Read WithoutEffect WithoutEffect → Reading (Read Play WithoutEffect) LoadFault
+with_others path before hosts after vars x = and_then (rule (required path hosts) x.ahead) (with_hosts before after vars)
+
+abbrev with_variables : List ℕ → BeforeHosts → Option PlayHosts → AfterHosts → Read (List (List ℕ × Datum)) WithoutEffect → Reading (Read Play WithoutEffect) LoadFault
+with_variables path before hosts after x = and_then (others has_no_effect x.ahead) (with_others path before hosts after x.value)
+
+abbrev with_after : List ℕ → BeforeHosts → Option PlayHosts → Read AfterHosts WithoutEffect → Reading (Read Play WithoutEffect) LoadFault
+with_after path before hosts x = and_then (key_or (codes "vars") variables [] x.ahead) (with_variables path before hosts x.value)
+
+behind_after : (path : List ℕ) (before : BeforeHosts) (hosts : Option PlayHosts) (a b : Ahead WithoutEffect) (after : AfterHosts) → after_hosts a ≡ Ok (record { value = after; ahead = b })
+    → rest_of_play path before hosts a ≡ and_then (key_or (codes "vars") variables [] b) (with_variables path before hosts after)
+behind_after path before hosts a b after e = ap (λ r. and_then r (with_after path before hosts)) e
+
+behind_variables : (path : List ℕ) (before : BeforeHosts) (hosts : Option PlayHosts) (a b d : Ahead WithoutEffect) (after : AfterHosts) (vars : List (List ℕ × Datum)) → after_hosts a ≡ Ok (record { value = after; ahead = b })
     → key_or (codes "vars") variables [] b ≡ Ok (record { value = vars; ahead = d })
-    → rest_of_play path before hosts a ≡ and_then (others has_no_effect d) (with_others path before hosts borne name ls vars)
-behind_variables path before hosts a b d borne name ls vars e f = behind_lists path before hosts a b borne name ls e ∙ ap (λ r. and_then r (with_variables path before hosts borne name ls)) f
+    → rest_of_play path before hosts a ≡ and_then (others has_no_effect d) (with_others path before hosts after vars)
+behind_variables path before hosts a b d after vars e f = behind_after path before hosts a b after e ∙ ap (λ r. and_then r (with_variables path before hosts after)) f
 
-behind_others : (path : List ℕ) (before : BeforeHosts) (hosts : Option PlayHosts) (a b d g : Ahead WithoutEffect) (borne : Tolerance) (name : Option (List ℕ)) (ls : Lists) (vars : List (List ℕ × Datum)) (none : WithoutEffect)
-    → AreRead a borne name ls b → key_or (codes "vars") variables [] b ≡ Ok (record { value = vars; ahead = d }) → others has_no_effect d ≡ Ok (record { value = none; ahead = g })
-    → rest_of_play path before hosts a ≡ and_then (rule (required path hosts) g) (with_hosts before borne name ls vars)
-behind_others path before hosts a b d g borne name ls vars none e f o = behind_variables path before hosts a b d borne name ls vars e f ∙ ap (λ r. and_then r (with_others path before hosts borne name ls vars)) o
+pub after_stops : (path : List ℕ) (before : BeforeHosts) (hosts : Option PlayHosts) (a : Ahead WithoutEffect) (s : Stop LoadFault) → Stops s (after_hosts a) → Stops s (value_of (rest_of_play path before hosts a))
+after_stops path before hosts a s stops = stops_value s (rest_of_play path before hosts a) (stops_then s (after_hosts a) (with_after path before hosts) stops)
 
-pub variables_stop : (path : List ℕ) (before : BeforeHosts) (hosts : Option PlayHosts) (a b : Ahead WithoutEffect) (borne : Tolerance) (name : Option (List ℕ)) (ls : Lists) (s : Stop LoadFault) → AreRead a borne name ls b
+pub variables_stop : (path : List ℕ) (before : BeforeHosts) (hosts : Option PlayHosts) (a b : Ahead WithoutEffect) (after : AfterHosts) (s : Stop LoadFault) → after_hosts a ≡ Ok (record { value = after; ahead = b })
     → Stops s (key_or (codes "vars") variables [] b) → Stops s (value_of (rest_of_play path before hosts a))
-variables_stop path before hosts a b borne name ls s e stops =
+variables_stop path before hosts a b after s e stops =
     stops_value s (rest_of_play path before hosts a)
-    (subst (Stops s) (sym (behind_lists path before hosts a b borne name ls e)) (stops_then s (key_or (codes "vars") variables [] b) (with_variables path before hosts borne name ls) stops))
+    (subst (Stops s) (sym (behind_after path before hosts a b after e)) (stops_then s (key_or (codes "vars") variables [] b) (with_variables path before hosts after) stops))
 
-pub others_stop : (path : List ℕ) (before : BeforeHosts) (hosts : Option PlayHosts) (a b d : Ahead WithoutEffect) (borne : Tolerance) (name : Option (List ℕ)) (ls : Lists) (vars : List (List ℕ × Datum)) (s : Stop LoadFault)
-    → AreRead a borne name ls b → key_or (codes "vars") variables [] b ≡ Ok (record { value = vars; ahead = d }) → Stops s (others has_no_effect d) → Stops s (value_of (rest_of_play path before hosts a))
-others_stop path before hosts a b d borne name ls vars s e f stops =
+pub others_stop : (path : List ℕ) (before : BeforeHosts) (hosts : Option PlayHosts) (a b d : Ahead WithoutEffect) (after : AfterHosts) (vars : List (List ℕ × Datum)) (s : Stop LoadFault) → after_hosts a ≡ Ok (record { value = after; ahead = b })
+    → key_or (codes "vars") variables [] b ≡ Ok (record { value = vars; ahead = d }) → Stops s (others has_no_effect d) → Stops s (value_of (rest_of_play path before hosts a))
+others_stop path before hosts a b d after vars s e f stops =
     stops_value s (rest_of_play path before hosts a)
-    (subst (Stops s) (sym (behind_variables path before hosts a b d borne name ls vars e f)) (stops_then s (others has_no_effect d) (with_others path before hosts borne name ls vars) stops))
+    (subst (Stops s) (sym (behind_variables path before hosts a b d after vars e f)) (stops_then s (others has_no_effect d) (with_others path before hosts after vars) stops))
 
-pub no_hosts_stop : (path : List ℕ) (before : BeforeHosts) (hosts : Option PlayHosts) (a b d g : Ahead WithoutEffect) (borne : Tolerance) (name : Option (List ℕ)) (ls : Lists) (vars : List (List ℕ × Datum)) (none : WithoutEffect) (s : Stop LoadFault)
-    → AreRead a borne name ls b → key_or (codes "vars") variables [] b ≡ Ok (record { value = vars; ahead = d }) → others has_no_effect d ≡ Ok (record { value = none; ahead = g })
-    → Stops s (required path hosts) → Stops s (value_of (rest_of_play path before hosts a))
-no_hosts_stop path before hosts a b d g borne name ls vars none s e f o stops =
-    stops_value s (rest_of_play path before hosts a)
-    (subst (Stops s) (sym (behind_others path before hosts a b d g borne name ls vars none e f o)) (stops_then s (rule (required path hosts) g) (with_hosts before borne name ls vars) (stops_rule s (required path hosts) g stops)))
+value_ruled : {A B S : Type 0} (f : A → B) (r : Reading A LoadFault) (a : Ahead S) → value_of (and_then (rule r a) (λ x. rule (Ok (f x.value)) x.ahead)) ≡ map_ok f r
+value_ruled f (Ok x) a = refl
+value_ruled f (Err e) a = refl
 
--- once the hosts are there
-behind_hosts : (path : List ℕ) (before : BeforeHosts) (hosts : Option PlayHosts) (h : PlayHosts) (g : Ahead WithoutEffect) (borne : Tolerance) (name : Option (List ℕ)) (ls : Lists) (vars : List (List ℕ × Datum)) → required {F = LoadFault} path hosts ≡ Ok h
-    → and_then (rule (required path hosts) g) (with_hosts before borne name ls vars) ≡ with_hosts before borne name ls vars (record { value = h; ahead = g })
-behind_hosts path before hosts h g borne name ls vars e = ap (λ r. and_then (rule r g) (with_hosts before borne name ls vars)) e
-
-pub play_is : (path : List ℕ) (before : BeforeHosts) (hosts : Option PlayHosts) (h : PlayHosts) (a b d g : Ahead WithoutEffect) (borne : Tolerance) (name : Option (List ℕ)) (ls : Lists) (vars : List (List ℕ × Datum)) (none : WithoutEffect)
-    → AreRead a borne name ls b → key_or (codes "vars") variables [] b ≡ Ok (record { value = vars; ahead = d }) → others has_no_effect d ≡ Ok (record { value = none; ahead = g })
-    → required {F = LoadFault} path hosts ≡ Ok h → value_of (rest_of_play path before hosts a) ≡ Ok (play_of before (unwrap_or name h.text) h.pattern vars borne ls)
-play_is path before hosts h a b d g borne name ls vars none e f o at =
-    ap value_of (behind_others path before hosts a b d g borne name ls vars none e f o ∙ behind_hosts path before hosts h g borne name ls vars at)
+pub play_is : (path : List ℕ) (before : BeforeHosts) (hosts : Option PlayHosts) (a b d g : Ahead WithoutEffect) (after : AfterHosts) (vars : List (List ℕ × Datum)) (none : WithoutEffect) → after_hosts a ≡ Ok (record { value = after; ahead = b })
+    → key_or (codes "vars") variables [] b ≡ Ok (record { value = vars; ahead = d }) → others has_no_effect d ≡ Ok (record { value = none; ahead = g })
+    → value_of (rest_of_play path before hosts a) ≡ map_ok (play_over before after vars) (required path hosts)
+play_is path before hosts a b d g after vars none e f o =
+    ap value_of (behind_variables path before hosts a b d after vars e f ∙ ap (λ r. and_then r (with_others path before hosts after vars)) o)
+    ∙ value_ruled (play_over before after vars) (required path hosts) g
 
 -- a value that is made of what a part gives
 value_made : {A B S : Type 0} (f : A → B) (r : Reading (Read A S) LoadFault) → value_of (and_then r (λ x. rule (Ok (f x.value)) x.ahead)) ≡ map_ok f (value_of r)
 value_made f (Ok x) = refl
 value_made f (Err e) = refl
 
-stops_made : {A B : Type 0} (s : Stop LoadFault) (f : A → B) (r : Reading A LoadFault) → Stops s r → Stops s (map_ok f r)
+pub stops_made : {A B : Type 0} (s : Stop LoadFault) (f : A → B) (r : Reading A LoadFault) → Stops s r → Stops s (map_ok f r)
 stops_made stop.Memory f r stops = stops
 stops_made (stop.WrongShape path) f r stops = ap (map_ok f) stops
 stops_made (stop.Fault fault) f r stops = ap (map_ok f) stops
+
+-- a task behind its keys up to `until`
+abbrev called_by : Begun → List (List ℕ × Datum) → List Tree → Module → Task
+called_by begun vars asked m = begun_task begun vars m asked
+
+abbrev with_module : List ℕ → Begun → List (List ℕ × Datum) → Read (List Tree) Modules → Reading (Read Task Modules) LoadFault
+with_module path begun vars x = and_then (module_at path begun.middle.tries x.ahead) (λ y. rule (Ok (begun_task begun vars y.value x.value)) y.ahead)
+
+abbrev with_conditions : List ℕ → Begun → Read (List (List ℕ × Datum)) Modules → Reading (Read Task Modules) LoadFault
+with_conditions path begun x = and_then (field_or tells_of_task (codes "when") conditions [] x.ahead) (with_module path begun x.value)
+
+task_behind : (path : List ℕ) (begun : Begun) (a b d : Ahead Modules) (vars : List (List ℕ × Datum)) (asked : List Tree) → field_or tells_of_task (codes "vars") variables [] a ≡ Ok (record { value = vars; ahead = b })
+    → field_or tells_of_task (codes "when") conditions [] b ≡ Ok (record { value = asked; ahead = d })
+    → value_of (last_of_task path begun a) ≡ map_ok (called_by begun vars asked) (value_of (module_at path begun.middle.tries d))
+task_behind path begun a b d vars asked e f =
+    ap (λ r. value_of (and_then r (with_conditions path begun))) e
+    ∙ ap (λ r. value_of (and_then r (with_module path begun vars))) f
+    ∙ value_made (called_by begun vars asked) (module_at path begun.middle.tries d)
+
+pub module_stops : (path : List ℕ) (begun : Begun) (a b d : Ahead Modules) (vars : List (List ℕ × Datum)) (asked : List Tree) (s : Stop LoadFault)
+    → field_or tells_of_task (codes "vars") variables [] a ≡ Ok (record { value = vars; ahead = b }) → field_or tells_of_task (codes "when") conditions [] b ≡ Ok (record { value = asked; ahead = d })
+    → Stops s (value_of (module_at path begun.middle.tries d)) → Stops s (value_of (last_of_task path begun a))
+module_stops path begun a b d vars asked s e f stops =
+    subst (Stops s) (sym (task_behind path begun a b d vars asked e f)) (stops_made s (called_by begun vars asked) (value_of (module_at path begun.middle.tries d)) stops)
+
+pub task_is : (path : List ℕ) (begun : Begun) (a b d : Ahead Modules) (vars : List (List ℕ × Datum)) (asked : List Tree) (m : Module) → field_or tells_of_task (codes "vars") variables [] a ≡ Ok (record { value = vars; ahead = b })
+    → field_or tells_of_task (codes "when") conditions [] b ≡ Ok (record { value = asked; ahead = d }) → value_of (module_at path begun.middle.tries d) ≡ Ok m
+    → value_of (last_of_task path begun a) ≡ Ok (begun_task begun vars m asked)
+task_is path begun a b d vars asked m e f is = task_behind path begun a b d vars asked e f ∙ ap (map_ok (called_by begun vars asked)) is
 
 -- a handler behind its topics and its loop
 abbrev listening : List (List ℕ) → Task → Handler

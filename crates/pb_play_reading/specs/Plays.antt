@@ -23,6 +23,7 @@ use Rattle.pb_play_reading.specs.Variables.{variables}
 use Rattle.pb_written.specs.declared.fault.LoadFault.{LoadFault}
 use Rattle.pb_play_reading.specs.declared.hosts.PlayHosts.{PlayHosts}
 use Rattle.pb_play_reading.specs.declared.other_keys.WithoutEffect.{WithoutEffect}
+use Rattle.pb_play_reading.specs.declared.play.AfterHosts.{AfterHosts}
 use Rattle.pb_play_reading.specs.declared.play.BeforeHosts.{BeforeHosts}
 use Rattle.pb_play_reading.specs.declared.play.Lists.{Lists}
 use Rattle.pb_play_reading.specs.declared.play.Manner.{Manner}
@@ -90,16 +91,26 @@ play_of before name hosts vars tolerance lists =
       serial = lists.manner.serial;
     }
 
--- a play behind its hosts; one without a name has its pattern's text as it is written, and one without variables has none
-abbrev pub rest_of_play : List ℕ → BeforeHosts → Option PlayHosts → Part WithoutEffect LoadFault Play
-rest_of_play path before hosts = do
+-- what its keys between `hosts` and `vars` say
+abbrev pub after_hosts : Part WithoutEffect LoadFault AfterHosts
+after_hosts = do
   tolerance ← tolerance
   name ← key (codes "name") text
   lists ← lists
+  rule (Ok (record { tolerance = tolerance; name = name; lists = lists }))
+
+-- a play over these hosts; one without a name has its pattern's text as it is written
+abbrev pub play_over : BeforeHosts → AfterHosts → List (List ℕ × Datum) → PlayHosts → Play
+play_over before after vars hosts = play_of before (unwrap_or after.name hosts.text) hosts.pattern vars after.tolerance after.lists
+
+-- a play behind its hosts; one without variables has none
+abbrev pub rest_of_play : List ℕ → BeforeHosts → Option PlayHosts → Part WithoutEffect LoadFault Play
+rest_of_play path before hosts = do
+  after ← after_hosts
   vars ← key_or (codes "vars") variables []
   _ ← others has_no_effect
   h ← rule (required path hosts)
-  rule (Ok (play_of before (unwrap_or name h.text) h.pattern vars tolerance lists))
+  rule (Ok (play_over before after vars h))
 
 -- a play
 unfoldable pub play : List ℕ → json.Data → Reading Play LoadFault

@@ -28,6 +28,8 @@ use Rattle.pb_play_reading.specs.declared.task.Told.{Told}
 use Rattle.pb_play_reading.specs.declared.task.Begun.{Begun}
 use Rattle.pb_play_reading.specs.declared.task.FirstKeys.{FirstKeys}
 use Rattle.pb_play_reading.specs.declared.task.Failing.{Failing}
+use Rattle.pb_play_reading.specs.declared.task.Middle.{Middle}
+use Rattle.pb_play_reading.specs.declared.task.Rest.{Rest}
 use Rattle.pb_play_reading.specs.declared.task.Modules.{Modules}
 use Rattle.pb_play_reading.specs.declared.task.Modules.TheVariants.{Nothing, One, Several}
 
@@ -80,23 +82,40 @@ told = do
   failing ← failing
   rule (Ok (record { first = first; delegation = delegation; failing = failing }))
 
-abbrev pub told_of : Told → List ℕ → List (List ℕ) → List (List ℕ × Datum) → Module → List Tree → Option Loop → Option (List ℕ) → Tries → Task
-told_of told name notify vars called conditions looped register tries =
+-- the task of which this is told
+abbrev pub told_of : Told → Rest → Option Loop → Module → Task
+told_of told rest looped called =
     record {
-      name = name;
-      vars = vars;
+      name = rest.name;
+      vars = rest.vars;
       «module» = called;
-      conditions = conditions;
+      conditions = rest.conditions;
       looped = looped;
-      register = register;
+      register = rest.register;
       changed_when = told.first.changed_when;
       failed_when = told.failing.failed_when;
       ignore_errors = told.failing.ignore_errors;
-      throttle = tries.runs.throttle;
-      couplings = coupled told.first.any_errors_fatal told.delegation tries.runs.run_once;
-      notify = notify;
-      retrying = retrying_of tries.until tries.retries told.first.delay;
+      throttle = rest.tries.runs.throttle;
+      couplings = coupled told.first.any_errors_fatal told.delegation rest.tries.runs.run_once;
+      notify = rest.notify;
+      retrying = retrying_of rest.tries.until rest.tries.retries told.first.delay;
     }
+
+-- what is said of a task beside that; one without a name has that of the module that it calls
+abbrev pub said_beside : Middle → Module → List (List ℕ × Datum) → List Tree → Rest
+said_beside middle called vars conditions =
+    record {
+      name = unwrap_or middle.name (module_name called);
+      notify = middle.notify;
+      register = middle.register;
+      tries = middle.tries;
+      vars = vars;
+      conditions = conditions;
+    }
+
+-- the task that begins with this
+abbrev pub begun_task : Begun → List (List ℕ × Datum) → Module → List Tree → Task
+begun_task begun vars called conditions = told_of begun.told (said_beside begun.middle called vars conditions) begun.looped called
 
 abbrev pub looping : Part Modules LoadFault (Option Loop)
 looping = do
@@ -104,29 +123,36 @@ looping = do
   variable ← key_or (codes "loop_control") control item
   rule (Ok (looped over variable))
 
--- a task behind its keys up to `until`; one without a name has its module's
-abbrev pub last_of_task : List ℕ → Begun → Option (List ℕ) → Part Modules LoadFault Task
-last_of_task path begun name = do
-  vars ← key_or (codes "vars") variables []
-  conditions ← key_or (codes "when") conditions []
-  modules ← others tells_of_task
-  m ← rule (the_module path modules)
-  _ ← rule (may_retry path m begun.tries)
-  rule (Ok (told_of begun.told (unwrap_or name (module_name m)) begun.notify vars m conditions begun.looped begun.register begun.tries))
-
--- a task behind these; one without a name has its module's, and one that says nothing has no variables and no conditions, and notifies no handler
-abbrev pub rest_of_task : List ℕ → Told → Option Loop → Part Modules LoadFault Task
-rest_of_task path told looped = do
+-- its keys between `loop_control` and `vars`; one that says nothing notifies no handler
+abbrev pub middle : Part Modules LoadFault Middle
+middle = do
   name ← key (codes "name") text
   notify ← key_or (codes "notify") texts []
   register ← key (codes "register") variable_name
   tries ← tries tells_of_task
-  vars ← key_or (codes "vars") variables []
-  conditions ← key_or (codes "when") conditions []
+  rule (Ok (record { name = name; notify = notify; register = register; tries = tries }))
+
+-- the module of the task at a path, which is tried so
+abbrev pub module_at : List ℕ → Tries → Part Modules LoadFault Module
+module_at path tries = do
   modules ← others tells_of_task
   m ← rule (the_module path modules)
   _ ← rule (may_retry path m tries)
-  rule (Ok (told_of told (unwrap_or name (module_name m)) notify vars m conditions looped register tries))
+  rule (Ok m)
+
+-- a task behind its keys up to `until`; one that says nothing has no variables and no conditions
+abbrev pub last_of_task : List ℕ → Begun → Part Modules LoadFault Task
+last_of_task path begun = do
+  vars ← key_or (codes "vars") variables []
+  conditions ← key_or (codes "when") conditions []
+  m ← module_at path begun.middle.tries
+  rule (Ok (begun_task begun vars m conditions))
+
+-- a task behind these
+abbrev pub rest_of_task : List ℕ → Told → Option Loop → Part Modules LoadFault Task
+rest_of_task path told looped = do
+  middle ← middle
+  last_of_task path (record { told = told; looped = looped; middle = middle })
 
 -- a task
 unfoldable pub task : List ℕ → json.Data → Reading Task LoadFault

@@ -8,6 +8,7 @@ use crate::messages::or_said;
 use crate::other_keys::NoArguments;
 use pb_expr_syntax::tree::Expr;
 use pb_play::modules::Module;
+use pb_prepared::prepared::Prepared;
 use pb_reading::keys::Keys;
 use pb_reading::stop::{Stop, required, wrong};
 use pb_value::items::Items;
@@ -68,8 +69,8 @@ impl Said {
         let success_msg = or_said(alloc, success_msg, "All assertions passed")?;
         Ok(Module::Assert {
             that,
-            fail_msg,
-            success_msg,
+            fail_msg: Prepared::of(alloc, fail_msg),
+            success_msg: Prepared::of(alloc, success_msg),
         })
     }
 }

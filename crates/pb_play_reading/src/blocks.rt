@@ -44,6 +44,34 @@ impl Drop for Early {
     }
 }
 
+/// What a block's keys up to `rescue` say.
+pub(crate) struct BegunBlock {
+    pub(crate) early: Early,
+    pub(crate) told: ToldOfBlock,
+    pub(crate) rescue: NodeList,
+}
+
+impl Drop for BegunBlock {
+    fn drop(self) {
+        let BegunBlock {
+            early,
+            told,
+            rescue,
+        } = self;
+        let ToldOfBlock {
+            delegation,
+            ignore_errors: _,
+        } = told;
+        let Delegation {
+            delegate_facts: _,
+            delegate_to,
+        } = delegation;
+        drop(early);
+        drop(delegate_to);
+        drop(rescue);
+    }
+}
+
 /// What a block says of the host that runs its tasks, and whether it ignores failures, where it says so.
 #[derive(Drop)]
 pub(crate) struct ToldOfBlock {
@@ -72,18 +100,30 @@ pub(crate) fn read_told(
 pub(crate) fn read_rest(
     alloc: Global,
     mut keys: Keys<'_, WithoutEffect>,
-    early: Early,
-    told: ToldOfBlock,
-    rescue: NodeList,
+    begun: BegunBlock,
 ) -> Result<Node, Stop<LoadFault>>
-    ensures { IsRead result (value_of (rest_of_block early told rescue (ahead keys.entry))) }
+    ensures { IsRead result (value_of (rest_of_block begun.early begun.told begun.rescue (ahead keys.entry))) }
 {
     let runs = read_runs(alloc, &mut keys)?;
     let vars = keys.field_or::<EachNamed<TemplateValue>>(alloc, "vars", Dict::new(alloc))?;
     let conditions = keys.field_or::<Conditions>(alloc, "when", Items::new(alloc))?;
     keys.others(alloc)?;
-    let keys = told.of(early.any_errors_fatal, runs, vars, conditions);
-    Ok(early.of(keys, rescue))
+    Ok(begun.of(runs, vars, conditions))
+}
+
+impl BegunBlock {
+    /// The block that begins with this.
+    fn of(self, runs: Runs, vars: Dict, conditions: Items<Expr>) -> Node
+        ensures { node_of result Nothing ≡ Block (told_keys self.told self.early.any_errors_fatal runs vars conditions) self.early.body self.rescue self.early.always Nothing }
+    {
+        let BegunBlock {
+            early,
+            told,
+            rescue,
+        } = self;
+        let keys = told.of(early.any_errors_fatal, runs, vars, conditions);
+        early.of(keys, rescue)
+    }
 }
 
 impl ToldOfBlock {

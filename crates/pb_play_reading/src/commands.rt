@@ -1,19 +1,21 @@
-ghost use Rattle.std.specs.Prelude.{◌≡◌};
+ghost use Rattle.std.specs.Prelude.{◌≡◌, IfOk};
 ghost use Rattle.serde_json.specs.View.{view};
 ghost use Rattle.pb_reading.specs.Reading.{Gives};
 ghost use Rattle.pb_play_reading.specs.Commands.{listed, argv, one_of, command, shell};
 
 use crate::other_keys::NoArguments;
 use pb_play::commands::CommandWords;
+use pb_prepared::prepared::{Prepared, PreparedText};
 use pb_reading::keys::Keys;
 use pb_reading::reads::Reads;
 use pb_reading::stop::{Stop, required, wrong};
+use pb_value::items::Items;
 use pb_value::text::Text;
 use pb_value::val::{Node, Val, ValList};
 use pb_written::fault::LoadFault;
 use pb_written::values::{TemplateText, TemplateValue};
 use serde_json::Value;
-use std::alloc::Global;
+use std::alloc::{AllocError, Global};
 
 fn members_of(path: &Text, value: Val) -> Result<ValList, Stop<LoadFault>>
     ensures { Gives result (listed path.now value) }
@@ -43,7 +45,19 @@ impl Reads<LoadFault> for Argv {
     }
 }
 
+/// These words, each with its template.
+fn prepared(alloc: Global, words: ValList) -> Result<Items<Prepared>, AllocError>
+    ensures { IfOk result (λ ws. ws ≡ words) }
+{
+    let mut all = Vec::with_capacity(alloc, words.len())?;
+    for word in words.items {
+        all.push(Prepared::of(alloc, word))?;
+    }
+    Ok(Items::from_vec(all))
+}
+
 fn one_of(
+    alloc: Global,
     path: &Text,
     cmd: Option<Text>,
     argv: Option<ValList>,
@@ -51,8 +65,8 @@ fn one_of(
     ensures { Gives result (one_of path.now cmd argv) }
 {
     match (cmd, argv) {
-        (Some(line), None) => Ok(CommandWords::Line(line)),
-        (None, Some(words)) => Ok(CommandWords::Argv(words)),
+        (Some(line), None) => Ok(CommandWords::Line(PreparedText::of(alloc, line))),
+        (None, Some(words)) => Ok(CommandWords::Argv(prepared(alloc, words)?)),
         _ => wrong(path),
     }
 }
@@ -66,13 +80,14 @@ pub(crate) fn read_command(
     ensures { Gives result (command path.now (view json.now)) }
 {
     let Value::Object(members) = json else {
-        return Ok(CommandWords::Line(TemplateText::read(alloc, path, json)?));
+        let line = TemplateText::read(alloc, path, json)?;
+        return Ok(CommandWords::Line(PreparedText::of(alloc, line)));
     };
     let mut keys = Keys::of(path, members, NoArguments);
     let argv = keys.field::<Argv>(alloc, "argv")?;
     let cmd = keys.field::<TemplateText>(alloc, "cmd")?;
     keys.others(alloc)?;
-    one_of(path, cmd, argv)
+    one_of(alloc, path, cmd, argv)
 }
 
 /// The arguments of `shell`.

@@ -6,6 +6,7 @@ ghost use Rattle.pb_play_reading.specs.Debug.{expression, shown, debug};
 use crate::other_keys::NoArguments;
 use pb_expr_syntax::tree::Expr;
 use pb_play::modules::Module;
+use pb_prepared::prepared::Prepared;
 use pb_reading::keys::Keys;
 use pb_reading::reads::Reads;
 use pb_reading::stop::{Stop, wrong};
@@ -52,9 +53,13 @@ fn shown(
     match (msg, var) {
         (None, None) => {
             let msg = Val::text(Text::from_str(alloc, "Hello world!")?);
+            let msg = Prepared::of(alloc, msg);
             Ok(Module::Debug { msg })
         }
-        (Some(msg), None) => Ok(Module::Debug { msg }),
+        (Some(msg), None) => {
+            let msg = Prepared::of(alloc, msg);
+            Ok(Module::Debug { msg })
+        }
         (None, Some(spelt)) => {
             let Spelt { text, expr } = spelt;
             Ok(Module::DebugVar { text, expr })

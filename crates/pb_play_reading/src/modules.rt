@@ -9,6 +9,7 @@ use crate::debug::read_debug;
 use crate::facts::{read_set_fact, read_setup};
 use crate::messages::read_message;
 use pb_play::modules::Module;
+use pb_prepared::prepared::{Prepared, PreparedText};
 use pb_reading::stop::Stop;
 use pb_value::text::Text;
 use pb_written::fault::LoadFault;
@@ -74,12 +75,14 @@ impl ModuleKey {
             ModuleKey::Debug => read_debug(alloc, path, json),
             ModuleKey::Fail => {
                 let msg = read_message(alloc, path, "Failed as requested from task", json)?;
+                let msg = Prepared::of(alloc, msg);
                 Ok(Module::Fail { msg })
             }
             ModuleKey::SetFact => read_set_fact(alloc, path, json),
             ModuleKey::Setup => read_setup(alloc, path, json),
             ModuleKey::Shell => {
                 let cmd = read_shell(alloc, path, json)?;
+                let cmd = PreparedText::of(alloc, cmd);
                 Ok(Module::Shell { cmd })
             }
         }

@@ -10,7 +10,7 @@ ghost use Rattle.pb_play_reading.specs.NodeLists.{has, names_block, names_meta, 
 ghost use Rattle.pb_play.specs.Nodes.{Nothing};
 ghost use Rattle.pb_play_reading.specs.Returned.{IsRead};
 
-use crate::blocks::{Early, read_rest, read_told};
+use crate::blocks::{BegunBlock, Early, read_rest, read_told};
 use crate::meta::read_meta;
 use crate::modules::names;
 use crate::other_keys::WithoutEffect;
@@ -186,7 +186,12 @@ fn read_block(
     let early = read_early(alloc, left, path, &mut keys)?;
     let told = read_told(alloc, &mut keys)?;
     let rescue = read_part(alloc, left, path, &mut keys, "rescue")?;
-    read_rest(alloc, keys, early, told, rescue)
+    let begun = BegunBlock {
+        early,
+        told,
+        rescue,
+    };
+    read_rest(alloc, keys, begun)
 }
 
 #[cycle(nodes)]

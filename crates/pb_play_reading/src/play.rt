@@ -1,13 +1,13 @@
 ghost use Rattle.std.specs.Prelude.{◌≡◌, IfOk, option_map, codes};
 ghost use Rattle.serde_json.specs.Data as json;
 ghost use Rattle.serde_json.specs.View.{view, members_view};
-ghost use Rattle.pb_value.specs.Reading.{below};
+ghost use Rattle.pb_value.specs.Reading.{below, map_ok};
 ghost use Rattle.pb_reading.specs.Ahead.{ahead, Takes};
 ghost use Rattle.pb_reading.specs.Fields.{optional, value_of};
-ghost use Rattle.pb_reading.specs.Reading.{Gives};
+ghost use Rattle.pb_reading.specs.Reading.{Gives, required};
 ghost use Rattle.pb_play_reading.specs.Refusals.{GivesOf};
 ghost use Rattle.pb_play_reading.specs.Hosts.{hosts};
-ghost use Rattle.pb_play_reading.specs.Plays.{on_failure, before_hosts, tolerance, manner, play_of, lists, rest_of_play, play, expressions_at, expressions_of_play};
+ghost use Rattle.pb_play_reading.specs.Plays.{on_failure, before_hosts, tolerance, manner, play_of, lists, after_hosts, play_over, rest_of_play, play, expressions_at, expressions_of_play};
 
 use crate::batches::Sizes;
 use crate::gathering::begun;
@@ -277,30 +277,125 @@ fn read_lists(alloc: Global, keys: &mut Keys<'_, WithoutEffect>) -> Result<Lists
     })
 }
 
+/// What the keys between `hosts` and `vars` say.
+struct AfterHosts {
+    tolerance: Tolerance,
+    name: Option<Text>,
+    lists: Lists,
+}
+
+impl Drop for AfterHosts {
+    fn drop(self) {
+        let AfterHosts {
+            tolerance: _,
+            name,
+            lists,
+        } = self;
+        drop(name);
+        drop(lists);
+    }
+}
+
+impl AfterHosts {
+    /// The play over these hosts.
+    fn over(
+        self,
+        alloc: Global,
+        before: BeforeHosts,
+        hosts: PlayHosts,
+        vars: Dict,
+    ) -> Result<Play, AllocError>
+        ensures { IfOk result (λ play. play ≡ play_over before self vars hosts) }
+    {
+        let AfterHosts {
+            tolerance,
+            name,
+            lists,
+        } = self;
+        let PlayHosts { text, pattern } = hosts;
+        lists.of(
+            alloc,
+            before,
+            name.unwrap_or(text),
+            pattern,
+            vars,
+            tolerance,
+        )
+    }
+}
+
+fn read_after_hosts(
+    alloc: Global,
+    keys: &mut Keys<'_, WithoutEffect>,
+) -> Result<AfterHosts, Stop<LoadFault>>
+    ensures value { Takes (λ v. v) result (ahead keys.new) (after_hosts (ahead keys.old)) }
+    ensures path { (ahead keys.new).path ≡ (ahead keys.old).path }
+{
+    let tolerance = read_tolerance(alloc, keys)?;
+    let name = keys.field::<PlainText>(alloc, "name")?;
+    let lists = read_lists(alloc, keys)?;
+    Ok(AfterHosts {
+        tolerance,
+        name,
+        lists,
+    })
+}
+
+/// What the keys up to `hosts` have told.
+struct UpToHosts {
+    before: BeforeHosts,
+    hosts: Option<PlayHosts>,
+}
+
+impl Drop for UpToHosts {
+    fn drop(self) {
+        let UpToHosts { before, hosts } = self;
+        let BeforeHosts {
+            on_failure: _,
+            gathers: _,
+            handlers,
+        } = before;
+        drop(handlers);
+        match hosts {
+            Some(PlayHosts { text, pattern }) => {
+                drop(text);
+                drop(pattern);
+            }
+            None => {}
+        }
+    }
+}
+
+impl UpToHosts {
+    /// The play at the path, of which the other keys tell this.
+    fn finish(
+        self,
+        alloc: Global,
+        path: &Text,
+        after: AfterHosts,
+        vars: Dict,
+    ) -> Result<Play, Stop<LoadFault>>
+        ensures { Gives result (map_ok (play_over self.before after vars) (required path.now self.hosts)) }
+    {
+        let UpToHosts { before, hosts } = self;
+        let hosts = required(path, hosts)?;
+        Ok(after.over(alloc, before, hosts, vars)?)
+    }
+}
+
 /// The play, whose keys up to `hosts` have told this.
 fn read_rest(
     alloc: Global,
     mut keys: Keys<'_, WithoutEffect>,
     path: &Text,
-    before: BeforeHosts,
-    hosts: Option<PlayHosts>,
+    told: UpToHosts,
 ) -> Result<Play, Stop<LoadFault>>
-    ensures { Gives result (value_of (rest_of_play path.now before hosts (ahead keys.entry))) }
+    ensures { Gives result (value_of (rest_of_play path.now told.before told.hosts (ahead keys.entry))) }
 {
-    let tolerance = read_tolerance(alloc, &mut keys)?;
-    let name = keys.field::<PlainText>(alloc, "name")?;
-    let lists = read_lists(alloc, &mut keys)?;
+    let after = read_after_hosts(alloc, &mut keys)?;
     let vars = keys.field_or::<EachNamed<TemplateValue>>(alloc, "vars", Dict::new(alloc))?;
     keys.others(alloc)?;
-    let PlayHosts { text, pattern } = required(path, hosts)?;
-    Ok(lists.of(
-        alloc,
-        before,
-        name.unwrap_or(text),
-        pattern,
-        vars,
-        tolerance,
-    )?)
+    told.finish(alloc, path, after, vars)
 }
 
 /// The play that the members of an object make.
@@ -321,7 +416,7 @@ fn read_members(
         Err(stop) => return Err(stop),
     };
     match read_hosts_at(alloc, path, found) {
-        Ok(hosts) => read_rest(alloc, keys, path, before, hosts),
+        Ok(hosts) => read_rest(alloc, keys, path, UpToHosts { before, hosts }),
         Err(stop) => Err(stop),
     }
 }

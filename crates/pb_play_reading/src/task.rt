@@ -1,10 +1,11 @@
-ghost use Rattle.std.specs.Prelude.{◌≡◌, true, false};
+ghost use Rattle.std.specs.Prelude.{◌≡◌, true, false, IfOk, unwrap_or};
 ghost use Rattle.serde_json.specs.Data as json;
 ghost use Rattle.serde_json.specs.View.{view, members_view};
 ghost use Rattle.pb_reading.specs.Ahead.{ahead, Takes};
 ghost use Rattle.pb_reading.specs.Fields.{value_of};
 ghost use Rattle.pb_reading.specs.Reading.{Gives};
-ghost use Rattle.pb_play_reading.specs.Tasks.{one_more, tells_of_task, the_module, first_keys, failing, told_of, told, looping, last_of_task, rest_of_task, task};
+ghost use Rattle.pb_play_reading.specs.Tasks.{one_more, tells_of_task, the_module, first_keys, failing, told_of, said_beside, begun_task, told, looping, middle, module_at, last_of_task, rest_of_task, task};
+ghost use Rattle.pb_play.specs.Modules.{module_name};
 
 use crate::couplings::{Delegation, Runs, coupled, read_delegation};
 use crate::loops::{Control, Over, looped};
@@ -28,7 +29,7 @@ use pb_written::simple::{Switch, VariableName};
 use pb_written::texts::Texts;
 use pb_written::values::TemplateValue;
 use serde_json::{Map, Value};
-use std::alloc::Global;
+use std::alloc::{AllocError, Global};
 use std::mem;
 
 /// The modules that a task names.
@@ -153,20 +154,18 @@ impl Drop for Told {
     }
 }
 
-/// What a task's keys up to `until` say, but for its name.
-pub(crate) struct Begun {
-    told: Told,
-    looped: Option<Loop>,
+/// What a task's keys between `loop_control` and `vars` say.
+pub(crate) struct Middle {
+    name: Option<Text>,
     notify: Items<Text>,
     register: Option<Text>,
     tries: Tries,
 }
 
-impl Drop for Begun {
+impl Drop for Middle {
     fn drop(self) {
-        let Begun {
-            told,
-            looped,
+        let Middle {
+            name,
             notify,
             register,
             tries,
@@ -176,11 +175,30 @@ impl Drop for Begun {
             runs: _,
             until,
         } = tries;
-        drop(told);
-        drop(looped);
+        drop(name);
         drop(notify);
         drop(register);
         drop(until);
+    }
+}
+
+/// What a task's keys up to `until` say.
+pub(crate) struct Begun {
+    told: Told,
+    looped: Option<Loop>,
+    middle: Middle,
+}
+
+impl Drop for Begun {
+    fn drop(self) {
+        let Begun {
+            told,
+            looped,
+            middle,
+        } = self;
+        drop(told);
+        drop(looped);
+        drop(middle);
     }
 }
 
@@ -194,34 +212,59 @@ struct Rest {
     conditions: Items<Expr>,
 }
 
-impl Begun {
-    /// The task that begins with this.
-    fn of(self, name: Text, vars: Dict, module: Module, conditions: Items<Expr>) -> Task
-        ensures { result ≡ told_of self.told name self.notify vars «module» conditions self.looped self.register self.tries }
+impl Middle {
+    /// What is said beside what is told of the task, which calls this module.
+    fn with(
+        self,
+        alloc: Global,
+        called: &Module,
+        vars: Dict,
+        conditions: Items<Expr>,
+    ) -> Result<Rest, AllocError>
+        ensures { IfOk result (λ rest. rest ≡ said_beside self called.now vars conditions) }
     {
-        let Begun {
-            told,
-            looped,
+        let Middle {
+            name,
             notify,
             register,
             tries,
         } = self;
-        let rest = Rest {
-            name,
+        Ok(Rest {
+            name: named(alloc, name, called)?,
             notify,
             register,
             tries,
             vars,
             conditions,
-        };
-        told.of(rest, looped, module)
+        })
+    }
+}
+
+impl Begun {
+    /// The task that begins with this.
+    fn of(
+        self,
+        alloc: Global,
+        vars: Dict,
+        module: Module,
+        conditions: Items<Expr>,
+    ) -> Result<Task, AllocError>
+        ensures { IfOk result (λ task. task ≡ begun_task self vars «module» conditions) }
+    {
+        let Begun {
+            told,
+            looped,
+            middle,
+        } = self;
+        let rest = middle.with(alloc, &module, vars, conditions)?;
+        Ok(told.of(rest, looped, module))
     }
 }
 
 impl Told {
     /// The task of which this is told.
     fn of(self, rest: Rest, looped: Option<Loop>, module: Module) -> Task
-        ensures { result ≡ told_of self rest.name rest.notify rest.vars «module» rest.conditions looped rest.register rest.tries }
+        ensures { result ≡ told_of self rest looped «module» }
     {
         let Rest {
             name,
@@ -338,18 +381,29 @@ pub(crate) fn read_rest(
 ) -> Result<Task, Stop<LoadFault>>
     ensures { Gives result (value_of (rest_of_task path.now told looped (ahead keys.entry))) }
 {
-    let name = keys.field::<PlainText>(alloc, "name")?;
-    let notify = keys.field_or::<Texts>(alloc, "notify", Items::new(alloc))?;
-    let register = keys.field::<VariableName>(alloc, "register")?;
-    let tries = read_tries(alloc, &mut keys)?;
+    let middle = read_middle(alloc, &mut keys)?;
     let begun = Begun {
         told,
         looped,
+        middle,
+    };
+    read_last(alloc, keys, path, begun)
+}
+
+fn read_middle(alloc: Global, keys: &mut Keys<'_, Modules>) -> Result<Middle, Stop<LoadFault>>
+    ensures value { Takes (λ v. v) result (ahead keys.new) (middle (ahead keys.old)) }
+    ensures path { (ahead keys.new).path ≡ (ahead keys.old).path }
+{
+    let name = keys.field::<PlainText>(alloc, "name")?;
+    let notify = keys.field_or::<Texts>(alloc, "notify", Items::new(alloc))?;
+    let register = keys.field::<VariableName>(alloc, "register")?;
+    let tries = read_tries(alloc, keys)?;
+    Ok(Middle {
+        name,
         notify,
         register,
         tries,
-    };
-    read_last(alloc, keys, path, begun, name)
+    })
 }
 
 /// The task, whose keys up to `until` have told this.
@@ -358,20 +412,38 @@ fn read_last(
     mut keys: Keys<'_, Modules>,
     path: &Text,
     begun: Begun,
-    name: Option<Text>,
 ) -> Result<Task, Stop<LoadFault>>
-    ensures { Gives result (value_of (last_of_task path.now begun name (ahead keys.entry))) }
+    ensures { Gives result (value_of (last_of_task path.now begun (ahead keys.entry))) }
 {
     let vars = keys.field_or::<EachNamed<TemplateValue>>(alloc, "vars", Dict::new(alloc))?;
     let conditions = keys.field_or::<Conditions>(alloc, "when", Items::new(alloc))?;
+    let module = read_module(alloc, keys, path, &begun.middle.tries)?;
+    Ok(begun.of(alloc, vars, module, conditions)?)
+}
+
+/// The module that the task at the path calls, as its other keys tell.
+fn read_module(
+    alloc: Global,
+    keys: Keys<'_, Modules>,
+    path: &Text,
+    tries: &Tries,
+) -> Result<Module, Stop<LoadFault>>
+    ensures { Gives result (value_of (module_at path.now tries.now (ahead keys.entry))) }
+{
     let modules = keys.others(alloc)?;
     let module = modules.the_one(path)?;
-    begun.tries.check(alloc, path, &module)?;
-    let name = match name {
-        Some(name) => name,
-        None => Text::from_str(alloc, module.name())?,
-    };
-    Ok(begun.of(name, vars, module, conditions))
+    tries.check(alloc, path, &module)?;
+    Ok(module)
+}
+
+/// The name of a task: that of its module where it has none.
+fn named(alloc: Global, name: Option<Text>, called: &Module) -> Result<Text, AllocError>
+    ensures { IfOk result (λ t. t ≡ unwrap_or name (module_name called.now)) }
+{
+    match name {
+        Some(name) => Ok(name),
+        None => Text::from_str(alloc, called.name()),
+    }
 }
 
 /// A task, as the members of an object spell it.
