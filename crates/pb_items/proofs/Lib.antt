@@ -1,3 +1,4 @@
 pub mod Few
 pub mod Listed
+pub mod OneStart
 pub mod Rendered

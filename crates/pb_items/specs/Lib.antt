@@ -5,6 +5,7 @@ pub mod Facts
 pub mod Planning
 pub mod Loops
 pub mod Items
+pub mod Constant
 pub mod Rows
 pub mod RowsItems
 pub mod AttemptRows

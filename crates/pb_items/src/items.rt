@@ -141,9 +141,15 @@ fn step_in(
 {
     let scope = Scope::new(start.layers, start.magic, variable);
     if !holds(alloc, start.conditions, &scope)? {
-        return Ok((Planned::Decided(skipped_result(alloc)?), None));
+        return Ok((Planned::Decided(skipped_result(alloc, start.names)?), None));
     }
-    let done = done_by(alloc, start.has_facts_program, &start.task.module, &scope)?;
+    let done = done_by(
+        alloc,
+        start.names,
+        start.has_facts_program,
+        &start.task.module,
+        &scope,
+    )?;
     let delegate = delegate_in(alloc, start.delegate_to, &scope)?;
     let step = with_conditions_step(alloc, start, variable, done)?;
     Ok((step, delegate))

@@ -7,6 +7,7 @@
 #![tactic(auto)]
 
 mod calls;
+pub mod constant;
 mod facts;
 pub mod fault;
 pub mod items;

@@ -13,15 +13,16 @@ use crate::fault::ItemFault;
 use crate::planned::Planned;
 use crate::results::{assert_result, meta_result};
 use pb_conditions::holds::holds;
-use pb_expr_eval::eval::{eval, render_value};
+use pb_expr_eval::eval::{eval, render_prepared};
 use pb_expr_syntax::tree::Expr;
 use pb_layers::scope::Scope;
 use pb_operators::fault::EvalFault;
-use pb_outcome::decided::{debug_result, fail_result, faulty_result, shown_result};
+use pb_outcome::decided::{debug_result, fail_result, faulty_result, set_result, shown_result};
 use pb_outcome::gather::ItemResult;
 use pb_outcome::job::Call;
-use pb_outcome::judge::facts_result;
+use pb_outcome::result_names::ResultNames;
 use pb_play::modules::Module;
+use pb_prepared::prepared::Prepared;
 use pb_value::text::Text;
 use pb_value::val::{Dict, Val};
 use std::alloc::{AllocError, Global};
@@ -51,29 +52,34 @@ fn or_not_defined(alloc: Global, outcome: Result<Val, EvalFault>) -> Result<Val,
 /// An item of `assert`: its conditions, and both of its messages, whichever is told.
 fn asserted(
     alloc: Global,
+    names: &ResultNames,
     that: &[Expr],
-    fail_msg: &Val,
-    success_msg: &Val,
+    fail_msg: &Prepared,
+    success_msg: &Prepared,
     scope: &Scope,
 ) -> Result<ItemResult, ItemFault>
     ensures value { IfOk result (λ r. asserted scope.now that.now fail_msg.now success_msg.now ≡ Ok r) }
     ensures fault { IfErr result (λ e. e ≢ item.Memory → asserted scope.now that.now fail_msg.now success_msg.now ≡ Err e) }
 {
     let holds = holds(alloc, that, scope)?;
-    let fail_msg = render_value(alloc, fail_msg, scope)?;
-    let success_msg = render_value(alloc, success_msg, scope)?;
-    Ok(assert_result(alloc, holds, &fail_msg, &success_msg)?)
+    let fail_msg = render_prepared(alloc, fail_msg, scope)?;
+    let success_msg = render_prepared(alloc, success_msg, scope)?;
+    Ok(assert_result(alloc, names, holds, fail_msg, success_msg)?)
 }
 
 /// What `setup` does: it is sent where there is a program that gathers facts, and else gathers none.
-fn setup_of(alloc: Global, has_facts_program: bool) -> Result<Planned, AllocError>
+fn setup_of(
+    alloc: Global,
+    names: &ResultNames,
+    has_facts_program: bool,
+) -> Result<Planned, AllocError>
     ensures { IfOk result (λ p. p ≡ setup_of has_facts_program) }
 {
     if has_facts_program {
         Ok(Planned::Sends(Call::Setup))
     } else {
         let none = Val::dict(Dict::new(alloc));
-        Ok(Planned::Decided(facts_result(alloc, none)?))
+        Ok(Planned::Decided(set_result(alloc, names, none)?))
     }
 }
 
@@ -81,6 +87,7 @@ fn setup_of(alloc: Global, has_facts_program: bool) -> Result<Planned, AllocErro
 #[tactic(auto, unfolding(crate::specs::Planning::done_by))]
 pub(crate) fn done_by(
     alloc: Global,
+    names: &ResultNames,
     has_facts_program: bool,
     called: &Module,
     scope: &Scope,
@@ -93,21 +100,22 @@ pub(crate) fn done_by(
             that,
             fail_msg,
             success_msg,
-        } => asserted(alloc, that.as_slice(), fail_msg, success_msg, scope)?,
+        } => asserted(alloc, names, that.as_slice(), fail_msg, success_msg, scope)?,
         Module::Command(words) => return Ok(Planned::Sends(command_in(alloc, words, scope)?)),
-        Module::Debug { msg } => debug_result(alloc, &render_value(alloc, msg, scope)?)?,
+        Module::Debug { msg } => debug_result(alloc, names, render_prepared(alloc, msg, scope)?)?,
         Module::DebugVar { text, expr } => {
             let value = or_not_defined(alloc, eval(alloc, expr, scope))?;
-            shown_result(alloc, text.as_str(), &value)?
+            shown_result(alloc, text.as_str(), value)?
         }
-        Module::Fail { msg } => fail_result(alloc, &render_value(alloc, msg, scope)?)?,
+        Module::Fail { msg } => fail_result(alloc, names, render_prepared(alloc, msg, scope)?)?,
         Module::Meta(_) => meta_result(alloc)?,
-        Module::SetFact { facts } => facts_result(
+        Module::SetFact { facts } => set_result(
             alloc,
+            names,
             Val::dict(facts_of(alloc, facts, scope)?),
         )?,
-        Module::Setup => return Ok(setup_of(alloc, has_facts_program)?),
-        Module::Shell { cmd } => return Ok(Planned::Sends(shell_in(alloc, cmd.as_str(), scope)?)),
+        Module::Setup => return Ok(setup_of(alloc, names, has_facts_program)?),
+        Module::Shell { cmd } => return Ok(Planned::Sends(shell_in(alloc, cmd, scope)?)),
     };
     Ok(Planned::Decided(result))
 }

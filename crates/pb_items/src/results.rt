@@ -4,23 +4,25 @@ ghost use Rattle.pb_items.specs.Results.{skipped_result, meta_result, assert_res
 
 use pb_outcome::decided::{debug_result, fail_result};
 use pb_outcome::gather::{Ending, ItemResult};
+use pb_outcome::result_names::ResultNames;
 use pb_value::text::Text;
 use pb_value::val::{Dict, Val};
 use std::alloc::{AllocError, Global};
 
 /// The result of an item that its conditions leave out. See Ansible's documentation, "Conditionals".
-pub(crate) fn skipped_result(alloc: Global) -> Result<ItemResult, AllocError>
+pub(crate) fn skipped_result(alloc: Global, names: &ResultNames) -> Result<ItemResult, AllocError>
     ensures { IfOk result (λ r. r ≡ skipped_result) }
 {
     let reason = Val::text(Text::from_str(alloc, "Conditional result was False")?);
-    let mut members = Dict::new(alloc);
-    members.put(alloc, "changed", Val::boolean(false))?;
-    members.put(alloc, "failed", Val::boolean(false))?;
-    members.put(alloc, "skip_reason", reason)?;
-    members.put(alloc, "skipped", Val::boolean(true))?;
+    let values = vec![in alloc;
+        Val::boolean(false),
+        Val::boolean(false),
+        reason,
+        Val::boolean(true),
+    ]?;
     Ok(ItemResult {
         ending: Ending::Skipped,
-        result: Val::dict(members),
+        result: Val::dict(Dict::of_names(names.skipped(), values)?),
     })
 }
 
@@ -43,15 +45,16 @@ pub(crate) fn meta_result(alloc: Global) -> Result<ItemResult, AllocError>
 /// The result of an item of `assert`, whose conditions hold or not. See Ansible's documentation of `ansible.builtin.assert`.
 pub(crate) fn assert_result(
     alloc: Global,
+    names: &ResultNames,
     holds: bool,
-    fail_msg: &Val,
-    success_msg: &Val,
+    fail_msg: Val,
+    success_msg: Val,
 ) -> Result<ItemResult, AllocError>
-    ensures { IfOk result (λ r. r ≡ assert_result holds fail_msg.now success_msg.now) }
+    ensures { IfOk result (λ r. r ≡ assert_result holds fail_msg success_msg) }
 {
     if holds {
-        debug_result(alloc, success_msg)
+        debug_result(alloc, names, success_msg)
     } else {
-        fail_result(alloc, fail_msg)
+        fail_result(alloc, names, fail_msg)
     }
 }

@@ -3,6 +3,7 @@ ghost use Rattle.std.specs.Prelude.{◌≡◌};
 
 use pb_expr_syntax::tree::Expr;
 use pb_layers::layers::{Layers, Magic};
+use pb_outcome::result_names::ResultNames;
 use pb_play::task::Task;
 use pb_value::text::Text;
 use std::marker::Model;
@@ -17,6 +18,8 @@ pub struct Start<'a> {
     pub delegate_to: Option<&'a Text>,
     /// Whether there is a program that gathers facts.
     pub has_facts_program: bool,
+    /// The names of results that are decided at once.
+    pub names: &'a ResultNames,
     /// The variables that the task sees on the host.
     pub layers: &'a Layers<'a>,
     pub magic: &'a Magic<'a>,
@@ -55,6 +58,7 @@ impl<'a> Start<'a> {
             conditions: self.conditions,
             delegate_to: self.delegate_to,
             has_facts_program: self.has_facts_program,
+            names: self.names,
             layers,
             magic: self.magic,
         }

@@ -2,6 +2,8 @@
 ghost use Rattle.std.specs.Prelude.{◌≡◌, ◌<◌, ◌≤◌, ℕ, Bool, false, List, length, drop, Option};
 ghost use Rattle.std.specs.Option.{option_copied};
 ghost use Rattle.pb_value.specs.Datum.{Datum};
+ghost use Rattle.pb_value.specs.Datum as datum;
+ghost use Rattle.pb_mentions.specs.Mentions.{items_mention};
 ghost use Rattle.pb_layers.specs.Found.{maps_in};
 ghost use Rattle.pb_layers.specs.Scope.{Map};
 ghost use Rattle.pb_outcome.specs.declared.gather.ItemResult.{ItemResult};
@@ -15,22 +17,35 @@ use crate::merged::merged_mention;
 use pb_expr_syntax::tree::Expr;
 use pb_layers::layers::Layers;
 use pb_mentions::texts::has_inside;
-use pb_mentions::values::{items_mention, members_mention, mentions};
+use pb_mentions::values::{members_mention, mentions};
 use pb_play::commands::CommandWords;
 use pb_play::loops::Loop;
 use pb_play::modules::Module;
 use pb_play::retrying::Retrying;
 use pb_play::task::Task;
+use pb_prepared::prepared::Prepared;
 use pb_value::items::Items;
 use pb_value::text::Text;
 use pb_value::val::Dict;
+
+/// Whether a word stands in the texts of one of some values.
+fn argv_mentions(word: &str, values: &[Prepared]) -> bool
+    ensures { result ≡ items_mention word.now (datum.items_of values.now) }
+{
+    for value in values {
+        if mentions(word, value.value()) {
+            return true;
+        }
+    }
+    false
+}
 
 fn words_mention(word: &str, words: &CommandWords) -> bool
     ensures { result ≡ words_mention word.now words.now }
 {
     match words {
         CommandWords::Line(line) => has_inside(word, line.as_str()),
-        CommandWords::Argv(argv) => items_mention(word, argv),
+        CommandWords::Argv(argv) => argv_mentions(word, argv.as_slice()),
     }
 }
 
@@ -44,13 +59,13 @@ fn module_mentions(word: &str, called: &Module) -> bool
             success_msg,
         } => {
             some_names(word, that.as_slice())
-                || mentions(word, fail_msg)
-                || mentions(word, success_msg)
+                || mentions(word, fail_msg.value())
+                || mentions(word, success_msg.value())
         }
         Module::Command(words) => words_mention(word, words),
-        Module::Debug { msg } => mentions(word, msg),
+        Module::Debug { msg } => mentions(word, msg.value()),
         Module::DebugVar { text: _, expr } => has_name(word, expr),
-        Module::Fail { msg } => mentions(word, msg),
+        Module::Fail { msg } => mentions(word, msg.value()),
         Module::Meta(_) => false,
         Module::SetFact { facts } => members_mention(word, facts),
         Module::Setup => false,
