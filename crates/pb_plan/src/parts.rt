@@ -5,6 +5,7 @@ ghost use Rattle.pb_plan.specs.Plan.{throttles_of, run_once_of};
 
 use pb_batches::Serial;
 use pb_inventory::inventory::Inventory;
+use pb_outcome::result_names::ResultNames;
 use pb_places::Place;
 use pb_planes::HostSet;
 use pb_strategies::Strategy;
@@ -45,6 +46,8 @@ pub struct AtPlaces {
     pub free_places: Vec<bool>,
     /// The names of the result of a program that ran, which the results of all hosts share.
     pub ran: Option<Names>,
+    /// Those of results that are decided as a task starts.
+    pub names: ResultNames,
 }
 
 /// How many hosts may run the task at each of these places at once.

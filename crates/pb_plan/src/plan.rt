@@ -10,11 +10,14 @@ ghost use Rattle.pb_variables.specs.Shared.{from_groups, AreKept};
 ghost use Rattle.pb_plan.specs.Plan.{throttles_of, run_once_of};
 ghost use Rattle.pb_plan.specs.Hostvars.{IsFreeAt, AreFreePlaces, IsFreeHost, AreFreeHosts};
 
+mod result_names;
+
 use crate::parts::{AtPlaces, PlanHosts, PlayHead};
 use pb_batches::Serial;
 use pb_cursors::LaidTree;
 use pb_ids::{HostNo, PlayNo};
 use pb_inventory::inventory::Inventory;
+use pb_outcome::result_names::ResultNames;
 use pb_places::Place;
 use pb_planes::HostSet;
 use pb_strategies::Strategy;
@@ -22,7 +25,7 @@ use pb_tree::PlayTree;
 use pb_value::items::Items;
 use pb_value::names::Names;
 use pb_value::text::Text;
-use pb_value::val::{Dict, Val};
+use pb_value::val::Dict;
 use pb_variables::connector::connector;
 use pb_variables::host_groups::HostGroups;
 use pb_variables::shared::GroupShares;
@@ -39,6 +42,7 @@ pub struct PlanPlay {
     run_once: Vec<bool>,
     free_places: Vec<bool>,
     ran: Option<Names>,
+    names: ResultNames,
     hosts: HostSet,
     strategy: Strategy,
     serial: Serial,
@@ -57,6 +61,7 @@ impl Drop for PlanPlay {
             run_once,
             free_places,
             ran,
+            names,
             hosts,
             strategy: _,
             serial,
@@ -71,6 +76,7 @@ impl Drop for PlanPlay {
         drop(run_once);
         drop(free_places);
         drop(ran);
+        drop(names);
         drop(hosts);
         drop(serial);
         drop(vars);
@@ -146,6 +152,7 @@ impl PlanPlay {
             run_once,
             free_places,
             ran,
+            names,
         } = at_places;
         PlanPlay {
             name,
@@ -155,6 +162,7 @@ impl PlanPlay {
             run_once,
             free_places,
             ran,
+            names,
             hosts,
             strategy,
             serial,
@@ -215,16 +223,6 @@ impl PlanPlay {
         match self.free_places.as_slice().get(place) {
             Some(is_free) => !*is_free,
             None => true,
-        }
-    }
-
-    /// Where what is shown is the result of a program that ran, its names are from now on the ones that are kept once for all hosts, as far as
-    /// there is memory for it.
-    pub fn share(&self, shown: &mut Val)
-        ensures { shown.new ≡ shown.old }
-    {
-        if let Some(names) = &self.ran {
-            shown.share(names);
         }
     }
 

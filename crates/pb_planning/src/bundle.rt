@@ -11,6 +11,7 @@ use pb_flat::FlatFault;
 use pb_inventory::fault::InvFault;
 use pb_inventory::inventory::Inventory;
 use pb_outcome::judge::ran_names;
+use pb_outcome::result_names::ResultNames;
 use pb_patterns::fault::PatFault;
 use pb_plan::hostvars::free_places;
 use pb_plan::parts::{AtPlaces, PlayHead, run_once_of, throttles_of};
@@ -129,6 +130,7 @@ pub(crate) fn play_with(
     let run_once = run_once_of(alloc, play.places.as_slice())?;
     let free_places = free_places(alloc, &play.vars, play.places.as_slice())?;
     let ran = ran_names(alloc)?;
+    let names = ResultNames::new(alloc)?;
     let head = PlayHead {
         name: play.name,
         hosts,
@@ -144,6 +146,7 @@ pub(crate) fn play_with(
         run_once,
         free_places,
         ran,
+        names,
     };
     Ok(PlanPlay::new(head, laid, at_places))
 }
