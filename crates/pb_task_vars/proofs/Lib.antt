@@ -4,4 +4,5 @@ pub mod Layered
 pub mod ReadHosts
 mod Settled
 pub mod FactsAfter
+pub mod Unseeing
 pub mod AttemptsUnread

@@ -40,6 +40,7 @@ impl<'a> Site<'a> {
     }
 
     /// The items of the task at a place as it starts, where they may not look `hostvars` up.
+    #[tactic(auto, using(crate::proofs::Unseeing::constant_for, crate::proofs::Unseeing::constant_unread))]
     fn unread_items_for(
         &self,
         alloc: Global,
@@ -52,6 +53,9 @@ impl<'a> Site<'a> {
         ensures unread { IfOk result (λ found. IfSome found (λ _. ItemsUnread self.now.plan.now self.now.play.now self.now.host.0 self.now.facts.now (Some place.now))) }
         ensures few { IfOk result (λ found. IfSome found (λ items. length items ≤ max_items)) }
     {
+        if let Some(items) = self.constant_items(alloc, place)? {
+            return Ok(Some(items));
+        }
         let own = HostVars::of(alloc, self.plan, self.host)?;
         let sight = TaskVars::of(self.plan, self.play, self.host, self.facts, place, &own);
         if sight.is_read_at_start(settled) {

@@ -11,6 +11,7 @@
 ghost use Rattle.pb_task_vars.specs.Teaching.{OnlyGoodTasksTeach};
 
 mod attempts;
+mod constant;
 mod delegates;
 pub mod ends;
 pub mod gifts;

@@ -35,11 +35,15 @@ pub(crate) fn no_task(alloc: Global) -> Result<Items<Item>, AllocError>
 
 impl<'a> Site<'a> {
     /// The items of the task at a place as it starts.
+    #[tactic(auto, using(crate::proofs::Unseeing::constant_for))]
     fn items_for(&self, alloc: Global, place: &'a Place) -> Result<Items<Item>, AllocError>
         requires { self.now.host.0 < length self.now.plan.now.inventory.hosts }
         ensures value { IfOk result (λ items. items ≡ items_for self.now.plan.now self.now.play.now self.now.host.0 self.now.facts.now place.now) }
         ensures few { IfOk result (λ items. length items ≤ max_items) }
     {
+        if let Some(items) = self.constant_items(alloc, place)? {
+            return Ok(items);
+        }
         let own = HostVars::of(alloc, self.plan, self.host)?;
         let sight = TaskVars::of(self.plan, self.play, self.host, self.facts, place, &own);
         sight.items(alloc)

@@ -21,6 +21,7 @@ use pb_items::start::Start;
 use pb_layers::layers::{Layers, Magic};
 use pb_outcome::gather::ItemResult;
 use pb_outcome::item::Item;
+use pb_outcome::result_names::ResultNames;
 use pb_places::Place;
 use pb_plan::PlanPlay;
 use pb_reach::reach::{may_read, may_read_by_itself, may_read_of_result};
@@ -33,6 +34,7 @@ use std::marker::Model;
 #[derive(Drop)]
 pub(crate) struct TaskVars<'a> {
     has_facts_program: bool,
+    names: &'a ResultNames,
     place: &'a Place,
     layers: Layers<'a>,
     magic: Magic<'a>,
@@ -89,9 +91,10 @@ impl<'a> TaskVars<'a> {
         };
         TaskVars {
             has_facts_program: plan.has_facts_program(),
+            names: play.names(),
             place,
             layers,
-            magic: plan.magic(&own.magic, play.magic()),
+            magic: plan.magic(own.magic(), play.magic()),
         }
     }
 
@@ -105,6 +108,7 @@ impl<'a> TaskVars<'a> {
             conditions: self.place.conditions(),
             delegate_to: self.place.delegate_to(),
             has_facts_program: self.has_facts_program,
+            names: self.names,
             layers: &self.layers,
             magic: &self.magic,
         }

@@ -1,12 +1,14 @@
 //! A plan as tasks see it.
 
-ghost use Rattle.std.specs.Prelude.{◌≡◌, ◌<◌, ◌≤◌, ◌++◌, false, length, IfOk};
+ghost use Rattle.std.specs.Prelude.{◌≡◌, ◌<◌, ◌≤◌, ◌++◌, false, Some, length, IfOk};
+ghost use Rattle.pb_layers.specs.Host.{host_map};
 ghost use Rattle.pb_plan.specs.Hostvars.{IsFreeHost};
 ghost use Rattle.pb_variables.specs.Shared.{from_groups};
 ghost use Rattle.pb_task_vars.specs.WithHostvars.{with_hosts};
 
 use pb_ids::HostNo;
 use pb_inventory::inventory::Inventory;
+use pb_layers::host::HostMagic;
 use pb_layers::layers::Magic;
 use pb_plan::Plan;
 use pb_value::val::Dict;
@@ -88,11 +90,11 @@ impl<'a> PlanWithHostvars<'a> {
     }
 
     /// The magic variables, behind those of a host and of a play.
-    pub fn magic(&self, host: &'a Dict, play: &'a Dict) -> Magic<'a>
-        ensures { result ≡ host.now ++ play.now ++ self.now.magic }
+    pub fn magic(&self, host: HostMagic<'a>, play: &'a Dict) -> Magic<'a>
+        ensures { result ≡ host_map (Some host.entry) ++ play.now ++ self.now.magic }
     {
         Magic {
-            host,
+            host: Some(host),
             play,
             plan: self.plan.magic(),
             hosts: self.hosts,

@@ -9,7 +9,7 @@ is_read_at_start-requires c = λ settled.
     layers_seeing site.plan.now site.play.now site.host.0 site.facts.now c.args.place.now _ c.of-sight.ensures (c.requires.settled settled)
 
 pub returns-clause-value : goal.returns-clause-value
-returns-clause-value c = subst (λ start. c.in_ok-items.items ≡ items_of start) c.of-sight.ensures c.in_ok-items.ensures.value
+returns-clause-value c = subst (λ start. c.in_ok-items-2.items ≡ items_of start) c.of-sight.ensures c.in_ok-items-2.ensures.value
 
 pub returns-clause-unread : goal.returns-clause-unread
 returns-clause-unread c =
