@@ -1,5 +1,6 @@
 pub mod InOrder
 pub mod Begun
+pub mod Ending
 pub mod Numbering
 pub mod Went
 pub mod Placed

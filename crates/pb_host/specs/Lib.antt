@@ -9,6 +9,7 @@ pub mod Turned
 pub mod Decides
 pub mod Back
 pub mod Runs
+pub mod Shown
 pub mod ItemRows
 pub mod FactRows
 pub mod Calls

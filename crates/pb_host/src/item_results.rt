@@ -1,10 +1,12 @@
 //! What the items of a task come to.
 
-ghost use Rattle.std.specs.Prelude.{◌≡◌, ◌≤◌, ◌++◌, [], length, IfOk};
+ghost use Rattle.std.specs.Prelude.{◌≡◌, ◌≤◌, ◌++◌, [], true, length, IfOk};
 ghost use Rattle.std.specs.Option.{option_copied};
-ghost use Rattle.pb_outcome.specs.Items.{numbered, numbered_at, numbered_then};
+ghost use Rattle.pb_outcome.specs.Items.{numbered, numbered_at, numbered_then, result_of};
 ghost use Rattle.pb_task_vars.specs.Results.{variable_at};
-ghost use Rattle.pb_host.specs.Decides.{item_results_in, done_at};
+ghost use Rattle.pb_host.specs.Decides.{item_results_in};
+ghost use Rattle.pb_host.specs.Handlers.{newly_at};
+ghost use Rattle.pb_host.specs.Shown.{has_shown, let_go, shown_by};
 ghost use Rattle.pb_host.specs.Host.{ignores_at, caught_at, meta_in, meta_at, runs_once_at, task_at};
 
 use crate::handlers::newly_at;
@@ -13,10 +15,11 @@ use crate::step_result::{TaskDone, TaskEnd};
 use pb_outcome::gather::ItemResult;
 use pb_outcome::item::{Item, Planned};
 use pb_outcome::items::gather;
-use pb_outcome::registered::registered;
+use pb_outcome::registered::{into_only_result, only_result, registered};
 use pb_plan::PlanPlay;
 use pb_play::modules::{Meta, Module};
 use pb_value::items::Items;
+use pb_value::val::Val;
 use std::alloc::{AllocError, Global};
 
 /// An equal result of its own.
@@ -192,22 +195,115 @@ pub fn task_at(play: &PlanPlay, place: usize, items: &TaskItems) -> TaskEnd
     }
 }
 
-/// How the task at a place ended on a host with these marks, and what is shown of it.
-pub fn done_at(
+/// How a task ended on a host, with what is shown of it where that isn't handed on from its items.
+pub(crate) struct End {
+    /// What is shown, where that isn't the result of its one item.
+    made: Option<Val>,
+    /// How it ended.
+    pub(crate) task: TaskEnd,
+    /// The handlers that it notified and that were not pending before.
+    notified: Items<u32>,
+}
+
+impl Drop for End {
+    fn drop(self) {
+        let End {
+            made,
+            task: _,
+            notified,
+        } = self;
+        drop(made);
+        drop(notified);
+    }
+}
+
+impl End {
+    /// What is shown of it, where these are its items.
+    pub(crate) fn shown<'a>(&'a self, items: &'a [Item]) -> &'a Val
+        requires { has_shown self.now.made items.now ≡ true }
+        ensures { result.now ≡ shown_by self.now.made items.now }
+    {
+        match &self.made {
+            Some(made) => made,
+            None => match only_result(items) {
+                Some(shown) => shown,
+                None => unreachable!(),
+            },
+        }
+    }
+
+    /// How it ended, and what is shown of it, which is handed on from its items.
+    pub(crate) fn done(self, items: TaskItems) -> TaskDone
+        ensures { result ≡ record { result = shown_by self.made items; task = self.task; notified = self.notified } }
+    {
+        let End {
+            made,
+            task,
+            notified,
+        } = self;
+        TaskDone {
+            result: handed_on(made, items),
+            task,
+            notified,
+        }
+    }
+}
+
+/// What is shown of a task: what was made of its items, or the result of the only one, which is handed on.
+fn handed_on(made: Option<Val>, items: TaskItems) -> Val
+    ensures { result ≡ shown_by made items }
+{
+    match made {
+        Some(made) => {
+            drop(items);
+            made
+        }
+        None => match into_only_result(items.into_vec()) {
+            Some(only) => only,
+            None => Val::null(),
+        },
+    }
+}
+
+/// What is shown of the task at a place, where that isn't handed on from its items: where these are kept, or it has a loop.
+fn made_at(
+    alloc: Global,
+    play: &PlanPlay,
+    place: usize,
+    items: &[Item],
+) -> Result<Option<Val>, AllocError>
+    ensures there { IfOk result (λ made. has_shown made items.now ≡ true) }
+    ensures shown { IfOk result (λ made. shown_by made items.now ≡ result_of (variable_at play.now place) items.now) }
+    ensures handed { IfOk result (λ made. shown_by made (let_go (runs_once_at play.now place) items.now) ≡ result_of (variable_at play.now place) items.now) }
+{
+    match only_result(items) {
+        Some(_) if !runs_once_at(play, place) => Ok(None),
+        _ => {
+            let made = registered(alloc, variable_at(play, place), items)?;
+            Ok(Some(made))
+        }
+    }
+}
+
+/// How the task at a place ended on a host with these marks.
+pub(crate) fn end_at(
     alloc: Global,
     play: &PlanPlay,
     place: usize,
     marks: &[bool],
     items: &TaskItems,
-) -> Result<TaskDone, AllocError>
-    ensures { IfOk result (λ done. done ≡ done_at play.now place marks.now items.now) }
+) -> Result<End, AllocError>
+    ensures task { IfOk result (λ end. end.task ≡ task_at play.now place items.now) }
+    ensures notified { IfOk result (λ end. end.notified ≡ newly_at play.now place marks.now (task_at play.now place items.now)) }
+    ensures there { IfOk result (λ end. has_shown end.made items.now ≡ true) }
+    ensures shown { IfOk result (λ end. shown_by end.made items.now ≡ result_of (variable_at play.now place) items.now) }
+    ensures handed { IfOk result (λ end. shown_by end.made (let_go (runs_once_at play.now place) items.now) ≡ result_of (variable_at play.now place) items.now) }
 {
     let task = task_at(play, place, items);
     let notified = newly_at(alloc, play, place, marks, task)?;
-    let mut result = registered(alloc, variable_at(play, place), items.as_slice())?;
-    play.share(&mut result);
-    Ok(TaskDone {
-        result,
+    let made = made_at(alloc, play, place, items.as_slice())?;
+    Ok(End {
+        made,
         task,
         notified,
     })

@@ -20,6 +20,7 @@ use pb_outcome::items::has_unreachable;
 use pb_outcome::job::Call;
 use pb_outcome::judge::judge;
 use pb_outcome::outcome::Outcome;
+use pb_plan::PlanPlay;
 use pb_task_vars::site::Site;
 use pb_value::items::Items;
 use pb_value::text::Text;
@@ -261,6 +262,15 @@ fn attempt_after(tried: u8) -> u32
     if tried < 100 { tried as u32 + 1 } else { 101 }
 }
 
+/// An item's result has the names that are kept once for all hosts, where it is that of a program that ran.
+fn share_step(play: &PlanPlay, step: &mut Planned)
+    ensures { step.new ≡ step.old }
+{
+    if let Planned::Decided(result) = step {
+        play.share(&mut result.result);
+    }
+}
+
 impl TaskItems {
     /// The items of a task.
     pub fn of(items: Items<Item>) -> TaskItems
@@ -290,6 +300,27 @@ impl TaskItems {
         ensures most { length self.now ≤ 10000 }
     {
         self.items.as_slice()
+    }
+
+    /// The items themselves, in place of what they were kept in.
+    pub(crate) fn into_vec(self) -> Vec<Item>
+        ensures { result.items ≡ self }
+    {
+        let TaskItems {
+            items,
+            next: _,
+            lost: _,
+        } = self;
+        items
+    }
+
+    /// Where the task has no loop and its result is that of a program that ran, that has the names that are kept once for all hosts.
+    pub(crate) fn share(&mut self, play: &PlanPlay)
+        ensures { self.new ≡ self.old }
+    {
+        if self.items.len() == 1 {
+            share_step(play, &mut self.items[0].step);
+        }
     }
 
     /// The number of the next item to be sent, or of the one whose job is out.

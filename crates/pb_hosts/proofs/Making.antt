@@ -1,22 +1,36 @@
 -- What hosts learn at a turn, and what is done to each of them then, comes to what the turn does.
 use Rattle.std.proofs.Common.{◌≡◌, ℕ, ◌*◌, Bool, true, false, ◌&&◌, ◌||◌, cond, List, [], ◌∷◌, map, refl, sym, ◌∙◌, ap, subst, arith}
-use Rattle.std.specs.Prelude.{nat_lt, Option, Some, None, option_map, count_by, if◌then◌else◌}
+use Rattle.std.specs.Prelude.{nat_lt, Option, Some, None, IfSome, option_map, count_by, if◌then◌else◌}
 use Rattle.std.specs.List.{list_any}
 use Rattle.std.specs.Option.{option_map_or}
 use Rattle.std.proofs.lemmas.List.Sums.{sum_by-cons}
+use Rattle.pb_value.specs.Datum.{Datum}
 use Rattle.pb_inventory.specs.InventoryOf.{InventoryOf}
+use Rattle.pb_facts.specs.Facts.{FactsOf}
+use Rattle.pb_outcome.specs.declared.item.Item.{Item}
+use Rattle.pb_outcome.specs.Items.{only_result, result_of}
 use Rattle.pb_plan.specs.Plan.{PlayOf}
+use Rattle.pb_task_vars.specs.Learning.{facts_after_end}
+use Rattle.pb_task_vars.specs.Results.{variable_at}
 use Rattle.pb_tree.specs.declared.answer.Kind.{Kind}
 use Rattle.pb_host.specs.declared.host.LastTask.{LastTask}
 use Rattle.pb_hosts.specs.declared.turned.HostUpdate.{HostUpdate}
 use Rattle.pb_hosts.specs.declared.turned.TurnMade.{TurnMade}
-use Rattle.pb_host.specs.Host.{HostOf, caught_at, is_at, knows}
+use Rattle.pb_host.specs.Host.{HostOf, caught_at, facts_after, is_at, knows, task_at}
 use Rattle.pb_hosts.specs.Turn.{source, copied, copied_if, with_copy, has_ended_fatally, ends_fatally, any_errors_fatal_at, is_fatal_at, batch_count, broken_count, has_failed_too_often, is_halting}
 use Rattle.pb_host.specs.Turned.{answer_copied, with_answer, halted_if}
 use Rattle.pb_hosts.specs.Applied.{with_update}
 use Rattle.pb_hosts.specs.TurnMade.{IsTurnOf, copy_applied, kind_from, turning_row, turned_row, halts_at, turned_rows}
 
 -- ---- one row
+-- what it learns of the one result of a task without a loop
+pub taught_by : (inventory : InventoryOf) (play : PlayOf) (p : ℕ) (items : List Item) (shown : Datum) (facts known : FactsOf) → Some shown ≡ only_result items
+    → ((variable : List ℕ) → IfSome (only_result items) (λ (v : Datum). v ≡ result_of variable items)) → known ≡ facts_after_end inventory play p None (task_at play p items).result shown items facts
+    → known ≡ facts_after inventory play p None items facts
+taught_by inventory play p items shown facts known one is e =
+    let same : shown ≡ result_of (variable_at play p) items = subst (λ (found : Option Datum). IfSome found (λ (v : Datum). v ≡ result_of (variable_at play p) items)) (sym one) (is (variable_at play p)) in
+    e ∙ ap (λ (result : Datum). facts_after_end inventory play p None (task_at play p items).result result items facts) same
+
 -- a host that has learnt what goes to it gets the answer, and has what it is to have
 copy_as : (inventory : InventoryOf) (play : PlayOf) (p : ℕ) (from : Option HostOf) (row : HostOf) → with_answer p (kind_from from) (caught_at play p) (copy_applied inventory play p from row) ≡ with_copy inventory play p from row
 copy_as inventory play p None row = refl

@@ -21,7 +21,7 @@ use pb_host::{
 };
 use pb_ids::HostNo;
 use pb_inventory::inventory::Inventory;
-use pb_outcome::registered::registered;
+use pb_outcome::registered::{only_result, registered};
 use pb_plan::PlanPlay;
 use pb_planes::HostSet;
 use pb_task_vars::ends::Ended;
@@ -55,8 +55,11 @@ impl<'a> Copied<'a> {
             result: task_at(self.play, self.place, items).result,
             items: items.as_slice(),
         };
-        let mut shown = registered(alloc, variable_at(self.play, self.place), items.as_slice())?;
-        self.play.share(&mut shown);
+        if let Some(only) = only_result(items.as_slice()) {
+            let taught = ended.teaches(alloc, None, only, facts)?;
+            return Ok(taught);
+        }
+        let shown = registered(alloc, variable_at(self.play, self.place), items.as_slice())?;
         let update = ended.teaches(alloc, None, &shown, facts)?;
         Ok(update)
     }

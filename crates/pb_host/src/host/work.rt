@@ -2,7 +2,8 @@
 
 ghost use Rattle.std.specs.Prelude.{◌≡◌, ◌-◌, ◌^◌, OnOk, OnErr, IfOk, true};
 ghost use Rattle.pb_facts.specs.Update.{applied};
-ghost use Rattle.pb_host.specs.Host.{kept_items};
+ghost use Rattle.pb_host.specs.Host.{kept_items, runs_once_at};
+ghost use Rattle.pb_host.specs.Shown.{let_go};
 ghost use Rattle.pb_host.specs.Handlers.{notified_by};
 ghost use Rattle.pb_host.specs.Back.{items_run};
 ghost use Rattle.pb_host.specs.Ends.{answer_of, IsAtMost};
@@ -10,7 +11,7 @@ ghost use Rattle.pb_host.specs.Ends.{answer_of, IsAtMost};
 use super::{Host, LastTask, Running, put_last};
 use crate::ends::{breaks, counted, kind_of};
 use crate::handlers::{marks_in, notified_by};
-use crate::item_results::{done_at, item_results_in, runs_once_at};
+use crate::item_results::{end_at, item_results_in, runs_once_at};
 use crate::items::{Before, CameBack, TaskItems, none_back};
 use crate::step_result::{Retried, StepResult, TaskDone, TaskEnd};
 use pb_facts::update::FactsUpdate;
@@ -48,11 +49,13 @@ fn answer_of(
     Ok(Answer::of(kind_of(task), notified))
 }
 
-/// What is kept of the items of a task that ended.
-fn kept_items(alloc: Global, once: bool, items: TaskItems) -> TaskItems
-    ensures { result ≡ kept_items once items }
+/// What is kept of the items of a task that ended, and those that are let go.
+fn parted(alloc: Global, once: bool, items: TaskItems) -> (TaskItems, TaskItems)
+    ensures kept { result.0 ≡ kept_items once items }
+    ensures gone { result.1 ≡ let_go once items }
 {
-    if once { items } else { TaskItems::none(alloc) }
+    let none = TaskItems::none(alloc);
+    if once { (items, none) } else { (none, items) }
 }
 
 impl Host {
@@ -60,20 +63,22 @@ impl Host {
     ghost use Rattle.pb_host.specs.Decides.{done_if};
     ghost use Rattle.pb_host.specs.Back.{back_row, retried_row, finish_run, end_recorded, with_running, waiting, went_on, ended_now, step_result_now, undone};
 
-    /// Puts down how the task at a place ended that the host runs.
-    fn record_end(&mut self, alloc: Global, once: bool, place: usize, task: TaskEnd)
+    /// Puts down how the task at a place ended that the host runs. Items that aren't kept are handed back.
+    fn record_end(&mut self, alloc: Global, once: bool, place: usize, task: TaskEnd) -> TaskItems
         requires { IsAtMost self.old.counts (2 ^ 64 - 2) }
-        ensures { self.new ≡ end_recorded once place task self.old }
+        ensures row { self.new ≡ end_recorded once place task self.old }
+        ensures gone { result ≡ let_go once (items_run self.old.running) }
     {
         let kind = kind_of(task);
         let ran = mem::replace(&mut self.running, None);
-        let items = kept_items(alloc, once, items_run(alloc, ran));
+        let (items, gone) = parted(alloc, once, items_run(alloc, ran));
         put_last(&mut self.last, Some(LastTask { place, kind, items }));
         self.is_broken = self.is_broken || breaks(task.is_caught, kind);
         self.counts = counted(self.counts, task);
+        gone
     }
 
-    /// The task at a place that the host runs ends, and the host learns this. An `Err` changes nothing.
+    /// The task at a place that the host runs ends, and the host learns this. Items that aren't kept are handed back. An `Err` changes nothing.
     fn finish(
         &mut self,
         alloc: Global,
@@ -81,17 +86,17 @@ impl Host {
         place: usize,
         task: TaskEnd,
         update: FactsUpdate,
-    ) -> Result<(), AllocError>
+    ) -> Result<TaskItems, AllocError>
         requires batch { self.old.in_batch ≡ true }
         requires room { IsAtMost self.old.counts (2 ^ 64 - 2) }
         ensures ok { OnOk result (self.new ≡ finished (finish_run play.now place task self.old.running) task (notified_by play.now place task) (applied update self.old.facts) self.old) }
+        ensures gone { IfOk result (λ gone. gone ≡ let_go (runs_once_at play.now place) (items_run self.old.running)) }
         ensures err { OnErr result (self.new ≡ self.old) }
     {
         match answer_of(alloc, play, place, task) {
             Ok(answer) => {
                 self.apply_and_answer(alloc, &answer, update)?;
-                self.record_end(alloc, runs_once_at(play, place), place, task);
-                Ok(())
+                Ok(self.record_end(alloc, runs_once_at(play, place), place, task))
             }
             Err(error) => {
                 drop(update);
@@ -227,6 +232,15 @@ impl Host {
         }
     }
 
+    /// Where the task that the host runs has no loop and its result is that of a program that ran, that has the names that are kept once for all hosts.
+    fn share(&mut self, play: &PlanPlay)
+        ensures { self.new ≡ self.old }
+    {
+        if let Some(running) = &mut self.running {
+            running.items.share(play);
+        }
+    }
+
     /// The task that the host runs goes on, or ends where it is over. An `Err` changes nothing.
     fn end_if_over(
         &mut self,
@@ -239,6 +253,7 @@ impl Host {
         ensures done { IfOk result (λ done. done ≡ ended_now play.now self.old) }
         ensures err { OnErr result (self.new ≡ self.old) }
     {
+        self.share(play);
         match &self.running {
             None => Ok(None),
             Some(running) => {
@@ -247,18 +262,19 @@ impl Host {
                     return Ok(None);
                 }
                 let place = running.place;
-                let marks = marks_in(&self.walk);
-                let done = done_at(alloc, play, place, marks, &running.items)?;
+                let end = end_at(alloc, play, place, marks_in(&self.walk), &running.items)?;
+                let items = running.items.as_slice();
                 let ended = Ended {
                     inventory,
                     play,
                     place,
-                    result: done.task.result,
-                    items: running.items.as_slice(),
+                    result: end.task.result,
+                    items,
                 };
-                let update = ended.teaches(alloc, Some(self.host), &done.result, &self.facts)?;
-                self.finish(alloc, play, place, done.task, update)?;
-                Ok(Some(done))
+                let shown = end.shown(items);
+                let update = ended.teaches(alloc, Some(self.host), shown, &self.facts)?;
+                let gone = self.finish(alloc, play, place, end.task, update)?;
+                Ok(Some(end.done(gone)))
             }
         }
     }
