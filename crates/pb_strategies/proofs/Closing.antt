@@ -3,7 +3,7 @@ use Rattle.std.proofs.Common.{◌≡◌, ◌<◌, ◌≤◌, ◌+◌, ◌∙◌,
 use Rattle.std.specs.Option.{option_map_or}
 use Rattle.std.specs.List.{list_any}
 use Rattle.std.specs.Simd.Lanes.{zip2}
-use Rattle.std.proofs.lemmas.Bool.{cases_eq, cases_lt, cases_order, cases_Bool, ne_eqb, lt-ltb}
+use Rattle.std.proofs.lemmas.Bool.{cases_eq, cases_lt, cases_order, cases_Bool, eqb-true, ne_eqb, lt-ltb}
 use Rattle.std.proofs.lemmas.Option.{slice_get-get_or, slice_get_within}
 use Rattle.std.proofs.lemmas.List.{length-map, length-set, take_all, ext_get_or, get_or-set_same, get_or-set_other}
 use Rattle.std.proofs.lemmas.List.Folds.{list_any_more}
@@ -13,7 +13,7 @@ use Rattle.std.proofs.lemmas.Simd.{length-zip2, get_or-zip2}
 use Rattle.pb_planes.specs.Set.{is_in, IsNextFrom, HasNoneFrom}
 use Rattle.pb_limits.specs.Counts.{runs_at, running_at, has_room_for}
 use Rattle.pb_strategies.specs.declared.standings.Standing.{Standing}
-use Rattle.pb_strategies.specs.Hosts.{nowhere, is_running, is_next_at, runs_in}
+use Rattle.pb_strategies.specs.Hosts.{nowhere, is_running, is_next_at, runs_in, same_place}
 use Rattle.pb_strategies.specs.MayStart.{ViewOf, has_room_at}
 use Rattle.pb_strategies.specs.Parts.{is_open_to, stays_open, is_shut_by, opened}
 use Rattle.pb_strategies.proofs.Members.{member_below}
@@ -195,6 +195,24 @@ shut_step view set now new from h next o n =
     let r = slice_index_or (runs_in view.hosts) h None in
     n ∙ ap (λ xs. without (is_shut_by view r) xs view.hosts) o
     ∙ without_twice (is_shut_to view from) (is_shut_by view r) (is_shut_to view (h + 1)) (λ (host : Standing). shut_more view from h r (λ q. any_step q view.hosts from h next) host.next host.runs host.has_begun) set view.hosts
+
+-- what was taken out of a set isn't in it any more
+or_itself : (a : Bool) → (a || a) ≡ a
+or_itself true = refl
+or_itself false = refl
+
+pub shut_again : (test : Standing → Bool) (set new : List Bool) (hosts : List Standing) → new ≡ without test set hosts → new ≡ without test new hosts
+shut_again test set new hosts n = n ∙ sym (ap (λ xs. without test xs hosts) n ∙ without_twice test test test (λ (host : Standing). or_itself (test host)) set hosts)
+
+pub same_runs : (a b : Option ℕ) → same_place a b ≡ true → a ≡ b
+same_runs None b e = cc
+same_runs (Some p) None e = cc
+same_runs (Some p) (Some q) e = ap Some (eqb-true p q e)
+
+-- the hosts that so many of those that run don't let start are out of a set, and the ones of the last place
+pub record IsShut (view : ViewOf) (set now : List Bool) (from : ℕ) (last : Option ℕ) : Type 0 where
+  pub so_far : now ≡ without (is_shut_to view from) set view.hosts
+  pub by_last : now ≡ without (is_shut_by view last) now view.hosts
 
 -- where no more hosts may run some host runs
 count_none : (p : ℕ) (runs : List (Option ℕ)) → list_any (runs_at p) runs ≡ false → running_at runs p ≡ 0

@@ -13,6 +13,7 @@ use Rattle.pb_strategies.specs.declared.standings.Standing.{Standing}
 use Rattle.pb_strategies.specs.declared.watched.Watched.{Watched}
 use Rattle.pb_strategies.specs.Hosts.{nowhere, same_place, is_running, has_begun, is_unended, is_next_at, is_under_way, runs_in}
 use Rattle.pb_strategies.specs.Kept.{IsWatched, AreWatched, put_at, with_next, is_idle_at, IsKept}
+use Rattle.pb_strategies.specs.Numbers.{AreNumbered}
 use Rattle.pb_strategies.proofs.Watching.{watched_put, each_put}
 
 -- what is written where it stands already changes nothing
@@ -46,14 +47,16 @@ counts_kept hosts h old new limits mid last few e finish start places law =
 one_kept : (test : Standing → Bool) (hosts : List Standing) (h : ℕ) (new : Standing) (set told : List Bool) → set ≡ map test hosts → told ≡ slice_set set h (test new) → told ≡ map test (slice_set hosts h new)
 one_kept test hosts h new set told s t = t ∙ ap (λ xs. slice_set xs h (test new)) s ∙ sym (map-set test hosts h new)
 
-pub put_kept : (hosts : List Standing) (h : ℕ) (old new : Standing) (limits mid last : LimitsOf) (n m : ℕ) (running begun unended r b u : List Bool) (here t : Watched) (idle i : List Bool) (watched w : List (Option (List Bool))) → slice_get hosts h ≡ Some old
-    → IsKept hosts limits n running begun unended here idle watched
+pub put_kept : (hosts : List Standing) (h : ℕ) (old new : Standing) (limits mid last : LimitsOf) (n m : ℕ) (running begun unended r b u : List Bool) (here t : Watched) (idle i : List Bool) (watched w : List (Option (List Bool)))
+    (bits c : List (List Bool)) (fits f : Bool) → slice_get hosts h ≡ Some old
+    → IsKept hosts limits n running begun unended here idle watched bits fits
     → ((places host : ℕ) (runs : List (Option ℕ)) → slice_get runs host ≡ Some old.runs → limits ≡ limits_of places runs → mid ≡ limits_of places (slice_set runs host None))
     → ((places host : ℕ) (runs : List (Option ℕ)) → length runs < 2 ^ 32 → slice_get runs host ≡ Some None → mid ≡ limits_of places runs → last ≡ limits_of places (slice_set runs host new.runs))
     → m ≡ count_by is_under_way (slice_set hosts h new)
     → r ≡ slice_set running h (is_some new.runs) → b ≡ slice_set begun h new.has_begun → u ≡ slice_set unended h (is_some new.next) → t ≡ with_next h new.next here → i ≡ slice_set idle h (is_idle_at here.place new) → w ≡ put_at new.next h true (put_at old.next h false watched)
-    → IsKept (slice_set hosts h new) last m r b u t i w
-put_kept hosts h old new limits mid last n m running begun unended r b u here t idle i watched w e kept finish start em er eb eu et ei ew =
+    → (AreNumbered hosts bits fits → AreNumbered (slice_set hosts h new) c f)
+    → IsKept (slice_set hosts h new) last m r b u t i w c f
+put_kept hosts h old new limits mid last n m running begun unended r b u here t idle i watched w bits c fits f e kept finish start em er eb eu et ei ew ec =
     let long = length-set hosts h new in
     record {
       few = omega (arith, long, kept.few);
@@ -65,6 +68,7 @@ put_kept hosts h old new limits mid last n m running begun unended r b u here t 
       are_here = subst (IsWatched (slice_set hosts h new)) (sym et) (watched_put hosts h new here kept.are_here);
       are_idle = one_kept (is_idle_at here.place) hosts h new idle i kept.are_idle ei ∙ ap (λ (one : Watched). map (is_idle_at one.place) (slice_set hosts h new)) (sym et);
       are_watched = subst (AreWatched (slice_set hosts h new)) (sym ew) (each_put hosts h old new watched e kept.are_watched);
+      are_numbered = ec kept.are_numbered;
     }
 
 -- a set that keeps what another one has too, and then gains all of that, is that other one
@@ -139,7 +143,7 @@ count_found limits places place n runs law found =
     ∙ get_or-map-range_with_len (running_at runs) 0 places place place 0 (omega (arith, within, long)) (omega arith)
 
 -- at first all hosts are outside of the batch
-all_nowhere : {Y : Type 0} (f : Standing → Y) (n : ℕ) → replicate n (f nowhere) ≡ map f (replicate n nowhere)
+pub all_nowhere : {Y : Type 0} (f : Standing → Y) (n : ℕ) → replicate n (f nowhere) ≡ map f (replicate n nowhere)
 all_nowhere f zero = refl
 all_nowhere f (suc n) = ap (λ rest. f nowhere ∷ rest) (all_nowhere f n)
 
@@ -150,10 +154,12 @@ none_under_way : (n : ℕ) → count_by is_under_way (replicate n nowhere) ≡ 0
 none_under_way zero = refl
 none_under_way (suc n) = sum_by-cons (λ (host : Standing). cond (is_under_way host) 1 0) nowhere (replicate n nowhere) ∙ ap (λ m. 0 + m) (none_under_way n)
 
-pub first_kept : (n places : ℕ) (hosts : List Standing) (limits : LimitsOf) (running begun unended : List Bool) (here : Watched) (idle : List Bool) (watched : List (Option (List Bool))) → n < 2 ^ 32 → hosts ≡ replicate n nowhere
+pub first_kept : (n places : ℕ) (hosts : List Standing) (limits : LimitsOf) (running begun unended : List Bool) (here : Watched) (idle : List Bool) (watched : List (Option (List Bool))) (bits : List (List Bool)) (fits : Bool)
+    → n < 2 ^ 32 → hosts ≡ replicate n nowhere
     → ((m : ℕ) → limits ≡ limits_of places (replicate m None))
-    → running ≡ replicate n false → begun ≡ replicate n false → unended ≡ replicate n false → here.hosts ≡ replicate n false → idle ≡ replicate n false → AreWatched hosts watched → IsKept hosts limits 0 running begun unended here idle watched
-first_kept n places hosts limits running begun unended here idle watched few h l r b u t i w =
+    → running ≡ replicate n false → begun ≡ replicate n false → unended ≡ replicate n false → here.hosts ≡ replicate n false → idle ≡ replicate n false → AreWatched hosts watched
+    → AreNumbered hosts bits fits → IsKept hosts limits 0 running begun unended here idle watched bits fits
+first_kept n places hosts limits running begun unended here idle watched bits fits few h l r b u t i w c =
     let runs : Standing → Option ℕ = λ (one : Standing). one.runs in
     let long : length hosts ≡ n = ap length h ∙ length-replicate n nowhere in
     record {
@@ -166,4 +172,5 @@ first_kept n places hosts limits running begun unended here idle watched few h l
       are_here = none_at_first (is_next_at here.place) n hosts here.hosts refl h t;
       are_idle = none_at_first (is_idle_at here.place) n hosts idle refl h i;
       are_watched = w;
+      are_numbered = c;
     }

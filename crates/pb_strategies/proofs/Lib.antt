@@ -1,5 +1,6 @@
 pub mod Members
 pub mod Watching
+pub mod Numbering
 pub mod Keeping
 pub mod Starting
 pub mod Closing

@@ -5,6 +5,7 @@ use Rattle.pb_limits.specs.Counts.{LimitsOf, limits_of}
 use Rattle.pb_strategies.specs.declared.standings.Standing.{Standing}
 use Rattle.pb_strategies.specs.declared.watched.Watched.{Watched}
 use Rattle.pb_strategies.specs.Hosts.{same_place, is_running, has_begun, is_unended, is_next_at, is_under_way, runs_in}
+use Rattle.pb_strategies.specs.Numbers.{AreNumbered}
 
 -- a place, and the hosts whose next place it is
 abbrev pub IsWatched : List Standing → Watched → Type 0
@@ -35,8 +36,9 @@ abbrev pub is_idle_at : Option ℕ → Standing → Bool
 is_idle_at place host = is_next_at place host && not (is_running host)
 
 -- the counts of the hosts that run, and of those that have begun and are not at their end; the sets of those that run, that have begun, that have a next
--- place, and whose next place is a certain one, of the current one, also without those that run, and of each that is watched
-pub record IsKept (hosts : List Standing) (limits : LimitsOf) (under_way : ℕ) (running begun unended : List Bool) (here : Watched) (idle : List Bool) (watched : List (Option (List Bool))) : Type 0 where
+-- place, and whose next place is a certain one, of the current one, also without those that run, and of each that is watched; and the numbers of next places
+pub record IsKept (hosts : List Standing) (limits : LimitsOf) (under_way : ℕ) (running begun unended : List Bool) (here : Watched) (idle : List Bool) (watched : List (Option (List Bool)))
+    (bits : List (List Bool)) (fits : Bool) : Type 0 where
   pub few : length hosts < 2 ^ 32
   pub counted : (places : ℕ) × (limits ≡ limits_of places (runs_in hosts))
   pub are_under_way : under_way ≡ count_by is_under_way hosts
@@ -46,3 +48,4 @@ pub record IsKept (hosts : List Standing) (limits : LimitsOf) (under_way : ℕ) 
   pub are_here : IsWatched hosts here
   pub are_idle : idle ≡ map (is_idle_at here.place) hosts
   pub are_watched : AreWatched hosts watched
+  pub are_numbered : AreNumbered hosts bits fits

@@ -1,5 +1,6 @@
 pub mod Hosts
 pub mod Kept
 pub mod MayStart
+pub mod Numbers
 pub mod Parts
 pub mod Rows

@@ -6,6 +6,7 @@ use Rattle.pb_strategies.specs.declared.strategy.Strategy.TheVariants.{Linear, F
 use Rattle.pb_strategies.specs.Hosts.{nowhere}
 use Rattle.pb_strategies.specs.Kept.{IsWatched, put_at, with_next}
 use Rattle.pb_strategies.specs.MayStart.{ViewOf, ready, turn_ready}
+use Rattle.pb_strategies.specs.Numbers.{behind_bits, has_bit, numbered, same_bits}
 use Rattle.pb_strategies.specs.Parts.{is_shut_by}
 
 -- a host that waits at a place, one that runs there, one that has done there what it does, and one at its end
@@ -103,3 +104,20 @@ one_may_start = refl
 
 not_linear : turn_ready (seen Free 5 None (ended ∷ [])) ≡ false
 not_linear = refl
+
+-- six is 110 in bits; with two of them it agrees with two, with three it doesn't
+bits_of_six : map (λ k. has_bit k 6) (0 ∷ 1 ∷ 2 ∷ 3 ∷ []) ≡ false ∷ true ∷ true ∷ false ∷ []
+bits_of_six = refl
+
+two_bits : same_bits 2 6 2 ≡ true
+two_bits = refl
+
+three_bits : same_bits 3 6 2 ≡ false
+three_bits = refl
+
+none_behind : behind_bits 3 6 ≡ 0
+none_behind = refl
+
+-- the hosts at the places 1, 3, outside of the batch and 2: of the lowest bit, and of the next one
+numbered_hosts : map (λ k. map (numbered k) (fresh 1 ∷ runs 3 ∷ nowhere ∷ waits 2 ∷ [])) (0 ∷ 1 ∷ []) ≡ (true ∷ true ∷ false ∷ false ∷ []) ∷ (false ∷ true ∷ false ∷ true ∷ []) ∷ []
+numbered_hosts = refl

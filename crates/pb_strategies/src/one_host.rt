@@ -1,7 +1,7 @@
 //! Whether one host may start its next task.
 
 ghost use Rattle.std.specs.Prelude.{◌≡◌};
-ghost use Rattle.pb_strategies.specs.MayStart.{is_first_at, may_run_once, suits, may_start_at, may_start_from, may_start};
+ghost use Rattle.pb_strategies.specs.MayStart.{is_first_at, may_run_once, suits, may_start_from, may_start};
 
 use crate::standings::{Standing, Standings, same_place};
 use crate::starts::{has_room, has_room_at, has_room_to_begin, is_open_once, runs_once};

@@ -10,7 +10,8 @@ ghost use Rattle.pb_strategies.specs.Hosts.{nowhere, same_place, is_unended, is_
 
 mod asked;
 
-use crate::watched::{Places, Watched};
+use crate::numbers::Numbers;
+use crate::watched::{Places, Watched, have_room};
 use pb_ids::HostNo;
 use pb_limits::Limits;
 use pb_planes::HostSet;
@@ -60,6 +61,8 @@ pub struct Standings {
     idle: HostSet,
     /// Those whose next place is one that is watched.
     watched: Places,
+    /// The numbers of their next places, where not all of a play's places may be watched.
+    numbers: Numbers,
 }
 
 impl Model for Standings {
@@ -71,7 +74,7 @@ impl Model for Standings {
 
     ghost view = { λ s. s.hosts.items };
 
-    ghost invariant = { λ s. IsKept s.hosts.items s.limits s.under_way s.running s.begun s.unended s.here s.idle s.watched.sets.items };
+    ghost invariant = { λ s. IsKept s.hosts.items s.limits s.under_way s.running s.begun s.unended s.here s.idle s.watched.sets.items s.numbers.bits.items s.numbers.fits };
 }
 
 /// Whether both are the same place.
@@ -305,6 +308,11 @@ fn some_next(hosts: &[Standing], place: usize) -> bool
     false
 }
 
+/// How many places a play has, if the sets of all of them may take more than those that are watched take at most; else none.
+fn unwatched(hosts: u32, places: usize) -> usize {
+    if have_room(hosts, places) { 0 } else { places }
+}
+
 impl Standings {
     /// So many hosts outside of the batch, whose play has so many places. The only error is want of memory.
     pub fn new(alloc: Global, hosts: u32, places: usize) -> Result<Standings, AllocError>
@@ -318,6 +326,7 @@ impl Standings {
         let here = Watched::nowhere(alloc, hosts)?;
         let idle = HostSet::empty(alloc, hosts)?;
         let watched = Places::none(alloc, places);
+        let numbers = Numbers::none(alloc, hosts, unwatched(hosts, places))?;
         Ok(Standings {
             hosts: all,
             limits,
@@ -328,6 +337,7 @@ impl Standings {
             here,
             idle,
             watched,
+            numbers,
         })
     }
 
@@ -338,6 +348,8 @@ impl Standings {
         ensures err { OnErr result (self.new ≡ self.old) }
     {
         let limits = Limits::new(alloc, places)?;
+        let hosts = self.unended.width();
+        let numbers = Numbers::none(alloc, hosts, unwatched(hosts, places))?;
         unite_into(
             &self.unended,
             &self.begun,
@@ -353,6 +365,7 @@ impl Standings {
         self.limits = limits;
         self.under_way = 0;
         self.watched.go_over(places);
+        self.numbers = numbers;
         Ok(())
     }
 
@@ -379,6 +392,7 @@ impl Standings {
             self.here.put(host, standing.next);
             self.idle.put(host, is_idle_at(&standing, self.here.place));
             self.watched.go_on(host, old.next, standing.next);
+            self.numbers.put(host, standing.next);
             self.hosts[at] = standing;
         }
     }

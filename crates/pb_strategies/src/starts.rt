@@ -10,7 +10,7 @@ ghost use Rattle.pb_strategies.specs.Hosts.{is_running, runs_in};
 ghost use Rattle.pb_strategies.specs.MayStart.{has_room, has_room_at, has_room_to_begin, runs_once, is_open_once, is_linear, is_idle, ready, turn_ready};
 ghost use Rattle.pb_strategies.specs.Parts.{is_open_at, is_shut_by, opened, begins, stands_at, first_standing};
 
-use crate::standings::{Standings, behind};
+use crate::standings::{Standings, behind, same_place};
 use crate::strategy::Strategy;
 use crate::view::View;
 use pb_ids::HostNo;
@@ -68,15 +68,26 @@ pub(crate) fn has_room_to_begin(view: &View) -> bool
     view.hosts.under_way() < view.forks
 }
 
-/// Takes the hosts out of a set whose next place is that of the task that a host runs, if its throttle lets no more hosts start there.
-fn drop_beside(view: &View, host: HostNo, set: &mut HostSet)
+/// Takes the hosts out of a set whose next place is this one, which a host runs, if its throttle lets no more hosts start there.
+fn drop_beside(view: &View, runs: Option<usize>, set: &mut HostSet)
     requires { length set.old ≡ length view.now.hosts }
-    ensures { set.new ≡ zip2 (λ a b. a && not b) set.old (map (is_shut_by view.now (slice_index_or (runs_in view.now.hosts) host.0 None)) view.now.hosts) }
+    ensures { set.new ≡ zip2 (λ a b. a && not b) set.old (map (is_shut_by view.now runs) view.now.hosts) }
 {
-    if let Some(place) = view.hosts.runs_of(host) {
+    if let Some(place) = runs {
         if !has_room_at(view, place) {
             view.hosts.drop_next(place, set);
         }
+    }
+}
+
+/// The same where those of another place were taken out already, which may be this one.
+fn drop_further(view: &View, runs: Option<usize>, last: Option<usize>, set: &mut HostSet)
+    requires width { length set.old ≡ length view.now.hosts }
+    requires last { set.old ≡ zip2 (λ a b. a && not b) set.old (map (is_shut_by view.now last) view.now.hosts) }
+    ensures { set.new ≡ zip2 (λ a b. a && not b) set.old (map (is_shut_by view.now runs) view.now.hosts) }
+{
+    if !same_place(runs, last) {
+        drop_beside(view, runs, set);
     }
 }
 
@@ -88,8 +99,11 @@ fn keep_open(view: &View, set: &mut HostSet)
 {
     let running = view.hosts.running_hosts();
     let mut from = 0;
+    let mut last = None;
     while let Some(host) = running.next_at(from) {
-        drop_beside(view, host, set);
+        let runs = view.hosts.runs_of(host);
+        drop_further(view, runs, last, set);
+        last = runs;
         from = behind(running, host);
     }
 }

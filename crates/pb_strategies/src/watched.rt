@@ -38,6 +38,18 @@ impl Watched {
 /// So many words of 64 bits the sets of all places that are watched take at most: 32 MiB.
 const MOST_WORDS: u32 = 4_194_304;
 
+/// How many words the set of a place takes.
+pub(crate) fn words_for(hosts: u32) -> u32
+    ensures { 0 < result }
+{
+    hosts / 64 + 1
+}
+
+/// Whether each of so many places may be watched.
+pub(crate) fn have_room(hosts: u32, places: usize) -> bool {
+    places <= (MOST_WORDS / words_for(hosts)) as usize
+}
+
 /// Of each place of a play that is watched the hosts whose next place it is.
 #[derive(Debug, Drop)]
 pub(crate) struct Places {
@@ -104,7 +116,7 @@ impl Places {
         requires watched { AreWatched hosts.now self.old.sets.items }
         ensures { AreWatched hosts.now self.new.sets.items }
     {
-        let words = unended.width() / 64 + 1;
+        let words = words_for(unended.width());
         if self.may_watch(place, words) {
             reach(&mut self.sets, place)?;
             let mut set = HostSet::empty(alloc, unended.width())?;

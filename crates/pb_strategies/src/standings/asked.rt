@@ -1,4 +1,4 @@
-//! What is asked of the standings. Nothing here takes memory.
+//! What is asked of the standings. Nothing here wants memory: where it is refused for a set, the hosts are looked at.
 
 ghost use Rattle.std.specs.Prelude.{◌≡◌, ◌&&◌, Some, None, IfSome, false, length, map, take, not, count_by, replicate, slice_index_or};
 ghost use Rattle.std.specs.List.{list_any};
@@ -11,7 +11,7 @@ use super::{
     Standings, before, copy_into, count_at, drop_each_next, empty_by, has_before, next_at_into,
     same_place, some_next,
 };
-use crate::watched;
+use crate::watched::{self, words_for};
 use pb_ids::HostNo;
 use pb_planes::HostSet;
 
@@ -127,6 +127,28 @@ impl Standings {
     {
         match self.kept_at(place) {
             Some(kept) => set.minus_with(kept),
+            None => self.drop_told(place, set),
+        }
+    }
+
+    /// The hosts whose next place is this one, by the bits of its number, where these are less to look at than the hosts.
+    fn told_at(&self, place: usize) -> Option<HostSet>
+        ensures { IfSome result (λ there. there ≡ map (is_next_at (Some place)) self.now) }
+    {
+        if self.unended.count() <= words_for(self.unended.width()) {
+            return None;
+        }
+        let alloc = *self.hosts.allocator();
+        self.numbers.hosts_at(alloc, &self.unended, place)
+    }
+
+    /// Takes the hosts whose next place is this one out of a set, where none of them is kept.
+    fn drop_told(&self, place: usize, set: &mut HostSet)
+        requires { length set.old ≡ length self.now }
+        ensures { set.new ≡ zip2 (λ a b. a && not b) set.old (map (is_next_at (Some place)) self.now) }
+    {
+        match self.told_at(place) {
+            Some(there) => set.minus_with(&there),
             None => drop_each_next(self.hosts.as_slice(), place, set),
         }
     }

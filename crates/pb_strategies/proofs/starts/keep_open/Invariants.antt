@@ -1,9 +1,9 @@
-use Rattle.std.proofs.Common.{◌≡◌, ◌-◌, length}
-use Rattle.pb_strategies.proofs.Closing.{without, is_shut_to}
+use Rattle.std.proofs.Common.{◌-◌, length}
+use Rattle.pb_strategies.proofs.Closing.{IsShut}
 use Rattle.pb_strategies.proofs.starts.keep_open.Given as goal
 
 abbrev pub invariant-loop-host : goal.invariant-loop-host
-invariant-loop-host l = l.set ≡ without (is_shut_to l.view l.from) l.fn.set l.view.hosts
+invariant-loop-host l = IsShut l.view l.fn.set l.set l.from l.last
 
 abbrev pub decreases-loop-host : goal.decreases-loop-host
 decreases-loop-host l = length l.running - l.from

@@ -5,6 +5,7 @@ use Rattle.pb_strategies.specs.declared.standings.Standing.{Standing}
 use Rattle.pb_strategies.specs.Hosts.{is_running, has_begun, is_unended, is_somewhere}
 use Rattle.pb_strategies.specs.Kept.{is_idle_at}
 use Rattle.pb_strategies.proofs.Keeping.{first_kept}
+use Rattle.pb_strategies.proofs.Numbering.{first_numbered}
 use Rattle.pb_strategies.proofs.Members.{are_somewhere, mapped_long, emptied_long}
 use Rattle.pb_strategies.proofs.standings.Standings.clear.Goals as goal
 
@@ -57,9 +58,11 @@ invariant_of-self c =
     (are_somewhere hosts c.self.inside.unended c.self.inside.begun c.self.inside.running (zip2 (λ (a b : Bool). a || b) c.self.inside.unended c.self.inside.begun) c.unite_into.new.set
     c.self.invariant.are_unended c.self.invariant.have_begun c.self.invariant.are_running refl c.unite_into.ensures) in
     first_kept (length hosts) c.args.places c.forget_each.new.hosts.items c.in_ok-limits.limits c.empty_by-4.new.set c.empty_by-3.new.set c.empty_by-2.new.set
-    (record c.self.inside.here { hosts = c.empty_by.new.set }) c.empty_by-5.new.set c.go_over.new.self.sets.items
+    (record c.self.inside.here { hosts = c.empty_by.new.set }) c.empty_by-5.new.set c.go_over.new.self.sets.items c.in_ok-numbers.numbers.bits.items c.in_ok-numbers.numbers.fits
     c.self.invariant.few c.forget_each.ensures.hosts c.in_ok-limits.ensures
     (wide is_running c.self.inside.running c.empty_by-4.new.set c.self.invariant.are_running c.empty_by-4.ensures)
     (wide has_begun c.self.inside.begun c.empty_by-3.new.set c.self.invariant.have_begun c.empty_by-3.ensures)
     (wide is_unended c.self.inside.unended c.empty_by-2.new.set c.self.invariant.are_unended c.empty_by-2.ensures)
     (c.empty_by.ensures ∙ ap (λ k. replicate k false) united) (wide (is_idle_at c.self.inside.here.place) c.self.inside.idle c.empty_by-5.new.set c.self.invariant.are_idle c.empty_by-5.ensures) (c.go_over.ensures c.forget_each.new.hosts.items c.forget_each.ensures.watched)
+    (first_numbered (length hosts) c.forget_each.new.hosts.items c.in_ok-numbers.numbers.bits.items c.in_ok-numbers.numbers.fits c.forget_each.ensures.hosts
+    (λ k lt. c.in_ok-numbers.ensures k lt ∙ ap (λ n. replicate n false) (c.width-hosts.ensures ∙ mapped_long is_unended hosts c.self.inside.unended c.self.invariant.are_unended)))

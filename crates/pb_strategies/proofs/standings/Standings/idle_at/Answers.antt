@@ -1,4 +1,4 @@
-use Rattle.std.proofs.Common.{◌∙◌, Some, ap, sym, map}
+use Rattle.std.proofs.Common.{◌∙◌, ap, sym, map}
 use Rattle.pb_strategies.specs.Parts.{stands_at}
 use Rattle.pb_strategies.proofs.Watching.{idle_here}
 use Rattle.pb_strategies.proofs.standings.Standings.idle_at.Goals as goal

@@ -18,4 +18,5 @@ invariant_of-self c =
       are_here = there;
       are_idle = kept_without (is_next_at c.args.place) is_running hosts c.copy_into.new.set c.self.inside.running c.minus_with.new.self (c.copy_into.ensures ∙ there) kept.are_running c.minus_with.ensures;
       are_watched = kept.are_watched;
+      are_numbered = kept.are_numbered;
     }
