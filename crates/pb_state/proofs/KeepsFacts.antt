@@ -1,5 +1,5 @@
 -- After a step that teaches nothing the hosts know what they knew, so that what is kept of it is what would be made.
-use Rattle.std.proofs.Common.{◌≡◌, ◌∙◌, ℕ, zero, suc, Bool, true, false, ◌&&◌, not, List, [], ◌∷◌, Option, Some, None, IfSome, is_none, slice_get, refl, sym, ap}
+use Rattle.std.proofs.Common.{◌≡◌, ◌∙◌, ℕ, zero, suc, Bool, true, false, ◌&&◌, ◌||◌, not, List, [], ◌∷◌, Option, Some, None, IfSome, is_none, slice_get, refl, sym, ap}
 use Rattle.std.specs.Prelude.{slice_set, if◌then◌else◌}
 use Rattle.std.specs.Option.{option_map_or}
 use Rattle.pb_value.specs.Datum.{Datum}
@@ -31,8 +31,8 @@ use Rattle.pb_state.specs.declared.event.Event.{Event}
 use Rattle.pb_state.specs.declared.event.Event.TheVariants.{Open, Start, Send, Report as Reported, Turn, Close, Stop, Forks}
 use Rattle.pb_state.specs.State.{State}
 use Rattle.pb_state.specs.Machine.{after, facts_at, learnt_by, next_at, open_play, plan_seen, reported_in, sent_in, start_at, started_in}
-use Rattle.pb_state.specs.Known.{IsKnown, gives_nothing, keeps_facts, report_keeps, start_keeps, teaches_alone_at, teaches_nothing, teaches_nothing_at}
-use Rattle.pb_state.proofs.Learner.{gifts_none, report_none, run_place}
+use Rattle.pb_state.specs.Known.{IsKnown, gives_nothing, keeps_facts, report_keeps, start_keeps, teaches_alone, teaches_alone_at, teaches_nothing, teaches_nothing_at}
+use Rattle.pb_state.proofs.Learner.{gifts_same, report_same, run_place}
 
 first_is : (a b : Bool) → (a && b) ≡ true → a ≡ true
 first_is true b e = refl
@@ -41,6 +41,10 @@ first_is false b e = cc
 second_is : (a b : Bool) → (a && b) ≡ true → b ≡ true
 second_is true b e = e
 second_is false b e = cc
+
+or_second : (a b : Bool) → b ≡ true → (a || b) ≡ true
+or_second true b e = refl
+or_second false b e = e
 
 none_is : (name : Option (List ℕ)) → is_none name ≡ true → name ≡ None
 none_is None e = refl
@@ -60,18 +64,11 @@ learnt_none : (gives : Gives) (register : Option (List ℕ)) (result : Datum) (i
 learnt_none gives register result items facts g r =
     ap (λ (given : Gives). learnt given register result items facts) g ∙ ap (λ (name : Option (List ℕ)). learnt Nothing name result items facts) r ∙ each_nothing (given_in items) facts
 
--- what a task says that teaches nothing
-abbrev says_nothing : PlaceOf → Bool
-says_nothing place = is_none place.task.register && gives_nothing (gives_of place.task.«module»)
-
 registers_none : (place : PlaceOf) → teaches_nothing place ≡ true → place.task.register ≡ None
-registers_none place e =
-    none_is place.task.register
-    (first_is (is_none place.task.register) (gives_nothing (gives_of place.task.«module»)) (first_is (says_nothing place) (not place.delegate_facts) e))
+registers_none place e = none_is place.task.register (first_is (is_none place.task.register) (gives_nothing (gives_of place.task.«module»)) e)
 
 gives_none_at : (place : PlaceOf) → teaches_nothing place ≡ true → gives_nothing (gives_of place.task.«module») ≡ true
-gives_none_at place e =
-    second_is (is_none place.task.register) (gives_nothing (gives_of place.task.«module»)) (first_is (says_nothing place) (not place.delegate_facts) e)
+gives_none_at place e = second_is (is_none place.task.register) (gives_nothing (gives_of place.task.«module»)) e
 
 if_same : (b : Bool) (facts known : FactsOf) → known ≡ facts → (if b then facts else known) ≡ facts
 if_same true facts known e = refl
@@ -100,9 +97,9 @@ progressed_knows inventory play p items row e = by_over (is_over items)
 alone : (play : PlayOf) (p : ℕ) → teaches_nothing_at play p ≡ true → teaches_alone_at play p ≡ true
 alone play p e = by_place (slice_get play.places p) e
   where
-    by_place : (found : Option PlaceOf) → option_map_or teaches_nothing found true ≡ true → option_map_or (λ (place : PlaceOf). not place.delegate_facts) found true ≡ true
+    by_place : (found : Option PlaceOf) → option_map_or teaches_nothing found true ≡ true → option_map_or teaches_alone found true ≡ true
     by_place None e = refl
-    by_place (Some place) e = second_is (says_nothing place) (not place.delegate_facts) e
+    by_place (Some place) e = or_second (not place.delegate_facts) (gives_nothing (gives_of place.task.«module»)) (gives_none_at place e)
 
 -- ---- the rows of all hosts
 set_knows : (rows : List HostOf) (h : ℕ) (row changed : HostOf) → slice_get rows h ≡ Some row → changed.facts ≡ row.facts → learnt_by (slice_set rows h changed) ≡ learnt_by rows
@@ -110,21 +107,22 @@ set_knows [] h row changed e same = cc
 set_knows (r ∷ rows) zero row changed e same = let first : row ≡ r = cc in ap (λ (x : FactsOf). x ∷ learnt_by rows) (same ∙ ap (λ (x : HostOf). x.facts) first)
 set_knows (r ∷ rows) (suc h) row changed e same = ap (λ (xs : List FactsOf). r.facts ∷ xs) (set_knows rows h row changed e same)
 
-change_knows : (rows : List HostOf) (h : ℕ) (f : HostOf → HostOf) (found : Option HostOf) → slice_get rows h ≡ found → IfSome found (λ row. (f row).facts ≡ row.facts) → learnt_by (change rows h f) ≡ learnt_by rows
+pub change_knows : (rows : List HostOf) (h : ℕ) (f : HostOf → HostOf) (found : Option HostOf) → slice_get rows h ≡ found → IfSome found (λ row. (f row).facts ≡ row.facts) → learnt_by (change rows h f) ≡ learnt_by rows
 change_knows rows h f None e same = ap (λ (o : Option HostOf). learnt_by (option_map_or (λ row. slice_set rows h (f row)) o rows)) e
 change_knows rows h f (Some row) e same = ap (λ (o : Option HostOf). learnt_by (option_map_or (λ row. slice_set rows h (f row)) o rows)) e ∙ set_knows rows h row (f row) e same
 
-given_knows : (gifts : List DelegatedFacts) (rows all : List HostOf) → gifts ≡ [] → learnt_by rows ≡ learnt_by all → learnt_by (with_delegated gifts rows) ≡ learnt_by all
-given_knows gifts rows all e same = ap (λ (gs : List DelegatedFacts). learnt_by (with_delegated gs rows)) e ∙ same
+given_knows : (gifts : List DelegatedFacts) (rows all : List HostOf) → ((each : List HostOf) → learnt_by (with_delegated gifts each) ≡ learnt_by each) → learnt_by rows ≡ learnt_by all
+    → learnt_by (with_delegated gifts rows) ≡ learnt_by all
+given_knows gifts rows all nothing same = nothing rows ∙ same
 
-for_each : (P : HostOf → Type 0) → ((row : HostOf) → P row) → (found : Option HostOf) → IfSome found P
+pub for_each : (P : HostOf → Type 0) → ((row : HostOf) → P row) → (found : Option HostOf) → IfSome found P
 for_each P f None = tt
 for_each P f (Some row) = f row
 
 start_knows : (plan : PlanOf) (s : State) (h : ℕ) (play : PlayOf) (p : ℕ) → teaches_nothing_at play p ≡ true → learnt_by (start_at plan s h play p).rows ≡ learnt_by s.rows
 start_knows plan s h play p e =
     let items = items_at (plan_seen plan s) play h (facts_at s h) p in
-    given_knows (gifts_at plan.inventory play p h items) (change s.rows h (progressed plan.inventory play p items)) s.rows (gifts_none plan.inventory play p h items (alone play p e))
+    given_knows (gifts_at plan.inventory play p h items) (change s.rows h (progressed plan.inventory play p items)) s.rows (gifts_same plan.inventory play p h items (alone play p e))
     (change_knows s.rows h (progressed plan.inventory play p items) (slice_get s.rows h) refl
     (for_each (λ row. (progressed plan.inventory play p items row).facts ≡ row.facts) (λ row. progressed_knows plan.inventory play p items row e) (slice_get s.rows h)))
 
@@ -142,7 +140,7 @@ reports_know : (plan : PlanOf) (play : PlayOf) (outcome : Form) (rows : List Hos
     learnt_by (with_delegated (option_map_or (gifts_of plan play outcome h) found []) (change rows h (reported plan play outcome))) ≡ learnt_by rows
 reports_know plan play outcome rows h None is e = change_knows rows h (reported plan play outcome) None is tt
 reports_know plan play outcome rows h (Some row) is e =
-    given_knows (gifts_of plan play outcome h row) (change rows h (reported plan play outcome)) rows (report_none plan play outcome h row row.running (alone_run play (run_place row.running) e))
+    given_knows (gifts_of plan play outcome h row) (change rows h (reported plan play outcome)) rows (report_same plan play outcome h row row.running (alone_run play (run_place row.running) e))
     (change_knows rows h (reported plan play outcome) (Some row) is (reported_knows plan play outcome row row.running e))
 
 -- ---- each event

@@ -1,5 +1,6 @@
 pub mod ReadHosts
 pub mod KeepsFacts
+pub mod GoesOn
 pub mod Learner
 pub mod Stands
 pub mod Idle

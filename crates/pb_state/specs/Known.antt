@@ -1,6 +1,6 @@
 -- The map of `hostvars` that is kept from step to step, and which steps surely leave what the hosts know as it was
 -- (Ansible's documentation, "Discovering variables: facts and magic variables").
-use Rattle.std.specs.Prelude.{◌≡◌, ℕ, List, Bool, true, false, ◌&&◌, not, Option, Some, None, is_none, IfSome, slice_get, if◌then◌else◌}
+use Rattle.std.specs.Prelude.{◌≡◌, ℕ, List, Bool, true, false, ◌&&◌, ◌||◌, not, Option, Some, None, is_none, is_some, IfSome, slice_get, if◌then◌else◌}
 use Rattle.std.specs.Option.{option_map_or}
 use Rattle.pb_value.specs.Datum.{Datum}
 use Rattle.pb_ids.specs.declared.numbers.HostNo.{HostNo}
@@ -31,9 +31,9 @@ gives_nothing Nothing = true
 gives_nothing Sets = false
 gives_nothing Gathers = false
 
--- a task that registers nothing and gives no facts teaches nothing, neither its host nor others
+-- a task that registers nothing and gives no facts teaches nothing, neither its host nor others, also where its facts are delegated
 abbrev pub teaches_nothing : PlaceOf → Bool
-teaches_nothing place = is_none place.task.register && gives_nothing (gives_of place.task.«module») && not place.delegate_facts
+teaches_nothing place = is_none place.task.register && gives_nothing (gives_of place.task.«module»)
 
 abbrev pub teaches_nothing_at : PlayOf → ℕ → Bool
 teaches_nothing_at play p = option_map_or teaches_nothing (slice_get play.places p) true
@@ -59,9 +59,12 @@ keeps_facts plan s Close = false
 keeps_facts plan s Stop = true
 keeps_facts plan s (Forks n) = true
 
--- a task whose facts aren't delegated teaches its own host alone
+-- a task whose facts aren't delegated, or that gives none, teaches its own host alone
+abbrev pub teaches_alone : PlaceOf → Bool
+teaches_alone place = not place.delegate_facts || gives_nothing (gives_of place.task.«module»)
+
 abbrev pub teaches_alone_at : PlayOf → ℕ → Bool
-teaches_alone_at play p = option_map_or (λ (place : PlaceOf). not place.delegate_facts) (slice_get play.places p) true
+teaches_alone_at play p = option_map_or teaches_alone (slice_get play.places p) true
 
 abbrev pub start_alone : State → ℕ → PlayOf → Bool
 start_alone s h play = option_map_or (teaches_alone_at play) (next_at s h) true
@@ -82,6 +85,17 @@ learner plan s Turn = None
 learner plan s Close = None
 learner plan s Stop = None
 learner plan s (Forks n) = None
+
+-- whether the task that an event starts or brings on goes on behind it: what it teaches comes with its end
+abbrev pub task_goes_on : State → Event → Bool
+task_goes_on new Open = false
+task_goes_on new (Start h) = is_some (running_at new h.0)
+task_goes_on new (Send h item attempt ticket) = false
+task_goes_on new (Reported r) = is_some (running_at new r.host.0)
+task_goes_on new Turn = false
+task_goes_on new Close = false
+task_goes_on new Stop = false
+task_goes_on new (Forks n) = false
 
 -- of two states the second one's hosts have learnt what those of the first have, but for this host
 abbrev pub IsLearner : Option HostNo → State → State → Type 0

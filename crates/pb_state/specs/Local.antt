@@ -2,7 +2,6 @@
 -- alone, to what the plan, the play, the row and the event make of it; and where a batch opens, turns or closes, rows, play, batch and place alone say what
 -- comes of them. How many hosts may run at once is nothing to either (Ansible's documentation, "Controlling playbook execution: strategies and more").
 use Rattle.std.specs.Prelude.{◌≡◌, ℕ, Bool, true, false, List, Option, Some}
-use Rattle.pb_outcome.specs.declared.job.Report.{Report}
 use Rattle.pb_plan.specs.Plan.{PlayOf, PlanOf}
 use Rattle.pb_task_vars.specs.Results.{items_at}
 use Rattle.pb_independence.specs.Independent.{is_independent}

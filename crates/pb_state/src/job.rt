@@ -1,7 +1,7 @@
 //! The jobs of running tasks.
 
-ghost use Rattle.std.specs.Prelude.{◌≡◌, ◌<◌, IfOk, slice_get, unwrap_or, length};
-ghost use Rattle.std.specs.Option.{option_copied, option_map_or};
+ghost use Rattle.std.specs.Prelude.{◌≡◌, ◌<◌, IfOk, unwrap_or, length};
+ghost use Rattle.std.specs.Option.{option_copied};
 ghost use Rattle.pb_state.specs.Jobs.{connector_named, connector_for, delay_at, item_job, named_job, row_job, job_with};
 
 use pb_host::{Host, Running};

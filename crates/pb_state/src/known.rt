@@ -3,7 +3,7 @@
 ghost use Rattle.std.specs.Prelude.{◌≡◌, true, Option, Some, None, if◌then◌else◌};
 ghost use Rattle.pb_task_vars.specs.Learning.{gives_of};
 ghost use Rattle.pb_state.specs.Known.{gives_nothing, teaches_nothing, teaches_nothing_at, keeps_facts, start_keeps, report_keeps};
-ghost use Rattle.pb_state.specs.Known.{teaches_alone_at, start_alone, report_alone, if_alone, learner};
+ghost use Rattle.pb_state.specs.Known.{teaches_alone, teaches_alone_at, start_alone, report_alone, if_alone, learner, task_goes_on};
 
 use crate::event::Event;
 use crate::hostvars::Shown;
@@ -50,7 +50,7 @@ fn teaches_nothing(place: &Place) -> bool
     ensures { result ≡ teaches_nothing place.now }
 {
     let task = place.task();
-    task.register.is_none() && gives_nothing(&task.module) && !place.delegate_facts()
+    task.register.is_none() && gives_nothing(&task.module)
 }
 
 /// The same of the place with this number; where there is none there is no task.
@@ -63,12 +63,19 @@ fn teaches_nothing_at(play: &PlanPlay, place: usize) -> bool
     }
 }
 
-/// Whether no host but its own may know more once the task at the place with this number has ended; where there is none there is no task.
+/// Whether no host but its own may know more once the task at a place has ended on one.
+fn teaches_alone(place: &Place) -> bool
+    ensures { result ≡ teaches_alone place.now }
+{
+    !place.delegate_facts() || gives_nothing(&place.task().module)
+}
+
+/// The same of the place with this number; where there is none there is no task.
 fn teaches_alone_at(play: &PlanPlay, place: usize) -> bool
     ensures { result ≡ teaches_alone_at play.now place }
 {
     match play.place(place) {
-        Some(place) => !place.delegate_facts(),
+        Some(place) => teaches_alone(place),
         None => true,
     }
 }
@@ -136,6 +143,18 @@ impl EngineState {
         match self.running_at(host) {
             Some(place) => teaches_alone_at(play, place),
             None => true,
+        }
+    }
+
+    /// Whether the task that an event has started or brought on goes on: what it teaches comes with its end.
+    pub(crate) fn task_goes_on(&self, event: &Event) -> bool
+        ensures { result ≡ task_goes_on self.now event.now }
+    {
+        match event {
+            Event::Start(host) => self.running_at(*host).is_some(),
+            Event::Report(report) => self.running_at(report.host).is_some(),
+            Event::Send { .. } | Event::Stop | Event::Forks(_) => false,
+            Event::Close | Event::Open | Event::Turn => false,
         }
     }
 

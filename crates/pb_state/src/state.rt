@@ -180,7 +180,7 @@ impl EngineState {
     }
 
     /// The same, where the map of `hostvars` is kept from step to step: it is made where a task may look it up and there is none, and is there until several
-    /// hosts may have learnt something. Where one alone may have, that host's variables in it are put anew. An `Err` changes nothing of the state.
+    /// hosts may have learnt something, which is as a task ends. Where one alone may have, that host's variables in it are put anew. An `Err` changes nothing of the state.
     ///
     /// # Errors
     /// `Illegal` where the event isn't possible in this state, `Memory` where memory was refused.
@@ -218,7 +218,7 @@ impl EngineState {
         if keeps {
             return Ok(());
         }
-        self.renew(plan, learner, known);
+        self.renew(plan, event, learner, known);
         Ok(())
     }
 

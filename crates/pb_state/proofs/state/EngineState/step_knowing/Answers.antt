@@ -17,7 +17,7 @@ returns-then-keeps-clause-known c =
 
 pub returns-clause-known : goal.returns-clause-known
 returns-clause-known c =
-    c.renew.ensures c.args.self.now
+    c.renew.ensures c.args.self.now c.in_ok-apply.ensures.ok
     (learner_after c.args.plan.now c.args.self.now c.apply.new.self c.args.event.now c.learner-learner.result c.learner-learner.ensures c.in_ok-apply.ensures.ok)
     c.apply.ensures.known
 
