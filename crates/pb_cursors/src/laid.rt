@@ -8,10 +8,19 @@ use std::alloc::Global;
 use std::marker::Model;
 
 /// A play's tree, and the plan that it is laid out as.
-#[derive(Debug, Drop)]
+#[derive(Debug)]
 pub struct LaidTree {
     tree: PlayTree,
     flat: FlatPlan,
+}
+
+// (by hand: the crates above then know nothing of what it is made of)
+impl Drop for LaidTree {
+    fn drop(self) {
+        let LaidTree { tree, flat } = self;
+        drop(tree);
+        drop(flat);
+    }
 }
 
 impl Model for LaidTree {
