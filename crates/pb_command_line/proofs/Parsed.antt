@@ -1,15 +1,25 @@
 -- What a parse by a command that reads as the program's says of the words.
 use Rattle.std.proofs.Common.{◌≡◌, ◌∙◌, List, [], true, Result, Ok, Err, IfOk, IfErr, refl, sym, ap, subst, inl, inr}
-use Rattle.std.specs.Prelude.{Option, codes}
+use Rattle.std.specs.Prelude.{Option, Some, codes}
 use Rattle.clap.specs.Words.{App, HasKind, HasMatchesOf, IsAmong, Text, fault_of, first_of, first_value, found_of, is_simple, is_simple_and_free, kind_of}
 use Rattle.clap.specs.declared.error.Error.{Error}
 use Rattle.clap.specs.declared.parser.matches.ArgMatches.{ArgMatches}
 use Rattle.clap.proofs.OnLiterals.{clap_on_literals}
 use Rattle.clap.proofs.WalkLemmas.{first_value-rows}
-use Rattle.pb_command_line.specs.CommandLine.{program, value_in, errors_in, AreForks, NoForks, IsStop, NoStop, IsSameUnder, AskFor, AreRefused, Asks, IsRefused, TellsKind, is_true, purpose_of}
+use Rattle.pb_command_line.specs.CommandLine.{program, value_in, errors_in, AreForks, NoForks, IsStop, NoStop, IsSameUnder, AskFor, AreRefused, Asks, IsRefused, TellsKind, is_true, purpose_of, AreNumbers, texts_of, flags_of, request_of}
 use Rattle.pb_command_line.specs.declared.words.Request.{Request}
+use Rattle.pb_command_line.specs.declared.words.Numbers.{Numbers}
+use Rattle.pb_command_line.specs.declared.words.Flags.{Flags}
+use Rattle.pb_command_line.specs.declared.words.Texts.{Texts}
 use Rattle.pb_command_line.specs.declared.words.WordsFault.{WordsFault}
 use Rattle.pb_command_line.specs.declared.words.WordsFault.TheVariants.{Help, Wrong, Missing, Memory}
+
+-- the request that the values make
+pub asked_for : (value : Text → Option Text) (inventory playbook : Text) (texts : Texts) (numbers : Numbers) (flags : Flags) (request : Request) → value (codes "inventory") ≡ Some inventory → value (codes "playbook") ≡ Some playbook
+    → AreNumbers value numbers → texts ≡ texts_of value inventory playbook → flags ≡ flags_of value → request ≡ request_of texts numbers flags → AskFor value request
+asked_for value inventory playbook texts numbers flags request file book counted told flagged is =
+    subst (AskFor value) (sym (is ∙ ap (λ (t : Texts). request_of t numbers flags) told ∙ ap (λ (f : Flags). request_of (texts_of value inventory playbook) numbers f) flagged))
+    (file, book, counted.0, refl, refl, refl, refl, refl, counted.1, counted.2, refl, refl, refl, refl, refl, refl)
 
 program_simple : is_simple program ≡ true
 unfolding clap_on_literals

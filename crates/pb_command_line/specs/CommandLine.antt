@@ -9,6 +9,9 @@ use Rattle.clap.specs.declared.error.kind.ErrorKind.{ErrorKind}
 use Rattle.clap.specs.declared.error.kind.ErrorKind.TheVariants.{DisplayHelp, OutOfMemory}
 use Rattle.clap.specs.declared.builder.action.ArgAction.TheVariants.{SetTrue}
 use Rattle.pb_command_line.specs.declared.words.Request.{Request}
+use Rattle.pb_command_line.specs.declared.words.Numbers.{Numbers}
+use Rattle.pb_command_line.specs.declared.words.Flags.{Flags}
+use Rattle.pb_command_line.specs.declared.words.Texts.{Texts}
 use Rattle.pb_command_line.specs.declared.words.Purpose.{Purpose}
 use Rattle.pb_command_line.specs.declared.words.Purpose.TheVariants.{Run, CheckSyntax, ListHosts}
 use Rattle.pb_command_line.specs.declared.words.WordsFault.{WordsFault}
@@ -188,6 +191,54 @@ AskFor value request = (value (codes "inventory") ≡ Some request.inventory) ×
     × (value (codes "failed") ≡ request.failed) × (value (codes "trail") ≡ request.trail) × (value (codes "audit") ≡ request.audit)
     × (is_true (value (codes "strict")) ≡ request.strict) × (is_true (value (codes "where")) ≡ request.places)
     × (purpose_of (is_true (value (codes "syntax_check"))) (is_true (value (codes "list_hosts"))) ≡ request.purpose)
+
+-- the numbers, the texts and the flags among the values, and the request that they make
+abbrev pub AreNumbers : (Text → Option Text) → Numbers → Type 0
+AreNumbers value numbers = AreForks (value (codes "forks")) numbers.forks × IsStop (value (codes "stop_after")) numbers.stop_after × IsSameUnder (value (codes "same_under")) numbers.same_under
+
+abbrev pub texts_of : (Text → Option Text) → Text → Text → Texts
+texts_of value inventory playbook =
+    record {
+      inventory = inventory;
+      playbook = playbook;
+      outcomes = value (codes "outcomes");
+      limit = value (codes "limit");
+      extra = value (codes "extra");
+      roles = value (codes "roles");
+      facts_program = value (codes "facts_program");
+      failed = value (codes "failed");
+      trail = value (codes "trail");
+      audit = value (codes "audit");
+    }
+
+abbrev pub flags_of : (Text → Option Text) → Flags
+flags_of value =
+    record {
+      strict = is_true (value (codes "strict"));
+      places = is_true (value (codes "where"));
+      purpose = purpose_of (is_true (value (codes "syntax_check"))) (is_true (value (codes "list_hosts")));
+    }
+
+abbrev pub request_of : Texts → Numbers → Flags → Request
+request_of texts numbers flags =
+    record {
+      inventory = texts.inventory;
+      playbook = texts.playbook;
+      forks = numbers.forks;
+      outcomes = texts.outcomes;
+      limit = texts.limit;
+      extra = texts.extra;
+      roles = texts.roles;
+      facts_program = texts.facts_program;
+      stop_after = numbers.stop_after;
+      same_under = numbers.same_under;
+      failed = texts.failed;
+      trail = texts.trail;
+      audit = texts.audit;
+      strict = flags.strict;
+      places = flags.places;
+      purpose = flags.purpose;
+    }
 
 -- why values ask for nothing to be played
 abbrev pub AreRefused : (Text → Option Text) → WordsFault → Type 0

@@ -1,7 +1,7 @@
 ghost use Rattle.pb_command_line.specs.declared.words.WordsFault.TheVariants.{Memory};
-ghost use Rattle.std.specs.Prelude.{◌≡◌, ◌⊎◌, IfOk, IfErr, map, codes, string_bytes};
+ghost use Rattle.std.specs.Prelude.{◌≡◌, ◌⊎◌, None, IfOk, IfErr, OnOk, map, codes, string_bytes};
 ghost use Rattle.clap.specs.Words.{app_of, kind_of, found_of, first_value};
-ghost use Rattle.pb_command_line.specs.CommandLine.{file_program, run_program, limited_program, gathering_program, stopping_program, recording_program, choosing_program, warning_program, program, is_true, purpose_of, AskFor, AreRefused, Asks, IsCount, IsNoCount, AreForks, NoForks, IsStop, NoStop, IsSameUnder, IsReportCount, IsNoReportCount, IsBadNumber, IsRefused, TellsKind};
+ghost use Rattle.pb_command_line.specs.CommandLine.{file_program, run_program, limited_program, gathering_program, stopping_program, recording_program, choosing_program, warning_program, program, is_true, purpose_of, AreNumbers, texts_of, flags_of, request_of, AskFor, AreRefused, Asks, IsCount, IsNoCount, AreForks, NoForks, IsStop, NoStop, IsSameUnder, IsReportCount, IsNoReportCount, IsBadNumber, IsRefused, TellsKind};
 
 use crate::arguments;
 use clap::error::ErrorKind;
@@ -289,6 +289,182 @@ fn purpose_in(matches: &ArgMatches<'_>) -> Purpose
     Purpose::Run
 }
 
+/// The numbers among the values.
+#[derive(Drop)]
+struct Numbers {
+    forks: u32,
+    stop_after: Option<u32>,
+    same_under: Option<u32>,
+}
+
+fn numbers_in(alloc: Global, matches: &ArgMatches<'_>) -> Result<Numbers, WordsFault>
+    ensures value { IfOk result (AreNumbers (first_value (found_of matches.now))) }
+    ensures fault { IfErr result (AreRefused (first_value (found_of matches.now))) }
+{
+    let forks = forks_in(alloc, matches)?;
+    let stop_after = stop_in(alloc, matches)?;
+    let same_under = same_under_in(alloc, matches)?;
+    Ok(Numbers {
+        forks,
+        stop_after,
+        same_under,
+    })
+}
+
+/// The flags among the values.
+#[derive(Drop)]
+struct Flags {
+    strict: bool,
+    places: bool,
+    purpose: Purpose,
+}
+
+fn flags_in(matches: &ArgMatches<'_>) -> Flags
+    ensures { result ≡ flags_of (first_value (found_of matches.now)) }
+{
+    Flags {
+        strict: is_given(matches, "strict"),
+        places: is_given(matches, "where"),
+        purpose: purpose_in(matches),
+    }
+}
+
+/// The texts among the values.
+struct Texts {
+    inventory: Text,
+    playbook: Text,
+    outcomes: Option<Text>,
+    limit: Option<Text>,
+    extra: Option<Text>,
+    roles: Option<Text>,
+    facts_program: Option<Text>,
+    failed: Option<Text>,
+    trail: Option<Text>,
+    audit: Option<Text>,
+}
+
+// (by hand: they are then let go by one call, and not text by text at each exit)
+impl Drop for Texts {
+    fn drop(self) {
+        let Texts {
+            inventory: _inventory,
+            playbook: _playbook,
+            outcomes: _outcomes,
+            limit: _limit,
+            extra: _extra,
+            roles: _roles,
+            facts_program: _facts_program,
+            failed: _failed,
+            trail: _trail,
+            audit: _audit,
+        } = self;
+    }
+}
+
+impl Texts {
+    /// Those of the two files alone.
+    fn of_files(inventory: Text, playbook: Text) -> Texts
+        ensures { result ≡ texts_of (λ _. None) inventory playbook }
+    {
+        Texts {
+            inventory,
+            playbook,
+            outcomes: None,
+            limit: None,
+            extra: None,
+            roles: None,
+            facts_program: None,
+            failed: None,
+            trail: None,
+            audit: None,
+        }
+    }
+
+    /// The request that they make with these numbers and flags.
+    fn asked(self, numbers: Numbers, flags: Flags) -> Request
+        ensures { result ≡ request_of self numbers flags }
+    {
+        let Texts {
+            inventory,
+            playbook,
+            outcomes,
+            limit,
+            extra,
+            roles,
+            facts_program,
+            failed,
+            trail,
+            audit,
+        } = self;
+        let Numbers {
+            forks,
+            stop_after,
+            same_under,
+        } = numbers;
+        let Flags {
+            strict,
+            places,
+            purpose,
+        } = flags;
+        Request {
+            inventory,
+            playbook,
+            forks,
+            outcomes,
+            limit,
+            extra,
+            roles,
+            facts_program,
+            stop_after,
+            same_under,
+            failed,
+            trail,
+            audit,
+            strict,
+            places,
+            purpose,
+        }
+    }
+
+    /// Takes in what a plan is made of.
+    fn take_sources(&mut self, alloc: Global, matches: &ArgMatches<'_>) -> Result<(), AllocError>
+        ensures { OnOk result (self.new ≡ record self.old { outcomes = first_value (found_of matches.now) (codes "outcomes"); limit = first_value (found_of matches.now) (codes "limit"); extra = first_value (found_of matches.now) (codes "extra"); roles = first_value (found_of matches.now) (codes "roles") }) }
+    {
+        self.outcomes = text_in(alloc, matches, "outcomes")?;
+        self.limit = text_in(alloc, matches, "limit")?;
+        self.extra = text_in(alloc, matches, "extra")?;
+        self.roles = text_in(alloc, matches, "roles")?;
+        Ok(())
+    }
+
+    /// Takes in what a run starts and writes.
+    fn take_ends(&mut self, alloc: Global, matches: &ArgMatches<'_>) -> Result<(), AllocError>
+        ensures { OnOk result (self.new ≡ record self.old { facts_program = first_value (found_of matches.now) (codes "facts_program"); failed = first_value (found_of matches.now) (codes "failed"); trail = first_value (found_of matches.now) (codes "trail"); audit = first_value (found_of matches.now) (codes "audit") }) }
+    {
+        self.facts_program = text_in(alloc, matches, "facts_program")?;
+        self.failed = text_in(alloc, matches, "failed")?;
+        self.trail = text_in(alloc, matches, "trail")?;
+        self.audit = text_in(alloc, matches, "audit")?;
+        Ok(())
+    }
+}
+
+fn texts_in(
+    alloc: Global,
+    matches: &ArgMatches<'_>,
+    inventory: &str,
+    playbook: &str,
+) -> Result<Texts, AllocError>
+    ensures { IfOk result (λ texts. texts ≡ texts_of (first_value (found_of matches.now)) inventory.now playbook.now) }
+{
+    let inventory = Text::from_str(alloc, inventory)?;
+    let playbook = Text::from_str(alloc, playbook)?;
+    let mut texts = Texts::of_files(inventory, playbook);
+    texts.take_sources(alloc, matches)?;
+    texts.take_ends(alloc, matches)?;
+    Ok(texts)
+}
+
 /// What the values of the arguments ask for.
 fn request_in(alloc: Global, matches: &ArgMatches<'_>) -> Result<Request, WordsFault>
     ensures value { IfOk result (AskFor (first_value (found_of matches.now))) }
@@ -300,35 +476,9 @@ fn request_in(alloc: Global, matches: &ArgMatches<'_>) -> Result<Request, WordsF
     let Some(playbook) = matches.get_str("playbook") else {
         return Err(WordsFault::Missing);
     };
-    let forks = forks_in(alloc, matches)?;
-    let stop_after = stop_in(alloc, matches)?;
-    let same_under = same_under_in(alloc, matches)?;
-    let outcomes = text_in(alloc, matches, "outcomes")?;
-    let limit = text_in(alloc, matches, "limit")?;
-    let extra = text_in(alloc, matches, "extra")?;
-    let roles = text_in(alloc, matches, "roles")?;
-    let facts_program = text_in(alloc, matches, "facts_program")?;
-    let failed = text_in(alloc, matches, "failed")?;
-    let trail = text_in(alloc, matches, "trail")?;
-    let audit = text_in(alloc, matches, "audit")?;
-    Ok(Request {
-        inventory: Text::from_str(alloc, inventory)?,
-        playbook: Text::from_str(alloc, playbook)?,
-        forks,
-        outcomes,
-        limit,
-        extra,
-        roles,
-        facts_program,
-        stop_after,
-        same_under,
-        failed,
-        trail,
-        audit,
-        strict: is_given(matches, "strict"),
-        places: is_given(matches, "where"),
-        purpose: purpose_in(matches),
-    })
+    let numbers = numbers_in(alloc, matches)?;
+    let texts = texts_in(alloc, matches, inventory, playbook)?;
+    Ok(texts.asked(numbers, flags_in(matches)))
 }
 
 /// What the words ask for. The first of them is the program's name.
