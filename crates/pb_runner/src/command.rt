@@ -8,9 +8,15 @@ use std::marker::Model;
 use std::process::Command;
 
 /// A command that gets its words one after another; the first is its program. Contracts see it as its words.
-#[derive(Drop)]
 pub struct Words {
     command: Option<Command>,
+}
+
+// (by hand: the parts of a command are then let go in this one place, and not at each exit of who holds words)
+impl Drop for Words {
+    fn drop(self) {
+        let Words { command: _command } = self;
+    }
 }
 
 impl Model for Words {
