@@ -6,7 +6,7 @@ use Rattle.std.specs.List.{list_any}
 use Rattle.std.specs.Option.{option_map_or}
 use Rattle.pb_inventory.specs.InventoryOf.{InventoryOf}
 use Rattle.pb_tree.specs.declared.answer.Kind.{Kind}
-use Rattle.pb_tree.specs.declared.answer.Kind.TheVariants.{Good, Bad, Halted, Gone, Ended}
+use Rattle.pb_tree.specs.declared.answer.Kind.TheVariants as kinds
 use Rattle.pb_tree.specs.declared.tree.Reach.{Reach}
 use Rattle.pb_tree.specs.Answer.{AnswerOf}
 use Rattle.pb_tree.specs.Laws.{counts}
@@ -73,11 +73,11 @@ goes_turned p f goes row h = elim (goes row) [ inl same ↦ subst (IsTurned p) (
 
 -- ---- copies
 run_once_end_kind : (kind : Kind) → ends_run_once kind ≡ true → is_halted kind ≡ false
-run_once_end_kind Good e = refl
-run_once_end_kind Bad e = refl
-run_once_end_kind Halted e = cc
-run_once_end_kind Gone e = refl
-run_once_end_kind Ended e = refl
+run_once_end_kind kinds.Good e = refl
+run_once_end_kind kinds.Bad e = refl
+run_once_end_kind kinds.Halted e = cc
+run_once_end_kind kinds.Gone e = refl
+run_once_end_kind kinds.Ended e = refl
 
 copying : (inventory : InventoryOf) (play : PlayOf) (p : ℕ) (finish : LastTask) (row : HostOf) (b : Bool) → is_at p row ≡ b → ends_run_once_at p finish ≡ true → IsThere p row → IsTurned p (if b then copied inventory play p finish row else row)
 copying inventory play p finish row true e s h =

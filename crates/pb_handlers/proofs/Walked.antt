@@ -4,7 +4,7 @@ use Rattle.std.specs.Prelude.{◌&&◌, ◌||◌, not, if◌then◌else◌, slic
 use Rattle.std.specs.List.{list_any}
 use Rattle.std.proofs.lemmas.List.{append_assoc, append-nil, get_or_append_left, get_or-append-add, length-append}
 use Rattle.pb_tree.specs.declared.answer.Kind.{Kind}
-use Rattle.pb_tree.specs.declared.answer.Kind.TheVariants.{Good, Bad, Halted, Gone, Ended}
+use Rattle.pb_tree.specs.declared.answer.Kind.TheVariants as kinds
 use Rattle.pb_tree.specs.Answer.{AnswerOf}
 use Rattle.pb_tree.specs.Tree.{Nodes, Nothing, Task, Block, Flush, TreeOf, size, handler_paths, paths_from}
 use Rattle.pb_tree.specs.Walk.{is_empty, block_result, noted, is_halted, ends_in_flush, front, reach_of}
@@ -53,11 +53,11 @@ length-in handlers (Flush rest) =
     let f = length-from 0 handlers in let i = length-in handlers rest in let x = length-append (handlers_from 0 handlers) (handlers_in handlers rest) in omega (arith, f, i, x)
 
 chosen_right : (look : ℕ → Option ℕ) (kind : Kind) (good bad halted : Course) → IsRight look good → IsRight look bad → IsRight look halted → IsRight look (chosen kind good bad halted)
-chosen_right look Good good bad halted g b h = g
-chosen_right look Bad good bad halted g b h = b
-chosen_right look Halted good bad halted g b h = h
-chosen_right look Gone good bad halted g b h = tt
-chosen_right look Ended good bad halted g b h = tt
+chosen_right look kinds.Good good bad halted g b h = g
+chosen_right look kinds.Bad good bad halted g b h = b
+chosen_right look kinds.Halted good bad halted g b h = h
+chosen_right look kinds.Gone good bad halted g b h = tt
+chosen_right look kinds.Ended good bad halted g b h = tt
 
 flush_right : (look : ℕ → Option ℕ) (at h left : ℕ) (over : Kind) (good bad halted : Course) → ((i : ℕ) → i < left → look (at + (h + i)) ≡ Some (h + i))
     → IsRight look good → IsRight look bad → IsRight look halted → IsRight look (flush_course at h left over good bad halted)
@@ -101,15 +101,15 @@ course_right whole handlers at (Block body rescue always rest) good bad halted s
     let s_body = sits_left whole at bs rs first in
     let behind = course_right whole handlers (at + size handlers body + size handlers rescue + size handlers always) rest good bad halted s_rest g b d in
     let last = λ (kind : Kind). course_right whole handlers (at + size handlers body + size handlers rescue) always _ _ _ s_always
-    (chosen_right look (block_result kind Good) _ bad halted behind b d) (chosen_right look (block_result kind Bad) _ bad halted behind b d) (chosen_right look (block_result kind Halted) _ bad halted behind b d) in
-    course_right whole handlers at body _ _ _ s_body (last Good)
-    (rescue_right look (is_empty rescue) _ _ (last Bad) (course_right whole handlers (at + size handlers body) rescue _ _ _ s_rescue (last Good) (last Bad) (last Halted)))
-    (last Halted) where
+    (chosen_right look (block_result kind kinds.Good) _ bad halted behind b d) (chosen_right look (block_result kind kinds.Bad) _ bad halted behind b d) (chosen_right look (block_result kind kinds.Halted) _ bad halted behind b d) in
+    course_right whole handlers at body _ _ _ s_body (last kinds.Good)
+    (rescue_right look (is_empty rescue) _ _ (last kinds.Bad) (course_right whole handlers (at + size handlers body) rescue _ _ _ s_rescue (last kinds.Good) (last kinds.Bad) (last kinds.Halted)))
+    (last kinds.Halted) where
       rescue_right : (look : ℕ → Option ℕ) (no_rescue : Bool) (x y : Course) → IsRight look x → IsRight look y → IsRight look (if no_rescue then x else y)
       rescue_right look true x y p q = p
       rescue_right look false x y p q = q
 course_right whole handlers at (Flush rest) good bad halted s g b d =
-    flush_sits whole at handlers Ended _ bad halted (sits_left whole at (handlers_from 0 handlers) (handlers_in handlers rest) s)
+    flush_sits whole at handlers kinds.Ended _ bad halted (sits_left whole at (handlers_from 0 handlers) (handlers_in handlers rest) s)
     (course_right whole handlers (at + handlers) rest good bad halted (sits_right whole at handlers (handlers_from 0 handlers) (handlers_in handlers rest) (length-from 0 handlers) s) g b d) b d
 
 -- the places of the nodes before a last Flush, and those of the Flush
@@ -137,16 +137,16 @@ forced_right whole handlers before s =
     let s_last : Sits whole (size handlers before) (handlers_from 0 handlers) =
     subst (λ j. Sits whole j (handlers_from 0 handlers)) (omega arith) (sits_right whole 0 (size handlers before) (handlers_in handlers before) (handlers_from 0 handlers) (length-in handlers before) s) in
     course_right whole handlers 0 before _ _ _ (sits_left whole 0 (handlers_in handlers before) (handlers_from 0 handlers) s)
-    (flush_sits whole (size handlers before) handlers Ended (Ends Good) (Ends Bad) (Ends Halted) s_last tt tt tt)
-    (flush_sits whole (size handlers before) handlers Bad (Ends Bad) (Ends Bad) (Ends Bad) s_last tt tt tt)
-    (flush_sits whole (size handlers before) handlers Halted (Ends Halted) (Ends Halted) (Ends Halted) s_last tt tt tt)
+    (flush_sits whole (size handlers before) handlers kinds.Ended (Ends kinds.Good) (Ends kinds.Bad) (Ends kinds.Halted) s_last tt tt tt)
+    (flush_sits whole (size handlers before) handlers kinds.Bad (Ends kinds.Bad) (Ends kinds.Bad) (Ends kinds.Bad) s_last tt tt tt)
+    (flush_sits whole (size handlers before) handlers kinds.Halted (Ends kinds.Halted) (Ends kinds.Halted) (Ends kinds.Halted) s_last tt tt tt)
 
 whole_right : (handlers : ℕ) (force ends : Bool) (nodes : Nodes) → ends_in_flush nodes ≡ ends
     → IsRight (λ place. get_or (handlers_in handlers nodes) place None) (if force && ends then forced_course handlers (front nodes) else plain_course handlers nodes)
 whole_right handlers true true nodes e =
     forced_right (handlers_in handlers nodes) handlers (front nodes) (subst (Sits (handlers_in handlers nodes) 0) (in_front handlers nodes e) (sits_whole (handlers_in handlers nodes)))
-whole_right handlers true false nodes e = course_right (handlers_in handlers nodes) handlers 0 nodes (Ends Good) (Ends Bad) (Ends Halted) (sits_whole (handlers_in handlers nodes)) tt tt tt
-whole_right handlers false ends nodes e = course_right (handlers_in handlers nodes) handlers 0 nodes (Ends Good) (Ends Bad) (Ends Halted) (sits_whole (handlers_in handlers nodes)) tt tt tt
+whole_right handlers true false nodes e = course_right (handlers_in handlers nodes) handlers 0 nodes (Ends kinds.Good) (Ends kinds.Bad) (Ends kinds.Halted) (sits_whole (handlers_in handlers nodes)) tt tt tt
+whole_right handlers false ends nodes e = course_right (handlers_in handlers nodes) handlers 0 nodes (Ends kinds.Good) (Ends kinds.Bad) (Ends kinds.Halted) (sits_whole (handlers_in handlers nodes)) tt tt tt
 
 tree_right : (tree : TreeOf) → IsRight (handler_at tree) (course_of tree)
 tree_right tree = whole_right tree.handlers tree.force_handlers (ends_in_flush tree.nodes) tree.nodes refl
@@ -160,11 +160,11 @@ settled_right look (Runs place handler over good bad halted) marks r = run_right
   run_right false x y p q = q
 
 kind_right : (look : ℕ → Option ℕ) (kind over : Kind) (good bad halted : Course) → IsRight look good → IsRight look bad → IsRight look halted → IsRight look (after_kind kind over good bad halted)
-kind_right look Good over good bad halted g b h = g
-kind_right look Bad over good bad halted g b h = b
-kind_right look Halted over good bad halted g b h = h
-kind_right look Gone over good bad halted g b h = tt
-kind_right look Ended over good bad halted g b h = tt
+kind_right look kinds.Good over good bad halted g b h = g
+kind_right look kinds.Bad over good bad halted g b h = b
+kind_right look kinds.Halted over good bad halted g b h = h
+kind_right look kinds.Gone over good bad halted g b h = tt
+kind_right look kinds.Ended over good bad halted g b h = tt
 
 answered_right : (look : ℕ → Option ℕ) (c : Course) (marks : List Bool) (was : Bool) (a : AnswerOf) → IsRight look c → IsRight look (answered c marks was a).course
 answered_right look (Ends kind) marks was a r = tt
@@ -222,19 +222,19 @@ marked_after n history (Ran handler ∷ more) =
 
 ran_marked : (handler : Option ℕ) (kind : Kind) (hs : List ℕ) (marks : List Bool) → noted (ran handler kind marks) hs ≡ marked_by (ran_by handler kind ++ Notified hs ∷ []) marks
 ran_marked None kind hs marks = refl
-ran_marked (Some h) Good hs marks = refl
-ran_marked (Some h) Bad hs marks = refl
-ran_marked (Some h) Halted hs marks = refl
-ran_marked (Some h) Gone hs marks = refl
-ran_marked (Some h) Ended hs marks = refl
+ran_marked (Some h) kinds.Good hs marks = refl
+ran_marked (Some h) kinds.Bad hs marks = refl
+ran_marked (Some h) kinds.Halted hs marks = refl
+ran_marked (Some h) kinds.Gone hs marks = refl
+ran_marked (Some h) kinds.Ended hs marks = refl
 
 answered_marks : (look : ℕ → Option ℕ) (c : Course) (marks : List Bool) (was : Bool) (a : AnswerOf) → IsRight look c
     → (answered c marks was a).marks ≡ marked_by (told_at look (reach_of (passage_at c marks)) a) marks
-answered_marks look (Ends Good) marks was a r = refl
-answered_marks look (Ends Bad) marks was a r = refl
-answered_marks look (Ends Halted) marks was a r = refl
-answered_marks look (Ends Gone) marks was a r = refl
-answered_marks look (Ends Ended) marks was a r = refl
+answered_marks look (Ends kinds.Good) marks was a r = refl
+answered_marks look (Ends kinds.Bad) marks was a r = refl
+answered_marks look (Ends kinds.Halted) marks was a r = refl
+answered_marks look (Ends kinds.Gone) marks was a r = refl
+answered_marks look (Ends kinds.Ended) marks was a r = refl
 answered_marks look (Runs place handler over good bad halted) marks was a r =
     ran_marked handler a.kind a.notified marks ∙ ap (λ h. marked_by (ran_by h a.kind ++ Notified a.notified ∷ []) marks) (sym r.0)
 

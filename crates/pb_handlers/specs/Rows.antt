@@ -1,6 +1,6 @@
 -- Worked examples: each is proved by computing both sides.
 use Rattle.std.specs.Prelude.{◌≡◌, ℕ, true, false, List, [], ◌∷◌, Some, None, codes, refl}
-use Rattle.pb_tree.specs.declared.answer.Kind.TheVariants.{Good, Bad, Halted}
+use Rattle.pb_tree.specs.declared.answer.Kind.TheVariants as kinds
 use Rattle.pb_tree.specs.Rows.{a, n, both, notifies, flushes}
 use Rattle.pb_handlers.specs.declared.naming.HandlerNames.{HandlerNames}
 use Rattle.pb_handlers.specs.Pending.{Notified, Ran, marks_after}
@@ -26,19 +26,19 @@ after_close = refl
 places : (handler_at notifies 3 ≡ None) × (handler_at notifies 4 ≡ Some 0) × (handler_at notifies 5 ≡ Some 1)
 places = (refl, refl, refl)
 
-told_in_order : history_of notifies (both ∷ both ∷ a Good ∷ n (0 ∷ []) ∷ [])
+told_in_order : history_of notifies (both ∷ both ∷ a kinds.Good ∷ n (0 ∷ []) ∷ [])
     ≡ Notified (1 ∷ 0 ∷ []) ∷ Notified (1 ∷ 0 ∷ []) ∷ Ran 0 ∷ Notified [] ∷ Ran 1 ∷ Notified (0 ∷ []) ∷ []
 told_in_order = refl
 
 -- a handler that was halted keeps its mark; one that failed doesn't
-halted_there : history_of flushes (both ∷ a Good ∷ a Halted ∷ []) ≡ Notified (1 ∷ 0 ∷ []) ∷ Notified [] ∷ Notified [] ∷ []
+halted_there : history_of flushes (both ∷ a kinds.Good ∷ a kinds.Halted ∷ []) ≡ Notified (1 ∷ 0 ∷ []) ∷ Notified [] ∷ Notified [] ∷ []
 halted_there = refl
 
-failed_there : history_of flushes (both ∷ a Good ∷ a Bad ∷ []) ≡ Notified (1 ∷ 0 ∷ []) ∷ Notified [] ∷ Ran 0 ∷ Notified [] ∷ []
+failed_there : history_of flushes (both ∷ a kinds.Good ∷ a kinds.Bad ∷ []) ≡ Notified (1 ∷ 0 ∷ []) ∷ Notified [] ∷ Ran 0 ∷ Notified [] ∷ []
 failed_there = refl
 
 -- one answer behind the end tells nothing, and so does a second halted one
-no_more : (history_of notifies (a Bad ∷ both ∷ []) ≡ Notified [] ∷ []) × (history_of notifies (a Halted ∷ a Halted ∷ []) ≡ Notified [] ∷ [])
+no_more : (history_of notifies (a kinds.Bad ∷ both ∷ []) ≡ Notified [] ∷ []) × (history_of notifies (a kinds.Halted ∷ a kinds.Halted ∷ []) ≡ Notified [] ∷ [])
 no_more = (refl, refl)
 
 -- ---- names

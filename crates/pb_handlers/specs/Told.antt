@@ -1,7 +1,7 @@
 -- What a host's answers in a play tell of handlers, each answer at the place to which those before it led.
 use Rattle.std.specs.Prelude.{ℕ, zero, suc, ◌+◌, List, [], ◌∷◌, ◌++◌, Option, Some, None, slice_index_or, if◌then◌else◌}
 use Rattle.pb_tree.specs.declared.answer.Kind.{Kind}
-use Rattle.pb_tree.specs.declared.answer.Kind.TheVariants.{Good, Bad, Halted, Gone, Ended}
+use Rattle.pb_tree.specs.declared.answer.Kind.TheVariants as kinds
 use Rattle.pb_tree.specs.declared.tree.Reach.{Reach}
 use Rattle.pb_tree.specs.declared.tree.Reach.TheVariants.{At, Done}
 use Rattle.pb_tree.specs.Answer.{AnswerOf}
@@ -29,11 +29,11 @@ handler_at tree place = slice_index_or (handlers_in tree.handlers tree.nodes) pl
 -- a handler ran, unless its answer is that the host was halted there
 abbrev pub ran_by : Option ℕ → Kind → List Noted
 ran_by None kind = []
-ran_by (Some handler) Good = Ran handler ∷ []
-ran_by (Some handler) Bad = Ran handler ∷ []
-ran_by (Some handler) Halted = []
-ran_by (Some handler) Gone = Ran handler ∷ []
-ran_by (Some handler) Ended = Ran handler ∷ []
+ran_by (Some handler) kinds.Good = Ran handler ∷ []
+ran_by (Some handler) kinds.Bad = Ran handler ∷ []
+ran_by (Some handler) kinds.Halted = []
+ran_by (Some handler) kinds.Gone = Ran handler ∷ []
+ran_by (Some handler) kinds.Ended = Ran handler ∷ []
 
 -- What an answer tells where the host is: first that a handler ran, then what was notified. So a handler that notifies itself is pending again.
 abbrev pub told_at : (ℕ → Option ℕ) → Reach → AnswerOf → List Noted

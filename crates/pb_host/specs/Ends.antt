@@ -6,7 +6,7 @@ use Rattle.pb_play.specs.declared.modules.Meta.{Meta}
 use Rattle.pb_play.specs.declared.modules.Meta.TheVariants.{Noop, EndHost}
 use Rattle.pb_tree.specs.Answer.{AnswerOf}
 use Rattle.pb_tree.specs.declared.answer.Kind.{Kind}
-use Rattle.pb_tree.specs.declared.answer.Kind.TheVariants.{Good, Bad, Halted, Gone, Ended}
+use Rattle.pb_tree.specs.declared.answer.Kind.TheVariants as kinds
 use Rattle.pb_task_vars.specs.Ends.{has_run}
 use Rattle.pb_host.specs.declared.step_result.TaskEnd.{TaskEnd}
 use Rattle.pb_host.specs.declared.host.Counts.{Counts}
@@ -23,13 +23,13 @@ ends_play (Some Noop) = false
 ends_play (Some EndHost) = true
 
 abbrev pub kind_if : Bool → Bool → Kind
-kind_if true ends = Bad
-kind_if false true = Ended
-kind_if false false = Good
+kind_if true ends = kinds.Bad
+kind_if false true = kinds.Ended
+kind_if false false = kinds.Good
 
 -- a host that can't be reached is gone, and a failure that isn't ignored is bad
 abbrev pub kind_of : TaskEnd → Kind
-kind_of task = if task.result.unreachable then Gone else kind_if (fails task.result) (ends_play task.meta && has_run task.result)
+kind_of task = if task.result.unreachable then kinds.Gone else kind_if (fails task.result) (ends_play task.meta && has_run task.result)
 
 -- a task that changed something notifies handlers, where it neither failed nor lost its host: a failure that is ignored is one
 abbrev pub does_notify : TaskResult → Bool
@@ -37,27 +37,27 @@ does_notify result = result.changed && not result.failed && not result.unreachab
 
 -- a failure that isn't ignored breaks its host where no block round its place rescues it
 abbrev pub breaks : Bool → Kind → Bool
-breaks is_caught Bad = not is_caught
-breaks is_caught Good = false
-breaks is_caught Halted = false
-breaks is_caught Gone = false
-breaks is_caught Ended = false
+breaks is_caught kinds.Bad = not is_caught
+breaks is_caught kinds.Good = false
+breaks is_caught kinds.Halted = false
+breaks is_caught kinds.Gone = false
+breaks is_caught kinds.Ended = false
 
 -- an answer settles a task that runs once, unless its host was out of reach or halted: a host that is halted finishes nothing
 abbrev pub ends_run_once : Kind → Bool
-ends_run_once Good = true
-ends_run_once Bad = true
-ends_run_once Halted = false
-ends_run_once Gone = false
-ends_run_once Ended = true
+ends_run_once kinds.Good = true
+ends_run_once kinds.Bad = true
+ends_run_once kinds.Halted = false
+ends_run_once kinds.Gone = false
+ends_run_once kinds.Ended = true
 
 -- an answer is over for all where failures are fatal: a host that can't be reached, and a failure that isn't ignored where no block rescues it
 abbrev pub is_fatal : Bool → Kind → Bool
-is_fatal is_caught Good = false
-is_fatal is_caught Bad = not is_caught
-is_fatal is_caught Halted = false
-is_fatal is_caught Gone = true
-is_fatal is_caught Ended = false
+is_fatal is_caught kinds.Good = false
+is_fatal is_caught kinds.Bad = not is_caught
+is_fatal is_caught kinds.Halted = false
+is_fatal is_caught kinds.Gone = true
+is_fatal is_caught kinds.Ended = false
 
 -- what the host answers, where the task notified these handlers
 abbrev pub answer_of : TaskEnd → List ℕ → AnswerOf

@@ -4,7 +4,7 @@ use Rattle.std.specs.Option.{option_map_or}
 use Rattle.pb_facts.specs.declared.update.FactsUpdate.{FactsUpdate}
 use Rattle.pb_facts.specs.Update.{applied}
 use Rattle.pb_tree.specs.declared.answer.Kind.{Kind}
-use Rattle.pb_tree.specs.declared.answer.Kind.TheVariants.{Halted}
+use Rattle.pb_tree.specs.declared.answer.Kind.TheVariants as kinds
 use Rattle.pb_host.specs.Ends.{breaks, plain_answer}
 use Rattle.pb_host.specs.Host.{HostOf, is_active, next_place, answered, knows, is_at}
 
@@ -28,7 +28,7 @@ abbrev pub may_be_halted : HostOf → Bool
 may_be_halted row = is_active row.status && not row.is_broken && is_some (next_place row)
 
 abbrev pub halted : HostOf → HostOf
-halted row = if may_be_halted row then answered (plain_answer Halted) row else row
+halted row = if may_be_halted row then answered (plain_answer kinds.Halted) row else row
 
 abbrev pub halted_if : Bool → HostOf → HostOf
 halted_if halts row = if halts then halted row else row

@@ -8,7 +8,7 @@ use Rattle.std.proofs.lemmas.List.{length-map}
 use Rattle.pb_facts.specs.Facts.{FactsOf}
 use Rattle.pb_inventory.specs.InventoryOf.{InventoryOf}
 use Rattle.pb_tree.specs.declared.answer.Kind.{Kind}
-use Rattle.pb_tree.specs.declared.answer.Kind.TheVariants.{Halted}
+use Rattle.pb_tree.specs.declared.answer.Kind.TheVariants as kinds
 use Rattle.pb_plan.specs.Plan.{PlayOf}
 use Rattle.pb_host.specs.declared.host.LastTask.{LastTask}
 use Rattle.pb_host.specs.Host.{HostOf, next_place, is_active, answered, is_at}
@@ -68,13 +68,13 @@ some_is : (next : Option ℕ) → is_some next ≡ true → (p : ℕ) × (next �
 some_is (Some p) e = (p, refl)
 some_is None e = cc
 
-halted_given : (row : HostOf) → may_be_halted row ≡ true → IsGiven row (answered (plain_answer Halted) row)
+halted_given : (row : HostOf) → may_be_halted row ≡ true → IsGiven row (answered (plain_answer kinds.Halted) row)
 halted_given row e =
     let at = some_is (next_place row) (and_right (is_active row.status && not row.is_broken) _ e) in
-    record { place = at.0; next = at.1; kind = Halted; broken = row.is_broken; facts = row.facts; is = refl }
+    record { place = at.0; next = at.1; kind = kinds.Halted; broken = row.is_broken; facts = row.facts; is = refl }
 
 pub halted_goes : Goes halted
-halted_goes row = given_if (may_be_halted row) row (answered (plain_answer Halted) row) (λ e. halted_given row e)
+halted_goes row = given_if (may_be_halted row) row (answered (plain_answer kinds.Halted) row) (λ e. halted_given row e)
 
 -- what holds of the rows of a batch, and is kept by each part, holds once it has gone on
 pub turned_case : (P : List HostOf → Type 0) → ((f : HostOf → HostOf) → Goes f → (rows : List HostOf) → P rows → P (map f rows)) → (inventory : InventoryOf) (play : PlayOf) (p : ℕ) (batch : BatchOf) → P batch.rows

@@ -16,7 +16,7 @@ use Rattle.pb_strategies.specs.declared.standings.Standing.{Standing}
 use Rattle.pb_strategies.specs.Hosts.{nowhere}
 use Rattle.pb_tree.specs.Answer.{AnswerOf}
 use Rattle.pb_tree.specs.declared.answer.Kind.{Kind}
-use Rattle.pb_tree.specs.declared.answer.Kind.TheVariants.{Halted}
+use Rattle.pb_tree.specs.declared.answer.Kind.TheVariants as kinds
 use Rattle.pb_host.specs.declared.host.LastTask.{LastTask}
 use Rattle.pb_host.specs.Ends.{plain_answer}
 use Rattle.pb_host.specs.Host.{HostOf, answered, is_active, is_at, is_waiting, knows, left}
@@ -51,7 +51,7 @@ and_false false = refl
 halt_none : (halts : Bool) (row : HostOf) → row.in_batch ≡ false → halted_if halts row ≡ row
 halt_none true row e =
     let kept : may_be_halted row ≡ false = ap (λ (next : Option ℕ). is_active row.status && not row.is_broken && is_some next) (next_none row e) ∙ and_false (is_active row.status && not row.is_broken) in
-    ap (λ (b : Bool). if b then answered (plain_answer Halted) row else row) kept
+    ap (λ (b : Bool). if b then answered (plain_answer kinds.Halted) row else row) kept
 halt_none false row e = refl
 
 turning_none : (t : Turning) (row : HostOf) → row.in_batch ≡ false → turning_row t row ≡ row
@@ -126,8 +126,8 @@ answer_same of same p (Some kind) caught row = by_at (is_at p row)
 halt_same : {A : Type 0} (of : HostOf → A) → ((answer : AnswerOf) (row : HostOf) → of (answered answer row) ≡ of row) → (halts : Bool) (row : HostOf) → of (halted_if halts row) ≡ of row
 halt_same of same true row = by_may (may_be_halted row)
   where
-    by_may : (b : Bool) → of (if b then answered (plain_answer Halted) row else row) ≡ of row
-    by_may true = same (plain_answer Halted) row
+    by_may : (b : Bool) → of (if b then answered (plain_answer kinds.Halted) row else row) ≡ of row
+    by_may true = same (plain_answer kinds.Halted) row
     by_may false = refl
 halt_same of same false row = refl
 

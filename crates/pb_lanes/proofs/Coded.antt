@@ -4,35 +4,35 @@ use Rattle.std.specs.List.{All}
 use Rattle.std.proofs.lemmas.List.{map-set}
 use Rattle.std.proofs.lemmas.List.Sums.{sum_by-cons}
 use Rattle.pb_tree.specs.declared.tree.Status.{Status}
-use Rattle.pb_tree.specs.declared.tree.Status.TheVariants.{Active, Failed, Halted, Gone}
+use Rattle.pb_tree.specs.declared.tree.Status.TheVariants as stays
 use Rattle.pb_lanes.specs.Bytes.{is_byte}
 use Rattle.pb_lanes.specs.Codes.{code_of, status_of, is_status}
 
 -- the byte of a status is read as that status
 pub back : (status : Status) → status_of (code_of status) ≡ status
-back Active = refl
-back Failed = refl
-back Halted = refl
-back Gone = refl
+back stays.Active = refl
+back stays.Failed = refl
+back stays.Halted = refl
+back stays.Gone = refl
 
 -- comparing bytes is comparing statuses
 pub same : (status : Status) (code : ℕ) → code < 4 → is_byte (code_of status) code ≡ is_status status (status_of code)
-same Active zero lt = refl
-same Active (suc zero) lt = refl
-same Active (suc (suc zero)) lt = refl
-same Active (suc (suc (suc zero))) lt = refl
-same Failed zero lt = refl
-same Failed (suc zero) lt = refl
-same Failed (suc (suc zero)) lt = refl
-same Failed (suc (suc (suc zero))) lt = refl
-same Halted zero lt = refl
-same Halted (suc zero) lt = refl
-same Halted (suc (suc zero)) lt = refl
-same Halted (suc (suc (suc zero))) lt = refl
-same Gone zero lt = refl
-same Gone (suc zero) lt = refl
-same Gone (suc (suc zero)) lt = refl
-same Gone (suc (suc (suc zero))) lt = refl
+same stays.Active zero lt = refl
+same stays.Active (suc zero) lt = refl
+same stays.Active (suc (suc zero)) lt = refl
+same stays.Active (suc (suc (suc zero))) lt = refl
+same stays.Failed zero lt = refl
+same stays.Failed (suc zero) lt = refl
+same stays.Failed (suc (suc zero)) lt = refl
+same stays.Failed (suc (suc (suc zero))) lt = refl
+same stays.Halted zero lt = refl
+same stays.Halted (suc zero) lt = refl
+same stays.Halted (suc (suc zero)) lt = refl
+same stays.Halted (suc (suc (suc zero))) lt = refl
+same stays.Gone zero lt = refl
+same stays.Gone (suc zero) lt = refl
+same stays.Gone (suc (suc zero)) lt = refl
+same stays.Gone (suc (suc (suc zero))) lt = refl
 same status (suc (suc (suc (suc code)))) lt = absurd (omega arith)
 
 pub all_same : (status : Status) (codes : List ℕ) → All (λ code. code < 4) codes → map (is_byte (code_of status)) codes ≡ map (is_status status) (map status_of codes)

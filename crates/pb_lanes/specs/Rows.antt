@@ -2,7 +2,7 @@
 use Rattle.std.specs.Prelude.{◌≡◌, refl, true, false, [], ◌∷◌, List, map, count_by}
 use Rattle.std.specs.List.{sum}
 use Rattle.pb_tree.specs.declared.tree.Status.{Status}
-use Rattle.pb_tree.specs.declared.tree.Status.TheVariants.{Active, Failed, Halted, Gone}
+use Rattle.pb_tree.specs.declared.tree.Status.TheVariants as status
 use Rattle.pb_lanes.specs.declared.kind.CountKind.TheVariants.{Okay, Changed, Skipped, Failed as HasFailed}
 use Rattle.pb_lanes.specs.Codes.{code_of, status_of, is_status}
 use Rattle.pb_lanes.specs.Bytes.{is_byte}
@@ -10,29 +10,29 @@ use Rattle.pb_lanes.specs.ColumnsOf.{ColumnsOf, hosts_in, column, no_counts, bum
 
 -- four hosts
 abbrev four : List Status
-four = Active ∷ Gone ∷ Active ∷ Failed ∷ []
+four = status.Active ∷ status.Gone ∷ status.Active ∷ status.Failed ∷ []
 
-active : map (is_status Active) four ≡ true ∷ false ∷ true ∷ false ∷ []
+active : map (is_status status.Active) four ≡ true ∷ false ∷ true ∷ false ∷ []
 active = refl
 
 -- a host that is gone hasn't failed
-failed : map (is_status Failed) four ≡ false ∷ false ∷ false ∷ true ∷ []
+failed : map (is_status status.Failed) four ≡ false ∷ false ∷ false ∷ true ∷ []
 failed = refl
 
-none_halted : count_by (is_status Halted) four ≡ 0
+none_halted : count_by (is_status status.Halted) four ≡ 0
 none_halted = refl
 
 as_bytes : map code_of four ≡ 0 ∷ 3 ∷ 0 ∷ 1 ∷ []
 as_bytes = refl
 
-halted_as_byte : code_of Halted ≡ 2
+halted_as_byte : code_of status.Halted ≡ 2
 halted_as_byte = refl
 
 as_statuses : map status_of (0 ∷ 3 ∷ 0 ∷ 1 ∷ []) ≡ four
 as_statuses = refl
 
 -- comparing the bytes says which hosts are active
-active_bytes : map (is_byte 0) (0 ∷ 3 ∷ 0 ∷ 1 ∷ []) ≡ map (is_status Active) four
+active_bytes : map (is_byte 0) (0 ∷ 3 ∷ 0 ∷ 1 ∷ []) ≡ map (is_status status.Active) four
 active_bytes = refl
 
 -- of three hosts the last one has two tasks that went well, of which one changed something

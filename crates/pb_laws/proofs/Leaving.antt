@@ -11,7 +11,7 @@ use Rattle.pb_tree.specs.Laws.{counts}
 use Rattle.pb_tree.specs.Tree.{Nodes, Nothing, Task, Block, Flush, TreeOf, size}
 use Rattle.pb_tree.specs.Walk.{WalkerOf, Passage, Stopped, Through, on_good, flush, walk, is_empty, ends_in_flush, front, stays_unless_gone, with_forced, forced, is_halted, without_halted, one_halted, walker_of, passage, reach_of}
 use Rattle.pb_tree.specs.declared.answer.Kind.{Kind}
-use Rattle.pb_tree.specs.declared.answer.Kind.TheVariants.{Good, Bad, Halted, Gone, Ended}
+use Rattle.pb_tree.specs.declared.answer.Kind.TheVariants as kinds
 use Rattle.pb_host.specs.Host.{place_of}
 use Rattle.pb_state.proofs.StepNumbers.{and_right as and_second}
 use Rattle.pb_state.proofs.Stands.{both}
@@ -224,15 +224,15 @@ caught_front handlers (Flush (Flush rest)) e =
 
 -- ---- the whole walk of a play
 abbrev pub is_good : Kind → Bool
-is_good Good = true
+is_good kinds.Good = true
 is_good kind = false
 
 outs_not_good : (kind k : Kind) → outs kind k ≡ true → is_good k ≡ false
-outs_not_good kind Good e = absurd (outs_good kind e)
-outs_not_good kind Bad e = refl
-outs_not_good kind Halted e = refl
-outs_not_good kind Gone e = refl
-outs_not_good kind Ended e = refl
+outs_not_good kind kinds.Good e = absurd (outs_good kind e)
+outs_not_good kind kinds.Bad e = refl
+outs_not_good kind kinds.Halted e = refl
+outs_not_good kind kinds.Gone e = refl
+outs_not_good kind kinds.Ended e = refl
 
 abbrev pub Follows : Kind → TreeOf → ℕ → Passage → Type 0
 Follows kind tree p (Stopped q marks) = (is_over kind ≡ false) × ((is_always_for tree.handlers 0 tree.nodes p q || is_forced tree q) ≡ true)
@@ -244,11 +244,11 @@ Leaves kind tree (Stopped p marks) q = (is_bad kind ≡ true → slice_index_or 
 Leaves kind tree (Through k w) q = place_of (reach_of q) ≡ None
 
 pub through_none : (k : Kind) (w : WalkerOf) → place_of (reach_of (Through k w)) ≡ None
-through_none Good w = refl
-through_none Bad w = refl
-through_none Halted w = refl
-through_none Gone w = refl
-through_none Ended w = refl
+through_none kinds.Good w = refl
+through_none kinds.Bad w = refl
+through_none kinds.Halted w = refl
+through_none kinds.Gone w = refl
+through_none kinds.Ended w = refl
 
 uncaught_at : (kind : Kind) (caught : List Bool) (p : ℕ) → (is_bad kind ≡ true → slice_index_or caught p false ≡ false) → Uncaught kind 0 caught p
 unfolding Uncaught
@@ -272,18 +272,18 @@ forced_place tree q e l = both (tree.force_handlers && ends_in_flush tree.nodes)
 
 -- a kind that isn't good stays, unless a handler there is gone
 on_good_not : (k : Kind) (w : WalkerOf) (next : WalkerOf → Passage) → is_good k ≡ false → on_good (Through k w) next ≡ Through k w
-on_good_not Good w next n = absurd (let no : true ≡ false = n in cc)
-on_good_not Bad w next n = refl
-on_good_not Halted w next n = refl
-on_good_not Gone w next n = refl
-on_good_not Ended w next n = refl
+on_good_not kinds.Good w next n = absurd (let no : true ≡ false = n in cc)
+on_good_not kinds.Bad w next n = refl
+on_good_not kinds.Halted w next n = refl
+on_good_not kinds.Gone w next n = refl
+on_good_not kinds.Ended w next n = refl
 
 stays_through : (k j : Kind) (w : WalkerOf) (next : WalkerOf → Passage) → is_good k ≡ false → (i : Kind) × (on_good (stays_unless_gone k (Through j w)) next ≡ Through i w) × (is_good i ≡ false)
-stays_through k Good w next n = (k, on_good_not k w next n, n)
-stays_through k Bad w next n = (k, on_good_not k w next n, n)
-stays_through k Halted w next n = (k, on_good_not k w next n, n)
-stays_through k Gone w next n = (Gone, refl, refl)
-stays_through k Ended w next n = (k, on_good_not k w next n, n)
+stays_through k kinds.Good w next n = (k, on_good_not k w next n, n)
+stays_through k kinds.Bad w next n = (k, on_good_not k w next n, n)
+stays_through k kinds.Halted w next n = (k, on_good_not k w next n, n)
+stays_through k kinds.Gone w next n = (kinds.Gone, refl, refl)
+stays_through k kinds.Ended w next n = (k, on_good_not k w next n, n)
 
 abbrev IfStopped : Kind → TreeOf → ℕ → Passage → Type 0
 IfStopped kind tree p (Stopped q marks) = Follows kind tree p (Stopped q marks)
@@ -293,14 +293,14 @@ stayed_follows : (kind : Kind) (tree : TreeOf) (p : ℕ) (k : Kind) (q : Passage
 stayed_follows kind tree p k (Stopped q marks) last n f = f
 stayed_follows kind tree p k (Through j w) last n f = let stays = stays_through k j w last n in subst (Follows kind tree p) (sym stays.1) stays.2
 
-not_over : (kind : Kind) → (outs kind Bad ≡ true) ⊎ (outs kind Halted ≡ true) → is_over kind ≡ false
-not_over Good e = refl
-not_over Bad e = refl
-not_over Halted e = refl
-not_over Gone (inl e) = cc
-not_over Gone (inr e) = cc
-not_over Ended (inl e) = cc
-not_over Ended (inr e) = cc
+not_over : (kind : Kind) → (outs kind kinds.Bad ≡ true) ⊎ (outs kind kinds.Halted ≡ true) → is_over kind ≡ false
+not_over kinds.Good e = refl
+not_over kinds.Bad e = refl
+not_over kinds.Halted e = refl
+not_over kinds.Gone (inl e) = cc
+not_over kinds.Gone (inr e) = cc
+not_over kinds.Ended (inl e) = cc
+not_over kinds.Ended (inr e) = cc
 
 known_follows : (kind : Kind) (tree : TreeOf) (p hi : ℕ) (q : Passage) → (tree.force_handlers && ends_in_flush tree.nodes) ≡ true → is_over kind ≡ false → IsKnown (size tree.handlers (front tree.nodes)) hi q → IfStopped kind tree p q
 unfolding IsKnown
@@ -312,11 +312,11 @@ front_follows : (kind : Kind) (tree : TreeOf) (p hi top : ℕ) (q : Passage) (la
     → Goes kind (is_always_for tree.handlers 0 (front tree.nodes) p) 0 hi q → Follows kind tree p (to_last q last)
 front_follows kind tree p hi top (Stopped q marks) last e b g =
     (g.0, or_left (is_always_for tree.handlers 0 tree.nodes p q) (is_forced tree q) (sym (always_front tree.handlers 0 tree.nodes p q) ∙ g.1))
-front_follows kind tree p hi top (Through Good w) last e b g = absurd (outs_good kind g)
-front_follows kind tree p hi top (Through Bad w) last e b g = stayed_follows kind tree p Bad (last w) last refl (known_follows kind tree p top (last w) e (not_over kind (inl g)) (b w))
-front_follows kind tree p hi top (Through Halted w) last e b g = stayed_follows kind tree p Halted (last w) last refl (known_follows kind tree p top (last w) e (not_over kind (inr g)) (b w))
-front_follows kind tree p hi top (Through Gone w) last e b g = refl
-front_follows kind tree p hi top (Through Ended w) last e b g = refl
+front_follows kind tree p hi top (Through kinds.Good w) last e b g = absurd (outs_good kind g)
+front_follows kind tree p hi top (Through kinds.Bad w) last e b g = stayed_follows kind tree p kinds.Bad (last w) last refl (known_follows kind tree p top (last w) e (not_over kind (inl g)) (b w))
+front_follows kind tree p hi top (Through kinds.Halted w) last e b g = stayed_follows kind tree p kinds.Halted (last w) last refl (known_follows kind tree p top (last w) e (not_over kind (inr g)) (b w))
+front_follows kind tree p hi top (Through kinds.Gone w) last e b g = refl
+front_follows kind tree p hi top (Through kinds.Ended w) last e b g = refl
 
 -- one in it
 abbrev Last : Kind → List AnswerOf → TreeOf → Passage → Passage → Type 0
@@ -354,11 +354,11 @@ forced_leaves kind more tree (Stopped p marks) q last e n f =
     (f.2
     (uncaught_front kind 0 (size tree.handlers (front tree.nodes)) (caught_in tree.handlers false (front tree.nodes)) (replicate tree.handlers false) p (caught_length tree.handlers false (front tree.nodes)) f.1
     (subst (λ (caught : List Bool). Uncaught kind 0 caught p) (caught_front tree.handlers tree.nodes (and_second tree.force_handlers (ends_in_flush tree.nodes) e)) (uncaught_at kind (caught_places tree) p u))))
-forced_leaves kind more tree (Through Good w) q last e n f = rw f (last_leaves kind more tree (last w) (last (longer more w)) e (n w))
-forced_leaves kind more tree (Through Bad w) q last e n f = rw f (stayed_leaves kind more tree Bad (last w) (last (longer more w)) last e refl (n w))
-forced_leaves kind more tree (Through Halted w) q last e n f = rw f (stayed_leaves kind more tree Halted (last w) (last (longer more w)) last e refl (n w))
-forced_leaves kind more tree (Through Gone w) q last e n f = rw f refl
-forced_leaves kind more tree (Through Ended w) q last e n f = rw f refl
+forced_leaves kind more tree (Through kinds.Good w) q last e n f = rw f (last_leaves kind more tree (last w) (last (longer more w)) e (n w))
+forced_leaves kind more tree (Through kinds.Bad w) q last e n f = rw f (stayed_leaves kind more tree kinds.Bad (last w) (last (longer more w)) last e refl (n w))
+forced_leaves kind more tree (Through kinds.Halted w) q last e n f = rw f (stayed_leaves kind more tree kinds.Halted (last w) (last (longer more w)) last e refl (n w))
+forced_leaves kind more tree (Through kinds.Gone w) q last e n f = rw f refl
+forced_leaves kind more tree (Through kinds.Ended w) q last e n f = rw f refl
 
 -- both
 abbrev whole : TreeOf → Bool → WalkerOf → Passage

@@ -11,7 +11,7 @@ use Rattle.pb_tree.specs.Laws.{counts}
 use Rattle.pb_tree.specs.Tree.{TreeOf}
 use Rattle.pb_tree.specs.Walk.{Passage, Stopped, Through, passage, reach_of, is_halted, unforced, unless_active, status_in, status_of, status_now}
 use Rattle.pb_tree.specs.declared.answer.Kind.{Kind}
-use Rattle.pb_tree.specs.declared.answer.Kind.TheVariants.{Good, Bad, Halted, Gone, Ended}
+use Rattle.pb_tree.specs.declared.answer.Kind.TheVariants as kinds
 use Rattle.pb_tree.specs.declared.tree.Status.{Status}
 use Rattle.pb_tree.proofs.Rise.{second_passed}
 use Rattle.pb_host.specs.declared.step_result.TaskEnd.{TaskEnd}
@@ -43,13 +43,13 @@ follows_at : (kind : Kind) (tree : TreeOf) (p place : ℕ) (q : Passage) → Fol
 follows_at kind tree p place (Stopped here marks) f at = let same : here ≡ place = cc in (f.0, ap (λ (k : ℕ). is_always_for tree.handlers 0 tree.nodes p k || is_forced tree k) (sym same) ∙ f.1)
 follows_at kind tree p place (Through k w) f at = absurd (let no : None ≡ Some place = sym (through_none k w) ∙ at in cc)
 
-follows_good : (kind : Kind) (tree : TreeOf) (p : ℕ) (q : Passage) → Follows kind tree p q → ends_as q ≡ Some Good → ⊥
+follows_good : (kind : Kind) (tree : TreeOf) (p : ℕ) (q : Passage) → Follows kind tree p q → ends_as q ≡ Some kinds.Good → ⊥
 follows_good kind tree p (Stopped here marks) f e = cc
-follows_good kind tree p (Through Good w) f e = let no : true ≡ false = f in cc
-follows_good kind tree p (Through Bad w) f e = cc
-follows_good kind tree p (Through Halted w) f e = cc
-follows_good kind tree p (Through Gone w) f e = cc
-follows_good kind tree p (Through Ended w) f e = cc
+follows_good kind tree p (Through kinds.Good w) f e = let no : true ≡ false = f in cc
+follows_good kind tree p (Through kinds.Bad w) f e = cc
+follows_good kind tree p (Through kinds.Halted w) f e = cc
+follows_good kind tree p (Through kinds.Gone w) f e = cc
+follows_good kind tree p (Through kinds.Ended w) f e = cc
 
 ends_none : (k : Kind) (p : Passage) (place : ℕ) → ends_as p ≡ Some k → place_of (reach_of p) ≡ Some place → ⊥
 ends_none k (Stopped here marks) place e at = cc
@@ -62,48 +62,48 @@ follow_on plan play h place q e = both (play == play) _ (same_self play) e
 -- it keeps no host from where it goes on
 kept_goes : (plan : PlanOf) (play h place q : ℕ) (kind : Kind) (p r : Passage) (so : Bool) → (outs kind kind ≡ true → Leaves kind (tree_at plan play) p r) → place_of (reach_of p) ≡ Some place → place_of (reach_of r) ≡ Some q
     → so ≡ false → keeps_out plan (record { play = play; host = h; place = place }) kind (record { play = play; host = h; place = q }) so ≡ false
-kept_goes plan play h place q Good p r so l at to e = e
-kept_goes plan play h place q Ended p r so l at to e = refl
-kept_goes plan play h place q Gone p r so l at to e =
-    let follows = follows_at Gone (tree_at plan play) place q r (stops_at Gone (tree_at plan play) p r place (l refl) at (λ bad. cc)) to in
+kept_goes plan play h place q kinds.Good p r so l at to e = e
+kept_goes plan play h place q kinds.Ended p r so l at to e = refl
+kept_goes plan play h place q kinds.Gone p r so l at to e =
+    let follows = follows_at kinds.Gone (tree_at plan play) place q r (stops_at kinds.Gone (tree_at plan play) p r place (l refl) at (λ bad. cc)) to in
     absurd (let no : true ≡ false = follows.0 in cc)
-kept_goes plan play h place q Halted p r so l at to e =
-    let follows = follows_at Halted (tree_at plan play) place q r (stops_at Halted (tree_at plan play) p r place (l refl) at (λ bad. cc)) to in
+kept_goes plan play h place q kinds.Halted p r so l at to e =
+    let follows = follows_at kinds.Halted (tree_at plan play) place q r (stops_at kinds.Halted (tree_at plan play) p r place (l refl) at (λ bad. cc)) to in
     ap (λ (may : Bool). not may || so) (follow_on plan play h place q follows.1) ∙ e
-kept_goes plan play h place q Bad p r so l at to e = by_caught (is_caught plan (record { play = play; host = h; place = place })) refl
+kept_goes plan play h place q kinds.Bad p r so l at to e = by_caught (is_caught plan (record { play = play; host = h; place = place })) refl
   where
     by_caught : (b : Bool) → is_caught plan (record { play = play; host = h; place = place }) ≡ b
         → ((not b && not (may_follow plan (record { play = play; host = h; place = place }) (record { play = play; host = h; place = q }))) || so) ≡ false
     by_caught true c = e
     by_caught false c =
-        let follows = follows_at Bad (tree_at plan play) place q r (stops_at Bad (tree_at plan play) p r place (l refl) at (λ bad. c)) to in
+        let follows = follows_at kinds.Bad (tree_at plan play) place q r (stops_at kinds.Bad (tree_at plan play) p r place (l refl) at (λ bad. c)) to in
         ap (λ (may : Bool). not may || so) (follow_on plan play h place q follows.1) ∙ e
 
 -- and none from anything where it comes through good
-kept_good : (plan : PlanOf) (play h place : ℕ) (task : HostTask) (kind : Kind) (p r : Passage) (so : Bool) → (outs kind kind ≡ true → Leaves kind (tree_at plan play) p r) → place_of (reach_of p) ≡ Some place → ends_as r ≡ Some Good
+kept_good : (plan : PlanOf) (play h place : ℕ) (task : HostTask) (kind : Kind) (p r : Passage) (so : Bool) → (outs kind kind ≡ true → Leaves kind (tree_at plan play) p r) → place_of (reach_of p) ≡ Some place → ends_as r ≡ Some kinds.Good
     → so ≡ false → keeps_out plan (record { play = play; host = h; place = place }) kind task so ≡ false
-kept_good plan play h place task Good p r so l at to e = e
-kept_good plan play h place task Ended p r so l at to e = refl
-kept_good plan play h place task Gone p r so l at to e = absurd (follows_good Gone (tree_at plan play) place r (stops_at Gone (tree_at plan play) p r place (l refl) at (λ bad. cc)) to)
-kept_good plan play h place task Halted p r so l at to e = absurd (follows_good Halted (tree_at plan play) place r (stops_at Halted (tree_at plan play) p r place (l refl) at (λ bad. cc)) to)
-kept_good plan play h place task Bad p r so l at to e = by_caught (is_caught plan (record { play = play; host = h; place = place })) refl
+kept_good plan play h place task kinds.Good p r so l at to e = e
+kept_good plan play h place task kinds.Ended p r so l at to e = refl
+kept_good plan play h place task kinds.Gone p r so l at to e = absurd (follows_good kinds.Gone (tree_at plan play) place r (stops_at kinds.Gone (tree_at plan play) p r place (l refl) at (λ bad. cc)) to)
+kept_good plan play h place task kinds.Halted p r so l at to e = absurd (follows_good kinds.Halted (tree_at plan play) place r (stops_at kinds.Halted (tree_at plan play) p r place (l refl) at (λ bad. cc)) to)
+kept_good plan play h place task kinds.Bad p r so l at to e = by_caught (is_caught plan (record { play = play; host = h; place = place })) refl
   where
     by_caught : (b : Bool) → is_caught plan (record { play = play; host = h; place = place }) ≡ b → ((not b && not (may_follow plan (record { play = play; host = h; place = place }) task)) || so) ≡ false
     by_caught true c = e
-    by_caught false c = absurd (follows_good Bad (tree_at plan play) place r (stops_at Bad (tree_at plan play) p r place (l refl) at (λ bad. c)) to)
+    by_caught false c = absurd (follows_good kinds.Bad (tree_at plan play) place r (stops_at kinds.Bad (tree_at plan play) p r place (l refl) at (λ bad. c)) to)
 
 kept_ended : (plan : PlanOf) (before task : HostTask) (kind : Kind) (so : Bool) → is_ended kind ≡ true → keeps_out plan before kind task so ≡ false
-kept_ended plan before task Good so e = cc
-kept_ended plan before task Bad so e = cc
-kept_ended plan before task Halted so e = cc
-kept_ended plan before task Gone so e = cc
-kept_ended plan before task Ended so e = refl
+kept_ended plan before task kinds.Good so e = cc
+kept_ended plan before task kinds.Bad so e = cc
+kept_ended plan before task kinds.Halted so e = cc
+kept_ended plan before task kinds.Gone so e = cc
+kept_ended plan before task kinds.Ended so e = refl
 
 -- ---- what holds of a host of the batch, by what it answered there
 record Held (plan : PlanOf) (play h : ℕ) (past : List Happening) (xs : List AnswerOf) : Type 0 where
   goes : (more : List AnswerOf) (q : ℕ) → leads plan play (xs ++ more) ≡ Some q → is_kept_out plan (record { play = play; host = h; place = q }) past ≡ false
-  good : (more : List AnswerOf) → ends_as (passage (tree_at plan play) (xs ++ more)) ≡ Some Good → (task : HostTask) → task.host ≡ h → is_kept_out plan task past ≡ false
-  over : ends_as (passage (tree_at plan play) xs) ≡ Some Ended → (task : HostTask) → task.host ≡ h → is_kept_out plan task past ≡ false
+  good : (more : List AnswerOf) → ends_as (passage (tree_at plan play) (xs ++ more)) ≡ Some kinds.Good → (task : HostTask) → task.host ≡ h → is_kept_out plan task past ≡ false
+  over : ends_as (passage (tree_at plan play) xs) ≡ Some kinds.Ended → (task : HostTask) → task.host ≡ h → is_kept_out plan task past ≡ false
   none : xs ≡ [] → (task : HostTask) → task.host ≡ h → is_kept_out plan task past ≡ false
 
 not_empty : (xs : List AnswerOf) (a : AnswerOf) → xs ++ a ∷ [] ≡ [] → ⊥
@@ -121,7 +121,7 @@ held_more plan play h place past new xs a at c keeps held =
           ∙ kept_goes plan play h place q a.kind (passage (tree_at plan play) xs) (passage (tree_at plan play) (xs ++ a ∷ more)) (is_kept_out plan (record { play = play; host = h; place = q }) past)
           (λ e. leaves (tree_at plan play) xs a more c e) at further (held.goes (a ∷ more) q further);
       good = λ more to task same.
-          let further : ends_as (passage (tree_at plan play) (xs ++ a ∷ more)) ≡ Some Good = ap (λ (ys : List AnswerOf). ends_as (passage (tree_at plan play) ys)) (sym (append_assoc xs (a ∷ []) more)) ∙ to in
+          let further : ends_as (passage (tree_at plan play) (xs ++ a ∷ more)) ≡ Some kinds.Good = ap (λ (ys : List AnswerOf). ends_as (passage (tree_at plan play) ys)) (sym (append_assoc xs (a ∷ []) more)) ∙ to in
           keeps task same
           ∙ kept_good plan play h place task a.kind (passage (tree_at plan play) xs) (passage (tree_at plan play) (xs ++ a ∷ more)) (is_kept_out plan task past) (λ e. leaves (tree_at plan play) xs a more c e) at further
           (held.good (a ∷ more) further task same);
@@ -136,7 +136,7 @@ held_again plan play h place past new xs a at c keeps held =
     record {
       goes = λ more q to. keeps (record { play = play; host = h; place = q }) refl ∙ held.goes (a ∷ more) q (ap (leads plan play) (sym (append_assoc xs (a ∷ []) more)) ∙ to);
       good = λ more to task same. keeps task same ∙ held.good (a ∷ more) (ap (λ (ys : List AnswerOf). ends_as (passage (tree_at plan play) ys)) (sym (append_assoc xs (a ∷ []) more)) ∙ to) task same;
-      over = λ to task same. absurd (ends_none Ended (passage (tree_at plan play) (xs ++ a ∷ [])) place to (ap place_of (second_passed (tree_at plan play) xs a c) ∙ at));
+      over = λ to task same. absurd (ends_none kinds.Ended (passage (tree_at plan play) (xs ++ a ∷ [])) place to (ap place_of (second_passed (tree_at plan play) xs a c) ∙ at));
       none = λ e task same. absurd (not_empty xs a e);
     }
 
@@ -294,15 +294,15 @@ out_apart inside host h i out = λ same. let both_ways : true ≡ false = sym i 
 
 -- ---- a batch that closes
 -- a walk at its end that leaves its host active came through good, or ended the play
-ends_well : (had : Bool) (p : Passage) (other : Status) → place_of (reach_of p) ≡ None → is_active (unless_active (status_in had p) other) ≡ true → (ends_as p ≡ Some Good) ⊎ (ends_as p ≡ Some Ended)
+ends_well : (had : Bool) (p : Passage) (other : Status) → place_of (reach_of p) ≡ None → is_active (unless_active (status_in had p) other) ≡ true → (ends_as p ≡ Some kinds.Good) ⊎ (ends_as p ≡ Some kinds.Ended)
 ends_well had (Stopped place marks) other at is = cc
-ends_well had (Through Good w) other at is = inl refl
-ends_well had (Through Ended w) other at is = inr refl
-ends_well had (Through Gone w) other at is = cc
-ends_well true (Through Bad w) other at is = cc
-ends_well false (Through Bad w) other at is = cc
-ends_well true (Through Halted w) other at is = cc
-ends_well false (Through Halted w) other at is = cc
+ends_well had (Through kinds.Good w) other at is = inl refl
+ends_well had (Through kinds.Ended w) other at is = inr refl
+ends_well had (Through kinds.Gone w) other at is = cc
+ends_well true (Through kinds.Bad w) other at is = cc
+ends_well false (Through kinds.Bad w) other at is = cc
+ends_well true (Through kinds.Halted w) other at is = cc
+ends_well false (Through kinds.Halted w) other at is = cc
 
 closed_clear : (plan : PlanOf) (play h : ℕ) (past : List Happening) (xs : List AnswerOf) → Held plan play h past xs → leads plan play xs ≡ None → (xs ≡ []) ⊎ (is_active (status_now (tree_at plan play) xs) ≡ true)
     → (task : HostTask) → task.host ≡ h → is_kept_out plan task past ≡ false

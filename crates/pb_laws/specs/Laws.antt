@@ -13,7 +13,7 @@ use Rattle.pb_plan.specs.Plan.{PlayOf, PlanOf, throttles_of}
 use Rattle.pb_strategies.specs.MayStart.{is_linear}
 use Rattle.pb_tree.specs.Answer.{AnswerOf}
 use Rattle.pb_tree.specs.declared.answer.Kind.{Kind}
-use Rattle.pb_tree.specs.declared.answer.Kind.TheVariants.{Good, Bad, Halted, Gone, Ended}
+use Rattle.pb_tree.specs.declared.answer.Kind.TheVariants as kinds
 use Rattle.pb_tree.specs.Tree.{Nodes, Nothing, Task, Block, Flush, TreeOf, size}
 use Rattle.pb_tree.specs.Walk.{reach, is_halted, ends_in_flush, front}
 use Rattle.pb_host.specs.declared.step_result.TaskEnd.{TaskEnd}
@@ -203,11 +203,11 @@ is_caught plan task = slice_index_or (caught_places (tree_at plan task.play)) ta
 
 -- whether what a host answered at a place keeps it from starting a task later; or else what it answered before that does
 abbrev pub keeps_out : PlanOf → HostTask → Kind → HostTask → Bool → Bool
-keeps_out plan before Good task else_so = else_so
-keeps_out plan before Ended task else_so = false
-keeps_out plan before Gone task else_so = true
-keeps_out plan before Halted task else_so = not (may_follow plan before task) || else_so
-keeps_out plan before Bad task else_so = (not (is_caught plan before) && not (may_follow plan before task)) || else_so
+keeps_out plan before kinds.Good task else_so = else_so
+keeps_out plan before kinds.Ended task else_so = false
+keeps_out plan before kinds.Gone task else_so = true
+keeps_out plan before kinds.Halted task else_so = not (may_follow plan before task) || else_so
+keeps_out plan before kinds.Bad task else_so = (not (is_caught plan before) && not (may_follow plan before task)) || else_so
 
 -- A host is halted once in a batch: halted again while it goes through always parts, it goes on with them.
 abbrev pub is_halted_again : ℕ → Kind → List Happening → Bool

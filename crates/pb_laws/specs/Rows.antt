@@ -12,7 +12,7 @@ use Rattle.pb_state.specs.declared.event.Event.{Event}
 use Rattle.pb_state.specs.declared.event.Event.TheVariants.{Open, Send, Report as Reported, Turn, Close, Stop, Forks}
 use Rattle.pb_state.specs.Run.{IsLegal}
 use Rattle.pb_host.specs.declared.host.Counts.{Counts}
-use Rattle.pb_tree.specs.declared.answer.Kind.TheVariants.{Halted}
+use Rattle.pb_tree.specs.declared.answer.Kind.TheVariants as kinds
 use Rattle.pb_tree.specs.Tree.{Nothing, Task, Block, Flush}
 use Rattle.pb_laws.specs.History.{HostTask, Happening, MayRun, Opens, Starts, Sends, Reports, Ends, Given, Closes, Stops, history}
 use Rattle.pb_laws.specs.Laws.{holds_from, so_far, own_hosts, within_forks, in_order, out_is_out, have_walked, all_closed, jobs_in_order, all_answered, attempts_in_order, add_up, status_tells}
@@ -176,7 +176,7 @@ twice_a_task = refl
 closed_too_early : holds_from (have_walked two_plays) [] (Opens 1 (true ∷ true ∷ []) ∷ Starts (on 1 0) ∷ Ends (on 1 0) well [] ∷ Closes 1 ∷ []) ≡ false
 closed_too_early = refl
 
-closed_in_time : holds_from (have_walked two_plays) [] (Opens 1 (true ∷ true ∷ []) ∷ Starts (on 1 0) ∷ Ends (on 1 0) well [] ∷ Given (on 1 1) Halted ∷ Closes 1 ∷ []) ≡ true
+closed_in_time : holds_from (have_walked two_plays) [] (Opens 1 (true ∷ true ∷ []) ∷ Starts (on 1 0) ∷ Ends (on 1 0) well [] ∷ Given (on 1 1) kinds.Halted ∷ Closes 1 ∷ []) ≡ true
 closed_in_time = refl
 
 starts_though_out : holds_from (out_is_out two_plays) [] (Starts (on 0 0) ∷ Ends (on 0 0) badly [] ∷ Starts (on 1 0) ∷ []) ≡ false
@@ -208,14 +208,14 @@ rest_of_body = refl
 always_though_lost : holds_from (out_is_out always_part) [] (Starts (at_place 0) ∷ Ends (at_place 0) lost [] ∷ Starts (at_place 2) ∷ []) ≡ false
 always_though_lost = refl
 
-rest_though_halted : holds_from (out_is_out always_part) [] (Given (at_place 0) Halted ∷ Starts (at_place 1) ∷ []) ≡ false
+rest_though_halted : holds_from (out_is_out always_part) [] (Given (at_place 0) kinds.Halted ∷ Starts (at_place 1) ∷ []) ≡ false
 rest_though_halted = refl
 
 -- behind a failure in an always part the rest of that isn't walked, and a halt there changes nothing where the host was halted before
 rest_of_always : holds_from (out_is_out always_part) [] (Starts (at_place 0) ∷ Ends (at_place 0) badly [] ∷ Starts (at_place 2) ∷ Ends (at_place 2) badly [] ∷ Starts (at_place 3) ∷ []) ≡ false
 rest_of_always = refl
 
-halted_again : holds_from (out_is_out always_part) [] (Given (at_place 0) Halted ∷ Starts (at_place 2) ∷ Ends (at_place 2) well [] ∷ Given (at_place 3) Halted ∷ Starts (at_place 3) ∷ []) ≡ true
+halted_again : holds_from (out_is_out always_part) [] (Given (at_place 0) kinds.Halted ∷ Starts (at_place 2) ∷ Ends (at_place 2) well [] ∷ Given (at_place 3) kinds.Halted ∷ Starts (at_place 3) ∷ []) ≡ true
 halted_again = refl
 
 -- the same where the body has a rescue, which is place 2

@@ -12,7 +12,7 @@ use Rattle.pb_state.specs.Machine.{possible, ready}
 use Rattle.pb_state.specs.Over.{IsOver}
 use Rattle.pb_state.specs.Run.{legal_from, state_from, IsLegal, state_after, IsEager, IsFinished, is_command}
 use Rattle.pb_state.specs.State.{State}
-use Rattle.pb_tree.specs.declared.tree.Status.TheVariants.{Active}
+use Rattle.pb_tree.specs.declared.tree.Status.TheVariants as stays
 use Rattle.pb_tree.specs.Walk.{reach, status_now, unforced}
 
 -- a host may start a task, or send a job
@@ -24,7 +24,7 @@ pub record IsStatused (row : HostOf) : Type 0 where
   -- in a batch a host is what its answers make it: active, failed, halted, or out of reach
   pub walked : row.in_batch ≡ true → row.status ≡ status_now row.tree row.answers
   -- one that stands at a place is active, unless its play forces handlers and it would be at its end without them
-  pub standing : (place : ℕ) → next_place row ≡ Some place → (row.status ≡ Active) ⊎ ((row.tree.force_handlers ≡ true) × (place_of (reach (unforced row.tree) row.answers) ≡ None))
+  pub standing : (place : ℕ) → next_place row ≡ Some place → (row.status ≡ stays.Active) ⊎ ((row.tree.force_handlers ≡ true) × (place_of (reach (unforced row.tree) row.answers) ≡ None))
 
 -- a way to the end: it goes by itself, with no command, each report comes where nothing else can, and tells what is fixed for its job
 pub record IsWay (plan : PlanOf) (f : Fixed) (s : State) (more : List Event) : Type 0 where

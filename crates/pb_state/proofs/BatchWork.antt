@@ -17,7 +17,7 @@ use Rattle.pb_host.specs.declared.step_result.TaskEnd.{TaskEnd}
 use Rattle.pb_outcome.specs.declared.item.Item.{Item}
 use Rattle.pb_outcome.specs.Items.{is_over}
 use Rattle.pb_tree.specs.declared.answer.Kind.{Kind}
-use Rattle.pb_tree.specs.declared.answer.Kind.TheVariants.{Good, Bad, Halted, Gone, Ended}
+use Rattle.pb_tree.specs.declared.answer.Kind.TheVariants as kinds
 use Rattle.pb_tree.specs.Walk.{reach, is_halted}
 use Rattle.pb_host.specs.declared.host.Running.{Running}
 use Rattle.pb_host.specs.declared.host.LastTask.{LastTask}
@@ -258,11 +258,11 @@ turned_work inventory play batch place =
 
 -- where a task is settled, an answer less is left to each host there
 run_once_end_counts : (kind : Kind) → ends_run_once kind ≡ true → is_halted kind ≡ false
-run_once_end_counts Good e = refl
-run_once_end_counts Bad e = refl
-run_once_end_counts Halted e = cc
-run_once_end_counts Gone e = refl
-run_once_end_counts Ended e = refl
+run_once_end_counts kinds.Good e = refl
+run_once_end_counts kinds.Bad e = refl
+run_once_end_counts kinds.Halted e = cc
+run_once_end_counts kinds.Gone e = refl
+run_once_end_counts kinds.Ended e = refl
 
 run_once_last : (p : ℕ) (last : Option LastTask) → option_map_or (ends_run_once_at p) last false ≡ true → (finish : LastTask) × (last ≡ Some finish) × (is_halted finish.kind ≡ false)
 run_once_last p (Some finish) e = (finish, refl, run_once_end_counts finish.kind (and_right (finish.place == p) _ e))

@@ -4,7 +4,7 @@ use Rattle.std.specs.Prelude.{Option, Some, None, if◌then◌else◌}
 use Rattle.std.proofs.lemmas.Bool.{eqb-true}
 use Rattle.pb_tree.specs.declared.tree.Reach.{Reach}
 use Rattle.pb_tree.specs.declared.tree.Reach.TheVariants.{At, Done}
-use Rattle.pb_tree.specs.declared.answer.Kind.TheVariants.{Gone}
+use Rattle.pb_tree.specs.declared.answer.Kind.TheVariants as kinds
 use Rattle.pb_tree.specs.Tree.{TreeOf, size_of}
 use Rattle.pb_tree.specs.Answer.{AnswerOf}
 use Rattle.pb_tree.specs.Walk.{reach, one_halted, without_halted, is_halted}
@@ -25,7 +25,7 @@ at_below tree answers p e = let bounds = places_bounded tree answers p e in omeg
 pub not_halted : (task : TaskEnd) → is_halted (kind_of task) ≡ false
 not_halted task = by_kind task.result.unreachable (fails task.result) (ends_play task.meta && has_run task.result)
   where
-    by_kind : (lost bad ends : Bool) → is_halted (if lost then Gone else kind_if bad ends) ≡ false
+    by_kind : (lost bad ends : Bool) → is_halted (if lost then kinds.Gone else kind_if bad ends) ≡ false
     by_kind true bad ends = refl
     by_kind false true ends = refl
     by_kind false false true = refl

@@ -8,7 +8,7 @@ use Rattle.pb_expr_syntax.specs.declared.tree.Op.TheVariants.{Equal}
 use Rattle.pb_outcome.specs.declared.outcome.Form.TheVariants.{Ran}
 use Rattle.pb_places.specs.Place.{PlaceOf}
 use Rattle.pb_plan.specs.Plan.{PlayOf, PlanOf, bare_play, bare_plan, bare_tree}
-use Rattle.pb_tree.specs.declared.tree.Status.TheVariants.{Active, Failed}
+use Rattle.pb_tree.specs.declared.tree.Status.TheVariants as stays
 use Rattle.pb_state.specs.declared.event.Event.{Event}
 use Rattle.pb_state.specs.declared.event.Event.TheVariants.{Open, Start, Send, Report as Reported, Turn, Close, Stop, Forks}
 use Rattle.pb_state.specs.BlockRows.{says, runs, refuses, statuses}
@@ -104,7 +104,7 @@ is_second = tree.Binary Equal (tree.Name (codes "inventory_hostname")) (tree.Tex
 abbrev out_already : PlanOf
 out_already = threes 5 (bare_play (codes "p") (bare_tree 0 1 0) (record refuses { conditions = is_second ∷ [] } ∷ []) (true ∷ true ∷ false ∷ []) ∷ by_two says ∷ [])
 
-b_is_out : statuses out_already first_two ≡ Active ∷ Failed ∷ Active ∷ []
+b_is_out : statuses out_already first_two ≡ stays.Active ∷ stays.Failed ∷ stays.Active ∷ []
 unfolding on_facts
 b_is_out = refl
 

@@ -6,7 +6,7 @@ use Rattle.pb_outcome.specs.declared.outcome.Form.TheVariants.{Ran}
 use Rattle.pb_places.specs.Place.{PlaceOf}
 use Rattle.pb_plan.specs.Plan.{PlanOf, bare_play}
 use Rattle.pb_tree.specs.Tree.{Nodes, Nothing, Task, Block, Flush}
-use Rattle.pb_tree.specs.declared.tree.Status.TheVariants.{Active, Failed}
+use Rattle.pb_tree.specs.declared.tree.Status.TheVariants as status
 use Rattle.pb_state.specs.BlockRows.{says, runs, refuses, caught, last, alone, start, after_of, statuses, starts_at}
 use Rattle.pb_host.specs.declared.step_result.StepResult.{StepResult}
 use Rattle.pb_host.specs.declared.step_result.TaskDone.{TaskDone}
@@ -113,7 +113,7 @@ forced_at : starts_at (failing true) forced_run ≡ Some 2 ∷ Some 3 ∷ Some 4
 unfolding on_facts
 forced_at = refl
 
-out_at_once : statuses (failing true) (two_commands ++ Turn ∷ start ∷ []) ≡ Failed ∷ []
+out_at_once : statuses (failing true) (two_commands ++ Turn ∷ start ∷ []) ≡ status.Failed ∷ []
 unfolding on_facts
 out_at_once = refl
 
@@ -127,7 +127,7 @@ abbrev pub flushes_run : List Event
 flushes_run = first_command ++ Turn ∷ start ∷ Turn ∷ start ∷ Turn ∷ Close ∷ []
 
 flush_is_rescued : IsLegalUnder flushes 5 5 flushes_run × (counts_of flushes flushes_run ≡ record none_counted { ok = 2; changed = 1; rescued = 1 } ∷ [])
-    × (statuses flushes flushes_run ≡ Active ∷ [])
+    × (statuses flushes flushes_run ≡ status.Active ∷ [])
 unfolding on_facts
 flush_is_rescued = (refl, refl, refl)
 

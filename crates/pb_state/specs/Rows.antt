@@ -1,7 +1,7 @@
 -- Worked runs: plays with hosts of their own.
 use Rattle.std.specs.Prelude.{◌≡◌, Bool, true, false, List, [], ◌∷◌, map, codes, Some, None, refl}
 use Rattle.pb_value.specs.Datum.{text}
-use Rattle.pb_tree.specs.declared.tree.Status.TheVariants.{Failed}
+use Rattle.pb_tree.specs.declared.tree.Status.TheVariants as stays
 use Rattle.pb_play.specs.declared.modules.Module.TheVariants.{Debug}
 use Rattle.pb_task_vars.specs.Results.{on_tasks}
 use Rattle.pb_state.specs.declared.event.Event.{Event}
@@ -65,7 +65,7 @@ no_play_left = refl
 
 -- so is a play whose hosts failed
 abbrev failed_row : HostOf
-failed_row = record (first_row 0) { status = Failed }
+failed_row = record (first_row 0) { status = stays.Failed }
 
 passes_failed : first_play (failed_row ∷ first_row 1 ∷ []) 0 (play_on (true ∷ []) ∷ play_on (true ∷ true ∷ []) ∷ []) ≡ Some 1
 passes_failed = refl

@@ -2,7 +2,7 @@
 use Rattle.std.specs.Prelude.{◌≡◌, ℕ, true, false, [], ◌∷◌, refl}
 use Rattle.pb_plan.specs.Plan.{PlanOf}
 use Rattle.pb_host.specs.Host.{first_row}
-use Rattle.pb_tree.specs.declared.tree.Status.TheVariants.{Failed, Halted, Gone}
+use Rattle.pb_tree.specs.declared.tree.Status.TheVariants as stays
 use Rattle.pb_state.specs.Machine.{first_state}
 use Rattle.pb_state.specs.Through.{first_unbegun, is_done, is_selected}
 
@@ -13,13 +13,13 @@ active_is_done = refl
 waiting_is_not : is_done (record (first_row 3) { awaits_batch = true }) ≡ false
 waiting_is_not = refl
 
-failed_is_not : is_done (record (first_row 3) { status = Failed }) ≡ false
+failed_is_not : is_done (record (first_row 3) { status = stays.Failed }) ≡ false
 failed_is_not = refl
 
-halted_is_not : is_done (record (first_row 3) { status = Halted }) ≡ false
+halted_is_not : is_done (record (first_row 3) { status = stays.Halted }) ≡ false
 halted_is_not = refl
 
-gone_is_not : is_done (record (first_row 3) { status = Gone }) ≡ false
+gone_is_not : is_done (record (first_row 3) { status = stays.Gone }) ≡ false
 gone_is_not = refl
 
 -- at first no play has begun; while a batch is open, or one is left of a play, that play has
