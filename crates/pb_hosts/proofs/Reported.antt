@@ -2,6 +2,7 @@
 use Rattle.std.proofs.Common.{◌≡◌, ◌∙◌, ℕ, zero, suc, ◌-◌, ◌^◌, List, [], ◌∷◌, refl, sym, ap, subst}
 use Rattle.std.specs.Prelude.{Option, Some, None, IfSome, option_map, slice_get, slice_set}
 use Rattle.std.specs.Option.{option_map_or}
+use Rattle.pb_inventory.specs.InventoryOf.{InventoryOf}
 use Rattle.pb_outcome.specs.declared.outcome.Form.{Form}
 use Rattle.pb_plan.specs.Plan.{PlayOf, PlanOf}
 use Rattle.pb_task_vars.specs.declared.gifts.DelegatedFacts.{DelegatedFacts}
@@ -105,3 +106,8 @@ put_back (r ∷ rows) (suc h) row new f e same = change_on r (slice_set rows h n
 
 pub nobody : (rows : List HostOf) (h : ℕ) (f : HostOf → HostOf) → slice_get rows h ≡ None → change rows h f ≡ rows
 nobody rows h f e = ap (λ (found : Option HostOf). option_map_or (λ (row : HostOf). slice_set rows h (f row)) found rows) e
+
+-- and nothing goes on, nor is given, of a number that is no host's
+pub nobody_on : (inventory : InventoryOf) (play : PlayOf) (rows : List HostOf) (h : ℕ) → slice_get rows h ≡ None → rows ≡ with_delegated (gives_now inventory play h rows) (change rows h (went_on inventory play))
+nobody_on inventory play rows h e =
+    sym (ap (λ (found : Option HostOf). with_delegated (option_map_or (gives_on inventory play h) found []) (option_map_or (λ (row : HostOf). slice_set rows h (went_on inventory play row)) found rows)) e)

@@ -1,6 +1,6 @@
 -- A turn, in its parts: what hosts of the batch learn, one after another, and what is done to each of them then. Hosts outside of the batch stay as they are.
-use Rattle.std.proofs.Common.{◌≡◌, ℕ, zero, suc, ◌+◌, ◌<◌, Bool, true, false, ◌&&◌, ◌||◌, not, List, [], ◌∷◌, ◌++◌, length, map, drop, replicate, Bor, refl, sym, ◌∙◌, ap, subst, arith}
-use Rattle.std.specs.Prelude.{Option, Some, None, IfSome, is_some, slice_get, slice_set, if◌then◌else◌}
+use Rattle.std.proofs.Common.{◌≡◌, ℕ, zero, suc, ◌+◌, Bool, true, false, ◌&&◌, ◌||◌, not, List, [], ◌∷◌, ◌++◌, length, map, drop, replicate, Bor, refl, sym, ◌∙◌, ap, subst, arith}
+use Rattle.std.specs.Prelude.{Option, Some, None, IfSome, is_some, slice_get, if◌then◌else◌}
 use Rattle.std.specs.List.{list_any}
 use Rattle.std.specs.Option.{option_copied, option_map_or}
 use Rattle.std.proofs.lemmas.List.{length-map}
@@ -20,19 +20,18 @@ use Rattle.pb_tree.specs.declared.answer.Kind.TheVariants as kinds
 use Rattle.pb_host.specs.declared.host.LastTask.{LastTask}
 use Rattle.pb_host.specs.Ends.{plain_answer}
 use Rattle.pb_host.specs.Host.{HostOf, answered, is_active, is_at, is_waiting, knows, left}
-use Rattle.pb_host.specs.Runs.{is_running, has_send}
+use Rattle.pb_host.specs.Runs.{has_send}
 use Rattle.pb_host.specs.Standing.{standing}
 use Rattle.pb_host.specs.Turned.{applies, answer_copied, with_answer, may_be_halted, halted_if}
 use Rattle.pb_hosts.specs.declared.turned.HostUpdate.{HostUpdate}
 use Rattle.pb_hosts.specs.declared.turned.Turning.{Turning}
 use Rattle.pb_hosts.specs.Applied.{with_update}
-use Rattle.pb_hosts.specs.Hosts.{at_row, change, one_if, running_count}
+use Rattle.pb_hosts.specs.Hosts.{at_row, change}
 use Rattle.pb_hosts.specs.Turn.{with_copy, ends_run_once_at, has_done_run_once, run_once_host, ends_fatally, has_ended_fatally}
 use Rattle.pb_hosts.specs.TurnMade.{copy_applied, turning_row}
 use Rattle.pb_hosts.specs.Due.{is_inside, IsOutside, AreOutside, IsDue}
 use Rattle.pb_hosts.specs.Oldest.{ticket_of, out_from}
-use Rattle.pb_hosts.proofs.Counting.{count_on, count_set}
-use Rattle.pb_hosts.proofs.Giving.{change_on, map_same, length_same}
+use Rattle.pb_hosts.proofs.Giving.{change_on, map_same}
 use Rattle.pb_hosts.proofs.Members.{part, Spares, part_skip, at_none, copy_none, reached, finished}
 use Rattle.pb_hosts.proofs.Outside.{out_changed, out_mapped, next_none}
 
@@ -93,27 +92,6 @@ update_map : {A : Type 0} (of : HostOf → A) → ((update : FactsUpdate) (row :
 update_map of same [] rows = refl
 update_map of same (n ∷ all) rows = update_map of same all (change rows n.host.0 (applies n.update)) ∙ map_same of (applies n.update) (same n.update) rows n.host.0
 
-update_length : (all : List HostUpdate) (rows : List HostOf) → length (with_update all rows) ≡ length rows
-update_length [] rows = refl
-update_length (n ∷ all) rows = update_length all (change rows n.host.0 (applies n.update)) ∙ length_same rows n.host.0 (applies n.update)
-
-change_running : (update : FactsUpdate) (rows : List HostOf) (h : ℕ) → running_count (change rows h (applies update)) ≡ running_count rows
-change_running update rows h = by_found (slice_get rows h) refl
-  where
-    by_found : (found : Option HostOf) → slice_get rows h ≡ found → running_count (option_map_or (λ (row : HostOf). slice_set rows h (applies update row)) found rows) ≡ running_count rows
-    by_found None e = refl
-    by_found (Some row) e =
-        let set = count_set rows h row (applies update row) e in
-        let here : one_if (is_running (applies update row)) ≡ one_if (is_running row) = refl in
-        omega (arith, set, here)
-
-update_running : (all : List HostUpdate) (rows : List HostOf) → running_count (with_update all rows) ≡ running_count rows
-update_running [] rows = refl
-update_running (n ∷ all) rows = update_running all (change rows n.host.0 (applies n.update)) ∙ change_running n.update rows n.host.0
-
-pub update_hold : (all : List HostUpdate) (n : ℕ) (rows new : List HostOf) → new ≡ with_update all rows → n ≡ running_count rows → length rows < 4294967296 → (n ≡ running_count new) × (length new < 4294967296)
-update_hold all n rows new e k below = rw e (k ∙ sym (update_running all rows), rw (update_length all rows) below)
-
 -- an answer changes neither what the host runs nor whether it is in the batch
 answer_same : {A : Type 0} (of : HostOf → A) → ((kind : Kind) (caught : Bool) (row : HostOf) → of (answer_copied kind caught row) ≡ of row) → (p : ℕ) (kind : Option Kind) (caught : Bool) (row : HostOf) → of (with_answer p kind caught row) ≡ of row
 answer_same of same p None caught row = refl
@@ -138,16 +116,6 @@ turning_same of copies answers t row = halt_same of answers t.halts (with_answer
 map_kept : {A : Type 0} (of : HostOf → A) (f : HostOf → HostOf) → ((row : HostOf) → of (f row) ≡ of row) → (rows : List HostOf) → map of (map f rows) ≡ map of rows
 map_kept of f same [] = refl
 map_kept of f same (row ∷ rows) = ap (λ x. x ∷ map of (map f rows)) (same row) ∙ ap (λ rest. of row ∷ rest) (map_kept of f same rows)
-
-turning_running : (t : Turning) (rows : List HostOf) → running_count (map (turning_row t) rows) ≡ running_count rows
-turning_running t [] = refl
-turning_running t (row ∷ rows) =
-    let rest = turning_running t rows in
-    let here : one_if (is_running (turning_row t row)) ≡ one_if (is_running row) = ap one_if (turning_same is_running (λ kind caught r. refl) (λ answer r. refl) t row) in
-    omega (arith, rest, here, count_on (turning_row t row) (map (turning_row t) rows), count_on row rows)
-
-pub turning_holds : (t : Turning) (n : ℕ) (rows new : List HostOf) → new ≡ map (turning_row t) rows → n ≡ running_count rows → length rows < 4294967296 → (n ≡ running_count new) × (length new < 4294967296)
-turning_holds t n rows new e k below = rw e (k ∙ sym (turning_running t rows), rw (length-map rows (turning_row t)) below)
 
 -- ---- what is kept beside them
 update_told : {A : Type 0} (of : HostOf → A) → ((update : FactsUpdate) (row : HostOf) → of (applies update row) ≡ of row) → (all : List HostUpdate) (told : List A) (rows new : List HostOf) → told ≡ map of rows → new ≡ with_update all rows → told ≡ map of new

@@ -1,15 +1,11 @@
 -- The rows of all hosts: what is asked of them, and how the row of one host changes.
-use Rattle.std.specs.Prelude.{ℕ, ◌+◌, Bool, false, List, [], ◌∷◌, Option, Some, None, slice_get, slice_set, min, count_by, if◌then◌else◌}
+use Rattle.std.specs.Prelude.{ℕ, ◌+◌, Bool, false, List, [], ◌∷◌, Option, Some, None, slice_get, slice_set, min, if◌then◌else◌}
 use Rattle.std.specs.List.{list_any}
 use Rattle.std.specs.Option.{option_map_or}
 use Rattle.pb_plan.specs.Plan.{PlayOf}
 use Rattle.pb_host.specs.Host.{HostOf, is_play_host, next_place, pending}
-use Rattle.pb_host.specs.Runs.{is_running}
 
--- how many hosts run
-abbrev pub running_count : List HostOf → ℕ
-running_count rows = count_by is_running rows
-
+-- one where this holds, else none
 abbrev pub one_if : Bool → ℕ
 one_if b = if b then 1 else 0
 

@@ -19,10 +19,18 @@ ghost use Rattle.pb_hosts.specs.Applied.{with_update};
 ghost use Rattle.pb_hosts.specs.Turn.{is_run_once_done};
 ghost use Rattle.pb_hosts.specs.TurnMade.{halts_at, turned_rows, turning_row};
 
-use crate::inside::{empty_by, least_inside, put_in, some_inside, stand_inside, stand_left};
+use crate::apply::apply_each;
+use crate::gifts::{gifts_at, with_gifts};
+use crate::inside::{
+    empty_by, least_inside, leave_inside, put_in, some_inside, stand_inside, stand_left,
+    turn_inside,
+};
 use crate::jobs_out::{drop_job, first_job, put_job, some_under};
 use crate::list::play_hosts::{begin_all, play_hosts_set};
-use crate::list::{self, HostList, apply_all, join_waiting, row_at, turn_all, walks_for};
+use crate::list::{
+    self, decide_row, first_rows, item_in, join_waiting, know_all, row_at, take_back, undo,
+    walks_for,
+};
 use crate::turned::{TurnMade, is_run_once_done_at, turn_of};
 use pb_cursors::{LaidTree, PlayWalk};
 use pb_host::{Host, StepResult, TaskDone, TaskItems};
@@ -40,7 +48,7 @@ use std::rc::Rc;
 /// The rows of all hosts. Which of them have a job to send, where each stands, which are in the batch, which wait for theirs, and which jobs are out is
 /// kept beside them: a step that changes one host's row asks that row alone, and one that is about the batch the batch's rows.
 pub struct Hosts {
-    rows: HostList,
+    rows: Vec<Host>,
     sends: HostSet,
     standings: Standings,
     /// The hosts of the batch.
@@ -82,9 +90,9 @@ impl Model for Hosts {
 
     ghost coded = { Prim.hlevel (codes, val.the_row.coded, play_tree.the_row.coded) };
 
-    ghost view = { λ r. r.rows };
+    ghost view = { λ r. r.rows.items };
 
-    ghost invariant = { λ r. IsDue r.sends r.standings r.batch r.awaits_batch r.out.items r.rows };
+    ghost invariant = { λ r. IsDue r.sends r.standings r.batch r.awaits_batch r.out.items r.rows.items };
 }
 
 impl Hosts {
@@ -95,7 +103,7 @@ impl Hosts {
         let sends = HostSet::empty(alloc, hosts)?;
         let batch = HostSet::empty(alloc, hosts)?;
         let awaits_batch = HostSet::empty(alloc, hosts)?;
-        let rows = HostList::first(alloc, hosts)?;
+        let rows = first_rows(alloc, hosts)?;
         // (last: they are of many parts, each of which is let go at an exit)
         let standings = Standings::new(alloc, hosts, 0)?;
         let out = Vec::new(alloc);
@@ -120,7 +128,7 @@ impl Hosts {
     pub fn some_running(&self) -> bool
         ensures { result ≡ list_any is_running self.now }
     {
-        self.rows.some_running()
+        self.standings.running() != 0
     }
 
     /// The hosts that have a job to send.
@@ -175,9 +183,9 @@ impl Hosts {
 }
 
 /// Asks the row of one host anew.
-fn ask_one(rows: &HostList, host: HostNo, sends: &mut HostSet, standings: &mut Standings)
-    ensures sends { sends.new ≡ asked_at has_send rows.now host.0 sends.old }
-    ensures stands { standings.new ≡ asked_at standing rows.now host.0 standings.old }
+fn ask_one(rows: &Vec<Host>, host: HostNo, sends: &mut HostSet, standings: &mut Standings)
+    ensures sends { sends.new ≡ asked_at has_send rows.now.items host.0 sends.old }
+    ensures stands { standings.new ≡ asked_at standing rows.now.items host.0 standings.old }
 {
     if let Some(row) = row_at(rows.as_slice(), host) {
         put_in(sends, host, row.has_send());
@@ -187,23 +195,23 @@ fn ask_one(rows: &HostList, host: HostNo, sends: &mut HostSet, standings: &mut S
 
 /// A batch opens with these walks: the first hosts that wait take them, one each, and no other host is in it. No host of these stood anywhere.
 fn open_batch(
-    rows: &mut HostList,
+    rows: &mut Vec<Host>,
     walks: Vec<PlayWalk>,
     awaits_batch: &HostSet,
     batch: &mut HostSet,
     sends: &mut HostSet,
     standings: &mut Standings,
 )
-    requires awaits_batch { awaits_batch.now ≡ map is_waiting rows.old }
+    requires awaits_batch { awaits_batch.now ≡ map is_waiting rows.old.items }
     requires few { length walks.items ≤ count_by (λ b. b) awaits_batch.now }
-    requires insiders { batch.old ≡ map is_inside rows.old }
-    requires outsiders { AreOutside rows.old }
-    requires sends { length sends.old ≡ length rows.old }
-    requires stands { standings.old ≡ replicate (length rows.old) nowhere }
-    ensures rows { rows.new ≡ joined_by walks.items rows.old }
-    ensures batch { batch.new ≡ map is_inside rows.new }
-    ensures sends { sends.new ≡ map has_send rows.new }
-    ensures stands { standings.new ≡ map standing rows.new }
+    requires insiders { batch.old ≡ map is_inside rows.old.items }
+    requires outsiders { AreOutside rows.old.items }
+    requires sends { length sends.old ≡ length rows.old.items }
+    requires stands { standings.old ≡ replicate (length rows.old.items) nowhere }
+    ensures rows { rows.new.items ≡ joined_by walks.items rows.old.items }
+    ensures batch { batch.new ≡ map is_inside rows.new.items }
+    ensures sends { sends.new ≡ map has_send rows.new.items }
+    ensures stands { standings.new ≡ map standing rows.new.items }
 {
     join_waiting(rows, walks, awaits_batch, batch);
     empty_by(batch, sends);
@@ -259,12 +267,18 @@ impl Hosts {
         ensures done { IfOk result (λ done. done ≡ done_if play.now place (pending_in self.old host.0) items) }
         ensures err { OnErr result (self.new ≡ self.old) }
     {
-        let done = self
-            .rows
-            .start_row(alloc, host, inventory, play, place, items)?;
-        drop_job(&mut self.out, host);
-        ask_one(&self.rows, host, &mut self.sends, &mut self.standings);
-        Ok(done)
+        let gifts = gifts_at(alloc, inventory, play, place, host, &items)?;
+        let known = with_gifts(alloc, self.rows.as_slice(), gifts.as_slice())?;
+        match self.rows.get_mut(host.0 as usize) {
+            Some(row) => {
+                let done = row.start(alloc, inventory, play, place, items)?;
+                know_all(&mut self.rows, known);
+                drop_job(&mut self.out, host);
+                ask_one(&self.rows, host, &mut self.sends, &mut self.standings);
+                Ok(done)
+            }
+            None => unreachable!(),
+        }
     }
 }
 
@@ -294,10 +308,22 @@ pub fn report_row(
     ensures decides { IfOk result (λ step_result. step_result ≡ option_map_or (report_result plan.now play.now outcome.now) (slice_get rows.old host.0) None) }
     ensures err { OnErr result (rows.new ≡ rows.old) }
 {
-    let step_result = list::report_row(alloc, &mut rows.rows, host, plan, play, outcome)?;
-    drop_job(&mut rows.out, host);
-    ask_one(&rows.rows, host, &mut rows.sends, &mut rows.standings);
-    Ok(step_result)
+    let number = item_in(rows.rows.as_slice(), host);
+    let came = take_back(alloc, &mut rows.rows, host, plan, play, outcome)?;
+    let (before, retried) = came.parts();
+    let inventory = plan.inventory();
+    match decide_row(&mut rows.rows, host, inventory, play, number, retried) {
+        Ok(step_result) => {
+            drop(before);
+            drop_job(&mut rows.out, host);
+            ask_one(&rows.rows, host, &mut rows.sends, &mut rows.standings);
+            Ok(step_result)
+        }
+        Err(error) => {
+            undo(&mut rows.rows, host, before);
+            Err(error)
+        }
+    }
 }
 
 /// From now on it is kept who is next at each place that has a throttle. Where memory is refused for it, it costs time and nothing else.
@@ -358,7 +384,8 @@ pub fn begin_first(
     ensures ok { OnOk result (rows.new ≡ joined_first laid.now.value.tree size (map (as_play_begins hosts.now) rows.old)) }
     ensures err { OnErr result (rows.new ≡ rows.old) }
 {
-    let calls = play_hosts_set(alloc, &rows.rows, hosts)?;
+    let width = rows.batch.width();
+    let calls = play_hosts_set(alloc, &rows.rows, width, hosts)?;
     let walks = walks_for(alloc, &calls, size, laid)?;
     clear(alloc, &mut rows.standings, throttles)?;
     begin_all(&mut rows.rows, hosts);
@@ -380,7 +407,7 @@ pub fn leave_all(rows: &mut Hosts)
     ensures { rows.new ≡ map left rows.old }
 {
     stand_left(rows.rows.as_slice(), &rows.batch, &mut rows.standings);
-    list::leave_all(&mut rows.rows, &rows.batch);
+    leave_inside(&mut rows.rows, &rows.batch);
     rows.out.clear();
     rows.awaits_batch.minus_with(&rows.batch);
     empty_by(&rows.batch, &mut rows.sends);
@@ -391,25 +418,25 @@ pub fn leave_all(rows: &mut Hosts)
 /// An `Err` changes nothing.
 fn turn_batch(
     alloc: Global,
-    rows: &mut HostList,
+    rows: &mut Vec<Host>,
     batch: &HostSet,
     standings: &mut Standings,
     made: TurnMade,
 ) -> Result<bool, AllocError>
-    requires insiders { batch.now ≡ map is_inside rows.old }
-    requires outsiders { AreOutside rows.old }
-    requires stands { standings.old ≡ map standing rows.old }
-    ensures rows { OnOk result (rows.new ≡ map (turning_row made.turning) (with_update made.all.items rows.old)) }
-    ensures stands { OnOk result (standings.new ≡ map standing rows.new) }
+    requires insiders { batch.now ≡ map is_inside rows.old.items }
+    requires outsiders { AreOutside rows.old.items }
+    requires stands { standings.old ≡ map standing rows.old.items }
+    ensures rows { OnOk result (rows.new.items ≡ map (turning_row made.turning) (with_update made.all.items rows.old.items)) }
+    ensures stands { OnOk result (standings.new ≡ map standing rows.new.items) }
     ensures halts { IfOk result (λ halts. halts ≡ made.turning.halts) }
-    ensures err { OnErr result (rows.new ≡ rows.old) }
+    ensures err { OnErr result (rows.new.items ≡ rows.old.items) }
     ensures same { OnErr result (standings.new ≡ standings.old) }
 {
     let (all, turning) = made.parts();
-    apply_all(alloc, rows, all)?;
+    apply_each(alloc, rows, all)?;
     // (nobody is at its old place from here on)
     stand_left(rows.as_slice(), batch, standings);
-    turn_all(alloc, rows, batch, turning);
+    turn_inside(alloc, rows, batch, turning);
     stand_inside(rows.as_slice(), batch, standings);
     Ok(turning.halts)
 }
@@ -428,7 +455,7 @@ pub fn turn_rows(
     ensures err { OnErr result (rows.new ≡ rows.old) }
 {
     // (there are fewer rows than host numbers)
-    let _hosts = rows.rows.hosts();
+    let _hosts = rows.batch.width();
     match turn_of(
         alloc,
         inventory,

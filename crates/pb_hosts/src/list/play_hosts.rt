@@ -6,7 +6,6 @@ ghost use Rattle.pb_host.specs.Host.{is_play_host, as_play_begins};
 ghost use Rattle.pb_hosts.specs.Batches.{play_host_count};
 ghost use Rattle.pb_hosts.specs.Hosts.{first_play};
 
-use super::HostList;
 use pb_host::Host;
 use pb_ids::HostNo;
 use pb_plan::PlanPlay;
@@ -53,27 +52,23 @@ fn play_hosts_into(rows: &[Host], hosts: &HostSet, set: &mut HostSet)
     }
 }
 
-/// Those of a play's own hosts that are active.
+/// Those of a play's own hosts that are active, of so many hosts.
 pub(crate) fn play_hosts_set(
     alloc: Global,
-    rows: &HostList,
+    rows: &Vec<Host>,
+    width: u32,
     hosts: &HostSet,
 ) -> Result<HostSet, AllocError>
-    ensures { IfOk result (λ calls. calls ≡ map (is_play_host hosts.now) rows.now) }
+    requires { width ≡ length rows.now.items }
+    ensures { IfOk result (λ calls. calls ≡ map (is_play_host hosts.now) rows.now.items) }
 {
-    let mut calls = HostSet::empty(alloc, rows.hosts())?;
+    let mut calls = HostSet::empty(alloc, width)?;
     play_hosts_into(rows.as_slice(), hosts, &mut calls);
     Ok(calls)
 }
 
 /// A play begins that has these hosts of its own: each of them that is active waits for its batch.
-pub(crate) fn begin_all(rows: &mut HostList, hosts: &HostSet)
-    ensures { rows.new ≡ map (as_play_begins hosts.now) rows.old }
-{
-    begin_rows(&mut rows.rows, hosts);
-}
-
-fn begin_rows(rows: &mut Vec<Host>, hosts: &HostSet)
+pub(crate) fn begin_all(rows: &mut Vec<Host>, hosts: &HostSet)
     ensures { rows.new.items ≡ map (as_play_begins hosts.now) rows.old.items }
 {
     begin_each(rows.as_mut_slice(), hosts);

@@ -27,10 +27,10 @@ pub open_batch-requires-clause-few : goal.open_batch-requires-clause-few
 open_batch-requires-clause-few c = few_walks c.args.laid.now.value.tree c.args.size c.rows.inside.awaits_batch c.in_ok-walks.walks.items c.in_ok-walks.ensures
 
 pub open_batch-requires-clause-sends : goal.open_batch-requires-clause-sends
-open_batch-requires-clause-sends c = width_is has_send c.rows.inside.rows c.rows.inside.sends c.rows.invariant.sending
+open_batch-requires-clause-sends c = width_is has_send c.rows.inside.rows.items c.rows.inside.sends c.rows.invariant.sending
 
 pub open_batch-requires-clause-stands : goal.open_batch-requires-clause-stands
-open_batch-requires-clause-stands c = c.in_ok-clear.ensures.ok ∙ ap (λ (n : ℕ). replicate n nowhere) (width_is standing c.rows.inside.rows c.rows.inside.standings c.rows.invariant.stands)
+open_batch-requires-clause-stands c = c.in_ok-clear.ensures.ok ∙ ap (λ (n : ℕ). replicate n nowhere) (width_is standing c.rows.inside.rows.items c.rows.inside.standings c.rows.invariant.stands)
 
 pub invariant_of-rows-2 : goal.invariant_of-rows-2
 invariant_of-rows-2 c =
@@ -38,12 +38,12 @@ invariant_of-rows-2 c =
       sending = c.open_batch.ensures.sends;
       stands = c.open_batch.ensures.stands;
       insiders = c.open_batch.ensures.batch;
-      waiting = joined_waits c.in_ok-walks.walks.items c.rows.inside.rows c.open_batch.new.rows c.rows.inside.awaits_batch c.rows.invariant.waiting c.open_batch.ensures.rows;
-      outsiders = subst AreOutside (sym c.open_batch.ensures.rows) (out_joined c.in_ok-walks.walks.items c.rows.inside.rows);
-      in_order = c.clear-2.ensures.items ∙ sym (ap all_out c.open_batch.ensures.rows ∙ joined_order 0 c.in_ok-walks.walks.items c.rows.inside.rows);
+      waiting = joined_waits c.in_ok-walks.walks.items c.rows.inside.rows.items c.open_batch.new.rows.items c.rows.inside.awaits_batch c.rows.invariant.waiting c.open_batch.ensures.rows;
+      outsiders = subst AreOutside (sym c.open_batch.ensures.rows) (out_joined c.in_ok-walks.walks.items c.rows.inside.rows.items);
+      in_order = c.clear-2.ensures.items ∙ sym (ap all_out c.open_batch.ensures.rows ∙ joined_order 0 c.in_ok-walks.walks.items c.rows.inside.rows.items);
     }
 
 pub returns-clause-ok : goal.returns-clause-ok
 returns-clause-ok c =
-    joined_as c.args.laid.now.value.tree c.args.size c.rows.inside.rows c.open_batch.new.rows c.rows.inside.awaits_batch c.in_ok-walks.walks.items c.rows.invariant.waiting c.in_ok-walks.ensures c.open_batch.ensures.rows
+    joined_as c.args.laid.now.value.tree c.args.size c.rows.inside.rows.items c.open_batch.new.rows.items c.rows.inside.awaits_batch c.in_ok-walks.walks.items c.rows.invariant.waiting c.in_ok-walks.ensures c.open_batch.ensures.rows
     ∙ ap (joined_first c.args.laid.now.value.tree c.args.size) c.rows.view_is

@@ -12,7 +12,7 @@ invariant_of-rows c =
 
 pub invariant_of-rows-2 : goal.invariant_of-rows-2
 invariant_of-rows-2 c =
-    sent_due c.args.ticket c.args.host c.rows.inside.sends c.ask_one.new.sends c.rows.inside.standings c.ask_one.new.standings c.rows.inside.batch c.rows.inside.awaits_batch c.rows.inside.out.items c.put_job.new.all.items c.rows.inside.rows c.send_row.new.rows
+    sent_due c.args.ticket c.args.host c.rows.inside.sends c.ask_one.new.sends c.rows.inside.standings c.ask_one.new.standings c.rows.inside.batch c.rows.inside.awaits_batch c.rows.inside.out.items c.put_job.new.all.items c.rows.inside.rows.items c.send_row.new.rows.items
     (subst (λ (all : List HostOf). at_row has_send all c.args.host.0 ≡ true) (sym c.rows.view_is) c.requires)
     c.rows.invariant
     c.send_row.ensures

@@ -10,5 +10,5 @@ pub returns : goal.returns
 returns c =
     c.some_under.ensures
     ∙ ap (list_any (is_under c.args.ticket)) (c.as_slice.ensures.value ∙ c.self.invariant.in_order)
-    ∙ under_out c.args.ticket c.self.inside.rows
+    ∙ under_out c.args.ticket c.self.inside.rows.items
     ∙ ap (λ (rows : List HostOf). list_any (has_ticket c.args.ticket) rows) c.self.view_is

@@ -10,5 +10,5 @@ pub returns : goal.returns
 returns c =
     c.first_job.ensures
     ∙ ap (λ (jobs : List (HostNo × Ticket)). slice_get jobs 0) (c.as_slice.ensures.value ∙ c.self.invariant.in_order)
-    ∙ oldest_first c.self.inside.rows
+    ∙ oldest_first c.self.inside.rows.items
     ∙ ap oldest_out c.self.view_is
