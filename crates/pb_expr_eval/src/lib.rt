@@ -13,4 +13,5 @@ pub mod eval;
 mod forms;
 pub mod messages;
 mod operand;
+mod outcomes;
 mod reading;

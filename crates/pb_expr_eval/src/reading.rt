@@ -6,19 +6,22 @@ ghost use Rattle.pb_value.specs.Reading.{and_then};
 ghost use Rattle.pb_expr_syntax.specs.Tree as tree;
 ghost use Rattle.pb_expr_syntax.specs.Tree.{trees_of};
 ghost use Rattle.pb_operators.specs.declared.fault.EvalFault.TheVariants as fault;
-ghost use Rattle.pb_expr_eval.specs.Value.{value, values, each, defaulted, apply};
+ghost use Rattle.pb_expr_eval.specs.Value.{value, values, each, defaulted, or_default, default_if, apply};
 ghost use Rattle.pb_template.specs.Computed.{template_of};
 ghost use Rattle.pb_expr_eval.specs.Rendering.{measured, templated, text_in, shown, render, rendered, rendered_items, rendered_members};
 ghost use Rattle.pb_expr_eval.specs.Scoped.{names_in};
 ghost use Rattle.pb_expr_eval.specs.Operand.{held};
 
-use crate::forms::{apply, decides, text_of};
+use crate::forms::{decides, text_of};
 use crate::operand::Operand;
+use crate::outcomes::{
+    append, applied, between, bracketed, copied, copied_text, defined, denied, listed, made, named,
+    negated, owned, part_of, push, put, replaces, within, worded,
+};
 use pb_expr_syntax::fault::ExprFault;
 use pb_expr_syntax::tree::{Expr, Filter, Form, Op};
 use pb_layers::scope::{Scope, has_templates};
 use pb_operators::fault::EvalFault;
-use pb_operators::operators::{binary, finished, negate, text_within};
 use pb_operators::parts::undefined;
 use pb_template::plain::is_plain;
 use pb_template::template::{Part, Template};
@@ -34,58 +37,30 @@ fn value(alloc: Global, scope: &Scope, levels: u32, expr: &Expr) -> Result<Val, 
     ensures fault { IfErr result (λ e. e ≢ fault.Memory → value (names_in scope.now levels) expr.now ≡ Err e) }
 {
     match &expr.form {
-        Form::Int(number) => Ok(Val::int(*number)),
-        Form::Text(text) => Ok(Val::text(text.try_clone()?)),
         Form::Name(name) => read(alloc, scope, levels, name.as_str()),
-        Form::Truth(truth) => Ok(Val::boolean(*truth)),
-        Form::Null => Ok(Val::null()),
-        Form::List(items) => Ok(Val::list(values(alloc, scope, levels, items.as_slice())?)),
-        Form::Member(x, name) => {
-            let part = membered(alloc, scope, levels, x, name.as_str())?;
-            Ok(part.into_val(alloc)?)
-        }
-        Form::Index(x, y) => {
-            let part = indexed(alloc, scope, levels, x, y)?;
-            Ok(part.into_val(alloc)?)
-        }
-        Form::Not(x) => {
-            let x = operand(alloc, scope, levels, x)?;
-            Ok(Val::boolean(!x.get().truthy()))
-        }
-        Form::Negate(x) => {
-            let x = operand(alloc, scope, levels, x)?;
-            negate(x.get())
-        }
-        Form::Binary(op, x, y) => operated(alloc, scope, levels, *op, x, y),
-        Form::Apply(Filter::Default, x, args) => {
-            let there = defaulted(alloc, scope, levels, x, args.as_slice())?;
-            Ok(there.into_val(alloc)?)
-        }
-        Form::Apply(filter, x, args) => filtered(alloc, scope, levels, *filter, x, args.as_slice()),
-        Form::IsDefined(x, present) => defined(alloc, scope, levels, x, *present),
+        _ => owned(alloc, operand(alloc, scope, levels, expr)),
     }
 }
 
 /// An operator between two operands; the second is read where the first doesn't decide.
 #[cycle(reading)]
 #[inline(never)]
-fn operated(
+fn operated<'a>(
     alloc: Global,
-    scope: &Scope,
+    scope: &Scope<'a>,
     levels: u32,
     op: Op,
     x: &Expr,
     y: &Expr,
-) -> Result<Val, EvalFault>
-    ensures value { IfOk result (λ v. value (names_in scope.now levels) (tree.Binary op x.now y.now) ≡ Ok v) }
+) -> Result<Operand<'a>, EvalFault>
+    ensures value { IfOk result (λ v. value (names_in scope.now levels) (tree.Binary op x.now y.now) ≡ Ok (held v)) }
     ensures fault { IfErr result (λ e. e ≢ fault.Memory → value (names_in scope.now levels) (tree.Binary op x.now y.now) ≡ Err e) }
 {
     let x = operand(alloc, scope, levels, x)?;
     if decides(op, x.get()) {
-        return Ok(x.into_val(alloc)?);
+        return Ok(x);
     }
-    let y = operand(alloc, scope, levels, y)?;
-    binary(alloc, op, x.get(), y.get())
+    between(alloc, op, x, operand(alloc, scope, levels, y))
 }
 
 /// The value of a name, where it is read as it is stored: its layer has no templates, or there is none in the value.
@@ -123,34 +98,26 @@ fn operand<'a>(
     ensures fault { IfErr result (λ e. e ≢ fault.Memory → value (names_in scope.now levels) expr.now ≡ Err e) }
 {
     match &expr.form {
+        Form::Int(number) => Ok(Operand::Made(Val::int(*number))),
+        Form::Text(text) => copied_text(text),
         Form::Name(name) => match stored(scope, levels, name.as_str()) {
             Some(value) => Ok(Operand::Lent(value)),
-            None => Ok(Operand::Made(read(alloc, scope, levels, name.as_str())?)),
+            None => made(read(alloc, scope, levels, name.as_str())),
         },
-        Form::Member(x, name) => membered(alloc, scope, levels, x, name.as_str()),
+        Form::Truth(truth) => Ok(Operand::Made(Val::boolean(*truth))),
+        Form::Null => Ok(Operand::Made(Val::null())),
+        Form::List(items) => made(listed(values(alloc, scope, levels, items.as_slice()))),
+        Form::Member(x, name) => part_of(alloc, operand(alloc, scope, levels, x), name.as_str()),
         Form::Index(x, y) => indexed(alloc, scope, levels, x, y),
+        Form::Not(x) => made(denied(operand(alloc, scope, levels, x))),
+        Form::Negate(x) => made(negated(operand(alloc, scope, levels, x))),
+        Form::Binary(op, x, y) => operated(alloc, scope, levels, *op, x, y),
         Form::Apply(Filter::Default, x, args) => {
             defaulted(alloc, scope, levels, x, args.as_slice())
         }
-        _ => Ok(Operand::Made(value(alloc, scope, levels, expr)?)),
+        Form::Apply(filter, x, args) => filtered(alloc, scope, levels, *filter, x, args.as_slice()),
+        Form::IsDefined(x, present) => made(defined(operand(alloc, scope, levels, x), *present)),
     }
-}
-
-/// The member of that name.
-#[cycle(reading)]
-#[inline(never)]
-fn membered<'a>(
-    alloc: Global,
-    scope: &Scope<'a>,
-    levels: u32,
-    x: &Expr,
-    name: &str,
-) -> Result<Operand<'a>, EvalFault>
-    ensures value { IfOk result (λ v. value (names_in scope.now levels) (tree.Member x.now name.now) ≡ Ok (held v)) }
-    ensures fault { IfErr result (λ e. e ≢ fault.Memory → value (names_in scope.now levels) (tree.Member x.now name.now) ≡ Err e) }
-{
-    let x = operand(alloc, scope, levels, x)?;
-    x.member(alloc, name)
 }
 
 /// The member under a key that is read.
@@ -167,27 +134,25 @@ fn indexed<'a>(
     ensures fault { IfErr result (λ e. e ≢ fault.Memory → value (names_in scope.now levels) (tree.Index x.now y.now) ≡ Err e) }
 {
     let x = operand(alloc, scope, levels, x)?;
-    let y = operand(alloc, scope, levels, y)?;
-    x.index(alloc, y.get())
+    bracketed(alloc, x, operand(alloc, scope, levels, y))
 }
 
 /// A filter but `default`.
 #[cycle(reading)]
 #[inline(never)]
-fn filtered(
+fn filtered<'a>(
     alloc: Global,
-    scope: &Scope,
+    scope: &Scope<'a>,
     levels: u32,
     filter: Filter,
     x: &Expr,
     args: &[Expr],
-) -> Result<Val, EvalFault>
-    ensures value { IfOk result (λ v. and_then (value (names_in scope.now levels) x.now) (λ a. and_then (values (names_in scope.now levels) (trees_of args.now)) (λ bs. apply filter a bs)) ≡ Ok v) }
+) -> Result<Operand<'a>, EvalFault>
+    ensures value { IfOk result (λ v. and_then (value (names_in scope.now levels) x.now) (λ a. and_then (values (names_in scope.now levels) (trees_of args.now)) (λ bs. apply filter a bs)) ≡ Ok (held v)) }
     ensures fault { IfErr result (λ e. e ≢ fault.Memory → and_then (value (names_in scope.now levels) x.now) (λ a. and_then (values (names_in scope.now levels) (trees_of args.now)) (λ bs. apply filter a bs)) ≡ Err e) }
 {
     let x = operand(alloc, scope, levels, x)?;
-    let args = values(alloc, scope, levels, args)?;
-    apply(alloc, filter, x.get(), args.as_slice())
+    applied(alloc, filter, x, values(alloc, scope, levels, args))
 }
 
 /// The values of expressions, from the first on.
@@ -199,7 +164,7 @@ fn values(alloc: Global, scope: &Scope, levels: u32, items: &[Expr]) -> Result<V
 {
     let mut values = Vec::with_capacity(alloc, items.len())?;
     for item in items {
-        values.push(value(alloc, scope, levels, item)?)?;
+        push(&mut values, value(alloc, scope, levels, item))?;
     }
     Ok(ValList::from_vec(values))
 }
@@ -222,43 +187,57 @@ fn defaulted<'a>(
 {
     match args {
         [] => Err(EvalFault::WrongKind),
-        [other] => match operand(alloc, scope, levels, x) {
-            Err(EvalFault::Undefined { name: _ }) => operand(alloc, scope, levels, other),
-            outcome => outcome,
-        },
-        [other, if_false] => match operand(alloc, scope, levels, x) {
-            Err(EvalFault::Undefined { name: _ }) => operand(alloc, scope, levels, other),
-            Err(fault) => Err(fault),
-            Ok(x) => {
-                let if_false = operand(alloc, scope, levels, if_false)?;
-                if if_false.get().truthy() && !x.get().truthy() {
-                    operand(alloc, scope, levels, other)
-                } else {
-                    Ok(x)
-                }
-            }
-        },
+        [other] => or_default(alloc, scope, levels, x, other),
+        [other, if_false] => default_if(alloc, scope, levels, x, other, if_false),
         [_, _, _, ..] => Err(EvalFault::WrongKind),
     }
 }
 
-/// Whether what is read is there, or isn't; another fault than that of a name stays.
+/// `default` with one argument, which is read where the operand is undefined.
 #[cycle(reading)]
 #[inline(never)]
-fn defined(
+fn or_default<'a>(
     alloc: Global,
-    scope: &Scope,
+    scope: &Scope<'a>,
     levels: u32,
     x: &Expr,
-    present: bool,
-) -> Result<Val, EvalFault>
-    ensures value { IfOk result (λ v. value (names_in scope.now levels) (tree.IsDefined x.now present) ≡ Ok v) }
-    ensures fault { IfErr result (λ e. e ≢ fault.Memory → value (names_in scope.now levels) (tree.IsDefined x.now present) ≡ Err e) }
+    other: &Expr,
+) -> Result<Operand<'a>, EvalFault>
+    ensures value { IfOk result (λ v. or_default (value (names_in scope.now levels) x.now) (value (names_in scope.now levels) other.now) ≡ Ok (held v)) }
+    ensures fault { IfErr result (λ e. e ≢ fault.Memory → or_default (value (names_in scope.now levels) x.now) (value (names_in scope.now levels) other.now) ≡ Err e) }
 {
     match operand(alloc, scope, levels, x) {
-        Ok(_) => Ok(Val::boolean(present)),
-        Err(EvalFault::Undefined { name: _ }) => Ok(Val::boolean(!present)),
+        Err(EvalFault::Undefined { name: _ }) => operand(alloc, scope, levels, other),
+        outcome => outcome,
+    }
+}
+
+/// `default` with two arguments: the first is also read where the operand isn't true and the second is.
+#[cycle(reading)]
+#[inline(never)]
+fn default_if<'a>(
+    alloc: Global,
+    scope: &Scope<'a>,
+    levels: u32,
+    x: &Expr,
+    other: &Expr,
+    if_false: &Expr,
+) -> Result<Operand<'a>, EvalFault>
+    ensures value { IfOk result
+        (λ v. default_if (value (names_in scope.now levels) x.now) (value (names_in scope.now levels) other.now) (value (names_in scope.now levels) if_false.now) ≡ Ok (held v)) }
+    ensures fault { IfErr result
+        (λ e. e ≢ fault.Memory → default_if (value (names_in scope.now levels) x.now) (value (names_in scope.now levels) other.now) (value (names_in scope.now levels) if_false.now) ≡ Err e) }
+{
+    match operand(alloc, scope, levels, x) {
+        Err(EvalFault::Undefined { name: _ }) => operand(alloc, scope, levels, other),
         Err(fault) => Err(fault),
+        Ok(x) => {
+            if replaces(&x, operand(alloc, scope, levels, if_false))? {
+                operand(alloc, scope, levels, other)
+            } else {
+                Ok(x)
+            }
+        }
     }
 }
 
@@ -278,7 +257,7 @@ fn read(alloc: Global, scope: &Scope, levels: u32, name: &str) -> Result<Val, Ev
             if has_templates(found.layer) {
                 rendered(alloc, scope, levels - 1, found.value)
             } else {
-                Ok(found.value.try_clone(alloc)?)
+                copied(alloc, found.value)
             }
         }
     }
@@ -300,13 +279,13 @@ pub(crate) fn rendered(
     match &stored.node {
         Node::Text(text) => {
             if is_plain(stored) {
-                return Ok(stored.try_clone(alloc)?);
+                return copied(alloc, stored);
             }
             templated(alloc, scope, levels, text.as_str())
         }
-        Node::List(items) => Ok(Val::list(rendered_items(alloc, scope, levels, items)?)),
-        Node::Dict(dict) => Ok(Val::dict(rendered_members(alloc, scope, levels, dict)?)),
-        _ => Ok(stored.try_clone(alloc)?),
+        Node::List(items) => listed(rendered_items(alloc, scope, levels, items)),
+        Node::Dict(dict) => named(rendered_members(alloc, scope, levels, dict)),
+        _ => copied(alloc, stored),
     }
 }
 
@@ -337,7 +316,7 @@ fn rendered_items(
 {
     let mut values = Vec::with_capacity(alloc, stored.len())?;
     for item in stored.as_slice() {
-        values.push(rendered(alloc, scope, levels, item)?)?;
+        push(&mut values, rendered(alloc, scope, levels, item))?;
     }
     Ok(ValList::from_vec(values))
 }
@@ -355,8 +334,7 @@ fn rendered_members(
 {
     let mut values = Dict::new(alloc);
     for (key, member) in stored.iter() {
-        let value = rendered(alloc, scope, levels, member)?;
-        values.insert(key.clone()?, value)?;
+        put(&mut values, key, rendered(alloc, scope, levels, member))?;
     }
     Ok(values)
 }
@@ -376,7 +354,7 @@ pub(crate) fn rendered_parts(
     match parts {
         [] => Ok(Val::text(Text::new(alloc))),
         [Part::Code(expr)] => measured(alloc, scope, levels, expr),
-        [_, ..] => text_within(shown(alloc, scope, levels, parts)?),
+        [_, ..] => worded(shown(alloc, scope, levels, parts)),
     }
 }
 
@@ -390,8 +368,7 @@ fn shown(alloc: Global, scope: &Scope, levels: u32, parts: &[Part]) -> Result<St
 {
     let mut text = String::new(alloc);
     for part in parts {
-        let more = text_in(alloc, scope, levels, part)?;
-        text.push_str(more.as_str())?;
+        append(&mut text, text_in(alloc, scope, levels, part))?;
     }
     Ok(text)
 }
@@ -422,5 +399,5 @@ pub(crate) fn measured(
     ensures value { IfOk result (λ v. measured (names_in scope.now levels) expr.now ≡ Ok v) }
     ensures fault { IfErr result (λ e. e ≢ fault.Memory → measured (names_in scope.now levels) expr.now ≡ Err e) }
 {
-    finished(value(alloc, scope, levels, expr)?)
+    within(value(alloc, scope, levels, expr))
 }

@@ -1,22 +1,25 @@
-use Rattle.std.proofs.Common.{◌≡◌, ◌+◌, ◌*◌, ◌-◌, ◌<◌, ◌≤◌, ℕ, true, List, [], ◌∷◌, ◌++◌, Some, string_bytes, sym, ap, ◌∙◌, subst, append_assoc, string_cmp, map, arith}
+use Rattle.std.proofs.Common.{◌≡◌, ◌+◌, ◌*◌, ◌-◌, ◌<◌, ◌≤◌, ℕ, true, false, List, [], ◌∷◌, ◌++◌, Some, Ok, IfOk, string_bytes, sym, ap, ◌∙◌, subst, append_assoc, string_cmp, map, arith}
 use Rattle.std.proofs.lemmas.Result.{IfOk-weaker, IfErr-weaker}
 use Rattle.std.specs.List.Sorted.{IsStrictlySortedBy}
 use Rattle.std.specs.Map.{keys_of}
-use Rattle.pb_value.specs.Datum.{Datum, named, items_of, members_of}
+use Rattle.pb_value.specs.Datum.{Datum, named, items_of, members_of, put}
 use Rattle.pb_value.specs.Reading.{map_ok}
 use Rattle.pb_expr_syntax.specs.Tree.{nodes}
 use Rattle.pb_layers.specs.Scope.{found, has_templates}
-use Rattle.pb_expr_eval.specs.Rendering.{rendered_members}
+use Rattle.pb_template.specs.Plain.{is_plain}
+use Rattle.pb_expr_eval.specs.Rendering.{rendered, rendered_members}
 use Rattle.pb_expr_eval.specs.Scoped.{names_in}
 use Rattle.pb_expr_eval.proofs.Members.{Entry, map_ok-none, put_after, rendered_members-step, keys_join}
-use Rattle.pb_expr_eval.proofs.Steps.{rendered_name}
+use Rattle.pb_expr_eval.proofs.Read.{taken}
+use Rattle.pb_expr_eval.proofs.Steps.{rendered_name, stored_name}
+use Rattle.pb_expr_eval.proofs.Unrendered.{plain_rendered}
 use Rattle.pb_expr_eval.proofs.Weights.{spent, part_weight, weight, items_weight, members_weight, nodes_at, weight_at, part_weight_at, member_weight, found_weight, look_up_spends}
 use Rattle.pb_expr_eval.proofs.reading.+reading.Goals as goal
 
 pub values-value-requires : goal.values-value-requires
 values-value-requires t c =
     let w = nodes_at c.args.items.now c.loop-item.item-index c.item-item.result c.loop-item-test.true c.item-item.is in
-    let h : spent c.args.scope.now c.args.levels + 4 * nodes c.item-item.result < t = omega (arith, w) in
+    let h : spent c.args.scope.now c.args.levels + (4 * nodes c.item-item.result + 2) < t = omega (arith, w) in
     (h, tt)
 
 pub shown-text_in-requires : goal.shown-text_in-requires
@@ -49,18 +52,19 @@ rendered_members-loop-key-preserved t c =
     let done = l.invariant.0 in
     let e : Entry = (c.in-Some.key.now, c.in-Some.member.now) in
     let left = c.next.new.self in
-    let x : Datum = c.in_ok-value.value in
     let k : List ℕ = string_bytes e.0 in
-    let named_so : string_bytes c.in_ok-clone.field-0 ≡ k = c.in_ok-clone.ensures.cases in
+    let read = taken (λ d. put k d l.values) c.rendered.result c.put.new.to c.in_ok-put.ensures.value in
+    let x : Datum = read.0 in
+    let value_so = subst (λ r. IfOk r (λ v. rendered (names_in c.args.scope.now c.args.levels) e.1 ≡ Ok v)) read.1 c.rendered.ensures.value in
     let step : done ++ l.key-iterator ≡ (done ++ e ∷ []) ++ left = ap (λ es. done ++ es) c.in-Some.ensures.steps ∙ sym (append_assoc done (e ∷ []) left) in
     let sorted : IsStrictlySortedBy string_cmp (keys_of (done ++ e ∷ left)) = subst (λ es. IsStrictlySortedBy string_cmp (keys_of (done ++ es))) c.in-Some.ensures.steps l.invariant.2 in
-    let last : c.insert.new.self ≡ l.values ++ (k, x) ∷ [] = c.in_ok-insert.ensures.ok ∙ rw named_so (put_after done l.values e left x l.invariant.3 sorted) in (
+    let last : c.put.new.to ≡ l.values ++ (k, x) ∷ [] = sym read.2 ∙ put_after done l.values e left x l.invariant.3 sorted in (
       done ++ e ∷ [],
       l.invariant.1 ∙ ap named step,
       subst (λ es. IsStrictlySortedBy string_cmp (keys_of es)) step l.invariant.2,
       ap (map (λ (m : List ℕ × Datum). m.0)) last ∙ keys_join done l.values e x l.invariant.3,
       l.invariant.4 ∙ ap (λ es. map_ok (λ xs. l.values ++ xs) (rendered_members (names_in c.args.scope.now c.args.levels) (members_of (named es)))) c.in-Some.ensures.steps
-          ∙ rendered_members-step (names_in c.args.scope.now c.args.levels) e left l.values x c.in_ok-value.ensures.value
+          ∙ rendered_members-step (names_in c.args.scope.now c.args.levels) e left l.values x value_so
           ∙ ap (λ out. map_ok (λ xs. out ++ xs) (rendered_members (names_in c.args.scope.now c.args.levels) (members_of (named left)))) (sym last),
     )
 
@@ -99,3 +103,15 @@ rendered_members-loop-key-init t c =
           ∙ sym (map_ok-none (rendered_members names (members_of (named c.into_iter-key-iterator.result))))
           ∙ ap (λ (out : List (List ℕ × Datum)). map_ok (λ xs. out ++ xs) (rendered_members names (members_of (named c.into_iter-key-iterator.result)))) (sym none),
     )
+
+pub read-returns-else-has_templates-clause-value : goal.read-returns-else-has_templates-clause-value
+read-returns-else-has_templates-clause-value t c =
+    let f : found c.args.name.now c.args.scope.now ≡ Some (c.in-Some.found.layer, c.in-Some.found.value.now) = sym c.in-Some.ensures in
+    let false_so : has_templates c.in-Some.found.layer ≡ false = cc in
+    let step = stored_name c.args.scope.now c.args.levels c.args.name.now (c.in-Some.found.layer, c.in-Some.found.value.now) (omega arith) f false_so in
+    IfOk-weaker c.copied.result _ _ (λ v h. step ∙ ap Ok (sym h)) c.copied.ensures.value
+
+pub rendered-returns-then-is_plain-clause-value : goal.rendered-returns-then-is_plain-clause-value
+rendered-returns-then-is_plain-clause-value t c =
+    let plain : is_plain c.args.stored.now ≡ true = cc in
+    IfOk-weaker c.copied.result _ _ (λ v h. plain_rendered (names_in c.args.scope.now c.args.levels) c.args.stored.now plain ∙ ap Ok (sym h)) c.copied.ensures.value

@@ -13,7 +13,7 @@ use Rattle.pb_expr_eval.proofs.Weights.{spent, part_weight, parts_weight, templa
 use Rattle.pb_expr_eval.proofs.reading.+reading.Given as goal
 
 abbrev pub decreases-value : goal.decreases-value
-decreases-value l = spent l.scope.now l.levels + 4 * nodes l.expr.now
+decreases-value l = spent l.scope.now l.levels + (4 * nodes l.expr.now + 2)
 
 abbrev pub decreases-operated : goal.decreases-operated
 decreases-operated l = spent l.scope.now l.levels + (4 * (nodes l.x.now + nodes l.y.now) + 2)
@@ -21,23 +21,23 @@ decreases-operated l = spent l.scope.now l.levels + (4 * (nodes l.x.now + nodes 
 abbrev pub decreases-operand : goal.decreases-operand
 decreases-operand l = spent l.scope.now l.levels + (4 * nodes l.expr.now + 1)
 
-abbrev pub decreases-membered : goal.decreases-membered
-decreases-membered l = spent l.scope.now l.levels + (4 * nodes l.x.now + 2)
-
 abbrev pub decreases-indexed : goal.decreases-indexed
 decreases-indexed l = spent l.scope.now l.levels + (4 * (nodes l.x.now + nodes l.y.now) + 2)
 
 abbrev pub decreases-filtered : goal.decreases-filtered
-decreases-filtered l = spent l.scope.now l.levels + (4 * (nodes l.x.now + trees_nodes (trees_of l.args.now)) + 2)
+decreases-filtered l = spent l.scope.now l.levels + (4 * (nodes l.x.now + trees_nodes (trees_of l.args.now)) + 4)
 
 abbrev pub decreases-values : goal.decreases-values
-decreases-values l = spent l.scope.now l.levels + (4 * trees_nodes (trees_of l.items.now) + 1)
+decreases-values l = spent l.scope.now l.levels + (4 * trees_nodes (trees_of l.items.now) + 3)
 
 abbrev pub decreases-defaulted : goal.decreases-defaulted
-decreases-defaulted l = spent l.scope.now l.levels + (4 * (nodes l.x.now + trees_nodes (trees_of l.args.now)) + 2)
+decreases-defaulted l = spent l.scope.now l.levels + (4 * (nodes l.x.now + trees_nodes (trees_of l.args.now)) + 4)
 
-abbrev pub decreases-defined : goal.decreases-defined
-decreases-defined l = spent l.scope.now l.levels + (4 * nodes l.x.now + 2)
+abbrev pub decreases-or_default : goal.decreases-or_default
+decreases-or_default l = spent l.scope.now l.levels + (4 * (nodes l.x.now + nodes l.other.now) + 3)
+
+abbrev pub decreases-default_if : goal.decreases-default_if
+decreases-default_if l = spent l.scope.now l.levels + (4 * (nodes l.x.now + nodes l.other.now + nodes l.if_false.now) + 3)
 
 abbrev pub decreases-read : goal.decreases-read
 decreases-read l = spent l.scope.now l.levels + 1
@@ -61,7 +61,7 @@ abbrev pub decreases-shown : goal.decreases-shown
 decreases-shown l = spent l.scope.now l.levels + (4 * parts_weight l.parts.now + 2)
 
 abbrev pub decreases-measured : goal.decreases-measured
-decreases-measured l = spent l.scope.now l.levels + (4 * nodes l.expr.now + 1)
+decreases-measured l = spent l.scope.now l.levels + (4 * nodes l.expr.now + 3)
 
 abbrev pub decreases-text_in : goal.decreases-text_in
 decreases-text_in l = spent l.scope.now l.levels + (4 * part_weight l.part.now + 1)
