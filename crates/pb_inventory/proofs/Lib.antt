@@ -8,5 +8,6 @@ pub mod Lasts
 pub mod Mentioned
 pub mod Once
 pub mod Ranges
+pub mod Spelt
 pub mod Texts
 pub mod Whole

@@ -1,5 +1,5 @@
 -- What an inventory is, once its groups and hosts are few enough.
-use Rattle.std.proofs.Common.{◌≡◌, ◌<◌, ◌≤◌, ℕ, Bool, true, false, List, length, arith, refl, ap, sym, ◌∙◌}
+use Rattle.std.proofs.Common.{◌≡◌, ◌<◌, ◌≤◌, ℕ, Bool, true, false, List, length, refl, ap, sym, ◌∙◌}
 use Rattle.std.specs.Prelude.{Ok, Err}
 use Rattle.std.proofs.lemmas.Bool.{le-leb}
 use Rattle.pb_groups.specs.Depths.{IsEndless}
@@ -64,6 +64,3 @@ own_within listed names hosts own n m o en em = rw (o, en, em) (own_below names 
 
 pub links_within : (listed : List Listed) (names : List (List ℕ)) (links : List ChildLink) (n : ℕ) → links ≡ links_of names listed → n ≡ length names → AreLinksBelow links n
 links_within listed names links n l en = rw (l, en) (links_below names listed)
-
-pub few : (n limit : ℕ) (xs : List (List ℕ)) → n ≤ limit → n ≡ length xs → length xs ≤ limit
-few n limit xs w is = omega (arith, w, is)

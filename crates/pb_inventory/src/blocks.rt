@@ -3,16 +3,32 @@
 ghost use Rattle.std.specs.Prelude.{◌≡◌, ◌<◌, ◌≤◌, ◌+◌, ◌*◌, ◌/◌, ◌++◌, ◌∷◌, ◌^◌, [], ℕ, if◌then◌else◌, length, replicate, slice_index_or, IfOk, OnOk};
 ghost use Rattle.std.specs.List.{All};
 ghost use Rattle.pb_inventory.specs.ByBlock.{AreBlocks, has_some_of};
+ghost use Rattle.pb_groups.specs.Merging.{in_order};
 ghost use Rattle.pb_inventory.specs.GraphOf.{numbered};
+ghost use Rattle.pb_inventory.specs.Vars.{priorities_in};
 
 use crate::graph::Graph;
+use crate::named::Named;
+use crate::vars::GroupVars;
 use pb_ids::GroupNo;
 use pb_planes::HostSet;
 use pb_value::items::Items;
 use std::alloc::{AllocError, Global};
 
+/// Of each 64 hosts the groups that have one of them, in the order in which their variables merge.
+pub(crate) fn ordered_blocks(
+    alloc: Global,
+    graph: &Graph,
+    vars: &Named<GroupVars>,
+) -> Result<Vec<Items<GroupNo>>, AllocError>
+    ensures { IfOk result (λ blocks. AreBlocks (numbered graph.now) (in_order (numbered graph.now) (priorities_in vars.now graph.now.groups)) blocks.items) }
+{
+    let order = graph.in_order(alloc, vars)?;
+    blocks_of(alloc, graph, order.as_slice())
+}
+
 /// Of each 64 hosts those of the groups, in their order, that have one of them.
-pub(crate) fn blocks_of(
+fn blocks_of(
     alloc: Global,
     graph: &Graph,
     order: &[GroupNo],

@@ -4,7 +4,7 @@ ghost use Rattle.std.specs.Str.{bytes_eq};
 ghost use Rattle.pb_planes.specs.Set.{is_in};
 ghost use Rattle.pb_groups.specs.Members.{IsMember};
 ghost use Rattle.pb_groups.specs.MemberSets.{members_of};
-ghost use Rattle.pb_inventory.specs.Graph.{max_groups};
+ghost use Rattle.pb_inventory.specs.Graph.{max_groups, group_names, host_names, own_of};
 ghost use Rattle.std.specs.List.{All};
 ghost use Rattle.pb_groups.specs.Merging.{in_order, with_host, has_member};
 ghost use Rattle.pb_inventory.specs.GraphOf.{numbered};
@@ -62,6 +62,60 @@ impl Model for Graph {
         × (i.groups ≡ record { hosts = length i.hosts; groups = length i.names; own = i.own.items; links = i.groups.links }) };
 }
 
+/// The names of the groups, if they aren't too many.
+fn few_groups(alloc: Global, listed: &[Listed]) -> Result<NameList, InvFault>
+    ensures names { IfOk result (λ names. names ≡ group_names listed.now) }
+    ensures few { IfOk result (λ names. length names ≤ 4096) }
+    ensures fault { IfErr result (λ e. e ≢ InvFault.Memory → graph_in listed.now ≡ Err e) }
+{
+    let names = group_names_of(alloc, listed)?;
+    if names.len() > MAX_GROUPS {
+        return Err(InvFault::TooManyGroups);
+    }
+    Ok(names)
+}
+
+/// The names of the hosts, if they aren't too many.
+fn few_hosts(alloc: Global, listed: &[Listed]) -> Result<NameList, InvFault>
+    requires { length (group_names listed.now) ≤ 4096 }
+    ensures names { IfOk result (λ names. names ≡ host_names listed.now) }
+    ensures few { IfOk result (λ names. length names ≤ 1048576) }
+    ensures fault { IfErr result (λ e. e ≢ InvFault.Memory → graph_in listed.now ≡ Err e) }
+{
+    let hosts = host_names_of(alloc, listed)?;
+    if hosts.len() > MAX_HOSTS {
+        return Err(InvFault::TooManyHosts);
+    }
+    Ok(hosts)
+}
+
+/// The groups by their numbers, or the fault that a group is below itself.
+fn linked(
+    alloc: Global,
+    names: &NameList,
+    hosts: &NameList,
+    own: &[OwnHost],
+    listed: &[Listed],
+) -> Result<Groups, InvFault>
+    requires names { names.now ≡ group_names listed.now }
+    requires hosts { hosts.now ≡ host_names listed.now }
+    requires own { own.now ≡ own_of names.now hosts.now listed.now }
+    requires few_groups { length names.now ≤ 4096 }
+    requires few_hosts { length hosts.now ≤ 1048576 }
+    ensures groups { IfOk result (λ g. g ≡ record { hosts = length hosts.now; groups = length names.now; own = own.now; links = g.links }) }
+    ensures graph { IfOk result (λ g. graph_in listed.now ≡ Ok (record { hosts = hosts.now; groups = names.now; own = own.now; links = g.links })) }
+    ensures fault { IfErr result (λ e. e ≢ InvFault.Memory → graph_in listed.now ≡ Err e) }
+{
+    let links = links_of(alloc, names, listed)?;
+    let kept = Vec::from_slice(alloc, own)?;
+    match Groups::new(alloc, hosts.len() as u32, names.len() as u32, kept, links) {
+        Ok(groups) => Ok(groups),
+        Err(GroupFault::Memory) => Err(InvFault::Memory),
+        Err(GroupFault::Cycle) => Err(InvFault::Cycle),
+        Err(GroupFault::TooMany) => Err(InvFault::TooManyGroups),
+    }
+}
+
 impl Graph {
     /// The hosts and groups that are listed, or the first fault: too many groups, too many hosts,
     /// a cycle.
@@ -69,27 +123,17 @@ impl Graph {
         ensures value { IfOk result (λ graph. graph_in listed.now ≡ Ok graph) }
         ensures fault { IfErr result (λ e. e ≢ InvFault.Memory → graph_in listed.now ≡ Err e) }
     {
-        let names = group_names_of(alloc, listed)?;
-        if names.len() > MAX_GROUPS {
-            return Err(InvFault::TooManyGroups);
-        }
-        let hosts = host_names_of(alloc, listed)?;
-        if hosts.len() > MAX_HOSTS {
-            return Err(InvFault::TooManyHosts);
-        }
+        let names = few_groups(alloc, listed)?;
+        let hosts = few_hosts(alloc, listed)?;
         let own = own_of(alloc, &names, &hosts, listed)?;
-        let links = links_of(alloc, &names, listed)?;
-        let kept = Vec::from_slice(alloc, own.as_slice())?;
-        match Groups::new(alloc, hosts.len() as u32, names.len() as u32, kept, links) {
+        match linked(alloc, &names, &hosts, own.as_slice(), listed) {
             Ok(groups) => Ok(Graph {
                 hosts,
                 names,
                 own,
                 groups,
             }),
-            Err(GroupFault::Memory) => Err(InvFault::Memory),
-            Err(GroupFault::Cycle) => Err(InvFault::Cycle),
-            Err(GroupFault::TooMany) => Err(InvFault::TooManyGroups),
+            Err(fault) => Err(fault),
         }
     }
 

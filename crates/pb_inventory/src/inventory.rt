@@ -4,11 +4,13 @@ ghost use Rattle.std.specs.Str.{bytes_eq};
 ghost use Rattle.pb_planes.specs.Set.{is_in};
 ghost use Rattle.pb_groups.specs.Members.{IsMember};
 ghost use Rattle.pb_inventory.specs.Graph.{max_groups};
-ghost use Rattle.pb_inventory.specs.Reading.{inventory_of, max_hosts, limited, with_vars};
+ghost use Rattle.pb_inventory.specs.Reading.{inventory_of, file_in, max_hosts, limited, with_vars};
+ghost use Rattle.pb_value.specs.Reading.{and_then};
+ghost use Rattle.serde_json.specs.View.{view};
 ghost use Rattle.pb_inventory.specs.MemberSets.{members_in};
 ghost use Rattle.pb_inventory.specs.Mentioned.{AreGroupsIn};
 
-use crate::blocks::blocks_of;
+use crate::blocks::ordered_blocks;
 use crate::fault::InvFault;
 use crate::graph::Graph;
 use crate::listed::FileEntries;
@@ -21,6 +23,7 @@ use pb_planes::HostSet;
 use pb_value::items::Items;
 use pb_value::read_json::{JsonFault, read_json};
 use pb_value::val::Dict;
+use serde_json::Value;
 use std::alloc::{AllocError, Global};
 use std::marker::Model;
 
@@ -113,12 +116,19 @@ impl Inventory {
         ensures fault { IfErr result (λ e. e ≢ InvFault.Memory → inventory_of bytes.now ≡ Err e) }
     {
         match read_json(alloc, bytes) {
-            Ok(json) => {
-                let file = read_file(alloc, &json)?;
-                Inventory::of(alloc, file)
-            }
+            Ok(json) => Inventory::told(alloc, &json),
             Err(JsonFault::NotJson) => Err(InvFault::NotJson),
             Err(JsonFault::Memory) => Err(InvFault::Memory),
+        }
+    }
+
+    fn told(alloc: Global, json: &Value) -> Result<Inventory, InvFault>
+        ensures value { IfOk result (λ inventory. and_then (file_in (view json.now)) limited ≡ Ok inventory) }
+        ensures fault { IfErr result (λ e. e ≢ InvFault.Memory → and_then (file_in (view json.now)) limited ≡ Err e) }
+    {
+        match read_file(alloc, json) {
+            Ok(file) => Inventory::of(alloc, file),
+            Err(fault) => Err(fault),
         }
     }
 
@@ -133,8 +143,7 @@ impl Inventory {
     fn with_vars(alloc: Global, graph: Graph, file: FileEntries) -> Result<Inventory, AllocError>
         ensures { IfOk result (λ inventory. inventory ≡ with_vars graph file.group_vars file.host_vars) }
     {
-        let order = graph.in_order(alloc, &file.group_vars)?;
-        let blocks = blocks_of(alloc, &graph, order.as_slice())?;
+        let blocks = ordered_blocks(alloc, &graph, &file.group_vars)?;
         let vars = AllVars::of(alloc, file, blocks);
         Ok(Inventory {
             graph: Box::new(alloc, graph)?,

@@ -4,6 +4,7 @@ ghost use Rattle.std.specs.Option.{option_copied};
 ghost use Rattle.pb_value.specs.Datum.{named};
 ghost use Rattle.pb_inventory.specs.Named.{under, with_entry};
 
+use crate::names::push_text;
 use indexmap::IndexMap;
 use pb_value::items::Items;
 use pb_value::text::Text;
@@ -65,7 +66,7 @@ fn names_of<T>(alloc: Global, map: &IndexMap<String, T>) -> Result<Items<Text>, 
 {
     let mut names = Items::new(alloc);
     for name in map.keys() {
-        names.push(Text::from_str(alloc, name.as_str())?)?;
+        push_text(alloc, &mut names, name.as_str())?;
     }
     Ok(names)
 }

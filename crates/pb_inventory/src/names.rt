@@ -1,4 +1,4 @@
-ghost use Rattle.std.specs.Prelude.{◌≡◌, [], length, position, slice_get, string_bytes, IfOk, OnOk, OnErr};
+ghost use Rattle.std.specs.Prelude.{◌≡◌, [], ◌∷◌, ◌++◌, length, position, slice_get, string_bytes, IfOk, OnOk, OnErr};
 ghost use Rattle.std.specs.Option.{option_map};
 ghost use Rattle.std.specs.Str.{bytes_eq};
 ghost use Rattle.pb_inventory.specs.Names.{with_name, texts};
@@ -7,6 +7,8 @@ ghost use Rattle.pb_inventory.specs.Vars.{priorities_in, vars_under};
 use crate::named::Named;
 use crate::vars::GroupVars;
 use indexmap::IndexSet;
+use pb_value::items::Items;
+use pb_value::text::Text;
 use std::alloc::{AllocError, Global};
 use std::marker::Model;
 
@@ -74,12 +76,26 @@ impl NameList {
         Ok(())
     }
 
+    /// Gives a new name the next number; a copy is made of it.
+    pub fn put(&mut self, alloc: Global, name: &str) -> Result<(), AllocError>
+        ensures { OnOk result (self.new ≡ with_name name.now self.old) }
+    {
+        self.insert(String::from_str(alloc, name)?)
+    }
+
     /// The priorities of groups of these names.
     pub fn priorities(&self, alloc: Global, vars: &Named<GroupVars>) -> Result<Vec<i64>, AllocError>
         ensures { IfOk result (λ v. v.items ≡ priorities_in vars.now self.now) }
     {
         priorities_of(alloc, &self.set, vars)
     }
+}
+
+/// Puts a copy of a text behind others.
+pub(crate) fn push_text(alloc: Global, to: &mut Items<Text>, text: &str) -> Result<(), AllocError>
+    ensures { OnOk result (to.new ≡ to.old ++ text.now ∷ []) }
+{
+    to.push(Text::from_str(alloc, text)?)
 }
 
 fn priorities_of(

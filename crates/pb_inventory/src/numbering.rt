@@ -1,8 +1,8 @@
-ghost use Rattle.std.specs.Prelude.{◌≡◌, [], ◌∷◌, codes, ◌<◌, ◌≤◌, ◌^◌, ◌++◌, length, map, filter, IfOk, OnOk};
+ghost use Rattle.std.specs.Prelude.{◌≡◌, [], ◌<◌, ◌^◌, ◌++◌, length, map, filter, IfOk, OnOk};
 ghost use Rattle.std.specs.List.{range_with_len};
 ghost use Rattle.pb_groups.specs.Ways.{link};
 ghost use Rattle.pb_groups.specs.Members.{own_of as own};
-ghost use Rattle.pb_inventory.specs.Names.{with_name, with_names, in_place};
+ghost use Rattle.pb_inventory.specs.Names.{with_names, in_place};
 ghost use Rattle.pb_inventory.specs.Graph.{host_names, group_names, numbers_of, own_listed, links_listed, listed_hosts, own_under, links_under, group_number, number_first, missing, is_unmarked, own_of, links_of, all, ungrouped};
 
 use crate::listed::Listed;
@@ -17,7 +17,7 @@ fn add_names(alloc: Global, known: &mut NameList, names: &[Text]) -> Result<(), 
     ensures { OnOk result (known.new ≡ with_names names.now known.old) }
 {
     for name in names {
-        known.insert(String::from_str(alloc, name.as_str())?)?;
+        known.put(alloc, name.as_str())?;
     }
     Ok(())
 }
@@ -40,7 +40,7 @@ pub fn group_names_of(alloc: Global, listed: &[Listed]) -> Result<NameList, Allo
 {
     let mut names = first_groups(alloc)?;
     for group in listed {
-        names.insert(String::from_str(alloc, group.name.as_str())?)?;
+        names.put(alloc, group.name.as_str())?;
         names.insert_all(alloc, group.children.as_slice())?;
     }
     names.to_list(alloc)
@@ -50,8 +50,8 @@ fn first_groups(alloc: Global) -> Result<SortedNames, AllocError>
     ensures { IfOk result (λ names. names ≡ in_place ungrouped (in_place all [])) }
 {
     let mut names = SortedNames::new(alloc);
-    names.insert(String::from_str(alloc, "all")?)?;
-    names.insert(String::from_str(alloc, "ungrouped")?)?;
+    names.put(alloc, "all")?;
+    names.put(alloc, "ungrouped")?;
     Ok(names)
 }
 
@@ -212,12 +212,32 @@ pub fn own_of(
     ensures { IfOk result (λ v. v.items ≡ own_of groups.now hosts.now listed.now) }
 {
     let mut own = own_listed_of(alloc, groups, hosts, listed)?;
-    let grouped = hosts_of(alloc, own.as_slice())?;
-    let ungrouped = missing_of(alloc, grouped.as_slice(), hosts.len() as u32)?;
-    let all = numbers_below(alloc, hosts.len() as u32)?;
-    push_own_of(&mut own, groups, "all", all.as_slice())?;
+    let ungrouped = ungrouped_of(alloc, own.as_slice(), hosts.len() as u32)?;
+    push_all(alloc, &mut own, groups, hosts.len() as u32)?;
     push_own_of(&mut own, groups, "ungrouped", ungrouped.as_slice())?;
     Ok(own)
+}
+
+/// The hosts that have no group.
+fn ungrouped_of(alloc: Global, own: &[OwnHost], hosts: u32) -> Result<Vec<u32>, AllocError>
+    ensures { IfOk result (λ v. v.items ≡ missing (map (λ o. o.host.0) own.now) hosts) }
+{
+    let grouped = hosts_of(alloc, own)?;
+    missing_of(alloc, grouped.as_slice(), hosts)
+}
+
+/// Adds all hosts as own hosts of the group `all`.
+fn push_all(
+    alloc: Global,
+    to: &mut Vec<OwnHost>,
+    groups: &NameList,
+    hosts: u32,
+) -> Result<(), AllocError>
+    requires { length groups.now < 2 ^ 32 }
+    ensures { OnOk result (to.new.items ≡ to.old.items ++ own_under (group_number groups.now all) (range_with_len 0 hosts)) }
+{
+    let numbers = numbers_below(alloc, hosts)?;
+    push_own_of(to, groups, "all", numbers.as_slice())
 }
 
 fn hosts_of(alloc: Global, own: &[OwnHost]) -> Result<Vec<u32>, AllocError>
@@ -240,10 +260,18 @@ pub fn links_of(
     ensures { IfOk result (λ v. v.items ≡ links_of groups.now listed.now) }
 {
     let mut links = links_listed_of(alloc, groups, listed)?;
-    let children = children_of(alloc, groups, links.as_slice())?;
-    let tops = missing_of(alloc, children.as_slice(), groups.len() as u32)?;
+    let tops = tops_of(alloc, groups, links.as_slice())?;
     push_links_of(&mut links, groups, "all", tops.as_slice())?;
     Ok(links)
+}
+
+/// The groups other than `all` that are nobody's child.
+fn tops_of(alloc: Global, groups: &NameList, links: &[ChildLink]) -> Result<Vec<u32>, AllocError>
+    requires { length groups.now < 2 ^ 32 }
+    ensures { IfOk result (λ v. v.items ≡ missing (number_first (group_number groups.now all) (map (λ l. l.child.0) links.now)) (length groups.now)) }
+{
+    let children = children_of(alloc, groups, links)?;
+    missing_of(alloc, children.as_slice(), groups.len() as u32)
 }
 
 /// The group `all` and the children of the links.

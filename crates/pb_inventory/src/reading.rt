@@ -1,6 +1,5 @@
 ghost use Rattle.std.specs.Prelude.{◌≡◌, ◌≢◌, IfOk, IfErr, OnOk, Ok, Err};
 ghost use Rattle.serde_json.specs.View.{view};
-ghost use Rattle.pb_reading.specs.Reading.{Gives};
 ghost use Rattle.pb_inventory.specs.Reading.{no_groups, with_entry_of, with_group, file, file_in};
 
 use crate::fault::InvFault;
@@ -46,11 +45,9 @@ impl FileGroups {
     fn add(&mut self, alloc: Global, name: &str, entry: GroupEntry) -> Result<(), AllocError>
         ensures { OnOk result (self.new ≡ with_group name.now entry self.old) }
     {
-        let key = String::from_str(alloc, name)?;
         let (listed, vars) = entry.under(Text::from_str(alloc, name)?);
-        self.vars.insert(key, vars)?;
         self.listed.push(listed)?;
-        Ok(())
+        self.vars.insert(String::from_str(alloc, name)?, vars)
     }
 
     fn with_host_vars(self, host_vars: Named<Dict>) -> FileEntries

@@ -46,12 +46,19 @@ impl SortedNames {
         Ok(())
     }
 
+    /// Puts a copy of a name at its place.
+    pub fn put(&mut self, alloc: Global, name: &str) -> Result<(), AllocError>
+        ensures { OnOk result (self.new ≡ in_place name.now self.old) }
+    {
+        self.insert(String::from_str(alloc, name)?)
+    }
+
     /// Puts each of the names at its place.
     pub fn insert_all(&mut self, alloc: Global, names: &[Text]) -> Result<(), AllocError>
         ensures { OnOk result (self.new ≡ all_in_place names.now self.old) }
     {
         for name in names {
-            self.insert(String::from_str(alloc, name.as_str())?)?;
+            self.put(alloc, name.as_str())?;
         }
         Ok(())
     }
@@ -69,7 +76,7 @@ fn list_of(alloc: Global, names: &BTreeSet<String>) -> Result<NameList, AllocErr
 {
     let mut list = NameList::new(alloc);
     for name in names.iter() {
-        list.insert(name.clone()?)?;
+        list.put(alloc, name.as_str())?;
     }
     Ok(list)
 }

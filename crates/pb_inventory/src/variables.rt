@@ -4,6 +4,7 @@ ghost use Rattle.pb_value.specs.Datum.{value_at};
 ghost use Rattle.pb_inventory.specs.Vars.{groups_of_host, vars_from_groups, last_given, vars_of_host, vars_of_group, group_name, put_vars, put_groups, strangers, is_host, is_named, names_of_groups, names_of_hosts};
 
 use crate::inventory::Inventory;
+use crate::names::push_text;
 use crate::vars::{Variable, put_vars};
 use pb_ids::{GroupNo, HostNo};
 use pb_value::items::Items;
@@ -141,7 +142,7 @@ impl Inventory {
         ensures { OnOk result (names.new ≡ names.old ++ (if is_named self.now host.0 group.0 then group_name self.now group.0 ∷ [] else [])) }
     {
         if self.is_named(group, host) {
-            names.push(Text::from_str(alloc, self.group_name(group))?)?;
+            push_text(alloc, names, self.group_name(group))?;
         }
         Ok(())
     }
@@ -165,7 +166,7 @@ impl Inventory {
         let mut names = Items::new(alloc);
         let mut from = 0;
         while let Some(host) = members.next_at(from) {
-            names.push(Text::from_str(alloc, self.name(host))?)?;
+            push_text(alloc, &mut names, self.name(host))?;
             from = host.0 + 1;
         }
         Ok(names)

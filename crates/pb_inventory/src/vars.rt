@@ -122,8 +122,8 @@ pub fn put_vars(alloc: Global, vars: &[Variable], known: &mut Dict) -> Result<()
     ensures { OnOk result (known.new ≡ put_vars vars.now known.old) }
 {
     for variable in vars {
-        let name = String::from_str(alloc, variable.name.as_str())?;
-        known.insert(name, variable.value.try_clone(alloc)?)?;
+        let value = variable.value.try_clone(alloc)?;
+        known.put(alloc, variable.name.as_str(), value)?;
     }
     Ok(())
 }

@@ -25,9 +25,9 @@ loop-host-preserved c =
     record {
       within = omega (arith, inside, width);
       names =
-          c.in_ok-push.ensures.ok
-          ∙ ap (λ (before : List (List ℕ)). before ++ c.in_ok-from_str.field-0 ∷ []) c.loop-host.invariant.names
-          ∙ ap (λ (name : List ℕ). map names (filter is_there (range_with_len 0 c.loop-host.from)) ++ name ∷ []) (c.in_ok-from_str.ensures ∙ sym (get_or_from_slice_get c.args.self.now.hosts c.in-Some.host.0 c.name.result.now [] c.name.ensures))
+          c.in_ok-push_text.ensures
+          ∙ ap (λ (before : List (List ℕ)). before ++ c.name.result.now ∷ []) c.loop-host.invariant.names
+          ∙ ap (λ (name : List ℕ). map names (filter is_there (range_with_len 0 c.loop-host.from)) ++ name ∷ []) (sym (get_or_from_slice_get c.args.self.now.hosts c.in-Some.host.0 c.name.result.now [] c.name.ensures))
           ∙ sym (next_joins names is_there c.loop-host.from c.in-Some.host.0 (c.in-Some.host.0 + 1) next.0 (passes (graph_of c.args.self.now) c.args.group.0 c.in-Some.host.0 members set width next.1)
           (λ i low high. passes_not (graph_of c.args.self.now) c.args.group.0 i members set (omega (arith, high, inside, width)) (next.2 i low high)) refl);
     }
