@@ -1,7 +1,7 @@
 -- The role that an entry names, by what was read of it.
 use Rattle.std.proofs.Common.{◌≡◌, ◌∙◌, ℕ, Bool, true, false, ◌&&◌, not, List, [], Some, None, Result, Ok, Err, refl, ap, sym, subst}
 use Rattle.std.specs.Result.{IsErrAnd}
-use Rattle.pb_value.specs.Reading.{map_ok}
+use Rattle.pb_value.specs.Reading.{and_then, map_ok}
 use Rattle.pb_expr_syntax.specs.Tree.{Tree}
 use Rattle.pb_layers.specs.Scope.{Map}
 use Rattle.pb_play.specs.Nodes.{Written}
@@ -10,8 +10,9 @@ use Rattle.pb_role_entries.specs.declared.entry.RoleEntry.{RoleEntry}
 use Rattle.pb_role_files.specs.declared.meta.RoleMeta.{RoleMeta}
 use Rattle.pb_roles.specs.Answers.{Faults, Gives}
 use Rattle.pb_roles.specs.Entries.{key_of, has_come}
-use Rattle.pb_roles.specs.Expansion.{opened, role_of}
+use Rattle.pb_roles.specs.Expansion.{opened, role_of, origin_of}
 use Rattle.pb_roles.specs.Files.{RoleRead}
+use Rattle.pb_roles.specs.Origins.{OriginOf}
 use Rattle.pb_roles.specs.declared.entry_key.EntryKey.{EntryKey}
 use Rattle.pb_roles.specs.declared.fault.RoleFault.{RoleFault}
 use Rattle.pb_roles.specs.declared.fault.RoleFault.TheVariants.{Unknown}
@@ -35,6 +36,17 @@ opened_on left outer entry dependencies is_missing meta (Ok d) (Ok v) (Ok n) (Ok
 opened_with : (left : ℕ) (read : RoleRead) (outer : List Tree) (entry : RoleEntry) (dependencies : List RoleEntry) → opened left read outer entry dependencies
     ≡ map_ok (depending dependencies) (opened left read outer entry [])
 opened_with left read outer entry dependencies = opened_on left outer entry dependencies read.is_missing read.meta read.defaults read.vars read.nodes read.handlers
+
+-- the role that comes from there, once its variables are read
+pub opened_from : (left : ℕ) (read : RoleRead) (outer : List Tree) (entry : RoleEntry) (defaults vars : Map) (origin : OriginOf) (r : Result OpenRole RoleFault) → read.defaults ≡ Ok defaults → read.vars ≡ Ok vars
+    → origin ≡ origin_of outer entry defaults vars
+    → Gives r (and_then read.nodes (λ nodes. and_then read.handlers (λ handlers. Ok (record { left = left; name = entry.name; origin = origin; nodes = nodes; handlers = handlers; dependencies = [] }))))
+    → Gives r (opened left read outer entry [])
+opened_from left read outer entry defaults vars origin r d v from given =
+    rw (d, v)
+    (subst
+    (λ (o : OriginOf). Gives r (and_then read.nodes (λ nodes. and_then read.handlers (λ handlers. Ok (record { left = left; name = entry.name; origin = o; nodes = nodes; handlers = handlers; dependencies = [] })))))
+    from given)
 
 -- ---- each way in which an entry is met
 pub missing : (left : ℕ) (reads : List ℕ → RoleRead) (outer : List Tree) (entry : RoleEntry) (came : List EntryKey) (none : Bool) → none ≡ (reads entry.name).is_missing → none ≡ true

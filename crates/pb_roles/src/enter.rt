@@ -1,5 +1,6 @@
 //! The role that an entry names.
-ghost use Rattle.std.specs.Prelude.{◌≡◌, ◌++◌, ◌∷◌, ◌&&◌, [], IfOk, IfSome, OnOk, not};
+ghost use Rattle.std.specs.Prelude.{◌≡◌, ◌++◌, ◌∷◌, ◌&&◌, [], IfOk, IfSome, OnOk, Ok, not};
+ghost use Rattle.pb_value.specs.Reading.{and_then};
 ghost use Rattle.pb_roles.specs.Answers.{Gives};
 ghost use Rattle.pb_roles.specs.Entries.{are_same, are_written_alike, key_of, has_come, is_again};
 ghost use Rattle.pb_roles.specs.Expansion.{opened, role_of, origin_of};
@@ -79,19 +80,27 @@ fn copy_of(alloc: Global, value: &Option<Val>) -> Result<Option<Val>, AllocError
     }
 }
 
+/// A copy of what an entry has as it is written.
+fn written(alloc: Global, keys: &EntryAsWritten) -> Result<EntryAsWritten, AllocError>
+    ensures { IfOk result (λ other. other ≡ keys.now) }
+{
+    let vars = copy_of(alloc, &keys.vars)?;
+    let when = copy_of(alloc, &keys.when)?;
+    let tags = copy_of(alloc, &keys.tags)?;
+    Ok(EntryAsWritten { vars, when, tags })
+}
+
 /// What an entry is told apart by.
 fn key_of(alloc: Global, entry: &RoleEntry) -> Result<EntryKey, AllocError>
     ensures { IfOk result (λ came. came ≡ key_of entry.now) }
 {
     let name = entry.name.try_clone()?;
     let params = Val::dict(entry.params.try_clone(alloc)?);
-    let vars = copy_of(alloc, &entry.as_written.vars)?;
-    let when = copy_of(alloc, &entry.as_written.when)?;
-    let tags = copy_of(alloc, &entry.as_written.tags)?;
+    let as_written = written(alloc, &entry.as_written)?;
     Ok(EntryKey {
         name,
         params,
-        as_written: EntryAsWritten { vars, when, tags },
+        as_written,
     })
 }
 
@@ -109,6 +118,31 @@ fn origin_of(
     role.params = entry.params.try_clone(alloc)?;
     let conditions = joined(alloc, outer, entry.conditions.as_slice())?;
     Origin::of_role(alloc, role, conditions)
+}
+
+/// The role that an entry names, open, which comes from there: its other files are read.
+fn open_from(
+    alloc: Global,
+    files: &RoleFiles,
+    left: usize,
+    entry: &RoleEntry,
+    origin: Origin,
+) -> Result<OpenRole, RoleFault>
+    ensures value { Gives result (and_then (read_of files.now entry.now.name).nodes (λ nodes. and_then (read_of files.now entry.now.name).handlers (λ handlers.
+        Ok (record { left = left; name = entry.now.name; origin = origin; nodes = nodes; handlers = handlers; dependencies = [] })))) }
+    ensures left { IfOk result (λ role. role.left ≡ left) }
+{
+    let nodes = load_nodes(alloc, files, &entry.name)?;
+    let handlers = load_handlers(alloc, files, &entry.name)?;
+    let name = entry.name.try_clone()?;
+    Ok(OpenRole {
+        left,
+        name,
+        origin,
+        nodes,
+        handlers,
+        dependencies: Queue::of(Items::new(alloc)),
+    })
 }
 
 /// The role that an entry names, open: its files are read. What it depends on is still to be told.
@@ -131,17 +165,23 @@ fn open_role(
     };
     // (at once: what is owned is let go at each exit behind it)
     let origin = origin_of(alloc, outer, entry, role)?;
-    let nodes = load_nodes(alloc, files, &entry.name)?;
-    let handlers = load_handlers(alloc, files, &entry.name)?;
-    let name = entry.name.try_clone()?;
-    Ok(OpenRole {
-        left,
-        name,
-        origin,
-        nodes,
-        handlers,
-        dependencies: Queue::of(Items::new(alloc)),
-    })
+    open_from(alloc, files, left, entry, origin)
+}
+
+/// Whether an entry is left out, whose role allows that it comes again or not. The entry has come then.
+fn comes_again(
+    alloc: Global,
+    entry: &RoleEntry,
+    allow_duplicates: bool,
+    came: &mut Items<EntryKey>,
+) -> Result<bool, AllocError>
+    ensures again { IfOk result (λ again. again ≡ (not allow_duplicates && has_come (key_of entry.now) came.old)) }
+    ensures came { OnOk result (came.new ≡ came.old ++ key_of entry.now ∷ []) }
+{
+    let this = key_of(alloc, entry)?;
+    let again = is_left_out(allow_duplicates, &this, came.as_slice());
+    came.push(this)?;
+    Ok(again)
 }
 
 /// The role that an entry names, open, unless the entry is left out. The entry has come then.
@@ -164,9 +204,7 @@ pub(crate) fn role_of(
         return Err(RoleFault::Unknown { name });
     }
     let meta = load_meta(alloc, files, &entry.name)?;
-    let this = key_of(alloc, entry)?;
-    let out = is_left_out(meta.allow_duplicates, &this, came.as_slice());
-    came.push(this)?;
+    let out = comes_again(alloc, entry, meta.allow_duplicates, came)?;
     if out {
         return Ok(None);
     }

@@ -1,5 +1,5 @@
 //! The files of roles.
-ghost use Rattle.std.specs.Prelude.{◌≡◌, IfOk};
+ghost use Rattle.std.specs.Prelude.{◌≡◌, ◌&&◌, IfOk, codes};
 ghost use Rattle.std.specs.Option.{option_copied};
 ghost use Rattle.pb_roles.specs.Files.{main_path, file_at, file_of, has_no, has_none};
 
@@ -66,14 +66,22 @@ fn has_no(alloc: Global, files: &RoleFiles, name: &Text, kind: &str) -> Result<b
     Ok(found.is_none())
 }
 
+/// Whether a role has no file of variables that count more than others, of tasks or of handlers.
+fn has_no_later(alloc: Global, files: &RoleFiles, name: &Text) -> Result<bool, AllocError>
+    ensures { IfOk result (λ none. none ≡ (has_no (codes "vars") files.now name.now && (has_no (codes "tasks") files.now name.now && has_no (codes "handlers") files.now name.now))) }
+{
+    let no_vars = has_no(alloc, files, name, "vars")?;
+    let no_tasks = has_no(alloc, files, name, "tasks")?;
+    let no_handlers = has_no(alloc, files, name, "handlers")?;
+    Ok(no_vars && no_tasks && no_handlers)
+}
+
 /// Whether a role has none of the files of a role.
 pub(crate) fn has_none(alloc: Global, files: &RoleFiles, name: &Text) -> Result<bool, AllocError>
     ensures { IfOk result (λ none. none ≡ has_none files.now name.now) }
 {
     let no_meta = has_no(alloc, files, name, "meta")?;
     let no_defaults = has_no(alloc, files, name, "defaults")?;
-    let no_vars = has_no(alloc, files, name, "vars")?;
-    let no_tasks = has_no(alloc, files, name, "tasks")?;
-    let no_handlers = has_no(alloc, files, name, "handlers")?;
-    Ok(no_meta && no_defaults && no_vars && no_tasks && no_handlers)
+    let no_others = has_no_later(alloc, files, name)?;
+    Ok(no_meta && no_defaults && no_others)
 }

@@ -1,7 +1,7 @@
 //! What is handed down to the tasks of a play, by the play, by roles and by blocks.
 
 ghost use Rattle.std.specs.Arc.{arc_value};
-ghost use Rattle.std.specs.Prelude.{◌≡◌, ◌++◌, [], true, false, Some, None, option_map, unwrap_or, IfOk};
+ghost use Rattle.std.specs.Prelude.{◌≡◌, ◌++◌, List, [], true, false, Some, None, option_map, unwrap_or, IfOk};
 ghost use Rattle.pb_layers.specs.Scope.{or_else};
 ghost use Rattle.pb_facts.specs.Facts.{put_all};
 ghost use Rattle.pb_places.specs.Within.{placed as stands_in};
@@ -9,6 +9,7 @@ ghost use Rattle.pb_play.specs.Couplings.{uncoupled};
 ghost use Rattle.pb_places.specs.Place.{delegate_for, no_role};
 ghost use Rattle.pb_roles.specs.Building.{inside, inner_couplings, placed, inherited_of};
 ghost use Rattle.pb_handlers.specs.Naming.{notified_from};
+ghost use Rattle.pb_handlers.specs.declared.naming.HandlerNames.{HandlerNames};
 ghost use Rattle.pb_roles.specs.Origins.{listed};
 
 use crate::origin::Origin;
@@ -185,27 +186,87 @@ impl Inherited {
     ) -> Result<Surroundings, AllocError>
         ensures { IfOk result (λ given. stands_in task.now given ≡ placed names.now self.now is_caught handler task.now) }
     {
-        let own = &task.couplings;
-        let outer = &self.couplings;
+        let shared = self.shared(alloc, &task.conditions)?;
         let notifies = notified(alloc, names, task)?;
-        let delegate_to = inner_delegate(&own.delegate_to, &outer.delegate_to)?;
-        let conditions = conditions_at(alloc, &self.conditions, &task.conditions)?;
+        let delegate_to = inner_delegate(&task.couplings.delegate_to, &self.couplings.delegate_to)?;
+        Ok(shared.with(self, task, delegate_to, notifies, is_caught, handler))
+    }
+
+    /// What the place of a task with these conditions shares.
+    fn shared(&self, alloc: Global, own: &Items<Expr>) -> Result<Shared, AllocError>
+        ensures conditions { IfOk result (λ s. unwrap_or (option_map arc_value s.conditions) own.now ≡ self.now.keys.conditions ++ own.now) }
+        ensures vars { IfOk result (λ s. listed s.block_vars ≡ self.now.block_vars) }
+        ensures role { IfOk result (λ s. unwrap_or (option_map arc_value s.role) no_role ≡ self.now.role) }
+    {
+        let conditions = conditions_at(alloc, &self.conditions, own)?;
         let block_vars = sharing(&self.block_vars)?;
         let role = sharing(&self.role)?;
-        Ok(Surroundings {
+        Ok(Shared {
             conditions,
             block_vars,
             role,
-            ignore_errors: inner(task.ignore_errors, self.ignore_errors).unwrap_or(false),
-            any_errors_fatal: inner(own.any_errors_fatal, outer.any_errors_fatal).unwrap_or(false),
-            throttle: inner(task.throttle, self.throttle).unwrap_or(0),
-            run_once: inner(own.run_once, outer.run_once).unwrap_or(false),
+        })
+    }
+}
+
+/// What a task's place shares with others: its conditions, where they aren't the task's own, and the variables of its blocks and of its role.
+struct Shared {
+    conditions: Option<Arc<Items<Expr>>>,
+    block_vars: Option<Arc<SearchedVars>>,
+    role: Option<Arc<SearchedRole>>,
+}
+
+impl Drop for Shared {
+    fn drop(self) {
+        let Shared {
+            conditions,
+            block_vars,
+            role,
+        } = self;
+        drop(conditions);
+        drop(block_vars);
+        drop(role);
+    }
+}
+
+impl Shared {
+    /// What the task's place has beside the task, whose delegate is this, and which notifies these handlers.
+    fn with(
+        self,
+        outer: &Inherited,
+        task: &Task,
+        delegate_to: Option<Text>,
+        notifies: Items<u32>,
+        is_caught: bool,
+        handler: Option<u32>,
+    ) -> Surroundings
+        requires conditions { unwrap_or (option_map arc_value self.conditions) task.now.conditions ≡ outer.now.keys.conditions ++ task.now.conditions }
+        requires vars { listed self.block_vars ≡ outer.now.block_vars }
+        requires role { unwrap_or (option_map arc_value self.role) no_role ≡ outer.now.role }
+        requires delegate { delegate_to ≡ or_else task.now.couplings.delegate_to outer.now.keys.couplings.delegate_to }
+        ensures { (names : List HandlerNames) → notifies ≡ notified_from task.now.notify 0 names → stands_in task.now result ≡ placed names outer.now is_caught handler task.now }
+    {
+        let Shared {
+            conditions,
+            block_vars,
+            role,
+        } = self;
+        let own = &task.couplings;
+        let given = &outer.couplings;
+        Surroundings {
+            conditions,
+            block_vars,
+            role,
+            ignore_errors: inner(task.ignore_errors, outer.ignore_errors).unwrap_or(false),
+            any_errors_fatal: inner(own.any_errors_fatal, given.any_errors_fatal).unwrap_or(false),
+            throttle: inner(task.throttle, outer.throttle).unwrap_or(0),
+            run_once: inner(own.run_once, given.run_once).unwrap_or(false),
             delegate_to: delegate_for(&task.module, delegate_to),
-            delegate_facts: inner(own.delegate_facts, outer.delegate_facts).unwrap_or(false),
+            delegate_facts: inner(own.delegate_facts, given.delegate_facts).unwrap_or(false),
             is_caught,
             notifies,
             handler,
-        })
+        }
     }
 }
 
