@@ -47,7 +47,10 @@ pub(crate) fn plan_again(alloc: Global, bundle: &Bundle) -> Result<Plan, AllocEr
 {
     match Plan::of(alloc, bundle) {
         Ok(plan) => Ok(plan),
-        Err(_) => Err(AllocError),
+        Err(fault) => {
+            drop(fault);
+            Err(AllocError)
+        }
     }
 }
 

@@ -143,7 +143,11 @@ fn play_asked<
         Err(PlayFault::Run(fault, trail)) => report_run_fault(rt, asked, err, fault, &trail),
         Err(PlayFault::Outcomes(fault)) => report_fault(alloc, err, Part::Outcomes, &fault),
         Err(PlayFault::Trail(fault)) => report_fault(alloc, err, Part::Trail, &fault),
-        Err(PlayFault::Bundle(fault)) => report_bundle_fault(alloc, err, &fault, asked.places),
+        Err(PlayFault::Bundle(fault)) => {
+            let status = report_bundle_fault(alloc, err, &fault, asked.places);
+            drop(fault);
+            status
+        }
     }
 }
 
@@ -258,19 +262,83 @@ fn read_files<R: Files + AllocGlobal>(rt: &R, request: Request) -> Result<Asked,
     ensures failed { IfOk result (λ asked. asked.failed ≡ request.failed) }
     ensures places { IfOk result (λ asked. asked.places ≡ request.places) }
 {
-    let Parts {
-        inventory,
-        playbook,
-        roles,
-    } = read_parts(rt, &request)?;
+    match read_parts(rt, &request) {
+        Ok(parts) => read_beside(rt, request, parts),
+        Err(fault) => {
+            drop(request);
+            Err(fault)
+        }
+    }
+}
+
+/// What was asked for, with the bytes of the files that a bundle isn't made of.
+fn read_beside<R: Files + AllocGlobal>(
+    rt: &R,
+    request: Request,
+    parts: Parts,
+) -> Result<Asked, FileFault>
+    requires inventory { length parts.inventory ≤ max_bytes + 1 }
+    requires playbook { length parts.playbook ≤ max_bytes - length parts.inventory + 1 }
+    requires roles { AreRolesIn (max_bytes - length parts.inventory - length parts.playbook) request.roles parts.roles.files }
+    ensures bundle { IfOk result (λ asked. IsBundleOf request asked.bundle) }
+    ensures wanted { IfOk result (λ asked. IsWantedBy request asked.wanted) }
+    ensures trail { IfOk result (λ asked. asked.trail ≡ request.trail) }
+    ensures under { IfOk result (λ asked. asked.same_under ≡ request.same_under) }
+    ensures failed { IfOk result (λ asked. asked.failed ≡ request.failed) }
+    ensures places { IfOk result (λ asked. asked.places ≡ request.places) }
+{
+    match read_told(rt, &request) {
+        Ok(told) => Ok(asked_of(request, parts, told)),
+        Err(fault) => {
+            drop(parts);
+            drop(request);
+            Err(fault)
+        }
+    }
+}
+
+/// The bytes of the files that say what came of jobs, and of a run, if they were asked for.
+#[derive(Drop)]
+struct Told {
+    outcomes: Option<Items<u8>>,
+    audited: Option<Items<u8>>,
+}
+
+/// The files that a bundle isn't made of.
+fn read_told<R: Files + AllocGlobal>(rt: &R, request: &Request) -> Result<Told, FileFault>
+    ensures outcomes { IfOk result (λ told. is_some told.outcomes ≡ is_some request.now.outcomes) }
+    ensures audited { IfOk result (λ told. is_some told.audited ≡ is_some request.now.audit) }
+{
     let outcomes = read_outcomes(rt, &request.outcomes)?;
-    let audited = read_audited(rt, &request.audit)?;
+    match read_audited(rt, &request.audit) {
+        Ok(audited) => Ok(Told { outcomes, audited }),
+        Err(fault) => {
+            drop(outcomes);
+            Err(fault)
+        }
+    }
+}
+
+/// What a request asks for, with the bytes of its files.
+fn asked_of(request: Request, parts: Parts, told: Told) -> Asked
+    requires inventory { length parts.inventory ≤ max_bytes + 1 }
+    requires playbook { length parts.playbook ≤ max_bytes - length parts.inventory + 1 }
+    requires roles { AreRolesIn (max_bytes - length parts.inventory - length parts.playbook) request.roles parts.roles.files }
+    requires outcomes { is_some told.outcomes ≡ is_some request.outcomes }
+    requires audited { is_some told.audited ≡ is_some request.audit }
+    ensures bundle { IsBundleOf request result.bundle }
+    ensures wanted { IsWantedBy request result.wanted }
+    ensures trail { result.trail ≡ request.trail }
+    ensures under { result.same_under ≡ request.same_under }
+    ensures failed { result.failed ≡ request.failed }
+    ensures places { result.places ≡ request.places }
+{
     let bundle = Bundle {
-        inventory,
-        playbook,
+        inventory: parts.inventory,
+        playbook: parts.playbook,
         limit: request.limit,
         extra: request.extra,
-        roles,
+        roles: parts.roles,
         forks: request.forks,
         has_facts_program: request.facts_program.is_some(),
     };
@@ -279,10 +347,14 @@ fn read_files<R: Files + AllocGlobal>(rt: &R, request: Request) -> Result<Asked,
         strict: request.strict,
         stop_after: request.stop_after,
         facts_program: request.facts_program,
-        outcomes,
-        audited,
+        outcomes: told.outcomes,
+        audited: told.audited,
     };
-    Ok(Asked {
+    drop(request.inventory);
+    drop(request.playbook);
+    drop(request.roles);
+    drop(request.audit);
+    Asked {
         bundle,
         wanted,
         outcomes_path: request.outcomes,
@@ -290,7 +362,7 @@ fn read_files<R: Files + AllocGlobal>(rt: &R, request: Request) -> Result<Asked,
         trail: request.trail,
         same_under: request.same_under,
         places: request.places,
-    })
+    }
 }
 
 /// The bytes of the files that a bundle is made of.
