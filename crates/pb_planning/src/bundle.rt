@@ -49,7 +49,7 @@ pub struct Bundle {
 }
 
 /// Why a bundle has no plan.
-#[derive(Debug, Drop, Error)]
+#[derive(Debug, Error)]
 pub enum BundleFault {
     /// A fault of the inventory.
     #[error("1 Inventory {0}")]
@@ -75,6 +75,20 @@ pub enum BundleFault {
     /// Memory was refused.
     #[error("8 Memory")]
     Memory,
+}
+
+// (by hand: it is then dropped by one call, and not by its variants at each exit)
+impl Drop for BundleFault {
+    fn drop(self) {
+        match self {
+            BundleFault::Inventory(fault) => drop(fault),
+            BundleFault::Playbook(fault) => drop(fault),
+            BundleFault::Roles(fault) => drop(fault),
+            BundleFault::Limit(fault) => drop(fault),
+            BundleFault::Extra(fault) => drop(fault),
+            BundleFault::BadForks | BundleFault::TooLarge | BundleFault::Memory => {}
+        }
+    }
 }
 
 impl From<AllocError> for BundleFault {
