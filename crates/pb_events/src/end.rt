@@ -3,7 +3,8 @@
 ghost use Rattle.std.specs.Prelude.{◌≡◌, ◌++◌, IfOk};
 ghost use Rattle.pb_events.specs.Lines.{host_end, host_failed, result_line, done_text, meta_text};
 
-use crate::line::{begin, end, put_bool, put_number, put_text, put_value};
+use crate::behind::end_shown;
+use crate::line::{begin_host, put_bool};
 use crate::site::Site;
 use pb_state::TaskDone;
 use pb_value::val::Val;
@@ -49,13 +50,8 @@ fn result_line(lines: Vec<u8>, site: &Site, done: &TaskDone) -> Result<Vec<u8>, 
 fn host_end(lines: Vec<u8>, site: &Site, event: &str, shown: &Val) -> Result<Vec<u8>, AllocError>
     ensures { IfOk result (λ bytes. bytes.items ≡ lines.items ++ host_end event.now site.now.host site.now.path site.now.number shown.now) }
 {
-    let mut out = begin(lines)?;
-    put_text(&mut out, "event", event)?;
-    put_text(&mut out, "host", site.host)?;
-    put_text(&mut out, "place", site.path.as_str())?;
-    put_number(&mut out, "play", site.number)?;
-    put_value(&mut out, "result", shown)?;
-    end(out)
+    let out = begin_host(lines, event, site.host)?;
+    end_shown(out, site, shown)
 }
 
 /// Adds the line of a task that failed: it says whether that is ignored.
@@ -67,12 +63,7 @@ fn host_failed(
 ) -> Result<Vec<u8>, AllocError>
     ensures { IfOk result (λ bytes. bytes.items ≡ lines.items ++ host_failed ignored site.now.host site.now.path site.now.number shown.now) }
 {
-    let mut out = begin(lines)?;
-    put_text(&mut out, "event", "runner_on_failed")?;
-    put_text(&mut out, "host", site.host)?;
+    let mut out = begin_host(lines, "runner_on_failed", site.host)?;
     put_bool(&mut out, "ignored", ignored)?;
-    put_text(&mut out, "place", site.path.as_str())?;
-    put_number(&mut out, "play", site.number)?;
-    put_value(&mut out, "result", shown)?;
-    end(out)
+    end_shown(out, site, shown)
 }

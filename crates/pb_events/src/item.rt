@@ -3,7 +3,8 @@
 ghost use Rattle.std.specs.Prelude.{◌≡◌, ◌++◌, IfOk};
 ghost use Rattle.pb_events.specs.Items.{item_event, item_end, item_line, item_lines};
 
-use crate::line::{begin, end, put_number, put_text, put_value};
+use crate::behind::end_shown;
+use crate::line::{begin_host, put_number};
 use crate::site::Site;
 use pb_outcome::gather::{Ending, ItemResult};
 use pb_value::val::Val;
@@ -35,14 +36,9 @@ fn item_end(
 ) -> Result<Vec<u8>, AllocError>
     ensures { IfOk result (λ bytes. bytes.items ≡ lines.items ++ item_end event.now site.now.host site.now.path site.now.number number shown.now) }
 {
-    let mut out = begin(lines)?;
-    put_text(&mut out, "event", event)?;
-    put_text(&mut out, "host", site.host)?;
+    let mut out = begin_host(lines, event, site.host)?;
     put_number(&mut out, "item", number)?;
-    put_text(&mut out, "place", site.path.as_str())?;
-    put_number(&mut out, "play", site.number)?;
-    put_value(&mut out, "result", shown)?;
-    end(out)
+    end_shown(out, site, shown)
 }
 
 /// Adds the line of an item of a loop; none of one that found its host out of reach.

@@ -8,6 +8,7 @@
 ghost use Rattle.pb_events.specs.Whole.{EventsHaveLines};
 
 mod batch;
+mod behind;
 mod end;
 mod item;
 mod line;

@@ -1,6 +1,6 @@
 //! One line, and what stands in it.
 
-ghost use Rattle.std.specs.Prelude.{◌≡◌, ◌++◌, ◌∷◌, [], ℕ, List, pos, IfOk, OnOk};
+ghost use Rattle.std.specs.Prelude.{◌≡◌, ◌++◌, ◌∷◌, [], ℕ, List, codes, pos, IfOk, OnOk};
 ghost use Rattle.std.specs.Fmt.{signed_decimal};
 ghost use Rattle.json.specs.Token.{begin_object, key as key_token, string, number, boolean};
 ghost use Rattle.pb_value.specs.Datum.{Datum};
@@ -20,6 +20,17 @@ pub fn begin(lines: Vec<u8>) -> Result<Writer, AllocError>
 {
     let mut out = Writer::new(lines);
     out.begin_object()?;
+    Ok(out)
+}
+
+/// Begins a line behind these lines: of this event, and of this host.
+pub fn begin_host(lines: Vec<u8>, event: &str, host: &str) -> Result<Writer, AllocError>
+    ensures before { IfOk result (λ out. out.before ≡ lines.items) }
+    ensures tokens { IfOk result (λ out. out.tokens ≡ begin_object ∷ key_token (codes "event") ∷ string event.now ∷ key_token (codes "host") ∷ string host.now ∷ []) }
+{
+    let mut out = begin(lines)?;
+    put_text(&mut out, "event", event)?;
+    put_text(&mut out, "host", host)?;
     Ok(out)
 }
 

@@ -3,7 +3,8 @@
 ghost use Rattle.std.specs.Prelude.{◌≡◌, ◌++◌, IfOk};
 ghost use Rattle.pb_events.specs.Lines.{retry_line, retried_text};
 
-use crate::line::{begin, end, put_number, put_text, put_value};
+use crate::behind::end_shown;
+use crate::line::{begin, put_number, put_text};
 use crate::site::Site;
 use pb_state::Retried;
 use std::alloc::AllocError;
@@ -26,8 +27,5 @@ fn retry_line(lines: Vec<u8>, site: &Site, retried: &Retried) -> Result<Vec<u8>,
     put_number(&mut out, "attempt", retried.attempt)?;
     put_text(&mut out, "event", "runner_retry")?;
     put_text(&mut out, "host", site.host)?;
-    put_text(&mut out, "place", site.path.as_str())?;
-    put_number(&mut out, "play", site.number)?;
-    put_value(&mut out, "result", &retried.result)?;
-    end(out)
+    end_shown(out, site, &retried.result)
 }
