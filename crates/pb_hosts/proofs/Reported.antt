@@ -70,6 +70,10 @@ reported_in plan play outcome h rows back new b n =
     ∙ ap (with_delegated (report_gives plan play outcome h rows))
     (twice rows h (back_row plan play outcome) (went_on plan.inventory play) ∙ same_change rows h (λ row. went_on plan.inventory play (back_row plan play outcome row)) (reported plan play outcome) (reported_as plan play outcome))
 
+pub gives_in : (plan : PlanOf) (play : PlayOf) (outcome : Form) (h : ℕ) (rows back : List HostOf) (gifts : List DelegatedFacts) → back ≡ change rows h (back_row plan play outcome)
+    → gifts ≡ gives_now plan.inventory play h back → gifts ≡ report_gives plan play outcome h rows
+gives_in plan play outcome h rows back gifts b g = g ∙ ap (gives_now plan.inventory play h) b ∙ gives_as plan play outcome h rows
+
 pub step_result_in : (plan : PlanOf) (play : PlayOf) (outcome : Form) (h : ℕ) (rows back : List HostOf) (number : Option ℕ) (retried : Option Retried) (step_result : Option StepResult)
     → back ≡ change rows h (back_row plan play outcome) → number ≡ option_map_or item_of (slice_get rows h) None → retried ≡ option_map_or (retried_row plan play outcome) (slice_get rows h) None
     → step_result ≡ option_map_or (step_result_now play number retried) (slice_get back h) None → step_result ≡ option_map_or (report_result plan play outcome) (slice_get rows h) None

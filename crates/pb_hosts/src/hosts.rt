@@ -40,6 +40,7 @@ use pb_outcome::outcome::Outcome;
 use pb_plan::PlanPlay;
 use pb_planes::HostSet;
 use pb_strategies::Standings;
+use pb_task_vars::gifts::DelegatedFacts;
 use pb_task_vars::with_hostvars::PlanWithHostvars;
 use std::alloc::{AllocError, Global};
 use std::marker::Model;
@@ -250,7 +251,7 @@ pub fn stand_at(rows: &mut Hosts, place: Option<usize>)
 }
 
 impl Hosts {
-    /// A host starts the task at a place with these items; where it ends at once, what it gives to other hosts is theirs. An `Err` changes nothing.
+    /// A host starts the task at a place with these items; where it ends at once, what it gives to other hosts is theirs, and is handed out. An `Err` changes nothing.
     pub fn start_row(
         &mut self,
         alloc: Global,
@@ -259,12 +260,13 @@ impl Hosts {
         play: &PlanPlay,
         place: usize,
         items: TaskItems,
-    ) -> Result<Option<TaskDone>, AllocError>
+    ) -> Result<(Option<TaskDone>, Vec<DelegatedFacts>), AllocError>
         requires there { host.0 < length self.old }
         requires batch { IfSome (slice_get self.old host.0) (λ row. row.in_batch ≡ true) }
         requires room { IfSome (slice_get self.old host.0) (λ row. IsAtMost row.counts (2 ^ 64 - 2)) }
         ensures rows { OnOk result (self.new ≡ with_delegated (gifts_at inventory.now play.now place host.0 items) (change self.old host.0 (progressed inventory.now play.now place items))) }
-        ensures done { IfOk result (λ done. done ≡ done_if play.now place (pending_in self.old host.0) items) }
+        ensures done { IfOk result (λ started. started.0 ≡ done_if play.now place (pending_in self.old host.0) items) }
+        ensures gifts { IfOk result (λ started. started.1.items ≡ gifts_at inventory.now play.now place host.0 items) }
         ensures err { OnErr result (self.new ≡ self.old) }
     {
         let gifts = gifts_at(alloc, inventory, play, place, host, &items)?;
@@ -275,7 +277,7 @@ impl Hosts {
                 know_all(&mut self.rows, known);
                 drop_job(&mut self.out, host);
                 ask_one(&self.rows, host, &mut self.sends, &mut self.standings);
-                Ok(done)
+                Ok((done, gifts))
             }
             None => unreachable!(),
         }
@@ -294,7 +296,7 @@ pub fn send_row(rows: &mut Hosts, host: HostNo, ticket: Ticket) -> Result<(), Al
     Ok(())
 }
 
-/// The job of a host that is out came to this; where its task ends, what it gives to other hosts is theirs. An `Err` changes nothing.
+/// The job of a host that is out came to this; where its task ends, what it gives to other hosts is theirs, and is handed out. An `Err` changes nothing.
 pub fn report_row(
     alloc: Global,
     rows: &mut Hosts,
@@ -302,10 +304,11 @@ pub fn report_row(
     plan: &PlanWithHostvars,
     play: &PlanPlay,
     outcome: &Outcome,
-) -> Result<Option<StepResult>, AllocError>
+) -> Result<(Option<StepResult>, Vec<DelegatedFacts>), AllocError>
     requires { IfSome (slice_get rows.old host.0) (λ row. IsAtMost row.counts (2 ^ 64 - 2)) }
     ensures rows { OnOk result (rows.new ≡ with_delegated (report_gives plan.now play.now outcome.now host.0 rows.old) (change rows.old host.0 (reported plan.now play.now outcome.now))) }
-    ensures decides { IfOk result (λ step_result. step_result ≡ option_map_or (report_result plan.now play.now outcome.now) (slice_get rows.old host.0) None) }
+    ensures decides { IfOk result (λ reported. reported.0 ≡ option_map_or (report_result plan.now play.now outcome.now) (slice_get rows.old host.0) None) }
+    ensures gifts { IfOk result (λ reported. reported.1.items ≡ report_gives plan.now play.now outcome.now host.0 rows.old) }
     ensures err { OnErr result (rows.new ≡ rows.old) }
 {
     let number = item_in(rows.rows.as_slice(), host);
@@ -313,11 +316,11 @@ pub fn report_row(
     let (before, retried) = came.parts();
     let inventory = plan.inventory();
     match decide_row(&mut rows.rows, host, inventory, play, number, retried) {
-        Ok(step_result) => {
+        Ok((step_result, gifts)) => {
             drop(before);
             drop_job(&mut rows.out, host);
             ask_one(&rows.rows, host, &mut rows.sends, &mut rows.standings);
-            Ok(step_result)
+            Ok((step_result, gifts))
         }
         Err(error) => {
             undo(&mut rows.rows, host, before);

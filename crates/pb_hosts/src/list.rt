@@ -24,6 +24,7 @@ use pb_inventory::inventory::Inventory;
 use pb_outcome::outcome::Outcome;
 use pb_plan::PlanPlay;
 use pb_planes::HostSet;
+use pb_task_vars::gifts::DelegatedFacts;
 use pb_task_vars::with_hostvars::PlanWithHostvars;
 use std::alloc::{AllocError, Global};
 use std::rc::Rc;
@@ -72,7 +73,7 @@ pub(crate) fn know_all(rows: &mut Vec<Host>, all: Vec<NewFacts>)
 }
 
 /// What is decided of the task that a host runs, of which the item with this number came back, or this attempt at it; where the task ends, what it gives to
-/// other hosts is theirs. An `Err` changes nothing.
+/// other hosts is theirs, and is handed out. An `Err` changes nothing.
 pub(crate) fn decide_row(
     rows: &mut Vec<Host>,
     host: HostNo,
@@ -80,10 +81,11 @@ pub(crate) fn decide_row(
     play: &PlanPlay,
     number: Option<u32>,
     retried: Option<Retried>,
-) -> Result<Option<StepResult>, AllocError>
+) -> Result<(Option<StepResult>, Vec<DelegatedFacts>), AllocError>
     requires { IfSome (slice_get rows.old.items host.0) (λ row. IsAtMost row.counts (2 ^ 64 - 2)) }
     ensures rows { OnOk result (rows.new.items ≡ with_delegated (gives_now inventory.now play.now host.0 rows.old.items) (change rows.old.items host.0 (went_on inventory.now play.now))) }
-    ensures decides { IfOk result (λ step_result. step_result ≡ option_map_or (step_result_now play.now number retried) (slice_get rows.old.items host.0) None) }
+    ensures decides { IfOk result (λ decided. decided.0 ≡ option_map_or (step_result_now play.now number retried) (slice_get rows.old.items host.0) None) }
+    ensures gifts { IfOk result (λ decided. decided.1.items ≡ gives_now inventory.now play.now host.0 rows.old.items) }
     ensures err { OnErr result (rows.new.items ≡ rows.old.items) }
 {
     let alloc = *rows.allocator();
@@ -93,9 +95,9 @@ pub(crate) fn decide_row(
         Some(row) => {
             let step_result = row.decide(alloc, inventory, play, number, retried)?;
             know_all(rows, known);
-            Ok(step_result)
+            Ok((step_result, gifts))
         }
-        None => Ok(None),
+        None => Ok((None, gifts)),
     }
 }
 

@@ -13,7 +13,7 @@ use Rattle.pb_hosts.specs.Giving.{gives_now, report_gives, with_delegated}
 use Rattle.pb_hosts.specs.Hosts.{change}
 use Rattle.pb_hosts.proofs.Asked.{given_due}
 use Rattle.pb_hosts.proofs.Outside.{reported_inside, reported_waits, reported_out}
-use Rattle.pb_hosts.proofs.Reported.{reported_in, room_back, step_result_in}
+use Rattle.pb_hosts.proofs.Reported.{gives_in, reported_in, room_back, step_result_in}
 use Rattle.pb_hosts.proofs.TicketOrder.{reported_quiet}
 use Rattle.pb_hosts.proofs.Turns.{same_due}
 use Rattle.pb_hosts.proofs.hosts.report_row.Goals as goal
@@ -66,6 +66,12 @@ returns-in-Ok-clause-decides c =
     step_result_in c.args.plan.now c.args.play.now c.args.outcome.now c.args.host.0 c.rows.inside.rows.items c.take_back.new.rows.items c.item_in-number.result c.parts-before.result.1 c.in-Ok.step_result c.in_ok-came.ensures.ok
     (c.item_in-number.ensures ∙ ap (λ (all : List HostOf). option_map_or item_of (slice_get all c.args.host.0) None) c.as_slice.ensures.value) (ap (λ (p : Option Before × Option Retried). p.1) c.parts-before.ensures ∙ c.in_ok-came.ensures.retried) c.in-Ok.ensures.decides
     ∙ ap (λ (all : List HostOf). option_map_or (report_result c.args.plan.now c.args.play.now c.args.outcome.now) (slice_get all c.args.host.0) None) c.rows.view_is
+
+pub returns-in-Ok-clause-gifts : goal.returns-in-Ok-clause-gifts
+returns-in-Ok-clause-gifts c =
+    gives_in c.args.plan.now c.args.play.now c.args.outcome.now c.args.host.0 c.rows.inside.rows.items c.take_back.new.rows.items c.in-Ok.gifts.items c.in_ok-came.ensures.ok
+    (subst (λ (inventory : InventoryOf). c.in-Ok.gifts.items ≡ gives_now inventory c.args.play.now c.args.host.0 c.take_back.new.rows.items) c.inventory-inventory.ensures c.in-Ok.ensures.gifts)
+    ∙ ap (report_gives c.args.plan.now c.args.play.now c.args.outcome.now c.args.host.0) c.rows.view_is
 
 pub returns-in-Err-clause-err : goal.returns-in-Err-clause-err
 returns-in-Err-clause-err c =
