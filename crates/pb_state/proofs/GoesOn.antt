@@ -26,7 +26,7 @@ use Rattle.pb_state.specs.State.{State}
 use Rattle.pb_state.specs.Machine.{after, facts_at, learnt_by, next_at, open_play, plan_seen, reported_in, start_at, started_in}
 use Rattle.pb_state.specs.Known.{IsKnown, running_at, task_goes_on}
 use Rattle.pb_state.proofs.KeepsFacts.{change_knows, for_each}
-use Rattle.pb_state.proofs.Learner.{run_place}
+use Rattle.pb_state.proofs.Teaching.{run_place}
 
 never : false ≡ true → ⊥
 never e = cc

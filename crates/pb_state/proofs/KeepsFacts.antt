@@ -1,5 +1,5 @@
 -- After a step that teaches nothing the hosts know what they knew, so that what is kept of it is what would be made.
-use Rattle.std.proofs.Common.{◌≡◌, ◌∙◌, ℕ, zero, suc, Bool, true, false, ◌&&◌, ◌||◌, not, List, [], ◌∷◌, Option, Some, None, IfSome, is_none, slice_get, refl, sym, ap}
+use Rattle.std.proofs.Common.{◌≡◌, ◌∙◌, ℕ, zero, suc, Bool, true, false, ◌&&◌, List, [], ◌∷◌, Option, Some, None, IfSome, is_none, slice_get, refl, sym, ap}
 use Rattle.std.specs.Prelude.{slice_set, if◌then◌else◌}
 use Rattle.std.specs.Option.{option_map_or}
 use Rattle.pb_value.specs.Datum.{Datum}
@@ -31,8 +31,8 @@ use Rattle.pb_state.specs.declared.event.Event.{Event}
 use Rattle.pb_state.specs.declared.event.Event.TheVariants.{Open, Start, Send, Report as Reported, Turn, Close, Stop, Forks}
 use Rattle.pb_state.specs.State.{State}
 use Rattle.pb_state.specs.Machine.{after, facts_at, learnt_by, next_at, open_play, plan_seen, reported_in, sent_in, start_at, started_in}
-use Rattle.pb_state.specs.Known.{IsKnown, gives_nothing, keeps_facts, report_keeps, start_keeps, teaches_alone, teaches_alone_at, teaches_nothing, teaches_nothing_at}
-use Rattle.pb_state.proofs.Learner.{gifts_same, report_same, run_place}
+use Rattle.pb_state.specs.Known.{IsKnown, gives_nothing, keeps_facts, report_keeps, start_keeps, teaches_nothing, teaches_nothing_at}
+use Rattle.pb_state.proofs.Teaching.{gifts_same, gives_nothing_at, gives_nothing_in, report_same, run_place}
 
 first_is : (a b : Bool) → (a && b) ≡ true → a ≡ true
 first_is true b e = refl
@@ -41,10 +41,6 @@ first_is false b e = cc
 second_is : (a b : Bool) → (a && b) ≡ true → b ≡ true
 second_is true b e = e
 second_is false b e = cc
-
-or_second : (a b : Bool) → b ≡ true → (a || b) ≡ true
-or_second true b e = refl
-or_second false b e = e
 
 none_is : (name : Option (List ℕ)) → is_none name ≡ true → name ≡ None
 none_is None e = refl
@@ -94,12 +90,12 @@ progressed_knows inventory play p items row e = by_over (is_over items)
     by_over false = refl
 
 -- and gives nothing to other hosts
-alone : (play : PlayOf) (p : ℕ) → teaches_nothing_at play p ≡ true → teaches_alone_at play p ≡ true
-alone play p e = by_place (slice_get play.places p) e
+no_gifts : (play : PlayOf) (p : ℕ) → teaches_nothing_at play p ≡ true → gives_nothing_at play p ≡ true
+no_gifts play p e = by_place (slice_get play.places p) e
   where
-    by_place : (found : Option PlaceOf) → option_map_or teaches_nothing found true ≡ true → option_map_or teaches_alone found true ≡ true
+    by_place : (found : Option PlaceOf) → option_map_or teaches_nothing found true ≡ true → option_map_or gives_nothing_in found true ≡ true
     by_place None e = refl
-    by_place (Some place) e = or_second (not place.delegate_facts) (gives_nothing (gives_of place.task.«module»)) (gives_none_at place e)
+    by_place (Some place) e = gives_none_at place e
 
 -- ---- the rows of all hosts
 set_knows : (rows : List HostOf) (h : ℕ) (row changed : HostOf) → slice_get rows h ≡ Some row → changed.facts ≡ row.facts → learnt_by (slice_set rows h changed) ≡ learnt_by rows
@@ -122,7 +118,7 @@ for_each P f (Some row) = f row
 start_knows : (plan : PlanOf) (s : State) (h : ℕ) (play : PlayOf) (p : ℕ) → teaches_nothing_at play p ≡ true → learnt_by (start_at plan s h play p).rows ≡ learnt_by s.rows
 start_knows plan s h play p e =
     let items = items_at (plan_seen plan s) play h (facts_at s h) p in
-    given_knows (gifts_at plan.inventory play p h items) (change s.rows h (progressed plan.inventory play p items)) s.rows (gifts_same plan.inventory play p h items (alone play p e))
+    given_knows (gifts_at plan.inventory play p h items) (change s.rows h (progressed plan.inventory play p items)) s.rows (gifts_same plan.inventory play p h items (no_gifts play p e))
     (change_knows s.rows h (progressed plan.inventory play p items) (slice_get s.rows h) refl
     (for_each (λ row. (progressed plan.inventory play p items row).facts ≡ row.facts) (λ row. progressed_knows plan.inventory play p items row e) (slice_get s.rows h)))
 
@@ -131,16 +127,16 @@ reported_knows : (plan : PlanOf) (play : PlayOf) (outcome : Form) (row : HostOf)
 reported_knows plan play outcome row None e = refl
 reported_knows plan play outcome row (Some r) e = progressed_knows plan.inventory play r.place (items_after plan play row.host row.facts outcome r) row e
 
-alone_run : (play : PlayOf) (place : Option ℕ) → option_map_or (teaches_nothing_at play) place true ≡ true → option_map_or (teaches_alone_at play) place true ≡ true
-alone_run play None e = refl
-alone_run play (Some p) e = alone play p e
+no_gifts_run : (play : PlayOf) (place : Option ℕ) → option_map_or (teaches_nothing_at play) place true ≡ true → option_map_or (gives_nothing_at play) place true ≡ true
+no_gifts_run play None e = refl
+no_gifts_run play (Some p) e = no_gifts play p e
 
 reports_know : (plan : PlanOf) (play : PlayOf) (outcome : Form) (rows : List HostOf) (h : ℕ) (found : Option HostOf) → slice_get rows h ≡ found →
     option_map_or (teaches_nothing_at play) (option_map_or (λ (row : HostOf). run_place row.running) found None) true ≡ true →
     learnt_by (with_delegated (option_map_or (gifts_of plan play outcome h) found []) (change rows h (reported plan play outcome))) ≡ learnt_by rows
 reports_know plan play outcome rows h None is e = change_knows rows h (reported plan play outcome) None is tt
 reports_know plan play outcome rows h (Some row) is e =
-    given_knows (gifts_of plan play outcome h row) (change rows h (reported plan play outcome)) rows (report_same plan play outcome h row row.running (alone_run play (run_place row.running) e))
+    given_knows (gifts_of plan play outcome h row) (change rows h (reported plan play outcome)) rows (report_same plan play outcome h row row.running (no_gifts_run play (run_place row.running) e))
     (change_knows rows h (reported plan play outcome) (Some row) is (reported_knows plan play outcome row row.running e))
 
 -- ---- each event

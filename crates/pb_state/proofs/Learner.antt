@@ -1,101 +1,60 @@
--- Where the facts of a task aren't delegated, or it has none, its own host alone may know more once it has ended.
-use Rattle.std.proofs.Common.{◌≡◌, ◌≢◌, ◌∙◌, ℕ, zero, suc, Bool, true, false, ◌&&◌, ◌||◌, not, List, [], ◌∷◌, Option, Some, None, slice_get, refl, sym, ap, subst}
+-- Once a task has ended its own host and those that it gives something to may know more, and no other.
+use Rattle.std.proofs.Common.{◌≡◌, ◌≢◌, ◌∙◌, ℕ, zero, suc, Bool, true, false, ◌||◌, ◌++◌, List, [], ◌∷◌, Option, Some, None, slice_get, refl, sym, ap, subst}
 use Rattle.std.specs.Prelude.{◌==◌, slice_set, if◌then◌else◌}
+use Rattle.std.specs.List.{list_any}
 use Rattle.std.specs.Option.{option_map_or}
+use Rattle.std.proofs.lemmas.Bool.{eqb-true, eqb-false}
+use Rattle.std.proofs.lemmas.List.Folds.{list_any-append}
 use Rattle.pb_ids.specs.declared.numbers.HostNo.{HostNo}
-use Rattle.pb_inventory.specs.InventoryOf.{InventoryOf}
-use Rattle.pb_layers.specs.Scope.{Map}
 use Rattle.pb_facts.specs.Book.{row_of}
 use Rattle.pb_facts.specs.Facts.{FactsOf}
-use Rattle.pb_facts.specs.declared.facts.Gives.{Gives}
-use Rattle.pb_facts.specs.declared.facts.Gives.TheVariants.{Nothing, Sets, Gathers}
-use Rattle.pb_outcome.specs.declared.gather.TaskResult.{TaskResult}
-use Rattle.pb_outcome.specs.declared.item.Item.{Item}
 use Rattle.pb_outcome.specs.declared.job.Report.{Report}
-use Rattle.pb_outcome.specs.declared.outcome.Form.{Form}
-use Rattle.pb_outcome.specs.Items.{is_over}
-use Rattle.pb_variables.specs.Renewed.{LearnsAlone}
-use Rattle.pb_places.specs.Place.{PlaceOf}
 use Rattle.pb_plan.specs.Plan.{PlayOf, PlanOf}
-use Rattle.pb_task_vars.specs.Delegates.{delegate_of}
-use Rattle.pb_task_vars.specs.Ends.{has_run}
-use Rattle.pb_task_vars.specs.Gifts.{facts_of, gift_then, gifts_from, gifts_of as gifts_with, given_by}
-use Rattle.pb_task_vars.specs.Learning.{gives_of}
 use Rattle.pb_task_vars.specs.Results.{items_at}
 use Rattle.pb_task_vars.specs.declared.gifts.DelegatedFacts.{DelegatedFacts}
-use Rattle.pb_host.specs.declared.host.Running.{Running}
-use Rattle.pb_host.specs.Host.{HostOf, items_after, progressed, reported, task_at}
+use Rattle.pb_variables.specs.Renewed.{LearnsAlone}
+use Rattle.pb_host.specs.Host.{HostOf, progressed, reported}
 use Rattle.pb_hosts.specs.Hosts.{change}
-use Rattle.pb_hosts.specs.Giving.{with_delegated, gifts_at, gifts_by, gifts_of, takes}
-use Rattle.pb_hosts.proofs.Giving.{map_same}
+use Rattle.pb_hosts.specs.Giving.{with_delegated, gifts_at, report_gives, takes}
 use Rattle.pb_state.specs.declared.event.Event.{Event}
 use Rattle.pb_state.specs.declared.event.Event.TheVariants.{Open, Start, Send, Report as Reported, Turn, Close, Stop, Forks}
 use Rattle.pb_state.specs.State.{State}
 use Rattle.pb_state.specs.Machine.{after, facts_at, learnt_by, next_at, open_play, plan_seen, reported_in, start_at, started_in}
-use Rattle.pb_state.specs.Known.{IsLearner, gives_nothing, if_alone, learner, report_alone, start_alone, teaches_alone, teaches_alone_at}
+use Rattle.pb_state.specs.Learners.{has_number, is_among, with_host, taught_by, LearnTogether}
+use Rattle.pb_state.specs.Known.{AreLearners, came_gives, event_gives, host_of, start_gives, start_gives_at}
 
--- ---- what changes nobody's facts
--- gifts that are no facts
-then_same : (host : ℕ) (to : Option ℕ) (facts : Option Map) (rest : List DelegatedFacts) → ((rows : List HostOf) → learnt_by (with_delegated rest rows) ≡ learnt_by rows)
-    → (rows : List HostOf) → learnt_by (with_delegated (gift_then host Nothing to facts rest) rows) ≡ learnt_by rows
-then_same host None facts rest same rows = same rows
-then_same host (Some h) None rest same rows = same rows
-then_same host (Some h) (Some facts) rest same rows = by_host (h == host)
-  where
-    gift : DelegatedFacts
-    gift = record { host = record { 0 = h }; gives = Nothing; facts = facts }
+-- ---- who is given nothing
+clash : true ≡ false → ⊥
+clash e = cc
 
-    by_host : (own : Bool) → learnt_by (with_delegated (if own then rest else gift ∷ rest) rows) ≡ learnt_by rows
-    by_host true = same rows
-    by_host false = same (change rows h (takes gift)) ∙ map_same (λ (row : HostOf). row.facts) (takes gift) (λ (row : HostOf). refl) rows h
+is_neither : (a b : Bool) → (a || b) ≡ false → (a ≡ false) × (b ≡ false)
+is_neither true b e = absurd (clash e)
+is_neither false b e = (refl, e)
 
-nothing_same : (inventory : InventoryOf) (host : ℕ) (items : List Item) (rows : List HostOf) → learnt_by (with_delegated (gifts_with inventory host Nothing items) rows) ≡ learnt_by rows
-nothing_same inventory host [] rows = refl
-nothing_same inventory host (item ∷ items) rows =
-    then_same host (delegate_of inventory item) (facts_of item.step) (gifts_with inventory host Nothing items) (nothing_same inventory host items) rows
+-- a host that isn't one of a list is none of those that are in it
+is_apart : (hosts : List HostNo) (h k : ℕ) → is_among hosts h ≡ true → is_among hosts k ≡ false → (b : Bool) → (h == k) ≡ b → b ≡ false
+is_apart hosts h k has hasnt false e = refl
+is_apart hosts h k has hasnt true e = sym has ∙ ap (is_among hosts) (eqb-true h k e) ∙ hasnt
 
--- a task that doesn't delegate its facts, or has none, teaches no other host
-from_same : (inventory : InventoryOf) (h : ℕ) (items : List Item) (away run there : Bool) (gives : Gives) → (not away || gives_nothing gives) ≡ true
-    → (rows : List HostOf) → learnt_by (with_delegated (if away && run && there then gifts_with inventory h gives items else []) rows) ≡ learnt_by rows
-from_same inventory h items false run there gives e rows = refl
-from_same inventory h items true run there Nothing e rows = by_giving (true && run && there)
-  where
-    by_giving : (giving : Bool) → learnt_by (with_delegated (if giving then gifts_with inventory h Nothing items else []) rows) ≡ learnt_by rows
-    by_giving true = nothing_same inventory h items rows
-    by_giving false = refl
-from_same inventory h items true run there Sets e rows = cc
-from_same inventory h items true run there Gathers e rows = cc
+hasnt_host : (hosts : List HostNo) (host : HostNo) (k : ℕ) (b : Bool) → is_among hosts host.0 ≡ b → is_among (if b then hosts else hosts ++ host ∷ []) k ≡ false → (is_among hosts k ≡ false) × ((host.0 == k) ≡ false)
+hasnt_host hosts host k true e none = (none, is_apart hosts host.0 k e none (host.0 == k) refl)
+hasnt_host hosts host k false e none =
+    let both = is_neither (is_among hosts k) ((host.0 == k) || false) (sym (list_any-append (has_number k) hosts (host ∷ [])) ∙ none) in
+    (both.0, (is_neither (host.0 == k) false both.1).0)
 
-given_same : (inventory : InventoryOf) (play : PlayOf) (p h : ℕ) (task : TaskResult) (items : List Item) → teaches_alone_at play p ≡ true
-    → (rows : List HostOf) → learnt_by (with_delegated (given_by inventory play p h task items) rows) ≡ learnt_by rows
-unfolding given_by
-given_same inventory play p h task items e rows = by_place (slice_get play.places p) e
-  where
-    by_place : (found : Option PlaceOf) → option_map_or teaches_alone found true ≡ true → learnt_by (with_delegated (option_map_or (gifts_from inventory h task items) found []) rows) ≡ learnt_by rows
-    by_place None e = refl
-    by_place (Some place) e = from_same inventory h items place.delegate_facts (has_run task) (not task.unreachable) (gives_of place.task.«module») e rows
+abbrev is_given : List DelegatedFacts → ℕ → Bool
+is_given gifts k = list_any (λ (gift : DelegatedFacts). gift.host.0 == k) gifts
 
-pub gifts_same : (inventory : InventoryOf) (play : PlayOf) (p h : ℕ) (items : List Item) → teaches_alone_at play p ≡ true
-    → (rows : List HostOf) → learnt_by (with_delegated (gifts_at inventory play p h items) rows) ≡ learnt_by rows
-gifts_same inventory play p h items e rows = by_over (is_over items)
-  where
-    by_over : (b : Bool) → learnt_by (with_delegated (if b then given_by inventory play p h (task_at play p items).result items else []) rows) ≡ learnt_by rows
-    by_over true = given_same inventory play p h (task_at play p items).result items e rows
-    by_over false = refl
+pub neither_is : (a b : Bool) → a ≡ false → b ≡ false → (a || b) ≡ false
+neither_is true b e f = cc
+neither_is false b e f = f
 
--- the place of the task that a host runs
-abbrev pub run_place : Option Running → Option ℕ
-run_place running = option_map_or (λ (r : Running). Some r.place) running None
-
-pub report_same : (plan : PlanOf) (play : PlayOf) (outcome : Form) (h : ℕ) (row : HostOf) (running : Option Running) → option_map_or (teaches_alone_at play) (run_place running) true ≡ true
-    → (rows : List HostOf) → learnt_by (with_delegated (option_map_or (gifts_by plan play outcome h row) running []) rows) ≡ learnt_by rows
-report_same plan play outcome h row None e rows = refl
-report_same plan play outcome h row (Some r) e rows = gifts_same plan.inventory play r.place h (items_after plan play row.host row.facts outcome r) e rows
-
-reports_same : (plan : PlanOf) (play : PlayOf) (outcome : Form) (h : ℕ) (found : Option HostOf) → option_map_or (teaches_alone_at play) (option_map_or (λ (row : HostOf). run_place row.running) found None) true ≡ true
-    → (rows : List HostOf) → learnt_by (with_delegated (option_map_or (gifts_of plan play outcome h) found []) rows) ≡ learnt_by rows
-reports_same plan play outcome h None e rows = refl
-reports_same plan play outcome h (Some row) e rows = report_same plan play outcome h row row.running e rows
+taught_none : (gifts : List DelegatedFacts) (hosts : List HostNo) (k : ℕ) → is_among (taught_by gifts hosts) k ≡ false → (is_among hosts k ≡ false) × (is_given gifts k ≡ false)
+taught_none [] hosts k none = (none, refl)
+taught_none (gift ∷ gifts) hosts k none =
+    let later = taught_none gifts (with_host gift.host hosts) k none in
+    let now = hasnt_host hosts gift.host k (is_among hosts gift.host.0) refl later.0 in
+    (now.0, neither_is (gift.host.0 == k) (is_given gifts k) now.1 later.1)
 
 -- ---- the rows of all hosts: where one changes, the others have learnt what they had
 set_apart : (rows : List HostOf) (h k : ℕ) (row : HostOf) → k ≢ h → row_of (learnt_by (slice_set rows h row)) k ≡ row_of (learnt_by rows) k
@@ -112,44 +71,47 @@ change_alone rows h f = λ k apart. by_found k apart (slice_get rows h)
     by_found k apart None = refl
     by_found k apart (Some row) = set_apart rows h k (f row) apart
 
-given_alone : (gifts : List DelegatedFacts) (rows : List HostOf) (h : ℕ) (f : HostOf → HostOf) → ((all : List HostOf) → learnt_by (with_delegated gifts all) ≡ learnt_by all)
-    → LearnsAlone h (learnt_by rows) (learnt_by (with_delegated gifts (change rows h f)))
-given_alone gifts rows h f same = λ k apart. ap (λ (learnt : List FactsOf). row_of learnt k) (same (change rows h f)) ∙ change_alone rows h f k apart
+-- ---- gifts change what those know that are given something
+given_others : (gifts : List DelegatedFacts) (rows : List HostOf) (k : ℕ) → is_given gifts k ≡ false → row_of (learnt_by (with_delegated gifts rows)) k ≡ row_of (learnt_by rows) k
+given_others [] rows k none = refl
+given_others (gift ∷ gifts) rows k none =
+    let both = is_neither (gift.host.0 == k) (is_given gifts k) none in
+    given_others gifts (change rows gift.host.0 (takes gift)) k both.1 ∙ change_alone rows gift.host.0 (takes gift) k (λ same. eqb-false gift.host.0 k both.0 (sym same))
+
+pub learn_together : (gifts : List DelegatedFacts) (rows : List HostOf) (h : ℕ) (f : HostOf → HostOf) → LearnTogether (taught_by gifts []) h (learnt_by rows) (learnt_by (with_delegated gifts (change rows h f)))
+learn_together gifts rows h f = λ k apart none. given_others gifts (change rows h f) k (taught_none gifts [] k none).1 ∙ change_alone rows h f k apart
 
 -- ---- each event
-start_in_alone : (plan : PlanOf) (s : State) (h : ℕ) (play : PlayOf) (next : Option ℕ) → option_map_or (teaches_alone_at play) next true ≡ true
-    → LearnsAlone h (learnt_by s.rows) (learnt_by (option_map_or (start_at plan s h play) next s).rows)
-start_in_alone plan s h play None e = λ k apart. refl
-start_in_alone plan s h play (Some p) e =
+start_in_learns : (plan : PlanOf) (s : State) (h : ℕ) (play : PlayOf) (next : Option ℕ)
+    → LearnTogether (taught_by (option_map_or (start_gives_at plan s h play) next []) []) h (learnt_by s.rows) (learnt_by (option_map_or (start_at plan s h play) next s).rows)
+start_in_learns plan s h play None = λ k apart none. refl
+start_in_learns plan s h play (Some p) =
     let items = items_at (plan_seen plan s) play h (facts_at s h) p in
-    given_alone (gifts_at plan.inventory play p h items) s.rows h (progressed plan.inventory play p items) (gifts_same plan.inventory play p h items e)
+    learn_together (gifts_at plan.inventory play p h items) s.rows h (progressed plan.inventory play p items)
 
-started_alone : (plan : PlanOf) (s : State) (h : ℕ) (found : Option PlayOf) → option_map_or (start_alone s h) found true ≡ true → LearnsAlone h (learnt_by s.rows) (learnt_by (option_map_or (started_in plan s h) found s).rows)
-started_alone plan s h None e = λ k apart. refl
-started_alone plan s h (Some play) e = start_in_alone plan s h play (next_at s h) e
+started_learns : (plan : PlanOf) (s : State) (h : ℕ) (found : Option PlayOf)
+    → LearnTogether (taught_by (option_map_or (start_gives plan s h) found []) []) h (learnt_by s.rows) (learnt_by (option_map_or (started_in plan s h) found s).rows)
+started_learns plan s h None = λ k apart none. refl
+started_learns plan s h (Some play) = start_in_learns plan s h play (next_at s h)
 
-came_alone : (plan : PlanOf) (s : State) (r : Report) (found : Option PlayOf) → option_map_or (report_alone s r.host.0) found true ≡ true
-    → LearnsAlone r.host.0 (learnt_by s.rows) (learnt_by (option_map_or (reported_in plan s r) found s).rows)
-came_alone plan s r None e = λ k apart. refl
-came_alone plan s r (Some play) e =
-    given_alone (option_map_or (gifts_of (plan_seen plan s) play r.outcome r.host.0) (slice_get s.rows r.host.0) []) s.rows r.host.0 (reported (plan_seen plan s) play r.outcome)
-    (reports_same (plan_seen plan s) play r.outcome r.host.0 (slice_get s.rows r.host.0) e)
+came_learns : (plan : PlanOf) (s : State) (r : Report) (found : Option PlayOf)
+    → LearnTogether (taught_by (option_map_or (came_gives plan s r) found []) []) r.host.0 (learnt_by s.rows) (learnt_by (option_map_or (reported_in plan s r) found s).rows)
+came_learns plan s r None = λ k apart none. refl
+came_learns plan s r (Some play) =
+    learn_together (report_gives (plan_seen plan s) play r.outcome r.host.0 s.rows) s.rows r.host.0 (reported (plan_seen plan s) play r.outcome)
 
-learner_if : (old new : State) (h : HostNo) (b : Bool) → (b ≡ true → LearnsAlone h.0 (learnt_by old.rows) (learnt_by new.rows)) → IsLearner (if_alone b h) old new
-learner_if old new h true alone = alone refl
-learner_if old new h false alone = tt
+are_learners : (plan : PlanOf) (s : State) (event : Event) → AreLearners (host_of event) (event_gives plan s event) s (after plan s event)
+are_learners plan s Open = tt
+are_learners plan s (Start h) = started_learns plan s h.0 (open_play plan s)
+are_learners plan s (Send h item attempt ticket) = tt
+are_learners plan s (Reported r) = came_learns plan s r (open_play plan s)
+are_learners plan s Turn = tt
+are_learners plan s Close = tt
+are_learners plan s Stop = tt
+are_learners plan s (Forks n) = tt
 
-pub is_learner : (plan : PlanOf) (s : State) (event : Event) → IsLearner (learner plan s event) s (after plan s event)
-is_learner plan s Open = tt
-is_learner plan s (Start h) = learner_if s (after plan s (Start h)) h (option_map_or (start_alone s h.0) (open_play plan s) true) (started_alone plan s h.0 (open_play plan s))
-is_learner plan s (Send h item attempt ticket) = tt
-is_learner plan s (Reported r) =
-    learner_if s (after plan s (Reported r)) r.host (option_map_or (report_alone s r.host.0) (open_play plan s) true) (came_alone plan s r (open_play plan s))
-is_learner plan s Turn = tt
-is_learner plan s Close = tt
-is_learner plan s Stop = tt
-is_learner plan s (Forks n) = tt
-
-pub learner_after : (plan : PlanOf) (s new : State) (event : Event) (host : Option HostNo) → host ≡ learner plan s event → new ≡ after plan s event → IsLearner host s new
-learner_after plan s new event host is came =
-    subst (λ (h : Option HostNo). IsLearner h s new) (sym is) (subst (λ (t : State). IsLearner (learner plan s event) s t) (sym came) (is_learner plan s event))
+pub learners_after : (plan : PlanOf) (s new : State) (event : Event) (host : Option HostNo) (gifts : List DelegatedFacts) → host ≡ host_of event → gifts ≡ event_gives plan s event → new ≡ after plan s event
+    → AreLearners host gifts s new
+learners_after plan s new event host gifts of is came =
+    subst (λ (h : Option HostNo). AreLearners h gifts s new) (sym of)
+    (subst (λ (given : List DelegatedFacts). AreLearners (host_of event) given s new) (sym is) (subst (λ (t : State). AreLearners (host_of event) (event_gives plan s event) s t) (sym came) (are_learners plan s event)))

@@ -1,7 +1,9 @@
 pub mod ReadHosts
+pub mod Teaching
 pub mod KeepsFacts
 pub mod GoesOn
 pub mod Learner
+pub mod Renewing
 pub mod Stands
 pub mod Idle
 pub mod Readies

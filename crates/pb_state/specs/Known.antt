@@ -1,22 +1,26 @@
 -- The map of `hostvars` that is kept from step to step, and which steps surely leave what the hosts know as it was
 -- (Ansible's documentation, "Discovering variables: facts and magic variables").
-use Rattle.std.specs.Prelude.{◌≡◌, ℕ, List, Bool, true, false, ◌&&◌, ◌||◌, not, Option, Some, None, is_none, is_some, IfSome, slice_get, if◌then◌else◌}
+use Rattle.std.specs.Prelude.{◌≡◌, ℕ, List, [], Bool, true, false, ◌&&◌, Option, Some, None, is_none, is_some, IfSome, slice_get}
 use Rattle.std.specs.Option.{option_map_or}
 use Rattle.pb_value.specs.Datum.{Datum}
 use Rattle.pb_ids.specs.declared.numbers.HostNo.{HostNo}
 use Rattle.pb_facts.specs.declared.facts.Gives.{Gives}
 use Rattle.pb_facts.specs.declared.facts.Gives.TheVariants.{Nothing, Sets, Gathers}
+use Rattle.pb_outcome.specs.declared.job.Report.{Report}
 use Rattle.pb_variables.specs.Magic.{hostvars, hosts_magic}
-use Rattle.pb_variables.specs.Renewed.{LearnsAlone}
 use Rattle.pb_places.specs.Place.{PlaceOf}
 use Rattle.pb_plan.specs.Plan.{PlayOf, PlanOf}
 use Rattle.pb_task_vars.specs.Learning.{gives_of}
+use Rattle.pb_task_vars.specs.Results.{items_at}
+use Rattle.pb_task_vars.specs.declared.gifts.DelegatedFacts.{DelegatedFacts}
 use Rattle.pb_host.specs.declared.host.Running.{Running}
 use Rattle.pb_host.specs.Host.{HostOf}
+use Rattle.pb_hosts.specs.Giving.{gifts_at, report_gives}
 use Rattle.pb_state.specs.declared.event.Event.{Event}
 use Rattle.pb_state.specs.declared.event.Event.TheVariants.{Open, Start, Send, Report as Reported, Turn, Close, Stop, Forks}
 use Rattle.pb_state.specs.State.{State}
-use Rattle.pb_state.specs.Machine.{open_play, next_at, learnt_by}
+use Rattle.pb_state.specs.Machine.{open_play, next_at, learnt_by, facts_at, plan_seen}
+use Rattle.pb_state.specs.Learners.{LearnTogether, taught_by}
 
 -- the map of `hostvars` in a state
 abbrev pub hosts_now : PlanOf → State → List (List ℕ × Datum)
@@ -59,32 +63,36 @@ keeps_facts plan s Close = false
 keeps_facts plan s Stop = true
 keeps_facts plan s (Forks n) = true
 
--- a task whose facts aren't delegated, or that gives none, teaches its own host alone
-abbrev pub teaches_alone : PlaceOf → Bool
-teaches_alone place = not place.delegate_facts || gives_nothing (gives_of place.task.«module»)
+-- what the task of a host gives to other hosts as an event starts it, or brings it on, and it ends then
+abbrev pub start_gives_at : PlanOf → State → ℕ → PlayOf → ℕ → List DelegatedFacts
+start_gives_at plan s h play p = gifts_at plan.inventory play p h (items_at (plan_seen plan s) play h (facts_at s h) p)
 
-abbrev pub teaches_alone_at : PlayOf → ℕ → Bool
-teaches_alone_at play p = option_map_or teaches_alone (slice_get play.places p) true
+abbrev pub start_gives : PlanOf → State → ℕ → PlayOf → List DelegatedFacts
+start_gives plan s h play = option_map_or (start_gives_at plan s h play) (next_at s h) []
 
-abbrev pub start_alone : State → ℕ → PlayOf → Bool
-start_alone s h play = option_map_or (teaches_alone_at play) (next_at s h) true
+abbrev pub came_gives : PlanOf → State → Report → PlayOf → List DelegatedFacts
+came_gives plan s r play = report_gives (plan_seen plan s) play r.outcome r.host.0 s.rows
 
-abbrev pub report_alone : State → ℕ → PlayOf → Bool
-report_alone s h play = option_map_or (teaches_alone_at play) (running_at s h) true
+abbrev pub event_gives : PlanOf → State → Event → List DelegatedFacts
+event_gives plan s Open = []
+event_gives plan s (Start h) = option_map_or (start_gives plan s h.0) (open_play plan s) []
+event_gives plan s (Send h item attempt ticket) = []
+event_gives plan s (Reported r) = option_map_or (came_gives plan s r) (open_play plan s) []
+event_gives plan s Turn = []
+event_gives plan s Close = []
+event_gives plan s Stop = []
+event_gives plan s (Forks n) = []
 
-abbrev pub if_alone : Bool → HostNo → Option HostNo
-if_alone alone host = if alone then Some host else None
-
--- the host that alone may know more after an event; there is none where others may, too, or none does
-abbrev pub learner : PlanOf → State → Event → Option HostNo
-learner plan s Open = None
-learner plan s (Start h) = if_alone (option_map_or (start_alone s h.0) (open_play plan s) true) h
-learner plan s (Send h item attempt ticket) = None
-learner plan s (Reported r) = if_alone (option_map_or (report_alone s r.host.0) (open_play plan s) true) r.host
-learner plan s Turn = None
-learner plan s Close = None
-learner plan s Stop = None
-learner plan s (Forks n) = None
+-- the host whose task that is
+abbrev pub host_of : Event → Option HostNo
+host_of Open = None
+host_of (Start h) = Some h
+host_of (Send h item attempt ticket) = None
+host_of (Reported r) = Some r.host
+host_of Turn = None
+host_of Close = None
+host_of Stop = None
+host_of (Forks n) = None
 
 -- whether the task that an event starts or brings on goes on behind it: what it teaches comes with its end
 abbrev pub task_goes_on : State → Event → Bool
@@ -97,7 +105,7 @@ task_goes_on new Close = false
 task_goes_on new Stop = false
 task_goes_on new (Forks n) = false
 
--- of two states the second one's hosts have learnt what those of the first have, but for this host
-abbrev pub IsLearner : Option HostNo → State → State → Type 0
-IsLearner None old new = Unit {0}
-IsLearner (Some h) old new = LearnsAlone h.0 (learnt_by old.rows) (learnt_by new.rows)
+-- of two states the second one's hosts have learnt what those of the first have, but for this host and those that are given something
+abbrev pub AreLearners : Option HostNo → List DelegatedFacts → State → State → Type 0
+AreLearners None gifts old new = Unit {0}
+AreLearners (Some h) gifts old new = LearnTogether (taught_by gifts []) h.0 (learnt_by old.rows) (learnt_by new.rows)

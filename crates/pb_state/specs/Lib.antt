@@ -1,6 +1,7 @@
 pub mod State
 pub mod Strategies
 pub mod Machine
+pub mod Learners
 pub mod Known
 pub mod Jobs
 pub mod Run

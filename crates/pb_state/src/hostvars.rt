@@ -1,16 +1,19 @@
 //! What `hostvars` stands for, with what the rows say that their hosts have learnt.
 
-ghost use Rattle.std.specs.Prelude.{◌≡◌, List, [], true, false, IfOk, IfSome};
+ghost use Rattle.std.specs.Prelude.{◌≡◌, List, [], true, false, IfOk, IfSome, OnOk};
 ghost use Rattle.pb_variables.specs.Learnt.{facts_in};
+ghost use Rattle.pb_facts.specs.Book.{row_of};
 ghost use Rattle.pb_facts.specs.Facts.{FactsOf};
 ghost use Rattle.pb_variables.specs.Magic.{hostvars, hosts_magic};
-ghost use Rattle.pb_variables.specs.Renewed.{IsRenewed, LearnsAlone};
+ghost use Rattle.pb_variables.specs.Renewed.{IsRenewed};
+ghost use Rattle.pb_state.specs.Learners.{is_among, with_host, taught_by, put_rows, LearnTogether};
 ghost use Rattle.pb_state.specs.Machine.{learnt_by};
 
 use pb_facts::facts::Facts;
 use pb_host::Host;
 use pb_ids::HostNo;
 use pb_plan::Plan;
+use pb_task_vars::gifts::DelegatedFacts;
 use pb_task_vars::hostvars::hosts_known;
 use pb_value::val::Dict;
 use pb_variables::hostvars::renewed;
@@ -81,15 +84,8 @@ fn renewed_with(
 }
 
 /// The same with what that host's row says that it has learnt.
-pub(crate) fn renewed_for(
-    alloc: Global,
-    plan: &Plan,
-    rows: &[Host],
-    hosts: Dict,
-    host: HostNo,
-) -> Option<Dict>
-    ensures { IfSome result (λ known. (before : List FactsOf) → LearnsAlone host.0 before (learnt_by rows.now) → hosts ≡ hosts_magic (hostvars plan.now.inventory plan.now.extra before)
-        → known ≡ hosts_magic (hostvars plan.now.inventory plan.now.extra (learnt_by rows.now))) }
+fn renewed_for(alloc: Global, plan: &Plan, rows: &[Host], hosts: Dict, host: HostNo) -> Option<Dict>
+    ensures { IfSome result (IsRenewed plan.now.inventory plan.now.extra (row_of (learnt_by rows.now) host.0) host.0 hosts) }
 {
     match rows.get(host.0 as usize) {
         Some(row) => renewed_with(alloc, plan, hosts, row.facts(), host),
@@ -100,6 +96,72 @@ pub(crate) fn renewed_for(
             kept
         }
     }
+}
+
+/// The same of several hosts, one after another.
+fn renewed_each(
+    alloc: Global,
+    plan: &Plan,
+    rows: &[Host],
+    hosts: Dict,
+    taught: &[HostNo],
+) -> Option<Dict>
+    ensures { IfSome result (λ known. (before : List FactsOf) → hosts ≡ hosts_magic (hostvars plan.now.inventory plan.now.extra before)
+        → known ≡ hosts_magic (hostvars plan.now.inventory plan.now.extra (put_rows taught.now (learnt_by rows.now) before))) }
+{
+    let mut known = hosts;
+    for host in taught {
+        known = renewed_for(alloc, plan, rows, known, *host)?;
+    }
+    Some(known)
+}
+
+/// One host more, unless it is among these.
+fn add_host(hosts: &mut Vec<HostNo>, host: HostNo) -> Result<(), AllocError>
+    ensures { OnOk result (hosts.new.items ≡ with_host host hosts.old.items) }
+{
+    if !is_among(hosts.as_slice(), host) {
+        hosts.push(host)?;
+    }
+    Ok(())
+}
+
+/// Whether a host is among these.
+fn is_among(hosts: &[HostNo], host: HostNo) -> bool
+    ensures { result ≡ is_among hosts.now host.0 }
+{
+    hosts.iter().any(|one| one.0 == host.0)
+}
+
+/// The hosts that are given something, each once.
+fn taught_by(alloc: Global, gifts: &[DelegatedFacts]) -> Result<Vec<HostNo>, AllocError>
+    ensures { IfOk result (λ taught. taught.items ≡ taught_by gifts.now []) }
+{
+    let mut taught = Vec::new(alloc);
+    for gift in gifts {
+        add_host(&mut taught, gift.host)?;
+    }
+    Ok(taught)
+}
+
+/// The variable `hostvars` with what this host and those that are given something have learnt put anew, where it can be.
+pub(crate) fn renewed_with_gifts(
+    alloc: Global,
+    plan: &Plan,
+    rows: &[Host],
+    hosts: Dict,
+    gifts: &[DelegatedFacts],
+    host: HostNo,
+) -> Option<Dict>
+    ensures { IfSome result (λ known. (before : List FactsOf) → LearnTogether (taught_by gifts.now []) host.0 before (learnt_by rows.now)
+        → hosts ≡ hosts_magic (hostvars plan.now.inventory plan.now.extra before) → known ≡ hosts_magic (hostvars plan.now.inventory plan.now.extra (learnt_by rows.now))) }
+{
+    let Ok(taught) = taught_by(alloc, gifts) else {
+        drop(hosts);
+        return None;
+    };
+    let known = renewed_each(alloc, plan, rows, hosts, taught.as_slice())?;
+    renewed_for(alloc, plan, rows, known, host)
 }
 
 /// No variable `hostvars`, as a task may see it that doesn't look it up.

@@ -1,9 +1,9 @@
-//! The map of `hostvars` that is kept from step to step, which steps leave what the hosts have learnt as it was, and after which one host alone may know more.
+//! The map of `hostvars` that is kept from step to step, which steps leave what the hosts have learnt as it was, and whose task a step is about.
 
 ghost use Rattle.std.specs.Prelude.{◌≡◌, true, Option, Some, None, if◌then◌else◌};
 ghost use Rattle.pb_task_vars.specs.Learning.{gives_of};
 ghost use Rattle.pb_state.specs.Known.{gives_nothing, teaches_nothing, teaches_nothing_at, keeps_facts, start_keeps, report_keeps};
-ghost use Rattle.pb_state.specs.Known.{teaches_alone, teaches_alone_at, start_alone, report_alone, if_alone, learner, task_goes_on};
+ghost use Rattle.pb_state.specs.Known.{host_of, task_goes_on};
 
 use crate::event::Event;
 use crate::hostvars::Shown;
@@ -63,28 +63,16 @@ fn teaches_nothing_at(play: &PlanPlay, place: usize) -> bool
     }
 }
 
-/// Whether no host but its own may know more once the task at a place has ended on one.
-fn teaches_alone(place: &Place) -> bool
-    ensures { result ≡ teaches_alone place.now }
+/// The host whose task an event starts or brings on, if it does.
+pub(crate) fn host_of(event: &Event) -> Option<HostNo>
+    ensures { result ≡ host_of event.now }
 {
-    !place.delegate_facts() || gives_nothing(&place.task().module)
-}
-
-/// The same of the place with this number; where there is none there is no task.
-fn teaches_alone_at(play: &PlanPlay, place: usize) -> bool
-    ensures { result ≡ teaches_alone_at play.now place }
-{
-    match play.place(place) {
-        Some(place) => teaches_alone(place),
-        None => true,
+    match event {
+        Event::Start(host) => Some(*host),
+        Event::Report(report) => Some(report.host),
+        Event::Send { .. } | Event::Stop | Event::Forks(_) => None,
+        Event::Close | Event::Open | Event::Turn => None,
     }
-}
-
-/// The host, where it is alone.
-fn if_alone(alone: bool, host: HostNo) -> Option<HostNo>
-    ensures { result ≡ if_alone alone host }
-{
-    if alone { Some(host) } else { None }
 }
 
 impl EngineState {
@@ -126,26 +114,6 @@ impl EngineState {
         }
     }
 
-    /// Whether no other host may know more once the task that a host starts has ended.
-    fn start_alone(&self, play: &PlanPlay, host: HostNo) -> bool
-        ensures { result ≡ start_alone self.now host.0 play.now }
-    {
-        match self.next_at(host) {
-            Some(place) => teaches_alone_at(play, place),
-            None => true,
-        }
-    }
-
-    /// Whether no other host may know more once the task that a host runs has ended.
-    fn report_alone(&self, play: &PlanPlay, host: HostNo) -> bool
-        ensures { result ≡ report_alone self.now host.0 play.now }
-    {
-        match self.running_at(host) {
-            Some(place) => teaches_alone_at(play, place),
-            None => true,
-        }
-    }
-
     /// Whether the task that an event has started or brought on goes on: what it teaches comes with its end.
     pub(crate) fn task_goes_on(&self, event: &Event) -> bool
         ensures { result ≡ task_goes_on self.now event.now }
@@ -155,24 +123,6 @@ impl EngineState {
             Event::Report(report) => self.running_at(report.host).is_some(),
             Event::Send { .. } | Event::Stop | Event::Forks(_) => false,
             Event::Close | Event::Open | Event::Turn => false,
-        }
-    }
-
-    /// The host that alone may know more after an event, if it is one.
-    pub(crate) fn learner(&self, plan: &Plan, event: &Event) -> Option<HostNo>
-        ensures { result ≡ learner plan.now self.now event.now }
-    {
-        match event {
-            Event::Start(host) => match self.open_play(plan) {
-                Some(play) => if_alone(self.start_alone(play, *host), *host),
-                None => Some(*host),
-            },
-            Event::Report(report) => match self.open_play(plan) {
-                Some(play) => if_alone(self.report_alone(play, report.host), report.host),
-                None => Some(report.host),
-            },
-            Event::Send { .. } | Event::Stop | Event::Forks(_) => None,
-            Event::Open | Event::Turn | Event::Close => None,
         }
     }
 }

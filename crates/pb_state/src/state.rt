@@ -1,7 +1,7 @@
 //! The state of a run, and its steps.
 
 ghost use Rattle.std.specs.Prelude.{◌≡◌, ◌≤◌, ◌<◌, length, OnOk, OnErr, IfOk, true, false};
-ghost use Rattle.pb_state.specs.Known.{IsKnown};
+ghost use Rattle.pb_state.specs.Known.{IsKnown, event_gives};
 ghost use Rattle.pb_state.specs.State.{State};
 
 mod asked;
@@ -13,10 +13,12 @@ mod start;
 mod turn;
 
 use crate::event::Event;
+use crate::known::host_of;
 use crate::sizes_left::SizesLeft;
 use pb_host::{StepResult, decide};
 use pb_hosts::Hosts;
 use pb_plan::Plan;
+use pb_task_vars::gifts::DelegatedFacts;
 use pb_value::val::Dict;
 use std::alloc::{AllocError, Global};
 use std::marker::Model;
@@ -179,8 +181,9 @@ impl EngineState {
         stepped
     }
 
-    /// The same, where the map of `hostvars` is kept from step to step: it is made where a task may look it up and there is none, and is there until several
-    /// hosts may have learnt something, which is as a task ends. Where one alone may have, that host's variables in it are put anew. An `Err` changes nothing of the state.
+    /// The same, where the map of `hostvars` is kept from step to step: it is made where a task may look it up and there is none, and is there until a batch
+    /// opens, turns or closes. As a task ends on a host, the variables of that host and of those that the task gives facts to are put anew in it. An `Err`
+    /// changes nothing of the state.
     ///
     /// # Errors
     /// `Illegal` where the event isn't possible in this state, `Memory` where memory was refused.
@@ -213,52 +216,62 @@ impl EngineState {
             return Err(StepFault::Illegal);
         }
         let keeps = self.keeps_facts(plan, event);
-        let learner = self.learner(plan, event);
-        self.apply(plan, event, known)?;
+        let learner = host_of(event);
+        let gifts = self.apply(plan, event, known)?;
         if keeps {
             return Ok(());
         }
-        self.renew(plan, event, learner, known);
+        self.renew(plan, event, learner, gifts.as_slice(), known);
         Ok(())
     }
 
-    /// What an event that is possible leads to.
+    /// What an event that is possible leads to. What the task of a host gives to other hosts is handed out.
     fn apply(
         &mut self,
         plan: &Plan,
         event: &Event,
         known: &mut Option<Dict>,
-    ) -> Result<(), AllocError>
+    ) -> Result<Vec<DelegatedFacts>, AllocError>
         requires may { possible plan.now self.old event.now ≡ true }
         requires known { IsKnown plan.now self.old known.old }
         ensures ok { OnOk result (self.new ≡ after plan.now self.old event.now) }
+        ensures gifts { IfOk result (λ gifts. gifts.items ≡ event_gives plan.now self.old event.now) }
         ensures err { OnErr result (self.new ≡ self.old) }
         ensures known { IsKnown plan.now self.old known.new }
     {
         match event {
-            Event::Open => self.open(plan),
+            Event::Open => {
+                self.open(plan)?;
+                Ok(Vec::new(self.alloc))
+            }
             Event::Start(host) => self.start(plan, *host, known),
             Event::Send {
                 host,
                 item,
                 attempt,
                 ticket,
-            } => self.send(plan, *host, *item, *attempt, *ticket),
+            } => {
+                self.send(plan, *host, *item, *attempt, *ticket)?;
+                Ok(Vec::new(self.alloc))
+            }
             Event::Report(report) => self.report(plan, report, known),
-            Event::Turn => self.turn(plan),
+            Event::Turn => {
+                self.turn(plan)?;
+                Ok(Vec::new(self.alloc))
+            }
             Event::Close => {
                 self.close();
-                Ok(())
+                Ok(Vec::new(self.alloc))
             }
             Event::Stop => {
                 self.stopped = true;
                 decide(&mut self.step_result, None);
-                Ok(())
+                Ok(Vec::new(self.alloc))
             }
             Event::Forks(forks) => {
                 self.forks = *forks;
                 decide(&mut self.step_result, None);
-                Ok(())
+                Ok(Vec::new(self.alloc))
             }
         }
     }

@@ -1,0 +1,47 @@
+-- The hosts that are given facts as a task ends, and how what hosts have learnt differs by them.
+use Rattle.std.specs.Prelude.{◌≡◌, ◌≢◌, ℕ, zero, suc, ◌==◌, Bool, false, List, [], ◌∷◌, ◌++◌, if◌then◌else◌, refl}
+use Rattle.std.specs.List.{list_any}
+use Rattle.pb_ids.specs.declared.numbers.HostNo.{HostNo}
+use Rattle.pb_facts.specs.declared.facts.Gives.TheVariants.{Nothing}
+use Rattle.pb_facts.specs.Book.{row_of}
+use Rattle.pb_facts.specs.Facts.{FactsOf, no_facts}
+use Rattle.pb_task_vars.specs.declared.gifts.DelegatedFacts.{DelegatedFacts}
+
+abbrev pub has_number : ℕ → HostNo → Bool
+has_number number host = host.0 == number
+
+abbrev pub is_among : List HostNo → ℕ → Bool
+is_among hosts number = list_any (has_number number) hosts
+
+-- one host more, unless it is among these
+abbrev pub with_host : HostNo → List HostNo → List HostNo
+with_host host hosts = if is_among hosts host.0 then hosts else hosts ++ host ∷ []
+
+-- the hosts that are given something, behind these, each once
+abbrev pub taught_by : List DelegatedFacts → List HostNo → List HostNo
+taught_by [] hosts = hosts
+taught_by (gift ∷ gifts) hosts = taught_by gifts (with_host gift.host hosts)
+
+-- the hosts, by their numbers, have learnt now what they had learnt before, but for these and this one
+abbrev pub LearnTogether : List HostNo → ℕ → List FactsOf → List FactsOf → Type 0
+LearnTogether taught host before now = (other : ℕ) → other ≢ host → is_among taught other ≡ false → row_of now other ≡ row_of before other
+
+-- what a host has learnt is put into a list, which goes as far as this host then
+abbrev pub put_row : ℕ → FactsOf → List FactsOf → List FactsOf
+put_row zero facts [] = facts ∷ []
+put_row zero facts (row ∷ rows) = facts ∷ rows
+put_row (suc host) facts [] = no_facts ∷ put_row host facts []
+put_row (suc host) facts (row ∷ rows) = row ∷ put_row host facts rows
+
+-- what each of these hosts has learnt now is put into the list of what was learnt before
+abbrev pub put_rows : List HostNo → List FactsOf → List FactsOf → List FactsOf
+put_rows [] now before = before
+put_rows (host ∷ hosts) now before = put_rows hosts now (put_row host.0 (row_of now host.0) before)
+
+-- ---- rows
+abbrev gift_to : ℕ → DelegatedFacts
+gift_to host = record { host = record { 0 = host }; gives = Nothing; facts = [] }
+
+-- who is given something twice is put anew once
+each_once : taught_by (gift_to 3 ∷ gift_to 1 ∷ gift_to 3 ∷ []) [] ≡ record { 0 = 3 } ∷ record { 0 = 1 } ∷ []
+each_once = refl
