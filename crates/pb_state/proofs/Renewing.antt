@@ -1,8 +1,9 @@
 -- What each of several hosts has learnt is put anew into the map of all hosts' variables, one after another.
-use Rattle.std.proofs.Common.{◌≡◌, ◌≢◌, ◌∙◌, ℕ, zero, suc, ◌+◌, Bool, true, false, ◌||◌, ◌++◌, List, [], ◌∷◌, Option, Some, None, slice_get, refl, sym, ap}
+use Rattle.std.proofs.Common.{◌≡◌, ◌≢◌, ◌∙◌, ◌<◌, ◌≤◌, ℕ, zero, suc, ◌+◌, Bool, true, false, ◌++◌, List, [], ◌∷◌, length, take, get_or, Option, Some, None, slice_get, refl, sym, ap, subst}
 use Rattle.std.specs.Prelude.{◌==◌, IfSome}
 use Rattle.std.specs.Option.{option_map_or}
 use Rattle.std.proofs.lemmas.Bool.{eqb-true, eqb-false}
+use Rattle.std.proofs.lemmas.List.{take_all, take_more}
 use Rattle.pb_value.specs.Datum.{Datum}
 use Rattle.pb_ids.specs.declared.numbers.HostNo.{HostNo}
 use Rattle.pb_inventory.specs.InventoryOf.{InventoryOf}
@@ -72,7 +73,7 @@ abbrev pub IsPut : InventoryOf → Map → List FactsOf → List HostNo → Map 
 IsPut inventory extra now hosts old new = (before : List FactsOf) → old ≡ hosts_magic (hostvars inventory extra before) → new ≡ hosts_magic (hostvars inventory extra (put_rows hosts now before))
 
 -- one host more
-pub is_put : (inventory : InventoryOf) (extra : Map) (now : List FactsOf) (hosts more : List HostNo) (host : HostNo) (old known new : Map) → more ≡ hosts ++ host ∷ [] → IsPut inventory extra now hosts old known
+is_put : (inventory : InventoryOf) (extra : Map) (now : List FactsOf) (hosts more : List HostNo) (host : HostNo) (old known new : Map) → more ≡ hosts ++ host ∷ [] → IsPut inventory extra now hosts old known
     → IsRenewed inventory extra (row_of now host.0) host.0 known new → IsPut inventory extra now more old new
 is_put inventory extra now hosts more host old known new is put renewed =
     λ before was.
@@ -80,6 +81,15 @@ is_put inventory extra now hosts more host old known new is put renewed =
     renewed mid (put_row host.0 (row_of now host.0) mid) (λ other apart. put_apart host.0 other (row_of now host.0) mid apart) (sym (put_there host.0 (row_of now host.0) mid)) (put before was)
     ∙ ap (λ (rows : List FactsOf). hosts_magic (hostvars inventory extra rows)) (sym (put_more hosts host now before))
     ∙ ap (λ (all : List HostNo). hosts_magic (hostvars inventory extra (put_rows all now before))) (sym is)
+
+pub next_put : (inventory : InventoryOf) (extra : Map) (now : List FactsOf) (hosts : List HostNo) (i : ℕ) (host : HostNo) (old known new : Map) → i < length hosts → host ≡ get_or hosts i host
+    → IsPut inventory extra now (take i hosts) old known → IsRenewed inventory extra (row_of now host.0) host.0 known new → IsPut inventory extra now (take (i + 1) hosts) old new
+next_put inventory extra now hosts i host old known new lt is put renewed =
+    is_put inventory extra now (take i hosts) (take (i + 1) hosts) host old known new (take_more hosts i host lt ∙ ap (λ (h : HostNo). take i hosts ++ h ∷ []) (sym is)) put renewed
+
+pub all_put : (inventory : InventoryOf) (extra : Map) (now : List FactsOf) (hosts : List HostNo) (i : ℕ) (old new : Map) → length hosts ≤ i → IsPut inventory extra now (take i hosts) old new
+    → IsPut inventory extra now hosts old new
+all_put inventory extra now hosts i old new le put = subst (λ (all : List HostNo). IsPut inventory extra now all old new) (take_all i hosts le) put
 
 -- and the host itself last
 abbrev pub IsPutAll : InventoryOf → Map → List FactsOf → List HostNo → ℕ → Map → Map → Type 0
@@ -91,7 +101,12 @@ put_last : (inventory : InventoryOf) (extra : Map) (now : List FactsOf) (hosts :
 put_last inventory extra now hosts host old known new put renewed =
     λ before together was. renewed (put_rows hosts now before) now (one_left hosts host before now together) refl (put before was)
 
-pub put_all : (inventory : InventoryOf) (extra : Map) (now : List FactsOf) (hosts : List HostNo) (host : ℕ) (old known : Map) (found : Option Map) → IsPut inventory extra now hosts old known
+put_found : (inventory : InventoryOf) (extra : Map) (now : List FactsOf) (hosts : List HostNo) (host : ℕ) (old known : Map) (found : Option Map) → IsPut inventory extra now hosts old known
     → IfSome found (IsRenewed inventory extra (row_of now host) host known) → IfSome found (IsPutAll inventory extra now hosts host old)
-put_all inventory extra now hosts host old known None put renewed = tt
-put_all inventory extra now hosts host old known (Some new) put renewed = put_last inventory extra now hosts host old known new put renewed
+put_found inventory extra now hosts host old known None put renewed = tt
+put_found inventory extra now hosts host old known (Some new) put renewed = put_last inventory extra now hosts host old known new put renewed
+
+pub put_all : (inventory : InventoryOf) (extra : Map) (now : List FactsOf) (hosts taught : List HostNo) (host : ℕ) (old known : Map) (found : Option Map) → hosts ≡ taught → IsPut inventory extra now hosts old known
+    → IfSome found (IsRenewed inventory extra (row_of now host) host known) → IfSome found (IsPutAll inventory extra now taught host old)
+put_all inventory extra now hosts taught host old known found is put renewed =
+    subst (λ (all : List HostNo). IfSome found (IsPutAll inventory extra now all host old)) is (put_found inventory extra now hosts host old known found put renewed)

@@ -120,9 +120,10 @@ fn renewed_each(
 fn add_host(hosts: &mut Vec<HostNo>, host: HostNo) -> Result<(), AllocError>
     ensures { OnOk result (hosts.new.items ≡ with_host host hosts.old.items) }
 {
-    if !is_among(hosts.as_slice(), host) {
-        hosts.push(host)?;
+    if is_among(hosts.as_slice(), host) {
+        return Ok(());
     }
+    hosts.push(host)?;
     Ok(())
 }
 

@@ -18,7 +18,7 @@ returns-then-keeps-clause-known c =
 pub returns-clause-known : goal.returns-clause-known
 returns-clause-known c =
     c.renew.ensures c.args.self.now c.in_ok-gifts.ensures.ok
-    (learners_after c.args.plan.now c.args.self.now c.apply.new.self c.args.event.now c.host_of-learner.result c.as_slice.result.now c.host_of-learner.ensures (c.as_slice.ensures ∙ c.in_ok-gifts.ensures.gifts) c.in_ok-gifts.ensures.ok)
+    (learners_after c.args.plan.now c.args.self.now c.apply.new.self c.args.event.now c.host_of-learner.result c.as_slice.result.now c.host_of-learner.ensures (c.as_slice.ensures.value ∙ c.in_ok-gifts.ensures.gifts) c.in_ok-gifts.ensures.ok)
     c.apply.ensures.known
 
 pub returns-then-keeps-clause-hosts : goal.returns-then-keeps-clause-hosts
