@@ -82,10 +82,10 @@ is_put inventory extra now hosts more host old known new is put renewed =
     ∙ ap (λ (rows : List FactsOf). hosts_magic (hostvars inventory extra rows)) (sym (put_more hosts host now before))
     ∙ ap (λ (all : List HostNo). hosts_magic (hostvars inventory extra (put_rows all now before))) (sym is)
 
-pub next_put : (inventory : InventoryOf) (extra : Map) (now : List FactsOf) (hosts : List HostNo) (i : ℕ) (host : HostNo) (old known new : Map) → i < length hosts → host ≡ get_or hosts i host
-    → IsPut inventory extra now (take i hosts) old known → IsRenewed inventory extra (row_of now host.0) host.0 known new → IsPut inventory extra now (take (i + 1) hosts) old new
-next_put inventory extra now hosts i host old known new lt is put renewed =
-    is_put inventory extra now (take i hosts) (take (i + 1) hosts) host old known new (take_more hosts i host lt ∙ ap (λ (h : HostNo). take i hosts ++ h ∷ []) (sym is)) put renewed
+pub next_put : (inventory : InventoryOf) (extra : Map) (now : List FactsOf) (hosts : List HostNo) (i : ℕ) (d : HostNo) (old known new : Map) → i < length hosts → IsPut inventory extra now (take i hosts) old known
+    → IsRenewed inventory extra (row_of now (get_or hosts i d).0) (get_or hosts i d).0 known new → IsPut inventory extra now (take (i + 1) hosts) old new
+next_put inventory extra now hosts i d old known new lt put renewed =
+    is_put inventory extra now (take i hosts) (take (i + 1) hosts) (get_or hosts i d) old known new (take_more hosts i d lt) put renewed
 
 pub all_put : (inventory : InventoryOf) (extra : Map) (now : List FactsOf) (hosts : List HostNo) (i : ℕ) (old new : Map) → length hosts ≤ i → IsPut inventory extra now (take i hosts) old new
     → IsPut inventory extra now hosts old new
