@@ -38,14 +38,14 @@ fn merged(alloc: Global, groups: &Groups) -> Result<String, Fail> {
     if groups.groups() != 3 || groups.hosts() != 1 {
         return Err(Fail::new("three groups and a host"));
     }
-    let mut told = String::new(alloc);
+    let mut text = String::new(alloc);
     for group in groups
         .merge_order(alloc, priorities.as_slice(), HostNo(0))?
         .iter()
     {
-        told.push_str(format!(in alloc; " {}", group.0)?.as_str())?;
+        text.push_str(format!(in alloc; " {}", group.0)?.as_str())?;
     }
-    Ok(told)
+    Ok(text)
 }
 
 /// Group 2 has the host, and becomes a child of group 1, which becomes one of group 0. A parent merges before its child.

@@ -120,7 +120,7 @@ module _ (bundle : Bundle) (forks : ℕ) (bytes : List ℕ) (plan : PlanOf) (tra
       } in
       let alike = end_alike plan f plan.forks forks 256 256 trail again (end_of plan trail) (end_of (with_forks forks plan) again) linear independent one two in record {
         counts = alike.counts;
-        told = first.run.told ∙ ap status_of alike.counts ∙ sym second.run.told;
+        statuses = first.run.recapped ∙ ap status_of alike.counts ∙ sym second.run.recapped;
         facts = alike.facts;
       }
 

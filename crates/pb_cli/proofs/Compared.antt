@@ -1,4 +1,4 @@
--- What is told of two runs that are compared.
+-- What is said of two runs that are compared.
 use Rattle.std.proofs.Common.{◌≡◌, ℕ, List, Option, None, sym, subst}
 use Rattle.std.specs.Prelude.{Ok}
 use Rattle.pb_ids.specs.declared.numbers.HostNo.{HostNo}

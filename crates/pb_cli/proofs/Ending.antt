@@ -5,7 +5,7 @@ use Rattle.pb_planning.specs.declared.bundle.Bundle.{Bundle}
 use Rattle.pb_command_line.specs.CommandLine.{Asks, IsSameUnder}
 use Rattle.pb_command_line.specs.declared.words.Request.{Request}
 use Rattle.pb_state.specs.declared.event.Event.{Event}
-use Rattle.pb_cli.specs.Again.{IsToldAgain}
+use Rattle.pb_cli.specs.Again.{IsSameUnderPut}
 use Rattle.pb_cli.specs.declared.playing.Played.{Played}
 use Rattle.pb_cli.specs.declared.playing.Wanted.{Wanted}
 use Rattle.pb_cli.specs.Done.{IsBundleOf, IsWantedBy, is_too_long, IsShown, IsCutOrUnkept, IsBroken}
@@ -41,7 +41,7 @@ under_in (Some text) (Some n) (numeral, value, least, most) = (omega (arith, lea
 pub under_asked : (words : List (List ℕ)) (request : Request) → Asks words request → IfSome request.same_under (λ n. (0 < n) × (n ≤ 256))
 under_asked words request (none, (inventory, playbook, forks, outcomes, limit, extra, roles, facts, stop, under, failed, trail, audit, strict, places, purpose)) = under_in _ request.same_under under
 
--- what was asked for was done, and then status 1 is told: nothing was done where a warning is a fault, and else the trail or the hosts that didn't get through couldn't be kept, or another run not be made
+-- what was asked for was done, and then the status is 1: nothing was done where a warning is a fault, and else the trail or the hosts that didn't get through couldn't be kept, or another run not be made
 pub done_badly : (bundle : Bundle) (wanted : Wanted) (path : Option (List ℕ)) (same_under : Option ℕ) (failed : Option (List ℕ)) (before after : World) (warned : Stream) (played : Played)
     → IsShown bundle wanted before (record after { err = warned }) played
     → (played.status ≡ 1) ⊎ (((is_some path ≡ true) ⊎ (is_some same_under ≡ true) ⊎ (is_some failed ≡ true)) × (is_some played.trail ≡ true))
@@ -50,12 +50,12 @@ done_badly bundle wanted path same_under failed before after warned played shown
 done_badly bundle wanted path same_under failed before after warned played shown (inr (asked, run)) =
     inr (inr (record { asked = asked; played = played; run = run; err_warned = warned; shown = shown }))
 
--- what was told of another run, where nothing was written behind it
-pub told_before : (same_under : Option ℕ) (trail : Option (List Event)) (bundle : Bundle) (wanted : Wanted) (before told after : Stream)
-    → IsToldAgain same_under trail bundle wanted before told → after.taken ≡ told.taken → after.failures ≡ told.failures → IsToldAgain same_under trail bundle wanted before after
-told_before same_under trail bundle wanted before told after is taken failures =
-    subst (λ (a : Option (List ℕ)). IsToldAgain same_under trail bundle wanted before (record { taken = a; failures = after.failures })) (sym taken)
-    (subst (λ (f : ℕ). IsToldAgain same_under trail bundle wanted before (record { taken = told.taken; failures = f })) (sym failures) is)
+-- what was said of another run, where nothing was written behind it
+pub same_under_before : (same_under : Option ℕ) (trail : Option (List Event)) (bundle : Bundle) (wanted : Wanted) (before compared after : Stream)
+    → IsSameUnderPut same_under trail bundle wanted before compared → after.taken ≡ compared.taken → after.failures ≡ compared.failures → IsSameUnderPut same_under trail bundle wanted before after
+same_under_before same_under trail bundle wanted before compared after is taken failures =
+    subst (λ (a : Option (List ℕ)). IsSameUnderPut same_under trail bundle wanted before (record { taken = a; failures = after.failures })) (sym taken)
+    (subst (λ (f : ℕ). IsSameUnderPut same_under trail bundle wanted before (record { taken = compared.taken; failures = f })) (sym failures) is)
 
 -- only what is asked for can't be kept
 pub unkept : (path : Option (List ℕ)) (same_under : Option ℕ) (failed : Option (List ℕ)) (trail : Option (List Event)) (status : ℕ)

@@ -1,4 +1,4 @@
--- Launchers that are hired out to runners, and what they were told.
+-- Launchers that are hired out to runners, and what they started.
 use Rattle.std.proofs.Common.{◌≡◌, ◌+◌, ℕ, zero, suc, List, [], ◌∷◌, ◌++◌, All, map, reverse, length, slice_get, Option, Some, Result, Ok, Err, IfOk, IfErr, refl, sym, ◌∙◌, ap, subst, arith, append_assoc, length-append}
 use Rattle.std.proofs.lemmas.List.Elements.{All-append, All-cons, All-head, All-nil, All-tail}
 use Rattle.std.proofs.lemmas.List.{map-append, length-map, length-reverse, reverse-append, reverse-reverse}
@@ -108,50 +108,50 @@ still_many ran (Err cut) olds news plan ok err = err.1.many
 
 -- ---- launchers
 module _ {L : Type 0} (launched : L → Option (List Launch)) where
-  abbrev told_by : LocalRunner L → Option (List Launch)
-  told_by runner = launched runner.launcher
+  abbrev launches_of : LocalRunner L → Option (List Launch)
+  launches_of runner = launched runner.launcher
 
   abbrev pub RanBy : LocalRunner L → List (Job × Form) → LocalRunner L → Type 0
   RanBy old jobs new = LocalRan old.facts (launched old.launcher) jobs new.facts (launched new.launcher)
 
   -- what a runner ran is what its launcher started
-  started_as : (facts : Option (List ℕ)) (old new : LocalRunner L) (told told_after : Option (List Launch)) (jobs : List (Job × Form)) → old.facts ≡ facts → told_by old ≡ told → told_by new ≡ told_after → RanBy old jobs new → HasStarted facts told jobs told_after
-  started_as facts old new told told_after jobs same was is ran =
-      subst (λ (a : Option (List Launch)). HasStarted facts told jobs a) is
-      (subst (λ (b : Option (List Launch)). HasStarted facts b jobs (told_by new)) was (subst (λ (f : Option (List ℕ)). HasStarted f (told_by old) jobs (told_by new)) same ran.1))
+  started_as : (facts : Option (List ℕ)) (old new : LocalRunner L) (known known_after : Option (List Launch)) (jobs : List (Job × Form)) → old.facts ≡ facts → launches_of old ≡ known → launches_of new ≡ known_after → RanBy old jobs new → HasStarted facts known jobs known_after
+  started_as facts old new known known_after jobs same was is ran =
+      subst (λ (a : Option (List Launch)). HasStarted facts known jobs a) is
+      (subst (λ (b : Option (List Launch)). HasStarted facts b jobs (launches_of new)) was (subst (λ (f : Option (List ℕ)). HasStarted f (launches_of old) jobs (launches_of new)) same ran.1))
 
   shares_as : (facts : Option (List ℕ)) (olds news : List (LocalRunner L)) (log : List Entry) → All (λ (f : Option (List ℕ)). f ≡ facts) (map facts_of olds) → HaveShares RanBy olds news log
-      → HaveShares (λ (old : Option (List Launch)) jobs new. HasStarted facts old jobs new) (map told_by olds) (map told_by news) log
-  shares_as facts olds news log all each = λ j told told_after e f.
-      let old = behind told_by olds j told e in
-      let new = behind told_by news j told_after f in
+      → HaveShares (λ (old : Option (List Launch)) jobs new. HasStarted facts old jobs new) (map launches_of olds) (map launches_of news) log
+  shares_as facts olds news log all each = λ j known known_after e f.
+      let old = behind launches_of olds j known e in
+      let new = behind launches_of news j known_after f in
       let share = each j old.one new.one old.at new.at in
-      (share.0, started_as facts old.one new.one told told_after share.0 (all_at facts_of (λ (p : Option (List ℕ)). p ≡ facts) olds j old.one all old.at) old.is new.is share.1, share.2, share.3)
+      (share.0, started_as facts old.one new.one known known_after share.0 (all_at facts_of (λ (p : Option (List ℕ)). p ≡ facts) olds j old.one all old.at) old.is new.is share.1, share.2, share.3)
 
   spread_as : (facts : Option (List ℕ)) (olds news : List (LocalRunner L)) (plan : PlanOf) (trail : List Event) (later : List Report) → All (λ (f : Option (List ℕ)). f ≡ facts) (map facts_of olds) → IsSpread RanBy olds news plan trail later
-      → IsSpread (λ (old : Option (List Launch)) jobs new. HasStarted facts old jobs new) (map told_by olds) (map told_by news) plan trail later
+      → IsSpread (λ (old : Option (List Launch)) jobs new. HasStarted facts old jobs new) (map launches_of olds) (map launches_of news) plan trail later
   spread_as facts olds news plan trail later all spread = record {
     log = spread.log;
-    mails = subst (λ (k : ℕ). AreMails plan k trail later spread.log) (sym (length-map olds told_by)) spread.mails;
-    within = subst (λ (k : ℕ). AreWithin k spread.log) (sym (length-map olds told_by)) spread.within;
-    many = length-map news told_by ∙ spread.many ∙ sym (length-map olds told_by);
+    mails = subst (λ (k : ℕ). AreMails plan k trail later spread.log) (sym (length-map olds launches_of)) spread.mails;
+    within = subst (λ (k : ℕ). AreWithin k spread.log) (sym (length-map olds launches_of)) spread.within;
+    many = length-map news launches_of ∙ spread.many ∙ sym (length-map olds launches_of);
     each = shares_as facts olds news spread.log all spread.each;
   }
 
   -- what launchers tell of which some are hired
-  told_of : (all : List L) (runners : List (LocalRunner L)) (others : List L) → all ≡ map launcher_of runners ++ others → map launched all ≡ map told_by runners ++ map launched others
-  told_of all runners others e = ap (map launched) e ∙ map-append launched (map launcher_of runners) others ∙ ap (λ l. l ++ map launched others) (map_both launcher_of launched runners)
+  launches_split : (all : List L) (runners : List (LocalRunner L)) (others : List L) → all ≡ map launcher_of runners ++ others → map launched all ≡ map launches_of runners ++ map launched others
+  launches_split all runners others e = ap (map launched) e ∙ map-append launched (map launcher_of runners) others ∙ ap (λ l. l ++ map launched others) (map_both launcher_of launched runners)
 
   started_for : (facts : Option (List ℕ)) (olds news : List (LocalRunner L)) (others all all_after : List L) (plan : PlanOf) (trail : List Event) (later : List Report)
       → all ≡ map launcher_of olds ++ others → all_after ≡ map launcher_of news ++ others → length olds ≡ plan.forks → All (λ (f : Option (List ℕ)). f ≡ facts) (map facts_of olds) → IsSpread RanBy olds news plan trail later
       → AreStartedFor facts (map launched all) (map launched all_after) plan trail later
   started_for facts olds news others all all_after plan trail later before after many same spread = record {
-    hired = map told_by olds;
-    hired_after = map told_by news;
+    hired = map launches_of olds;
+    hired_after = map launches_of news;
     others = map launched others;
-    before = told_of all olds others before;
-    after = told_of all_after news others after;
-    many = length-map olds told_by ∙ many;
+    before = launches_split all olds others before;
+    after = launches_split all_after news others after;
+    many = length-map olds launches_of ∙ many;
     spread = spread_as facts olds news plan trail later same spread;
   }
 
@@ -161,11 +161,11 @@ module _ {L : Type 0} (launched : L → Option (List Launch)) where
       let empty : started.launches ≡ [] = subst (λ (l : List (Job × Form)). AreLaunched facts l started.launches) none started.each in
       started.launched ∙ ap (λ (l : List Launch). with_more old l) empty ∙ sym (none_more old)
 
-  untold : (facts : Option (List ℕ)) (olds news : List (LocalRunner L)) (plan : PlanOf) → All (λ (f : Option (List ℕ)). f ≡ facts) (map facts_of olds) → IsSpread RanBy olds news plan [] [] → map told_by news ≡ map told_by olds
-  untold facts olds news plan same spread =
+  nothing_launched : (facts : Option (List ℕ)) (olds news : List (LocalRunner L)) (plan : PlanOf) → All (λ (f : Option (List ℕ)). f ≡ facts) (map facts_of olds) → IsSpread RanBy olds news plan [] [] → map launches_of news ≡ map launches_of olds
+  nothing_launched facts olds news plan same spread =
       let is = spread_as facts olds news plan [] [] same spread in
       let no_log : is.log ≡ [] = no_runs _ is.log is.mails in
-      all_same (map told_by olds) (map told_by news) is.many
+      all_same (map launches_of olds) (map launches_of news) is.many
       (λ j old new e f.
       let share = subst (λ (l : List Entry). HasItsShare (λ (o : Option (List Launch)) jobs n. HasStarted facts o jobs n) old new l j) no_log (is.each j old new e f) in
       none_started facts old new share.0 (no_runs job_run share.0 share.2) share.1)
@@ -173,7 +173,7 @@ module _ {L : Type 0} (launched : L → Option (List Launch)) where
   unstarted : (facts : Option (List ℕ)) (olds news : List (LocalRunner L)) (others all all_after : List L) (plan : PlanOf)
       → all ≡ map launcher_of olds ++ others → all_after ≡ map launcher_of news ++ others → All (λ (f : Option (List ℕ)). f ≡ facts) (map facts_of olds) → IsSpread RanBy olds news plan [] [] → map launched all_after ≡ map launched all
   unstarted facts olds news others all all_after plan before after same spread =
-      told_of all_after news others after ∙ ap (λ l. l ++ map launched others) (untold facts olds news plan same spread) ∙ sym (told_of all olds others before)
+      launches_split all_after news others after ∙ ap (λ l. l ++ map launched others) (nothing_launched facts olds news plan same spread) ∙ sym (launches_split all olds others before)
 
   -- ---- a run by such runners, as it is handed out
   pub hired_run : (result : Result (ℕ × List Event) (RunFault × List Event)) (plan : PlanOf) (stop_after : Option ℕ) (facts : Option (List ℕ)) (olds news : List (LocalRunner L)) (others all all_after : List L) (before after : Stream)

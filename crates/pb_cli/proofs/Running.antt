@@ -50,9 +50,9 @@ whole_of allows gives has_run plan pool commands trail before after run = record
 pub run_by : (allows gives : Job → Form → Type 0) (has_run : List (Job × Form) → Type 0) (plan : PlanOf) (commands : List Given) (trail : List Event) (before after : Option (List ℕ)) (status : ℕ)
     → RunsKeepLaws → LinesStandBehindEvents → IsWholeRun allows gives has_run plan 256 commands trail before after → status ≡ status_of (recap plan 256 trail)
     → IsRunBy (IsAnswer allows gives) plan 256 commands trail before after status
-run_by allows gives has_run plan commands trail before after status laws lines run told = record {
+run_by allows gives has_run plan commands trail before after status laws lines run recapped = record {
   run = whole_of allows gives has_run plan 256 commands trail before after run;
-  told = told;
+  recapped = recapped;
   laws = laws plan 256 trail run.legal;
   lines = lines.whole plan 256 trail;
   audited = run.legal;
@@ -62,9 +62,9 @@ run_by allows gives has_run plan commands trail before after status laws lines r
 pub run_in_pool : (answers : Answers) (plan : PlanOf) (pool : ℕ) (commands : List Given) (trail : List Event) (before after : Option (List ℕ)) (status : ℕ)
     → RunsKeepLaws → LinesStandBehindEvents → LargerPoolsAllow → pool ≤ 256 → IsWhole answers plan pool commands trail before after → status ≡ status_of (recap plan pool trail)
     → IsRunBy answers plan pool commands trail before after status
-run_in_pool answers plan pool commands trail before after status laws lines larger few run told = record {
+run_in_pool answers plan pool commands trail before after status laws lines larger few run recapped = record {
   run = run;
-  told = told;
+  recapped = recapped;
   laws = laws plan pool trail run.legal;
   lines = lines.whole plan pool trail;
   audited = (larger plan plan.forks pool 256 trail few run.legal).0;
@@ -74,14 +74,14 @@ run_in_pool answers plan pool commands trail before after status laws lines larg
 pub run_handed : (allows gives : Job → Form → Type 0) (has_run : List (Job × Form) → Type 0) (plan : PlanOf) (commands : List Given) (trail handed : List Event) (before after : Option (List ℕ)) (status : ℕ)
     → handed ≡ trail → RunsKeepLaws → LinesStandBehindEvents → IsWholeRun allows gives has_run plan 256 commands trail before after → status ≡ status_of (recap plan 256 trail)
     → IsRunBy (IsAnswer allows gives) plan 256 commands handed before after status
-run_handed allows gives has_run plan commands trail handed before after status same laws lines run told =
-    subst (λ (events : List Event). IsRunBy (IsAnswer allows gives) plan 256 commands events before after status) (sym same) (run_by allows gives has_run plan commands trail before after status laws lines run told)
+run_handed allows gives has_run plan commands trail handed before after status same laws lines run recapped =
+    subst (λ (events : List Event). IsRunBy (IsAnswer allows gives) plan 256 commands events before after status) (sym same) (run_by allows gives has_run plan commands trail before after status laws lines run recapped)
 
 pub pool_handed : (answers : Answers) (plan : PlanOf) (pool : ℕ) (commands : List Given) (trail handed : List Event) (before after : Option (List ℕ)) (status : ℕ)
     → handed ≡ trail → RunsKeepLaws → LinesStandBehindEvents → LargerPoolsAllow → pool ≤ 256 → IsWhole answers plan pool commands trail before after → status ≡ status_of (recap plan pool trail)
     → IsRunBy answers plan pool commands handed before after status
-pool_handed answers plan pool commands trail handed before after status same laws lines larger few run told =
-    subst (λ (events : List Event). IsRunBy answers plan pool commands events before after status) (sym same) (run_in_pool answers plan pool commands trail before after status laws lines larger few run told)
+pool_handed answers plan pool commands trail handed before after status same laws lines larger few run recapped =
+    subst (λ (events : List Event). IsRunBy answers plan pool commands events before after status) (sym same) (run_in_pool answers plan pool commands trail before after status laws lines larger few run recapped)
 
 -- the same of one that couldn't go on, of the events as they are handed out
 cut_by : (answers : Answers) (plan : PlanOf) (pool : ℕ) (commands : List Given) (trail : List Event) (before after : Option (List ℕ))
@@ -112,7 +112,7 @@ pub tabled_by : (bytes : List ℕ) (plan : PlanOf) (stop_after : Option ℕ) (ta
     → IsTabled bytes plan stop_after trail before after status
 tabled_by bytes plan stop_after table table_after trail before after status is run ran = record { table = table; tabled = is; run = run; ran = ran.1 }
 
--- one that couldn't go on, told by the fault that is answered
+-- one that couldn't go on, by the fault that is answered
 pub tabled_to : (bytes : List ℕ) (plan : PlanOf) (stop_after : Option ℕ) (table table_after : Table) (events : List Event) (met fault : RunFault) (trail : Option (List Event)) (before after : Option (List ℕ))
     → table_of bytes ≡ Ok table → IsCutBy (IsAnswer allows_all (TableGives table)) plan 256 (commands_for stop_after) events before after → IsRanTo (λ jobs. TableRan table jobs table_after) plan 256 events met
     → met ≡ fault → Some events ≡ trail → HasTrail trail (λ es. IsTabledCut bytes plan stop_after es fault before after)
@@ -140,22 +140,22 @@ run_cut audited wanted plan fault trail before after is (inr has) =
 
 -- no run has status 1
 status_at : (failed lost : Bool) (status : ℕ) → status ≡ (if failed then 2 else (if lost then 4 else 0)) → status ≡ 1 → ⊥
-status_at true lost status told one = let is : status ≡ 2 = told in omega (arith, is, one)
-status_at false true status told one = let is : status ≡ 4 = told in omega (arith, is, one)
-status_at false false status told one = let is : status ≡ 0 = told in omega (arith, is, one)
+status_at true lost status recapped one = let is : status ≡ 2 = recapped in omega (arith, is, one)
+status_at false true status recapped one = let is : status ≡ 4 = recapped in omega (arith, is, one)
+status_at false false status recapped one = let is : status ≡ 0 = recapped in omega (arith, is, one)
 
-not_told : (counts : List Counts) (status : ℕ) → status ≡ status_of counts → status ≡ 1 → ⊥
-not_told counts status told one = status_at (list_any (has Failed) counts) (list_any (has Unreachable) counts) status told one
+not_recapped : (counts : List Counts) (status : ℕ) → status ≡ status_of counts → status ≡ 1 → ⊥
+not_recapped counts status recapped one = status_at (list_any (has Failed) counts) (list_any (has Unreachable) counts) status recapped one
 
 not_played : (plan : PlanOf) (stop_after : Option ℕ) (facts outcomes : Option (List ℕ)) (trail : List Event) (before after : Stage) (status : ℕ)
     → IsPlayed plan stop_after facts outcomes trail before after status → status ≡ 1 → ⊥
-not_played plan stop_after facts None trail before after status run one = not_told (recap plan plan.forks trail) status run.run.told one
-not_played plan stop_after facts (Some bytes) trail before after status run one = not_told (recap plan 256 trail) status run.1.run.told one
+not_played plan stop_after facts None trail before after status run one = not_recapped (recap plan plan.forks trail) status run.run.recapped one
+not_played plan stop_after facts (Some bytes) trail before after status run one = not_recapped (recap plan 256 trail) status run.1.run.recapped one
 
 -- nor has an audit
 not_verdict : (plan : PlanOf) (trail : List Event) (text : List ℕ) (status : ℕ) → IsVerdict plan trail text status → status ≡ 1 → ⊥
 not_verdict plan trail text status (inl legal) one = let is : status ≡ 0 = legal.2 in omega (arith, is, one)
-not_verdict plan trail text status (inr (illegal, step, name, first, told, is)) one = let two : status ≡ 2 = is in omega (arith, two, one)
+not_verdict plan trail text status (inr (illegal, step, name, first, verdict_is, is)) one = let two : status ≡ 2 = is in omega (arith, two, one)
 
 not_trail : (trail : Option (List Event)) (wanted : Wanted) (plan : PlanOf) (before after : Stage) (status : ℕ)
     → HasTrail trail (λ events. IsPlayed plan wanted.stop_after wanted.facts_program wanted.outcomes events before after status) → status ≡ 1 → ⊥

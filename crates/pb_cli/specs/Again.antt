@@ -19,7 +19,7 @@ use Rattle.pb_cli.specs.declared.playing.Wanted.{Wanted}
 use Rattle.pb_cli.specs.Played.{IsRunBy, IsTabled, commands_for}
 use Rattle.pb_cli.specs.World.{Stream, IsPut, IsQuiet}
 
--- what is told of two runs: the name of the first host whose facts or counts differ, if one does
+-- what is said of two runs: the name of the first host whose facts or counts differ, if one does
 abbrev pub same_text : PlanOf → Option HostNo → List ℕ
 same_text plan None = codes "same\n"
 same_text plan (Some host) = codes "not same: " ++ unwrap_or (slice_get plan.inventory.hosts host.0) [] ++ codes "\n"
@@ -41,17 +41,17 @@ pub record IsCompared (bundle : Bundle) (forks : ℕ) (stop_after : Option ℕ) 
   pub first : IsFirstApart plan (end_of plan trail) (end_under plan forks again) host
   pub same : EndsSame plan trail forks again host
 
-abbrev pub IsToldOf : (outcomes : Option (List ℕ)) → (forks : ℕ) → Bundle → (stop_after : Option ℕ) → List Event → (before after : Stream) → Type 0
-IsToldOf None forks bundle stop_after trail before after = IsPut ignored_text before after
-IsToldOf (Some bytes) forks bundle stop_after trail before after =
+abbrev pub IsComparisonPut : (outcomes : Option (List ℕ)) → (forks : ℕ) → Bundle → (stop_after : Option ℕ) → List Event → (before after : Stream) → Type 0
+IsComparisonPut None forks bundle stop_after trail before after = IsPut ignored_text before after
+IsComparisonPut (Some bytes) forks bundle stop_after trail before after =
     (plan : PlanOf) × (found : Option HostNo) × IsCompared bundle forks stop_after bytes trail plan found × IsPut (same_text plan found) before after
 
--- after a run whether it ends in the same with so many forks was told, where that is asked for
-abbrev pub IsToldAgain : (same_under : Option ℕ) → Option (List Event) → Bundle → Wanted → (before after : Stream) → Type 0
-IsToldAgain None trail bundle wanted before after = IsQuiet before after
-IsToldAgain (Some forks) None bundle wanted before after = IsQuiet before after
-IsToldAgain (Some forks) (Some trail) bundle wanted before after =
-    IsToldOf wanted.outcomes forks bundle wanted.stop_after trail before after
+-- after a run whether it ends in the same with so many forks was written, where that is asked for
+abbrev pub IsSameUnderPut : (same_under : Option ℕ) → Option (List Event) → Bundle → Wanted → (before after : Stream) → Type 0
+IsSameUnderPut None trail bundle wanted before after = IsQuiet before after
+IsSameUnderPut (Some forks) None bundle wanted before after = IsQuiet before after
+IsSameUnderPut (Some forks) (Some trail) bundle wanted before after =
+    IsComparisonPut wanted.outcomes forks bundle wanted.stop_after trail before after
 
 -- two runs of one bundle by one file of outcomes, with any forks, end in the same, if its plays are linear, no host knows of another, and neither run was stopped, or lacked memory for what the file gives
 abbrev pub ForksChangeNothing : Type 0
@@ -65,7 +65,7 @@ ForksChangeNothing =
 -- in the words of two plays: where a bundle was run by a file of outcomes, and so was the same bundle with other forks, each to its end, both have the same recap and status, and every host ends with the same facts
 pub record AreAlike (plan other : PlanOf) (trail again : List Event) (status other_status : ℕ) : Type 0 where
   pub counts : recap plan 256 trail ≡ recap other 256 again
-  pub told : status ≡ other_status
+  pub statuses : status ≡ other_status
   pub facts : (host : ℕ) → facts_at (end_of plan trail) host ≡ facts_at (end_of other again) host
 
 abbrev pub PlaysAgree : Type 0

@@ -1,4 +1,4 @@
--- What is told of a trail that is looked at in place of a run.
+-- What is said of a trail that is looked at in place of a run.
 use Rattle.std.specs.Prelude.{◌≡◌, ◌⊎◌, ℕ, true, false, List, ◌++◌, Option, None, Some, Ok, Err, codes, decimal}
 use Rattle.pb_state.specs.declared.event.Event.{Event}
 use Rattle.pb_plan.specs.Plan.{PlanOf}
@@ -14,13 +14,13 @@ use Rattle.pb_driver.specs.Taken.{with_more}
 abbrev pub illegal_text : ℕ → EventName → List ℕ
 illegal_text step name = codes "illegal: step " ++ decimal step ++ codes ", " ++ word_of name ++ codes "\n"
 
--- what is told of a trail, with the exit status: that it is a legal run of the plan, or its first event that isn't possible where it stands
+-- what is said of a trail, with the exit status: that it is a legal run of the plan, or its first event that isn't possible where it stands
 abbrev pub IsVerdict : PlanOf → List Event → (text : List ℕ) → (status : ℕ) → Type 0
 IsVerdict plan trail text status =
     ((is_legal plan trail ≡ true) × (text ≡ codes "legal\n") × (status ≡ 0))
     ⊎ ((is_legal plan trail ≡ false) × (step : ℕ) × (name : EventName) × IsFirstIllegal plan trail step name × (text ≡ illegal_text step name) × (status ≡ 2))
 
--- bytes tell a trail, and what is told of it was written
+-- bytes tell a trail, and what is said of it was written
 pub record IsAudited (bytes : List ℕ) (plan : PlanOf) (before after : Option (List ℕ)) (status : ℕ) : Type 0 where
   pub trail : List Event
   pub text : List ℕ
@@ -28,7 +28,7 @@ pub record IsAudited (bytes : List ℕ) (plan : PlanOf) (before after : Option (
   pub verdict : IsVerdict plan trail text status
   pub written : after ≡ with_more before text
 
--- bytes tell a trail, and a beginning of what is told of it was written
+-- bytes tell a trail, and a beginning of what is said of it was written
 pub record IsAuditCut (bytes : List ℕ) (plan : PlanOf) (before after : Option (List ℕ)) : Type 0 where
   pub trail : List Event
   pub text : List ℕ

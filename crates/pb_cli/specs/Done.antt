@@ -20,7 +20,7 @@ use Rattle.pb_command_line.specs.declared.words.WordsFault.TheVariants.{Help}
 use Rattle.pb_command_line.specs.CommandLine.{Asks, IsRefused}
 use Rattle.pb_cli.specs.declared.playing.Played.{Played}
 use Rattle.pb_cli.specs.declared.playing.Wanted.{Wanted}
-use Rattle.pb_cli.specs.Again.{IsToldAgain}
+use Rattle.pb_cli.specs.Again.{IsSameUnderPut}
 use Rattle.pb_cli.specs.Audited.{IsBadTrail}
 use Rattle.pb_cli.specs.RoleFiles.{AreRolesIn}
 use Rattle.pb_cli.specs.Played.{IsBadTable, is_forbidden, IsGivenUnless, IsGivenToUnless}
@@ -53,7 +53,7 @@ pub record IsWantedBy (request : Request) (wanted : Wanted) : Type 0 where
   pub audited : is_some wanted.audited ≡ is_some request.audit
 
 -- the outcomes of a file aren't looked into before a plan stands, its warnings are written, and it is to be run; nothing is started, and standard output is as it was
-pub record IsUntold (bundle : Bundle) (wanted : Wanted) (e : TableFault) (before after : World) : Type 0 where
+pub record HasBadOutcomes (bundle : Bundle) (wanted : Wanted) (e : TableFault) (before after : World) : Type 0 where
   pub plan : PlanOf
   pub planned : IsPlanOf bundle plan
   pub allowed : is_forbidden wanted plan ≡ false
@@ -78,13 +78,13 @@ abbrev pub IsShown : Bundle → Wanted → (before after : World) → Played →
 IsShown bundle wanted before after played =
     (plan : PlanOf) × IsPlanOf bundle plan × IsGivenUnless (is_forbidden wanted plan) wanted plan before.stage after.stage played × IsWarned plan.warnings before.err after.err
 
--- the same, told by this exit status; and then it was told whether a run with other forks ends in the same, where that is asked for
+-- the same, with this exit status; and then it was written whether a run with other forks ends in the same, where that is asked for
 pub record IsShownAs (status : ℕ) (bundle : Bundle) (wanted : Wanted) (same_under : Option ℕ) (before after : World) : Type 0 where
   pub played : Played
   pub err_shown : Stream
   pub shown : IsShown bundle wanted before (record after { err = err_shown }) played
-  pub told : played.status ≡ status
-  pub again : IsToldAgain same_under played.trail bundle wanted err_shown after.err
+  pub exit_status : played.status ≡ status
+  pub again : IsSameUnderPut same_under played.trail bundle wanted err_shown after.err
 
 -- a bundle has a plan, and what it is made for couldn't go on: memory was refused before anything was started or written, or no warning is a fault and a beginning of it was done; the trail is that of the run, where one
 -- began

@@ -34,7 +34,7 @@ abbrev pub place_line : Option (List ℕ) → List ℕ
 place_line None = []
 place_line (Some place) = codes "at " ++ place ++ 10 ∷ []
 
--- a fault of a part, and behind it its place, if that is told
+-- a fault of a part, and behind it its place, if that is said
 abbrev pub placed_message : Part → (said : List ℕ) → (place : Option (List ℕ)) → List ℕ
 placed_message part said place = message part said ++ place_line place
 
@@ -49,10 +49,10 @@ part_of bundle.BadForks = Bundle
 part_of bundle.TooLarge = Bundle
 part_of bundle.Memory = Bundle
 
--- what a fault of a bundle is told by: what is said of it, and then its place, where that is asked for and there is one
+-- how a fault of a bundle is reported: what is said of it, and then its place, where that is asked for and there is one
 abbrev pub IsBundleMessage : (places : Bool) → BundleFault → List ℕ → Type 0
 IsBundleMessage places fault text = (said : List ℕ) × (text ≡ placed_message (part_of fault) said (place_if places fault))
 
 -- it was written whole, or the writer failed; or nothing was written, where memory was refused
-abbrev pub IsToldBundle : (places : Bool) → BundleFault → (before after : Stream) → Type 0
-IsToldBundle places fault before after = ((text : List ℕ) × IsBundleMessage places fault text × IsPut text before after) ⊎ (after.taken ≡ before.taken)
+abbrev pub IsBundleReported : (places : Bool) → BundleFault → (before after : Stream) → Type 0
+IsBundleReported places fault before after = ((text : List ℕ) × IsBundleMessage places fault text × IsPut text before after) ⊎ (after.taken ≡ before.taken)

@@ -33,7 +33,7 @@ use Rattle.pb_cli.specs.Audited.{IsAudited, IsAuditCut}
 use Rattle.pb_cli.specs.Listing.{listing}
 use Rattle.pb_cli.specs.World.{Stage, Starts, IsUntouched}
 
--- what a run is told: to stop behind so many reports, or nothing
+-- what a run is commanded: to stop behind so many reports, or nothing
 abbrev pub commands_for : (stop_after : Option ℕ) → List Given
 commands_for None = []
 commands_for (Some reports) = record { after = reports; command = Stop } ∷ []
@@ -42,7 +42,7 @@ commands_for (Some reports) = record { after = reports; command = Stop } ∷ []
 -- answers a job that was out; the status is that of its recap; it keeps the laws of runs, each of its events has its lines, and an audit finds it legal
 pub record IsRunBy (answers : Answers) (plan : PlanOf) (pool : ℕ) (commands : List Given) (trail : List Event) (before after : Option (List ℕ)) (status : ℕ) : Type 0 where
   pub run : IsWhole answers plan pool commands trail before after
-  pub told : status ≡ status_of (recap plan pool trail)
+  pub recapped : status ≡ status_of (recap plan pool trail)
   pub laws : KeepsLaws plan pool trail
   pub lines : StandBehindEvents plan pool trail
   pub audited : is_legal plan trail ≡ true

@@ -1,4 +1,4 @@
-//! A run that is made once more, with other forks, and what is told of it.
+//! A run that is made once more, with other forks, and what is said of it.
 
 ghost use Rattle.std.specs.Prelude.{◌≡◌, ◌<◌, ◌≤◌, ℕ, None, Ok, IfOk, IfSome, OnErr, OnOk, is_some, length, string_bytes, true};
 ghost use Rattle.pb_audit.specs.Audit.{is_legal};
@@ -10,7 +10,7 @@ ghost use Rattle.pb_ids.specs.declared.numbers.HostNo.{HostNo};
 ghost use Rattle.pb_runner.specs.declared.table.Table.{Table};
 ghost use Rattle.pb_runner.specs.Reading.{table_of};
 ghost use Rattle.pb_runner.specs.Table.{TableGives};
-ghost use Rattle.pb_cli.specs.Again.{same_text, IsCompared, IsToldAgain, ForksChangeNothing, PlaysAgree};
+ghost use Rattle.pb_cli.specs.Again.{same_text, IsCompared, IsSameUnderPut, ForksChangeNothing, PlaysAgree};
 ghost use Rattle.pb_cli.specs.Played.{IsRunBy, commands_for};
 ghost use Rattle.pb_cli.specs.World.{stream_of};
 ghost use Rattle.std.specs.Prelude.{Option};
@@ -24,10 +24,10 @@ use pb_state::{Bundle, Event, Plan};
 use pb_value::items::Items;
 use std::alloc::{AllocError, Global};
 
-/// What is told where no file says what comes of a job, so that another run would start the programs again.
+/// What is said where no file says what comes of a job, so that another run would start the programs again.
 const IGNORED: &str = "warning: same-under is ignored without outcomes\n";
 
-/// What is told of two runs, of which this is the first host that ends otherwise.
+/// What is said of two runs, of which this is the first host that ends otherwise.
 fn same_text(alloc: Global, plan: &Plan, found: Option<HostNo>) -> Result<String, AllocError>
     requires { IfSome found (λ host. host.0 < length plan.now.inventory.hosts) }
     ensures { IfOk result (λ text. string_bytes text ≡ same_text plan.now found) }
@@ -92,7 +92,7 @@ fn compare(
 ) -> Result<String, AllocError>
     requires some { 0 < forks }
     requires most { forks ≤ 256 }
-    ensures told { IfOk result (λ text. (plan : PlanOf) × (found : Option HostNo) × IsCompared bundle.old forks stop_after bytes.now trail.now plan found × (string_bytes text ≡ same_text plan found)) }
+    ensures comparison { IfOk result (λ text. (plan : PlanOf) × (found : Option HostNo) × IsCompared bundle.old forks stop_after bytes.now trail.now plan found × (string_bytes text ≡ same_text plan found)) }
     ensures same { bundle.new ≡ bundle.old }
 {
     let own = bundle.forks;
@@ -112,7 +112,7 @@ fn compare(
 ///
 /// # Errors
 /// `AllocError` where memory was refused for another run.
-pub(crate) fn tell_again<E: LineOut>(
+pub(crate) fn put_same_under<E: LineOut>(
     alloc: Global,
     bundle: &mut Bundle,
     wanted: &Wanted,
@@ -121,7 +121,7 @@ pub(crate) fn tell_again<E: LineOut>(
     err: &mut E,
 ) -> Result<(), AllocError>
     requires { IfSome same_under (λ n. (0 < n) × (n ≤ 256)) }
-    ensures told { OnOk result (IsToldAgain same_under trail.now bundle.old wanted.now (stream_of E.LineOut err.old) (stream_of E.LineOut err.new)) }
+    ensures put { OnOk result (IsSameUnderPut same_under trail.now bundle.old wanted.now (stream_of E.LineOut err.old) (stream_of E.LineOut err.new)) }
     ensures asked { OnErr result (is_some same_under ≡ true) }
     ensures run { OnErr result (is_some trail.now ≡ true) }
     ensures same { bundle.new ≡ bundle.old }

@@ -1,4 +1,4 @@
-//! What is told of a trail that is looked at.
+//! What is said of a trail that is looked at.
 
 ghost use Rattle.std.specs.Prelude.{◌≡◌, IfOk, string_bytes};
 ghost use Rattle.pb_cli.specs.Audited.{illegal_text, IsVerdict};
@@ -26,13 +26,13 @@ fn illegal_text(alloc: Global, step: usize, name: EventName) -> Result<String, A
     Ok(text)
 }
 
-/// What is told of a trail, and the exit status.
+/// What is said of a trail, and the exit status.
 pub(crate) fn verdict(
     alloc: Global,
     plan: &Plan,
     trail: &[Event],
 ) -> Result<(String, u8), AllocError>
-    ensures { IfOk result (λ told. IsVerdict plan.now trail.now (string_bytes told.0) told.1) }
+    ensures { IfOk result (λ said. IsVerdict plan.now trail.now (string_bytes said.0) said.1) }
 {
     match audit(alloc, plan, trail) {
         Ok(()) => Ok((String::from_str(alloc, "legal\n")?, LEGAL)),

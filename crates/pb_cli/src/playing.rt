@@ -7,7 +7,7 @@ ghost use Rattle.pb_planning.specs.Bundle.{IsBundleFault};
 ghost use Rattle.pb_driver.specs.Taken.{one_more};
 ghost use Rattle.pb_cli.specs.Audited.{IsBadTrail};
 ghost use Rattle.pb_cli.specs.Played.{IsBadTable, IsRunOrAudited, IsRunOrAuditedTo, IsUnbegun, IsGiven, IsGivenTo};
-ghost use Rattle.pb_cli.specs.Done.{IsUntold, IsUnread, IsShown, IsStopped, TrailsAreLegal};
+ghost use Rattle.pb_cli.specs.Done.{HasBadOutcomes, IsUnread, IsShown, IsStopped, TrailsAreLegal};
 ghost use Rattle.pb_cli.specs.World.{stage_of, world_of, IsUntouched};
 
 use crate::runs::run_plan;
@@ -57,7 +57,7 @@ pub fn play_bundle<
     requires launchers { 256 ≤ length launchers.old.items }
     ensures answered { IfOk result (IsShown bundle.now wanted.now (world_of L.Launcher O.LineOut E.LineOut launchers.old.items out.old err.old) (world_of L.Launcher O.LineOut E.LineOut launchers.new.items out.new err.new)) }
     ensures refused { (e : BundleFault) → result ≡ Err (PlayFault.Bundle e) → IsUntouched (stage_of L.Launcher O.LineOut launchers.old.items out.old) (stage_of L.Launcher O.LineOut launchers.new.items out.new) × (e ≢ BundleFault.Memory → IsBundleFault bundle.now e) }
-    ensures untold { (e : TableFault) → result ≡ Err (PlayFault.Outcomes e) → IsUntold bundle.now wanted.now e (world_of L.Launcher O.LineOut E.LineOut launchers.old.items out.old err.old) (world_of L.Launcher O.LineOut E.LineOut launchers.new.items out.new err.new) }
+    ensures bad_outcomes { (e : TableFault) → result ≡ Err (PlayFault.Outcomes e) → HasBadOutcomes bundle.now wanted.now e (world_of L.Launcher O.LineOut E.LineOut launchers.old.items out.old err.old) (world_of L.Launcher O.LineOut E.LineOut launchers.new.items out.new err.new) }
     ensures unread { (e : TrailFault) → result ≡ Err (PlayFault.Trail e) → IsUnread bundle.now wanted.now e (world_of L.Launcher O.LineOut E.LineOut launchers.old.items out.old err.old) (world_of L.Launcher O.LineOut E.LineOut launchers.new.items out.new err.new) }
     ensures stopped { (fault : RunFault) (trail : Option (List Event)) → result ≡ Err (PlayFault.Run fault trail) → IsStopped bundle.now wanted.now fault trail (stage_of L.Launcher O.LineOut launchers.old.items out.old) (stage_of L.Launcher O.LineOut launchers.new.items out.new) }
     ensures write { (trail : Option (List Event)) → result ≡ Err (PlayFault.Run RunFault.Write trail) → O.failures out.new ≡ one_more (O.failures out.old) }
@@ -88,7 +88,7 @@ pub fn trails_are_legal()
 
 /// What is to be done with the plan of a bundle.
 pub struct Wanted {
-    /// Whether it is run, or what is told of it in place of that.
+    /// Whether it is run, or what is said of it in place of that.
     pub purpose: Purpose,
     /// Whether a warning of the plan is a fault.
     pub strict: bool,
@@ -154,7 +154,7 @@ fn give<L: Launcher + Send + Drop, R: AllocGlobal + Threads + Wait + Sync, O: Li
     ensures stopped { (fault : RunFault) (trail : Option (List Event)) → result ≡ Err (PlayFault.Run fault trail) → IsGivenTo wanted.now plan fault trail (stage_of L.Launcher O.LineOut launchers.old.items out.old) (stage_of L.Launcher O.LineOut launchers.new.items out.new) }
     ensures write { (trail : Option (List Event)) → result ≡ Err (PlayFault.Run RunFault.Write trail) → O.failures out.new ≡ one_more (O.failures out.old) }
     ensures planned { (e : BundleFault) → result ≢ Err (PlayFault.Bundle e) }
-    ensures untold { (e : TableFault) → result ≡ Err (PlayFault.Outcomes e) → (wanted.now.purpose ≡ Purpose.Run) × (wanted.now.audited ≡ None) × IsUntouched (stage_of L.Launcher O.LineOut launchers.old.items out.old) (stage_of L.Launcher O.LineOut launchers.new.items out.new) × (e ≢ TableFault.Memory → IsBadTable wanted.now.outcomes e) }
+    ensures bad_outcomes { (e : TableFault) → result ≡ Err (PlayFault.Outcomes e) → (wanted.now.purpose ≡ Purpose.Run) × (wanted.now.audited ≡ None) × IsUntouched (stage_of L.Launcher O.LineOut launchers.old.items out.old) (stage_of L.Launcher O.LineOut launchers.new.items out.new) × (e ≢ TableFault.Memory → IsBadTable wanted.now.outcomes e) }
     ensures unread { (e : TrailFault) → result ≡ Err (PlayFault.Trail e) → (wanted.now.purpose ≡ Purpose.Run) × IsUntouched (stage_of L.Launcher O.LineOut launchers.old.items out.old) (stage_of L.Launcher O.LineOut launchers.new.items out.new) × (e ≢ TrailFault.Memory → IsBadTrail wanted.now.audited e) }
 {
     match wanted.purpose {
@@ -178,7 +178,7 @@ fn run_or_audit<L: Launcher + Send + Drop, R: AllocGlobal + Threads + Wait + Syn
     ensures stopped { (fault : RunFault) (trail : Option (List Event)) → result ≡ Err (PlayFault.Run fault trail) → IsUnbegun fault trail (stage_of L.Launcher O.LineOut launchers.old.items out.old) (stage_of L.Launcher O.LineOut launchers.new.items out.new) ⊎ IsRunOrAuditedTo wanted.now.audited wanted.now plan fault trail (stage_of L.Launcher O.LineOut launchers.old.items out.old) (stage_of L.Launcher O.LineOut launchers.new.items out.new) }
     ensures write { (trail : Option (List Event)) → result ≡ Err (PlayFault.Run RunFault.Write trail) → O.failures out.new ≡ one_more (O.failures out.old) }
     ensures planned { (e : BundleFault) → result ≢ Err (PlayFault.Bundle e) }
-    ensures untold { (e : TableFault) → result ≡ Err (PlayFault.Outcomes e) → (wanted.now.audited ≡ None) × IsUntouched (stage_of L.Launcher O.LineOut launchers.old.items out.old) (stage_of L.Launcher O.LineOut launchers.new.items out.new) × (e ≢ TableFault.Memory → IsBadTable wanted.now.outcomes e) }
+    ensures bad_outcomes { (e : TableFault) → result ≡ Err (PlayFault.Outcomes e) → (wanted.now.audited ≡ None) × IsUntouched (stage_of L.Launcher O.LineOut launchers.old.items out.old) (stage_of L.Launcher O.LineOut launchers.new.items out.new) × (e ≢ TableFault.Memory → IsBadTable wanted.now.outcomes e) }
     ensures unread { (e : TrailFault) → result ≡ Err (PlayFault.Trail e) → IsUntouched (stage_of L.Launcher O.LineOut launchers.old.items out.old) (stage_of L.Launcher O.LineOut launchers.new.items out.new) × (e ≢ TrailFault.Memory → IsBadTrail wanted.now.audited e) }
 {
     match &wanted.audited {

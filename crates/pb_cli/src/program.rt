@@ -2,13 +2,13 @@
 
 ghost use Rattle.std.specs.Prelude.{◌≡◌, ◌≢◌, ◌⊎◌, ◌<◌, ◌≤◌, ◌+◌, ◌-◌, IfOk, IfErr, IfSome, OnErr, Some, is_some, length, map, true, string_bytes};
 ghost use Rattle.pb_value.specs.Limits.{max_bytes};
-ghost use Rattle.pb_cli.specs.Again.{IsToldAgain};
+ghost use Rattle.pb_cli.specs.Again.{IsSameUnderPut};
 ghost use Rattle.pb_cli.specs.Done.{IsBundleOf, IsWantedBy, is_too_long, IsShownAs, IsDone, IsCutOrUnkept, IsBroken, IsHelped, IsAnswered, IsUnended};
-ghost use Rattle.pb_cli.specs.Messages.{IsToldBundle};
+ghost use Rattle.pb_cli.specs.Messages.{IsBundleReported};
 ghost use Rattle.pb_cli.specs.RoleFiles.{AreRolesIn};
 ghost use Rattle.pb_cli.specs.World.{stream_of, stage_of, world_of, IsPut, IsQuiet, IsUntouched};
 
-use crate::again::tell_again;
+use crate::again::put_same_under;
 use crate::failed::keep_failed;
 use crate::files::{FileFault, read_named};
 use crate::messages::{Part, bundle_message, file_message, message};
@@ -34,7 +34,7 @@ const TOO_LONG: &str = "the outcomes have more than 64 MiB";
 
 /// The program `pb-play`: what its words ask for, with its output on `out` and its faults on `err`. Each worker of a run has one of
 /// the launchers start its programs. It answers the exit status: that of the run's recap, 0 where
-/// help was asked for or nothing is run, and 1 at a fault, which is told on `err`, or where a warning is
+/// help was asked for or nothing is run, and 1 at a fault, which is reported on `err`, or where a warning is
 /// one.
 #[tactic(auto, using(crate::proofs::Ending::under_asked))]
 pub fn play<
@@ -152,7 +152,7 @@ fn play_asked<
 }
 
 /// Tells whether another run ends in the same, where that is asked for, and keeps the hosts that didn't get through and the trail.
-#[tactic(auto, using(crate::proofs::Ending::told_before, crate::proofs::Ending::unkept))]
+#[tactic(auto, using(crate::proofs::Ending::same_under_before, crate::proofs::Ending::unkept))]
 fn end<R: Files + AllocGlobal, E: LineOut>(
     rt: &R,
     asked: &mut Asked,
@@ -160,12 +160,12 @@ fn end<R: Files + AllocGlobal, E: LineOut>(
     err: &mut E,
 ) -> u8
     requires { IfSome asked.old.same_under (λ n. (0 < n) × (n ≤ 256)) }
-    ensures done { result ≢ 1 → (played.now.status ≡ result) × IsToldAgain asked.old.same_under played.now.trail asked.old.bundle asked.old.wanted (stream_of E.LineOut err.old) (stream_of E.LineOut err.new) }
+    ensures done { result ≢ 1 → (played.now.status ≡ result) × IsSameUnderPut asked.old.same_under played.now.trail asked.old.bundle asked.old.wanted (stream_of E.LineOut err.old) (stream_of E.LineOut err.new) }
     ensures fault { result ≡ 1 → (played.now.status ≡ 1) ⊎ (((is_some asked.old.trail ≡ true) ⊎ (is_some asked.old.same_under ≡ true) ⊎ (is_some asked.old.failed ≡ true)) × (is_some played.now.trail ≡ true)) }
 {
     let alloc = rt.alloc();
     let under = asked.same_under;
-    if tell_again(
+    if put_same_under(
         alloc,
         &mut asked.bundle,
         &asked.wanted,
@@ -194,7 +194,7 @@ fn report_run_fault<R: Files + AllocGlobal, E: LineOut>(
     keep_all(rt, asked, trail, status, err)
 }
 
-/// Keeps the hosts that didn't get through, and the trail also where that can't be done. It answers this status, or that of a fault, which is told.
+/// Keeps the hosts that didn't get through, and the trail also where that can't be done. It answers this status, or that of a fault, which is reported.
 #[tactic(auto, using(crate::proofs::Ending::trail_unkept))]
 fn keep_all<R: Files + AllocGlobal, E: LineOut>(
     rt: &R,
@@ -215,7 +215,7 @@ fn keep_all<R: Files + AllocGlobal, E: LineOut>(
     }
 }
 
-/// Keeps the trail. It answers this status, or that of a fault, which is told.
+/// Keeps the trail. It answers this status, or that of a fault, which is reported.
 fn keep_or_report<R: Files + AllocGlobal, E: LineOut>(
     rt: &R,
     path: &Option<Text>,
@@ -288,7 +288,7 @@ fn read_beside<R: Files + AllocGlobal>(
     ensures places { IfOk result (λ asked. asked.places ≡ request.places) }
 {
     match read_told(rt, &request) {
-        Ok(told) => Ok(asked_of(request, parts, told)),
+        Ok(reported) => Ok(asked_of(request, parts, reported)),
         Err(fault) => {
             drop(parts);
             drop(request);
@@ -306,8 +306,8 @@ struct Told {
 
 /// The files that a bundle isn't made of.
 fn read_told<R: Files + AllocGlobal>(rt: &R, request: &Request) -> Result<Told, FileFault>
-    ensures outcomes { IfOk result (λ told. is_some told.outcomes ≡ is_some request.now.outcomes) }
-    ensures audited { IfOk result (λ told. is_some told.audited ≡ is_some request.now.audit) }
+    ensures outcomes { IfOk result (λ reported. is_some reported.outcomes ≡ is_some request.now.outcomes) }
+    ensures audited { IfOk result (λ reported. is_some reported.audited ≡ is_some request.now.audit) }
 {
     let outcomes = read_outcomes(rt, &request.outcomes)?;
     match read_audited(rt, &request.audit) {
@@ -320,12 +320,12 @@ fn read_told<R: Files + AllocGlobal>(rt: &R, request: &Request) -> Result<Told, 
 }
 
 /// What a request asks for, with the bytes of its files.
-fn asked_of(request: Request, parts: Parts, told: Told) -> Asked
+fn asked_of(request: Request, parts: Parts, reported: Told) -> Asked
     requires inventory { length parts.inventory ≤ max_bytes + 1 }
     requires playbook { length parts.playbook ≤ max_bytes - length parts.inventory + 1 }
     requires roles { AreRolesIn (max_bytes - length parts.inventory - length parts.playbook) request.roles parts.roles.files }
-    requires outcomes { is_some told.outcomes ≡ is_some request.outcomes }
-    requires audited { is_some told.audited ≡ is_some request.audit }
+    requires outcomes { is_some reported.outcomes ≡ is_some request.outcomes }
+    requires audited { is_some reported.audited ≡ is_some request.audit }
     ensures bundle { IsBundleOf request result.bundle }
     ensures wanted { IsWantedBy request result.wanted }
     ensures trail { result.trail ≡ request.trail }
@@ -347,8 +347,8 @@ fn asked_of(request: Request, parts: Parts, told: Told) -> Asked
         strict: request.strict,
         stop_after: request.stop_after,
         facts_program: request.facts_program,
-        outcomes: told.outcomes,
-        audited: told.audited,
+        outcomes: reported.outcomes,
+        audited: reported.audited,
     };
     drop(request.inventory);
     drop(request.playbook);
@@ -454,7 +454,7 @@ fn is_too_long(outcomes: &Option<Items<u8>>) -> bool
 }
 
 /// Tells a bundle's fault, by its part, and its place, where that is asked for.
-#[tactic(auto, using(crate::proofs::Telling::bundle_told))]
+#[tactic(auto, using(crate::proofs::Telling::bundle_reported))]
 fn report_bundle_fault<E: LineOut>(
     alloc: Global,
     err: &mut E,
@@ -462,7 +462,7 @@ fn report_bundle_fault<E: LineOut>(
     places: bool,
 ) -> u8
     ensures status { result ≡ 1 }
-    ensures told { IsToldBundle places fault.now (stream_of E.LineOut err.old) (stream_of E.LineOut err.new) }
+    ensures reported { IsBundleReported places fault.now (stream_of E.LineOut err.old) (stream_of E.LineOut err.new) }
 {
     report_line(err, bundle_message(alloc, fault, places))
 }
@@ -497,7 +497,7 @@ fn report_fault<E: LineOut, F: Display>(alloc: Global, err: &mut E, part: Part, 
 /// Writes the line of a fault, if there is memory for it. That standard error fails changes nothing: the status is 1.
 fn report_line<E: LineOut>(err: &mut E, line: Result<String, AllocError>) -> u8
     ensures status { result ≡ 1 }
-    ensures told { IfOk line (λ text. IsPut (string_bytes text) (stream_of E.LineOut err.old) (stream_of E.LineOut err.new)) }
+    ensures reported { IfOk line (λ text. IsPut (string_bytes text) (stream_of E.LineOut err.old) (stream_of E.LineOut err.new)) }
     ensures quiet { OnErr line (E.taken err.new ≡ E.taken err.old) }
 {
     if let Ok(line) = line {

@@ -43,7 +43,7 @@ pub(crate) fn run_plan<
     ensures write { (trail : Option (List Event)) → result ≡ Err (PlayFault.Run RunFault.Write trail) → O.failures out.new ≡ one_more (O.failures out.old) }
     ensures planned { (e : BundleFault) → result ≢ Err (PlayFault.Bundle e) }
     ensures unaudited { (e : TrailFault) → result ≢ Err (PlayFault.Trail e) }
-    ensures untold { (e : TableFault) → result ≡ Err (PlayFault.Outcomes e) → IsUntouched (stage_of L.Launcher O.LineOut launchers.old.items out.old) (stage_of L.Launcher O.LineOut launchers.new.items out.new) × (e ≢ TableFault.Memory → IsBadTable wanted.now.outcomes e) }
+    ensures bad_outcomes { (e : TableFault) → result ≡ Err (PlayFault.Outcomes e) → IsUntouched (stage_of L.Launcher O.LineOut launchers.old.items out.old) (stage_of L.Launcher O.LineOut launchers.new.items out.new) × (e ≢ TableFault.Memory → IsBadTable wanted.now.outcomes e) }
 {
     if let Some(bytes) = &wanted.outcomes {
         return run_tabled(rt.alloc(), plan, wanted.stop_after, bytes.as_slice(), out);
@@ -70,7 +70,7 @@ fn run_tabled<O: LineOut>(
     ensures write { (trail : Option (List Event)) → result ≡ Err (PlayFault.Run RunFault.Write trail) → O.failures out.new ≡ one_more (O.failures out.old) }
     ensures planned { (e : BundleFault) → result ≢ Err (PlayFault.Bundle e) }
     ensures unaudited { (e : TrailFault) → result ≢ Err (PlayFault.Trail e) }
-    ensures untold { (e : TableFault) → result ≡ Err (PlayFault.Outcomes e) → (O.taken out.new ≡ O.taken out.old) × (e ≢ TableFault.Memory → table_of bytes.now ≡ Err e) }
+    ensures bad_outcomes { (e : TableFault) → result ≡ Err (PlayFault.Outcomes e) → (O.taken out.new ≡ O.taken out.old) × (e ≢ TableFault.Memory → table_of bytes.now ≡ Err e) }
 {
     let mut runner = match TableRunner::read(alloc, bytes) {
         Ok(runner) => runner,

@@ -57,7 +57,7 @@ pub(crate) fn show_audit<O: LineOut>(
     bytes: &[u8],
     out: &mut O,
 ) -> Result<Played, PlayFault>
-    ensures told { IfOk result (λ played. (played.trail ≡ None) × IsAudited bytes.now plan.now (O.taken out.old) (O.taken out.new) played.status) }
+    ensures audited { IfOk result (λ played. (played.trail ≡ None) × IsAudited bytes.now plan.now (O.taken out.old) (O.taken out.new) played.status) }
     ensures cut { (fault : RunFault) (trail : Option (List Event)) → result ≡ Err (PlayFault.Run fault trail) → (trail ≡ None) × (((fault ≡ RunFault.Memory) × (O.taken out.new ≡ O.taken out.old)) ⊎ IsAuditCut bytes.now plan.now (O.taken out.old) (O.taken out.new)) }
     ensures write { (trail : Option (List Event)) → result ≡ Err (PlayFault.Run RunFault.Write trail) → O.failures out.new ≡ one_more (O.failures out.old) }
     ensures planned { (e : BundleFault) → result ≢ Err (PlayFault.Bundle e) }
@@ -70,14 +70,14 @@ pub(crate) fn show_audit<O: LineOut>(
     }
 }
 
-/// Writes what is told of a trail.
+/// Writes what is said of a trail.
 fn show_verdict<O: LineOut>(
     alloc: Global,
     plan: &Plan,
     trail: &[Event],
     out: &mut O,
 ) -> Result<Played, PlayFault>
-    ensures told { IfOk result (λ played. (text : List ℕ) × IsVerdict plan.now trail.now text played.status × (O.taken out.new ≡ with_more (O.taken out.old) text) × (played.trail ≡ None)) }
+    ensures said { IfOk result (λ played. (text : List ℕ) × IsVerdict plan.now trail.now text played.status × (O.taken out.new ≡ with_more (O.taken out.old) text) × (played.trail ≡ None)) }
     ensures fault { IfErr result (λ e. (fault : RunFault) × (e ≡ PlayFault.Run fault None)) }
     ensures cut { (fault : RunFault) (handed : Option (List Event)) → result ≡ Err (PlayFault.Run fault handed) → ((fault ≡ RunFault.Memory) × (O.taken out.new ≡ O.taken out.old)) ⊎ ((text : List ℕ) × (status : ℕ) × IsVerdict plan.now trail.now text status × IsPart (O.taken out.old) (O.taken out.new) text) }
     ensures write { (handed : Option (List Event)) → result ≡ Err (PlayFault.Run RunFault.Write handed) → O.failures out.new ≡ one_more (O.failures out.old) }

@@ -45,7 +45,7 @@ pub fn system_launchers<R: Processes<Started = SystemProcess> + AllocGlobal>(
 /// Runs a plan by these runners, each in a thread of its own, with these commands, and with its lines on a writer. It answers the
 /// exit status and the events.
 #[tactic(auto, using(crate::proofs::Running::run_in_pool, crate::proofs::Running::cut_in_pool))]
-fn run_told<N: Runner + Send + Drop, R: AllocGlobal + Threads + Wait + Sync, O: LineOut>(
+fn run_commanded<N: Runner + Send + Drop, R: AllocGlobal + Threads + Wait + Sync, O: LineOut>(
     rt: &R,
     plan: Plan,
     commands: &[Given],
@@ -97,9 +97,9 @@ fn run_workers<N: Runner + Send + Drop, R: AllocGlobal + Threads + Wait + Sync, 
     match stop_after {
         Some(after) => {
             let command = Command::Stop;
-            run_told(rt, plan, &[Given { after, command }], runners, out)
+            run_commanded(rt, plan, &[Given { after, command }], runners, out)
         }
-        None => run_told(rt, plan, &[], runners, out),
+        None => run_commanded(rt, plan, &[], runners, out),
     }
 }
 

@@ -17,8 +17,8 @@ use Rattle.pb_command_line.specs.declared.words.WordsFault.TheVariants.{Help, Wr
 -- the request that the values make
 pub asked_for : (value : Text → Option Text) (inventory playbook : Text) (texts : Texts) (numbers : Numbers) (flags : Flags) (request : Request) → value (codes "inventory") ≡ Some inventory → value (codes "playbook") ≡ Some playbook
     → AreNumbers value numbers → texts ≡ texts_of value inventory playbook → flags ≡ flags_of value → request ≡ request_of texts numbers flags → AskFor value request
-asked_for value inventory playbook texts numbers flags request file book counted told flagged is =
-    subst (AskFor value) (sym (is ∙ ap (λ (t : Texts). request_of t numbers flags) told ∙ ap (λ (f : Flags). request_of (texts_of value inventory playbook) numbers f) flagged))
+asked_for value inventory playbook texts numbers flags request file book counted texts_are flagged is =
+    subst (AskFor value) (sym (is ∙ ap (λ (t : Texts). request_of t numbers flags) texts_are ∙ ap (λ (f : Flags). request_of (texts_of value inventory playbook) numbers f) flagged))
     (file, book, counted.0, refl, refl, refl, refl, refl, counted.1, counted.2, refl, refl, refl, refl, refl, refl)
 
 program_simple : is_simple program ≡ true

@@ -172,7 +172,7 @@ abbrev pub NoStop : Option Text → Type 0
 NoStop None = ⊥
 NoStop (Some text) = IsNoReportCount text
 
--- what a number that is none is told as
+-- how a number that is none is reported
 abbrev pub IsBadNumber : WordsFault → Type 0
 IsBadNumber (Help text) = ⊥
 IsBadNumber (Wrong text) = Unit
@@ -181,7 +181,7 @@ IsBadNumber Memory = Unit
 
 -- what the values of the arguments, each by its name, ask for: these files, so many forks, this limit, these extra variables, this folder of roles, this facts program,
 -- this many reports until the run is stopped, so many forks with which it is done once more, this file for the hosts that didn't get through, this file for its trail, this trail to be looked at, whether warnings are faults,
--- whether faults are told with their places, and this purpose
+-- whether faults are reported with their places, and this purpose
 abbrev pub AskFor : (Text → Option Text) → Request → Type 0
 AskFor value request = (value (codes "inventory") ≡ Some request.inventory) × (value (codes "playbook") ≡ Some request.playbook)
     × AreForks (value (codes "forks")) request.forks × (value (codes "outcomes") ≡ request.outcomes)
@@ -251,7 +251,7 @@ AreRefused value Memory = Unit
 abbrev pub Asks : List Text → Request → Type 0
 Asks words request = (errors_in words ≡ []) × AskFor (λ id. value_in id words) request
 
--- what an error of that kind is told as
+-- how an error of that kind is reported
 abbrev pub TellsKind : ErrorKind → WordsFault → Type 0
 TellsKind kind (Help text) = kind ≡ DisplayHelp
 TellsKind kind (Wrong text) = (kind ≢ DisplayHelp) × (kind ≢ OutOfMemory)

@@ -39,7 +39,7 @@ is_strict : Asks (codes "pb-play" ∷ codes "-i" ∷ codes "hosts.json" ∷ code
 unfolding on_literals
 is_strict = (refl, (refl, refl, refl, refl, refl, refl, refl, refl, refl, refl, refl, refl, refl, refl, refl, refl))
 
--- faults are told with their places
+-- faults are reported with their places
 placed : Asks (codes "pb-play" ∷ codes "--where" ∷ codes "-i" ∷ codes "hosts.json" ∷ codes "site.json" ∷ []) (record { inventory = codes "hosts.json"; playbook = codes "site.json"; forks = 5; outcomes = None; limit = None; extra = None; roles = None; facts_program = None; stop_after = None; same_under = None; failed = None; trail = None; audit = None; strict = false; places = true; purpose = Run })
 unfolding on_literals
 placed = (refl, (refl, refl, refl, refl, refl, refl, refl, refl, refl, refl, refl, refl, refl, refl, refl, refl))

@@ -166,7 +166,7 @@ pub(crate) fn strict<'a>(alloc: Global) -> Arg<'a>
         .help("Runs nothing where there is a warning")
 }
 
-/// `--where`: faults are told with their places.
+/// `--where`: faults are reported with their places.
 pub(crate) fn places<'a>(alloc: Global) -> Arg<'a>
     ensures { (rule_of result ≡ places) × (result.global ≡ false) }
 {

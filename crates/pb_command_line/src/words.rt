@@ -40,7 +40,7 @@ pub struct Request {
     pub audit: Option<Text>,
     /// Whether a warning is a fault.
     pub strict: bool,
-    /// Whether a fault of the playbook or of a role's file is told with the place at which it stands.
+    /// Whether a fault of the playbook or of a role's file is reported with the place at which it stands.
     pub places: bool,
     /// What is to be done with the plan.
     pub purpose: Purpose,
@@ -177,7 +177,7 @@ fn fault(alloc: Global, error: &Error) -> WordsFault
     }
 }
 
-/// A number that isn't one as it is wanted, told.
+/// A number that isn't one as it is wanted, reported.
 fn bad_number(alloc: Global, written: &str, wanted: &str) -> WordsFault
     ensures { IsBadNumber result }
 {
@@ -189,7 +189,7 @@ fn bad_number(alloc: Global, written: &str, wanted: &str) -> WordsFault
     }
 }
 
-/// A number from 1 to 256; `wanted` is what one that isn't is told with.
+/// A number from 1 to 256; `wanted` is what one that isn't is reported with.
 fn read_count(alloc: Global, text: &str, wanted: &str) -> Result<u32, WordsFault>
     ensures value { IfOk result (IsCount text.now) }
     ensures fault { IfErr result (λ e. IsBadNumber e × IsNoCount text.now) }

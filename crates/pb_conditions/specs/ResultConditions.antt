@@ -1,4 +1,4 @@
--- What a task says itself of an item whose module ran: whether it changed something, and whether it failed. What the task is told is
+-- What a task says itself of an item whose module ran: whether it changed something, and whether it failed. The item's result is
 -- seen under the name that it registers its result under (Ansible's documentation, "Error handling in playbooks").
 use Rattle.std.specs.Prelude.{ℕ, Bool, List, [], ◌∷◌, Option, Some, None, Result, Ok, Err, codes}
 use Rattle.pb_value.specs.Datum.{Datum, boolean, dict, members_of, entries_of, put}
@@ -49,8 +49,8 @@ seen_as None result = []
 seen_as (Some name) result = (name, result) ∷ []
 
 abbrev pub by_condition : (ItemResult → Bool → ItemResult) → Sees → Option (List ℕ) → Option (List Tree) → ItemResult → Result ItemResult EvalFault
-by_condition told sees register None item = Ok item
-by_condition told sees register (Some conditions) item = map_ok (told item) (holds (sees (seen_as register item.result)) conditions)
+by_condition change sees register None item = Ok item
+by_condition change sees register (Some conditions) item = map_ok (change item) (holds (sees (seen_as register item.result)) conditions)
 
 -- whether it changed something, and then whether it failed, which sees the first
 abbrev pub by_conditions : Sees → Option (List ℕ) → Option (List Tree) → Option (List Tree) → ItemResult → Result ItemResult EvalFault

@@ -29,43 +29,43 @@ ran changed failed rc =
     }
 
 -- what a task that registers `r` says of an item, over these facts that were set and these extra variables
-abbrev told : Map → Map → Option (List ℕ) → Option (List ℕ) → ItemResult → ItemResult
-told set extra changed_when failed_when item =
+abbrev conditioned : Map → Map → Option (List ℕ) → Option (List ℕ) → ItemResult → ItemResult
+conditioned set extra changed_when failed_when item =
     with_conditions (sees (layers [] [] [] [] [] [] [] [] set [] extra) [] []) (Some (codes "r")) (condition changed_when) (condition failed_when) item
 
-says_nothing : told [] [] None None (ran true false 0) ≡ ran true false 0
+says_nothing : conditioned [] [] None None (ran true false 0) ≡ ran true false 0
 unfolding tree_of tree_of_tokens eval_of measured
 says_nothing = refl
 
-nothing_changed : told [] [] (Some (codes "r.rc == 0")) None (ran true true 2) ≡ ran false true 2
+nothing_changed : conditioned [] [] (Some (codes "r.rc == 0")) None (ran true true 2) ≡ ran false true 2
 unfolding tree_of tree_of_tokens eval_of measured
 nothing_changed = refl
 
-two_is_well : told [] [] None (Some (codes "r.rc > 2")) (ran true true 2) ≡ ran true false 2
+two_is_well : conditioned [] [] None (Some (codes "r.rc > 2")) (ran true true 2) ≡ ran true false 2
 unfolding tree_of tree_of_tokens eval_of measured
 two_is_well = refl
 
 -- whether it failed sees whether it changed something as the task has it
-failed_sees_changed : told [] [] (Some (codes "false")) (Some (codes "r.changed")) (ran true true 2) ≡ ran false false 2
+failed_sees_changed : conditioned [] [] (Some (codes "false")) (Some (codes "r.changed")) (ran true true 2) ≡ ran false false 2
 unfolding tree_of tree_of_tokens eval_of measured
 failed_sees_changed = refl
 
 -- the result is seen over what was registered before
-over_registered : told ((codes "r", int (pos 5)) ∷ []) [] None (Some (codes "r.rc == 2")) (ran true false 2) ≡ ran true true 2
+over_registered : conditioned ((codes "r", int (pos 5)) ∷ []) [] None (Some (codes "r.rc == 2")) (ran true false 2) ≡ ran true true 2
 unfolding tree_of tree_of_tokens eval_of measured
 over_registered = refl
 
 -- and an extra variable hides it
-extra_hides : told [] ((codes "r", dict (members_of ((codes "rc", int (pos 0)) ∷ []))) ∷ []) None (Some (codes "r.rc == 2")) (ran true true 2) ≡ ran true false 2
+extra_hides : conditioned [] ((codes "r", dict (members_of ((codes "rc", int (pos 0)) ∷ []))) ∷ []) None (Some (codes "r.rc == 2")) (ran true true 2) ≡ ran true false 2
 unfolding tree_of tree_of_tokens eval_of measured
 extra_hides = refl
 
-fault_is_the_items : told [] [] (Some (codes "x")) None (ran true false 0) ≡ faulty_result (codes "'x' is undefined")
+fault_is_the_items : conditioned [] [] (Some (codes "x")) None (ran true false 0) ≡ faulty_result (codes "'x' is undefined")
 unfolding tree_of tree_of_tokens eval_of measured
 fault_is_the_items = refl
 
 -- the first fault counts
-first_fault : told [] [] (Some (codes "x")) (Some (codes "y")) (ran true false 0) ≡ faulty_result (codes "'x' is undefined")
+first_fault : conditioned [] [] (Some (codes "x")) (Some (codes "y")) (ran true false 0) ≡ faulty_result (codes "'x' is undefined")
 unfolding tree_of tree_of_tokens eval_of measured
 first_fault = refl
 
@@ -75,6 +75,6 @@ unfolding tree_of tree_of_tokens eval_of measured
 not_registered = refl
 
 -- an item that was left out stays as it is
-skipped_stays : told [] [] (Some (codes "x")) (Some (codes "true")) (record { ending = Skipped; result = dict (members_of []) }) ≡ record { ending = Skipped; result = dict (members_of []) }
+skipped_stays : conditioned [] [] (Some (codes "x")) (Some (codes "true")) (record { ending = Skipped; result = dict (members_of []) }) ≡ record { ending = Skipped; result = dict (members_of []) }
 unfolding tree_of tree_of_tokens eval_of measured
 skipped_stays = refl

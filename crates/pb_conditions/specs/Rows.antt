@@ -22,9 +22,9 @@ abbrev trees : List (List ℕ) → Option (List Tree)
 trees [] = Some []
 trees (s ∷ ss) = with_tree (tree_of s) (trees ss)
 
-abbrev told : List Map → Option (List Tree) → Option (Result Bool EvalFault)
-told scope None = None
-told scope (Some ts) = Some (holds scope ts)
+abbrev holding : List Map → Option (List Tree) → Option (Result Bool EvalFault)
+holding scope None = None
+holding scope (Some ts) = Some (holds scope ts)
 
 -- the variables of a play
 abbrev play : Map → List Map
@@ -33,20 +33,20 @@ play vars = layers [] [] [] [] vars [] [] [] [] [] []
 no_condition : holds [] [] ≡ Ok true
 no_condition = refl
 
-all_hold : told (play ((codes "n", int (pos 3)) ∷ [])) (trees (codes "n == 3" ∷ codes "'x'" ∷ codes "[0]" ∷ [])) ≡ Some (Ok true)
+all_hold : holding (play ((codes "n", int (pos 3)) ∷ [])) (trees (codes "n == 3" ∷ codes "'x'" ∷ codes "[0]" ∷ [])) ≡ Some (Ok true)
 unfolding tree_of tree_of_tokens eval_of measured
 all_hold = refl
 
 -- what stands behind the first that doesn't hold isn't read
-cut_at_false : told [] (trees (codes "true" ∷ codes "0" ∷ codes "x" ∷ [])) ≡ Some (Ok false)
+cut_at_false : holding [] (trees (codes "true" ∷ codes "0" ∷ codes "x" ∷ [])) ≡ Some (Ok false)
 unfolding tree_of tree_of_tokens eval_of measured
 cut_at_false = refl
 
-undefined_name : told [] (trees (codes "true" ∷ codes "x" ∷ codes "0" ∷ [])) ≡ Some (Err (Undefined (codes "x")))
+undefined_name : holding [] (trees (codes "true" ∷ codes "x" ∷ codes "0" ∷ [])) ≡ Some (Err (Undefined (codes "x")))
 unfolding tree_of tree_of_tokens eval_of measured
 undefined_name = refl
 
 -- a text counts as true, whatever it says
-text_false : told (play ((codes "t", text (codes "false")) ∷ [])) (trees (codes "t" ∷ [])) ≡ Some (Ok true)
+text_false : holding (play ((codes "t", text (codes "false")) ∷ [])) (trees (codes "t" ∷ [])) ≡ Some (Ok true)
 unfolding tree_of tree_of_tokens eval_of measured template_of
 text_false = refl

@@ -100,7 +100,7 @@ fn by_until(
     }
 }
 
-/// The item with its settled result: another attempt follows only where the program ran and no condition was faulty.
+/// The item with its final result: another attempt follows only where the program ran and no condition was faulty.
 fn came(
     alloc: Global,
     sight: &Sight,
@@ -120,7 +120,7 @@ fn came(
 }
 
 /// What an attempt at an item of a task that may be tried more than once comes to, from the result of its job. Where the program ran,
-/// the result gets the attempt's number, counted from 1, under `attempts`; then it is settled as `with_conditions` does it, and then `until`
+/// the result gets the attempt's number, counted from 1, under `attempts`; then it is changed as by `with_conditions`, and then `until`
 /// is read, which sees it as it is by then. The item is tried again where `until` doesn't hold, unless the attempt is the last
 /// one: the item then fails with that result. A condition that can't be read makes the item faulty. A faulty item, and one whose program
 /// didn't run, is tried no more and isn't numbered. The only error is want of memory. See Ansible's documentation, "Retrying

@@ -100,7 +100,7 @@ fn ended_failed(truth: bool, ending: Ending) -> Ending
 }
 
 fn changed_to(alloc: Global, item: ItemResult, truth: bool) -> Result<ItemResult, AllocError>
-    ensures { IfOk result (λ told. told ≡ changed_to item truth) }
+    ensures { IfOk result (λ new_item. new_item ≡ changed_to item truth) }
 {
     let ItemResult {
         ending,
@@ -117,7 +117,7 @@ pub(crate) fn failed_to(
     item: ItemResult,
     truth: bool,
 ) -> Result<ItemResult, AllocError>
-    ensures { IfOk result (λ told. told ≡ failed_to item truth) }
+    ensures { IfOk result (λ new_item. new_item ≡ failed_to item truth) }
 {
     let ItemResult {
         ending,
@@ -136,7 +136,7 @@ fn by_changed_when(
     changed_when: &Option<Items<Expr>>,
     item: ItemResult,
 ) -> Result<ItemResult, EvalFault>
-    ensures value { IfOk result (λ told. by_condition changed_to (sees sight.now.layers.now sight.now.magic.now sight.now.loop_variable.now) sight.now.register.now changed_when.now item ≡ Ok told) }
+    ensures value { IfOk result (λ new_item. by_condition changed_to (sees sight.now.layers.now sight.now.magic.now sight.now.loop_variable.now) sight.now.register.now changed_when.now item ≡ Ok new_item) }
     ensures fault { IfErr result (λ e. e ≢ fault.Memory → by_condition changed_to (sees sight.now.layers.now sight.now.magic.now sight.now.loop_variable.now) sight.now.register.now changed_when.now item ≡ Err e) }
 {
     match changed_when {
@@ -155,7 +155,7 @@ fn by_failed_when(
     failed_when: &Option<Items<Expr>>,
     item: ItemResult,
 ) -> Result<ItemResult, EvalFault>
-    ensures value { IfOk result (λ told. by_condition failed_to (sees sight.now.layers.now sight.now.magic.now sight.now.loop_variable.now) sight.now.register.now failed_when.now item ≡ Ok told) }
+    ensures value { IfOk result (λ new_item. by_condition failed_to (sees sight.now.layers.now sight.now.magic.now sight.now.loop_variable.now) sight.now.register.now failed_when.now item ≡ Ok new_item) }
     ensures fault { IfErr result (λ e. e ≢ fault.Memory → by_condition failed_to (sees sight.now.layers.now sight.now.magic.now sight.now.loop_variable.now) sight.now.register.now failed_when.now item ≡ Err e) }
 {
     match failed_when {
@@ -175,7 +175,7 @@ fn by_conditions(
     failed_when: &Option<Items<Expr>>,
     item: ItemResult,
 ) -> Result<ItemResult, EvalFault>
-    ensures value { IfOk result (λ told. by_conditions (sees sight.now.layers.now sight.now.magic.now sight.now.loop_variable.now) sight.now.register.now changed_when.now failed_when.now item ≡ Ok told) }
+    ensures value { IfOk result (λ new_item. by_conditions (sees sight.now.layers.now sight.now.magic.now sight.now.loop_variable.now) sight.now.register.now changed_when.now failed_when.now item ≡ Ok new_item) }
     ensures fault { IfErr result (λ e. e ≢ fault.Memory → by_conditions (sees sight.now.layers.now sight.now.magic.now sight.now.loop_variable.now) sight.now.register.now changed_when.now failed_when.now item ≡ Err e) }
 {
     let item = by_changed_when(alloc, sight, changed_when, item)?;
@@ -185,11 +185,11 @@ fn by_conditions(
 /// A fault of reading is the item's.
 pub(crate) fn or_faulty(
     alloc: Global,
-    told: Result<ItemResult, EvalFault>,
+    came: Result<ItemResult, EvalFault>,
 ) -> Result<ItemResult, AllocError>
-    ensures { IfOk result (λ item. (told ≢ Err fault.Memory) × (item ≡ or_faulty told)) }
+    ensures { IfOk result (λ item. (came ≢ Err fault.Memory) × (item ≡ or_faulty came)) }
 {
-    match told {
+    match came {
         Ok(item) => Ok(item),
         Err(EvalFault::Memory) => Err(AllocError),
         Err(fault) => {
@@ -200,7 +200,7 @@ pub(crate) fn or_faulty(
 }
 
 /// An item whose module ran, as its task says of it: whether it changed something by `changed_when`, and then whether it failed by
-/// `failed_when`, each where the task has it. The conditions see the item's result, as far as it is settled, under the name that the
+/// `failed_when`, each where the task has it. The conditions see the item's result, as it is by then, under the name that the
 /// task registers it under. Where one of them can't be read the item is faulty. Every other item stays as it is. The only
 /// error is want of memory. See Ansible's documentation, "Error handling in playbooks".
 pub fn with_conditions(
@@ -210,7 +210,7 @@ pub fn with_conditions(
     failed_when: &Option<Items<Expr>>,
     item: ItemResult,
 ) -> Result<ItemResult, AllocError>
-    ensures { IfOk result (λ told. told ≡ with_conditions (sees sight.now.layers.now sight.now.magic.now sight.now.loop_variable.now) sight.now.register.now changed_when.now failed_when.now item) }
+    ensures { IfOk result (λ new_item. new_item ≡ with_conditions (sees sight.now.layers.now sight.now.magic.now sight.now.loop_variable.now) sight.now.register.now changed_when.now failed_when.now item) }
 {
     match item.ending {
         Ending::Ran {

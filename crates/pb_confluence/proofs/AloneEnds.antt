@@ -38,7 +38,7 @@ use Rattle.pb_confluence.specs.Alone.{walks, between, alone_in, alone_from, alon
 use Rattle.pb_task_vars.specs.Results.{items_at}
 use Rattle.pb_hosts.specs.Turn.{BatchOf}
 use Rattle.pb_confluence.proofs.Alone.{later_alone, in_row, row_in, row_waits, row_value, values, RunsOnly, IsRight, inside_at, progressed_right, sent_right, reported_right, progressed_wait, reported_wait, row_same, IsFree, turned_same, joined_rows, joined_right}
-use Rattle.pb_confluence.proofs.Along.{IsAlong, along_next, along_first, told_fixed}
+use Rattle.pb_confluence.proofs.Along.{IsAlong, along_next, along_first, report_fixed}
 use Rattle.pb_independence.specs.Apart.{AreApart}
 use Rattle.pb_confluence.proofs.Batches.{total, waits_count, waiting, left_count, joined_count, called_waits, sizes_total, SameWait, waiting_changed, none_waits}
 use Rattle.pb_confluence.proofs.Ends.{closes, none_start_at_end, runs_out}
@@ -353,7 +353,7 @@ event_keeps : (plan : PlanOf) (f : Fixed) (s : State) (e : Event) → AreFree pl
 event_keeps plan f s Open free apart good may fixed = open_keeps plan f s good.0 may
 event_keeps plan f s (Start h) free apart good may fixed = start_event plan f s h.0 (open_play plan s) apart good refl may
 event_keeps plan f s (Send h item attempt ticket) free apart good may fixed = send_event plan f s h.0 item attempt ticket (open_play plan s) good refl may
-event_keeps plan f s (Reported r) free apart good may fixed = report_event plan f s r (open_play plan s) apart good refl may (told_fixed plan f s r good.1 may fixed)
+event_keeps plan f s (Reported r) free apart good may fixed = report_event plan f s r (open_play plan s) apart good refl may (report_fixed plan f s r good.1 may fixed)
 event_keeps plan f s Turn free apart good may fixed = turn_event plan f s (open_play plan s) free good refl may
 event_keeps plan f s Close free apart good may fixed = close_event plan f s (open_play plan s) good refl may
 event_keeps plan f s Stop free apart good may fixed = (good.0, refl)

@@ -68,7 +68,7 @@ fixed_some f o None e fixed = cc
 fixed_some f o (Some job) e fixed = fixed
 
 -- so it has a job, and tells what is fixed for that
-pub told_fixed : (plan : PlanOf) (f : Fixed) (s : State) (r : Report) → IsAlong plan s → option_map_or (may_report_in s r) (open_play plan s) false ≡ true → IsFixedAt plan f s (Reported r)
+pub report_fixed : (plan : PlanOf) (f : Fixed) (s : State) (r : Report) → IsAlong plan s → option_map_or (may_report_in s r) (open_play plan s) false ≡ true → IsFixedAt plan f s (Reported r)
     → r.outcome ≡ outcome_of f (job_of plan s r.host r.ticket)
-told_fixed plan f s r along may fixed =
+report_fixed plan f s r along may fixed =
     fixed_some f r.outcome (job_of plan s r.host r.ticket) (runs_job plan s r.host r.ticket along.held (reports_runner s r (open_play plan s) may)) fixed

@@ -21,15 +21,15 @@ found_row [] h below = absurd (omega (arith, below))
 found_row (row ∷ rows) zero below = (row, refl)
 found_row (row ∷ rows) (suc h) below = found_row rows h (omega (arith, below))
 
--- a list that is told by numbers, from n on
-told_from : (f : HostOf → Counts) (g : ℕ → Counts) (n : ℕ) (rows : List HostOf) → ((h : ℕ) (row : HostOf) → slice_get rows h ≡ Some row → f row ≡ g (n + h))
+-- a list that is made by numbers, from n on
+numbered_from : (f : HostOf → Counts) (g : ℕ → Counts) (n : ℕ) (rows : List HostOf) → ((h : ℕ) (row : HostOf) → slice_get rows h ≡ Some row → f row ≡ g (n + h))
     → map f rows ≡ map g (range_with_len n (length rows))
-told_from f g n [] on = refl
-told_from f g n (row ∷ rows) on =
+numbered_from f g n [] on = refl
+numbered_from f g n (row ∷ rows) on =
     let first : n + 0 ≡ n = omega arith in
     ap (λ (c : Counts). c ∷ map f rows) (on 0 row refl ∙ ap g first)
     ∙ ap (λ (cs : List Counts). g n ∷ cs)
-    (told_from f g (n + 1) rows (λ h other found. on (suc h) other found ∙ ap g (let next : n + suc h ≡ (n + 1) + h = omega arith in next)))
+    (numbered_from f g (n + 1) rows (λ h other found. on (suc h) other found ∙ ap g (let next : n + suc h ≡ (n + 1) + h = omega arith in next)))
 
 pub runs_end_as_fixed : RunsEndAsFixed
 runs_end_as_fixed plan pool trail s =
@@ -50,7 +50,7 @@ runs_end_as_fixed plan pool trail s =
                 ap (λ (found : Option HostOf). option_map_or (λ (row : HostOf). row.facts) found no_facts) there.1 ∙ (each host there.0 there.1).0;
             counts =
                 sym (recap_of_run plan pool trail s run.run)
-                ∙ told_from (λ (row : HostOf). row.counts) (λ (host : ℕ). (alone plan f host).counts) 0 s.rows
+                ∙ numbered_from (λ (row : HostOf). row.counts) (λ (host : ℕ). (alone plan f host).counts) 0 s.rows
                 (λ h row found. (each h row found).1 ∙ ap (λ (host : ℕ). (alone plan f host).counts) (let same : h ≡ 0 + h = omega arith in same))
                 ∙ ap (λ (n : ℕ). map (λ (host : ℕ). (alone plan f host).counts) (range_with_len 0 n)) (hosts_run plan pool trail s run.run);
           };

@@ -27,7 +27,7 @@ use Rattle.pb_state.proofs.Idle.{turns}
 use Rattle.pb_state.proofs.Stands.{both}
 use Rattle.pb_state.specs.Jobs.{job_of}
 use Rattle.pb_confluence.specs.Fixed.{Fixed, outcome_of, IsFixedAt, IsFixed}
-use Rattle.pb_confluence.proofs.Along.{IsAlong, along_next, along_first, told_fixed}
+use Rattle.pb_confluence.proofs.Along.{IsAlong, along_next, along_first, report_fixed}
 use Rattle.pb_confluence.specs.Together.{at_plays, in_play, together}
 use Rattle.pb_confluence.specs.Confluence.{IsWhole, EndsTogether}
 use Rattle.pb_independence.specs.Apart.{AreApart}
@@ -81,7 +81,7 @@ event_keeps : (plan : PlanOf) (f : Fixed) (s : State) (e : Event) → AreLinear 
 event_keeps plan f s Open linear apart good may fixed = open_keeps plan f s linear may
 event_keeps plan f s (Start h) linear apart good may fixed = start_event plan f s h.0 (open_play plan s) linear apart good refl may good.0
 event_keeps plan f s (Send h item attempt ticket) linear apart good may fixed = send_event plan f s h.0 item attempt ticket (open_play plan s) refl may good.0
-event_keeps plan f s (Reported r) linear apart good may fixed = report_event plan f s r (open_play plan s) apart good refl may (told_fixed plan f s r good.1 may fixed) good.0
+event_keeps plan f s (Reported r) linear apart good may fixed = report_event plan f s r (open_play plan s) apart good refl may (report_fixed plan f s r good.1 may fixed) good.0
 event_keeps plan f s Turn linear apart good may fixed = turn_event plan f s (open_play plan s) good refl may good.0
 event_keeps plan f s Close linear apart good may fixed = close_event plan f s (open_play plan s) refl may
 event_keeps plan f s Stop linear apart good may fixed = (good.0, refl)

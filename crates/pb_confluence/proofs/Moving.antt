@@ -37,7 +37,7 @@ use Rattle.pb_state.proofs.Local.{opened}
 use Rattle.pb_confluence.proofs.Starting.{Keeps, open_value}
 
 -- ---- a turn
--- where some host is at the place, one has settled the task there for all
+-- where some host is at the place, one has done the task there for all
 run_once_source : (p : ℕ) (rows : List HostOf) (from : HostOf) → run_once_host p rows ≡ Some from → list_any (has_done_run_once p) rows ≡ true
 run_once_source p [] from e = cc
 run_once_source p (row ∷ rows) from e = by_row (has_done_run_once p row) (λ f. run_once_source p rows from f) e

@@ -1,4 +1,4 @@
--- A task that one host runs for all: the hosts in order, up to the first that settles it.
+-- A task that one host runs for all: the hosts in order, up to the first that does it.
 use Rattle.std.proofs.Common.{◌≡◌, ◌⊎◌, inl, inr, ℕ, zero, suc, Bool, true, false, ◌||◌, List, [], ◌∷◌, map, take, refl, sym, ◌∙◌, ap, subst}
 use Rattle.std.specs.Prelude.{nat_eq, Option, Some, None, is_some, slice_get, if◌then◌else◌}
 use Rattle.std.specs.List.{list_any}
@@ -18,7 +18,7 @@ use Rattle.pb_confluence.proofs.Lists.{Every, map_changed}
 abbrev pub IsIdle : HostOf → Type 0
 IsIdle row = row.running ≡ None
 
--- past the place: the host neither stands there nor has settled the task
+-- past the place: the host neither stands there nor has done the task
 abbrev pub IsPast : ℕ → HostOf → Type 0
 IsPast p row = IsIdle row × (is_at p row ≡ false) × (has_done_run_once p row ≡ false)
 
@@ -31,7 +31,7 @@ Before p [] h = Unit {0}
 Before p (row ∷ rows) zero = Unit {0}
 Before p (row ∷ rows) (suc h) = IsPast p row × Before p rows h
 
--- hosts past the place, then perhaps one that runs or has settled the task, and behind it none that does
+-- hosts past the place, then perhaps one that runs or has done the task, and behind it none that does
 abbrev pub Solo : ℕ → List HostOf → Type 0
 Solo p [] = Unit {0}
 Solo p (row ∷ rows) = (IsPast p row × Solo p rows) ⊎ Every (Fresh p) rows
@@ -81,7 +81,7 @@ pub solo_fresh : (p : ℕ) (rows : List HostOf) → Every (Fresh p) rows → Sol
 solo_fresh p [] all = tt
 solo_fresh p (row ∷ rows) all = inr all.1
 
--- ---- nobody runs, and the task isn't settled
+-- ---- nobody runs, and the task isn't done
 idle_is : (x : Option Running) → is_some x ≡ false → x ≡ None
 idle_is None e = refl
 idle_is (Some r) e = cc
@@ -129,7 +129,7 @@ module _ (p : ℕ) (F : HostOf → HostOf) (leaves : (row : HostOf) → IsIdle r
       ap (λ (r : HostOf). r ∷ (if has_done_run_once p r then rows else until_played_out p F rows)) (leaves row all.0.0 all.0.1)
       ∙ ap (λ (t : List HostOf). row ∷ t) (if_same (has_done_run_once p row) rows (until_played_out p F rows) (until_left rows all.1))
 
-  -- one host has settled it
+  -- one host has done it
   run_once_here : (d any : Bool) → (d || any) ≡ true → any ≡ false → d ≡ true
   run_once_here true any e n = refl
   run_once_here false true e n = cc

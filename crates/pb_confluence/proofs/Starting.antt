@@ -158,10 +158,10 @@ once_fresh s play p rows current is all once open_once =
     let nobody : running_at (runs_in (map standing rows)) p ≡ 0 =
     ap (λ (xs : List HostOf). running_at (runs_in (map standing xs)) p) (sym is)
     ∙ eqb-true (running_at (runs_in (map standing s.rows)) p) 0 (and_left (nat_eq (running_at (runs_in (map standing s.rows)) p) 0) (not (is_run_once_done play s.rows s.place)) open_once) in
-    let unsettled : is_run_once_done play s.rows s.place ≡ false =
+    let not_done : is_run_once_done play s.rows s.place ≡ false =
     not_is (is_run_once_done play s.rows s.place) (and_right (nat_eq (running_at (runs_in (map standing s.rows)) p) 0) (not (is_run_once_done play s.rows s.place)) open_once) in
     let none : (runs_once_at play p && list_any (has_done_run_once p) rows) ≡ false =
-    sym (ap (λ (place : Option ℕ). option_map_or (is_run_once_done_at play s.rows) place false) current ∙ ap (λ (xs : List HostOf). runs_once_at play p && list_any (has_done_run_once p) xs) is) ∙ unsettled in
+    sym (ap (λ (place : Option ℕ). option_map_or (is_run_once_done_at play s.rows) place false) current ∙ ap (λ (xs : List HostOf). runs_once_at play p && list_any (has_done_run_once p) xs) is) ∙ not_done in
     open_fresh p rows (none_there p rows all nobody) (played_out_none (runs_once_at play p) (list_any (has_done_run_once p) rows) once none)
   where
     played_out_none : (a b : Bool) → a ≡ true → (a && b) ≡ false → b ≡ false

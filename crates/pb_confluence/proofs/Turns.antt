@@ -88,7 +88,7 @@ copied_last : (inventory : InventoryOf) (play : PlayOf) (p : ℕ) (last : Option
 copied_last inventory play p None row s h = cc
 copied_last inventory play p (Some finish) row s h = copying inventory play p finish row (is_at p row) refl s h
 
--- of a host that settled the task for all
+-- of a host that did the task for all
 pub copy_turned : (inventory : InventoryOf) (play : PlayOf) (p : ℕ) (from row : HostOf) → has_done_run_once p from ≡ true → IsThere p row → IsTurned p (with_copy inventory play p (Some from) row)
 copy_turned inventory play p from row s h = copied_last inventory play p from.last row s h
 
@@ -105,7 +105,7 @@ not_copied inventory play p (Some from) row e = by_last from.last
     by_last None = refl
     by_last (Some finish) = by_at (is_at p row) (copied inventory play p finish row) e
 
--- ---- when a turn is possible: nobody is at the place any more, or one host settled the task there for all
+-- ---- when a turn is possible: nobody is at the place any more, or one host did the task there for all
 abbrev pub IsAway : ℕ → HostOf → Type 0
 IsAway p row = IsIdle row × (is_at p row ≡ false)
 
@@ -161,7 +161,7 @@ places_later plan f number play (suc n) p batch =
     by_there true = turned_later plan.inventory play p (record { rows = at_place plan f number play p batch.rows; sizes_left = batch.sizes_left })
     by_there false = inl refl
 
--- ---- nobody has settled a later place
+-- ---- nobody has done a later place
 ends_run_once_not : (p q place : ℕ) (s b : Bool) → nat_eq place q ≡ b → p < q → place ≤ p → (b && s) ≡ false
 ends_run_once_not p q place s true t less h = let same : place ≡ q = eqb-true place q t in absurd (omega (arith, same, h, less))
 ends_run_once_not p q place s false t less h = refl

@@ -1,4 +1,4 @@
--- What a run may be relied on for in whose jobs what comes of each is fixed: its facts and its recap are told by plan and outcomes alone. How many hosts ran at
+-- What a run may be relied on for in whose jobs what comes of each is fixed: its facts and its recap are known by plan and outcomes alone. How many hosts ran at
 -- once, which of them began first, and in what order reports came is nothing to them.
 use Rattle.std.specs.Prelude.{◌≡◌, ◌<◌, ℕ, true, false, List, length, map, slice_get}
 use Rattle.std.specs.List.{range_with_len}

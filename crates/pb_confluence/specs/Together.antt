@@ -14,7 +14,7 @@ use Rattle.pb_confluence.specs.Fixed.{Fixed}
 use Rattle.pb_confluence.specs.Effect.{complete}
 
 -- ---- a place
--- hosts in order, up to the first that settles the task for all
+-- hosts in order, up to the first that does the task for all
 abbrev pub until_played_out : ℕ → (HostOf → HostOf) → List HostOf → List HostOf
 until_played_out p does [] = []
 until_played_out p does (row ∷ rows) = does row ∷ (if has_done_run_once p (does row) then rows else until_played_out p does rows)

@@ -136,8 +136,8 @@ work_same old new sound took =
 pub keeps_behind : (old mid new : EngineOf) (t u : Option (List ℕ)) → TakesCommands old mid → Keeps mid new t u → Keeps old new t u
 keeps_behind old mid new t u took keeps = λ base before. keeps base (before ∙ ap (λ l. with_more base l) (sym (lines_same old mid took)))
 
-pub breaks_told : (old new : EngineOf) (t : Option (List ℕ)) → TakesCommands old new → Breaks old new t t
-breaks_told old new t took = λ base before. all_short new base t (before ∙ ap (λ l. with_more base l) (sym (lines_same old new took)))
+pub breaks_commanded : (old new : EngineOf) (t : Option (List ℕ)) → TakesCommands old new → Breaks old new t t
+breaks_commanded old new t took = λ base before. all_short new base t (before ∙ ap (λ l. with_more base l) (sym (lines_same old new took)))
 
 pub along_behind : {H : Type 0} (went : H → List Mail → H → Type 0) (old mid new : EngineOf) (r s : H) → TakesCommands old mid → GoesAlong went mid new r s → GoesAlong went old new r s
 along_behind {H} went old mid new r s took along = λ base was. along base (subst (λ mails. went base mails r) (sym (mails_same old mid took)) was)

@@ -69,8 +69,8 @@ silent_commands : (cs : List Event) → AreCommands cs → AreSilent cs
 silent_commands [] c = tt
 silent_commands (e ∷ es) c = (command_mail e c.0, silent_commands es c.1)
 
-pub since_told : (fits : EngineOf → Type 0) (old new : EngineOf) → TakesCommands old new → FitsSince fits old → FitsSince fits new
-since_told fits old new took since = since_more fits old new took.events since (silent_commands took.events took.commands) took.same.plan took.same.pool took.trail took.same.run
+pub since_commanded : (fits : EngineOf → Type 0) (old new : EngineOf) → TakesCommands old new → FitsSince fits old → FitsSince fits new
+since_commanded fits old new took since = since_more fits old new took.events since (silent_commands took.events took.commands) took.same.plan took.same.pool took.trail took.same.run
 
 -- a run is finished
 pub fit_end : (fits : EngineOf → Type 0) (engine : EngineOf) → FitsSince fits engine → HasEnded engine.plan engine.state → HasFitEnd fits

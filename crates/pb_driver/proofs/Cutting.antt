@@ -28,7 +28,7 @@ front_of es e =
     let on : length (es ++ e ∷ []) - 1 ≡ length es = simp length-append (omega arith) in
     ap (λ n. take n (es ++ e ∷ [])) on ∙ take-append-le (length es) es (e ∷ []) (omega arith) ∙ take_all (length es) es (omega arith)
 
--- a front of the bytes that are told
+-- a front of the bytes that are known
 pub part_none : (t : Option (List ℕ)) (bytes : List ℕ) → IsPart t t bytes
 part_none t bytes = (0, none_more t)
 

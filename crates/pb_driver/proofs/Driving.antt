@@ -159,7 +159,7 @@ keeps_at old e t sound = λ base before.
     (more_more base (lines_from old.plan (first_state old.plan old.plan.forks old.pool) old.trail) (lines_of old.plan (after old.plan old.state e) e))
 
 pub keeps_one : (answers : Answers) (old new : EngineOf) (t t' : Option (List ℕ)) → IsSound old → TakesOne answers old new → t' ≡ with_more t (last_lines new) → Keeps old new t t'
-keeps_one answers old new t t' sound one told = rw (told, one.takes.1) (keeps_at old one.event t sound)
+keeps_one answers old new t t' sound one its_lines = rw (its_lines, one.takes.1) (keeps_at old one.event t sound)
 
 pub keeps_same : (old new : EngineOf) (t : Option (List ℕ)) → new ≡ old → Keeps old new t t
 keeps_same old new t same = rw same (λ base before. before)

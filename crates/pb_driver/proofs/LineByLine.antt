@@ -12,7 +12,7 @@ use Rattle.pb_recap.specs.Stats.{line_data}
 use Rattle.pb_recap.specs.Text.{recap_text}
 use Rattle.pb_driver.specs.Output.{lines_from, end_lines, output}
 use Rattle.pb_driver.specs.Cut.{lines_to, IsCut}
-use Rattle.pb_driver.specs.Written.{numbered, event_lines, lines_told, only_lines, StandBehindEvents, StandBehindEventsTo, LinesStandBehindEvents}
+use Rattle.pb_driver.specs.Written.{numbered, event_lines, lines_along, only_lines, StandBehindEvents, StandBehindEventsTo, LinesStandBehindEvents}
 use Rattle.pb_driver.proofs.Cutting.{take_behind}
 
 only_both : (a b : List (ℕ × List ℕ)) → only_lines (a ++ b) ≡ only_lines a ++ only_lines b
@@ -40,7 +40,7 @@ events_cut law plan s n (e ∷ es) more =
 
 -- and behind the first line and these
 front_cut : (law : EventsHaveLines) (plan : PlanOf) (pool : ℕ) (trail : List Event) (more : List ℕ)
-    → lines_in (lines_to plan pool trail ++ more) ≡ start_line (length plan.plays) ∷ only_lines (lines_told plan pool trail) ++ lines_in more
+    → lines_in (lines_to plan pool trail ++ more) ≡ start_line (length plan.plays) ∷ only_lines (lines_along plan pool trail) ++ lines_in more
 front_cut law plan pool trail more =
     let first = first_state plan plan.forks pool in
     ap lines_in (append_assoc (start_line (length plan.plays)) (lines_from plan first trail) more) ∙ law.start (length plan.plays) (lines_from plan first trail ++ more)
@@ -61,11 +61,11 @@ are_objects law plan s n (e ∷ es) =
 stand_behind : (law : EventsHaveLines) (plan : PlanOf) (pool : ℕ) (trail : List Event) → StandBehindEvents plan pool trail
 stand_behind law plan pool trail =
     let counts = recap plan pool trail in
-    let told = only_lines (lines_told plan pool trail) in
+    let in_trail = only_lines (lines_along plan pool trail) in
     record {
       lines =
           front_cut law plan pool trail (end_lines plan counts)
-          ∙ ap (λ l. start_line (length plan.plays) ∷ (told ++ l)) (law.json (line_data plan.inventory.hosts counts) (recap_text plan.inventory.hosts counts));
+          ∙ ap (λ l. start_line (length plan.plays) ∷ (in_trail ++ l)) (law.json (line_data plan.inventory.hosts counts) (recap_text plan.inventory.hosts counts));
       objects = are_objects law plan (first_state plan plan.forks pool) 0 trail;
     }
 

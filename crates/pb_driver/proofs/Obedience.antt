@@ -74,15 +74,15 @@ in_command : (command : Command) (es : List Event) → commands_in es ≡ es →
 in_command ToStop es e = ap (λ (l : List Event). event_for ToStop ∷ l) e
 in_command (ToForks n) es e = ap (λ (l : List Event). event_for (ToForks n) ∷ l) e
 
-told_by : (b : Bool) (command : Command) (taken refused : List Event) → commands_in taken ≡ taken → commands_in refused ≡ refused
+commands_if : (b : Bool) (command : Command) (taken refused : List Event) → commands_in taken ≡ taken → commands_in refused ≡ refused
     → commands_in (if b then event_for command ∷ taken else refused) ≡ (if b then event_for command ∷ taken else refused)
-told_by true command taken refused a c = in_command command taken a
-told_by false command taken refused a c = c
+commands_if true command taken refused a c = in_command command taken a
+commands_if false command taken refused a c = c
 
 in_accepted : (plan : PlanOf) (pool : ℕ) (s : State) (commands : List Given) → commands_in (accepted plan pool s commands) ≡ accepted plan pool s commands
 in_accepted plan pool s [] = refl
 in_accepted plan pool s (given ∷ rest) =
-    told_by (is_taken plan pool s given) given.command (accepted plan pool (after plan s (event_for given.command)) rest) (accepted plan pool s rest)
+    commands_if (is_taken plan pool s given) given.command (accepted plan pool (after plan s (event_for given.command)) rest) (accepted plan pool s rest)
     (in_accepted plan pool (after plan s (event_for given.command)) rest) (in_accepted plan pool s rest)
 
 -- the commands of a run are some of those that were given

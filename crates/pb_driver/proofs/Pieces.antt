@@ -14,7 +14,7 @@ piece at n xs h =
     let front : take at (take (at + n) xs) ≡ take at xs = take-take at (at + n) xs (omega arith) in
     rw (rest, ← drop-take at n xs, ← front) (take-append-drop at (take (at + n) xs))
 
-pub more_more : (told : Option (List ℕ)) (a b : List ℕ) → with_more (with_more told a) b ≡ with_more told (a ++ b)
+pub more_more : (known : Option (List ℕ)) (a b : List ℕ) → with_more (with_more known a) b ≡ with_more known (a ++ b)
 more_more None a b = refl
 more_more (Some t) a b = ap Some (append_assoc t a b)
 

@@ -19,7 +19,7 @@ use Rattle.pb_state.proofs.Steps.{hosts_stay}
 use Rattle.pb_value.specs.Datum.{Datum}
 use Rattle.pb_driver.specs.SameEnd.{IsSameAt, IsFirstApart, EndsSame}
 
--- ---- two hosts' facts are told by their two layers
+-- ---- two hosts' facts are known by their two layers
 pub layers_tell : (one two : FactsOf) → gathered_layer one.gathered ≡ gathered_layer two.gathered → one.set ≡ two.set → one ≡ two
 layers_tell one two layers sets =
     let gathered : one.gathered ≡ two.gathered = sym (layer_gathers one.gathered) ∙ ap gathered_in layers ∙ layer_gathers two.gathered in

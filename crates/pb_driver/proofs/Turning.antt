@@ -21,8 +21,8 @@ use Rattle.pb_driver.specs.Turning.{Stands, GoesOn, BreaksOff, RunsOut, RunsTo}
 use Rattle.pb_driver.proofs.Driving.{begun_one, begun_same, empty_begun, fresh_begun, keeps_one, keeps_same, made_of, same_one, same_same, whole}
 use Rattle.pb_driver.proofs.Cutting.{breaks_after, breaks_one, breaks_same, cut_end, cut_fresh, cut_none, cut_turns}
 use Rattle.pb_driver.proofs.Going.{along_both, done_over, gone_along, gone_over, fresh_over, none_over, over_along, over_both}
-use Rattle.pb_driver.proofs.Commanding.{along_behind, begun_behind, breaks_told, keeps_behind}
-use Rattle.pb_driver.proofs.Crewing.{fit_end, since_now, since_told}
+use Rattle.pb_driver.proofs.Commanding.{along_behind, begun_behind, breaks_commanded, keeps_behind}
+use Rattle.pb_driver.proofs.Crewing.{fit_end, since_now, since_commanded}
 use Rattle.pb_driver.proofs.Obeying.{obeyed_front}
 
 -- a want of memory is no failed call
@@ -48,8 +48,8 @@ stands_one answers fits old new sound begun one since = record { begun = begun_o
 pub stands_same : (answers : Answers) (fits : EngineOf → Type 0) (old new : EngineOf) → HasBegun answers old → new ≡ old → FitsSince fits new → Stands answers fits new
 stands_same answers fits old new begun same since = record { begun = begun_same answers old new same begun; since = since }
 
-pub stands_told : (answers : Answers) (fits : EngineOf → Type 0) (old new : EngineOf) → TakesCommands old new → Stands answers fits old → Stands answers fits new
-stands_told answers fits old new took stands = record { begun = begun_behind answers old new took stands.begun; since = since_told fits old new took stands.since }
+pub stands_commanded : (answers : Answers) (fits : EngineOf → Type 0) (old new : EngineOf) → TakesCommands old new → Stands answers fits old → Stands answers fits new
+stands_commanded answers fits old new took stands = record { begun = begun_behind answers old new took stands.begun; since = since_commanded fits old new took stands.since }
 
 pub ended_as : (old new : EngineOf) → new ≡ old → HasEnded old.plan old.state → HasEnded new.plan new.state
 ended_as old new same ended = rw same ended
@@ -65,12 +65,12 @@ module _ {H : Type 0} (went : H → List Mail → H → Type 0) where
   -- by one event, with its lines
   pub on_one : (answers : Answers) (old new : EngineOf) (before after : H) (t u : Option (List ℕ)) (m n : ℕ) → IsSound old → IsSound new → TakesOne answers old new → GoesAlong went old new before after
       → u ≡ with_more t (last_lines new) → n ≡ m → GoesOn went old new before after t u m n
-  on_one answers old new before after t u m n was sound one along told quiet =
-      record { same = same_one answers old new one sound; keeps = keeps_one answers old new t u was one told; mails = along; quiet = quiet }
+  on_one answers old new before after t u m n was sound one along its_lines quiet =
+      record { same = same_one answers old new one sound; keeps = keeps_one answers old new t u was one its_lines; mails = along; quiet = quiet }
 
   -- by commands
-  pub on_told : (old new : EngineOf) (hand : H) (t : Option (List ℕ)) (m : ℕ) → TakesCommands old new → GoesOn went old new hand hand t t m m
-  on_told old new hand t m took =
+  pub on_commanded : (old new : EngineOf) (hand : H) (t : Option (List ℕ)) (m : ℕ) → TakesCommands old new → GoesOn went old new hand hand t t m m
+  on_commanded old new hand t m took =
       record { same = took.same; keeps = keeps_behind old new new t t took (λ base was. was); mails = along_behind went old new new hand hand took (λ base was. was); quiet = refl }
 
   pub on_both : (a b c : EngineOf) (r s v : H) (t u w : Option (List ℕ)) (m n o : ℕ) → GoesOn went a b r s t u m n → GoesOn went b c s v u w n o → GoesOn went a c r v t w m o
@@ -107,11 +107,11 @@ module _ {H : Type 0} (answers : Answers) (went : H → List Mail → H → Type
   }
 
   -- behind some commands memory was refused
-  pub off_told : (old new : EngineOf) (hand : H) (t : Option (List ℕ)) (m : ℕ) (fault : RunFault) → HasBegun answers old → TakesCommands old new → fault ≡ Memory → BreaksOff answers went old new hand hand t t m m fault
-  off_told old new hand t m fault begun took memory = record {
+  pub off_commanded : (old new : EngineOf) (hand : H) (t : Option (List ℕ)) (m : ℕ) (fault : RunFault) → HasBegun answers old → TakesCommands old new → fault ≡ Memory → BreaksOff answers went old new hand hand t t m m fault
+  off_commanded old new hand t m fault begun took memory = record {
     same = took.same;
     begun = begun_behind answers old new took begun;
-    breaks = breaks_told old new t took;
+    breaks = breaks_commanded old new t took;
     lost = over_along answers went old new hand hand fault (along_behind went old new new hand hand took (λ base was. was));
     failed = λ write. memory_write fault memory write;
     opened = memory_closed fault memory;
@@ -174,8 +174,8 @@ module _ {H : Type 0} (answers : Answers) (went : H → List Mail → H → Type
   pub runs_out : (fits : EngineOf → Type 0) (old new : EngineOf) (before after : H) (t u v w : Option (List ℕ)) (m n o p : ℕ) (counts : List Counts) → IsFresh old → went before [] before
       → u ≡ with_more t (start_line (length old.plan.plays)) → n ≡ m → GoesOn went old new before after u v n o → Stands answers fits new → HasEnded new.plan new.state → IsObeyed new.plan new.pool commands new.trail
       → w ≡ with_more v (end_lines new.plan counts) → counts ≡ recap new.plan new.pool new.trail → p ≡ o → RunsOut answers fits went old.plan old.pool commands new.trail before after t w m p
-  runs_out fits old new before after t u v w m n o p counts fresh none started quiet on stands ended obeyed told counted still = record {
-    whole = whole answers commands old new t u v w counts fresh started on.keeps stands.begun obeyed on.same ended told counted;
+  runs_out fits old new before after t u v w m n o p counts fresh none started quiet on stands ended obeyed its_lines counted still = record {
+    whole = whole answers commands old new t u v w counts fresh started on.keeps stands.begun obeyed on.same ended its_lines counted;
     mails = gone_along went old new before after fresh none on.mails on.same;
     last = fit_end fits new stands.since ended;
     quiet = still ∙ on.quiet ∙ quiet;

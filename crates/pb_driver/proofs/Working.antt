@@ -12,7 +12,7 @@ use Rattle.pb_forks.specs.declared.views.Entry.{Entry}
 use Rattle.pb_forks.specs.declared.views.ForkView.{ForkView}
 use Rattle.pb_forks.specs.declared.views.MainView.{MainView}
 use Rattle.pb_forks.specs.declared.views.Lodged.TheVariants.{Here}
-use Rattle.pb_forks.specs.Ends.{end_view, end_word, IsJoined, IsTold, EndedShut, HasEqualLists}
+use Rattle.pb_forks.specs.Ends.{end_view, end_word, IsJoined, EndedFork, EndedShut, HasEqualLists}
 use Rattle.pb_forks.specs.Logs.{offers_of, collects_of, IsBeginning}
 use Rattle.pb_forks.specs.Mailbox.{HasLists}
 use Rattle.pb_forks.specs.Seats.{fork_view, main_view, number, forks_of, IsForkOf, IsFreshOf, IsEachOnce, IsMainOf}
@@ -270,9 +270,9 @@ module _ {N : Type 0} (ran : N → List (Job × Form) → N → Type 0) where
 
   pub shares : (pool : Pool N) (allows : Job → Form → Type 0) (before after : List (Worker N)) (main : MainSeat) (end : PoolEnd) (seats : List ForkSeat) (news : List N) → ArePaired pool before → IsLeft ran pool before main after
       → seats ≡ reverse (map seat_of after) → news ≡ reverse (map runner_of after) → (end_view end).log ≡ (main_view main).log → All (λ (s : ForkSeat). IsJoined (end_view end) (number s) (fork_view s)) seats
-      → ((j : ℕ) → j < forks_of pool → (p : ForkView) × IsJoined (end_view end) j p × IsTold allows j (end_word end j) (end_view end) p) → ((j : ℕ) → j < forks_of pool → slice_index_or (main_view main).seen j 0 ≡ 4 → EndedShut j end)
+      → ((j : ℕ) → j < forks_of pool → (p : ForkView) × IsJoined (end_view end) j p × EndedFork allows j (end_word end j) (end_view end) p) → ((j : ℕ) → j < forks_of pool → slice_index_or (main_view main).seen j 0 ≡ 4 → EndedShut j end)
       → HaveShares ran (reverse (map runner_of before)) news (main_view main).log
-  shares pool allows before after main end seats news paired left seats_are news_are logs joined told shut = λ j old new e f.
+  shares pool allows before after main end seats news paired left seats_are news_are logs joined each_ended shut = λ j old new e f.
       let vs = reverse before in
       let us = reverse after in
       let at = found vs us j old new (works_back ran before after left.1) (ap (λ l. slice_get l j) (map_reverse runner_of before) ∙ e) (ap (λ l. slice_get l j) (map_reverse runner_of after ∙ sym news_are) ∙ f) in
@@ -284,7 +284,7 @@ module _ {N : Type 0} (ran : N → List (Job × Form) → N → Type 0) where
       let mine : number at.u.seat ≡ j = at.work.0.1 ∙ number_at.0 in
       let here_j : IsJoined (end_view end) j (fork_view at.u.seat) = subst (λ (n : ℕ). IsJoined (end_view end) n (fork_view at.u.seat)) mine here in
       let ended = shut j number_at.1 (left.2 j number_at.1) in
-      let tells = told j number_at.1 in
+      let tells = each_ended j number_at.1 in
       let same_p : ended.1 ≡ fork_view at.u.seat = here_same ended.1 (fork_view at.u.seat) (sym ended.2 ∙ here_j) in
       let same_q : tells.0 ≡ ended.1 = here_same tells.0 ended.1 (sym tells.1 ∙ ended.2) in
       let served : HasServed ran at.v.runner at.u.runner fresh (fork_view at.u.seat) = subst (λ (p : ForkView). HasServed ran at.v.runner at.u.runner p (fork_view at.u.seat)) unused.1 at.work.1 in

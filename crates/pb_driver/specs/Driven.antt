@@ -104,8 +104,8 @@ pub record IsWholeRun (allows gives : Job → Form → Type 0) (has_run : List (
   pub written : after ≡ with_more before (output plan pool trail)
 
 -- the recap and the exit status of a trail, and what its end is where what comes of its jobs is fixed
-abbrev pub IsTold : PlanOf → ℕ → List Event → List Counts → ℕ → Type 0
-IsTold plan pool trail counts status =
+abbrev pub IsRecapped : PlanOf → ℕ → List Event → List Counts → ℕ → Type 0
+IsRecapped plan pool trail counts status =
     (counts ≡ recap plan pool trail) × (status ≡ status_of (recap plan pool trail)) × EndsAsFixed plan pool trail (state_after plan pool trail)
 
 -- the beginning of a run, as an engine has it, whatever commands were due

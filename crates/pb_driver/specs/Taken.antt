@@ -1,7 +1,7 @@
 -- What a writer took, and how often it failed.
 use Rattle.std.specs.Prelude.{ℕ, ◌+◌, ◌%◌, ◌^◌, Bool, true, ◌&&◌, not, List, ◌++◌, nat_eq, length, Option, Some, None, Result, Ok, Err, if◌then◌else◌}
 
--- behind the bytes that were told, where they are told
+-- behind the bytes that were taken, where they are known
 abbrev pub with_more : Option (List ℕ) → List ℕ → Option (List ℕ)
 with_more None bytes = None
 with_more (Some taken) bytes = Some (taken ++ bytes)

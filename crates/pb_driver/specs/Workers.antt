@@ -23,7 +23,7 @@ use Rattle.pb_driver.specs.declared.threads.Staff.{Staff}
 use Rattle.pb_driver.specs.declared.workers.Back.{Back}
 use Rattle.pb_driver.specs.declared.workers.Worker.{Worker}
 use Rattle.pb_driver.specs.Cut.{IsCut}
-use Rattle.pb_driver.specs.Driven.{IsBegunBy, IsTold, IsWhole, IsWorkersAnswer}
+use Rattle.pb_driver.specs.Driven.{IsBegunBy, IsRecapped, IsWhole, IsWorkersAnswer}
 use Rattle.pb_driver.specs.Mails.{AreMails, AreWithin}
 use Rattle.pb_driver.specs.Taken.{one_more}
 
@@ -117,7 +117,7 @@ pub record IsSpread {N : Type 0} (ran : N → List (Job × Form) → N → Type 
 -- a whole run by the workers of a pool of k forks
 pub record IsRunInPool (allows : Job → Form → Type 0) (plan : PlanOf) (k : ℕ) (commands : List Given) (trail : List Event) (counts : List Counts) (status : ℕ) (log : List Entry) (before after : Option (List ℕ)) : Type 0 where
   pub run : IsWhole (IsWorkersAnswer allows) plan k commands trail before after
-  pub told : IsTold plan k trail counts status
+  pub recapped : IsRecapped plan k trail counts status
   pub mails : AreMails plan k trail [] log
 
 -- one that couldn't go on; nothing was done where a worker couldn't be started

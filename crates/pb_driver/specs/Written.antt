@@ -23,23 +23,23 @@ abbrev pub event_lines : PlanOf → State → ℕ → List Event → List (ℕ �
 event_lines plan s n [] = []
 event_lines plan s n (e ∷ es) = numbered n (lines_in (lines_of plan (after plan s e) e)) ++ event_lines plan (after plan s e) (n + 1) es
 
-abbrev pub lines_told : PlanOf → ℕ → List Event → List (ℕ × List ℕ)
-lines_told plan pool trail = event_lines plan (first_state plan plan.forks pool) 0 trail
+abbrev pub lines_along : PlanOf → ℕ → List Event → List (ℕ × List ℕ)
+lines_along plan pool trail = event_lines plan (first_state plan plan.forks pool) 0 trail
 
 abbrev pub only_lines : List (ℕ × List ℕ) → List (List ℕ)
-only_lines told = map (λ (t : ℕ × List ℕ). t.1) told
+only_lines numbered_lines = map (λ (t : ℕ × List ℕ). t.1) numbered_lines
 
 -- the lines of a trail's output: the first one, those of the events and no others, the statistics, and the recap
 pub record StandBehindEvents (plan : PlanOf) (pool : ℕ) (trail : List Event) : Type 0 where
   pub lines : lines_in (output plan pool trail)
-      ≡ start_line (length plan.plays) ∷ only_lines (lines_told plan pool trail)
+      ≡ start_line (length plan.plays) ∷ only_lines (lines_along plan pool trail)
       ++ stats_line plan.inventory.hosts (recap plan pool trail) ∷ lines_in (recap_text plan.inventory.hosts (recap plan pool trail))
-  pub objects : AreObjects (only_lines (lines_told plan pool trail))
+  pub objects : AreObjects (only_lines (lines_along plan pool trail))
 
 -- what is written for certain where a run couldn't go on: the first line, if there was an event, and those of all events but the last
 abbrev pub certain_lines : PlanOf → ℕ → List Event → List (List ℕ)
 certain_lines plan pool [] = []
-certain_lines plan pool (e ∷ es) = start_line (length plan.plays) ∷ only_lines (lines_told plan pool (all_but_last (e ∷ es)))
+certain_lines plan pool (e ∷ es) = start_line (length plan.plays) ∷ only_lines (lines_along plan pool (all_but_last (e ∷ es)))
 
 -- a beginning of the output was written, in which these lines stand, and others behind them or none
 pub record StandBehindEventsTo (plan : PlanOf) (pool : ℕ) (trail : List Event) (before after : Option (List ℕ)) : Type 0 where

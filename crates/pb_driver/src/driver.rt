@@ -15,7 +15,7 @@ ghost use Rattle.pb_driver.specs.Turning.{Stands, GoesOn, BreaksOff, RunsOut, Ru
 ghost use Rattle.pb_driver.specs.Mails.{GoesAlong, GoesOver};
 ghost use Rattle.pb_driver.specs.Ran.{IsRanTo};
 ghost use Rattle.pb_driver.specs.Commanded.{IsAlong, IsObeyed, IsObeyedTo, count_report, is_taken, none_due};
-ghost use Rattle.pb_driver.specs.Driven.{TakesOne, TakesAtMost, TakesCommands, TakesOwn, HasEnded, IsWholeRun, IsBegun, IsTold, IsFresh};
+ghost use Rattle.pb_driver.specs.Driven.{TakesOne, TakesAtMost, TakesCommands, TakesOwn, HasEnded, IsWholeRun, IsBegun, IsRecapped, IsFresh};
 
 use crate::alone::Alone;
 use crate::crew::{Crew, Desk};
@@ -321,7 +321,7 @@ pub(crate) fn run_crew<H, C: Crew<H>, P: Picker, W: LineOut>(
     requires pool { (pool ≤ 256) × (plan.forks ≤ pool) }
     requires fits { (engine : EngineOf) → engine_of plan pool ≡ Ok engine → C.fits desk.now.crew.now hand.old engine }
     ensures run { IfOk result (λ ended. RunsOut (C.answers desk.now.crew.now) (C.fits desk.now.crew.now hand.new) C.went plan pool desk.now.commands.now ended.trail.items hand.old hand.new (W.taken writer.old) (W.taken writer.new) (W.failures writer.old) (W.failures writer.new)) }
-    ensures told { IfOk result (λ ended. IsTold plan pool ended.trail.items ended.recap ended.status) }
+    ensures recapped { IfOk result (λ ended. IsRecapped plan pool ended.trail.items ended.recap ended.status) }
     ensures stopped { IfErr result (λ e. RunsTo (C.answers desk.now.crew.now) C.went plan pool desk.now.commands.now e.1.items hand.old hand.new (W.taken writer.old) (W.taken writer.new) (W.failures writer.old) (W.failures writer.new) e.0) }
 {
     pb_engine::runs_end_as_fixed();
@@ -364,7 +364,7 @@ pub fn run_plain<R: Runner, P: Picker, W: LineOut>(
     writer: &mut W,
 ) -> Result<Ended, (RunFault, Vec<Event>)>
     ensures run { IfOk result (λ ended. IsWholeRun R.allows (R.gives runner.old) (λ jobs. R.ran runner.old jobs runner.new) plan 256 commands.now ended.trail.items (W.taken writer.old) (W.taken writer.new)) }
-    ensures told { IfOk result (λ ended. IsTold plan 256 ended.trail.items ended.recap ended.status) }
+    ensures recapped { IfOk result (λ ended. IsRecapped plan 256 ended.trail.items ended.recap ended.status) }
     ensures begun { IfErr result (λ e. IsBegun R.allows (R.gives runner.old) plan 256 commands.now e.1.items) }
     ensures cut { IfErr result (λ e. IsCut plan 256 e.1.items (W.taken writer.old) (W.taken writer.new)) }
     ensures ran { IfErr result (λ e. IsRanTo (λ jobs. R.ran runner.old jobs runner.new) plan 256 e.1.items e.0) }

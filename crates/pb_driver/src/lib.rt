@@ -3,7 +3,7 @@
 //! For the layer above: `run_plain` answers Ok only with a legal, eager trail that does nothing twice, ends in a finished
 //! state and isn't stuck there: the run was stopped or ended early, or no batch is open and none is left to open. What the
 //! writer took is that trail's output and nothing else, what the runner ran is exactly the jobs of that trail's reports, in their
-//! order, and the recap and the exit status are those of that trail. A run is told to stop, or to run another number of hosts at
+//! order, and the recap and the exit status are those of that trail. A run is commanded to stop, or to run another number of hosts at
 //! once, by commands that are given with the number of reports behind which each is due: they stand there in the trail, and nowhere else.
 //! `drive` says the same of a run whose jobs go to the forks of a pool, and `run_pool` of one with a thread for each runner: there each report answers
 //! a job that was out, which need not be the oldest, and what went to the runners and came from them is the trail's sends and reports, in its order.

@@ -13,7 +13,7 @@ ghost use Rattle.pb_engine.specs.EngineOf.{EngineOf, Takes};
 ghost use Rattle.pb_engine.specs.Refusals.{refusal_of};
 ghost use Rattle.pb_driver.specs.Crews.{FitsSince, HasSent, HasPosted, StaysWithin, posted_none, posted_more};
 ghost use Rattle.pb_driver.specs.Cut.{IsCut};
-ghost use Rattle.pb_driver.specs.Driven.{IsBegunBy, IsTold, IsWhole, IsWorkersAnswer};
+ghost use Rattle.pb_driver.specs.Driven.{IsBegunBy, IsRecapped, IsWhole, IsWorkersAnswer};
 ghost use Rattle.pb_driver.specs.FitsPool.{FitsPool};
 ghost use Rattle.pb_driver.specs.Mails.{Goes, Comes, AreMails, AreWithin, HasDrained};
 ghost use Rattle.pb_driver.specs.Taken.{one_more};
@@ -132,7 +132,7 @@ pub fn drive<N: Runner, R: Wait, P: Picker, W: LineOut>(
     requires fresh { ((main_view main.old).log ≡ []) × (idle_forks (main_view main.old) ≡ forks_of pool.now) }
     requires forks { plan.forks ≤ forks_of pool.now }
     ensures run { IfOk result (λ ended. IsWhole (IsWorkersAnswer N.allows) plan (forks_of pool.now) commands.now ended.trail.items (W.taken writer.old) (W.taken writer.new)) }
-    ensures told { IfOk result (λ ended. IsTold plan (forks_of pool.now) ended.trail.items ended.recap ended.status) }
+    ensures recapped { IfOk result (λ ended. IsRecapped plan (forks_of pool.now) ended.trail.items ended.recap ended.status) }
     ensures mails { IfOk result (λ ended. AreMails plan (forks_of pool.now) ended.trail.items [] (main_view main.new).log) }
     ensures begun { IfErr result (λ e. IsBegunBy (IsWorkersAnswer N.allows) plan (forks_of pool.now) commands.now e.1.items) }
     ensures cut { IfErr result (λ e. IsCut plan (forks_of pool.now) e.1.items (W.taken writer.old) (W.taken writer.new)) }

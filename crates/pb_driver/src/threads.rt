@@ -6,7 +6,7 @@ ghost use Rattle.pb_forks.specs.Seats.{main_view, number, forks_of, IsMainOf, Is
 ghost use Rattle.pb_forks.specs.Views.{upto};
 ghost use Rattle.pb_driver.specs.declared.workers.Worker.{Worker};
 ghost use Rattle.pb_driver.specs.Cut.{IsCut};
-ghost use Rattle.pb_driver.specs.Driven.{IsBegunBy, IsTold, IsWhole, IsWorkersAnswer};
+ghost use Rattle.pb_driver.specs.Driven.{IsBegunBy, IsRecapped, IsWhole, IsWorkersAnswer};
 ghost use Rattle.pb_driver.specs.Mails.{AreWithin};
 ghost use Rattle.pb_driver.specs.Taken.{one_more};
 ghost use Rattle.pb_driver.specs.Workers.{AreShut, AreWorkersOf, ArePaired, HaveShares, IsLeft, IsReady, IsRunInPool, IsSpread, IsStoppedInPool, IsUnused, runner_of};
@@ -204,7 +204,7 @@ pub fn run_pool<N: Runner + Send + Drop, R: Threads + Wait + Sync, P: Picker + D
 ) -> Result<Ended, (RunFault, Vec<Event>)>
     requires { (plan.forks ≤ length runners.old.items) × (length runners.old.items ≤ 256) }
     ensures run { IfOk result (λ ended. IsWhole (IsWorkersAnswer N.allows) plan (length runners.old.items) commands.now ended.trail.items (W.taken writer.old) (W.taken writer.new)) }
-    ensures told { IfOk result (λ ended. IsTold plan (length runners.old.items) ended.trail.items ended.recap ended.status) }
+    ensures recapped { IfOk result (λ ended. IsRecapped plan (length runners.old.items) ended.trail.items ended.recap ended.status) }
     ensures spread { IfOk result (λ ended. IsSpread N.ran runners.old.items runners.new.items plan ended.trail.items []) }
     ensures begun { IfErr result (λ e. IsBegunBy (IsWorkersAnswer N.allows) plan (length runners.old.items) commands.now e.1.items) }
     ensures cut { IfErr result (λ e. IsCut plan (length runners.old.items) e.1.items (W.taken writer.old) (W.taken writer.new)) }

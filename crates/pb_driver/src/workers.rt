@@ -20,7 +20,7 @@ pub struct Worker<N> {
     pub runner: N,
 }
 
-/// Where a run's workers work, and what the run is told: it stays the same from its beginning to its end.
+/// Where a run's workers work, and what the run is commanded: it stays the same from its beginning to its end.
 #[derive(Drop)]
 pub(crate) struct Hall<'s, N: Runner, R> {
     pub rt: &'s R,

@@ -1,4 +1,4 @@
--- What an engine may be told, and why it isn't taken.
+-- What an engine may be commanded, and why it isn't taken.
 use Rattle.std.specs.Prelude.{ℕ, nat_le, Bool, true, ◌&&◌, not, Option, Some, None, if◌then◌else◌}
 use Rattle.std.specs.List.{list_any}
 use Rattle.pb_planes.specs.Set.{has_some}

@@ -1,9 +1,9 @@
--- Which handlers are pending on a host, told from all that happened there in the open batch: a handler is pending where a task notified it, and behind
+-- Which handlers are pending on a host, known from all that happened there in the open batch: a handler is pending where a task notified it, and behind
 -- that it hasn't run (Ansible's documentation, "Handlers: running operations on change").
 use Rattle.std.specs.Prelude.{ℕ, Bool, List, [], slice_get}
 use Rattle.std.specs.Option.{option_map_or}
 use Rattle.pb_handlers.specs.Pending.{marks_after}
-use Rattle.pb_handlers.specs.Told.{history_of}
+use Rattle.pb_handlers.specs.History.{history_of}
 use Rattle.pb_host.specs.Host.{HostOf}
 use Rattle.pb_state.specs.State.{State}
 

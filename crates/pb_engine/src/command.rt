@@ -1,4 +1,4 @@
-//! What an engine may be told.
+//! What an engine may be commanded.
 
 ghost use Rattle.std.specs.Prelude.{◌≡◌, length, not};
 ghost use Rattle.pb_planes.specs.Set.{has_some};
@@ -10,7 +10,7 @@ use pb_state::{EngineState, Event, Plan};
 use std::alloc::AllocError;
 use thiserror::Error;
 
-/// What an engine may be told.
+/// What an engine may be commanded.
 #[derive(Clone, Copy, Debug, PartialEq, Eq)]
 pub enum Command {
     /// No more is started or sent, and no batch opens or closes: what is out is still collected.

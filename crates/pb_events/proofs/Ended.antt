@@ -32,11 +32,11 @@ put_one : (start : List Token) (place : List ℕ) (play : ℕ)
     → (start ++ Token.key (codes "place") ∷ Token.string place ∷ []) ++ Token.key (codes "play") ∷ Token.number (signed_decimal (pos play)) ∷ [] ≡ start ++ place_in place play
 put_one start place play = append_assoc start (Token.key (codes "place") ∷ Token.string place ∷ []) (Token.key (codes "play") ∷ Token.number (signed_decimal (pos play)) ∷ [])
 
-pub shown_put : (ms : List (List ℕ × Datum)) (place : List ℕ) (play : ℕ) (shown : Datum) (start named told all : List Token) → start ≡ Token.begin_object ∷ tokens_in ms
-    → named ≡ start ++ Token.key (codes "place") ∷ Token.string place ∷ [] → told ≡ named ++ Token.key (codes "play") ∷ Token.number (signed_decimal (pos play)) ∷ []
-    → all ≡ told ++ Token.key (codes "result") ∷ tokens_of shown
+pub shown_put : (ms : List (List ℕ × Datum)) (place : List ℕ) (play : ℕ) (shown : Datum) (start named numbered all : List Token) → start ≡ Token.begin_object ∷ tokens_in ms
+    → named ≡ start ++ Token.key (codes "place") ∷ Token.string place ∷ [] → numbered ≡ named ++ Token.key (codes "play") ∷ Token.number (signed_decimal (pos play)) ∷ []
+    → all ≡ numbered ++ Token.key (codes "result") ∷ tokens_of shown
     → all ≡ Token.begin_object ∷ tokens_in (ms ++ (codes "place", text place) ∷ (codes "play", int (pos play)) ∷ (codes "result", shown) ∷ [])
-shown_put ms place play shown start named told all a b c d =
+shown_put ms place play shown start named numbered all a b c d =
     rw (d, c, b, put_one start place play, append_assoc start (place_in place play) (Token.key (codes "result") ∷ tokens_of shown), a)
     (ap (λ ts. Token.begin_object ∷ ts)
     (ap (λ ts. tokens_in ms ++ Token.key (codes "place") ∷ Token.string place ∷ Token.key (codes "play") ∷ Token.number (signed_decimal (pos play)) ∷ Token.key (codes "result") ∷ ts) (sym (append-nil (tokens_of shown)))

@@ -68,7 +68,7 @@ of_some None f each = nothing
 of_some (Some a) f each = each a
 
 -- ---- the texts of tasks
-items_whole : (host place : List ℕ) (play : ℕ) (told : List (ℕ × ItemResult)) → IsWhole (item_lines host place play told)
+items_whole : (host place : List ℕ) (play : ℕ) (results : List (ℕ × ItemResult)) → IsWhole (item_lines host place play results)
 items_whole host place play [] = nothing
 items_whole host place play (first ∷ rest) =
     both (item_line host place play first.0 first.1) _ (if_so (is_unreachable first.1.ending) _ _ nothing (one _)) (items_whole host place play rest)

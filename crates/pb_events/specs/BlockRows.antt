@@ -14,7 +14,7 @@ unfoldable on_literals : ⊤
 unfolding line digits serde_json_on_literals on_facts
 on_literals = tt
 
--- a place in a block is told by the parts that lead to it
+-- a place in a block is known by the parts that lead to it
 rescue_starts : lines_of (rescued_by says) (after_of (rescued_by says) (body_comes (Ran (pos 1) [] []) (start ∷ []))) start
     ≡ codes "{\"event\":\"playbook_on_task_start\",\"name\":\"debug\",\"place\":\"1.1.0\",\"play\":0}\n"
     ++ codes "{\"event\":\"runner_on_start\",\"host\":\"a\",\"place\":\"1.1.0\",\"play\":0}\n"
@@ -22,7 +22,7 @@ rescue_starts : lines_of (rescued_by says) (after_of (rescued_by says) (body_com
 unfolding on_literals
 rescue_starts = refl
 
--- the failure that a rescue clears is told as each failure is
+-- the failure that a rescue clears has lines as each failure is
 body_fails : lines_of (rescued_by says) (after_of (rescued_by says) (body_ends (Ran (pos 1) [] []))) (comes (Ran (pos 1) [] []))
     ≡ codes "{\"event\":\"runner_on_failed\",\"host\":\"a\",\"ignored\":false,\"place\":\"1.0.1\",\"play\":0,\"result\":{\"changed\":true,\"failed\":true,\"msg\":\"non-zero return code\",\"rc\":1,"
     ++ codes "\"stderr\":\"\",\"stderr_lines\":[],\"stdout\":\"\",\"stdout_lines\":[]}}\n"
@@ -37,7 +37,7 @@ rescue_fails : lines_of (rescued_by refuses) (after_of (rescued_by refuses) (bod
 unfolding on_literals
 rescue_fails = refl
 
--- a host that can't be reached in a block is told of as one outside
+-- a host that can't be reached in a block has lines as one outside
 body_lost : lines_of (rescued_by says) (after_of (rescued_by says) (body_ends (NoAnswer (codes "no route")))) (comes (NoAnswer (codes "no route")))
     ≡ codes "{\"event\":\"runner_on_unreachable\",\"host\":\"a\",\"place\":\"1.0.1\",\"play\":0,\"result\":{\"changed\":false,\"failed\":false,\"msg\":\"no route\",\"unreachable\":true}}\n"
 unfolding on_literals

@@ -47,7 +47,7 @@ tells_both : lines_of named (after_of named (Open ∷ command_to 0 went_well)) (
 unfolding on_literals
 tells_both = refl
 
--- what is pending is told once
+-- what is pending is notified once
 abbrev two_commands : List Event
 two_commands = Open ∷ command_to 0 went_well ++ Turn ∷ command_to 1 went_well
 
@@ -63,7 +63,7 @@ handler_starts : lines_of named (after_of named (two_commands ++ Turn ∷ start 
 unfolding on_literals
 handler_starts = refl
 
--- one that notifies itself is told of again
+-- one that notifies itself is notified again
 tells_itself : lines_of itself (after_of itself ran_once) (report 1 went_well)
     ≡ ends_well (codes "2.0") ++ codes "{\"event\":\"playbook_on_notify\",\"handler\":\"shell\",\"host\":\"a\",\"play\":0}\n"
 unfolding on_literals

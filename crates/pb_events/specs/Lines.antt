@@ -82,7 +82,7 @@ abbrev pub meta_text : List ℕ → List ℕ → ℕ → Option TaskDone → Lis
 meta_text host place play None = []
 meta_text host place play (Some done) = if done.task.result.failed then host_failed false host place play done.result else []
 
--- what lines are about: what was decided for the host with this name, in the play with this number, of the task at the place with this path
+-- what lines are about: what a step came to for the host with this name, in the play with this number, of the task at the place with this path
 pub record SiteOf : Type 0 where
   pub play : PlayOf
   pub number : ℕ
@@ -127,9 +127,9 @@ came_back site =
     if is_meta site.place.task.«module» then meta_text site.host site.path site.number site.step_result.done else end_text site
 
 -- of the host with this number: that it started a task, or that its report came
-abbrev pub told_of : Bool → PlanOf → State → ℕ → List ℕ
-told_of true plan s h = option_map_or started (site_of plan s h) []
-told_of false plan s h = option_map_or came_back (site_of plan s h) []
+abbrev pub site_lines : Bool → PlanOf → State → ℕ → List ℕ
+site_lines true plan s h = option_map_or started (site_of plan s h) []
+site_lines false plan s h = option_map_or came_back (site_of plan s h) []
 
 abbrev pub opened_in : PlanOf → State → PlayOf → List ℕ
 opened_in plan s play = play_start s.play s.batch play.name (map text (batch_names plan.inventory.hosts s.rows))
@@ -137,9 +137,9 @@ opened_in plan s play = play_start s.play s.batch play.name (map text (batch_nam
 -- other events have no lines
 abbrev pub lines_of : PlanOf → State → Event → List ℕ
 lines_of plan s Open = option_map_or (opened_in plan s) (slice_get plan.plays s.play) []
-lines_of plan s (Start h) = told_of true plan s h.0
+lines_of plan s (Start h) = site_lines true plan s h.0
 lines_of plan s (Send h item attempt ticket) = []
-lines_of plan s (Reported r) = told_of false plan s r.host.0
+lines_of plan s (Reported r) = site_lines false plan s r.host.0
 lines_of plan s Turn = []
 lines_of plan s Close = []
 lines_of plan s Stop = []

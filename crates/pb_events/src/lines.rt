@@ -154,7 +154,7 @@ fn start_event(handler: Option<u32>) -> &'static str
     }
 }
 
-/// Adds what is told of a start: the task, if the host is the first to start there, and the host.
+/// Adds the lines of a start: the task, if the host is the first to start there, and the host.
 fn start_text(lines: Vec<u8>, site: &Site) -> Result<Vec<u8>, AllocError>
     ensures { IfOk result (λ bytes. bytes.items ≡ lines.items ++ start_text site.now) }
 {

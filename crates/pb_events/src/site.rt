@@ -11,7 +11,7 @@ use pb_state::{EngineState, Plan, PlanPlay, StepResult};
 use std::alloc::{AllocError, Global};
 use std::marker::Model;
 
-/// What was decided for a host, of the task at a place of a play.
+/// What a step came to for a host, of the task at a place of a play.
 #[derive(Drop)]
 pub struct Site<'a> {
     pub play: &'a PlanPlay,
@@ -69,7 +69,7 @@ pub(crate) fn name_of(plan: &Plan, host: HostNo) -> Option<&str>
     }
 }
 
-/// The site of what was decided for a host in a play.
+/// The site of what a step came to for a host in a play.
 fn site_at<'a>(
     alloc: Global,
     play: &'a PlanPlay,
@@ -98,7 +98,7 @@ fn site_at<'a>(
     }
 }
 
-/// The site of what the last step decided for a host. The only error is want of memory.
+/// The site of what the last step came to for a host. The only error is want of memory.
 pub fn site_of<'a>(
     alloc: Global,
     plan: &'a Plan,

@@ -1,4 +1,4 @@
--- What templates give, where it is told what names stand for.
+-- What templates give, where it is known what names stand for.
 use Rattle.std.specs.Prelude.{ℕ, List, [], ◌∷◌, ◌++◌, Option, Some, None, Result, Ok, Err}
 use Rattle.pb_value.specs.Datum.{Datum, text, list, dict, items_of, members_of, Items, no_items, item, Members, no_members, member}
 use Rattle.pb_value.specs.Reading.{and_then, map_ok}

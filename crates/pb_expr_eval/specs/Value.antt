@@ -1,4 +1,4 @@
--- The value of an expression, where it is told what names stand for. Operands are read from left to right, and the first fault
+-- The value of an expression, where it is known what names stand for. Operands are read from left to right, and the first fault
 -- is the answer; an operand that isn't needed isn't asked.
 use Rattle.std.specs.Prelude.{ℕ, Bool, false, not, ◌&&◌, List, [], ◌∷◌, Result, Ok, Err, if◌then◌else◌}
 use Rattle.pb_value.specs.Datum.{Datum, null, boolean, int, text, list, items_of}
@@ -20,10 +20,10 @@ abbrev pub Names : Type 0
 Names = List ℕ → Value
 
 -- whether the first operand alone is the value: `and` at a false one, `or` at a true one
-abbrev pub decides : Op → Datum → Bool
-decides op.And a = not (truthy a)
-decides op.Or a = truthy a
-decides _ a = false
+abbrev pub short_circuits : Op → Datum → Bool
+short_circuits op.And a = not (truthy a)
+short_circuits op.Or a = truthy a
+short_circuits _ a = false
 
 -- what a filter but `default` gives for a value and its arguments
 abbrev pub apply : Filter → Datum → List Datum → Value
@@ -68,7 +68,7 @@ abbrev mutual
   value names (tree.Index x y) = and_then (value names x) (λ a. and_then (value names y) (λ b. index_of a b))
   value names (tree.Not x) = map_ok (λ a. boolean (not (truthy a))) (value names x)
   value names (tree.Negate x) = and_then (value names x) negated
-  value names (tree.Binary o x y) = and_then (value names x) (λ a. if decides o a then Ok a else and_then (value names y) (λ b. binary o a b))
+  value names (tree.Binary o x y) = and_then (value names x) (λ a. if short_circuits o a then Ok a else and_then (value names y) (λ b. binary o a b))
   value names (tree.Apply filter.Default x ts) = defaulted (value names x) (each names ts)
   value names (tree.Apply f x ts) = and_then (value names x) (λ a. and_then (values names ts) (λ bs. apply f a bs))
   value names (tree.IsDefined x present) = is_defined (value names x) present

@@ -3,7 +3,7 @@ ghost use Rattle.std.specs.Prelude.{◌≡◌, ◌≢◌, IfOk, IfErr, Ok, Err, 
 ghost use Rattle.pb_operators.specs.declared.fault.EvalFault.TheVariants as fault;
 ghost use Rattle.pb_value.specs.Reading.{map_ok};
 ghost use Rattle.pb_value.specs.ToJson.{text_of};
-ghost use Rattle.pb_expr_eval.specs.Value.{decides, apply};
+ghost use Rattle.pb_expr_eval.specs.Value.{short_circuits, apply};
 
 use pb_expr_syntax::tree::{Filter, Op};
 use pb_operators::convert::{length, to_bool, to_int};
@@ -14,8 +14,8 @@ use pb_value::val::Val;
 use std::alloc::Global;
 
 /// Whether an operator's first operand alone is its value.
-pub(crate) fn decides(op: Op, x: &Val) -> bool
-    ensures { result ≡ decides op x.now }
+pub(crate) fn short_circuits(op: Op, x: &Val) -> bool
+    ensures { result ≡ short_circuits op x.now }
 {
     match op {
         Op::And => !x.truthy(),

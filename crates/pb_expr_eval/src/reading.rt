@@ -12,7 +12,7 @@ ghost use Rattle.pb_expr_eval.specs.Rendering.{measured, templated, text_in, sho
 ghost use Rattle.pb_expr_eval.specs.Scoped.{names_in};
 ghost use Rattle.pb_expr_eval.specs.Operand.{held};
 
-use crate::forms::{decides, text_of};
+use crate::forms::{short_circuits, text_of};
 use crate::operand::Operand;
 use crate::outcomes::{
     append, applied, between, bracketed, copied, copied_text, defined, denied, listed, made, named,
@@ -42,7 +42,7 @@ fn value(alloc: Global, scope: &Scope, levels: u32, expr: &Expr) -> Result<Val, 
     }
 }
 
-/// An operator between two operands; the second is read where the first doesn't decide.
+/// An operator between two operands; the second is read where the first isn't the result.
 #[cycle(reading)]
 #[inline(never)]
 fn operated<'a>(
@@ -57,7 +57,7 @@ fn operated<'a>(
     ensures fault { IfErr result (λ e. e ≢ fault.Memory → value (names_in scope.now levels) (tree.Binary op x.now y.now) ≡ Err e) }
 {
     let x = operand(alloc, scope, levels, x)?;
-    if decides(op, x.get()) {
+    if short_circuits(op, x.get()) {
         return Ok(x);
     }
     between(alloc, op, x, operand(alloc, scope, levels, y))

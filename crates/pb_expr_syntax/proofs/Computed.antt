@@ -114,9 +114,9 @@ tells_tokens : (tokens : List Tok) → Tells tokens (tree_of_tokens tokens)
 unfolding tree_of_tokens
 tells_tokens tokens = tells (32 * length tokens + 32) tokens (record { next = 0; symbols = begin; parts = [] }) (running_begin tokens) (omega arith)
 
-told : (tokens : List Tok) (o : Option Tree) (t : Tree) → Tells tokens o → Spells tokens t → o ≡ Some t
-told tokens None t h s = absurd (h t s)
-told tokens (Some u) t h s = ap Some (sym (h.1 t s))
+spelled : (tokens : List Tok) (o : Option Tree) (t : Tree) → Tells tokens o → Spells tokens t → o ≡ Some t
+spelled tokens None t h s = absurd (h t s)
+spelled tokens (Some u) t h s = ap Some (sym (h.1 t s))
 
 -- the tree that a text spells is the one that is computed
 pub tree_is : (text : List ℕ) (t : Tree) → spells text t → tree_of text ≡ Some t
@@ -124,12 +124,12 @@ unfolding tree_of
 tree_is text t s =
     let le : nat_le (length text) 4096 ≡ true = let h = s.0 in grind (arith, nat_tests) in
     let deep : nat_le (depth t) 64 ≡ true = let h = s.4 in grind (arith, nat_tests) in
-    let e : tree_of_tokens s.1 ≡ Some t = told s.1 (tree_of_tokens s.1) t (tells_tokens s.1) s.3 in
+    let e : tree_of_tokens s.1 ≡ Some t = spelled s.1 (tree_of_tokens s.1) t (tells_tokens s.1) s.3 in
     rw (le, s.2, e, deep)
 
-untold : (text : List ℕ) (tokens : List Tok) (o : Option Tree) → ((t : Tree) → spells text t → ⊥) → length text ≤ 4096 → tokens_of text ≡ Ok tokens → Tells tokens o → not_deeper o ≡ None
-untold text tokens None none le e h = refl
-untold text tokens (Some u) none le e h = by_depth (nat_le (depth u) 64) refl
+unspelled : (text : List ℕ) (tokens : List Tok) (o : Option Tree) → ((t : Tree) → spells text t → ⊥) → length text ≤ 4096 → tokens_of text ≡ Ok tokens → Tells tokens o → not_deeper o ≡ None
+unspelled text tokens None none le e h = refl
+unspelled text tokens (Some u) none le e h = by_depth (nat_le (depth u) 64) refl
   where
     by_depth : (b : Bool) → nat_le (depth u) 64 ≡ b → (if b then Some u else None) ≡ None
     by_depth true d = let within : depth u ≤ 64 = grind (arith, nat_tests) in absurd (none u (le, tokens, e, h.0, within))
@@ -142,7 +142,7 @@ tree_is_none text none = by_length (nat_le (length text) 4096) refl
   where
     by_tokens : (r : Result (List Tok) ExprFault) → length text ≤ 4096 → tokens_of text ≡ r → tree_of_result r ≡ None
     by_tokens (Err f) le e = refl
-    by_tokens (Ok tokens) le e = untold text tokens (tree_of_tokens tokens) none le e (tells_tokens tokens)
+    by_tokens (Ok tokens) le e = unspelled text tokens (tree_of_tokens tokens) none le e (tells_tokens tokens)
 
     by_length : (b : Bool) → nat_le (length text) 4096 ≡ b → (if b then tree_of_result (tokens_of text) else None) ≡ None
     by_length true le = by_tokens (tokens_of text) (grind (arith, nat_tests)) refl
@@ -230,4 +230,4 @@ fault_is text e (inr (inr (inl h))) =
     rw (b, h.2, h.5, fault_refused h.1 h.3 (fault_of_tokens h.1) (tree_of_tokens h.1) h.4 (refused_tokens h.1))
 fault_is text e (inr (inr (inr h))) =
     let b : nat_le (length text) 4096 ≡ true = let l = h.0 in grind (arith, nat_tests) in
-    rw (b, h.2, h.6, told h.1 (tree_of_tokens h.1) h.3 (tells_tokens h.1) h.4, fault_deep h.1 h.3 (fault_of_tokens h.1) h.4 h.5 (refused_tokens h.1))
+    rw (b, h.2, h.6, spelled h.1 (tree_of_tokens h.1) h.3 (tells_tokens h.1) h.4, fault_deep h.1 h.3 (fault_of_tokens h.1) h.4 h.5 (refused_tokens h.1))

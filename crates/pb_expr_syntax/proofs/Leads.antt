@@ -72,7 +72,7 @@ picks_is r n (x ∷ xs) (suc place) a h p is asked =
     let e : choice r h ≡ suc n + place = picks_is r (suc n) xs place a h (and_right (implies (asks r x h) (nat_eq (choice r h) n)) (picks r (suc n) xs h) p) is asked in
     omega arith
 
--- the next token decides the alternative
+-- the next token chooses the alternative
 pub choice_is : {Left : List Symbol → List Part → Type 0} (r : Rule) (ss a : List Symbol) (ts : List Tok) (vs : List Part) (place : ℕ) → Sure Left ts → Good (Go r ∷ ss) →
     nth (rules r) place ≡ Some a → Reads false Left (a ++ ss) ts vs → nth (rules r) (choice r (head_of ts)) ≡ Some a
 choice_is r ss a ts vs place sure good is reads =

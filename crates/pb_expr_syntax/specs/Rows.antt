@@ -99,7 +99,7 @@ stops_short : first_fault_of (codes "x |") ≡ Some End
 unfolding first_fault_of fault_of_tokens
 stops_short = refl
 
--- a wrong number of arguments is told at the filter's name once its call is complete, before what stands behind it
+-- a wrong number of arguments is reported at the filter's name once its call is complete, before what stands behind it
 wrong_call_first : first_fault_of (codes "x | length(1) +") ≡ Some (Unexpected 4)
 unfolding first_fault_of fault_of_tokens
 wrong_call_first = refl

@@ -7,7 +7,7 @@ use Rattle.pb_tree.specs.declared.tree.Status.{Status}
 use Rattle.pb_tree.specs.Answer.{AnswerOf}
 use Rattle.pb_tree.specs.Tree.{Nodes, Nothing, Task, Block, Flush, TreeOf, size}
 use Rattle.pb_tree.specs.Walk.{block_result, is_empty, noted, is_halted, ends_in_flush, front, unless_active, unforced, status_in, status_now}
-use Rattle.pb_flat.specs.Course.{Course, Ends, Runs, chosen, flush_course, course, last_flush, plain_course, forced_course, whole_course, course_of, is_run, settled, Stand, standing, after_kind, ran, answered, advanced, after, first_of, stand_of, passage_at, status_at, now_in, now_at}
+use Rattle.pb_flat.specs.Course.{Course, Ends, Runs, chosen, flush_course, course, last_flush, plain_course, forced_course, whole_course, course_of, is_run, from_next_run, Stand, standing, after_kind, ran, answered, advanced, after, first_of, stand_of, passage_at, status_at, now_in, now_at}
 use Rattle.pb_flat.specs.Seen.{PlanOf, CursorOf, StandsAfter, seen}
 use Rattle.pb_flat.specs.Laws.{BadAreOutAtOnce}
 use Rattle.pb_flat.proofs.Stands.{stands_are_walks}
@@ -174,54 +174,54 @@ last_dropped : (kind : Kind) (c : Course) → is_out kind ≡ true → IsLast ki
 last_dropped kind (Ends end) o l = ap Ends l
 last_dropped kind (Runs place handler over good bad halted) o l = kept_last over kind place handler (dropped good) (dropped bad) (dropped halted) l.0 o
 
-settled_last : (kind : Kind) (c : Course) (marks : List Bool) → IsLast kind c → IsLast kind (settled c marks)
-settled_last kind (Ends end) marks l = l
-settled_last kind (Runs place handler over good bad halted) marks l = by_run (is_run handler marks) (settled_last kind good marks l.1.0)
+next_run_last : (kind : Kind) (c : Course) (marks : List Bool) → IsLast kind c → IsLast kind (from_next_run c marks)
+next_run_last kind (Ends end) marks l = l
+next_run_last kind (Runs place handler over good bad halted) marks l = by_run (is_run handler marks) (next_run_last kind good marks l.1.0)
   where
-    by_run : (b : Bool) → IsLast kind (settled good marks) → IsLast kind (if b then Runs place handler over good bad halted else settled good marks)
+    by_run : (b : Bool) → IsLast kind (from_next_run good marks) → IsLast kind (if b then Runs place handler over good bad halted else from_next_run good marks)
     by_run true i = l
     by_run false i = i
 
-settled_sound : (c : Course) (marks : List Bool) → IsSound c → IsSound (settled c marks)
-settled_sound (Ends kind) marks s = tt
-settled_sound (Runs place handler kinds.Ended good bad halted) marks s = by_run (is_run handler marks) (settled_sound good marks s.0)
+next_run_sound : (c : Course) (marks : List Bool) → IsSound c → IsSound (from_next_run c marks)
+next_run_sound (Ends kind) marks s = tt
+next_run_sound (Runs place handler kinds.Ended good bad halted) marks s = by_run (is_run handler marks) (next_run_sound good marks s.0)
   where
-    by_run : (b : Bool) → IsSound (settled good marks) → IsSound (if b then Runs place handler kinds.Ended good bad halted else settled good marks)
+    by_run : (b : Bool) → IsSound (from_next_run good marks) → IsSound (if b then Runs place handler kinds.Ended good bad halted else from_next_run good marks)
     by_run true i = s
     by_run false i = i
-settled_sound (Runs place handler kinds.Bad good bad halted) marks s = by_run (is_run handler marks) (last_sound kinds.Bad (settled good marks) refl (settled_last kinds.Bad good marks s.0))
+next_run_sound (Runs place handler kinds.Bad good bad halted) marks s = by_run (is_run handler marks) (last_sound kinds.Bad (from_next_run good marks) refl (next_run_last kinds.Bad good marks s.0))
   where
-    by_run : (b : Bool) → IsSound (settled good marks) → IsSound (if b then Runs place handler kinds.Bad good bad halted else settled good marks)
+    by_run : (b : Bool) → IsSound (from_next_run good marks) → IsSound (if b then Runs place handler kinds.Bad good bad halted else from_next_run good marks)
     by_run true i = s
     by_run false i = i
-settled_sound (Runs place handler kinds.Halted good bad halted) marks s = by_run (is_run handler marks) (last_sound kinds.Halted (settled good marks) refl (settled_last kinds.Halted good marks s.0))
+next_run_sound (Runs place handler kinds.Halted good bad halted) marks s = by_run (is_run handler marks) (last_sound kinds.Halted (from_next_run good marks) refl (next_run_last kinds.Halted good marks s.0))
   where
-    by_run : (b : Bool) → IsSound (settled good marks) → IsSound (if b then Runs place handler kinds.Halted good bad halted else settled good marks)
+    by_run : (b : Bool) → IsSound (from_next_run good marks) → IsSound (if b then Runs place handler kinds.Halted good bad halted else from_next_run good marks)
     by_run true i = s
     by_run false i = i
-settled_sound (Runs place handler kinds.Good good bad halted) marks s = absurd s
-settled_sound (Runs place handler kinds.Gone good bad halted) marks s = absurd s
+next_run_sound (Runs place handler kinds.Good good bad halted) marks s = absurd s
+next_run_sound (Runs place handler kinds.Gone good bad halted) marks s = absurd s
 
-settled_drops : (c : Course) (marks : List Bool) → IsSound c → dropped (settled c marks) ≡ settled (dropped c) marks
-settled_drops (Ends kind) marks s = refl
-settled_drops (Runs place handler kinds.Ended good bad halted) marks s = by_run (is_run handler marks) (settled_drops good marks s.0)
+next_run_drops : (c : Course) (marks : List Bool) → IsSound c → dropped (from_next_run c marks) ≡ from_next_run (dropped c) marks
+next_run_drops (Ends kind) marks s = refl
+next_run_drops (Runs place handler kinds.Ended good bad halted) marks s = by_run (is_run handler marks) (next_run_drops good marks s.0)
   where
-    by_run : (b : Bool) → dropped (settled good marks) ≡ settled (dropped good) marks
-        → dropped (if b then Runs place handler kinds.Ended good bad halted else settled good marks) ≡ (if b then Runs place handler kinds.Ended (dropped good) (dropped bad) (dropped halted) else settled (dropped good) marks)
+    by_run : (b : Bool) → dropped (from_next_run good marks) ≡ from_next_run (dropped good) marks
+        → dropped (if b then Runs place handler kinds.Ended good bad halted else from_next_run good marks) ≡ (if b then Runs place handler kinds.Ended (dropped good) (dropped bad) (dropped halted) else from_next_run (dropped good) marks)
     by_run true i = refl
     by_run false i = i
-settled_drops (Runs place handler kinds.Bad good bad halted) marks s = by_run (is_run handler marks) (last_dropped kinds.Bad (settled good marks) refl (settled_last kinds.Bad good marks s.0))
+next_run_drops (Runs place handler kinds.Bad good bad halted) marks s = by_run (is_run handler marks) (last_dropped kinds.Bad (from_next_run good marks) refl (next_run_last kinds.Bad good marks s.0))
   where
-    by_run : (b : Bool) → dropped (settled good marks) ≡ Ends kinds.Bad → dropped (if b then Runs place handler kinds.Bad good bad halted else settled good marks) ≡ Ends kinds.Bad
+    by_run : (b : Bool) → dropped (from_next_run good marks) ≡ Ends kinds.Bad → dropped (if b then Runs place handler kinds.Bad good bad halted else from_next_run good marks) ≡ Ends kinds.Bad
     by_run true i = refl
     by_run false i = i
-settled_drops (Runs place handler kinds.Halted good bad halted) marks s = by_run (is_run handler marks) (last_dropped kinds.Halted (settled good marks) refl (settled_last kinds.Halted good marks s.0))
+next_run_drops (Runs place handler kinds.Halted good bad halted) marks s = by_run (is_run handler marks) (last_dropped kinds.Halted (from_next_run good marks) refl (next_run_last kinds.Halted good marks s.0))
   where
-    by_run : (b : Bool) → dropped (settled good marks) ≡ Ends kinds.Halted → dropped (if b then Runs place handler kinds.Halted good bad halted else settled good marks) ≡ Ends kinds.Halted
+    by_run : (b : Bool) → dropped (from_next_run good marks) ≡ Ends kinds.Halted → dropped (if b then Runs place handler kinds.Halted good bad halted else from_next_run good marks) ≡ Ends kinds.Halted
     by_run true i = refl
     by_run false i = i
-settled_drops (Runs place handler kinds.Good good bad halted) marks s = absurd s
-settled_drops (Runs place handler kinds.Gone good bad halted) marks s = absurd s
+next_run_drops (Runs place handler kinds.Good good bad halted) marks s = absurd s
+next_run_drops (Runs place handler kinds.Gone good bad halted) marks s = absurd s
 
 -- ---- each tree's course is sound
 flush_sound : (at h n : ℕ) (good bad halted : Course) → IsSound good → IsSound bad → IsSound halted → IsSound (flush_course at h n kinds.Ended good bad halted)
@@ -313,9 +313,9 @@ step_beside place handler good bad halted m n was a g b l e =
     let same : noted (ran handler a.kind n) a.notified ≡ marks = ap (λ x. noted (ran handler a.kind x) a.notified) e in
     record {
       halted = refl;
-      sound = settled_sound (after_kind a.kind kinds.Ended good bad halted) marks (after_sound a.kind good bad halted g b l);
+      sound = next_run_sound (after_kind a.kind kinds.Ended good bad halted) marks (after_sound a.kind good bad halted g b l);
       near = inl (
-        (λ i. settled (after_drops a.kind good bad halted i) (same i)) ∙ sym (settled_drops (after_kind a.kind kinds.Ended good bad halted) marks (after_sound a.kind good bad halted g b l)),
+        (λ i. from_next_run (after_drops a.kind good bad halted i) (same i)) ∙ sym (next_run_drops (after_kind a.kind kinds.Ended good bad halted) marks (after_sound a.kind good bad halted g b l)),
         λ runs. same,
       );
     }
@@ -328,16 +328,16 @@ forced_beside : (over : Kind) (place : ℕ) (handler : Option ℕ) (good bad hal
     → Beside (standing (after_kind kind over good bad halted) (noted (ran handler kind m) a.notified) was) (record { course = Ends over; marks = n; halted = was })
 forced_beside over place handler good bad halted m n was a kinds.Good k o g b l =
     let marks = noted (ran handler kinds.Good m) a.notified in
-    let last = settled_last over good marks g in
-    record { halted = refl; sound = last_sound over (settled good marks) o last; near = last_near over (settled good marks) marks n o last }
+    let last = next_run_last over good marks g in
+    record { halted = refl; sound = last_sound over (from_next_run good marks) o last; near = last_near over (from_next_run good marks) marks n o last }
 forced_beside over place handler good bad halted m n was a kinds.Bad k o g b l =
     let marks = noted (ran handler kinds.Bad m) a.notified in
-    let last = settled_last over bad marks b in
-    record { halted = refl; sound = last_sound over (settled bad marks) o last; near = last_near over (settled bad marks) marks n o last }
+    let last = next_run_last over bad marks b in
+    record { halted = refl; sound = last_sound over (from_next_run bad marks) o last; near = last_near over (from_next_run bad marks) marks n o last }
 forced_beside over place handler good bad halted m n was a kinds.Halted k o g b l =
     let marks = noted (ran handler kinds.Halted m) a.notified in
-    let last = settled_last over halted marks l in
-    record { halted = refl; sound = last_sound over (settled halted marks) o last; near = last_near over (settled halted marks) marks n o last }
+    let last = next_run_last over halted marks l in
+    record { halted = refl; sound = last_sound over (from_next_run halted marks) o last; near = last_near over (from_next_run halted marks) marks n o last }
 forced_beside over place handler good bad halted m n was a kinds.Gone k o g b l = record { halted = refl; sound = tt; near = inr (refl, refl) }
 forced_beside over place handler good bad halted m n was a kinds.Ended k o g b l = record { halted = refl; sound = tt; near = inl (refl, λ no. cc) }
 
@@ -378,8 +378,8 @@ first_beside tree =
     let marks = replicate tree.handlers false in
     record {
       halted = refl;
-      sound = settled_sound (course_of tree) marks (tree_sound tree);
-      near = inl (ap (λ c. settled c marks) (sym (tree_drops tree)) ∙ sym (settled_drops (course_of tree) marks (tree_sound tree)), λ runs. refl);
+      sound = next_run_sound (course_of tree) marks (tree_sound tree);
+      near = inl (ap (λ c. from_next_run c marks) (sym (tree_drops tree)) ∙ sym (next_run_drops (course_of tree) marks (tree_sound tree)), λ runs. refl);
     }
 
 -- ---- what it is

@@ -4,7 +4,7 @@ pub mod Above
 pub mod Carry
 pub mod Moves
 pub mod SplitsJoins
-pub mod Told
+pub mod AtEnd
 pub mod Idle
 pub mod Out
 pub mod Sent

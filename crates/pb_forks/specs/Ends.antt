@@ -36,6 +36,6 @@ abbrev pub EndedShut : ℕ → PoolEnd → Type 0
 EndedShut j e = (end_word e j ≡ 4) × (p : ForkView) × IsJoined (end_view e) j p × HasEqualLists j (end_view e) p
 
 -- what holds of fork j at the end
-pub record IsTold (allows : Job → Form → Type 0) (j w : ℕ) (m : MainView) (p : ForkView) : Type 0 where
+pub record EndedFork (allows : Job → Form → Type 0) (j w : ℕ) (m : MainView) (p : ForkView) : Type 0 where
   pub sees : MainSees (slice_index m.seen j) w
   pub lists : HasLists allows w (offers_of j m.log) p.takes p.answers (collects_of j m.log)

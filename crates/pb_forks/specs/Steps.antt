@@ -32,46 +32,46 @@ abbrev pub Mine : Type 0
 Mine = Me Slot View
 
 -- each step takes the seat as it was, the number found and the seat as it is
-abbrev pub Told : Type 1
-Told = Step Slot → Mine → ℕ → Mine → Type 0
+abbrev pub SeatStep : Type 1
+SeatStep = Step Slot → Mine → ℕ → Mine → Type 0
 
-abbrev pub MainLook : Told
+abbrev pub MainLook : SeatStep
 MainLook st me r me' = (me'.0 ≡ Main (main_looked st.word r (main_of me.0))) × (me'.1 ≡ me.1) × MainSees (slice_index (main_of me.0).seen st.word) r
 
 -- the seat takes the empty slot, and lays it down
-abbrev pub MainGrab : Told
+abbrev pub MainGrab : SeatStep
 MainGrab st me r me' = (me'.0 ≡ Main (main_hand (st.word + 1) (main_of me.0))) × (me'.1 ≡ (st.word, None) ∷ me.1)
 
-abbrev pub MainLay : Told
+abbrev pub MainLay : SeatStep
 MainLay st me r me' = (me'.0 ≡ Main (main_hand 0 (main_of me.0))) × (me'.1 ≡ rest me.1)
 
 -- the job that lies in the slot is offered
-abbrev pub MainOffer : Told
+abbrev pub MainOffer : SeatStep
 MainOffer st me r me' = (x : Job) → me.1 ≡ (st.word, Some (Work x)) ∷ [] → (me'.0 ≡ Main (main_did st.word st.first 0 (Offered st.word x) (main_of me.0))) × (me'.1 ≡ []) × Goes offer x.ticket.0 r st.first
 
 -- the report of the fork, for the last job that it was offered
-abbrev pub MainCollect : (Job → Form → Type 0) → Told
+abbrev pub MainCollect : (Job → Form → Type 0) → SeatStep
 MainCollect allows st me r me' = (rep : Report)
     × (slice_index (main_of me.0).seen st.word ≡ 4 * rep.ticket.0 + 3) × FitsLast allows (offers_of st.word (main_of me.0).log) rep × Goes collect rep.ticket.0 r st.first
     × (me'.0 ≡ Main (main_did st.word 0 (st.word + 1) (Collected st.word rep) (main_of me.0))) × (me'.1 ≡ (st.word, Some (Done rep)) ∷ me.1)
 
-abbrev pub MainShut : Told
+abbrev pub MainShut : SeatStep
 MainShut st me r me' = (me'.0 ≡ Main (main_shut st.word (main_of me.0))) × (me'.1 ≡ me.1) × Goes shut 0 r st.first
 
-abbrev pub ForkLook : Told
+abbrev pub ForkLook : SeatStep
 ForkLook st me r me' = (me'.0 ≡ Fork st.word (fork_looked r (fork_of me.0))) × (me'.1 ≡ me.1) × ForkSees (fork_of me.0).seen r
 
-abbrev pub ForkTake : Told
+abbrev pub ForkTake : SeatStep
 ForkTake st me r me' = (x : Job) × ((fork_of me.0).seen ≡ 4 * x.ticket.0 + 1) × (me'.0 ≡ Fork st.word (fork_took st.first x (fork_of me.0))) × (me'.1 ≡ (st.word, Some (Work x)) ∷ me.1) × Goes take x.ticket.0 r st.first
 
-abbrev pub ForkHold : Bool → Told
+abbrev pub ForkHold : Bool → SeatStep
 ForkHold b st me r me' = (me'.0 ≡ Fork st.word (fork_holds b (fork_of me.0)))
 
-abbrev pub ForkGrab : Told
+abbrev pub ForkGrab : SeatStep
 ForkGrab st me r me' = ForkHold true st me r me' × (me'.1 ≡ (st.word, None) ∷ me.1)
 
-abbrev pub ForkLay : Told
+abbrev pub ForkLay : SeatStep
 ForkLay st me r me' = ForkHold false st me r me' × (me'.1 ≡ rest me.1)
 
-abbrev pub ForkAnswer : Told
+abbrev pub ForkAnswer : SeatStep
 ForkAnswer st me r me' = (rep : Report) → me.1 ≡ (st.word, Some (Done rep)) ∷ [] → (me'.0 ≡ Fork st.word (fork_answered st.first rep (fork_of me.0))) × (me'.1 ≡ []) × Goes answer rep.ticket.0 r st.first

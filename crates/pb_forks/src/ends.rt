@@ -6,7 +6,7 @@ ghost use Rattle.pb_forks.specs.declared.views.Lodged.TheVariants.{Here, Away};
 ghost use Rattle.pb_forks.specs.Logs.{Rises};
 ghost use Rattle.pb_forks.specs.Views.{first_main, fresh, deals, start, idle_forks, jobs_out, main_dealt, main_joined, upto};
 ghost use Rattle.pb_forks.specs.Seats.{main_view, fork_view, last_seen, number, forks_of, IsMainOf, IsForkOf, IsFreshOf, IsEachOnce, IsSameMain, rejoin};
-ghost use Rattle.pb_forks.specs.Ends.{end_word, end_view, IsJoined, IsTold, EndedShut};
+ghost use Rattle.pb_forks.specs.Ends.{end_word, end_view, IsJoined, EndedFork, EndedShut};
 
 use crate::closed::PoolEnd;
 use crate::parcel::Parcel;
@@ -85,7 +85,7 @@ impl<A: Allows> Pool<A> {
         Ok((pool, main, seats))
     }
 
-    #[tactic(auto, using(crate::proofs::Told::rejoin_snoc))]
+    #[tactic(auto, using(crate::proofs::AtEnd::rejoin_snoc))]
     fn join_all(&self, mut main: MainSeat, forks: Vec<ForkSeat>) -> MainSeat
         requires main { IsMainOf self.now main }
         requires forks { All (IsForkOf self.now) forks.items }
@@ -108,7 +108,7 @@ impl<A: Allows> Pool<A> {
         ensures main { ((end_view result).log ≡ (main_view main).log) × ((end_view result).seen ≡ (main_view main).seen) }
         ensures rises { Rises 0 (end_view result).log }
         ensures joined { All (λ s. IsJoined (end_view result) (number s) (fork_view s)) forks.items }
-        ensures told { (j : ℕ) → j < forks_of self → (p : ForkView) × IsJoined (end_view result) j p × IsTold A.allows j (end_word result j) (end_view result) p }
+        ensures ended { (j : ℕ) → j < forks_of self → (p : ForkView) × IsJoined (end_view result) j p × EndedFork A.allows j (end_word result j) (end_view result) p }
         ensures shut { (j : ℕ) → j < forks_of self → last_seen (main_view main) j ≡ 4 → EndedShut j result }
     {
         let joined = self.join_all(main, forks);

@@ -27,7 +27,7 @@ pub use seats::{ForkSeat, MainSeat, Pool};
 
 /// What holds of the table of a pool, whatever its threads do: between any two steps each fork is a mailbox, and no
 /// step changes the word of a fork that was shut.
-#[tactic(auto, using(crate::proofs::Told::mailboxes_hold, crate::proofs::Told::nothing_follows_shut))]
+#[tactic(auto, using(crate::proofs::AtEnd::mailboxes_hold, crate::proofs::AtEnd::nothing_follows_shut))]
 pub fn mailboxes_hold<A: Allows>()
     ensures between_steps { MailboxesHold A.allows }
     ensures shut_is_last { NothingFollowsShut }

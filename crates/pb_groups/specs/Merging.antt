@@ -31,7 +31,7 @@ depth_of groups group = longest groups.links groups.groups group
 abbrev pub has_member : GroupsOf → ℕ → ℕ → Bool
 has_member groups group host = belongs groups.links groups.own groups.groups group host
 
--- what decides where a group stands in the order
+-- what a group is ordered by
 abbrev pub key_of : GroupsOf → List ℤ → ℕ → MergeKey
 key_of groups priorities group = record { depth = depth_of groups group; priority = slice_index_or priorities group (pos 0); group = group }
 

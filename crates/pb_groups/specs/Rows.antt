@@ -8,7 +8,7 @@ use Rattle.pb_groups.specs.Merging.{merge_order, depth_of, group_no}
 abbrev pub flat : GroupsOf
 flat = record { hosts = 1; groups = 4; own = own 1 0 ∷ own 3 0 ∷ own 0 0 ∷ []; links = link 0 1 ∷ link 0 2 ∷ link 0 3 ∷ [] }
 
--- of equal depth and priority the name decides
+-- those of equal depth and priority are ordered by name
 pub by_name : merge_order flat (pos 1 ∷ pos 1 ∷ pos 1 ∷ pos 1 ∷ []) 0 ≡ group_no 0 ∷ group_no 1 ∷ group_no 3 ∷ []
 by_name = refl
 

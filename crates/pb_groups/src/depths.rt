@@ -31,7 +31,7 @@ fn raise(links: &[ChildLink], depth: u32, depths: &mut [u32]) -> bool
     requires level { IsLevel links.now depth depths.old }
     ensures level { IsLevel links.now (depth + 1) depths.new }
     ensures raised { result ≡ true → (group : ℕ) × (slice_index depths.new group ≡ depth + 1) }
-    ensures settled { result ≡ false → AreDepths links.now (depth + 1) depths.new }
+    ensures are_depths { result ≡ false → AreDepths links.now (depth + 1) depths.new }
 {
     let mut raised = false;
     for link in links {

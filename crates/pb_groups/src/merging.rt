@@ -12,7 +12,7 @@ use pb_planes::HostSet;
 use std::alloc::{AllocError, Global};
 use std::collections::BTreeSet;
 
-/// What decides where a group stands in the order in which groups merge: the first of these that
+/// What a group is ordered by as groups merge: the first of these that
 /// differs.
 #[derive(Clone, Copy, Debug, PartialEq, Eq, PartialOrd, Ord)]
 pub struct MergeKey {

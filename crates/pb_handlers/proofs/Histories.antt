@@ -2,7 +2,7 @@
 use Rattle.std.proofs.Common.{◌≡◌, ℕ, ◌-◌, ◌<◌, Bool, false, List, [], ◌∷◌, ◌++◌, length, get_or, set, map, slice_get, Some, refl, sym, ap, subst, ◌∙◌, arith}
 use Rattle.std.proofs.lemmas.List.{map-set, get_or-map, length-map, get_or_default, length-append}
 use Rattle.pb_handlers.specs.Pending.{Noted, Notified, Ran, is_pending, marks_after}
-use Rattle.pb_handlers.specs.Notes.{notes_after, history_at, told, closed, unmarked_all}
+use Rattle.pb_handlers.specs.Notes.{notes_after, history_at, with_noted, closed, unmarked_all}
 use Rattle.pb_handlers.proofs.Bits.{cleared_marks, notified_marks, ran_marks, mark_at}
 use Rattle.pb_tree.specs.Walk.{noted}
 
@@ -11,26 +11,26 @@ pub marks_of_host : (n host : ℕ) (histories : List (List Noted)) → host < le
 marks_of_host n host histories l = get_or-map (marks_after n) histories host [] [] (omega (arith, l, length-map histories (marks_after n)))
 
 -- one host's marks after one thing more
-pub told_marks : (n host : ℕ) (noted : Noted) (histories : List (List Noted)) → set (notes_after n histories) host (marks_after n (history_at histories host ++ noted ∷ [])) ≡ notes_after n (told host noted histories)
-told_marks n host noted histories = sym (map-set (marks_after n) histories host (history_at histories host ++ noted ∷ []))
+pub noted_marks : (n host : ℕ) (noted : Noted) (histories : List (List Noted)) → set (notes_after n histories) host (marks_after n (history_at histories host ++ noted ∷ [])) ≡ notes_after n (with_noted host noted histories)
+noted_marks n host noted histories = sym (map-set (marks_after n) histories host (history_at histories host ++ noted ∷ []))
 
 pub host_notified : (n host : ℕ) (histories : List (List Noted)) (notes : List (List Bool)) (mine new : List Bool) (handlers : List ℕ) → notes ≡ notes_after n histories → host < length notes
-    → mine ≡ get_or notes host mine → new ≡ noted mine handlers → set notes host new ≡ notes_after n (told host (Notified handlers) histories)
+    → mine ≡ get_or notes host mine → new ≡ noted mine handlers → set notes host new ≡ notes_after n (with_noted host (Notified handlers) histories)
 host_notified n host histories notes mine new handlers e l m f =
     let read : mine ≡ marks_after n (history_at histories host) =
     m ∙ get_or_default notes host mine [] l ∙ ap (λ x. get_or x host []) e ∙ marks_of_host n host histories (subst (λ x. host < length x) e l) in
     ap (λ x. set x host new) e
     ∙ ap (set (notes_after n histories) host) (f ∙ ap (λ x. noted x handlers) read ∙ notified_marks n (history_at histories host) handlers)
-    ∙ told_marks n host (Notified handlers) histories
+    ∙ noted_marks n host (Notified handlers) histories
 
 pub host_ran : (n host : ℕ) (histories : List (List Noted)) (notes : List (List Bool)) (mine new : List Bool) (handler : ℕ) → notes ≡ notes_after n histories → host < length notes
-    → mine ≡ get_or notes host mine → new ≡ set mine handler false → set notes host new ≡ notes_after n (told host (Ran handler) histories)
+    → mine ≡ get_or notes host mine → new ≡ set mine handler false → set notes host new ≡ notes_after n (with_noted host (Ran handler) histories)
 host_ran n host histories notes mine new handler e l m f =
     let read : mine ≡ marks_after n (history_at histories host) =
     m ∙ get_or_default notes host mine [] l ∙ ap (λ x. get_or x host []) e ∙ marks_of_host n host histories (subst (λ x. host < length x) e l) in
     ap (λ x. set x host new) e
     ∙ ap (set (notes_after n histories) host) (f ∙ ap (λ x. set x handler false) read ∙ ran_marks n (history_at histories host) handler)
-    ∙ told_marks n host (Ran handler) histories
+    ∙ noted_marks n host (Ran handler) histories
 
 -- what is marked on a host is pending there
 pub marked_pends : (n host handler : ℕ) (histories : List (List Noted)) (notes : List (List Bool)) (mine : List Bool) → notes ≡ notes_after n histories → host < length notes

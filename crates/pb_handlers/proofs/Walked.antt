@@ -8,10 +8,10 @@ use Rattle.pb_tree.specs.declared.answer.Kind.TheVariants as kinds
 use Rattle.pb_tree.specs.Answer.{AnswerOf}
 use Rattle.pb_tree.specs.Tree.{Nodes, Nothing, Task, Block, Flush, TreeOf, size, handler_paths, paths_from}
 use Rattle.pb_tree.specs.Walk.{is_empty, block_result, noted, is_halted, ends_in_flush, front, reach_of}
-use Rattle.pb_flat.specs.Course.{Course, Ends, Runs, Stand, chosen, flush_course, course, plain_course, forced_course, course_of, is_run, settled, after_kind, ran, answered, advanced, after, first_of, passage_at, reach_at, stand_of}
+use Rattle.pb_flat.specs.Course.{Course, Ends, Runs, Stand, chosen, flush_course, course, plain_course, forced_course, course_of, is_run, from_next_run, after_kind, ran, answered, advanced, after, first_of, passage_at, reach_at, stand_of}
 use Rattle.pb_flat.specs.Laws.{StandsAreWalks, AnswersLeadOn}
 use Rattle.pb_handlers.specs.Pending.{Noted, Notified, Ran, marks_after}
-use Rattle.pb_handlers.specs.Told.{handlers_from, handlers_in, handler_at, ran_by, told_at, told_by, told_behind}
+use Rattle.pb_handlers.specs.History.{handlers_from, handlers_in, handler_at, ran_by, happened_at, happened_by, happened_behind}
 use Rattle.pb_handlers.specs.Laws.{MarksAreNotes, HandlersEndPlaces}
 use Rattle.pb_handlers.proofs.Bits.{notified_marks, ran_marks, first_marks}
 
@@ -152,9 +152,9 @@ tree_right : (tree : TreeOf) → IsRight (handler_at tree) (course_of tree)
 tree_right tree = whole_right tree.handlers tree.force_handlers (ends_in_flush tree.nodes) tree.nodes refl
 
 -- ---- a host on its course
-settled_right : (look : ℕ → Option ℕ) (c : Course) (marks : List Bool) → IsRight look c → IsRight look (settled c marks)
-settled_right look (Ends kind) marks r = tt
-settled_right look (Runs place handler over good bad halted) marks r = run_right (is_run handler marks) _ _ r (settled_right look good marks r.1) where
+next_run_right : (look : ℕ → Option ℕ) (c : Course) (marks : List Bool) → IsRight look c → IsRight look (from_next_run c marks)
+next_run_right look (Ends kind) marks r = tt
+next_run_right look (Runs place handler over good bad halted) marks r = run_right (is_run handler marks) _ _ r (next_run_right look good marks r.1) where
   run_right : (b : Bool) (x y : Course) → IsRight look x → IsRight look y → IsRight look (if b then x else y)
   run_right true x y p q = p
   run_right false x y p q = q
@@ -169,7 +169,7 @@ kind_right look kinds.Ended over good bad halted g b h = tt
 answered_right : (look : ℕ → Option ℕ) (c : Course) (marks : List Bool) (was : Bool) (a : AnswerOf) → IsRight look c → IsRight look (answered c marks was a).course
 answered_right look (Ends kind) marks was a r = tt
 answered_right look (Runs place handler over good bad halted) marks was a r =
-    settled_right look (after_kind a.kind over good bad halted) (noted (ran handler a.kind marks) a.notified) (kind_right look a.kind over good bad halted r.1 r.2 r.3)
+    next_run_right look (after_kind a.kind over good bad halted) (noted (ran handler a.kind marks) a.notified) (kind_right look a.kind over good bad halted r.1 r.2 r.3)
 
 advanced_right : (look : ℕ → Option ℕ) (second : Bool) (s : Stand) (was : Bool) (a : AnswerOf) → IsRight look s.course → IsRight look (if second then s else answered s.course s.marks was a).course
 advanced_right look true s was a r = r
@@ -180,7 +180,7 @@ after_right look s [] r = r
 after_right look s (a ∷ answers) r = after_right look (advanced s a) answers (advanced_right look (s.halted && is_halted a.kind) s (s.halted || is_halted a.kind) a r)
 
 stand_right : (tree : TreeOf) (answers : List AnswerOf) → IsRight (handler_at tree) (stand_of tree answers).course
-stand_right tree answers = after_right (handler_at tree) (first_of (course_of tree) tree.handlers) answers (settled_right (handler_at tree) (course_of tree) (replicate tree.handlers false) (tree_right tree))
+stand_right tree answers = after_right (handler_at tree) (first_of (course_of tree) tree.handlers) answers (next_run_right (handler_at tree) (course_of tree) (replicate tree.handlers false) (tree_right tree))
 
 -- whether a host was halted
 answered_halted : (c : Course) (marks : List Bool) (was : Bool) (a : AnswerOf) → (answered c marks was a).halted ≡ was
@@ -229,7 +229,7 @@ ran_marked (Some h) kinds.Gone hs marks = refl
 ran_marked (Some h) kinds.Ended hs marks = refl
 
 answered_marks : (look : ℕ → Option ℕ) (c : Course) (marks : List Bool) (was : Bool) (a : AnswerOf) → IsRight look c
-    → (answered c marks was a).marks ≡ marked_by (told_at look (reach_of (passage_at c marks)) a) marks
+    → (answered c marks was a).marks ≡ marked_by (happened_at look (reach_of (passage_at c marks)) a) marks
 answered_marks look (Ends kinds.Good) marks was a r = refl
 answered_marks look (Ends kinds.Bad) marks was a r = refl
 answered_marks look (Ends kinds.Halted) marks was a r = refl
@@ -239,31 +239,31 @@ answered_marks look (Runs place handler over good bad halted) marks was a r =
     ran_marked handler a.kind a.notified marks ∙ ap (λ h. marked_by (ran_by h a.kind ++ Notified a.notified ∷ []) marks) (sym r.0)
 
 advanced_marks : (look : ℕ → Option ℕ) (s : Stand) (a : AnswerOf) (second was : Bool) → IsRight look s.course
-    → (if second then s else answered s.course s.marks was a).marks ≡ marked_by (if not second then told_at look (reach_at s) a else []) s.marks
+    → (if second then s else answered s.course s.marks was a).marks ≡ marked_by (if not second then happened_at look (reach_at s) a else []) s.marks
 advanced_marks look s a true was r = refl
 advanced_marks look s a false was r = answered_marks look s.course s.marks was a r
 
 module _ (walks : StandsAreWalks) (on : AnswersLeadOn) where
-  one_told : (tree : TreeOf) (before : List AnswerOf) (a : AnswerOf) → (stand_of tree (before ++ a ∷ [])).marks ≡ marked_by (told_by tree before a) (stand_of tree before).marks
-  one_told tree before a =
+  one_happened : (tree : TreeOf) (before : List AnswerOf) (a : AnswerOf) → (stand_of tree (before ++ a ∷ [])).marks ≡ marked_by (happened_by tree before a) (stand_of tree before).marks
+  one_happened tree before a =
       let s = stand_of tree before in
       let halted : s.halted ≡ list_any (λ (b : AnswerOf). is_halted b.kind) before = after_halted (first_of (course_of tree) tree.handlers) before in
       ap (λ (x : Stand). x.marks) (on tree before a)
       ∙ advanced_marks (handler_at tree) s a (s.halted && is_halted a.kind) (s.halted || is_halted a.kind) (stand_right tree before)
-      ∙ ap (λ b. marked_by (if not (b && is_halted a.kind) then told_at (handler_at tree) (reach_at s) a else []) s.marks) halted
-      ∙ ap (λ r. marked_by (if not (list_any (λ (b : AnswerOf). is_halted b.kind) before && is_halted a.kind) then told_at (handler_at tree) r a else []) s.marks) (walks tree before).reach
+      ∙ ap (λ b. marked_by (if not (b && is_halted a.kind) then happened_at (handler_at tree) (reach_at s) a else []) s.marks) halted
+      ∙ ap (λ r. marked_by (if not (list_any (λ (b : AnswerOf). is_halted b.kind) before && is_halted a.kind) then happened_at (handler_at tree) r a else []) s.marks) (walks tree before).reach
 
-  all_told : (tree : TreeOf) (before answers : List AnswerOf) (history : List Noted) → (stand_of tree before).marks ≡ marks_after tree.handlers history
-      → (stand_of tree (before ++ answers)).marks ≡ marks_after tree.handlers (history ++ told_behind tree before answers)
-  all_told tree before [] history e =
+  all_happened : (tree : TreeOf) (before answers : List AnswerOf) (history : List Noted) → (stand_of tree before).marks ≡ marks_after tree.handlers history
+      → (stand_of tree (before ++ answers)).marks ≡ marks_after tree.handlers (history ++ happened_behind tree before answers)
+  all_happened tree before [] history e =
       ap (λ x. (stand_of tree x).marks) (append-nil before) ∙ e ∙ ap (marks_after tree.handlers) (sym (append-nil history))
-  all_told tree before (a ∷ answers) history e =
+  all_happened tree before (a ∷ answers) history e =
       ap (λ x. (stand_of tree x).marks) (sym (append_assoc before (a ∷ []) answers))
-      ∙ all_told tree (before ++ a ∷ []) answers (history ++ told_by tree before a) (one_told tree before a ∙ ap (marked_by (told_by tree before a)) e ∙ marked_after tree.handlers history (told_by tree before a))
-      ∙ ap (marks_after tree.handlers) (append_assoc history (told_by tree before a) (told_behind tree (before ++ a ∷ []) answers))
+      ∙ all_happened tree (before ++ a ∷ []) answers (history ++ happened_by tree before a) (one_happened tree before a ∙ ap (marked_by (happened_by tree before a)) e ∙ marked_after tree.handlers history (happened_by tree before a))
+      ∙ ap (marks_after tree.handlers) (append_assoc history (happened_by tree before a) (happened_behind tree (before ++ a ∷ []) answers))
 
   pub marks_noted : MarksAreNotes
-  marks_noted tree answers = sym (walks tree answers).marks ∙ all_told tree [] answers [] (first_marks tree.handlers)
+  marks_noted tree answers = sym (walks tree answers).marks ∙ all_happened tree [] answers [] (first_marks tree.handlers)
 
 -- ---- the place of a handler ends with its number
 abbrev Ending : ℕ → List ℕ → Type 0

@@ -4,7 +4,7 @@ use Rattle.pb_tree.specs.Answer.{AnswerOf}
 use Rattle.pb_tree.specs.Tree.{TreeOf, path_at}
 use Rattle.pb_tree.specs.Walk.{marks_of}
 use Rattle.pb_handlers.specs.Pending.{Noted, is_pending, IsPending, marks_after}
-use Rattle.pb_handlers.specs.Told.{handler_at, history_of}
+use Rattle.pb_handlers.specs.History.{handler_at, history_of}
 
 -- the marks that a host's walk carries are what its history says is pending
 abbrev pub MarksAreNotes : Type 0

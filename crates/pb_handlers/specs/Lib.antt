@@ -1,5 +1,5 @@
 pub mod Pending
-pub mod Told
+pub mod History
 pub mod Notes
 pub mod Naming
 pub mod Index

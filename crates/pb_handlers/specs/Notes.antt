@@ -10,8 +10,8 @@ abbrev pub history_at : List (List Noted) → ℕ → List Noted
 history_at histories host = slice_index_or histories host []
 
 -- the histories, with this at the end of a host's
-abbrev pub told : ℕ → Noted → List (List Noted) → List (List Noted)
-told host noted histories = slice_set histories host (history_at histories host ++ noted ∷ [])
+abbrev pub with_noted : ℕ → Noted → List (List Noted) → List (List Noted)
+with_noted host noted histories = slice_set histories host (history_at histories host ++ noted ∷ [])
 
 -- a batch is closed: what happened before it counts no more
 abbrev pub closed : List (List Noted) → List (List Noted)

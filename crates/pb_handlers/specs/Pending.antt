@@ -1,4 +1,4 @@
--- Which handlers are pending on a host, told from all that happened there in a batch
+-- Which handlers are pending on a host, known from all that happened there in a batch
 -- (Ansible's documentation, "Handlers: running operations on change").
 use Rattle.std.specs.Prelude.{◌≡◌, ℕ, Bool, true, false, ◌&&◌, ◌||◌, not, nat_eq, List, [], ◌∷◌, ◌++◌, map}
 use Rattle.std.specs.List.{list_any, range_with_len}

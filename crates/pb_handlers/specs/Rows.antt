@@ -4,8 +4,8 @@ use Rattle.pb_tree.specs.declared.answer.Kind.TheVariants as kinds
 use Rattle.pb_tree.specs.Rows.{a, n, both, notifies, flushes}
 use Rattle.pb_handlers.specs.declared.naming.HandlerNames.{HandlerNames}
 use Rattle.pb_handlers.specs.Pending.{Notified, Ran, marks_after}
-use Rattle.pb_handlers.specs.Notes.{notes_after, told, closed}
-use Rattle.pb_handlers.specs.Told.{handler_at, history_of}
+use Rattle.pb_handlers.specs.Notes.{notes_after, with_noted, closed}
+use Rattle.pb_handlers.specs.History.{handler_at, history_of}
 use Rattle.pb_handlers.specs.Naming.{counting, last_named, notified_from, first_unknown}
 
 -- notified twice, a handler is pending once; it isn't any more once it ran, until it is notified again
@@ -16,19 +16,19 @@ again : marks_after 2 (Notified (1 ∷ 0 ∷ []) ∷ Ran 0 ∷ Ran 1 ∷ Notifie
 again = refl
 
 -- each host has its own; a number that no handler has marks nothing; once the batch is closed nothing is pending
-hosts : notes_after 2 (told 1 (Notified (0 ∷ 7 ∷ [])) ([] ∷ [] ∷ [])) ≡ (false ∷ false ∷ []) ∷ (true ∷ false ∷ []) ∷ []
+hosts : notes_after 2 (with_noted 1 (Notified (0 ∷ 7 ∷ [])) ([] ∷ [] ∷ [])) ≡ (false ∷ false ∷ []) ∷ (true ∷ false ∷ []) ∷ []
 hosts = refl
 
-after_close : notes_after 2 (closed (told 1 (Notified (0 ∷ [])) ([] ∷ [] ∷ []))) ≡ (false ∷ false ∷ []) ∷ (false ∷ false ∷ []) ∷ []
+after_close : notes_after 2 (closed (with_noted 1 (Notified (0 ∷ [])) ([] ∷ [] ∷ []))) ≡ (false ∷ false ∷ []) ∷ (false ∷ false ∷ []) ∷ []
 after_close = refl
 
 -- each flush has a place for each handler: one stands in front of the two tasks, and one behind them
 places : (handler_at notifies 3 ≡ None) × (handler_at notifies 4 ≡ Some 0) × (handler_at notifies 5 ≡ Some 1)
 places = (refl, refl, refl)
 
-told_in_order : history_of notifies (both ∷ both ∷ a kinds.Good ∷ n (0 ∷ []) ∷ [])
+happened_in_order : history_of notifies (both ∷ both ∷ a kinds.Good ∷ n (0 ∷ []) ∷ [])
     ≡ Notified (1 ∷ 0 ∷ []) ∷ Notified (1 ∷ 0 ∷ []) ∷ Ran 0 ∷ Notified [] ∷ Ran 1 ∷ Notified (0 ∷ []) ∷ []
-told_in_order = refl
+happened_in_order = refl
 
 -- a handler that was halted keeps its mark; one that failed doesn't
 halted_there : history_of flushes (both ∷ a kinds.Good ∷ a kinds.Halted ∷ []) ≡ Notified (1 ∷ 0 ∷ []) ∷ Notified [] ∷ Notified [] ∷ []

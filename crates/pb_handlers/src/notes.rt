@@ -3,8 +3,8 @@ ghost use Rattle.pb_tree.specs.Answer.{AnswerOf};
 ghost use Rattle.pb_tree.specs.Tree.{TreeOf};
 ghost use Rattle.pb_tree.specs.Walk.{marks_of};
 ghost use Rattle.pb_handlers.specs.Pending.{Noted, Notified, Ran, IsPending};
-ghost use Rattle.pb_handlers.specs.Notes.{notes_after, history_at, told, closed, unmarked_all};
-ghost use Rattle.pb_handlers.specs.Told.{history_of};
+ghost use Rattle.pb_handlers.specs.Notes.{notes_after, history_at, with_noted, closed, unmarked_all};
+ghost use Rattle.pb_handlers.specs.History.{history_of};
 
 use crate::marks::Marks;
 use crate::marks_are_notes;
@@ -39,7 +39,7 @@ impl Notes {
     /// A task of the host notified these handlers. A number that no handler has is passed over.
     pub fn notify(&mut self, host: HostNo, handlers: &[u32])
         requires { host.0 < length self.old }
-        ensures { (n : ℕ) (histories : List (List Noted)) → self.old ≡ notes_after n histories → self.new ≡ notes_after n (told host.0 (Notified handlers.now) histories) }
+        ensures { (n : ℕ) (histories : List (List Noted)) → self.old ≡ notes_after n histories → self.new ≡ notes_after n (with_noted host.0 (Notified handlers.now) histories) }
     {
         self.hosts[host.0 as usize].notify(handlers);
     }
@@ -49,7 +49,7 @@ impl Notes {
     pub fn take(&mut self, host: HostNo, place: &Place)
         requires { host.0 < length self.old }
         ensures ran { (above : List ℕ) (handler n : ℕ) (histories : List (List Noted)) → place.now ≡ above ++ handler ∷ []
-            → self.old ≡ notes_after n histories → self.new ≡ notes_after n (told host.0 (Ran handler) histories) }
+            → self.old ≡ notes_after n histories → self.new ≡ notes_after n (with_noted host.0 (Ran handler) histories) }
         ensures top { place.now ≡ [] → self.new ≡ self.old }
     {
         if let Some(handler) = place.as_slice().last() {

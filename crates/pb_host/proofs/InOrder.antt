@@ -17,7 +17,7 @@ use Rattle.pb_host.specs.declared.items.Before.{Before}
 use Rattle.pb_host.specs.Attempts.{came, back_at, back_in, tried_then, tried_next, tried_most, attempt_after, attempt_next, rank}
 use Rattle.pb_host.specs.Back.{undone_items}
 use Rattle.pb_host.specs.Calls.{call_of, call_in, tried_of}
-use Rattle.pb_host.specs.Decides.{retried_by, retried_then, retried_in}
+use Rattle.pb_host.specs.StepResults.{retried_by, retried_then, retried_in}
 use Rattle.pb_host.specs.Runs.{is_item}
 use Rattle.pb_host.specs.Kept.{IsKept, first_waiting, with_item, with_step, with_tried}
 

@@ -12,7 +12,7 @@ use Rattle.pb_outcome.specs.declared.job.Call.TheVariants.{Shell, Setup}
 use Rattle.pb_outcome.specs.declared.job.Call.{Call}
 use Rattle.pb_outcome.specs.declared.outcome.Form.TheVariants.{Module}
 use Rattle.pb_host.specs.Attempts.{back_in, tried_next, attempt_after, attempt_next, rank}
-use Rattle.pb_host.specs.Decides.{retried_in}
+use Rattle.pb_host.specs.StepResults.{retried_in}
 
 -- an item of a loop at which this many attempts came back, and one of a task without a loop
 abbrev at : ℕ → ℕ → Planned → Item
@@ -77,18 +77,18 @@ ends_then = refl
 no_more_than_101 : back_in goes_on (at 0 100 sent ∷ []) ≡ at 0 100 (Decided (fail_result (text (codes "not yet")))) ∷ []
 no_more_than_101 = refl
 
--- an attempt is told where another one comes behind it, with its number
-first_is_told : retried_in goes_on (at 0 0 failed ∷ at 1 0 sent ∷ []) ≡ Some (record { attempt = 1; result = (fail_result (text (codes "not yet"))).result })
-first_is_told = refl
+-- an attempt is in the step's result where another one comes behind it, with its number
+first_is_retried : retried_in goes_on (at 0 0 failed ∷ at 1 0 sent ∷ []) ≡ Some (record { attempt = 1; result = (fail_result (text (codes "not yet"))).result })
+first_is_retried = refl
 
-second_is_told : retried_in goes_on (at 0 1 sent ∷ []) ≡ Some (record { attempt = 2; result = (fail_result (text (codes "not yet"))).result })
-second_is_told = refl
+second_is_retried : retried_in goes_on (at 0 1 sent ∷ []) ≡ Some (record { attempt = 2; result = (fail_result (text (codes "not yet"))).result })
+second_is_retried = refl
 
-last_is_not_told : retried_in goes_on (at 0 100 sent ∷ []) ≡ None
-last_is_not_told = refl
+last_is_not_retried : retried_in goes_on (at 0 100 sent ∷ []) ≡ None
+last_is_not_retried = refl
 
-end_is_not_told : retried_in ends (at 0 0 sent ∷ []) ≡ None
-end_is_not_told = refl
+end_is_not_retried : retried_in ends (at 0 0 sent ∷ []) ≡ None
+end_is_not_retried = refl
 
 -- each attempt that comes back brings the task further, and an item counts as 101
 further_by_one : rank (at 0 1 sent ∷ at 1 0 sent ∷ []) ≡ 1

@@ -22,7 +22,7 @@ use Rattle.pb_host.specs.declared.host.Running.{Running}
 use Rattle.pb_host.specs.Attempts.{attempt_after}
 use Rattle.pb_host.specs.Ends.{breaks, counted, kind_of}
 use Rattle.pb_host.specs.Kept.{with_step, with_tried}
-use Rattle.pb_host.specs.Decides.{step_result_with, done_if, retried_after, item_results_in, with_retried}
+use Rattle.pb_host.specs.StepResults.{step_result_with, done_if, retried_after, item_results_in, with_retried}
 use Rattle.pb_host.specs.Host.{HostOf, kept_items, pending, items_after, progressed, runs_once_at}
 
 -- what an attempt with this result at the item with this number comes to, as its task says of it
@@ -83,7 +83,7 @@ ended_with play row r = done_if play r.place (pending row) r.items
 abbrev pub ended_now : PlayOf → HostOf → Option TaskDone
 ended_now play row = option_map_or (ended_with play row) row.running None
 
--- what is decided of it, where the item with this number came back, or this attempt
+-- what a step comes to for it, where the item with this number came back, or this attempt
 abbrev pub step_result_back : PlayOf → Option ℕ → Option Retried → HostOf → Running → StepResult
 step_result_back play number retried row r = with_retried retried (step_result_with play r.place (pending row) false (item_results_in r.items number) r.items)
 

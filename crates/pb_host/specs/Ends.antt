@@ -43,7 +43,7 @@ breaks is_caught kinds.Halted = false
 breaks is_caught kinds.Gone = false
 breaks is_caught kinds.Ended = false
 
--- an answer settles a task that runs once, unless its host was out of reach or halted: a host that is halted finishes nothing
+-- an answer ends a task that runs once, unless its host was out of reach or halted: a host that is halted finishes nothing
 abbrev pub ends_run_once : Kind → Bool
 ends_run_once kinds.Good = true
 ends_run_once kinds.Bad = true

@@ -20,7 +20,7 @@ handler_at play p = option_map_or (λ (place : PlaceOf). place.handler) (slice_g
 abbrev pub notified_by : PlayOf → ℕ → TaskEnd → List ℕ
 notified_by play p task = if does_notify task.result then named_at play p else []
 
--- Whether a handler is pending with these marks, once the handler with the number `own` has run: that one isn't, so that it is told of again where it
+-- Whether a handler is pending with these marks, once the handler with the number `own` has run: that one isn't, so that it is notified again where it
 -- notifies itself.
 abbrev pub is_own : Option ℕ → ℕ → Bool
 is_own own handler = option_map_or (λ h. h == handler) own false

@@ -17,7 +17,7 @@ use Rattle.pb_tree.specs.declared.tree.Status.TheVariants as status
 use Rattle.pb_task_vars.specs.Results.{items_at, on_tasks}
 use Rattle.pb_host.specs.Host.{HostOf, first_row, none_counted, joined, progressed, sent, reported}
 use Rattle.pb_host.specs.Runs.{is_running, is_out, item_of, may_send_item, awaits}
-use Rattle.pb_host.specs.Decides.{report_result}
+use Rattle.pb_host.specs.StepResults.{report_result}
 use Rattle.pb_host.specs.declared.step_result.StepResult.{StepResult}
 use Rattle.pb_host.specs.declared.step_result.Retried.{Retried}
 

@@ -6,7 +6,7 @@ pub mod Host
 pub mod Walking
 pub mod Kept
 pub mod Turned
-pub mod Decides
+pub mod StepResults
 pub mod Back
 pub mod Runs
 pub mod Shown

@@ -80,7 +80,7 @@ pub fn is_fatal(is_caught: bool, kind: Kind) -> bool
     }
 }
 
-/// Whether an answer settles a task that runs once.
+/// Whether an answer ends a task that runs once.
 pub fn ends_run_once(kind: Kind) -> bool
     ensures { result ≡ ends_run_once kind }
 {

@@ -4,7 +4,7 @@ ghost use Rattle.std.specs.Prelude.{◌≡◌, ◌≤◌, ◌++◌, [], true, le
 ghost use Rattle.std.specs.Option.{option_copied};
 ghost use Rattle.pb_outcome.specs.Items.{numbered, numbered_at, numbered_then, result_of};
 ghost use Rattle.pb_task_vars.specs.Results.{variable_at};
-ghost use Rattle.pb_host.specs.Decides.{item_results_in};
+ghost use Rattle.pb_host.specs.StepResults.{item_results_in};
 ghost use Rattle.pb_host.specs.Handlers.{newly_at};
 ghost use Rattle.pb_host.specs.Shown.{has_shown, let_go, shown_by};
 ghost use Rattle.pb_host.specs.Host.{ignores_at, caught_at, meta_in, meta_at, runs_once_at, task_at};
@@ -110,7 +110,7 @@ pub fn item_results_in(
     }
 }
 
-/// Whether the task at a place is told to ignore its failure.
+/// Whether the task at a place ignores its failure.
 fn ignores_at(play: &PlanPlay, place: usize) -> bool
     ensures { result ≡ ignores_at play.now place }
 {

@@ -9,7 +9,7 @@ ghost use Rattle.pb_host.specs.Attempts.{attempt_after, attempt_next, back_in, c
 ghost use Rattle.pb_host.specs.Calls.{call_in, delegate_in, tried_of};
 ghost use Rattle.pb_host.specs.Runs.{is_item};
 ghost use Rattle.pb_host.specs.Host.{came_back};
-ghost use Rattle.pb_host.specs.Decides.{retried_by, retried_in};
+ghost use Rattle.pb_host.specs.StepResults.{retried_by, retried_in};
 ghost use Rattle.pb_host.specs.Back.{came_in, undone_by, undone_items};
 
 use crate::step_result::Retried;
@@ -245,7 +245,7 @@ fn delegate_in(items: &[Item], number: u32) -> Option<&Text>
     }
 }
 
-/// How many attempts at the item with this number came back without settling it.
+/// How many attempts at the item with this number came back without ending it.
 fn tried_of(items: &[Item], number: u32) -> u8
     ensures { result ≡ tried_of items.now number }
 {
@@ -340,7 +340,7 @@ impl TaskItems {
         }
     }
 
-    /// How many attempts at it came back without settling it.
+    /// How many attempts at it came back without ending it.
     #[tactic(auto, using(crate::proofs::InOrder::tried_there))]
     fn tried(&self) -> u8
         ensures { result ≡ tried_next self.now }

@@ -18,4 +18,4 @@ pub use ends::{breaks, ends_run_once, is_fatal};
 pub use host::{Counts, Host, LastTask, Running};
 pub use item_results::{caught_at, numbered, runs_once_at, task_at, variable_at};
 pub use items::{Before, CameBack, TaskItems};
-pub use step_result::{Retried, StepResult, TaskDone, TaskEnd, decide};
+pub use step_result::{Retried, StepResult, TaskDone, TaskEnd, put_step_result};

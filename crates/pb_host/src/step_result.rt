@@ -1,4 +1,4 @@
-//! What a step decides.
+//! What a step comes to.
 
 ghost use Rattle.std.specs.Prelude.{◌≡◌};
 
@@ -7,7 +7,7 @@ use pb_play::modules::Meta;
 use pb_value::items::Items;
 use pb_value::val::Val;
 
-/// What a step decided of the task that started, or that a report was for.
+/// What a step came to for the task that started, or that a report was for.
 pub struct StepResult {
     /// The place's position in the play's tree.
     pub place: usize,
@@ -84,8 +84,8 @@ impl Drop for TaskDone {
     }
 }
 
-/// Puts down what a step decided.
-pub fn decide(slot: &mut Option<StepResult>, step_result: Option<StepResult>)
+/// Puts down what a step came to.
+pub fn put_step_result(slot: &mut Option<StepResult>, step_result: Option<StepResult>)
     ensures { slot.new ≡ step_result }
 {
     *slot = step_result;

@@ -21,7 +21,7 @@ pub given_keeps : (P : List HostOf → Type 0) → ((gift : DelegatedFacts) (row
 given_keeps P keeps [] rows w = w
 given_keeps P keeps (gift ∷ gifts) rows w = given_keeps P keeps gifts (change rows gift.host.0 (takes gift)) (keeps gift rows w)
 
--- what is told of a row stays where the change keeps that
+-- what is asked of a row stays where the change keeps that
 pub map_same : {A : Type 0} (of : HostOf → A) (f : HostOf → HostOf) → ((row : HostOf) → of (f row) ≡ of row) → (rows : List HostOf) (h : ℕ) → map of (change rows h f) ≡ map of rows
 map_same of f same [] h = refl
 map_same of f same (row ∷ rows) zero = ap (λ x. x ∷ map of rows) (same row)

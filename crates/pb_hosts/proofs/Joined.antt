@@ -151,8 +151,8 @@ set_inside (row ∷ rows) walk zero = refl
 set_inside (row ∷ rows) walk (suc h) =
     ap (λ (rest : List Bool). row.in_batch ∷ rest) (set_inside rows walk h) ∙ sym (ap (map is_inside) (change_on row rows h (with_walk (Some walk))))
 
-pub inside_step : (old new : List HostOf) (batch told : List Bool) (walk : PlayWalkOf) (h : ℕ) → batch ≡ map is_inside old → new ≡ change old h (with_walk (Some walk)) → told ≡ slice_set batch h true → told ≡ map is_inside new
-inside_step old new batch told walk h e n t = t ∙ ap (λ (set : List Bool). slice_set set h true) e ∙ set_inside old walk h ∙ sym (ap (map is_inside) n)
+pub inside_step : (old new : List HostOf) (batch column : List Bool) (walk : PlayWalkOf) (h : ℕ) → batch ≡ map is_inside old → new ≡ change old h (with_walk (Some walk)) → column ≡ slice_set batch h true → column ≡ map is_inside new
+inside_step old new batch column walk h e n t = t ∙ ap (λ (set : List Bool). slice_set set h true) e ∙ set_inside old walk h ∙ sym (ap (map is_inside) n)
 
 -- ---- after everyone has stepped out
 pub out_twice : (rows new : List HostOf) → new ≡ map (with_walk None) rows → new ≡ map (with_walk None) new

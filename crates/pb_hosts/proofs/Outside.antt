@@ -91,9 +91,9 @@ reported_out plan play outcome row out e =
     ap left same ∙ out outside ∙ sym same
 
 -- what these steps keep of each row, a list tells of all rows as before
-pub given_told : (of : HostOf → Bool) → ((gift : DelegatedFacts) (row : HostOf) → of (takes gift row) ≡ of row) → (gifts : List DelegatedFacts) (f : HostOf → HostOf) → ((row : HostOf) → of (f row) ≡ of row) → (h : ℕ) (told : List Bool) (rows new : List HostOf)
-    → told ≡ map of rows → new ≡ with_delegated gifts (change rows h f) → told ≡ map of new
-given_told of kept gifts f same h told rows new e n = e ∙ sym (ap (map of) n ∙ given_map of kept gifts (change rows h f) ∙ map_same of f same rows h)
+pub given_column : (of : HostOf → Bool) → ((gift : DelegatedFacts) (row : HostOf) → of (takes gift row) ≡ of row) → (gifts : List DelegatedFacts) (f : HostOf → HostOf) → ((row : HostOf) → of (f row) ≡ of row) → (h : ℕ) (column : List Bool) (rows new : List HostOf)
+    → column ≡ map of rows → new ≡ with_delegated gifts (change rows h f) → column ≡ map of new
+given_column of kept gifts f same h column rows new e n = e ∙ sym (ap (map of) n ∙ given_map of kept gifts (change rows h f) ∙ map_same of f same rows h)
 
 pub given_out : (gifts : List DelegatedFacts) (f : HostOf → HostOf) (h : ℕ) (rows new : List HostOf) → ((row : HostOf) → slice_get rows h ≡ Some row → IsOutside row → IsOutside (f row)) → AreOutside rows → new ≡ with_delegated gifts (change rows h f) → AreOutside new
 given_out gifts f h rows new keeps w n =

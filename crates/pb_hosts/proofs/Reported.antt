@@ -14,7 +14,7 @@ use Rattle.pb_host.specs.Back.{back_running, back_row, retried_running, retried_
 use Rattle.pb_hosts.specs.Giving.{gives_with, gives_on, gives_now, with_delegated, gifts_by, gifts_of, report_gives}
 use Rattle.pb_host.specs.Ends.{IsAtMost}
 use Rattle.pb_host.specs.Runs.{item_of}
-use Rattle.pb_host.specs.Decides.{step_result_by, report_result}
+use Rattle.pb_host.specs.StepResults.{step_result_by, report_result}
 use Rattle.pb_hosts.specs.Hosts.{change}
 use Rattle.pb_host.specs.Host.{HostOf, reported, reported_running}
 use Rattle.pb_hosts.proofs.Giving.{change_on, get_changed, twice, same_change}
@@ -48,7 +48,7 @@ gives_as plan play outcome h rows =
     by_found None = refl
     by_found (Some row) = gives_back plan play outcome h row
 
--- and decides the same
+-- and comes to the same
 pub step_result_as : (plan : PlanOf) (play : PlayOf) (outcome : Form) (row : HostOf)
     → step_result_now play (item_of row) (retried_row plan play outcome row) (back_row plan play outcome row) ≡ report_result plan play outcome row
 step_result_as plan play outcome row = by_running row.running

@@ -251,9 +251,9 @@ tickets_quiet f none [] (suc h) = refl
 tickets_quiet f none (row ∷ rows) zero = ap (λ (o : Option Ticket). o ∷ map ticket_of rows) (none row)
 tickets_quiet f none (row ∷ rows) (suc h) = rw (change_on row rows h f) (ap (λ (rest : List (Option Ticket)). ticket_of row ∷ rest) (tickets_quiet f none rows h))
 
-pub quiet_order : (gifts : List DelegatedFacts) (f : HostOf → HostOf) → ((row : HostOf) → ticket_of (f row) ≡ None) → (h : ℕ) (jobs told : List (HostNo × Ticket)) (rows new : List HostOf) → jobs ≡ all_out rows → new ≡ with_delegated gifts (change rows h f)
-    → told ≡ without_job h jobs → told ≡ all_out new
-quiet_order gifts f none h jobs told rows new e n t =
+pub quiet_order : (gifts : List DelegatedFacts) (f : HostOf → HostOf) → ((row : HostOf) → ticket_of (f row) ≡ None) → (h : ℕ) (jobs column : List (HostNo × Ticket)) (rows new : List HostOf) → jobs ≡ all_out rows → new ≡ with_delegated gifts (change rows h f)
+    → column ≡ without_job h jobs → column ≡ all_out new
+quiet_order gifts f none h jobs column rows new e n t =
     let at : h ≡ 0 + h = omega arith in
     t ∙ ap (without_job h) e
     ∙ sym (job_goes 0 h h (map ticket_of rows) at)
@@ -284,9 +284,9 @@ none_at [] h e = cc
 none_at (row ∷ rows) zero e = ap (λ (o : Option Ticket). Some o) (had_none row.running e)
 none_at (row ∷ rows) (suc h) e = none_at rows h e
 
-pub sent_order : (ticket : Ticket) (host : HostNo) (jobs told : List (HostNo × Ticket)) (rows new : List HostOf) → at_row has_send rows host.0 ≡ true → jobs ≡ all_out rows → new ≡ change rows host.0 (sent ticket)
-    → told ≡ with_job (host, ticket) jobs → told ≡ all_out new
-sent_order ticket host jobs told rows new w e n t =
+pub sent_order : (ticket : Ticket) (host : HostNo) (jobs column : List (HostNo × Ticket)) (rows new : List HostOf) → at_row has_send rows host.0 ≡ true → jobs ≡ all_out rows → new ≡ change rows host.0 (sent ticket)
+    → column ≡ with_job (host, ticket) jobs → column ≡ all_out new
+sent_order ticket host jobs column rows new w e n t =
     let at : host.0 ≡ 0 + host.0 = omega arith in
     t ∙ ap (with_job (host, ticket)) e
     ∙ sym (job_comes 0 host.0 host.0 ticket (map ticket_of rows) at (none_at rows host.0 w))

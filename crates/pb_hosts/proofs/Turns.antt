@@ -118,21 +118,21 @@ map_kept of f same [] = refl
 map_kept of f same (row ∷ rows) = ap (λ x. x ∷ map of (map f rows)) (same row) ∙ ap (λ rest. of row ∷ rest) (map_kept of f same rows)
 
 -- ---- what is kept beside them
-update_told : {A : Type 0} (of : HostOf → A) → ((update : FactsUpdate) (row : HostOf) → of (applies update row) ≡ of row) → (all : List HostUpdate) (told : List A) (rows new : List HostOf) → told ≡ map of rows → new ≡ with_update all rows → told ≡ map of new
-update_told of same all told rows new e n = e ∙ sym (update_map of same all rows) ∙ ap (map of) (sym n)
+update_column : {A : Type 0} (of : HostOf → A) → ((update : FactsUpdate) (row : HostOf) → of (applies update row) ≡ of row) → (all : List HostUpdate) (column : List A) (rows new : List HostOf) → column ≡ map of rows → new ≡ with_update all rows → column ≡ map of new
+update_column of same all column rows new e n = e ∙ sym (update_map of same all rows) ∙ ap (map of) (sym n)
 
-turning_told : {A : Type 0} (of : HostOf → A) → ((kind : Kind) (caught : Bool) (row : HostOf) → of (answer_copied kind caught row) ≡ of row) → ((answer : AnswerOf) (row : HostOf) → of (answered answer row) ≡ of row)
-    → (t : Turning) (told : List A) (rows new : List HostOf) → told ≡ map of rows → new ≡ map (turning_row t) rows → told ≡ map of new
-turning_told of copies answers t told rows new e n = e ∙ sym (map_kept of (turning_row t) (turning_same of copies answers t) rows) ∙ ap (map of) (sym n)
+turning_column : {A : Type 0} (of : HostOf → A) → ((kind : Kind) (caught : Bool) (row : HostOf) → of (answer_copied kind caught row) ≡ of row) → ((answer : AnswerOf) (row : HostOf) → of (answered answer row) ≡ of row)
+    → (t : Turning) (column : List A) (rows new : List HostOf) → column ≡ map of rows → new ≡ map (turning_row t) rows → column ≡ map of new
+turning_column of copies answers t column rows new e n = e ∙ sym (map_kept of (turning_row t) (turning_same of copies answers t) rows) ∙ ap (map of) (sym n)
 
 pub inside_applied : (all : List HostUpdate) (batch : List Bool) (rows new : List HostOf) → batch ≡ map is_inside rows → new ≡ with_update all rows → batch ≡ map is_inside new
-inside_applied all batch rows new e n = update_told is_inside (λ update row. refl) all batch rows new e n
+inside_applied all batch rows new e n = update_column is_inside (λ update row. refl) all batch rows new e n
 
 pub stand_applied : (all : List HostUpdate) (standings : List Standing) (rows new : List HostOf) → standings ≡ map standing rows → new ≡ with_update all rows → standings ≡ map standing new
-stand_applied all standings rows new e n = update_told standing (λ update row. refl) all standings rows new e n
+stand_applied all standings rows new e n = update_column standing (λ update row. refl) all standings rows new e n
 
 pub inside_turned : (t : Turning) (batch : List Bool) (rows new : List HostOf) → batch ≡ map is_inside rows → new ≡ map (turning_row t) rows → batch ≡ map is_inside new
-inside_turned t batch rows new e n = turning_told is_inside (λ kind caught row. refl) (λ answer row. refl) t batch rows new e n
+inside_turned t batch rows new e n = turning_column is_inside (λ kind caught row. refl) (λ answer row. refl) t batch rows new e n
 
 applies_out : (update : FactsUpdate) (row : HostOf) → IsOutside row → IsOutside (applies update row)
 applies_out update row out e = ap (knows (applied update row.facts)) (out e)
@@ -162,25 +162,25 @@ pub nowhere_turned : (t : Turning) (standings : List Standing) (rows new : List 
 nowhere_turned t standings rows new e n = e ∙ left_nowhere rows ∙ ap (λ (k : ℕ). replicate k nowhere) (sym (length-map rows (turning_row t)) ∙ ap length (sym n))
 
 -- who runs, and under which tickets, stays as it is
-all_told : {A : Type 0} (of : HostOf → A) → ((update : FactsUpdate) (row : HostOf) → of (applies update row) ≡ of row) → ((kind : Kind) (caught : Bool) (row : HostOf) → of (answer_copied kind caught row) ≡ of row)
-    → ((answer : AnswerOf) (row : HostOf) → of (answered answer row) ≡ of row) → (all : List HostUpdate) (t : Turning) (told : List A) (rows new : List HostOf) → told ≡ map of rows → new ≡ map (turning_row t) (with_update all rows) → told ≡ map of new
-all_told of apply copies answers all t told rows new e n = turning_told of copies answers t told (with_update all rows) new (update_told of apply all told rows (with_update all rows) e refl) n
+all_columns : {A : Type 0} (of : HostOf → A) → ((update : FactsUpdate) (row : HostOf) → of (applies update row) ≡ of row) → ((kind : Kind) (caught : Bool) (row : HostOf) → of (answer_copied kind caught row) ≡ of row)
+    → ((answer : AnswerOf) (row : HostOf) → of (answered answer row) ≡ of row) → (all : List HostUpdate) (t : Turning) (column : List A) (rows new : List HostOf) → column ≡ map of rows → new ≡ map (turning_row t) (with_update all rows) → column ≡ map of new
+all_columns of apply copies answers all t column rows new e n = turning_column of copies answers t column (with_update all rows) new (update_column of apply all column rows (with_update all rows) e refl) n
 
-pub turned_due : (all : List HostUpdate) (t : Turning) (sends batch awaits_batch : List Bool) (standings told : List Standing) (jobs : List (HostNo × Ticket)) (rows new : List HostOf) → IsDue sends standings batch awaits_batch jobs rows → new ≡ map (turning_row t) (with_update all rows)
-    → told ≡ map standing new → IsDue sends told batch awaits_batch jobs new
-turned_due all t sends batch awaits_batch standings told jobs rows new due n stand =
+pub turned_due : (all : List HostUpdate) (t : Turning) (sends batch awaits_batch : List Bool) (standings column : List Standing) (jobs : List (HostNo × Ticket)) (rows new : List HostOf) → IsDue sends standings batch awaits_batch jobs rows → new ≡ map (turning_row t) (with_update all rows)
+    → column ≡ map standing new → IsDue sends column batch awaits_batch jobs new
+turned_due all t sends batch awaits_batch standings column jobs rows new due n stand =
     record {
-      sending = all_told has_send (λ update row. refl) (λ kind caught row. refl) (λ answer row. refl) all t sends rows new due.sending n;
+      sending = all_columns has_send (λ update row. refl) (λ kind caught row. refl) (λ answer row. refl) all t sends rows new due.sending n;
       stands = stand;
-      insiders = all_told is_inside (λ update row. refl) (λ kind caught row. refl) (λ answer row. refl) all t batch rows new due.insiders n;
-      waiting = all_told is_waiting (λ update row. refl) (λ kind caught row. refl) (λ answer row. refl) all t awaits_batch rows new due.waiting n;
+      insiders = all_columns is_inside (λ update row. refl) (λ kind caught row. refl) (λ answer row. refl) all t batch rows new due.insiders n;
+      waiting = all_columns is_waiting (λ update row. refl) (λ kind caught row. refl) (λ answer row. refl) all t awaits_batch rows new due.waiting n;
       outsiders = out_turning t (with_update all rows) new (update_out all rows due.outsiders) n;
-      in_order = due.in_order ∙ ap (out_from 0) (all_told ticket_of (λ update row. refl) (λ kind caught row. refl) (λ answer row. refl) all t (map ticket_of rows) rows new refl n);
+      in_order = due.in_order ∙ ap (out_from 0) (all_columns ticket_of (λ update row. refl) (λ kind caught row. refl) (λ answer row. refl) all t (map ticket_of rows) rows new refl n);
     }
 
-pub same_due : (sends batch awaits_batch : List Bool) (standings told : List Standing) (jobs : List (HostNo × Ticket)) (rows new : List HostOf) → IsDue sends standings batch awaits_batch jobs rows → new ≡ rows → told ≡ standings → IsDue sends told batch awaits_batch jobs new
-same_due sends batch awaits_batch standings told jobs rows new due n s =
-    subst (λ (all : List HostOf). IsDue sends told batch awaits_batch jobs all) (sym n) (subst (λ (stand : List Standing). IsDue sends stand batch awaits_batch jobs rows) (sym s) due)
+pub same_due : (sends batch awaits_batch : List Bool) (standings column : List Standing) (jobs : List (HostNo × Ticket)) (rows new : List HostOf) → IsDue sends standings batch awaits_batch jobs rows → new ≡ rows → column ≡ standings → IsDue sends column batch awaits_batch jobs new
+same_due sends batch awaits_batch standings column jobs rows new due n s =
+    subst (λ (all : List HostOf). IsDue sends column batch awaits_batch jobs all) (sym n) (subst (λ (stand : List Standing). IsDue sends stand batch awaits_batch jobs rows) (sym s) due)
 
 -- ---- who did the task for all, and whether one ended it fatally: a host outside of the batch finished nothing
 last_none : (row : HostOf) → IsOutside row → row.in_batch ≡ false → row.last ≡ None

@@ -12,7 +12,7 @@ use Rattle.pb_host.specs.Standing.{standing}
 
 -- what a list says of each host's row, once one host's row is asked anew
 abbrev pub asked_at : {A : Type 0} → (HostOf → A) → List HostOf → ℕ → List A → List A
-asked_at of rows h told = option_map_or (λ (row : HostOf). slice_set told h (of row)) (slice_get rows h) told
+asked_at of rows h column = option_map_or (λ (row : HostOf). slice_set column h (of row)) (slice_get rows h) column
 
 -- whether a host is in the batch
 abbrev pub is_inside : HostOf → Bool

@@ -18,7 +18,7 @@ pub record BatchOf : Type 0 where
   pub sizes_left : List ℕ
 
 -- ---- what one host did for all
--- a task that runs once is settled as a host has finished it so
+-- a task that runs once is done as a host has finished it so
 abbrev pub ends_run_once_at : ℕ → LastTask → Bool
 ends_run_once_at p finish = (finish.place == p) && ends_run_once finish.kind
 

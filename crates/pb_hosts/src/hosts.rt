@@ -8,7 +8,7 @@ ghost use Rattle.pb_hosts.specs.Batches.{joined_first};
 ghost use Rattle.pb_hosts.specs.Joining.{joined_by};
 ghost use Rattle.pb_host.specs.Ends.{IsAtMost};
 ghost use Rattle.pb_host.specs.Runs.{is_in, is_running, has_send, is_out, has_ticket};
-ghost use Rattle.pb_host.specs.Decides.{done_if, report_result};
+ghost use Rattle.pb_host.specs.StepResults.{done_if, report_result};
 ghost use Rattle.pb_hosts.specs.Hosts.{at_row, change, least_place, pending_in};
 ghost use Rattle.pb_hosts.specs.Giving.{with_delegated, gifts_at, report_gives};
 ghost use Rattle.pb_host.specs.Standing.{standing};
@@ -28,7 +28,7 @@ use crate::inside::{
 use crate::jobs_out::{drop_job, first_job, put_job, some_under};
 use crate::list::play_hosts::{begin_all, play_hosts_set};
 use crate::list::{
-    self, decide_row, first_rows, item_in, join_waiting, know_all, row_at, take_back, undo,
+    self, advance_row, first_rows, item_in, join_waiting, know_all, row_at, take_back, undo,
     walks_for,
 };
 use crate::turned::{TurnMade, is_run_once_done_at, turn_of};
@@ -307,7 +307,7 @@ pub fn report_row(
 ) -> Result<(Option<StepResult>, Vec<DelegatedFacts>), AllocError>
     requires { IfSome (slice_get rows.old host.0) (λ row. IsAtMost row.counts (2 ^ 64 - 2)) }
     ensures rows { OnOk result (rows.new ≡ with_delegated (report_gives plan.now play.now outcome.now host.0 rows.old) (change rows.old host.0 (reported plan.now play.now outcome.now))) }
-    ensures decides { IfOk result (λ reported. reported.0 ≡ option_map_or (report_result plan.now play.now outcome.now) (slice_get rows.old host.0) None) }
+    ensures comes_to { IfOk result (λ reported. reported.0 ≡ option_map_or (report_result plan.now play.now outcome.now) (slice_get rows.old host.0) None) }
     ensures gifts { IfOk result (λ reported. reported.1.items ≡ report_gives plan.now play.now outcome.now host.0 rows.old) }
     ensures err { OnErr result (rows.new ≡ rows.old) }
 {
@@ -315,7 +315,7 @@ pub fn report_row(
     let came = take_back(alloc, &mut rows.rows, host, plan, play, outcome)?;
     let (before, retried) = came.parts();
     let inventory = plan.inventory();
-    match decide_row(&mut rows.rows, host, inventory, play, number, retried) {
+    match advance_row(&mut rows.rows, host, inventory, play, number, retried) {
         Ok((step_result, gifts)) => {
             drop(before);
             drop_job(&mut rows.out, host);

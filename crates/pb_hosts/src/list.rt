@@ -72,9 +72,9 @@ pub(crate) fn know_all(rows: &mut Vec<Host>, all: Vec<NewFacts>)
     }
 }
 
-/// What is decided of the task that a host runs, of which the item with this number came back, or this attempt at it; where the task ends, what it gives to
+/// What a step comes to for the task that a host runs, of which the item with this number came back, or this attempt at it; where the task ends, what it gives to
 /// other hosts is theirs, and is handed out. An `Err` changes nothing.
-pub(crate) fn decide_row(
+pub(crate) fn advance_row(
     rows: &mut Vec<Host>,
     host: HostNo,
     inventory: &Inventory,
@@ -84,8 +84,8 @@ pub(crate) fn decide_row(
 ) -> Result<(Option<StepResult>, Vec<DelegatedFacts>), AllocError>
     requires { IfSome (slice_get rows.old.items host.0) (λ row. IsAtMost row.counts (2 ^ 64 - 2)) }
     ensures rows { OnOk result (rows.new.items ≡ with_delegated (gives_now inventory.now play.now host.0 rows.old.items) (change rows.old.items host.0 (went_on inventory.now play.now))) }
-    ensures decides { IfOk result (λ decided. decided.0 ≡ option_map_or (step_result_now play.now number retried) (slice_get rows.old.items host.0) None) }
-    ensures gifts { IfOk result (λ decided. decided.1.items ≡ gives_now inventory.now play.now host.0 rows.old.items) }
+    ensures comes_to { IfOk result (λ both. both.0 ≡ option_map_or (step_result_now play.now number retried) (slice_get rows.old.items host.0) None) }
+    ensures gifts { IfOk result (λ both. both.1.items ≡ gives_now inventory.now play.now host.0 rows.old.items) }
     ensures err { OnErr result (rows.new.items ≡ rows.old.items) }
 {
     let alloc = *rows.allocator();
@@ -93,7 +93,7 @@ pub(crate) fn decide_row(
     let known = with_gifts(alloc, rows.as_slice(), gifts.as_slice())?;
     match rows.get_mut(host.0 as usize) {
         Some(row) => {
-            let step_result = row.decide(alloc, inventory, play, number, retried)?;
+            let step_result = row.advance(alloc, inventory, play, number, retried)?;
             know_all(rows, known);
             Ok((step_result, gifts))
         }

@@ -150,13 +150,13 @@ unread word plan play place h facts magic none =
     let task = or_false (module_names word place.task.«module» || loop_names word place.task.looped || result_names word place.task) (map_names word place.task.vars) two.0 in
     let own = or_false (module_names word place.task.«module» || loop_names word place.task.looped) (result_names word place.task) task.0 in
     let done = or_false (module_names word place.task.«module») (loop_names word place.task.looped) own.0 in
-    let told = none_of (conditions_name word place.task.changed_when) (conditions_name word place.task.failed_when) (conditions_name word (until_of place.task.retrying)) own.1 in
+    let nowhere = none_of (conditions_name word place.task.changed_when) (conditions_name word place.task.failed_when) (conditions_name word (until_of place.task.retrying)) own.1 in
     record {
       called = done.0;
       looped = done.1;
-      changed = told.0;
-      failed = told.1;
-      until = told.2;
+      changed = nowhere.0;
+      failed = nowhere.1;
+      until = nowhere.2;
       conditions = two.1;
       delegate = three.1;
       layers = layers_not word plan play place h facts none;

@@ -65,7 +65,7 @@ with_priority priority = record {
 pub later_name : vars_from_groups (with_priority (pos 1)) 0 ≡ (codes "x", int (pos 2)) ∷ []
 later_name = refl
 
--- the priority decides before the name
+-- the priority orders before the name
 pub higher_priority : vars_from_groups (with_priority (pos 10)) 0 ≡ (codes "x", int (pos 9)) ∷ []
 higher_priority = refl
 

@@ -67,15 +67,15 @@ done_alike program scope other (DebugVar name expr) plain = absurd (true≢false
 done_alike program scope other (Shell cmd) plain = absurd (true≢false (sym plain))
 
 -- ---- a task without conditions and delegate, which says nothing of a result
-untold : (ending : Ending) (sight : Sees) (register : Option (List ℕ)) (result : ItemResult) → with_conditions_by ending sight register None None result ≡ result
-untold (Ran changed failed) sight register result = refl
-untold Skipped sight register result = refl
-untold Faulty sight register result = refl
-untold Unreachable sight register result = refl
-untold NotStarted sight register result = refl
+without_conditions : (ending : Ending) (sight : Sees) (register : Option (List ℕ)) (result : ItemResult) → with_conditions_by ending sight register None None result ≡ result
+without_conditions (Ran changed failed) sight register result = refl
+without_conditions Skipped sight register result = refl
+without_conditions Faulty sight register result = refl
+without_conditions Unreachable sight register result = refl
+without_conditions NotStarted sight register result = refl
 
 stays : (start : StartOf) (variable : Map) (step : Planned) → start.task.changed_when ≡ None → start.task.failed_when ≡ None → with_conditions_step start variable step ≡ step
-stays start variable (Decided item) c f = rw (c, f) (ap Decided (untold item.ending (sees start.layers start.magic variable) start.task.register item))
+stays start variable (Decided item) c f = rw (c, f) (ap Decided (without_conditions item.ending (sees start.layers start.magic variable) start.task.register item))
 stays start variable (Sends call) c f = refl
 
 -- a step with its delegate, and what an item does, by what its module does
@@ -92,7 +92,7 @@ undelegated : (start : StartOf) (variable : Map) (done : Result Planned ItemFaul
     delegated start variable done ≡ alone done
 undelegated start variable (Err fault) c f d = refl
 undelegated start variable (Ok step) c f d =
-    ap (λ to. sent_to (with_conditions_step start variable step) (delegate_in (seen_by start variable) to)) d ∙ ap (λ told. sent_to told (Ok None)) (stays start variable step c f)
+    ap (λ to. sent_to (with_conditions_step start variable step) (delegate_in (seen_by start variable) to)) d ∙ ap (λ new_step. sent_to new_step (Ok None)) (stays start variable step c f)
 
 -- what its module does is all of it
 step_alone : (start : StartOf) (variable : Map) → start.conditions ≡ [] → start.task.changed_when ≡ None → start.task.failed_when ≡ None → start.delegate_to ≡ None →

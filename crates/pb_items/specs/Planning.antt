@@ -32,7 +32,7 @@ abbrev pub or_not_defined : Value → Value
 or_not_defined (Err (Undefined name)) = Ok (text (codes "VARIABLE IS NOT DEFINED!"))
 or_not_defined value = value
 
--- the conditions come first, then both messages, whichever is told
+-- the conditions come first, then both messages, whichever is the result's
 abbrev pub asserted : List Map → List Tree → Datum → Datum → Result ItemResult ItemFault
 asserted scope that fail_msg success_msg =
     and_then (evaluated (holds scope that))

@@ -99,7 +99,7 @@ assert_fails : planned_by (x_is (int (pos 0))) (Assert (tree.Name (codes "x") �
 unfolding on_items
 assert_fails = refl
 
--- both messages are read, whichever is told
+-- both messages are read, whichever is the result's
 assert_reads_both : planned_by (x_is (int (pos 0))) (Assert (tree.Name (codes "x") ∷ []) (text (codes "no")) (text (codes "{{ y }}"))) ≡ Decided (faulty_result (codes "'y' is undefined"))
 unfolding on_items
 assert_reads_both = refl

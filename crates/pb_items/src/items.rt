@@ -53,7 +53,7 @@ fn with_conditions_of(
     variable: &Dict,
     item: ItemResult,
 ) -> Result<ItemResult, AllocError>
-    ensures { IfOk result (λ told. told ≡ with_conditions_of start.now variable.now item) }
+    ensures { IfOk result (λ new_item. new_item ≡ with_conditions_of start.now variable.now item) }
 {
     let task = start.task;
     let sight = Sight {

@@ -49,7 +49,7 @@ fn or_not_defined(alloc: Global, outcome: Result<Val, EvalFault>) -> Result<Val,
     }
 }
 
-/// An item of `assert`: its conditions, and both of its messages, whichever is told.
+/// An item of `assert`: its conditions, and both of its messages, whichever is the result's.
 fn asserted(
     alloc: Global,
     names: &ResultNames,

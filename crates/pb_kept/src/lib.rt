@@ -1,6 +1,6 @@
 //! Plays of the program into memory, for tests.
 //!
-//! For the layers above: `Kept` is a writer that keeps what it takes, and can be told to take little at a time or to fail;
+//! For the layers above: `Kept` is a writer that keeps what it takes, and can be made to take little at a time or to fail;
 //! `play_words` and `play_texts` play the program's words and give what they showed.
 #![tactic(auto)]
 

@@ -35,17 +35,17 @@ pub more : (bytes : List ℕ) (byte : ℕ) (old new : List Bool) (index word : �
     → ((j : ℕ) → j < 64 → is_in new (64 * index + j) ≡ (bit_at word j == 1))
     → ((i : ℕ) → i / 64 ≢ index → is_in new i ≡ is_in old i)
     → IsSelectedTo bytes byte new (64 * (index + 1))
-more bytes byte old new index word before told inside others i lt =
+more bytes byte old new index word before from_word inside others i lt =
     elim (cases_lt i (64 * index)) [
       | inl below ↦ others i (λ e. omega (arith, e, below)) ∙ before i below
       | inr from ↦
           let j = i % 64 in
           let e : 64 * index + j ≡ i = omega arith in
-          subst (λ k. is_in new k ≡ is_byte byte (slice_index bytes k)) e (inside j (omega arith) ∙ told j (omega arith))
+          subst (λ k. is_in new k ≡ is_byte byte (slice_index bytes k)) e (inside j (omega arith) ∙ from_word j (omega arith))
     ]
 
-pub all_told : (bytes : List ℕ) (byte : ℕ) (set : List Bool) → length set ≡ length bytes → IsSelectedTo bytes byte set (length bytes) → set ≡ map (is_byte byte) bytes
-all_told bytes byte set long each =
+pub all_selected : (bytes : List ℕ) (byte : ℕ) (set : List Bool) → length set ≡ length bytes → IsSelectedTo bytes byte set (length bytes) → set ≡ map (is_byte byte) bytes
+all_selected bytes byte set long each =
     let wide = length-map bytes (is_byte byte) in
     ext_get_or false set (map (is_byte byte) bytes) (omega (arith, wide, long))
     (λ i lt. each i (omega (arith, long, lt)) ∙ sym (get_or-map (is_byte byte) bytes i 0 false (omega (arith, long, lt))))

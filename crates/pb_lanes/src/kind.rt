@@ -16,6 +16,6 @@ pub enum CountKind {
     Skipped,
     /// It failed, and a rescue caught that.
     Rescued,
-    /// It failed, and was told to ignore that.
+    /// It failed, and that was ignored.
     Ignored,
 }

@@ -158,14 +158,14 @@ acts_moves plan s h acts =
     ]
 
 pub moves_or_quiet : (plan : PlanOf) (s : State) → IsGoing s → Moves plan s ⊎ IsQuiet plan s
-moves_or_quiet plan s going = decide (has_some (ready plan s)) (possible plan s Turn) (possible plan s Close) (may_open plan s) refl refl refl refl
+moves_or_quiet plan s going = by_tests (has_some (ready plan s)) (possible plan s Turn) (possible plan s Close) (may_open plan s) refl refl refl refl
   where
-    decide : (r t c o : Bool) → has_some (ready plan s) ≡ r → possible plan s Turn ≡ t → possible plan s Close ≡ c → may_open plan s ≡ o → Moves plan s ⊎ IsQuiet plan s
-    decide true t c o is turn close opens = let there = some_there (ready plan s) is in inl (acts_moves plan s (record { 0 = there.0 }) (ready_acts plan s (record { 0 = there.0 }) going there.1))
-    decide false true c o is turn close opens = inl (Turn, refl, turn)
-    decide false false true o is turn close opens = inl (Close, refl, close)
-    decide false false false true is turn close opens = inl (Open, refl, opens)
-    decide false false false false is turn close opens = inr (quiet plan s is turn close opens)
+    by_tests : (r t c o : Bool) → has_some (ready plan s) ≡ r → possible plan s Turn ≡ t → possible plan s Close ≡ c → may_open plan s ≡ o → Moves plan s ⊎ IsQuiet plan s
+    by_tests true t c o is turn close opens = let there = some_there (ready plan s) is in inl (acts_moves plan s (record { 0 = there.0 }) (ready_acts plan s (record { 0 = there.0 }) going there.1))
+    by_tests false true c o is turn close opens = inl (Turn, refl, turn)
+    by_tests false false true o is turn close opens = inl (Close, refl, close)
+    by_tests false false false true is turn close opens = inl (Open, refl, opens)
+    by_tests false false false false is turn close opens = inr (quiet plan s is turn close opens)
 
 -- ---- no run is stuck
 none_ready : (plan : PlanOf) (s : State) (r : Bool) → has_some (ready plan s) ≡ r → IsGoing s → IsFinished plan s → r ≡ false

@@ -19,7 +19,7 @@ use Rattle.pb_state.specs.declared.event.Event.{Event}
 use Rattle.pb_state.specs.declared.event.Event.TheVariants.{Open, Start, Send, Report as Reported, Turn, Close, Stop, Forks}
 use Rattle.pb_host.specs.declared.host.Counts.{Counts}
 use Rattle.pb_host.specs.declared.host.Running.{Running}
-use Rattle.pb_host.specs.Decides.{report_result, step_result_by, done_at, done_if}
+use Rattle.pb_host.specs.StepResults.{report_result, step_result_by, done_at, done_if}
 use Rattle.pb_host.specs.Runs.{awaits}
 use Rattle.pb_hosts.specs.Hosts.{one_if}
 use Rattle.pb_state.specs.Machine.{possible, after, first_state, open_play, next_at, start_at, started_in, facts_at, plan_seen, reported_in, pending_at, may_start_in, may_report_in}
@@ -85,7 +85,7 @@ five_task h k is_caught ignore items meta =
     (one_gathered is_caught ignore items)
 
 -- ---- one event
--- what is told of a task that came to some items
+-- what is counted of a task that came to some items
 ends_count : (k : ℕ) (past : List Happening) (found : Option PlayOf) (task : HostTask) (play : PlayOf) (p : ℕ) (marks : List Bool) (items : List Item)
     → tasks_ended k (so_far past (ends_if found (option_map (λ (d : TaskDone). d.task) (done_if play p marks items)) task))
     ≡ tasks_ended k past + five (λ (kind : CountKind). counted k kind (option_map (by_host task.host) (done_if play p marks items)))
@@ -118,7 +118,7 @@ reports_count : (plan : PlanOf) (s : State) (r : Report) (k : ℕ) (past : List 
     ≡ tasks_ended k past + five (λ (kind : CountKind). counted k kind (option_map_or (ended_by r.host.0) (reported_in plan s r play).step_result None))
 reports_count plan s r k past play row q there runs =
     subst (λ (place : Option ℕ). Adds place (option_map_or (report_result (plan_seen plan s) play r.outcome) (slice_get s.rows r.host.0) None)) (sym (place_there s r.host row q there runs))
-    (subst (λ (step_result : Option StepResult). Adds (Some q.place) step_result) (sym decides)
+    (subst (λ (step_result : Option StepResult). Adds (Some q.place) step_result) (sym result_is)
     (ends_count k (Reports r.host.0 r.item r.ticket.0 ∷ past) (open_play plan s) (record { play = s.play; host = r.host.0; place = q.place }) play q.place (pending row) (items_after (plan_seen plan s) play row.host row.facts r.outcome q)))
   where
     Adds : Option ℕ → Option StepResult → Type 0
@@ -126,8 +126,8 @@ reports_count plan s r k past play row q there runs =
         tasks_ended k (so_far (Reports r.host.0 r.item r.ticket.0 ∷ past) (at_place s.play r.host.0 place (λ task. ends_if (open_play plan s) (ended_in step_result) task)))
         ≡ tasks_ended k past + five (λ (kind : CountKind). counted k kind (option_map_or (ended_by r.host.0) step_result None))
 
-    decides : option_map_or (report_result (plan_seen plan s) play r.outcome) (slice_get s.rows r.host.0) None ≡ Some (step_result_by (plan_seen plan s) play r.outcome row q)
-    decides =
+    result_is : option_map_or (report_result (plan_seen plan s) play r.outcome) (slice_get s.rows r.host.0) None ≡ Some (step_result_by (plan_seen plan s) play r.outcome row q)
+    result_is =
         ap (λ (found : Option HostOf). option_map_or (report_result (plan_seen plan s) play r.outcome) found None) there
         ∙ ap (option_map (step_result_by (plan_seen plan s) play r.outcome row)) runs
 

@@ -139,7 +139,7 @@ drop_all : (xs ys : List AnswerOf) → drop (length xs) (xs ++ ys) ≡ ys
 drop_all [] ys = refl
 drop_all (x ∷ xs) ys = drop_all xs ys
 
--- so what is told of it leads the hosts
+-- so what happens in it leads the hosts
 row_led : (plan : PlanOf) (play h : ℕ) (inside : Bool) (tree : TreeOf) (xs : List AnswerOf) (kinds : List Kind) (walked : List (List AnswerOf)) (happens : List Happening) (new : List (List AnswerOf))
     → AllAt inside tree xs kinds → (inside ≡ true → tree ≡ tree_at plan play) → AreLed plan play (h + 1) walked happens new
     → AreLed plan play h (xs ∷ walked) (given_beyond play h tree xs (plain kinds) ++ happens) ((xs ++ plain kinds) ∷ new)
@@ -148,7 +148,7 @@ row_led plan play h inside tree xs [] walked happens new all same led =
     subst (λ (ys : List AnswerOf). AreLed plan play h (xs ∷ walked) happens (ys ∷ new)) (sym (append-nil xs)) (rest_led h xs led)
 row_led plan play h inside tree xs (kind ∷ kinds) walked happens new all same led =
     subst (λ (ys : List AnswerOf). AreLed plan play h (xs ∷ walked) (given_beyond play h tree xs (plain_answer kind ∷ plain kinds) ++ happens) (ys ∷ new)) (append_assoc xs (plain_answer kind ∷ []) (plain kinds))
-    (subst (λ (more : List Happening). AreLed plan play h (xs ∷ walked) more (((xs ++ plain_answer kind ∷ []) ++ plain kinds) ∷ new)) (sym (first_told (place_of (reach tree xs)) (in_place inside (place_of (reach tree xs)) all.0.0 all.0.1)))
+    (subst (λ (more : List Happening). AreLed plan play h (xs ∷ walked) more (((xs ++ plain_answer kind ∷ []) ++ plain kinds) ∷ new)) (sym (first_given (place_of (reach tree xs)) (in_place inside (place_of (reach tree xs)) all.0.0 all.0.1)))
     (one_led h all.0.0 xs kind (ap (λ (t : TreeOf). place_of (reach t xs)) (sym (same (inside_is inside (place_of (reach tree xs)) all.0.0 all.0.1))) ∙ in_place inside (place_of (reach tree xs)) all.0.0 all.0.1)
     (row_led plan play h inside tree (xs ++ plain_answer kind ∷ []) kinds walked happens new all.1 same led)))
   where
@@ -156,11 +156,11 @@ row_led plan play h inside tree xs (kind ∷ kinds) walked happens new all same 
     in_place true next p e = e
     in_place false next p e = cc
 
-    first_told : (next : Option ℕ) → next ≡ Some all.0.0
+    first_given : (next : Option ℕ) → next ≡ Some all.0.0
         → (at_place play h next (λ task. Given task kind ∷ []) ++ given_beyond play h tree (xs ++ plain_answer kind ∷ []) (plain kinds)) ++ happens
         ≡ Given (record { play = play; host = h; place = all.0.0 }) kind ∷ (given_beyond play h tree (xs ++ plain_answer kind ∷ []) (plain kinds) ++ happens)
-    first_told None e = cc
-    first_told (Some p) e =
+    first_given None e = cc
+    first_given (Some p) e =
         ap (λ (k : ℕ). Given (record { play = play; host = h; place = k }) kind ∷ (given_beyond play h tree (xs ++ plain_answer kind ∷ []) (plain kinds) ++ happens)) (let same_place : p ≡ all.0.0 = cc in same_place)
 
 rows_led : (plan : PlanOf) (play h : ℕ) (tree : TreeOf) (olds news : List HostOf) → tree ≡ tree_at plan play → AllIn tree olds → AllGrow olds news → AreLed plan play h (walked_of olds) (given_in play h olds news) (walked_of news)

@@ -297,26 +297,26 @@ pub record InRun (plan : PlanOf) (pool : ℕ) (s : State) : Type 0 where
   pub room : s.forks ≤ pool
   pub most : runs (tasks_of s.rows) ≤ pool
 
-forks_told : (plan : PlanOf) (s : State) (pool : ℕ) (e : Event) → possible plan s e ≡ true → s.pool ≡ pool → s.forks ≤ pool → forks_in s.forks (happenings plan s e (after plan s e)) ≤ pool
-forks_told plan s pool Open may same f = f
-forks_told plan s pool (Start h) may same f =
+forks_within : (plan : PlanOf) (s : State) (pool : ℕ) (e : Event) → possible plan s e ≡ true → s.pool ≡ pool → s.forks ≤ pool → forks_in s.forks (happenings plan s e (after plan s e)) ≤ pool
+forks_within plan s pool Open may same f = f
+forks_within plan s pool (Start h) may same f =
     let new = (after plan s (Start h)).step_result in
     omega (arith, f, start_forks s.forks s.play h.0 (next_at s h.0) (open_play plan s) (ended_in new))
-forks_told plan s pool (Send h item attempt ticket) may same f =
+forks_within plan s pool (Send h item attempt ticket) may same f =
     let at = sending plan s h item attempt ticket (open_play plan s) refl may in
     subst (λ (place : Option ℕ). forks_in s.forks (at_place s.play h.0 place (λ task. Sends task item attempt ticket.0 ∷ [])) ≤ pool) (sym at.3) f
-forks_told plan s pool (Reported r) may same f = by_end (place_run_by s r.host) (ended_in (after plan s (Reported r)).step_result)
+forks_within plan s pool (Reported r) may same f = by_end (place_run_by s r.host) (ended_in (after plan s (Reported r)).step_result)
   where
     by_end : (place : Option ℕ) (end : Option TaskEnd) → forks_in s.forks (Reports r.host.0 r.item r.ticket.0 ∷ at_place s.play r.host.0 place (λ task. ends_if (open_play plan s) end task)) ≤ pool
     by_end None end = f
     by_end (Some p) None = f
     by_end (Some p) (Some end) = f
-forks_told plan s pool Turn may same f =
+forks_within plan s pool Turn may same f =
     let new = (after plan s Turn).rows in
     omega (arith, f, given_forks (given_in s.play 0 s.rows new) (rows_given s.play 0 s.rows new) s.forks)
-forks_told plan s pool Close may same f = f
-forks_told plan s pool Stop may same f = f
-forks_told plan s pool (Forks n) may same f = omega (arith, same, leb-true n s.pool (and_right (nat_le 1 n) _ may))
+forks_within plan s pool Close may same f = f
+forks_within plan s pool Stop may same f = f
+forks_within plan s pool (Forks n) may same f = omega (arith, same, leb-true n s.pool (and_right (nat_le 1 n) _ may))
 
 pub step_tells : (plan : PlanOf) (pool : ℕ) (s : State) (e : Event) → possible plan s e ≡ true → InRun plan pool s → Tells plan (seen s) (happenings plan s e (after plan s e)) (seen (after plan s e))
 step_tells plan pool s e may run = tells plan s e may run.numbered run.trees run.sound
@@ -330,7 +330,7 @@ in_next plan pool s e may numbered run =
       sound = sound_kept s (after plan s e) (moves plan s e may) run.sound;
       idle = idle_next plan (seen s) (seen (after plan s e)) (happenings plan s e (after plan s e)) step run.idle;
       sized = pool_stays plan s e ∙ run.sized;
-      room = subst (λ (n : ℕ). n ≤ pool) (sym (forks_next plan (seen s) (seen (after plan s e)) (happenings plan s e (after plan s e)) step)) (forks_told plan s pool e may run.sized run.room);
+      room = subst (λ (n : ℕ). n ≤ pool) (sym (forks_next plan (seen s) (seen (after plan s e)) (happenings plan s e (after plan s e)) step)) (forks_within plan s pool e may run.sized run.room);
       most = runs_next plan (seen s) (seen (after plan s e)) (happenings plan s e (after plan s e)) pool step run.room run.most;
     }
 

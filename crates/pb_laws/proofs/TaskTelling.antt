@@ -28,7 +28,7 @@ use Rattle.pb_host.specs.Attempts.{attempt_next}
 use Rattle.pb_host.specs.Ends.{answer_of}
 use Rattle.pb_host.specs.Handlers.{notified_by}
 use Rattle.pb_host.specs.Runs.{is_running, is_item, may_send_item, sends_running, awaits, awaits_running, is_ticket}
-use Rattle.pb_host.specs.Decides.{report_result, step_result_by, done_at, done_if}
+use Rattle.pb_host.specs.StepResults.{report_result, step_result_by, done_at, done_if}
 use Rattle.pb_hosts.specs.Giving.{gifts_at, report_gives}
 use Rattle.pb_hosts.specs.Hosts.{at_row}
 use Rattle.pb_state.specs.Machine.{open_play, next_at, facts_at, plan_seen, start_at, started_in, sent_in, reported_in, pending_at, may_start_in, may_send_in, may_report_in}
@@ -311,9 +311,9 @@ reported_tells plan s r play row q items are o may there runs out next of sound 
         ap (λ (tree : TreeOf). place_of (reach tree row.answers)) (tree_there plan s.play play (play_there plan s play o) ∙ sym (in_tree play.tree s.rows r.host.0 row (of play o) there runs_at.1))
         ∙ ap place_of runs_at.0
 
-    decides : ended_in (reported_in plan s r play).step_result
+    result_is : ended_in (reported_in plan s r play).step_result
         ≡ option_map (λ (d : TaskDone). d.task) (done_if play q.place (pending row) (items_after (plan_seen plan s) play row.host row.facts r.outcome q))
-    decides =
+    result_is =
         ap (λ (found : Option HostOf). ended_in (option_map_or (report_result (plan_seen plan s) play r.outcome) found None)) there
         ∙ ap (λ (running : Option Running). ended_in (option_map (step_result_by (plan_seen plan s) play r.outcome row) running)) runs
 
@@ -324,7 +324,7 @@ reported_tells plan s r play row q items are o may there runs out next of sound 
         rw e
         (ap (λ (rest : List Happening). Reports r.host.0 r.item r.ticket.0 ∷ rest)
         (ap (λ (place : Option ℕ). at_place s.play r.host.0 place (λ task. ends_if (open_play plan s) (ended_in (reported_in plan s r play).step_result) task)) (place_there s r.host row q there runs)
-        ∙ ap (λ (end : Option TaskEnd). ends_if (open_play plan s) end (task_on (seen s) r.host.0 q.place)) decides
+        ∙ ap (λ (end : Option TaskEnd). ends_if (open_play plan s) end (task_on (seen s) r.host.0 q.place)) result_is
         ∙ ends_so (open_play plan s) play (pending row) (items_after (plan_seen plan s) play row.host row.facts r.outcome q) (task_on (seen s) r.host.0 q.place) o))
 
     running_after : (reported (plan_seen plan s) play r.outcome row).running

@@ -33,7 +33,7 @@ pub data Happening : Type 0 where
   Starts : HostTask → Happening
   -- the job of this item of a host's task goes out, as this attempt at it, under this ticket
   Sends : HostTask → ℕ → ℕ → ℕ → Happening
-  -- what came of a job is told: of this host, for this item, under this ticket
+  -- what came of a job is reported: of this host, for this item, under this ticket
   Reports : ℕ → ℕ → ℕ → Happening
   -- a host's task ends so, and notifies these handlers
   Ends : HostTask → TaskEnd → List ℕ → Happening
@@ -41,7 +41,7 @@ pub data Happening : Type 0 where
   Given : HostTask → Kind → Happening
   -- the batch of this play closes
   Closes : ℕ → Happening
-  -- the run is told to stop
+  -- the run is commanded to stop
   Stops : Happening
 
 -- ---- how it is read

@@ -39,7 +39,7 @@ pub record KeepsLaws (plan : PlanOf) (pool : ℕ) (trail : List Event) : Type 0 
   -- the counts of the recap come to the tasks that ended, and the exit status tells whether one of them failed or a host was out of reach
   pub counts : add_up 0 (recap plan pool trail) (so_far [] (history plan plan.forks pool trail)) ≡ true
   pub status : status_tells (recap plan pool trail) ≡ true
-  -- where what comes of each job is fixed, the facts and the recap at its end are told by plan and outcomes alone
+  -- where what comes of each job is fixed, the facts and the recap at its end are known by plan and outcomes alone
   pub fixed : EndsAsFixed plan pool trail (state_after plan pool trail)
   -- wherever it has come to, the hosts that are seen as ready are those that may act, statuses follow answers, and there is a way to the end
   pub goes_on : GoesOn plan (state_after plan pool trail)

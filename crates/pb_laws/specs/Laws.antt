@@ -279,7 +279,7 @@ abbrev pub all_answered : PlanOf → List Happening → Bool
 all_answered plan past = answered_below (jobs_sent past) past
 
 -- ---- attempts: those at an item are numbered from 1, and there are no more of them than its task allows; each goes out only once what came of the one before is
--- told, and then none at an item before it follows; and a task ends only once what came of its last one is told
+-- reported, and then none at an item before it follows; and a task ends only once what came of its last one is reported
 -- one, and as many more as a task that may be tried again says
 abbrev pub most_attempts : PlayTask → ℕ
 most_attempts task = option_map_or (λ (r : Retrying). r.retries + 1) task.retrying 1
@@ -302,7 +302,7 @@ abbrev pub follows_in_item : ℕ → ℕ → Option (ℕ × ℕ) → Bool
 follows_in_item item attempt None = attempt == 1
 follows_in_item item attempt (Some last) = ((item == last.0) && (attempt == last.1 + 1)) || (nat_lt last.0 item && (attempt == 1))
 
--- whether what came of a job of a host is still to be told
+-- whether what came of a job of a host is still to be reported
 abbrev pub is_awaited : ℕ → List Happening → Bool
 is_awaited host [] = false
 is_awaited host (Sends task item attempt ticket ∷ past) = (task.host == host) || is_awaited host past

@@ -52,7 +52,7 @@ pub fn jobs_are_answered_once()
 {}
 
 /// The attempts at an item are numbered from 1, and there are no more of them than its task allows: one, and as many more as it may be tried again. Each goes out only once
-/// what came of the one before is told; once an item behind it has one, an item has no more; and a task ends only once what came of its last attempt is told.
+/// what came of the one before is reported; once an item behind it has one, an item has no more; and a task ends only once what came of its last attempt is reported.
 pub fn attempts_follow_reports()
     ensures { Always attempts_in_order }
 {}

@@ -1,5 +1,5 @@
 -- Whether a word stands in a text, whatever it means there. A template that names a variable has its name among its bytes, so that a text without
--- these bytes is told at once, and needn't be read as a template.
+-- these bytes is known at once, and needn't be read as a template.
 use Rattle.std.specs.Prelude.{ℕ, Bool, true, false, ◌==◌, ◌&&◌, ◌||◌, List, [], ◌∷◌}
 use Rattle.pb_value.specs.Datum.{Datum, null, boolean, int, text, list, dict, Items, no_items, item, Members, no_members, member}
 

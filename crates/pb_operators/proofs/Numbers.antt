@@ -42,11 +42,11 @@ Reads (Ok x) z = x ≡ z
 Reads (Err e) z = pos 0 ≡ z
 
 -- where the number is within 64 bits, it is what is read, else 0 is
-settled : {E : Type 0} (r : Result ℤ E) (z : ℤ) (Q : Type 0) (c : Bool) → (c ≡ true → Q) → (Q → c ≡ true) → OkIff r Q z → Reads r (if c then z else pos 0)
-settled (Ok x) z Q true to from h = h.1
-settled (Err e) z Q true to from h = absurd (h (to refl))
-settled (Ok x) z Q false to from h = let t : false ≡ true = from h.0 in cc
-settled (Err e) z Q false to from h = refl
+read_if_within : {E : Type 0} (r : Result ℤ E) (z : ℤ) (Q : Type 0) (c : Bool) → (c ≡ true → Q) → (Q → c ≡ true) → OkIff r Q z → Reads r (if c then z else pos 0)
+read_if_within (Ok x) z Q true to from h = h.1
+read_if_within (Err e) z Q true to from h = absurd (h (to refl))
+read_if_within (Ok x) z Q false to from h = let t : false ≡ true = from h.0 in cc
+read_if_within (Err e) z Q false to from h = refl
 
 -- where what is asked can't be, 0 is read
 refused : {E : Type 0} (r : Result ℤ E) (z : ℤ) (Q : Type 0) → (Q → ⊥) → OkIff r Q z → Reads r (pos 0)
@@ -61,7 +61,7 @@ digits_plain r [] h = refused r (pos 0) (IsWritten [] (0 < 2 ^ 63)) (λ q. let l
 digits_plain r (d ∷ ds) h = by_digits (all_ascii_digits (d ∷ ds)) refl
   where
     by_digits : (b : Bool) → all_ascii_digits (d ∷ ds) ≡ b → Reads r (or_zero (option_map (λ n. pos n) (if b then Some (number_after 0 (d ∷ ds)) else None)))
-    by_digits true e = settled r (pos (number_after 0 (d ∷ ds))) (IsWritten (d ∷ ds) (number_after 0 (d ∷ ds) < 2 ^ 63)) (nat_lt (number_after 0 (d ∷ ds)) (2 ^ 63))
+    by_digits true e = read_if_within r (pos (number_after 0 (d ∷ ds))) (IsWritten (d ∷ ds) (number_after 0 (d ∷ ds) < 2 ^ 63)) (nat_lt (number_after 0 (d ∷ ds)) (2 ^ 63))
         (λ t. (e, omega arith, below (number_after 0 (d ∷ ds)) (2 ^ 63) t)) (λ q. above (number_after 0 (d ∷ ds)) (2 ^ 63) q.2) h
     by_digits false e = refused r (pos (number_after 0 (d ∷ ds))) (IsWritten (d ∷ ds) (number_after 0 (d ∷ ds) < 2 ^ 63)) (λ q. let t : false ≡ true = sym e ∙ q.0 in cc) h
 
@@ -70,7 +70,7 @@ digits_minus r [] h = refused r (pos 0) (IsWritten [] (0 ≤ 2 ^ 63)) (λ q. let
 digits_minus r (d ∷ ds) h = by_digits (all_ascii_digits (d ∷ ds)) refl
   where
     by_digits : (b : Bool) → all_ascii_digits (d ∷ ds) ≡ b → Reads r (or_zero (option_map (λ n. neg_ℤ (pos n)) (if b then Some (number_after 0 (d ∷ ds)) else None)))
-    by_digits true e = settled r (neg_ℤ (pos (number_after 0 (d ∷ ds)))) (IsWritten (d ∷ ds) (number_after 0 (d ∷ ds) ≤ 2 ^ 63)) (fits (neg_ℤ (pos (number_after 0 (d ∷ ds)))))
+    by_digits true e = read_if_within r (neg_ℤ (pos (number_after 0 (d ∷ ds)))) (IsWritten (d ∷ ds) (number_after 0 (d ∷ ds) ≤ 2 ^ 63)) (fits (neg_ℤ (pos (number_after 0 (d ∷ ds)))))
         (λ t. (e, omega arith, fits_below (number_after 0 (d ∷ ds)) t)) (λ q. fits_above (number_after 0 (d ∷ ds)) q.2) h
     by_digits false e = refused r (neg_ℤ (pos (number_after 0 (d ∷ ds)))) (IsWritten (d ∷ ds) (number_after 0 (d ∷ ds) ≤ 2 ^ 63)) (λ q. let t : false ≡ true = sym e ∙ q.0 in cc) h
 

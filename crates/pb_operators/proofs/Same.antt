@@ -67,5 +67,5 @@ mutual
   same_members_self no_members = refl
   same_members_self (member k d ms) = both (bytes_eq k k) (same d d && same_members ms ms) ((bytes_eq-Decides k k).1 refl) (both (same d d) (same_members ms ms) (same_self d) (same_members_self ms))
 
-pub same_decides : (r : Bool) (a b : Datum) → (IsTrue r ↔ (a ≡ b)) → r ≡ same a b
-same_decides r a b h = one_answer r (same a b) h (same_is a b, λ e. subst (λ x. same a x ≡ true) e (same_self a))
+pub same_answers : (r : Bool) (a b : Datum) → (IsTrue r ↔ (a ≡ b)) → r ≡ same a b
+same_answers r a b h = one_answer r (same a b) h (same_is a b, λ e. subst (λ x. same a x ≡ true) e (same_self a))

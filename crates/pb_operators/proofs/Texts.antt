@@ -44,5 +44,5 @@ occurs_is s (x ∷ t) h = by_front (begins_with s (x ∷ t)) refl (occurs_is s t
     by_front true e later k = let b = begins_is s (x ∷ t) e in ([], b.0, b.1)
     by_front false e later k = let b = later k in (x ∷ b.0, b.1, ap (λ u. x ∷ u) b.2)
 
-pub occurs_decides : (r : Bool) (s t : List ℕ) → MatchBool r (HasMatch (FindsText s) t) (FindsText s t None) → r ≡ occurs s t
-occurs_decides r s t h = one_answer r (occurs s t) (contains_text r s t h) (occurs_is s t, λ (k : HasSubslice t s). subst (λ u. occurs s u ≡ true) (sym k.2) (occurs_has s k.0 k.1))
+pub occurs_answers : (r : Bool) (s t : List ℕ) → MatchBool r (HasMatch (FindsText s) t) (FindsText s t None) → r ≡ occurs s t
+occurs_answers r s t h = one_answer r (occurs s t) (contains_text r s t h) (occurs_is s t, λ (k : HasSubslice t s). subst (λ u. occurs s u ≡ true) (sym k.2) (occurs_has s k.0 k.1))

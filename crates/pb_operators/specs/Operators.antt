@@ -65,7 +65,7 @@ contains (text s) (text t) = Ok (occurs s t)
 contains (text s) (dict ms) = Ok (is_there (value_at s (entries_of ms)))
 contains _ _ = Err WrongKind
 
--- an operator between two values; of `and` and `or` the first operand where it decides, else the second
+-- an operator between two values; of `and` and `or` the first operand where that is the result, else the second
 abbrev pub binary : Op → Datum → Datum → Value
 binary op.Or a b = Ok (if truthy a then a else b)
 binary op.And a b = Ok (if truthy a then b else a)

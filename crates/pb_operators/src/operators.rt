@@ -147,7 +147,7 @@ fn truth_of(test: Option<bool>) -> Result<Val, EvalFault>
     }
 }
 
-/// What an operator gives for two values. Of `and` and `or` it is the first where that decides by its
+/// What an operator gives for two values. Of `and` and `or` it is the first where that is enough by its
 /// truth, else the second.
 pub fn binary(alloc: Global, op: Op, x: &Val, y: &Val) -> Result<Val, EvalFault>
     ensures value { IfOk result (λ v. binary_of op x.now y.now ≡ Ok v) }

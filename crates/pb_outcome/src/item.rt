@@ -22,7 +22,7 @@ pub struct Item {
     pub value: Option<Val>,
     /// The host that the item is delegated to, if it is.
     pub delegate: Option<Text>,
-    /// How many of its attempts came back without settling it.
+    /// How many of its attempts came back without ending it.
     pub tried: u8,
     /// Its result, or what is sent for it.
     pub step: Planned,

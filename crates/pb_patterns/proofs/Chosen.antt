@@ -95,23 +95,23 @@ one_part text mark s = record { text = text; mark = mark; set = s }
 
 pub chosen_more : (n : ℕ) (ps : List Part) (text : List ℕ) (mark : Mark) (s : List Bool) (old new : Choice) → length s ≡ n → IsAdded mark s old new → IsChosen n ps old
     → IsChosen n (ps ++ record { text = text; mark = mark; set = s } ∷ []) new
-chosen_more n ps text Unmarked s old new size is told = (
-  some_grown is_unmarked n ps (one_part text Unmarked s) old.joined new.joined refl size told.0 (ap (λ c. c.joined) is),
-  each_same n ps (one_part text Unmarked s) new.met refl (ap (λ c. c.met) is ∙ told.1),
-  some_same is_excluded n ps (one_part text Unmarked s) new.excluded refl (ap (λ c. c.excluded) is ∙ told.2),
+chosen_more n ps text Unmarked s old new size is so_far = (
+  some_grown is_unmarked n ps (one_part text Unmarked s) old.joined new.joined refl size so_far.0 (ap (λ c. c.joined) is),
+  each_same n ps (one_part text Unmarked s) new.met refl (ap (λ c. c.met) is ∙ so_far.1),
+  some_same is_excluded n ps (one_part text Unmarked s) new.excluded refl (ap (λ c. c.excluded) is ∙ so_far.2),
   ap (λ c. c.has_unmarked) is ∙ or-true (has_unmarked ps) ∙ sym (marked_more ps (one_part text Unmarked s)),
 )
-chosen_more n ps text Met s old new size is told = (
-  some_same is_unmarked n ps (one_part text Met s) new.joined refl (ap (λ c. c.joined) is ∙ told.0),
-  each_grown n ps (one_part text Met s) old.met new.met refl size told.1 (ap (λ c. c.met) is),
-  some_same is_excluded n ps (one_part text Met s) new.excluded refl (ap (λ c. c.excluded) is ∙ told.2),
-  ap (λ c. c.has_unmarked) is ∙ told.3 ∙ sym (marked_more ps (one_part text Met s) ∙ or-false (has_unmarked ps)),
+chosen_more n ps text Met s old new size is so_far = (
+  some_same is_unmarked n ps (one_part text Met s) new.joined refl (ap (λ c. c.joined) is ∙ so_far.0),
+  each_grown n ps (one_part text Met s) old.met new.met refl size so_far.1 (ap (λ c. c.met) is),
+  some_same is_excluded n ps (one_part text Met s) new.excluded refl (ap (λ c. c.excluded) is ∙ so_far.2),
+  ap (λ c. c.has_unmarked) is ∙ so_far.3 ∙ sym (marked_more ps (one_part text Met s) ∙ or-false (has_unmarked ps)),
 )
-chosen_more n ps text Excluded s old new size is told = (
-  some_same is_unmarked n ps (one_part text Excluded s) new.joined refl (ap (λ c. c.joined) is ∙ told.0),
-  each_same n ps (one_part text Excluded s) new.met refl (ap (λ c. c.met) is ∙ told.1),
-  some_grown is_excluded n ps (one_part text Excluded s) old.excluded new.excluded refl size told.2 (ap (λ c. c.excluded) is),
-  ap (λ c. c.has_unmarked) is ∙ told.3 ∙ sym (marked_more ps (one_part text Excluded s) ∙ or-false (has_unmarked ps)),
+chosen_more n ps text Excluded s old new size is so_far = (
+  some_same is_unmarked n ps (one_part text Excluded s) new.joined refl (ap (λ c. c.joined) is ∙ so_far.0),
+  each_same n ps (one_part text Excluded s) new.met refl (ap (λ c. c.met) is ∙ so_far.1),
+  some_grown is_excluded n ps (one_part text Excluded s) old.excluded new.excluded refl size so_far.2 (ap (λ c. c.excluded) is),
+  ap (λ c. c.has_unmarked) is ∙ so_far.3 ∙ sym (marked_more ps (one_part text Excluded s) ∙ or-false (has_unmarked ps)),
 )
 
 -- the whole
@@ -121,12 +121,12 @@ first_is n ps true e = each_host-same n _ _ (λ h. sym (ap (λ b. in_some is_unm
 first_is n ps false e = replicate_is n true ∙ each_host-same n _ _ (λ h. or-true (in_some is_unmarked ps h) ∙ ap (λ b. in_some is_unmarked ps h || not b) (sym e))
 
 pub chosen_whole : (n : ℕ) (ps : List Part) (choice : Choice) → IsChosen n ps choice → chosen_by n choice ≡ each_host n (is_chosen ps)
-chosen_whole n ps choice told =
-    ap (λ e. zip2 (λ a b. a && not b) (zip2 (λ a b. a && b) (if choice.has_unmarked then choice.joined else replicate n true) choice.met) e) told.2
-    ∙ ap (λ m. zip2 (λ a b. a && not b) (zip2 (λ a b. a && b) (if choice.has_unmarked then choice.joined else replicate n true) m) (each_host n (in_some is_excluded ps))) told.1
-    ∙ ap (λ j. zip2 (λ a b. a && not b) (zip2 (λ a b. a && b) (if choice.has_unmarked then j else replicate n true) (each_host n (in_each_met ps))) (each_host n (in_some is_excluded ps))) told.0
+chosen_whole n ps choice so_far =
+    ap (λ e. zip2 (λ a b. a && not b) (zip2 (λ a b. a && b) (if choice.has_unmarked then choice.joined else replicate n true) choice.met) e) so_far.2
+    ∙ ap (λ m. zip2 (λ a b. a && not b) (zip2 (λ a b. a && b) (if choice.has_unmarked then choice.joined else replicate n true) m) (each_host n (in_some is_excluded ps))) so_far.1
+    ∙ ap (λ j. zip2 (λ a b. a && not b) (zip2 (λ a b. a && b) (if choice.has_unmarked then j else replicate n true) (each_host n (in_each_met ps))) (each_host n (in_some is_excluded ps))) so_far.0
     ∙ ap (λ f. zip2 (λ a b. a && not b) (zip2 (λ a b. a && b) f (each_host n (in_each_met ps))) (each_host n (in_some is_excluded ps)))
-    (ap (λ b. if b then each_host n (in_some is_unmarked ps) else replicate n true) told.3 ∙ first_is n ps (has_unmarked ps) refl)
+    (ap (λ b. if b then each_host n (in_some is_unmarked ps) else replicate n true) so_far.3 ∙ first_is n ps (has_unmarked ps) refl)
     ∙ ap (λ f. zip2 (λ a b. a && not b) f (each_host n (in_some is_excluded ps))) (met_is n (λ h. in_some is_unmarked ps h || not (has_unmarked ps)) (each_host n (in_each_met ps)) (length-each_host n (in_each_met ps)))
     ∙ less_is n _ (each_host n (in_some is_excluded ps)) (length-each_host n (in_some is_excluded ps))
     ∙ set_is n (is_chosen ps) _ (length-each_host n _)
@@ -157,22 +157,22 @@ selecting_begun inventory n choice unmatched size begun none = (subst (λ n. IsC
 pub selecting_more : (inventory : InventoryOf) (elements : List Element) (i m : ℕ) (element : Element) (s : List Bool) (old new : Choice) (unmatched more : List (List ℕ)) → m ≡ i + 1 → i < length elements
     → element ≡ get_or elements i element → length s ≡ length inventory.hosts → s ≡ element_set inventory element.what → IsAdded element.mark s old new
     → more ≡ (if has_some s then unmatched else unmatched ++ element.text ∷ []) → Selecting inventory (take i elements) old unmatched → Selecting inventory (take m elements) new more
-selecting_more inventory elements i m element s old new unmatched more next w read size is added pushed told =
+selecting_more inventory elements i m element s old new unmatched more next w read size is added pushed so_far =
     let p = one_part element.text element.mark s in
     let same : p ≡ part_of inventory element = ap (one_part element.text element.mark) is in
     let cut : take m elements ≡ take i elements ++ element ∷ [] = ap (λ k. take k elements) next ∙ take_more elements i element w ∙ ap (λ e. take i elements ++ e ∷ []) (sym read) in
     let parts : map (part_of inventory) (take m elements) ≡ map (part_of inventory) (take i elements) ++ p ∷ [] =
     ap (map (part_of inventory)) cut ∙ map-append (part_of inventory) (take i elements) (element ∷ []) ∙ ap (λ (q : Part). map (part_of inventory) (take i elements) ++ q ∷ []) (sym same) in (
       subst (λ (ps : List Part). IsChosen (length inventory.hosts) ps new) (sym parts)
-          (chosen_more (length inventory.hosts) (map (part_of inventory) (take i elements)) element.text element.mark s old new size added told.0),
-      unmatched_more (map (part_of inventory) (take i elements)) p unmatched more told.1 pushed ∙ ap unmatched_of (sym parts),
+          (chosen_more (length inventory.hosts) (map (part_of inventory) (take i elements)) element.text element.mark s old new size added so_far.0),
+      unmatched_more (map (part_of inventory) (take i elements)) p unmatched more so_far.1 pushed ∙ ap unmatched_of (sym parts),
     )
 
 pub selecting_whole : (inventory : InventoryOf) (elements : List Element) (i n : ℕ) (choice : Choice) (hosts : List Bool) (unmatched : List (List ℕ)) → length elements ≤ i → n ≡ length inventory.hosts
     → hosts ≡ chosen_by n choice → Selecting inventory (take i elements) choice unmatched → record { hosts = hosts; unmatched = unmatched } ≡ selected_by inventory elements
-selecting_whole inventory elements i n choice hosts unmatched all size is told =
+selecting_whole inventory elements i n choice hosts unmatched all size is so_far =
     let ps = map (part_of inventory) (take i elements) in
     let are : hosts ≡ each_host (length inventory.hosts) (is_chosen ps) =
-    is ∙ ap (λ n. chosen_by n choice) size ∙ chosen_whole (length inventory.hosts) ps choice told.0 in
-    ap (λ (h : List Bool). selected_with h unmatched) are ∙ ap (λ (u : List (List ℕ)). selected_with (each_host (length inventory.hosts) (is_chosen ps)) u) told.1
+    is ∙ ap (λ n. chosen_by n choice) size ∙ chosen_whole (length inventory.hosts) ps choice so_far.0 in
+    ap (λ (h : List Bool). selected_with h unmatched) are ∙ ap (λ (u : List (List ℕ)). selected_with (each_host (length inventory.hosts) (is_chosen ps)) u) so_far.1
     ∙ ap (λ (es : List Element). selected_by inventory es) (take_all i elements all)

@@ -71,23 +71,23 @@ pub own_more : (own : List OwnHost) (i m g host : ℕ) (order new : List ℕ) (o
     → new ≡ (if is_in seen host then order else order ++ host ∷ []) → after ≡ set seen host true
     → (order ≡ once (own_hosts (take i own) g)) × (length seen ≡ length old) × ((h : ℕ) → is_in seen h ≡ contains (own_hosts (take i own) g) h)
     → (new ≡ once (own_hosts (take m own) g)) × (length after ≡ length old) × ((h : ℕ) → is_in after h ≡ contains (own_hosts (take m own) g) h)
-own_more own i m g host order new old seen after next w group is below pushed put told =
+own_more own i m g host order new old seen after next w group is below pushed put so_far =
     let L = own_hosts (take i own) g in
     let grown : own_hosts (take m own) g ≡ L ++ host ∷ [] =
     own_hosts-more own i m g next w ∙ ap (λ t. L ++ t) (own_one (get_or own i (own_of 0 0)) g group ∙ ap (λ h. h ∷ []) (sym is)) in (
-      pushed ∙ ap (λ b. if b then order else order ++ host ∷ []) (told.2 host) ∙ ap (λ o. if contains L host then o else o ++ host ∷ []) told.0 ∙ sym (once-push L host) ∙ ap once (sym grown),
-      ap length put ∙ length-set seen host true ∙ told.1,
-      (λ h. ap (λ s. is_in s h) put ∙ put_at seen host h below ∙ ap (λ b. b || (host == h)) (told.2 h) ∙ sym (contains-push L host h) ∙ ap (λ t. contains t h) (sym grown)),
+      pushed ∙ ap (λ b. if b then order else order ++ host ∷ []) (so_far.2 host) ∙ ap (λ o. if contains L host then o else o ++ host ∷ []) so_far.0 ∙ sym (once-push L host) ∙ ap once (sym grown),
+      ap length put ∙ length-set seen host true ∙ so_far.1,
+      (λ h. ap (λ s. is_in s h) put ∙ put_at seen host h below ∙ ap (λ b. b || (host == h)) (so_far.2 h) ∙ sym (contains-push L host h) ∙ ap (λ t. contains t h) (sym grown)),
     )
 
 pub own_passes : (own : List OwnHost) (i m g : ℕ) (order new : List ℕ) (old seen after : List Bool) → m ≡ i + 1 → i < length own → group_at own i ≢ g → new ≡ order → after ≡ seen
     → (order ≡ once (own_hosts (take i own) g)) × (length seen ≡ length old) × ((h : ℕ) → is_in seen h ≡ contains (own_hosts (take i own) g) h)
     → (new ≡ once (own_hosts (take m own) g)) × (length after ≡ length old) × ((h : ℕ) → is_in after h ≡ contains (own_hosts (take m own) g) h)
-own_passes own i m g order new old seen after next w other same put told =
+own_passes own i m g order new old seen after next w other same put so_far =
     let L = own_hosts (take i own) g in
     let kept : own_hosts (take m own) g ≡ L =
     own_hosts-more own i m g next w ∙ ap (λ t. L ++ t) (own_none (get_or own i (own_of 0 0)) g other) ∙ append-nil L in
-    (same ∙ told.0 ∙ ap once (sym kept), ap length put ∙ told.1, (λ h. ap (λ s. is_in s h) put ∙ told.2 h ∙ ap (λ t. contains t h) (sym kept)))
+    (same ∙ so_far.0 ∙ ap once (sym kept), ap length put ∙ so_far.1, (λ h. ap (λ s. is_in s h) put ∙ so_far.2 h ∙ ap (λ t. contains t h) (sym kept)))
 
 -- a group's own hosts are hosts
 below_by : (members : List Bool) (h : ℕ) → is_in members h ≡ true → h < length members
@@ -98,13 +98,13 @@ below_by members h i = elim (cases_lt h (length members)) [
 
 pub own_below : (links : List ChildLink) (own : List OwnHost) (g : ℕ) (members : List Bool) (n : ℕ) → length members ≡ n → ((host : ℕ) → (is_in members host ≡ true) ↔ IsMember links own g host)
     → (k : ℕ) → k < length own → group_at own k ≡ g → host_at own k < n
-own_below links own g members n size told k w group =
-    omega (arith, size, below_by members (host_at own k) ((told (host_at own k)).1 (zero, g, refl, (k, w, group, refl))))
+own_below links own g members n size so_far k w group =
+    omega (arith, size, below_by members (host_at own k) ((so_far (host_at own k)).1 (zero, g, refl, (k, w, group, refl))))
 
 pub rest_is : (first : List ℕ) (hosts seen : List Bool) (order : List ℕ) → ((h : ℕ) → is_in seen h ≡ contains first h) → order ≡ once first ++ filter (λ h. is_in hosts h && not (is_in seen h)) (range_with_len 0 (length hosts))
     → order ≡ in_order first hosts
-rest_is first hosts seen order told is =
-    is ∙ ap (λ t. once first ++ t) (filter_agree (λ h. is_in hosts h && not (is_in seen h)) (λ h. is_in hosts h && not (contains first h)) (λ h. ap (λ b. is_in hosts h && not b) (told h)) (range_with_len 0 (length hosts)))
+rest_is first hosts seen order so_far is =
+    is ∙ ap (λ t. once first ++ t) (filter_agree (λ h. is_in hosts h && not (is_in seen h)) (λ h. is_in hosts h && not (contains first h)) (λ h. ap (λ b. is_in hosts h && not b) (so_far h)) (range_with_len 0 (length hosts)))
 
 pub subscripted_is : (inventory : InventoryOf) (term : List ℕ) (s : Subscript) (n : ℕ) (hosts new : List Bool) (l : Option ℕ) (order slice part : List ℕ) → n ≡ length inventory.hosts → hosts ≡ term_set inventory term
     → l ≡ listing inventory term → order ≡ in_order (listed inventory l) hosts → slice ≡ order → part ≡ picked s slice → new ≡ each_host n (contains part)

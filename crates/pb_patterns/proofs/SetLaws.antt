@@ -24,8 +24,8 @@ pub each_host-at : (n : ℕ) (f : ℕ → Bool) (h : ℕ) → h < n → is_in (e
 each_host-at n f h w = get_or-map f (range_with_len 0 n) h 0 false (omega (arith, w, length-range_with_len 0 n)) ∙ ap f (get_or-range_with_len 0 n h 0 w ∙ omega arith)
 
 pub set_is : (n : ℕ) (f : ℕ → Bool) (hosts : List Bool) → length hosts ≡ n → ((h : ℕ) → h < n → is_in hosts h ≡ f h) → hosts ≡ each_host n f
-set_is n f hosts size told =
-    ext_get_or false _ _ (size ∙ sym (length-each_host n f)) (λ h w. let v : h < n = omega (arith, w, size) in told h v ∙ sym (each_host-at n f h v))
+set_is n f hosts size so_far =
+    ext_get_or false _ _ (size ∙ sym (length-each_host n f)) (λ h w. let v : h < n = omega (arith, w, size) in so_far h v ∙ sym (each_host-at n f h v))
 
 pub each_host-same : (n : ℕ) (f g : ℕ → Bool) → ((h : ℕ) → f h ≡ g h) → each_host n f ≡ each_host n g
 each_host-same n f g same = set_is n g (each_host n f) (length-each_host n f) (λ h w. each_host-at n f h w ∙ same h)
@@ -68,9 +68,9 @@ pub add_hit : (groups : List Bool) (members : ℕ → List Bool) (old hosts with
     → new ≡ zip2 (λ x y. x || y) hosts with'
     → ((h : ℕ) → is_in hosts h ≡ (is_in old h || list_any (λ k. get_or groups k false && is_in (members k) h) (range_with_len 0 g)))
     → (length new ≡ length old) × ((h : ℕ) → is_in new h ≡ (is_in old h || list_any (λ k. get_or groups k false && is_in (members k) h) (range_with_len 0 m)))
-add_hit groups members old hosts with' new g m next size width group hit is told = (
+add_hit groups members old hosts with' new g m next size width group hit is so_far = (
   ap length is ∙ length-zip2 (λ x y. x || y) hosts with' (sym width) ∙ size,
-  (λ h. ap (λ s. is_in s h) is ∙ or_at hosts with' h (sym width) ∙ ap (λ b. b || is_in with' h) (told h)
+  (λ h. ap (λ s. is_in s h) is ∙ or_at hosts with' h (sym width) ∙ ap (λ b. b || is_in with' h) (so_far h)
       ∙ or-assoc (is_in old h) (list_any (λ k. get_or groups k false && is_in (members k) h) (range_with_len 0 g)) (is_in with' h)
       ∙ ap (λ b. is_in old h || (list_any (λ k. get_or groups k false && is_in (members k) h) (range_with_len 0 g) || b)) (ap (λ s. is_in s h) group ∙ ap (λ b. b && is_in (members g) h) (sym hit))
       ∙ ap (λ b. is_in old h || b) (sym (any_next (λ k. get_or groups k false && is_in (members k) h) g m next))),
@@ -79,9 +79,9 @@ add_hit groups members old hosts with' new g m next size width group hit is told
 pub add_missed : (groups : List Bool) (members : ℕ → List Bool) (old hosts new : List Bool) (g m : ℕ) → m ≡ g + 1 → length hosts ≡ length old → get_or groups g false ≡ false → new ≡ hosts
     → ((h : ℕ) → is_in hosts h ≡ (is_in old h || list_any (λ k. get_or groups k false && is_in (members k) h) (range_with_len 0 g)))
     → (length new ≡ length old) × ((h : ℕ) → is_in new h ≡ (is_in old h || list_any (λ k. get_or groups k false && is_in (members k) h) (range_with_len 0 m)))
-add_missed groups members old hosts new g m next size missed is told = (
+add_missed groups members old hosts new g m next size missed is so_far = (
   ap length is ∙ size,
-  (λ h. ap (λ s. is_in s h) is ∙ told h
+  (λ h. ap (λ s. is_in s h) is ∙ so_far h
       ∙ ap (λ b. is_in old h || b) (sym (any_next (λ k. get_or groups k false && is_in (members k) h) g m next
       ∙ ap (λ b. list_any (λ k. get_or groups k false && is_in (members k) h) (range_with_len 0 g) || (b && is_in (members g) h)) missed
       ∙ or-false _))),
@@ -93,9 +93,9 @@ hit_at test names hits k is w = ap (λ b. get_or b k false) is ∙ get_or-map te
 pub meant_is : (inventory : InventoryOf) (test : List ℕ → Bool) (groups hosts begun new : List Bool) → groups ≡ map test inventory.groups → hosts ≡ map test inventory.hosts → begun ≡ hosts → length new ≡ length begun
     → ((h : ℕ) → is_in new h ≡ (is_in begun h || list_any (λ g. get_or groups g false && is_in (members_in inventory g) h) (range_with_len 0 (length inventory.groups))))
     → new ≡ meant inventory test
-meant_is inventory test groups hosts begun new g h is size told =
+meant_is inventory test groups hosts begun new g h is size so_far =
     set_is (length inventory.hosts) (is_meant inventory test) new (size ∙ ap length is ∙ ap length h ∙ length-map inventory.hosts test)
-    (λ k w. told k
+    (λ k w. so_far k
     ∙ ap (λ b. b || list_any (λ g. get_or groups g false && is_in (members_in inventory g) k) (range_with_len 0 (length inventory.groups))) (ap (λ s. is_in s k) is ∙ hit_at test inventory.hosts hosts k h w)
     ∙ ap (λ b. test (get_or inventory.hosts k []) || b)
     (any_same _ _ 0 (length inventory.groups) (λ i low high. ap (λ b. b && is_in (members_in inventory i) k) (hit_at test inventory.groups groups i g (omega (arith, high))))))
@@ -133,7 +133,7 @@ pub place_below : (p : List ℕ → Bool) (names : List (List ℕ)) (k : ℕ) �
 place_below p names k found = (position-Some p names k [] (sym found)).0
 
 pub hosts_are : (n i : ℕ) (hosts : List ℕ) (s : List Bool) → length hosts ≤ i → length s ≡ n → ((h : ℕ) → h < n → is_in s h ≡ contains (take i hosts) h) → s ≡ each_host n (contains hosts)
-hosts_are n i hosts s all size told = set_is n (contains hosts) s size (λ h w. told h w ∙ ap (λ hs. contains hs h) (take_all i hosts all))
+hosts_are n i hosts s all size so_far = set_is n (contains hosts) s size (λ h w. so_far h w ∙ ap (λ hs. contains hs h) (take_all i hosts all))
 
 -- ---- one host of a list more was looked at
 or-true : (b : Bool) → (b || true) ≡ true
@@ -146,20 +146,20 @@ one_more hosts i m x h r w is next e =
 
 pub host_put : (n i m x : ℕ) (hosts : List ℕ) (old new : List Bool) → i < length hosts → x ≡ get_or hosts i 0 → m ≡ i + 1 → x < n → length old ≡ n → ((h : ℕ) → h < n → is_in old h ≡ contains (take i hosts) h) → new ≡ set old x true
     → (length new ≡ n) × ((h : ℕ) → h < n → is_in new h ≡ contains (take m hosts) h)
-host_put n i m x hosts old new w is next below size told put = (
+host_put n i m x hosts old new w is next below size so_far put = (
   ap length put ∙ length-set _ _ _ ∙ size,
   (λ h v. ap (λ s. is_in s h) put ∙ elim (cases_eq h x) [
     | inl same ↦ ap (λ k. get_or (set old x true) k false) same ∙ get_or-set_same old x true false (omega (arith, below, size))
         ∙ sym (one_more hosts i m x h true w is next (same_number x h (sym same)) ∙ or-true (contains (take i hosts) h))
-    | inr other ↦ get_or-set_other old x h true false other ∙ told h v
+    | inr other ↦ get_or-set_other old x h true false other ∙ so_far h v
         ∙ sym (one_more hosts i m x h false w is next (other_number x h (λ e. other (sym e))) ∙ or-false (contains (take i hosts) h))
   ]),
 )
 
 pub host_passed : (n i m x : ℕ) (hosts : List ℕ) (old new : List Bool) → i < length hosts → x ≡ get_or hosts i 0 → m ≡ i + 1 → n ≤ x → length old ≡ n → ((h : ℕ) → h < n → is_in old h ≡ contains (take i hosts) h) → new ≡ old
     → (length new ≡ n) × ((h : ℕ) → h < n → is_in new h ≡ contains (take m hosts) h)
-host_passed n i m x hosts old new w is next above size told same = (
+host_passed n i m x hosts old new w is next above size so_far same = (
   ap length same ∙ size,
-  (λ h v. ap (λ s. is_in s h) same ∙ told h v
+  (λ h v. ap (λ s. is_in s h) same ∙ so_far h v
       ∙ sym (one_more hosts i m x h false w is next (other_number x h (λ e. omega (arith, e, v, above))) ∙ or-false (contains (take i hosts) h))),
 )

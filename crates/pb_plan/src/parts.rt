@@ -34,7 +34,7 @@ pub struct PlayHead {
     pub magic: Dict,
 }
 
-/// What stands at each place of a play's tree, in the order of places, and what is settled of it once for all hosts.
+/// What stands at each place of a play's tree, in the order of places, and what is known of it once for all hosts.
 pub struct AtPlaces {
     /// What stands there.
     pub places: Items<Place>,
@@ -72,7 +72,7 @@ pub fn run_once_of(alloc: Global, places: &[Place]) -> Result<Vec<bool>, AllocEr
     Ok(all)
 }
 
-/// The hosts of a plan, with the variables that don't depend on the play, and what is settled of them once for all plays.
+/// The hosts of a plan, with the variables that don't depend on the play, and what is known of them once for all plays.
 pub struct PlanHosts {
     /// The hosts, their groups, and the variables of both.
     pub inventory: Inventory,

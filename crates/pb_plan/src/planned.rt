@@ -19,7 +19,7 @@ pub trait Planned {
     /// Whether this is the plan of it.
     ghost is_plan: { Self → PlanOf → Type 0 };
 
-    /// Whether this fault is told of it.
+    /// Whether this is its fault.
     ghost is_fault: { Self → Self.Fault → Type 0 };
 
     /// Its plan, or why it has none.

@@ -16,14 +16,14 @@ abbrev pub passing : (ℕ → Bool) → ℕ → ℕ → ℕ
 passing f a n = count_by (λ b. b) (map f (range_with_len a n))
 
 -- a yes counts for one
-abbrev pub told : Bool → ℕ
-told b = cond b 1 0
+abbrev pub number_if : Bool → ℕ
+number_if b = cond b 1 0
 
-pub one_more : (f : ℕ → Bool) (a n : ℕ) → passing f a (n + 1) ≡ passing f a n + told (f (a + n))
-one_more f a n = sum_by-map-range_with_len_more told f a n (a + n) refl
+pub one_more : (f : ℕ → Bool) (a n : ℕ) → passing f a (n + 1) ≡ passing f a n + number_if (f (a + n))
+one_more f a n = sum_by-map-range_with_len_more number_if f a n (a + n) refl
 
-next : (f : ℕ → Bool) (a n : ℕ) → passing f a (suc n) ≡ passing f a n + told (f (a + n))
-next f a n = let e : n + 1 ≡ suc n = omega arith in subst (λ x. passing f a x ≡ passing f a n + told (f (a + n))) e (one_more f a n)
+next : (f : ℕ → Bool) (a n : ℕ) → passing f a (suc n) ≡ passing f a n + number_if (f (a + n))
+next f a n = let e : n + 1 ≡ suc n = omega arith in subst (λ x. passing f a x ≡ passing f a n + number_if (f (a + n))) e (one_more f a n)
 
 -- the same tests over two ranges
 pub shifted : (f g : ℕ → Bool) (a b n : ℕ) → ((j : ℕ) → j < n → f (a + j) ≡ g (b + j)) → passing f a n ≡ passing g b n
@@ -31,7 +31,7 @@ shifted f g a b zero e = refl
 shifted f g a b (suc n) e =
     let here : f (a + n) ≡ g (b + n) = e n (omega arith) in
     let rest = shifted f g a b n (λ j lt. e j (omega arith)) in
-    let last : told (f (a + n)) ≡ told (g (b + n)) = rw here refl in
+    let last : number_if (f (a + n)) ≡ number_if (g (b + n)) = rw here refl in
     let left = next f a n in
     let right = next g b n in
     omega arith
@@ -45,11 +45,11 @@ split f a m (suc n) =
     let left = next f a (m + n) in
     let right = next f (a + m) n in
     let at : a + (m + n) ≡ a + m + n = omega arith in
-    let same : told (f (a + (m + n))) ≡ told (f (a + m + n)) = rw at refl in
+    let same : number_if (f (a + (m + n))) ≡ number_if (f (a + m + n)) = rw at refl in
     let all : passing f a (suc (m + n)) ≡ passing f a m + passing f (a + m) (suc n) = omega arith in
     subst (λ x. passing f a x ≡ passing f a m + passing f (a + m) (suc n)) (sym e) all
 
-one_bit : (b : ℕ) → b < 2 → b ≡ told (b == 1)
+one_bit : (b : ℕ) → b < 2 → b ≡ number_if (b == 1)
 one_bit zero lt = refl
 one_bit (suc zero) lt = refl
 one_bit (suc (suc b)) lt = absurd (omega arith)
@@ -65,9 +65,9 @@ ones_of_bits (suc k) word lt =
     let f : ℕ → Bool = λ j. bit_at word j == 1 in
     let parts : passing f 0 (1 + k) ≡ passing f 0 1 + passing f 1 k = split f 0 1 k in
     let e : 1 + k ≡ suc k = omega arith in
-    let head : passing f 0 1 ≡ passing f 0 0 + told (bit_at word 0 == 1) = next f 0 0 in
+    let head : passing f 0 1 ≡ passing f 0 0 + number_if (bit_at word 0 == 1) = next f 0 0 in
     let nothing : passing f 0 0 ≡ 0 = refl in
-    let first : passing f 0 1 ≡ told (bit_at word 0 == 1) = omega (arith, head, nothing) in
+    let first : passing f 0 1 ≡ number_if (bit_at word 0 == 1) = omega (arith, head, nothing) in
     let low = bit_at_lowest word in
     let bit = one_bit (bit_at word 0) (bit_at-lt word 0) in
     let moved : passing f 1 k ≡ ones_below (word / 2) k = shifted f (λ j. bit_at (word / 2) j == 1) 1 0 k (λ j lt. shift word j) in
@@ -91,11 +91,11 @@ ones_of_word word lt =
     (is, omega arith)
 
 -- one bit further
-pub ones_more : (word j : ℕ) (b : Bool) → (bit_at word j == 1) ≡ b → ones_below word (j + 1) ≡ ones_below word j + told b
+pub ones_more : (word j : ℕ) (b : Bool) → (bit_at word j == 1) ≡ b → ones_below word (j + 1) ≡ ones_below word j + number_if b
 ones_more word j b e =
     let at : 0 + j ≡ j = omega arith in
-    let more : ones_below word (j + 1) ≡ ones_below word j + told (bit_at word (0 + j) == 1) = one_more (λ i. bit_at word i == 1) 0 j in
-    let here : told (bit_at word (0 + j) == 1) ≡ told b = rw (at, e) refl in
+    let more : ones_below word (j + 1) ≡ ones_below word j + number_if (bit_at word (0 + j) == 1) = one_more (λ i. bit_at word i == 1) 0 j in
+    let here : number_if (bit_at word (0 + j) == 1) ≡ number_if b = rw (at, e) refl in
     omega (arith, more, here)
 
 -- the bits of the words before one, and of this one up to a place
@@ -118,7 +118,7 @@ none_past : (f : ℕ → Bool) (a n : ℕ) → ((j : ℕ) → a ≤ j → f j �
 none_past f a zero e = refl
 none_past f a (suc n) e =
     let rest = none_past f a n e in
-    let last : told (f (a + n)) ≡ 0 = rw (e (a + n) (omega arith)) refl in
+    let last : number_if (f (a + n)) ≡ 0 = rw (e (a + n) (omega arith)) refl in
     let more = next f a n in
     omega arith
 
@@ -132,7 +132,7 @@ members_past words width n le past =
     subst (λ x. members words x ≡ members words width) (sym all) same
 
 -- all bits are looked at: a bit with so many below it was met
-pub all_told : (word before left j : ℕ) → j ≡ 64 → before < ones_below word 64 → left + ones_below word j ≡ before → ⊥
-all_told word before left j e lt inv =
+pub all_counted : (word before left j : ℕ) → j ≡ 64 → before < ones_below word 64 → left + ones_below word j ≡ before → ⊥
+all_counted word before left j e lt inv =
     let here : left + ones_below word 64 ≡ before = subst (λ x. left + ones_below word x ≡ before) e inv in
     omega (arith, here, lt)

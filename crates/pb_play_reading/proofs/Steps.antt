@@ -39,7 +39,7 @@ use Rattle.pb_play_reading.specs.declared.play.Play.{Play}
 use Rattle.pb_play_reading.specs.declared.task.Begun.{Begun}
 use Rattle.pb_play_reading.specs.declared.task.Modules.{Modules}
 use Rattle.pb_play.specs.declared.task.Task.{Task}
-use Rattle.pb_play_reading.specs.declared.task.Told.{Told}
+use Rattle.pb_play_reading.specs.declared.task.Head.{Head}
 
 -- what a stop is handed out as
 pub stopped : {A : Type 0} (result : Result A (Stop LoadFault)) (s : Stop LoadFault) (r : Reading A LoadFault) → IsErrAnd result (λ e. e ≡ s) → Stops s r → Gives result r
@@ -254,19 +254,19 @@ listening topics task = record { task = task; listens = topics }
 abbrev with_task : List (List ℕ) → Read Task Modules → Reading (Read Handler Modules) LoadFault
 with_task topics x = rule (Ok (record { task = x.value; listens = topics })) x.ahead
 
-handler_behind : (path : List ℕ) (t : Told) (a b d : Ahead Modules) (topics : List (List ℕ)) (repeated : Option Loop) → field_or tells_of_task (codes "listen") texts [] a ≡ Ok (record { value = topics; ahead = b })
+handler_behind : (path : List ℕ) (t : Head) (a b d : Ahead Modules) (topics : List (List ℕ)) (repeated : Option Loop) → field_or tells_of_task (codes "listen") texts [] a ≡ Ok (record { value = topics; ahead = b })
     → looping b ≡ Ok (record { value = repeated; ahead = d }) → value_of (rest_of_handler path t a) ≡ map_ok (listening topics) (value_of (rest_of_task path t repeated d))
 handler_behind path t a b d topics repeated e f =
     ap (λ r. value_of (and_then r (λ x. and_then (looping x.ahead) (λ y. and_then (rest_of_task path t y.value y.ahead) (with_task x.value))))) e
     ∙ ap (λ r. value_of (and_then r (λ y. and_then (rest_of_task path t y.value y.ahead) (with_task topics)))) f
     ∙ value_made (listening topics) (rest_of_task path t repeated d)
 
-pub handler_stops : (path : List ℕ) (t : Told) (a b d : Ahead Modules) (topics : List (List ℕ)) (repeated : Option Loop) (s : Stop LoadFault)
+pub handler_stops : (path : List ℕ) (t : Head) (a b d : Ahead Modules) (topics : List (List ℕ)) (repeated : Option Loop) (s : Stop LoadFault)
     → field_or tells_of_task (codes "listen") texts [] a ≡ Ok (record { value = topics; ahead = b }) → looping b ≡ Ok (record { value = repeated; ahead = d })
     → Stops s (value_of (rest_of_task path t repeated d)) → Stops s (value_of (rest_of_handler path t a))
 handler_stops path t a b d topics repeated s e f stops = subst (Stops s) (sym (handler_behind path t a b d topics repeated e f)) (stops_made s (listening topics) (value_of (rest_of_task path t repeated d)) stops)
 
-pub handler_is : (path : List ℕ) (t : Told) (a b d : Ahead Modules) (topics : List (List ℕ)) (repeated : Option Loop) (task : Task)
+pub handler_is : (path : List ℕ) (t : Head) (a b d : Ahead Modules) (topics : List (List ℕ)) (repeated : Option Loop) (task : Task)
     → field_or tells_of_task (codes "listen") texts [] a ≡ Ok (record { value = topics; ahead = b }) → looping b ≡ Ok (record { value = repeated; ahead = d })
     → value_of (rest_of_task path t repeated d) ≡ Ok task → value_of (rest_of_handler path t a) ≡ Ok (record { task = task; listens = topics })
 handler_is path t a b d topics repeated task e f is = handler_behind path t a b d topics repeated e f ∙ ap (map_ok (listening topics)) is

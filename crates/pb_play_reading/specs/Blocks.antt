@@ -13,7 +13,7 @@ use Rattle.pb_play_reading.specs.NoEffect.{has_no_effect, key, key_or}
 use Rattle.pb_play.specs.Nodes.{Written, Nothing, Block}
 use Rattle.pb_play_reading.specs.Variables.{variables}
 use Rattle.pb_play_reading.specs.declared.blocks.Early.{Early}
-use Rattle.pb_play_reading.specs.declared.blocks.ToldOfBlock.{ToldOfBlock}
+use Rattle.pb_play_reading.specs.declared.blocks.MiddleOfBlock.{MiddleOfBlock}
 use Rattle.pb_play_reading.specs.declared.couplings.Runs.{Runs}
 use Rattle.pb_play.specs.declared.node.BlockKeys.{BlockKeys}
 use Rattle.pb_written.specs.declared.fault.LoadFault.{LoadFault}
@@ -32,41 +32,41 @@ early nodes = do
   rule (Ok (record { always = always; any_errors_fatal = any_errors_fatal; body = body }))
 
 -- which host runs its tasks, and whether its failures are ignored; its name is a text, and isn't kept
-abbrev pub told_of_block : Part WithoutEffect LoadFault ToldOfBlock
-told_of_block = do
+abbrev pub middle_of_block : Part WithoutEffect LoadFault MiddleOfBlock
+middle_of_block = do
   delegation ← delegation has_no_effect
   ignore_errors ← key (codes "ignore_errors") switched
   _ ← key (codes "name") text
   rule (Ok (record { delegation = delegation; ignore_errors = ignore_errors }))
 
 -- the keys of a block that hold for all that stands in it
-abbrev pub told_keys : ToldOfBlock → Option Bool → Runs → List (List ℕ × Datum) → List Tree → BlockKeys
-told_keys told any_errors_fatal runs vars conditions =
+abbrev pub keys_in_block : MiddleOfBlock → Option Bool → Runs → List (List ℕ × Datum) → List Tree → BlockKeys
+keys_in_block middle any_errors_fatal runs vars conditions =
     record {
       conditions = conditions;
       vars = vars;
-      ignore_errors = told.ignore_errors;
+      ignore_errors = middle.ignore_errors;
       throttle = runs.throttle;
-      couplings = coupled any_errors_fatal told.delegation runs.run_once;
+      couplings = coupled any_errors_fatal middle.delegation runs.run_once;
     }
 
--- the block, whose keys up to `rescue` have told this
-abbrev pub rest_of_block : Early → ToldOfBlock → Written → Part WithoutEffect LoadFault Written
-rest_of_block early told rescue = do
+-- the block, whose keys up to `rescue` are these
+abbrev pub rest_of_block : Early → MiddleOfBlock → Written → Part WithoutEffect LoadFault Written
+rest_of_block early middle rescue = do
   runs ← runs has_no_effect
   vars ← key_or (codes "vars") variables []
   conditions ← key_or (codes "when") conditions []
   _ ← others has_no_effect
-  rule (Ok (Block (told_keys told early.any_errors_fatal runs vars conditions) early.body rescue early.always Nothing))
+  rule (Ok (Block (keys_in_block middle early.any_errors_fatal runs vars conditions) early.body rescue early.always Nothing))
 
-abbrev pub late : Lists → Early → ToldOfBlock → Part WithoutEffect LoadFault Written
-late nodes early told = do
+abbrev pub late : Lists → Early → MiddleOfBlock → Part WithoutEffect LoadFault Written
+late nodes early middle = do
   rescue ← key_or (codes "rescue") nodes Nothing
-  rest_of_block early told rescue
+  rest_of_block early middle rescue
 
 -- a block, whose lists of nodes are read so; one without a key has no nodes there, no variables and no conditions
 abbrev pub block : Lists → List ℕ → json.Data → Reading Written LoadFault
 block nodes = object (record {}) do
   early ← early nodes
-  told ← told_of_block
-  late nodes early told
+  middle ← middle_of_block
+  late nodes early middle

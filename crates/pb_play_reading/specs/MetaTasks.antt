@@ -1,4 +1,4 @@
--- Tasks that steer the run: they are told by the key `meta`, with the prefix or without. See Ansible's documentation of `ansible.builtin.meta`.
+-- Tasks that steer the run: they are known by the key `meta`, with the prefix or without. See Ansible's documentation of `ansible.builtin.meta`.
 use Rattle.std.specs.Prelude.{ℕ, List, [], Ok, Err, Option, Some, None, codes, unwrap_or, if◌then◌else◌}
 use Rattle.std.specs.Str.{bytes_eq}
 use Rattle.serde_json.specs.Data as json

@@ -18,14 +18,14 @@ abbrev pub has : (List ℕ → Bool) → json.Members → Bool
 has is json.no_members = false
 has is (json.member k d ms) = is k || has is ms
 
--- the keys by which a node is told
+-- the keys by which a node is known
 abbrev pub names_block : List ℕ → Bool
 names_block k = bytes_eq k (codes "block")
 
 abbrev pub names_meta : List ℕ → Bool
 names_meta k = names k (codes "meta")
 
--- A node is told by its key: a block has `block`, a task that steers the run has `meta`. What stands at blocks reads a block.
+-- A node is known by its key: a block has `block`, a task that steers the run has `meta`. What stands at blocks reads a block.
 abbrev pub node : Lists → List ℕ → json.Data → Reading Written LoadFault
 node blocks path (json.object ms) =
     if has names_block ms then blocks path (json.object ms)

@@ -96,7 +96,7 @@ two_modules : playbook_of (codes "[{\"hosts\":\"all\",\"gather_facts\":false,\"t
 unfolding on_literals
 two_modules = refl
 
--- a missing key is told after the keys that are there
+-- a missing key is reported after the keys that are there
 no_hosts : playbook_of (codes "[{}]") ≡ Err (WrongShape (codes "0"))
 unfolding on_literals
 no_hosts = refl

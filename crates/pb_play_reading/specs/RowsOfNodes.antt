@@ -117,7 +117,7 @@ throttle_of_meta : read (codes "[{\"meta\":\"noop\",\"throttle\":1}]") ≡ Some 
 unfolding on_literals
 throttle_of_meta = refl
 
--- which host runs a task is told by a text that is a template, and the other keys that couple hosts are switches
+-- which host runs a task is said by a text that is a template, and the other keys that couple hosts are switches
 no_delegate_of_task : read (codes "[{\"delegate_to\":1,\"run_once\":1,\"shell\":\"a\"}]") ≡ Some (Err (WrongShape (codes "p/0/delegate_to")))
 unfolding on_literals
 no_delegate_of_task = refl
@@ -185,7 +185,7 @@ blocks_in_each : read_within 2 (codes "[{\"always\":[{\"block\":[]}],\"block\":[
 unfolding on_literals
 blocks_in_each = refl
 
--- one too many is told where it is met, before any fault in it, and behind the faults in front of it
+-- one too many is reported where it is met, before any fault in it, and behind the faults in front of it
 one_too_many : read_within 1 (codes "[{\"block\":[{\"block\":1,\"always\":1,\"zzz\":1}]}]") ≡ Some (Err (Own (TooLarge Blocks (codes "p/0/block/0"))))
 unfolding on_literals
 one_too_many = refl
@@ -276,7 +276,7 @@ key_before_flush : read (codes "[{\"a\":1,\"meta\":\"flush_handlers\",\"when\":t
 unfolding on_literals
 key_before_flush = refl
 
--- where another task is told, it is read
+-- where another task is meant, it is read
 no_condition_of_meta : read (codes "[{\"meta\":\"noop\",\"when\":1,\"zzz\":1}]") ≡ Some (Err (WrongShape (codes "p/0/when")))
 unfolding on_literals
 no_condition_of_meta = refl

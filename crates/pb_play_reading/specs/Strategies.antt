@@ -8,7 +8,7 @@ use Rattle.pb_strategies.specs.declared.strategy.Strategy.TheVariants.{Linear, F
 use Rattle.pb_written.specs.declared.fault.LoadFault.{LoadFault}
 use Rattle.pb_written.specs.declared.fault.LoadFault.TheVariants.{BadStrategy}
 
--- a strategy is told by its name, as it stands
+-- a strategy is known by its name, as it stands
 abbrev pub strategy_of : List ℕ → List ℕ → Reading Strategy LoadFault
 strategy_of path s =
     if bytes_eq s (codes "free") then Ok Free

@@ -24,7 +24,7 @@ use Rattle.pb_play.specs.declared.modules.Module.{Module}
 use Rattle.pb_play_reading.specs.declared.modules.ModuleKey.{ModuleKey}
 use Rattle.pb_play_reading.specs.declared.retrying.Tries.{Tries}
 use Rattle.pb_play.specs.declared.task.Task.{Task}
-use Rattle.pb_play_reading.specs.declared.task.Told.{Told}
+use Rattle.pb_play_reading.specs.declared.task.Head.{Head}
 use Rattle.pb_play_reading.specs.declared.task.Begun.{Begun}
 use Rattle.pb_play_reading.specs.declared.task.FirstKeys.{FirstKeys}
 use Rattle.pb_play_reading.specs.declared.task.Failing.{Failing}
@@ -75,16 +75,16 @@ failing = do
   rule (Ok (record { failed_when = failed_when; ignore_errors = ignore_errors }))
 
 -- what a task says of the result of its module, and of the host that runs it
-abbrev pub told : Part Modules LoadFault Told
-told = do
+abbrev pub head : Part Modules LoadFault Head
+head = do
   first ← first_keys
   delegation ← delegation tells_of_task
   failing ← failing
   rule (Ok (record { first = first; delegation = delegation; failing = failing }))
 
--- the task of which this is told
-abbrev pub told_of : Told → Rest → Option Loop → Module → Task
-told_of told rest looped called =
+-- the task that begins with this head
+abbrev pub task_of_head : Head → Rest → Option Loop → Module → Task
+task_of_head head rest looped called =
     record {
       name = rest.name;
       vars = rest.vars;
@@ -92,13 +92,13 @@ told_of told rest looped called =
       conditions = rest.conditions;
       looped = looped;
       register = rest.register;
-      changed_when = told.first.changed_when;
-      failed_when = told.failing.failed_when;
-      ignore_errors = told.failing.ignore_errors;
+      changed_when = head.first.changed_when;
+      failed_when = head.failing.failed_when;
+      ignore_errors = head.failing.ignore_errors;
       throttle = rest.tries.runs.throttle;
-      couplings = coupled told.first.any_errors_fatal told.delegation rest.tries.runs.run_once;
+      couplings = coupled head.first.any_errors_fatal head.delegation rest.tries.runs.run_once;
       notify = rest.notify;
-      retrying = retrying_of rest.tries.until rest.tries.retries told.first.delay;
+      retrying = retrying_of rest.tries.until rest.tries.retries head.first.delay;
     }
 
 -- what is said of a task beside that; one without a name has that of the module that it calls
@@ -115,7 +115,7 @@ said_beside middle called vars conditions =
 
 -- the task that begins with this
 abbrev pub begun_task : Begun → List (List ℕ × Datum) → Module → List Tree → Task
-begun_task begun vars called conditions = told_of begun.told (said_beside begun.middle called vars conditions) begun.looped called
+begun_task begun vars called conditions = task_of_head begun.head (said_beside begun.middle called vars conditions) begun.looped called
 
 abbrev pub looping : Part Modules LoadFault (Option Loop)
 looping = do
@@ -149,14 +149,14 @@ last_of_task path begun = do
   rule (Ok (begun_task begun vars m conditions))
 
 -- a task behind these
-abbrev pub rest_of_task : List ℕ → Told → Option Loop → Part Modules LoadFault Task
-rest_of_task path told looped = do
+abbrev pub rest_of_task : List ℕ → Head → Option Loop → Part Modules LoadFault Task
+rest_of_task path head looped = do
   middle ← middle
-  last_of_task path (record { told = told; looped = looped; middle = middle })
+  last_of_task path (record { head = head; looped = looped; middle = middle })
 
 -- a task
 unfoldable pub task : List ℕ → json.Data → Reading Task LoadFault
 task path = object Nothing (do
-  told ← told
+  head ← head
   looped ← looping
-  rest_of_task path told looped) path
+  rest_of_task path head looped) path

@@ -3,7 +3,7 @@ ghost use Rattle.serde_json.specs.Data as json;
 ghost use Rattle.serde_json.specs.View.{view, members_view};
 ghost use Rattle.pb_reading.specs.Ahead.{ahead, Takes};
 ghost use Rattle.pb_reading.specs.Fields.{value_of};
-ghost use Rattle.pb_play_reading.specs.Blocks.{told_keys, told_of_block, rest_of_block};
+ghost use Rattle.pb_play_reading.specs.Blocks.{keys_in_block, middle_of_block, rest_of_block};
 ghost use Rattle.pb_play.specs.Nodes.{Nothing, Block};
 ghost use Rattle.pb_play.specs.View.{node_of};
 ghost use Rattle.pb_play_reading.specs.Returned.{IsRead};
@@ -47,7 +47,7 @@ impl Drop for Early {
 /// What a block's keys up to `rescue` say.
 pub(crate) struct BegunBlock {
     pub(crate) early: Early,
-    pub(crate) told: ToldOfBlock,
+    pub(crate) middle: MiddleOfBlock,
     pub(crate) rescue: NodeList,
 }
 
@@ -55,13 +55,13 @@ impl Drop for BegunBlock {
     fn drop(self) {
         let BegunBlock {
             early,
-            told,
+            middle,
             rescue,
         } = self;
-        let ToldOfBlock {
+        let MiddleOfBlock {
             delegation,
             ignore_errors: _,
-        } = told;
+        } = middle;
         let Delegation {
             delegate_facts: _,
             delegate_to,
@@ -74,35 +74,35 @@ impl Drop for BegunBlock {
 
 /// What a block says of the host that runs its tasks, and whether it ignores failures, where it says so.
 #[derive(Drop)]
-pub(crate) struct ToldOfBlock {
+pub(crate) struct MiddleOfBlock {
     delegation: Delegation,
     ignore_errors: Option<bool>,
 }
 
 /// What a block says between its body and its rescue; its name is a text, and isn't kept.
-pub(crate) fn read_told(
+pub(crate) fn read_middle(
     alloc: Global,
     keys: &mut Keys<'_, WithoutEffect>,
-) -> Result<ToldOfBlock, Stop<LoadFault>>
-    ensures value { Takes (λ v. v) result (ahead keys.new) (told_of_block (ahead keys.old)) }
+) -> Result<MiddleOfBlock, Stop<LoadFault>>
+    ensures value { Takes (λ v. v) result (ahead keys.new) (middle_of_block (ahead keys.old)) }
     ensures path { (ahead keys.new).path ≡ (ahead keys.old).path }
 {
     let delegation = read_delegation(alloc, keys)?;
     let ignore_errors = keys.field::<Switch>(alloc, "ignore_errors")?;
     keys.field::<PlainText>(alloc, "name")?;
-    Ok(ToldOfBlock {
+    Ok(MiddleOfBlock {
         delegation,
         ignore_errors,
     })
 }
 
-/// The block, whose keys up to `rescue` have told this.
+/// The block, whose keys up to `rescue` are these.
 pub(crate) fn read_rest(
     alloc: Global,
     mut keys: Keys<'_, WithoutEffect>,
     begun: BegunBlock,
 ) -> Result<Node, Stop<LoadFault>>
-    ensures { IsRead result (value_of (rest_of_block begun.early begun.told begun.rescue (ahead keys.entry))) }
+    ensures { IsRead result (value_of (rest_of_block begun.early begun.middle begun.rescue (ahead keys.entry))) }
 {
     let runs = read_runs(alloc, &mut keys)?;
     let vars = keys.field_or::<EachNamed<TemplateValue>>(alloc, "vars", Dict::new(alloc))?;
@@ -114,20 +114,20 @@ pub(crate) fn read_rest(
 impl BegunBlock {
     /// The block that begins with this.
     fn of(self, runs: Runs, vars: Dict, conditions: Items<Expr>) -> Node
-        ensures { node_of result Nothing ≡ Block (told_keys self.told self.early.any_errors_fatal runs vars conditions) self.early.body self.rescue self.early.always Nothing }
+        ensures { node_of result Nothing ≡ Block (keys_in_block self.middle self.early.any_errors_fatal runs vars conditions) self.early.body self.rescue self.early.always Nothing }
     {
         let BegunBlock {
             early,
-            told,
+            middle,
             rescue,
         } = self;
-        let keys = told.of(early.any_errors_fatal, runs, vars, conditions);
+        let keys = middle.of(early.any_errors_fatal, runs, vars, conditions);
         early.of(keys, rescue)
     }
 }
 
-impl ToldOfBlock {
-    /// The keys of the block of which this is told.
+impl MiddleOfBlock {
+    /// The keys of the block that says this.
     fn of(
         self,
         any_errors_fatal: Option<bool>,
@@ -135,9 +135,9 @@ impl ToldOfBlock {
         vars: Dict,
         conditions: Items<Expr>,
     ) -> BlockKeys
-        ensures { result ≡ told_keys self any_errors_fatal runs vars conditions }
+        ensures { result ≡ keys_in_block self any_errors_fatal runs vars conditions }
     {
-        let ToldOfBlock {
+        let MiddleOfBlock {
             delegation,
             ignore_errors,
         } = self;

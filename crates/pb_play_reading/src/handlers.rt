@@ -4,7 +4,7 @@ ghost use Rattle.pb_reading.specs.Fields.{value_of};
 ghost use Rattle.pb_reading.specs.Reading.{Gives};
 ghost use Rattle.pb_play_reading.specs.Handlers.{rest_of_handler, handler};
 
-use crate::task::{Modules, Told, read_loop, read_rest, read_told};
+use crate::task::{Head, Modules, read_head, read_loop, read_rest};
 use pb_play::task::Task;
 use pb_reading::keys::Keys;
 use pb_reading::reads::Reads;
@@ -24,18 +24,18 @@ pub struct Handler {
     pub listens: Items<Text>,
 }
 
-/// The handler, whose keys up to `ignore_errors` have told this.
+/// The handler, whose keys up to `ignore_errors` are these.
 fn read_rest_of_handler(
     alloc: Global,
     mut keys: Keys<'_, Modules>,
     path: &Text,
-    told: Told,
+    head: Head,
 ) -> Result<Handler, Stop<LoadFault>>
-    ensures { Gives result (value_of (rest_of_handler path.now told (ahead keys.entry))) }
+    ensures { Gives result (value_of (rest_of_handler path.now head (ahead keys.entry))) }
 {
     let listens = keys.field_or::<Texts>(alloc, "listen", Items::new(alloc))?;
     let looped = read_loop(alloc, &mut keys)?;
-    let task = read_rest(alloc, keys, path, told, looped)?;
+    let task = read_rest(alloc, keys, path, head, looped)?;
     Ok(Handler { task, listens })
 }
 
@@ -51,7 +51,7 @@ impl Reads<LoadFault> for Handler {
             return wrong(path);
         };
         let mut keys = Keys::of(path, members, Modules::Nothing);
-        let told = read_told(alloc, &mut keys)?;
-        read_rest_of_handler(alloc, keys, path, told)
+        let head = read_head(alloc, &mut keys)?;
+        read_rest_of_handler(alloc, keys, path, head)
     }
 }

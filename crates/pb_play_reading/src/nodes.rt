@@ -10,7 +10,7 @@ ghost use Rattle.pb_play_reading.specs.NodeLists.{has, names_block, names_meta, 
 ghost use Rattle.pb_play.specs.Nodes.{Nothing};
 ghost use Rattle.pb_play_reading.specs.Returned.{IsRead};
 
-use crate::blocks::{BegunBlock, Early, read_rest, read_told};
+use crate::blocks::{BegunBlock, Early, read_middle, read_rest};
 use crate::meta::read_meta;
 use crate::modules::names;
 use crate::other_keys::WithoutEffect;
@@ -133,7 +133,7 @@ fn has_meta(members: &Map<String, Value>) -> bool
     false
 }
 
-/// A node, as the members of an object spell it: it is told by its key.
+/// A node, as the members of an object spell it: it is known by its key.
 #[cycle(nodes)]
 fn read_node(
     alloc: Global,
@@ -184,11 +184,11 @@ fn read_block(
 {
     let mut keys = Keys::of(path, members, WithoutEffect);
     let early = read_early(alloc, left, path, &mut keys)?;
-    let told = read_told(alloc, &mut keys)?;
+    let middle = read_middle(alloc, &mut keys)?;
     let rescue = read_part(alloc, left, path, &mut keys, "rescue")?;
     let begun = BegunBlock {
         early,
-        told,
+        middle,
         rescue,
     };
     read_rest(alloc, keys, begun)

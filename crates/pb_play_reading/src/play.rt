@@ -341,7 +341,7 @@ fn read_after_hosts(
     })
 }
 
-/// What the keys up to `hosts` have told.
+/// What the keys up to `hosts` say.
 struct UpToHosts {
     before: BeforeHosts,
     hosts: Option<PlayHosts>,
@@ -383,19 +383,19 @@ impl UpToHosts {
     }
 }
 
-/// The play, whose keys up to `hosts` have told this.
+/// The play, whose keys up to `hosts` are these.
 fn read_rest(
     alloc: Global,
     mut keys: Keys<'_, WithoutEffect>,
     path: &Text,
-    told: UpToHosts,
+    up_to_hosts: UpToHosts,
 ) -> Result<Play, Stop<LoadFault>>
-    ensures { Gives result (value_of (rest_of_play path.now told.before told.hosts (ahead keys.entry))) }
+    ensures { Gives result (value_of (rest_of_play path.now up_to_hosts.before up_to_hosts.hosts (ahead keys.entry))) }
 {
     let after = read_after_hosts(alloc, &mut keys)?;
     let vars = keys.field_or::<EachNamed<TemplateValue>>(alloc, "vars", Dict::new(alloc))?;
     keys.others(alloc)?;
-    told.finish(alloc, path, after, vars)
+    up_to_hosts.finish(alloc, path, after, vars)
 }
 
 /// The play that the members of an object make.

@@ -4,7 +4,7 @@ ghost use Rattle.serde_json.specs.View.{view, members_view};
 ghost use Rattle.pb_reading.specs.Ahead.{ahead, Takes};
 ghost use Rattle.pb_reading.specs.Fields.{value_of};
 ghost use Rattle.pb_reading.specs.Reading.{Gives};
-ghost use Rattle.pb_play_reading.specs.Tasks.{one_more, tells_of_task, the_module, first_keys, failing, told_of, said_beside, begun_task, told, looping, middle, module_at, last_of_task, rest_of_task, task};
+ghost use Rattle.pb_play_reading.specs.Tasks.{one_more, tells_of_task, the_module, first_keys, failing, task_of_head, said_beside, begun_task, head, looping, middle, module_at, last_of_task, rest_of_task, task};
 ghost use Rattle.pb_play.specs.Modules.{module_name};
 
 use crate::couplings::{Delegation, Runs, coupled, read_delegation};
@@ -122,15 +122,15 @@ pub(crate) struct Failing {
 }
 
 /// What a task says of the result of its module, and of the host that runs it.
-pub(crate) struct Told {
+pub(crate) struct Head {
     first: FirstKeys,
     delegation: Delegation,
     failing: Failing,
 }
 
-impl Drop for Told {
+impl Drop for Head {
     fn drop(self) {
-        let Told {
+        let Head {
             first,
             delegation,
             failing,
@@ -184,7 +184,7 @@ impl Drop for Middle {
 
 /// What a task's keys up to `until` say.
 pub(crate) struct Begun {
-    told: Told,
+    head: Head,
     looped: Option<Loop>,
     middle: Middle,
 }
@@ -192,17 +192,17 @@ pub(crate) struct Begun {
 impl Drop for Begun {
     fn drop(self) {
         let Begun {
-            told,
+            head,
             looped,
             middle,
         } = self;
-        drop(told);
+        drop(head);
         drop(looped);
         drop(middle);
     }
 }
 
-/// What a task says beside what is told of it, its loop and its module.
+/// What a task says beside its head, its loop and its module.
 struct Rest {
     name: Text,
     notify: Items<Text>,
@@ -213,7 +213,7 @@ struct Rest {
 }
 
 impl Middle {
-    /// What is said beside what is told of the task, which calls this module.
+    /// What is said beside the head of the task, which calls this module.
     fn with(
         self,
         alloc: Global,
@@ -252,19 +252,19 @@ impl Begun {
         ensures { IfOk result (λ task. task ≡ begun_task self vars «module» conditions) }
     {
         let Begun {
-            told,
+            head,
             looped,
             middle,
         } = self;
         let rest = middle.with(alloc, &module, vars, conditions)?;
-        Ok(told.of(rest, looped, module))
+        Ok(head.of(rest, looped, module))
     }
 }
 
-impl Told {
-    /// The task of which this is told.
+impl Head {
+    /// The task that begins with this.
     fn of(self, rest: Rest, looped: Option<Loop>, module: Module) -> Task
-        ensures { result ≡ told_of self rest looped «module» }
+        ensures { result ≡ task_of_head self rest looped «module» }
     {
         let Rest {
             name,
@@ -274,7 +274,7 @@ impl Told {
             vars,
             conditions,
         } = rest;
-        let Told {
+        let Head {
             first,
             delegation,
             failing,
@@ -341,17 +341,17 @@ fn read_failing(alloc: Global, keys: &mut Keys<'_, Modules>) -> Result<Failing, 
     })
 }
 
-pub(crate) fn read_told(
+pub(crate) fn read_head(
     alloc: Global,
     keys: &mut Keys<'_, Modules>,
-) -> Result<Told, Stop<LoadFault>>
-    ensures value { Takes (λ v. v) result (ahead keys.new) (told (ahead keys.old)) }
+) -> Result<Head, Stop<LoadFault>>
+    ensures value { Takes (λ v. v) result (ahead keys.new) (head (ahead keys.old)) }
     ensures path { (ahead keys.new).path ≡ (ahead keys.old).path }
 {
     let first = read_first_keys(alloc, keys)?;
     let delegation = read_delegation(alloc, keys)?;
     let failing = read_failing(alloc, keys)?;
-    Ok(Told {
+    Ok(Head {
         first,
         delegation,
         failing,
@@ -371,19 +371,19 @@ pub(crate) fn read_loop(
     Ok(looped(over, variable))
 }
 
-/// The task, whose keys up to `loop_control` have told this.
+/// The task, whose keys up to `loop_control` are these.
 pub(crate) fn read_rest(
     alloc: Global,
     mut keys: Keys<'_, Modules>,
     path: &Text,
-    told: Told,
+    head: Head,
     looped: Option<Loop>,
 ) -> Result<Task, Stop<LoadFault>>
-    ensures { Gives result (value_of (rest_of_task path.now told looped (ahead keys.entry))) }
+    ensures { Gives result (value_of (rest_of_task path.now head looped (ahead keys.entry))) }
 {
     let middle = read_middle(alloc, &mut keys)?;
     let begun = Begun {
-        told,
+        head,
         looped,
         middle,
     };
@@ -406,7 +406,7 @@ fn read_middle(alloc: Global, keys: &mut Keys<'_, Modules>) -> Result<Middle, St
     })
 }
 
-/// The task, whose keys up to `until` have told this.
+/// The task, whose keys up to `until` are these.
 fn read_last(
     alloc: Global,
     mut keys: Keys<'_, Modules>,
@@ -456,7 +456,7 @@ pub(crate) fn read_task(
     ensures { Gives result (task path.now (json.object (members_view members.now.entries))) }
 {
     let mut keys = Keys::of(path, members, Modules::Nothing);
-    let told = read_told(alloc, &mut keys)?;
+    let head = read_head(alloc, &mut keys)?;
     let looped = read_loop(alloc, &mut keys)?;
-    read_rest(alloc, keys, path, told, looped)
+    read_rest(alloc, keys, path, head, looped)
 }

@@ -28,9 +28,9 @@ not_both : (a b : Bool) → b ≡ false → (a && b) ≡ false
 not_both true b e = e
 not_both false b e = refl
 
-pub told_alone : (word : List ℕ) → 0 < length word → (start : StartOf) → result_names word start.task ≡ false → layers_mention word start.layers ≡ false → (other variable : Map) (attempt : ℕ) (result : ItemResult) →
+pub results_alone : (word : List ℕ) → 0 < length word → (start : StartOf) → result_names word start.task ≡ false → layers_mention word start.layers ≡ false → (other variable : Map) (attempt : ℕ) (result : ItemResult) →
     SameBut word start.magic other → attempted_by start.task.retrying start variable attempt result ≡ attempted_by start.task.retrying (with_magic start other) variable attempt result
-told_alone word lt start own none other variable attempt result same =
+results_alone word lt start own none other variable attempt result same =
     attempts_same word lt start
     (joined (result_names word start.task) (result_reaches start.layers start.task && layers_mention word start.layers) own (not_both (result_reaches start.layers start.task) (layers_mention word start.layers) none))
     other variable attempt result same

@@ -18,7 +18,7 @@ both_parts name defaults groups hosts facts plays roles blocks tasks set params 
     ap (λ (b : Bool). b || l) e ∙ ap (λ (b : Bool). each_leads high name || b) f
     ∙ subst (λ (ms : List Map). (each_leads high name || each_leads (drop 9 ms) name) ≡ layers_lead ms name) v (leads_append name high (groups ∷ defaults ∷ []))
 
--- the first part settles it, or the second one does
+-- the first part answers it, or the second one does
 pub first_part : (s l r : Bool) → s ≡ true → (s || l) ≡ r → s ≡ r
 first_part true l r e h = h
 first_part false l r e h = absurd (let never : ⊥ = cc in never)

@@ -98,10 +98,10 @@ abbrev pub HoldAlike : Sees → Sees → Option (List Tree) → Type 0
 HoldAlike sight other None = ⊤
 HoldAlike sight other (Some cs) = (seen : Map) → holds (sight seen) cs ≡ holds (other seen) cs
 
-by_condition_alike : (sight other : Sees) (told : ItemResult → Bool → ItemResult) (register : Option (List ℕ)) (conditions : Option (List Tree)) → HoldAlike sight other conditions → (result : ItemResult) →
-    by_condition told sight register conditions result ≡ by_condition told other register conditions result
-by_condition_alike sight other told register None alike result = refl
-by_condition_alike sight other told register (Some cs) alike result = ap (λ (r : Result Bool EvalFault). map_ok (told result) r) (alike (seen_as register result.result))
+by_condition_alike : (sight other : Sees) (change : ItemResult → Bool → ItemResult) (register : Option (List ℕ)) (conditions : Option (List Tree)) → HoldAlike sight other conditions → (result : ItemResult) →
+    by_condition change sight register conditions result ≡ by_condition change other register conditions result
+by_condition_alike sight other change register None alike result = refl
+by_condition_alike sight other change register (Some cs) alike result = ap (λ (r : Result Bool EvalFault). map_ok (change result) r) (alike (seen_as register result.result))
 
 attempts_alike : (sight other : Sees) (register : Option (List ℕ)) (changed failed : Option (List Tree)) → HoldAlike sight other changed → HoldAlike sight other failed → (result : ItemResult) →
     by_conditions sight register changed failed result ≡ by_conditions other register changed failed result
@@ -193,12 +193,12 @@ unread word start e =
     let behind = neither (delegate_mentions word start.delegate_to) (layers_mention word start.layers) all.1 in
     let own = neither (module_mentions word start.task.module || loop_mentions word start.task.looped) (result_names word start.task) front.0 in
     let done = neither (module_mentions word start.task.module) (loop_mentions word start.task.looped) own.0 in
-    let told = none_of (conditions_name word start.task.changed_when) (conditions_name word start.task.failed_when) (conditions_name word (until_of start.task.retrying)) own.1 in
+    let nowhere = none_of (conditions_name word start.task.changed_when) (conditions_name word start.task.failed_when) (conditions_name word (until_of start.task.retrying)) own.1 in
     record {
       called = done.0;
       looped = done.1;
-      changed = told.0;
-      failed = told.1;
+      changed = nowhere.0;
+      failed = nowhere.1;
       conditions = front.1;
       delegate = behind.0;
       layers = behind.1;

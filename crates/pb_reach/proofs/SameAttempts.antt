@@ -22,24 +22,24 @@ use Rattle.pb_reach.proofs.Tests.{neither, none_of}
 use Rattle.pb_reach.proofs.Unreached.{holds_unreached}
 
 -- without `changed_when` and `failed_when` a result stays, however it ended
-untold_by : (ending : Ending) (sight : Sees) (register : Option (List ℕ)) (result : ItemResult) → with_conditions_by ending sight register None None result ≡ result
-untold_by (Ran changed failed) sight register result = refl
-untold_by Skipped sight register result = refl
-untold_by Faulty sight register result = refl
-untold_by Unreachable sight register result = refl
-untold_by NotStarted sight register result = refl
+without_conditions_by : (ending : Ending) (sight : Sees) (register : Option (List ℕ)) (result : ItemResult) → with_conditions_by ending sight register None None result ≡ result
+without_conditions_by (Ran changed failed) sight register result = refl
+without_conditions_by Skipped sight register result = refl
+without_conditions_by Faulty sight register result = refl
+without_conditions_by Unreachable sight register result = refl
+without_conditions_by NotStarted sight register result = refl
 
 -- and without retries its item ends
 nothing_said : (changed failed : Option (List Tree)) (retrying : Option Retrying) → (is_some changed || is_some failed || is_some retrying) ≡ false → (start : StartOf) (variable : Map) (attempt : ℕ)
     (result : ItemResult) → start.task.changed_when ≡ changed → start.task.failed_when ≡ failed → attempted_by retrying start variable attempt result ≡ Ends result
 nothing_said None None None e start variable attempt result c f =
-    rw (c, f) (ap Ends (untold_by result.ending (sees start.layers start.magic variable) start.task.register result))
+    rw (c, f) (ap Ends (without_conditions_by result.ending (sees start.layers start.magic variable) start.task.register result))
 nothing_said None None (Some retrying) e start variable attempt result c f = absurd (true≢false e)
 nothing_said None (Some conditions) retrying e start variable attempt result c f = absurd (true≢false e)
 nothing_said (Some conditions) failed retrying e start variable attempt result c f = absurd (true≢false e)
 
-pub untold : (task : Task) → has_result_conditions task ≡ false → LeavesResults task
-untold task silent = λ start value attempt result t.
+pub without_conditions : (task : Task) → has_result_conditions task ≡ false → LeavesResults task
+without_conditions task silent = λ start value attempt result t.
     nothing_said start.task.changed_when start.task.failed_when start.task.retrying (rw t silent) start (loop_variable start.task.looped value) attempt result refl refl
 
 -- conditions that don't have the word, and reach no template, hold alike

@@ -277,7 +277,7 @@ pub fn may_read_of_result(word: &str, task: &Task, layers: &Layers) -> bool
     ensures value { result ≡ may_read_of_result word.now task.now layers.now }
 
     // Each attempt at an item of a task that doesn't read the name comes to the same whatever stands under it.
-    ensures told { result ≡ false → (start : StartOf) (other : Map) (value : Option Datum) (attempt : ℕ) (item : ItemResult) →
+    ensures results { result ≡ false → (start : StartOf) (other : Map) (value : Option Datum) (attempt : ℕ) (item : ItemResult) →
         start.task ≡ task.now → start.layers ≡ layers.now → SameBut word.now start.magic other →
         attempted_item start value attempt item ≡ attempted_item (with_magic start other) value attempt item }
 {
@@ -296,7 +296,7 @@ pub fn may_read_of_result_by_itself(word: &str, task: &Task) -> bool
     ensures value { result ≡ result_names word.now task.now }
 
     // Over variables without the name each attempt then comes to the same whatever stands under it.
-    ensures told { result ≡ false → (start : StartOf) (other : Map) (value : Option Datum) (attempt : ℕ) (item : ItemResult) →
+    ensures results { result ≡ false → (start : StartOf) (other : Map) (value : Option Datum) (attempt : ℕ) (item : ItemResult) →
         start.task ≡ task.now → layers_mention word.now start.layers ≡ false → SameBut word.now start.magic other →
         attempted_item start value attempt item ≡ attempted_item (with_magic start other) value attempt item }
 {

@@ -21,7 +21,7 @@ use Rattle.pb_plan.specs.Plan.{PlayOf, PlanOf}
 use Rattle.pb_hosts.specs.Batches.{room_behind, joined_first}
 use Rattle.pb_host.specs.Host.{HostOf, first_rows, next_place, as_play_begins, left, ended, pending, ignores_at, caught_at, meta_at, task_at, items_after, progressed, sent, reported, reported_running}
 use Rattle.pb_state.specs.State.{State}
-use Rattle.pb_host.specs.Decides.{done_at, done_if, report_result, step_result_by}
+use Rattle.pb_host.specs.StepResults.{done_at, done_if, report_result, step_result_by}
 use Rattle.pb_hosts.specs.Hosts.{change, at_row}
 use Rattle.pb_hosts.specs.Giving.{takes, with_delegated, gifts_at, report_gives}
 use Rattle.pb_state.specs.Machine.{open_play, possible, after, first_state, after_open, started_in, facts_at, plan_seen, start_at, start_with, sent_in, reported_in, pending_at, batch_of, turned_in, may_start_in, next_at, may_report_in, same_place}
@@ -103,8 +103,8 @@ progressed_row kind inventory play p items row = by_over (is_over items)
     by_over true = task_counts (ignores_at play p) items (caught_at play p) (meta_at play p) row.counts kind
     by_over false = none_more (count_of kind row.counts)
 
-progressed_told : (kind : CountKind) (play : PlayOf) (p : ℕ) (marks : List Bool) (items : List Item) (h k : ℕ) → counted k kind (option_map (by_host h) (done_if play p marks items)) ≡ added (items_add kind play p items) h k
-progressed_told kind play p marks items h k = by_over (is_over items)
+progressed_counted : (kind : CountKind) (play : PlayOf) (p : ℕ) (marks : List Bool) (items : List Item) (h k : ℕ) → counted k kind (option_map (by_host h) (done_if play p marks items)) ≡ added (items_add kind play p items) h k
+progressed_counted kind play p marks items h k = by_over (is_over items)
   where
     by_over : (over : Bool) → counted k kind (option_map (by_host h) (if over then Some (done_at play p marks items) else None)) ≡ added (if over then one (counts_under kind (task_at play p items)) else 0) h k
     by_over true = if_both (h == k) (counts_under kind (task_at play p items))
@@ -128,7 +128,7 @@ start_with_counts : (kind : CountKind) (inventory : InventoryOf) (s : State) (h 
 start_with_counts kind inventory s h k play p items b =
     given_keep kind (gifts_at inventory play p h items) (change s.rows h (progressed inventory play p items)) k
     ∙ changed_count kind (progressed inventory play p items) (items_add kind play p items) s.rows h k b (λ row e. progressed_row kind inventory play p items row)
-    ∙ ap (λ n. n + row_count kind s.rows k) (sym (progressed_told kind play p (pending_at s h) items h k))
+    ∙ ap (λ n. n + row_count kind s.rows k) (sym (progressed_counted kind play p (pending_at s h) items h k))
 
 -- no host starts where there is no place
 no_same : (a : Bool) (q : Option ℕ) → (a && same_place q None) ≡ true → ⊥
@@ -169,10 +169,10 @@ report_row : (kind : CountKind) (plan : PlanOf) (play : PlayOf) (outcome : Form)
 report_row kind plan play outcome row None = none_more (count_of kind row.counts)
 report_row kind plan play outcome row (Some r) = progressed_row kind plan.inventory play r.place (items_after plan play row.host row.facts outcome r) row
 
-report_told : (kind : CountKind) (plan : PlanOf) (play : PlayOf) (outcome : Form) (h k : ℕ) (row : HostOf) (running : Option Running)
+report_counted : (kind : CountKind) (plan : PlanOf) (play : PlayOf) (outcome : Form) (h k : ℕ) (row : HostOf) (running : Option Running)
     → counted k kind (option_map_or (ended_by h) (option_map (step_result_by plan play outcome row) running) None) ≡ added (report_adds kind plan play outcome row running) h k
-report_told kind plan play outcome h k row None = none_if (h == k)
-report_told kind plan play outcome h k row (Some r) = progressed_told kind play r.place (pending row) (items_after plan play row.host row.facts outcome r) h k
+report_counted kind plan play outcome h k row None = none_if (h == k)
+report_counted kind plan play outcome h k row (Some r) = progressed_counted kind play r.place (pending row) (items_after plan play row.host row.facts outcome r) h k
 
 report_counts : (kind : CountKind) (plan : PlanOf) (play : PlayOf) (outcome : Form) (rows : List HostOf) (h k : ℕ) (found : Option HostOf) → slice_get rows h ≡ found → k < length rows
     → row_count kind (change rows h (reported plan play outcome)) k ≡ counted k kind (option_map_or (ended_by h) (option_map_or (report_result plan play outcome) found None) None) + row_count kind rows k
@@ -180,7 +180,7 @@ report_counts kind plan play outcome rows h k None e b = rw (change_none rows h 
 report_counts kind plan play outcome rows h k (Some row) e b =
     changed_count kind (reported plan play outcome) (report_adds kind plan play outcome row row.running) rows h k b
     (λ r q. let same : r ≡ row = cc in rw same (report_row kind plan play outcome row row.running))
-    ∙ ap (λ n. n + row_count kind rows k) (sym (report_told kind plan play outcome h k row row.running))
+    ∙ ap (λ n. n + row_count kind rows k) (sym (report_counted kind plan play outcome h k row row.running))
 
 reported_counts : (kind : CountKind) (plan : PlanOf) (s : State) (r : Report) (k : ℕ) (found : Option PlayOf) → k < length s.rows → option_map_or (may_report_in s r) found false ≡ true
     → row_count kind (option_map_or (reported_in plan s r) found s).rows k ≡ counted k kind (ended_in (option_map_or (reported_in plan s r) found s) r.host.0) + row_count kind s.rows k

@@ -28,19 +28,19 @@ abbrev in_order : Hosts → Bor (List ℕ) → HostNo → Hosts
 in_order = insert_entry (λ x y. slice_cmp nat_cmp x.now y.now)
 
 -- what is written of a host
-abbrev told : ColumnsOf → HostNo → Data
-told all host = counts_data (counts_of all host.0)
+abbrev counts_of_host : ColumnsOf → HostNo → Data
+counts_of_host all host = counts_data (counts_of all host.0)
 
 placed : (all : ColumnsOf) (o : Ordering) (name : Bor (List ℕ)) (host : HostNo) (first : Bor (List ℕ) × HostNo) (hosts : Hosts)
-    → listed all (in_order hosts name host) ≡ put name.now (told all host) (listed all hosts)
+    → listed all (in_order hosts name host) ≡ put name.now (counts_of_host all host) (listed all hosts)
     → listed all (match_ordering o ((name, host) ∷ first ∷ hosts) ((first.0, host) ∷ hosts) (first ∷ in_order hosts name host))
-    ≡ match_ordering o (member name.now (told all host) (listed all (first ∷ hosts))) (member first.0.now (told all host) (listed all hosts))
-    (member first.0.now (told all first.1) (put name.now (told all host) (listed all hosts)))
+    ≡ match_ordering o (member name.now (counts_of_host all host) (listed all (first ∷ hosts))) (member first.0.now (counts_of_host all host) (listed all hosts))
+    (member first.0.now (counts_of_host all first.1) (put name.now (counts_of_host all host) (listed all hosts)))
 placed all Less name host first hosts same = refl
 placed all Equal name host first hosts same = refl
-placed all Greater name host first hosts same = ap (member first.0.now (told all first.1)) same
+placed all Greater name host first hosts same = ap (member first.0.now (counts_of_host all first.1)) same
 
-pub put_in_order : (all : ColumnsOf) (hosts : Hosts) (name : Bor (List ℕ)) (host : HostNo) → listed all (in_order hosts name host) ≡ put name.now (told all host) (listed all hosts)
+pub put_in_order : (all : ColumnsOf) (hosts : Hosts) (name : Bor (List ℕ)) (host : HostNo) → listed all (in_order hosts name host) ≡ put name.now (counts_of_host all host) (listed all hosts)
 put_in_order all [] name host = refl
 put_in_order all (first ∷ hosts) name host = placed all (slice_cmp nat_cmp name.now first.0.now) name host first hosts (put_in_order all hosts name host)
 
@@ -55,10 +55,10 @@ abbrev tokens_of : ColumnsOf → Hosts → List Token
 tokens_of all hosts = members_tokens (members_outline (listed all hosts))
 
 pub host_written : (all : ColumnsOf) (old keyed written : List Token) (name : Bor (List ℕ)) (host : HostNo) (rest : Hosts)
-    → keyed ≡ old ++ Token.key name.now ∷ [] → written ≡ keyed ++ json_tokens (outline (told all host))
+    → keyed ≡ old ++ Token.key name.now ∷ [] → written ≡ keyed ++ json_tokens (outline (counts_of_host all host))
     → written ++ tokens_of all rest ≡ old ++ tokens_of all ((name, host) ∷ rest)
 host_written all old keyed written name host rest e f =
-    let ts = json_tokens (outline (told all host)) in
+    let ts = json_tokens (outline (counts_of_host all host)) in
     let after = tokens_of all rest in
     ap (λ us. us ++ after) (f ∙ ap (λ us. us ++ ts) e) ∙ append_assoc (old ++ Token.key name.now ∷ []) ts after ∙ append_assoc old (Token.key name.now ∷ []) (ts ++ after)
 

@@ -13,7 +13,7 @@ use std::alloc::Global;
 /// No row takes so many calls.
 const CALLS: u32 = 1_000;
 
-/// Before the call of this number, from 0, the engine is told to run one host at a time.
+/// Before the call of this number, from 0, the engine is commanded to run one host at a time.
 const ONE_FORK_AT: u32 = 4;
 
 /// No row has as many jobs out.

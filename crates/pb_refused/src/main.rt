@@ -100,7 +100,7 @@ fn play_all<R: Print + AllocGlobal + Threads + Wait + Sync>(rt: &R) -> u8 {
 fn play_one<R: Print + AllocGlobal + Threads + Wait + Sync>(
     rt: &R,
     word: &str,
-    is_told: bool,
+    is_reported: bool,
 ) -> u8 {
     let Ok(number) = word.parse::<u32>() else {
         return 2;
@@ -110,7 +110,7 @@ fn play_one<R: Print + AllocGlobal + Threads + Wait + Sync>(
     };
     match second_end(rt, rt.alloc(), &row) {
         Ok(Some(end)) => {
-            if is_told {
+            if is_reported {
                 let words = end.words();
                 let _ = println!(rt; "{words}");
             }

@@ -48,7 +48,7 @@ given = do
   asked ← key (codes "when") asked
   rule (Ok (record { tags = tags; vars = vars; asked = asked }))
 
--- an entry behind the keys for its role; that one of the two has to be there is told behind all keys
+-- an entry behind the keys for its role; that one of the two has to be there is reported behind all keys
 abbrev pub rest_of_entry : List ℕ → Option (List ℕ) → Option (List ℕ) → Part Params LoadFault RoleEntry
 rest_of_entry path name role = do
   given ← given

@@ -77,7 +77,7 @@ user_as_parameter : read (codes "{\"gather_subset\":1,\"remote_user\":\"r\",\"ro
 unfolding on_literals
 user_as_parameter = refl
 
--- the role has to be there, once; that is told behind the keys
+-- the role has to be there, once; that is reported behind the keys
 no_role : read (codes "{\"x\":1}") ≡ Some (Err (WrongShape (codes "p")))
 unfolding on_literals
 no_role = refl
@@ -119,7 +119,7 @@ condition_in_braces : read (codes "{\"role\":\"app\",\"when\":\"{{ x }}\"}") ≡
 unfolding on_literals
 condition_in_braces = refl
 
--- a condition of a list is told at its own path
+-- a condition of a list is reported at its own path
 second_condition : read (codes "{\"role\":\"app\",\"when\":[\"x\",\"y y\"]}") ≡ Some (Err (Own (BadExpression (codes "p/when/1"))))
 unfolding on_literals
 second_condition = refl
@@ -133,7 +133,7 @@ tag_never : read (codes "{\"role\":\"app\",\"tags\":[\"x\",\"never\"]}") ≡ Som
 unfolding on_literals
 tag_never = refl
 
--- a key that is refused, whatever it holds; the first in the order of bytes is told
+-- a key that is refused, whatever it holds; the first in the order of bytes is reported
 refused : read (codes "{\"become\":1,\"async\":1.5,\"role\":\"app\"}") ≡ Some (Err (Own (NotInProfile (codes "async") (codes "p/async"))))
 unfolding on_literals
 refused = refl

@@ -3,7 +3,7 @@ use pb_value::items::Items;
 use pb_value::text::Text;
 use pb_value::val::{Dict, Val};
 
-/// What stands at keys of an entry, as it is written: two entries of one role are told apart by it, beside their parameters.
+/// What stands at keys of an entry, as it is written: two entries of one role are kept apart by it, beside their parameters.
 #[derive(Drop)]
 pub struct EntryAsWritten {
     pub vars: Option<Val>,

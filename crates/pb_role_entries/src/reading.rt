@@ -150,7 +150,7 @@ fn entry_of(
     })
 }
 
-/// The entry, whose keys up to `role` have told this.
+/// The entry, whose keys up to `role` are these.
 fn read_rest(
     alloc: Global,
     mut keys: Keys<'_, Params>,

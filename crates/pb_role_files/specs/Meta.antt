@@ -15,8 +15,8 @@ abbrev pub refuses : Telling NoOthers LoadFault
 refuses told path k d = refused_key path k
 
 -- a role that doesn't say otherwise depends on none, and comes once
-abbrev pub told : Part NoOthers LoadFault RoleMeta
-told = do
+abbrev pub own_keys : Part NoOthers LoadFault RoleMeta
+own_keys = do
   allow_duplicates ← field_or refuses (codes "allow_duplicates") switched false
   dependencies ← field_or refuses (codes "dependencies") (each_of role_entry) []
   rule (Ok (record { dependencies = dependencies; allow_duplicates = allow_duplicates }))
@@ -24,7 +24,7 @@ told = do
 -- what it tells of itself to those who look for roles isn't read
 abbrev pub role_meta : List ℕ → json.Data → Reading RoleMeta LoadFault
 role_meta = object (record {}) do
-  told ← told
+  own_keys ← own_keys
   _ ← value_at refuses (codes "galaxy_info")
   _ ← others refuses
-  rule (Ok told)
+  rule (Ok own_keys)

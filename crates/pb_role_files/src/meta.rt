@@ -2,7 +2,7 @@ ghost use Rattle.std.specs.Prelude.{◌≡◌};
 ghost use Rattle.serde_json.specs.View.{view};
 ghost use Rattle.pb_reading.specs.Ahead.{ahead, Takes};
 ghost use Rattle.pb_reading.specs.Reading.{Gives};
-ghost use Rattle.pb_role_files.specs.Meta.{refuses, told, role_meta};
+ghost use Rattle.pb_role_files.specs.Meta.{refuses, own_keys, role_meta};
 
 use pb_reading::keys::{Keys, Others};
 use pb_reading::list::Each;
@@ -46,8 +46,8 @@ impl Others for NoOthers {
 }
 
 /// What it says of the roles that it depends on, and of coming again.
-fn read_told(alloc: Global, keys: &mut Keys<'_, NoOthers>) -> Result<RoleMeta, Stop<LoadFault>>
-    ensures value { Takes (λ v. v) result (ahead keys.new) (told (ahead keys.old)) }
+fn read_own_keys(alloc: Global, keys: &mut Keys<'_, NoOthers>) -> Result<RoleMeta, Stop<LoadFault>>
+    ensures value { Takes (λ v. v) result (ahead keys.new) (own_keys (ahead keys.old)) }
     ensures path { (ahead keys.new).path ≡ (ahead keys.old).path }
 {
     let allow_duplicates = keys.field_or::<Switch>(alloc, "allow_duplicates", false)?;
@@ -69,9 +69,9 @@ impl Reads<LoadFault> for RoleMeta {
             return wrong(path);
         };
         let mut keys = Keys::of(path, members, NoOthers);
-        let told = read_told(alloc, &mut keys)?;
+        let own_keys = read_own_keys(alloc, &mut keys)?;
         keys.value_at(alloc, "galaxy_info")?;
         keys.others(alloc)?;
-        Ok(told)
+        Ok(own_keys)
     }
 }

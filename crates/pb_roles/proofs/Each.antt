@@ -184,12 +184,12 @@ stopped (Err f) e r same faulty = subst (λ g. Faults g r) (sym same) faulty
 
 -- ---- what the crate answers
 
-told : (e : RoleFault) (r : Result (List Expanded) RoleFault) → Faults e r → e ≢ Memory → r ≡ Err e
-told (Unknown name) r is other = is
-told Cycle r is other = is
-told (Load path fault) r is other = is
-told Memory r is other = absurd (other refl)
-told TooLarge r is other = is
+reported : (e : RoleFault) (r : Result (List Expanded) RoleFault) → Faults e r → e ≢ Memory → r ≡ Err e
+reported (Unknown name) r is other = is
+reported Cycle r is other = is
+reported (Load path fault) r is other = is
+reported Memory r is other = absurd (other refl)
+reported TooLarge r is other = is
 
 pub gives_value : (result r : Result (List Expanded) RoleFault) → Gives result r → IfOk result (λ all. r ≡ Ok all)
 gives_value (Ok all) r is = is
@@ -197,7 +197,7 @@ gives_value (Err e) r is = tt
 
 pub gives_fault : (result r : Result (List Expanded) RoleFault) → Gives result r → IfErr result (λ e. e ≢ Memory → r ≡ Err e)
 gives_fault (Ok all) r is = tt
-gives_fault (Err e) r is = told e r is
+gives_fault (Err e) r is = reported e r is
 
 pub gives_fit : (files : RoleFiles) (plays : List Play) (result : Result (List Expanded) RoleFault) → Gives result (expansion_of files plays) → IfOk result (All IsBuilt)
 gives_fit files plays (Ok all) is = all_fit files plays all is

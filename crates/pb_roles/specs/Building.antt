@@ -116,7 +116,7 @@ abbrev pub flush_from : List HandlerNames → Bool → ℕ → List TaskIn → L
 flush_from names is_caught n [] = []
 flush_from names is_caught n (handler ∷ handlers) = placed names handler.inherited is_caught (Some n) handler.task ∷ flush_from names is_caught (n + 1) handlers
 
--- what is told of a play's handlers: what they are notified by, and what stands round each
+-- what is known of a play's handlers: what they are notified by, and what stands round each
 pub record Flushed : Type 0 where
   pub names : List HandlerNames
   pub handlers : List TaskIn

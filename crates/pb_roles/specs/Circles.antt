@@ -27,6 +27,6 @@ pub record IsCircle (reads : List ℕ → RoleRead) : Type 0 where
   pub between : List (List ℕ)
   pub leads : LeadsTo reads name between name
 
--- a cycle is told only where a role depends on itself
+-- a cycle is reported only where a role depends on itself
 abbrev pub CyclesAreCircles : Type 0
 CyclesAreCircles = (files : RoleFiles) (entries : List RoleEntry) → roles_of files entries ≡ Err Cycle → IsCircle (read_of files)

@@ -81,7 +81,7 @@ abbrev pub is_open : List ℕ → List (List ℕ) → Bool
 is_open name names = list_any (bytes_eq name) names
 
 -- An entry is met while the roles of these names are open, under these conditions: one whose role is open is a cycle. The names of open roles differ, and
--- each has a file, so there are never more than there are files: where so many are open, a further one can't be told from a cycle.
+-- each has a file, so there are never more than there are files: where so many are open, a further one can't be known from a cycle.
 unfoldable pub meets : (left : ℕ) → (List ℕ → RoleRead) → (names : List (List ℕ)) → List Tree → RoleEntry → Expansion → Result Expansion RoleFault
 meets zero reads names outer entry met = Err Cycle
 meets (suc left) reads names outer entry met =

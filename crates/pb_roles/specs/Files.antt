@@ -23,7 +23,7 @@ file_at path (file ∷ files) = if bytes_eq file.path path then Some file else f
 abbrev pub file_of : List ℕ → RoleFiles → List ℕ → Option RoleFile
 file_of kind files name = file_at (main_path name kind) files.files
 
--- a fault in a file is told with the file's path
+-- a fault in a file is reported with the file's path
 abbrev pub in_file : {A : Type 0} → List ℕ → Result A LoadFault → Result A RoleFault
 in_file path (Ok x) = Ok x
 in_file path (Err e) = Err (Load path e)

@@ -113,10 +113,10 @@ with_port n = record (asked base) { params = (codes "port", int (pos n)) ∷ [] 
 abbrev with_no_vars : RoleEntry
 with_no_vars = record (asked base) { as_written = record as_a_text { vars = Some (dict no_members) } }
 
-told_apart : brought (two_roles missing (role base [] false)) (with_port 1 ∷ with_port 2 ∷ with_port 1 ∷ with_no_vars ∷ asked base ∷ with_no_vars ∷ [])
+kept_apart : brought (two_roles missing (role base [] false)) (with_port 1 ∷ with_port 2 ∷ with_port 1 ∷ with_no_vars ∷ asked base ∷ with_no_vars ∷ [])
     ≡ Ok (base ∷ base ∷ base ∷ base ∷ [])
 unfolding meets role_of
-told_apart = refl
+kept_apart = refl
 
 -- two roles that depend on each other, and one on itself, though its entry has come
 cycle_of_two : brought (two_roles (role app (asked base ∷ []) false) (role base (asked app ∷ []) false)) (asked app ∷ []) ≡ Err Cycle

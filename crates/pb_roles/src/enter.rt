@@ -90,7 +90,7 @@ fn written(alloc: Global, keys: &EntryAsWritten) -> Result<EntryAsWritten, Alloc
     Ok(EntryAsWritten { vars, when, tags })
 }
 
-/// What an entry is told apart by.
+/// What an entry is kept apart by.
 fn key_of(alloc: Global, entry: &RoleEntry) -> Result<EntryKey, AllocError>
     ensures { IfOk result (λ came. came ≡ key_of entry.now) }
 {
@@ -145,7 +145,7 @@ fn open_from(
     })
 }
 
-/// The role that an entry names, open: its files are read. What it depends on is still to be told.
+/// The role that an entry names, open: its files are read. What it depends on is still to be known.
 fn open_role(
     alloc: Global,
     files: &RoleFiles,

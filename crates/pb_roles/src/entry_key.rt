@@ -3,7 +3,7 @@ use pb_role_entries::entry::EntryAsWritten;
 use pb_value::text::Text;
 use pb_value::val::Val;
 
-/// What two role entries are told apart by.
+/// What two role entries are kept apart by.
 pub struct EntryKey {
     /// The role's name.
     pub name: Text,

@@ -34,7 +34,7 @@ pub use files::{RoleFile, RoleFiles};
 pub use sections::{Expanded, LinearKeys};
 
 /// What holds of the roles that a play takes, whatever stands in their files: each comes behind those that it depends on, and none comes twice for entries that
-/// are alike, unless its file of dependencies allows it; and a cycle is told only where a role depends on itself.
+/// are alike, unless its file of dependencies allows it; and a cycle is reported only where a role depends on itself.
 #[tactic(auto, using(crate::proofs::Taking::roles_are_in_order, crate::proofs::Circling::cycles_are_circles))]
 pub fn roles_are_in_order()
     ensures order { RolesAreInOrder }

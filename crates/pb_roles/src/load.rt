@@ -19,9 +19,9 @@ use pb_value::val::Dict;
 use pb_written::fault::LoadFault;
 use std::alloc::Global;
 
-/// A fault in a file, told with its path.
+/// A fault in a file, reported with its path.
 fn in_file(file: &RoleFile, fault: LoadFault) -> RoleFault
-    ensures told { result ≢ RoleFault.Memory → result ≡ RoleFault.Load file.now.path fault }
+    ensures reported { result ≢ RoleFault.Memory → result ≡ RoleFault.Load file.now.path fault }
     ensures memory { fault ≡ LoadFault.Memory → result ≡ RoleFault.Memory }
 {
     match fault {

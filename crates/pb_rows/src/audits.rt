@@ -32,9 +32,9 @@ fn is_illegal(seen: &Seen) -> bool {
     seen.status == 2 && seen.err.is_empty() && seen.out.starts_with(b"illegal: step 0, ")
 }
 
-/// Whether it told this fault of the trail, and nothing else.
-fn is_refused(seen: &Seen, told: &str) -> bool {
-    seen.status == 1 && seen.err.as_slice() == told.as_bytes() && seen.out.is_empty()
+/// Whether it reported this fault of the trail, and nothing else.
+fn is_refused(seen: &Seen, fault: &str) -> bool {
+    seen.status == 1 && seen.err.as_slice() == fault.as_bytes() && seen.out.is_empty()
 }
 
 /// Plays a command on two hosts under two forks. The bytes of its trail.
@@ -82,11 +82,11 @@ fn is_answered<
 >(rt: &R, first: &[u8], others: &[u8]) -> Result<bool, Fail> {
     fs::write(rt, "audits_trail", first)?;
     let seen = audit(rt, "audits_inventory", "audits_trail", "audits_playbook")?;
-    let told = fault_of(rt.alloc(), first, others)?;
-    if told.is_empty() {
+    let fault = fault_of(rt.alloc(), first, others)?;
+    if fault.is_empty() {
         return Ok(is_legal(&seen));
     }
-    Ok(is_refused(&seen, told.as_str()))
+    Ok(is_refused(&seen, fault.as_str()))
 }
 
 #[test]

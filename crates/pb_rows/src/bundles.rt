@@ -38,14 +38,14 @@ fn play_tasks<
     play(rt, "tasks_inventory", "tasks_playbook")
 }
 
-/// Whether a bundle was taken, with nothing told.
+/// Whether a bundle was taken, with nothing reported.
 fn is_taken(seen: &Seen) -> bool {
     seen.status == 0 && seen.err.is_empty() && !seen.out.is_empty()
 }
 
 /// Whether it was refused with this fault, and nothing shown.
-fn is_refused(seen: &Seen, told: &str) -> bool {
-    seen.status == 1 && seen.err.as_slice() == told.as_bytes() && seen.out.is_empty()
+fn is_refused(seen: &Seen, fault: &str) -> bool {
+    seen.status == 1 && seen.err.as_slice() == fault.as_bytes() && seen.out.is_empty()
 }
 
 #[test]

@@ -1,7 +1,7 @@
 //! Commands that are taken and refused, and runs that are given a list of them.
 
 use crate::engines::{engine_of, is_over, report};
-use crate::told::told;
+use crate::events_text::events_text;
 use crate::trails::plan_on;
 use pb_driver::{Given, Silent, run_plain};
 use pb_engine::{Command, CommandFault, Engine, Lowest};
@@ -52,7 +52,7 @@ fn forks_and_a_stop(rt: HostRuntime) -> Result<(), Fail> {
     assert!(rt; is_refused(&mut engine, Command::Stop, CommandFault::Finished));
     let is_ended = is_over(&mut engine, &mut Lowest)?;
     assert!(rt; is_ended);
-    let text = told(alloc, engine.trail())?;
+    let text = events_text(alloc, engine.trail())?;
     drop(engine);
     assert_eq!(rt;
         text.as_str(),
@@ -72,7 +72,7 @@ fn trail_with(alloc: Global, commands: &[Given]) -> Result<String, Fail> {
     let Ok(ended) = run_plain(alloc, plan, &mut runner, &mut Lowest, commands, &mut Silent) else {
         return Err(Fail::new("an end"));
     };
-    let text = told(alloc, ended.trail.as_slice())?;
+    let text = events_text(alloc, ended.trail.as_slice())?;
     drop(ended);
     Ok(text)
 }

@@ -18,9 +18,9 @@ const PLAYBOOK: &str =
 /// Plays with these words. Whether that is refused with this message, with nothing on standard output.
 fn is_refused<
     R: Files + AllocGlobal + Processes<Started = SystemProcess> + Clock + Threads + Wait + Sync,
->(rt: &R, words: &[&str], told: &str) -> Result<bool, Fail> {
+>(rt: &R, words: &[&str], fault: &str) -> Result<bool, Fail> {
     let seen = play_texts(rt, words, Kept::new(rt.alloc()))?;
-    Ok(seen.status == 1 && seen.err.as_slice() == told.as_bytes() && seen.out.is_empty())
+    Ok(seen.status == 1 && seen.err.as_slice() == fault.as_bytes() && seen.out.is_empty())
 }
 
 #[test]

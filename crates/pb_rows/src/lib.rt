@@ -17,6 +17,8 @@ mod cut;
 #[cfg(test)]
 mod engines;
 #[cfg(test)]
+mod events_text;
+#[cfg(test)]
 mod kept_trails;
 #[cfg(test)]
 mod loops;
@@ -38,8 +40,6 @@ mod same_ends;
 mod small_writers;
 #[cfg(test)]
 mod strategies;
-#[cfg(test)]
-mod told;
 #[cfg(test)]
 mod trails;
 #[cfg(test)]

@@ -1,6 +1,6 @@
 //! The jobs of a loop: which items are sent, and under which tickets; and the longest loop.
 
-use crate::told::told;
+use crate::events_text::events_text;
 use crate::trails::plan_of;
 use pb_driver::{Silent, run_plain};
 use pb_engine::Lowest;
@@ -31,7 +31,7 @@ fn trail_of(alloc: Global, forks: u32) -> Result<String, Fail> {
         Ok(ended) => ended,
         Err(_) => return Err(Fail::new("an end")),
     };
-    let text = told(alloc, ended.trail.as_slice())?;
+    let text = events_text(alloc, ended.trail.as_slice())?;
     if ended.status != 0 {
         return Err(Fail::new("a good end"));
     }

@@ -145,7 +145,7 @@ fn goes_to_the_end(engine: &mut Engine) -> bool {
     false
 }
 
-/// A job that is out as the run is told to stop is answered once, and its ticket is an old one ever after.
+/// A job that is out as the run is commanded to stop is answered once, and its ticket is an old one ever after.
 #[test]
 fn reports_behind_a_stop(rt: HostRuntime) -> Result<(), Fail> {
     let alloc = rt.alloc();

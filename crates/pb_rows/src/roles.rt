@@ -62,7 +62,7 @@ fn play<
     Ok(play_texts(rt, words.as_slice(), Kept::new(rt.alloc()))?)
 }
 
-/// Whether a fault of a file was told, and nothing shown.
+/// Whether a fault of a file was reported, and nothing shown.
 fn has_file_fault<
     R: Files + AllocGlobal + Processes<Started = SystemProcess> + Clock + Threads + Wait + Sync,
 >(rt: &R, dir: &str) -> Result<bool, Fail> {

@@ -35,7 +35,7 @@ fn events(alloc: Global, text: &str) -> Result<Vec<Event>, Fail> {
     }
 }
 
-/// What is told of the ends of two trails, the second one under so many forks.
+/// What is said of the ends of two trails, the second one under so many forks.
 fn compared(
     alloc: Global,
     playbook: &str,
@@ -66,7 +66,7 @@ fn apart(
     }
 }
 
-/// The fault that is told of a trail that is no run of the plan.
+/// The fault that is reported of a trail that is no run of the plan.
 fn fault_of(alloc: Global, trail: &str, other: &str) -> Result<AuditFault, Fail> {
     match compared(alloc, KEEPS_TO_ITSELF, trail, 5, other)? {
         Ok(_) => Err(Fail::new("a fault")),
@@ -97,7 +97,7 @@ fn hosts_that_keep_to_themselves_end_in_the_same(rt: HostRuntime) -> Result<(), 
 
 /// The first trail's fault comes first.
 #[test]
-fn trails_that_are_no_runs_are_told(rt: HostRuntime) -> Result<(), Fail> {
+fn trails_that_are_no_runs_are_reported(rt: HostRuntime) -> Result<(), Fail> {
     let alloc = rt.alloc();
     let turn = AuditFault::Illegal {
         step: 1,

@@ -22,7 +22,7 @@ const HANDLERS: [&str; 2] = [
     "[{\"hosts\":\"all\",\"gather_facts\":false,\"handlers\":[{\"name\":\"h1\",\"debug\":{},\"listen\":\"web\"},{\"name\":\"h2\",\"debug\":{}}],\"tasks\":[{\"command\":\"first one\",\"notify\":[\"h2\",\"h1\"]},{\"command\":\"second one\",\"notify\":[\"h2\",\"web\"]}]}]",
 ];
 
-/// Takes a byte at a call, and keeps it. No contract is told which.
+/// Takes a byte at a call, and keeps it. No contract knows which.
 #[derive(Drop)]
 struct Sips {
     bytes: Vec<u8>,

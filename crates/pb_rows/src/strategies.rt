@@ -1,7 +1,7 @@
 //! Which host starts next under a throttle, in batches, and under each strategy where one host's job stays out.
 
 use crate::engines::{engine_of, is_over, report};
-use crate::told::told;
+use crate::events_text::events_text;
 use pb_engine::{Lowest, Picker, RoundRobin};
 use std::alloc::Global;
 use std::test::Fail;
@@ -46,7 +46,7 @@ fn trail_of<P: Picker>(
         report(&mut engine, alloc, *ticket, *host)?;
         let _ = is_over(&mut engine, picker)?;
     }
-    let text = told(alloc, engine.trail())?;
+    let text = events_text(alloc, engine.trail())?;
     drop(engine);
     Ok(text)
 }

@@ -40,13 +40,13 @@ fn play_hello<
     )?)
 }
 
-/// Whether the writer failed in a play of one task on two hosts. It then has a beginning of the output, and the fault is told.
+/// Whether the writer failed in a play of one task on two hosts. It then has a beginning of the output, and the fault is reported.
 pub fn has_failed(seen: &Seen) -> Result<bool, Fail> {
     if seen.status == 0 && seen.out.as_slice() == OUT.as_bytes() {
         return Ok(false);
     }
-    let is_told = seen.err.as_slice() == b"pb-play: run: 2 Write\n".as_slice();
-    if seen.status == 1 && is_told && OUT.as_bytes().starts_with(seen.out.as_slice()) {
+    let is_reported = seen.err.as_slice() == b"pb-play: run: 2 Write\n".as_slice();
+    if seen.status == 1 && is_reported && OUT.as_bytes().starts_with(seen.out.as_slice()) {
         return Ok(true);
     }
     Err(Fail::new("another end"))

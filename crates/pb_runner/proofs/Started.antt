@@ -23,15 +23,15 @@ gives_started facts job outcome empty is filled allowed = record { allowed = all
 -- one job was run, and this was started for it
 ran_one : (facts facts_after : Option (List ℕ)) (job : Job) (outcome : Form) (before after : Option (List Launch)) (launches : List Launch) → facts_after ≡ facts → after ≡ with_more before launches
     → IsLaunched facts job outcome launches → LocalRan facts before ((job, outcome) ∷ []) facts_after after
-ran_one facts facts_after job outcome before after launches same told launched =
-    (same, record { launches = launches; launched = told; each = (launches, [], sym (append-nil launches), launched, refl) })
+ran_one facts facts_after job outcome before after launches same known launched =
+    (same, record { launches = launches; launched = known; each = (launches, [], sym (append-nil launches), launched, refl) })
 
 launched_none : (facts : Option (List ℕ)) (job : Job) (outcome : Form) → own_words facts job.call ≡ [] → outcome ≡ NotStarted CannotStart → IsLaunched facts job outcome []
 launched_none facts job outcome none is = record { wordless = λ e. (refl, is); worded = λ some. absurd (some none) }
 
-pub ran_none : (facts : Option (List ℕ)) (job : Job) (outcome : Form) (told : Option (List Launch)) (empty : Bool) → (IsTrue empty ↔ (own_words facts job.call ≡ [])) → empty ≡ true
-    → outcome ≡ NotStarted CannotStart → LocalRan facts told ((job, outcome) ∷ []) facts told
-ran_none facts job outcome told empty is none cannot = ran_one facts facts job outcome told told [] refl (none_more told) (launched_none facts job outcome (is.0 none) cannot)
+pub ran_none : (facts : Option (List ℕ)) (job : Job) (outcome : Form) (known : Option (List Launch)) (empty : Bool) → (IsTrue empty ↔ (own_words facts job.call ≡ [])) → empty ≡ true
+    → outcome ≡ NotStarted CannotStart → LocalRan facts known ((job, outcome) ∷ []) facts known
+ran_none facts job outcome known empty is none cannot = ran_one facts facts job outcome known known [] refl (none_more known) (launched_none facts job outcome (is.0 none) cannot)
 
 launched_some : (facts : Option (List ℕ)) (job : Job) (outcome : Form) (launches : List Launch) → own_words facts job.call ≢ [] → IsStarted facts job outcome launches
     → IsLaunched facts job outcome launches

@@ -1,17 +1,17 @@
--- A history: what was told so far, in order, unless it can't be told.
+-- A history: what happened so far, in order, unless that isn't known.
 use Rattle.std.specs.Prelude.{◌≡◌, List, [], ◌++◌, Option, Some, None, refl}
 use Rattle.std.proofs.Common.{ap, sym, append_assoc}
 use Rattle.std.proofs.lemmas.List.{append-nil}
 
--- more behind what was told
+-- more behind what is known
 abbrev pub with_more : {A : Type 0} → Option (List A) → List A → Option (List A)
 with_more None more = None
-with_more (Some told) more = Some (told ++ more)
+with_more (Some known) more = Some (known ++ more)
 
-pub none_more : {A : Type 0} (told : Option (List A)) → told ≡ with_more told []
+pub none_more : {A : Type 0} (known : Option (List A)) → known ≡ with_more known []
 none_more None = refl
-none_more (Some told) = ap Some (sym (append-nil told))
+none_more (Some known) = ap Some (sym (append-nil known))
 
-pub more_more : {A : Type 0} (told : Option (List A)) (first more : List A) → with_more (with_more told first) more ≡ with_more told (first ++ more)
+pub more_more : {A : Type 0} (known : Option (List A)) (first more : List A) → with_more (with_more known first) more ≡ with_more known (first ++ more)
 more_more None first more = refl
-more_more (Some told) first more = ap Some (append_assoc told first more)
+more_more (Some known) first more = ap Some (append_assoc known first more)

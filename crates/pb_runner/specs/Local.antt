@@ -55,12 +55,12 @@ command_words (Some c) = command_program c ∷ command_args c
 command_words None = []
 
 -- the facts that a program wrote: a JSON object, each value of which is one of ours
-abbrev pub told : Result Datum ValFault → Form
-told (Ok value) = Module value
-told (Err e) = NotStarted FactsNotObject
+abbrev pub facts_form : Result Datum ValFault → Form
+facts_form (Ok value) = Module value
+facts_form (Err e) = NotStarted FactsNotObject
 
 abbrev pub facts_in : Option json.Data → Form
-facts_in (Some (json.object ms)) = told (value_of (json.object ms))
+facts_in (Some (json.object ms)) = facts_form (value_of (json.object ms))
 facts_in (Some (json.array ds)) = NotStarted FactsNotObject
 facts_in (Some (json.string s)) = NotStarted FactsNotObject
 facts_in (Some (json.number n)) = NotStarted FactsNotObject

@@ -24,8 +24,8 @@ abbrev pub LocalRan : Option (List ℕ) → Option (List Launch) → List (Job �
 LocalRan facts before jobs facts_after after = (facts_after ≡ facts) × HasStarted facts before jobs after
 
 -- nothing was run
-pub local_none : (facts : Option (List ℕ)) (told : Option (List Launch)) → LocalRan facts told [] facts told
-local_none facts told = (refl, record { launches = []; launched = none_more told; each = refl })
+pub local_none : (facts : Option (List ℕ)) (known : Option (List Launch)) → LocalRan facts known [] facts known
+local_none facts known = (refl, record { launches = []; launched = none_more known; each = refl })
 
 both_launched : (facts : Option (List ℕ)) (first more : List (Job × Form)) (launches behind : List Launch) → AreLaunched facts first launches → AreLaunched facts more behind
     → AreLaunched facts (first ++ more) (launches ++ behind)

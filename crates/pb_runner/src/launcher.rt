@@ -33,10 +33,10 @@ pub trait Launcher {
     /// # Errors
     /// Where memory was refused before it was started.
     fn launch(&mut self, alloc: Global, words: Words) -> Result<Ending, AllocError>
-        ensures told { IfOk result (λ ending. launched self.new ≡ with_more (launched self.old) (launch_of words ending ∷ [])) }
+        ensures history { IfOk result (λ ending. launched self.new ≡ with_more (launched self.old) (launch_of words ending ∷ [])) }
         ensures err { OnErr result (launched self.new ≡ launched self.old) };
 
-    /// Waits so many seconds, of which nothing is told.
+    /// Waits so many seconds, of which nothing is known.
     fn pause(&mut self, seconds: u32)
         ensures { launched self.new ≡ launched self.old };
 }

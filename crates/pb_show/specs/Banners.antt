@@ -2,9 +2,9 @@
 use Rattle.std.specs.Prelude.{ℕ, ◌+◌, nat_eq, Bool, List, [], ◌∷◌, ◌++◌, length, codes, decimal, if◌then◌else◌}
 use Rattle.pb_show.specs.Escaped.{escaped, stars}
 use Rattle.pb_show.specs.declared.look.Look.{Look}
-use Rattle.pb_show.specs.declared.told.Notice.{Notice}
-use Rattle.pb_show.specs.declared.told.Play.{Play}
-use Rattle.pb_show.specs.declared.told.Task.{Task}
+use Rattle.pb_show.specs.declared.notices.Notice.{Notice}
+use Rattle.pb_show.specs.declared.notices.Play.{Play}
+use Rattle.pb_show.specs.declared.notices.Task.{Task}
 
 -- a title, an empty line in front of it, and stars behind it
 abbrev pub starred : List ℕ → List ℕ

@@ -9,7 +9,7 @@ use Rattle.pb_show.specs.declared.showing.Failure.{Failure}
 use Rattle.pb_show.specs.declared.showing.Phase.{Phase}
 use Rattle.pb_show.specs.declared.showing.Phase.TheVariants.{Nothing, Going, Over}
 use Rattle.pb_show.specs.declared.showing.Showing.{Showing}
-use Rattle.pb_show.specs.declared.told.Totals.{Totals}
+use Rattle.pb_show.specs.declared.notices.Totals.{Totals}
 
 abbrev pub hosts_text : ℕ → List ℕ
 hosts_text n = decimal n ++ (if nat_eq n 1 then codes " host" else codes " hosts")

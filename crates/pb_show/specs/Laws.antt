@@ -11,9 +11,9 @@ use Rattle.pb_show.specs.declared.kind.Kind.{Kind}
 use Rattle.pb_show.specs.declared.kind.Kind.TheVariants.{Begun, Play as Plays, Task as Tasks, Handler, HostStart, Ended as Ends, Item, Notify, Totals}
 use Rattle.pb_show.specs.declared.look.Look.{Look}
 use Rattle.pb_show.specs.declared.showing.Showing.{Showing}
-use Rattle.pb_show.specs.declared.told.Notice.{Notice}
-use Rattle.pb_show.specs.declared.told.Play.{Play}
-use Rattle.pb_show.specs.declared.told.Task.{Task}
+use Rattle.pb_show.specs.declared.notices.Notice.{Notice}
+use Rattle.pb_show.specs.declared.notices.Play.{Play}
+use Rattle.pb_show.specs.declared.notices.Task.{Task}
 
 -- a text stands in another one
 abbrev pub Stands : List ℕ → List ℕ → Type 0

@@ -15,10 +15,10 @@ use Rattle.pb_show.specs.declared.kind.How.{How}
 use Rattle.pb_show.specs.declared.kind.How.TheVariants as how
 use Rattle.pb_show.specs.declared.kind.Kind.{Kind}
 use Rattle.pb_show.specs.declared.reading.Where.{Where}
-use Rattle.pb_show.specs.declared.told.Notice.{Notice}
-use Rattle.pb_show.specs.declared.told.Play.{Play}
-use Rattle.pb_show.specs.declared.told.Task.{Task}
-use Rattle.pb_show.specs.declared.told.Totals.{Totals}
+use Rattle.pb_show.specs.declared.notices.Notice.{Notice}
+use Rattle.pb_show.specs.declared.notices.Play.{Play}
+use Rattle.pb_show.specs.declared.notices.Task.{Task}
+use Rattle.pb_show.specs.declared.notices.Totals.{Totals}
 
 -- the text at a key; the whole number that isn't below 0; the same below 2 ^ 32; whether it is true
 abbrev pub text_at : List ℕ → json.Data → Option (List ℕ)

@@ -15,10 +15,10 @@ use Rattle.pb_show.specs.declared.look.Look.{Look}
 use Rattle.pb_show.specs.declared.showing.Failure.{Failure}
 use Rattle.pb_show.specs.declared.showing.Phase.TheVariants.{Nothing, Going, Over}
 use Rattle.pb_show.specs.declared.showing.Showing.{Showing}
-use Rattle.pb_show.specs.declared.told.Notice.{Notice}
-use Rattle.pb_show.specs.declared.told.Play.{Play}
-use Rattle.pb_show.specs.declared.told.Task.{Task}
-use Rattle.pb_show.specs.declared.told.Totals.{Totals}
+use Rattle.pb_show.specs.declared.notices.Notice.{Notice}
+use Rattle.pb_show.specs.declared.notices.Play.{Play}
+use Rattle.pb_show.specs.declared.notices.Task.{Task}
+use Rattle.pb_show.specs.declared.notices.Totals.{Totals}
 
 -- a text, and what is kept behind it
 pub record Shown : Type 0 where
@@ -34,7 +34,7 @@ abbrev pub going : Showing → Showing
 going s = record s { phase = Going; is_torn = false }
 
 -- ---- the task of a result
--- a task that no line told of, as one of `meta` whose conditions can't be read
+-- a task that no line started, as one of `meta` whose conditions can't be read
 abbrev pub unknown : List ℕ → Task
 unknown place = record { place = place; name = codes "at place " ++ place; is_handler = false }
 

@@ -5,7 +5,7 @@ ghost use Rattle.pb_show.specs.Banners.{batch_text, play_text, task_head, task_t
 
 use crate::line::Line;
 use crate::look::Look;
-use crate::told::{Notice, Play, Task};
+use crate::notices::{Notice, Play, Task};
 use pb_value::text::Text;
 use std::alloc::{AllocError, Global};
 

@@ -6,8 +6,8 @@ ghost use Rattle.pb_show.specs.Closing.{hosts_text, first_text, failed_text, los
 use crate::ended::Ending;
 use crate::line::Line;
 use crate::look::Look;
+use crate::notices::Totals;
 use crate::showing::{Failure, Phase, Showing};
-use crate::told::Totals;
 use pb_value::text::Text;
 use std::alloc::{AllocError, Global};
 

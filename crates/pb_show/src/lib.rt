@@ -15,20 +15,20 @@ mod ended;
 mod kind;
 mod line;
 mod look;
+mod notices;
 mod output;
 mod program;
 mod reading;
 mod showing;
-mod told;
 mod words;
 
 pub use ended::{Ended, Ending};
 pub use kind::{How, Kind};
 pub use look::Look;
+pub use notices::{Notice, Play, Task, Totals};
 pub use output::{ShowFault, show_lines};
 pub use program::show;
 pub use showing::{Failure, Phase, Showing};
-pub use told::{Notice, Play, Task, Totals};
 pub use words::{Asked, read_words};
 
 /// What holds of the texts of all events: what they show of an event stands in them, escaped, so that it ends no line and moves no cursor;

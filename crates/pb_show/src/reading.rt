@@ -7,7 +7,7 @@ ghost use Rattle.pb_show.specs.Reading.{kind_in, text_at, whole_at, small, small
 
 use crate::ended::{Ended, Ending};
 use crate::kind::{How, Kind};
-use crate::told::{Notice, Play, Task, Totals};
+use crate::notices::{Notice, Play, Task, Totals};
 use pb_value::fault::ValFault;
 use pb_value::items::Items;
 use pb_value::read_json::{JsonFault, read_json};

@@ -10,10 +10,10 @@ use crate::ended::Ended;
 use crate::kind::{How, Kind};
 use crate::line::Line;
 use crate::look::Look;
+use crate::notices::{Task, Totals};
 use crate::reading::{
     ended_in, json_at, kind_in, notice_in, play_in, task_in, text_at, totals_in, whole_at,
 };
-use crate::told::{Task, Totals};
 use pb_value::items::Items;
 use pb_value::text::Text;
 use serde_json::Value;
@@ -80,7 +80,7 @@ impl Drop for Showing {
     }
 }
 
-/// A task that no line told of, by its place.
+/// A task that no line started, by its place.
 fn unknown(alloc: Global, place: &str) -> Result<Task, AllocError>
     ensures { IfOk result (λ task. task ≡ unknown place.now) }
 {

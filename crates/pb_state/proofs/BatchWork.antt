@@ -256,7 +256,7 @@ turned_work inventory play batch place =
     (λ f goes rows least. at_most (sum_by row_work (map f rows)) (sum_by row_work rows) (sum_by row_work batch.rows) (map_work f goes rows) least)
     inventory play batch place (omega arith)
 
--- where a task is settled, an answer less is left to each host there
+-- where a task is done for all, an answer less is left to each host there
 run_once_end_counts : (kind : Kind) → ends_run_once kind ≡ true → is_halted kind ≡ false
 run_once_end_counts kinds.Good e = refl
 run_once_end_counts kinds.Bad e = refl

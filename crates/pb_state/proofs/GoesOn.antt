@@ -39,15 +39,15 @@ mapped : (found : Option HostOf) → option_map_or (λ (row : HostOf). run_place
 mapped None = refl
 mapped (Some row) = refl
 
-runs_told : (rows : List HostOf) (h : ℕ) → runs_at rows h ≡ option_map_or run_place (slice_get (map (λ (row : HostOf). row.running) rows) h) None
-runs_told rows h = mapped (slice_get rows h) ∙ ap (λ (found : Option (Option Running)). option_map_or run_place found None) (sym (slice_get-map (λ (row : HostOf). row.running) rows h))
+runs_mapped : (rows : List HostOf) (h : ℕ) → runs_at rows h ≡ option_map_or run_place (slice_get (map (λ (row : HostOf). row.running) rows) h) None
+runs_mapped rows h = mapped (slice_get rows h) ∙ ap (λ (found : Option (Option Running)). option_map_or run_place found None) (sym (slice_get-map (λ (row : HostOf). row.running) rows h))
 
 -- gifts don't change what a host runs
 given_runs : (gifts : List DelegatedFacts) (rows : List HostOf) (h : ℕ) → runs_at (with_delegated gifts rows) h ≡ runs_at rows h
 given_runs gifts rows h =
-    runs_told (with_delegated gifts rows) h
+    runs_mapped (with_delegated gifts rows) h
     ∙ ap (λ (all : List (Option Running)). option_map_or run_place (slice_get all h) None) (given_map (λ (row : HostOf). row.running) (λ (gift : DelegatedFacts) (row : HostOf). refl) gifts rows)
-    ∙ sym (runs_told rows h)
+    ∙ sym (runs_mapped rows h)
 
 changed_runs : (gifts : List DelegatedFacts) (rows : List HostOf) (h : ℕ) (f : HostOf → HostOf) (found : Option HostOf) → slice_get rows h ≡ found
     → runs_at (with_delegated gifts (change rows h f)) h ≡ option_map_or (λ (row : HostOf). run_place (f row).running) found None

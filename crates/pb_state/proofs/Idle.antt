@@ -1,4 +1,4 @@
--- Where nobody runs and nobody may start: under the linear strategy no host is at the current place, unless one settled the task there for all, and else
+-- Where nobody runs and nobody may start: under the linear strategy no host is at the current place, unless one did the task there for all, and else
 -- no host has a next place.
 use Rattle.std.proofs.Common.{◌≡◌, ℕ, zero, suc, ◌<◌, Bool, true, false, ◌&&◌, ◌||◌, not, List, [], ◌∷◌, map, take, refl, sym, ◌∙◌, ap, arith, cond, subst, ◌⊎◌, inl, inr}
 use Rattle.std.specs.Prelude.{Option, Some, None, option_map, slice_get, slice_index_or, is_some, nat_eq, nat_lt, nat_le, min, count_by, if◌then◌else◌}
@@ -178,7 +178,7 @@ first_at : (p : ℕ) (rows : List HostOf) → least_place rows ≡ Some p → Fi
 first_at p [] e = cc
 first_at p (row ∷ rows) e = first_by p row rows (same_place (next_place row) (Some p)) refl (first_at p rows) e
 
--- the host whose answer the others get settled the task, and where there is none it isn't settled
+-- the host whose answer the others get did the task, and where there is none it isn't done
 run_once_found : (p : ℕ) (b : Bool) (row from : HostOf) (found : Option HostOf) → has_done_run_once p row ≡ b → (found ≡ Some from → has_done_run_once p from ≡ true) → (if b then Some row else found) ≡ Some from → has_done_run_once p from ≡ true
 run_once_found p true row from found t behind e = let same : row ≡ from = cc in subst (λ (r : HostOf). has_done_run_once p r ≡ true) same t
 run_once_found p false row from found t behind e = behind e
@@ -203,15 +203,15 @@ no_source : (once : Bool) (p : ℕ) (rows : List HostOf) → (if once then run_o
 no_source true p rows e = no_run_once_host p rows e
 no_source false p rows e = refl
 
--- where it isn't settled, the first host there may run it
+-- where it isn't done, the first host there may run it
 once_open : (s : State) (play : PlayOf) (p n : ℕ) → s.place ≡ Some p → list_any is_running s.rows ≡ false → source play p s.rows ≡ None → list_any (is_next_at (Some p)) (take n (map standing s.rows)) ≡ false
     → (not (runs_once (view_of s play) p) || may_run_once (view_of s play) n p) ≡ true
 once_open s play p n at idle none first =
-    let settled : is_run_once_done play s.rows s.place ≡ false = ap (λ (place : Option ℕ). option_map_or (is_run_once_done_at play s.rows) place false) at ∙ no_source (runs_once_at play p) p s.rows none in
+    let not_done : is_run_once_done play s.rows s.place ≡ false = ap (λ (place : Option ℕ). option_map_or (is_run_once_done_at play s.rows) place false) at ∙ no_source (runs_once_at play p) p s.rows none in
     let nobody = eq-eqb (running_at (runs_in (map standing s.rows)) p) 0 (none_at p s.rows idle) in
     let may : may_run_once (view_of s play) n p ≡ true =
     both (is_open_once (view_of s play) p) (is_first_at (map standing s.rows) p n)
-    (both (nat_eq (running_at (runs_in (map standing s.rows)) p) 0) (not (is_run_once_done play s.rows s.place)) nobody (ap not settled)) (ap not first) in
+    (both (nat_eq (running_at (runs_in (map standing s.rows)) p) 0) (not (is_run_once_done play s.rows s.place)) nobody (ap not not_done)) (ap not first) in
     ap (λ (b : Bool). not (runs_once (view_of s play) p) || b) may ∙ or_true (not (runs_once (view_of s play) p))
 
 -- what a turn is possible under
@@ -239,7 +239,7 @@ turn_stopped s play may =
 turn_none : (s : State) (play : PlayOf) → may_turn_in s play ≡ true → has_some (starting (view_of s play)) ≡ false
 turn_none s play may = not_false (has_some (starting (view_of s play))) (and_right (is_idle (view_of s play) && is_some s.place) _ may)
 
--- a turn is possible at a current place that is the least only where a host settled the task there, which runs once
+-- a turn is possible at a current place that is the least only where a host did the task there, which runs once
 pub turn_does_run_once : (s : State) (play : PlayOf) (p : ℕ) → 0 < s.forks → may_turn_in s play ≡ true → s.place ≡ Some p → least_place s.rows ≡ Some p → (from : HostOf) × (source play p s.rows ≡ Some from) × (has_done_run_once p from ≡ true)
 turn_does_run_once s play p f may at least = by_source (source play p s.rows) refl
   where

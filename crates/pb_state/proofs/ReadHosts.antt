@@ -27,7 +27,7 @@ use Rattle.pb_host.specs.Attempts.{attempt_after, back_in}
 use Rattle.pb_host.specs.Back.{SameAttempts}
 use Rattle.pb_task_vars.specs.declared.gifts.DelegatedFacts.{DelegatedFacts}
 use Rattle.pb_host.specs.declared.step_result.Retried.{Retried}
-use Rattle.pb_host.specs.Decides.{report_result, step_result_by, step_result_with, retried_in, retried_after, item_results_in, with_retried}
+use Rattle.pb_host.specs.StepResults.{report_result, step_result_by, step_result_with, retried_in, retried_after, item_results_in, with_retried}
 use Rattle.pb_hosts.specs.Hosts.{change}
 use Rattle.pb_hosts.specs.Giving.{with_delegated, gifts_at, gifts_by, gifts_of, report_gives}
 use Rattle.pb_state.specs.Machine.{learnt_by, reported_seen}
@@ -97,10 +97,10 @@ pub gives_same : (one other : PlanOf) → one.inventory ≡ other.inventory → 
 gives_same one other inv play outcome h None same = refl
 gives_same one other inv play outcome h (Some row) same = gifts_same one other inv play outcome h row row.running same
 
-pub decides_same : (one other : PlanOf) (play : PlayOf) (outcome : Form) (found : Option HostOf) → IfSome found (λ row. SameAttempts one other play row row.running) →
+pub report_result_same : (one other : PlanOf) (play : PlayOf) (outcome : Form) (found : Option HostOf) → IfSome found (λ row. SameAttempts one other play row row.running) →
     option_map_or (report_result one play outcome) found None ≡ option_map_or (report_result other play outcome) found None
-decides_same one other play outcome None same = refl
-decides_same one other play outcome (Some row) same = step_result_same one other play outcome row row.running same
+report_result_same one other play outcome None same = refl
+report_result_same one other play outcome (Some row) same = step_result_same one other play outcome row row.running same
 
 pub seen_same : (seen other : PlanOf) (s : State) (r : Report) (play : PlayOf) (one : PlanOf) → seen ≡ one → one.inventory ≡ other.inventory → IfSome (slice_get s.rows r.host.0) (λ row. SameAttempts one other play row row.running) →
     reported_seen seen s r play ≡ reported_seen other s r play
@@ -111,7 +111,7 @@ seen_same seen other s r play one is inv same =
     ∙ ap (λ (rows : List HostOf). record s { rows = with_delegated (report_gives other play r.outcome r.host.0 s.rows) rows; step_result = option_map_or (report_result one play r.outcome) (slice_get s.rows r.host.0) None })
     (rows_same one other inv play r.outcome s.rows r.host.0 (slice_get s.rows r.host.0) refl same)
     ∙ ap (λ (d : Option StepResult). record s { rows = with_delegated (report_gives other play r.outcome r.host.0 s.rows) (change s.rows r.host.0 (reported other play r.outcome)); step_result = d })
-    (decides_same one other play r.outcome (slice_get s.rows r.host.0) same)
+    (report_result_same one other play r.outcome (slice_get s.rows r.host.0) same)
 
 -- the items of a task that doesn't look `hostvars` up, where these are found
 pub found_unread : (plan seen : PlanOf) (play : PlayOf) (h : ℕ) (facts : FactsOf) (p : ℕ) (learnt : List FactsOf) (hosts : List (List ℕ × Datum)) (found : Option (List Item)) → seen ≡ with_hosts plan hosts → hosts ≡ [] →

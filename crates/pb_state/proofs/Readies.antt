@@ -56,7 +56,7 @@ none_start s play e = by_stopped s.stopped e
     by_stopped true n = n
     by_stopped false n = none_left (starting (view_of s play)) (map has_send s.rows) (widths s play) n
 
--- and in a run that wasn't told to stop nobody has a send
+-- and in a run that isn't stopped nobody has a send
 none_of : (rows : List HostOf) (h : ℕ) → has_some (map has_send rows) ≡ false → at_row has_send rows h ≡ false
 none_of [] h e = refl
 none_of (row ∷ rows) zero e = or_left (has_send row) _ e

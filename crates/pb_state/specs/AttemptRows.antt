@@ -125,13 +125,13 @@ second_waits_so_long : option_map (λ (job : Job). job.delay) (job_of lone (led_
 unfolding on_facts
 second_waits_so_long = refl
 
--- that attempt is told of, and the task goes on
+-- that attempt is in the step's result, and the task goes on
 abbrev retried_in : List Event → Option ℕ
 retried_in events = option_map_or (λ (d : StepResult). option_map (λ (r : Retried). r.attempt) d.retried) (led_to lone events).step_result None
 
-first_is_told_of : retried_in failed_once ≡ Some 1
+first_is_retried : retried_in failed_once ≡ Some 1
 unfolding on_facts
-first_is_told_of = refl
+first_is_retried = refl
 
 abbrev still_runs : PlanOf → List Event → Option Bool
 still_runs plan events = option_map is_running (slice_get (led_to plan events).rows 0)
@@ -164,9 +164,9 @@ counts_once : counts_of lone succeeded ≡ Some (record none_counted { ok = 1; c
 unfolding on_facts
 counts_once = refl
 
-second_isnt_told_of : retried_in succeeded ≡ None
+second_isnt_retried : retried_in succeeded ≡ None
 unfolding on_facts
-second_isnt_told_of = refl
+second_isnt_retried = refl
 
 none_behind_success : may lone succeeded (goes 3 2) ≡ false
 unfolding on_facts
@@ -203,9 +203,9 @@ none_behind_a_loss = refl
 abbrev once : PlanOf
 once = threes 5 (on_three runs ∷ [])
 
-none_unless_told : may once failed_once (goes 2 1) ≡ false
+none_unless_retried : may once failed_once (goes 2 1) ≡ false
 unfolding on_facts
-none_unless_told = refl
+none_unless_retried = refl
 
 -- ---- nothing twice
 -- the attempts that go out are sends that differ

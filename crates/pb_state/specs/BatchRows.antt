@@ -175,7 +175,7 @@ unfolding on_facts
 third_begins = refl
 
 -- ---- commands
--- told to stop: nothing starts, and a report of a job that is out still comes
+-- commanded to stop: nothing starts, and a report of a job that is out still comes
 abbrev one_fork : PlanOf
 one_fork = threes 1 (bare_play (codes "all") (bare_tree 0 1 0) (runs ∷ []) all_three ∷ [])
 

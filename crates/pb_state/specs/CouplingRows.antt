@@ -45,8 +45,8 @@ abbrev statuses_of : PlanOf → List Event → List Status
 statuses_of plan events = map (λ (row : HostOf). row.status) (led_to plan events).rows
 
 -- the result of the task that the last event ended
-abbrev told_by : PlanOf → List Event → Option Datum
-told_by plan events = option_map_or (λ (d : StepResult). option_map (λ (done : TaskDone). done.result) d.done) (led_to plan events).step_result None
+abbrev result_after : PlanOf → List Event → Option Datum
+result_after plan events = option_map_or (λ (d : StepResult). option_map (λ (done : TaskDone). done.result) d.done) (led_to plan events).step_result None
 
 -- a play of two hosts, with these nodes behind its first Flush
 abbrev twos : List PlayOf → PlanOf
@@ -122,11 +122,11 @@ runs_once : IsLegal for_all 256 (second_batch ++ Turn ∷ Close ∷ []) × (coun
 unfolding on_facts
 runs_once = (refl, refl)
 
-second_sees : told_by for_all first_batch ≡ Some (shown_result (codes "r.stdout") (text (codes "A"))).result
+second_sees : result_after for_all first_batch ≡ Some (shown_result (codes "r.stdout") (text (codes "A"))).result
 unfolding on_facts
 second_sees = refl
 
-third_sees : told_by for_all second_batch ≡ Some (shown_result (codes "r.stdout") (text (codes "C"))).result
+third_sees : result_after for_all second_batch ≡ Some (shown_result (codes "r.stdout") (text (codes "C"))).result
 unfolding on_facts
 third_sees = refl
 
@@ -323,6 +323,6 @@ x_is v = Some (shown_result (codes "x") v).result
 
 delegates_facts : IsLegal delegates 256 delegated_run
     × (counts_of delegates delegated_run ≡ record none_counted { ok = 2 } ∷ record none_counted { ok = 1; skipped = 1 } ∷ [])
-    × (told_by delegates first_shows ≡ x_is (text (codes "VARIABLE IS NOT DEFINED!"))) × (told_by delegates both_show ≡ x_is (int (pos 1)))
+    × (result_after delegates first_shows ≡ x_is (text (codes "VARIABLE IS NOT DEFINED!"))) × (result_after delegates both_show ≡ x_is (int (pos 1)))
 unfolding on_facts
 delegates_facts = (refl, refl, refl, refl)

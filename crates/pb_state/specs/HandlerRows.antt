@@ -131,7 +131,7 @@ flush_is_rescued : IsLegalUnder flushes 5 5 flushes_run × (counts_of flushes fl
 unfolding on_facts
 flush_is_rescued = (refl, refl, refl)
 
--- ---- a handler that notifies itself is told of again, and runs at the next Flush
+-- ---- a handler that notifies itself is notified again, and runs at the next Flush
 abbrev pub itself : PlanOf
 itself =
     with_nodes false (Task last) 1

@@ -58,7 +58,7 @@ is_shared Close = true
 is_shared Stop = false
 is_shared (Forks n) = false
 
--- nothing else is anything to an opening, a turn or a closing: neither forks nor workers, tickets, or what was decided
+-- nothing else is anything to an opening, a turn or a closing: neither forks nor workers, tickets, or what the last step came to
 abbrev pub MovesByPlace : PlanOf → State → State → Event → Type 0
 MovesByPlace plan old new event =
     (forks : ℕ) (other : State) → is_shared event ≡ true → place_in other ≡ place_in old → place_in (after (under forks plan) other event) ≡ place_in new

@@ -26,7 +26,7 @@ use Rattle.pb_state.specs.State.{State}
 use Rattle.pb_state.specs.Strategies.{view_of}
 use Rattle.pb_hosts.specs.Turn.{BatchOf, turned_by}
 use Rattle.pb_host.specs.Runs.{is_in, is_running, has_send, may_send_item, awaits, item_of, attempt_of}
-use Rattle.pb_host.specs.Decides.{step_result_with, report_result}
+use Rattle.pb_host.specs.StepResults.{step_result_with, report_result}
 use Rattle.pb_hosts.specs.Hosts.{at_row, least_place, first_play, change, pending_in}
 use Rattle.pb_hosts.specs.Giving.{with_delegated, gifts_at, report_gives}
 
@@ -83,7 +83,7 @@ possible plan s Close = option_map_or (may_close_in s) (open_play plan s) false
 possible plan s Stop = true
 possible plan s (Forks n) = nat_le 1 n && nat_le n s.pool
 
--- the hosts that have a send or a start; in a run that was told to stop none has a send
+-- the hosts that have a send or a start; in a run that is stopped none has a send
 abbrev pub with_sends : Bool → List HostOf → List Bool → List Bool
 with_sends stopped rows starts = if stopped then starts else zip2 (λ (a b : Bool). a || b) starts (map has_send rows)
 

@@ -19,9 +19,9 @@ pub record State : Type 0 where
   pub pool : ℕ
   -- how many jobs were sent: the next one has this number as its ticket
   pub sends : ℕ
-  -- told to stop
+  -- commanded to stop
   pub stopped : Bool
   -- a batch closed with no active host in it
   pub ended : Bool
-  -- what the last step decided
+  -- what the last step came to
   pub step_result : Option StepResult

@@ -15,7 +15,7 @@ mod turn;
 use crate::event::Event;
 use crate::known::host_of;
 use crate::sizes_left::SizesLeft;
-use pb_host::{StepResult, decide};
+use pb_host::{StepResult, put_step_result};
 use pb_hosts::Hosts;
 use pb_plan::Plan;
 use pb_task_vars::gifts::DelegatedFacts;
@@ -265,12 +265,12 @@ impl EngineState {
             }
             Event::Stop => {
                 self.stopped = true;
-                decide(&mut self.step_result, None);
+                put_step_result(&mut self.step_result, None);
                 Ok(Vec::new(self.alloc))
             }
             Event::Forks(forks) => {
                 self.forks = *forks;
-                decide(&mut self.step_result, None);
+                put_step_result(&mut self.step_result, None);
                 Ok(Vec::new(self.alloc))
             }
         }

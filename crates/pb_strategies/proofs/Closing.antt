@@ -65,11 +65,11 @@ without_twice f g both e (b ∷ set) (host ∷ hosts) =
 -- a set whose hosts are asked one after another, up to some host
 pub record IsAsked (test : Standing → Bool) (set now : List Bool) (hosts : List Standing) (from : ℕ) : Type 0 where
   pub width : length now ≡ length set
-  pub told : (k : ℕ) → k < from → is_in now k ≡ is_in (without test set hosts) k
+  pub done : (k : ℕ) → k < from → is_in now k ≡ is_in (without test set hosts) k
   pub rest : (k : ℕ) → from ≤ k → is_in now k ≡ is_in set k
 
 pub asked_first : (test : Standing → Bool) (set : List Bool) (hosts : List Standing) → IsAsked test set set hosts 0
-asked_first test set hosts = record { width = refl; told = λ k lt. absurd (omega (arith, lt)); rest = λ k le. refl }
+asked_first test set hosts = record { width = refl; done = λ k lt. absurd (omega (arith, lt)); rest = λ k le. refl }
 
 none_out : (test : Standing → Bool) (set : List Bool) (hosts : List Standing) (k : ℕ) → length set ≡ length hosts → k < length hosts → is_in set k ≡ false → is_in (without test set hosts) k ≡ false
 none_out test set hosts k width lt e =
@@ -77,7 +77,7 @@ none_out test set hosts k width lt e =
 
 pub asked_step : (test : Standing → Bool) (set now new : List Bool) (hosts : List Standing) (from h : ℕ) (host : Standing) → length set ≡ length hosts → IsAsked test set now hosts from → IsNextFrom now from h → slice_get hosts h ≡ Some host
     → new ≡ slice_set now h (not (test host)) → IsAsked test set new hosts (h + 1)
-asked_step test set now new hosts from h host width asked next e n = record { width = ap length n ∙ length-set now h (not (test host)) ∙ asked.width; told = told; rest = rest }
+asked_step test set now new hosts from h host width asked next e n = record { width = ap length n ∙ length-set now h (not (test host)) ∙ asked.width; done = done; rest = rest }
   where
     other : (k : ℕ) → (k ≡ h → ⊥) → is_in new k ≡ is_in now k
     other k ne = ap (λ xs. is_in xs k) n ∙ get_or-set_other now h k (not (test host)) false ne
@@ -94,12 +94,12 @@ asked_step test set now new hosts from h host width asked next e n = record { wi
         let off = next.2 k le lt in
         other k (λ (is : k ≡ h). omega (arith, is, lt)) ∙ off ∙ sym (none_out test set hosts k width (omega (arith, within, lt)) (sym (asked.rest k le) ∙ off))
 
-    told : (k : ℕ) → k < h + 1 → is_in new k ≡ is_in (without test set hosts) k
-    told k lt =
+    done : (k : ℕ) → k < h + 1 → is_in new k ≡ is_in (without test set hosts) k
+    done k lt =
         elim (cases_order k h) [
           | inl is ↦ ap (is_in new) is ∙ here ∙ ap (is_in (without test set hosts)) (sym is)
           | inr rest ↦ elim rest [
-            | inl less ↦ elim (cases_lt k from) [ inl before ↦ other k (λ (is : k ≡ h). omega (arith, is, less)) ∙ asked.told k before | inr behind ↦ between k behind less ]
+            | inl less ↦ elim (cases_lt k from) [ inl before ↦ other k (λ (is : k ≡ h). omega (arith, is, less)) ∙ asked.done k before | inr behind ↦ between k behind less ]
             | inr more ↦ absurd (omega (arith, lt, more))
           ]
         ]
@@ -114,7 +114,7 @@ asked_all test set now hosts from width asked none = ext_get_or false now (witho
     each k lt =
         let long = asked.width in
         elim (cases_lt k from) [
-          | inl before ↦ asked.told k before
+          | inl before ↦ asked.done k before
           | inr behind ↦ none k behind ∙ sym (none_out test set hosts k width (omega (arith, lt, long, width)) (sym (asked.rest k behind) ∙ none k behind))
         ]
 

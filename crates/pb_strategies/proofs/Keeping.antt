@@ -44,8 +44,8 @@ counts_kept hosts h old new limits mid last few e finish start places law =
     let whole = start places h cleared (omega (arith, few, long, long_too)) (set_there (runs_in hosts) h None (omega (arith, long, within))) half in
     whole ∙ ap (limits_of places) (set-set (runs_in hosts) h None new.runs ∙ sym (map-set runs hosts h new))
 
-one_kept : (test : Standing → Bool) (hosts : List Standing) (h : ℕ) (new : Standing) (set told : List Bool) → set ≡ map test hosts → told ≡ slice_set set h (test new) → told ≡ map test (slice_set hosts h new)
-one_kept test hosts h new set told s t = t ∙ ap (λ xs. slice_set xs h (test new)) s ∙ sym (map-set test hosts h new)
+one_kept : (test : Standing → Bool) (hosts : List Standing) (h : ℕ) (new : Standing) (set new_set : List Bool) → set ≡ map test hosts → new_set ≡ slice_set set h (test new) → new_set ≡ map test (slice_set hosts h new)
+one_kept test hosts h new set new_set s t = t ∙ ap (λ xs. slice_set xs h (test new)) s ∙ sym (map-set test hosts h new)
 
 pub put_kept : (hosts : List Standing) (h : ℕ) (old new : Standing) (limits mid last : LimitsOf) (n m : ℕ) (running begun unended r b u : List Bool) (here t : Watched) (idle i : List Bool) (watched w : List (Option (List Bool)))
     (bits c : List (List Bool)) (fits f : Bool) → slice_get hosts h ≡ Some old

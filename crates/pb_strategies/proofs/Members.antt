@@ -20,7 +20,7 @@ member_below set h i = elim (cases_lt h (length set)) [
 pub found : {X : Type 0} (test : X → Bool) (xs : List X) (h : ℕ) (d : X) → is_in (map test xs) h ≡ true → (h < length xs) × (slice_get xs h ≡ Some (get_or xs h d))
 found test xs h d i = let w = member_below (map test xs) h i in let long = length-map xs test in let below : h < length xs = omega (arith, w, long) in (below, slice_get-get_or xs h d below)
 
--- what is told of the hosts that aren't in the set is what is to be told
+-- what the list has of the hosts that aren't in the set is what it is to have
 abbrev pub Agrees : {X Y : Type 0} → (X → Y) → List Bool → List X → List Y → Type 0
 Agrees f [] [] [] = ⊤
 Agrees f [] [] (y ∷ ys) = ⊥
@@ -29,70 +29,70 @@ Agrees f (b ∷ set) [] ys = ⊥
 Agrees f (b ∷ set) (x ∷ xs) [] = ⊥
 Agrees f (b ∷ set) (x ∷ xs) (y ∷ ys) = (b ≡ false → y ≡ f x) × Agrees f set xs ys
 
--- the first so many are told
-abbrev pub told : {X Y : Type 0} → (X → Y) → ℕ → List X → List Y → List Y
-told f zero xs ys = ys
-told f (suc n) [] ys = ys
-told f (suc n) (x ∷ xs) [] = []
-told f (suc n) (x ∷ xs) (y ∷ ys) = f x ∷ told f n xs ys
+-- the first so many are overwritten
+abbrev pub overwritten : {X Y : Type 0} → (X → Y) → ℕ → List X → List Y → List Y
+overwritten f zero xs ys = ys
+overwritten f (suc n) [] ys = ys
+overwritten f (suc n) (x ∷ xs) [] = []
+overwritten f (suc n) (x ∷ xs) (y ∷ ys) = f x ∷ overwritten f n xs ys
 
-told_none : {X Y : Type 0} (f : X → Y) (n : ℕ) → told f n [] [] ≡ []
-told_none f zero = refl
-told_none f (suc n) = refl
+overwritten_none : {X Y : Type 0} (f : X → Y) (n : ℕ) → overwritten f n [] [] ≡ []
+overwritten_none f zero = refl
+overwritten_none f (suc n) = refl
 
-told_skip : {X Y : Type 0} (f : X → Y) (set : List Bool) (xs : List X) (ys : List Y) → Agrees f set xs ys → (from h : ℕ) → from ≤ h → ((i : ℕ) → from ≤ i → i < h → is_in set i ≡ false) → told f from xs ys ≡ told f h xs ys
-told_skip f [] [] [] a from h le off = told_none f from ∙ sym (told_none f h)
-told_skip f [] [] (y ∷ ys) a from h le off = absurd a
-told_skip f [] (x ∷ xs) ys a from h le off = absurd a
-told_skip f (b ∷ set) [] ys a from h le off = absurd a
-told_skip f (b ∷ set) (x ∷ xs) [] a from h le off = absurd a
-told_skip f (b ∷ set) (x ∷ xs) (y ∷ ys) a zero zero le off = refl
-told_skip f (b ∷ set) (x ∷ xs) (y ∷ ys) a zero (suc h) le off =
+overwritten_skip : {X Y : Type 0} (f : X → Y) (set : List Bool) (xs : List X) (ys : List Y) → Agrees f set xs ys → (from h : ℕ) → from ≤ h → ((i : ℕ) → from ≤ i → i < h → is_in set i ≡ false) → overwritten f from xs ys ≡ overwritten f h xs ys
+overwritten_skip f [] [] [] a from h le off = overwritten_none f from ∙ sym (overwritten_none f h)
+overwritten_skip f [] [] (y ∷ ys) a from h le off = absurd a
+overwritten_skip f [] (x ∷ xs) ys a from h le off = absurd a
+overwritten_skip f (b ∷ set) [] ys a from h le off = absurd a
+overwritten_skip f (b ∷ set) (x ∷ xs) [] a from h le off = absurd a
+overwritten_skip f (b ∷ set) (x ∷ xs) (y ∷ ys) a zero zero le off = refl
+overwritten_skip f (b ∷ set) (x ∷ xs) (y ∷ ys) a zero (suc h) le off =
     ap (λ here. here ∷ ys) (a.0 (off zero (omega arith) (omega arith)))
-    ∙ ap (λ rest. f x ∷ rest) (told_skip f set xs ys a.1 zero h (omega arith) (λ i l u. off (suc i) (omega arith) (omega (arith, u))))
-told_skip f (b ∷ set) (x ∷ xs) (y ∷ ys) a (suc from) zero le off = absurd (omega (arith, le))
-told_skip f (b ∷ set) (x ∷ xs) (y ∷ ys) a (suc from) (suc h) le off =
-    ap (λ rest. f x ∷ rest) (told_skip f set xs ys a.1 from h (omega (arith, le)) (λ i l u. off (suc i) (omega (arith, l)) (omega (arith, u))))
+    ∙ ap (λ rest. f x ∷ rest) (overwritten_skip f set xs ys a.1 zero h (omega arith) (λ i l u. off (suc i) (omega arith) (omega (arith, u))))
+overwritten_skip f (b ∷ set) (x ∷ xs) (y ∷ ys) a (suc from) zero le off = absurd (omega (arith, le))
+overwritten_skip f (b ∷ set) (x ∷ xs) (y ∷ ys) a (suc from) (suc h) le off =
+    ap (λ rest. f x ∷ rest) (overwritten_skip f set xs ys a.1 from h (omega (arith, le)) (λ i l u. off (suc i) (omega (arith, l)) (omega (arith, u))))
 
-told_all : {X Y : Type 0} (f : X → Y) (set : List Bool) (xs : List X) (ys : List Y) → Agrees f set xs ys → (from : ℕ) → ((i : ℕ) → from ≤ i → is_in set i ≡ false) → told f from xs ys ≡ map f xs
-told_all f [] [] [] a from off = told_none f from
-told_all f [] [] (y ∷ ys) a from off = absurd a
-told_all f [] (x ∷ xs) ys a from off = absurd a
-told_all f (b ∷ set) [] ys a from off = absurd a
-told_all f (b ∷ set) (x ∷ xs) [] a from off = absurd a
-told_all f (b ∷ set) (x ∷ xs) (y ∷ ys) a zero off =
-    ap (λ here. here ∷ ys) (a.0 (off zero (omega arith))) ∙ ap (λ rest. f x ∷ rest) (told_all f set xs ys a.1 zero (λ i l. off (suc i) (omega arith)))
-told_all f (b ∷ set) (x ∷ xs) (y ∷ ys) a (suc from) off = ap (λ rest. f x ∷ rest) (told_all f set xs ys a.1 from (λ i l. off (suc i) (omega (arith, l))))
+overwritten_all : {X Y : Type 0} (f : X → Y) (set : List Bool) (xs : List X) (ys : List Y) → Agrees f set xs ys → (from : ℕ) → ((i : ℕ) → from ≤ i → is_in set i ≡ false) → overwritten f from xs ys ≡ map f xs
+overwritten_all f [] [] [] a from off = overwritten_none f from
+overwritten_all f [] [] (y ∷ ys) a from off = absurd a
+overwritten_all f [] (x ∷ xs) ys a from off = absurd a
+overwritten_all f (b ∷ set) [] ys a from off = absurd a
+overwritten_all f (b ∷ set) (x ∷ xs) [] a from off = absurd a
+overwritten_all f (b ∷ set) (x ∷ xs) (y ∷ ys) a zero off =
+    ap (λ here. here ∷ ys) (a.0 (off zero (omega arith))) ∙ ap (λ rest. f x ∷ rest) (overwritten_all f set xs ys a.1 zero (λ i l. off (suc i) (omega arith)))
+overwritten_all f (b ∷ set) (x ∷ xs) (y ∷ ys) a (suc from) off = ap (λ rest. f x ∷ rest) (overwritten_all f set xs ys a.1 from (λ i l. off (suc i) (omega (arith, l))))
 
-told_set : {X Y : Type 0} (f : X → Y) (set : List Bool) (xs : List X) (ys : List Y) → Agrees f set xs ys → (h : ℕ) (x : X) → slice_get xs h ≡ Some x → slice_set (told f h xs ys) h (f x) ≡ told f (suc h) xs ys
-told_set f [] [] [] a zero x e = refl
-told_set f [] [] [] a (suc h) x e = refl
-told_set f [] [] (y ∷ ys) a h x e = absurd a
-told_set f [] (z ∷ xs) ys a h x e = absurd a
-told_set f (b ∷ set) [] ys a h x e = absurd a
-told_set f (b ∷ set) (z ∷ xs) [] a h x e = absurd a
-told_set f (b ∷ set) (z ∷ xs) (y ∷ ys) a zero x e = let same : z ≡ x = cc in ap (λ w. f w ∷ ys) (sym same)
-told_set f (b ∷ set) (z ∷ xs) (y ∷ ys) a (suc h) x e = ap (λ rest. f z ∷ rest) (told_set f set xs ys a.1 h x e)
+overwritten_set : {X Y : Type 0} (f : X → Y) (set : List Bool) (xs : List X) (ys : List Y) → Agrees f set xs ys → (h : ℕ) (x : X) → slice_get xs h ≡ Some x → slice_set (overwritten f h xs ys) h (f x) ≡ overwritten f (suc h) xs ys
+overwritten_set f [] [] [] a zero x e = refl
+overwritten_set f [] [] [] a (suc h) x e = refl
+overwritten_set f [] [] (y ∷ ys) a h x e = absurd a
+overwritten_set f [] (z ∷ xs) ys a h x e = absurd a
+overwritten_set f (b ∷ set) [] ys a h x e = absurd a
+overwritten_set f (b ∷ set) (z ∷ xs) [] a h x e = absurd a
+overwritten_set f (b ∷ set) (z ∷ xs) (y ∷ ys) a zero x e = let same : z ≡ x = cc in ap (λ w. f w ∷ ys) (sym same)
+overwritten_set f (b ∷ set) (z ∷ xs) (y ∷ ys) a (suc h) x e = ap (λ rest. f z ∷ rest) (overwritten_set f set xs ys a.1 h x e)
 
--- the next host is told, behind which the next step begins
-pub told_step : {X Y : Type 0} (f : X → Y) (set : List Bool) (xs : List X) (ys old new : List Y) (from h : ℕ) (x : X) → Agrees f set xs ys → IsNextFrom set from h → slice_get xs h ≡ Some x → old ≡ told f from xs ys → new ≡ slice_set old h (f x)
-    → new ≡ told f (h + 1) xs ys
-told_step f set xs ys old new from h x a next at o n =
+-- the next host is overwritten, behind which the next step begins
+pub overwritten_step : {X Y : Type 0} (f : X → Y) (set : List Bool) (xs : List X) (ys old new : List Y) (from h : ℕ) (x : X) → Agrees f set xs ys → IsNextFrom set from h → slice_get xs h ≡ Some x → old ≡ overwritten f from xs ys → new ≡ slice_set old h (f x)
+    → new ≡ overwritten f (h + 1) xs ys
+overwritten_step f set xs ys old new from h x a next at o n =
     let behind : suc h ≡ h + 1 = omega arith in
-    n ∙ ap (λ all. slice_set all h (f x)) (o ∙ told_skip f set xs ys a from h next.0 next.2) ∙ told_set f set xs ys a h x at ∙ ap (λ k. told f k xs ys) behind
+    n ∙ ap (λ all. slice_set all h (f x)) (o ∙ overwritten_skip f set xs ys a from h next.0 next.2) ∙ overwritten_set f set xs ys a h x at ∙ ap (λ k. overwritten f k xs ys) behind
 
-pub told_end : {X Y : Type 0} (f : X → Y) (set : List Bool) (xs : List X) (ys old : List Y) (from : ℕ) → Agrees f set xs ys → HasNoneFrom set from → old ≡ told f from xs ys → old ≡ map f xs
-told_end f set xs ys old from a none o = o ∙ told_all f set xs ys a from none
+pub overwritten_end : {X Y : Type 0} (f : X → Y) (set : List Bool) (xs : List X) (ys old : List Y) (from : ℕ) → Agrees f set xs ys → HasNoneFrom set from → old ≡ overwritten f from xs ys → old ≡ map f xs
+overwritten_end f set xs ys old from a none o = o ∙ overwritten_all f set xs ys a from none
 
-pub told_long : {X Y : Type 0} (f : X → Y) (set : List Bool) (xs : List X) (ys : List Y) → Agrees f set xs ys → (n : ℕ) → length (told f n xs ys) ≡ length xs
-told_long f [] [] [] a zero = refl
-told_long f [] [] [] a (suc n) = refl
-told_long f [] [] (y ∷ ys) a n = absurd a
-told_long f [] (x ∷ xs) ys a n = absurd a
-told_long f (b ∷ set) [] ys a n = absurd a
-told_long f (b ∷ set) (x ∷ xs) [] a n = absurd a
-told_long f (b ∷ set) (x ∷ xs) (y ∷ ys) a zero = ap suc (told_long f set xs ys a.1 zero)
-told_long f (b ∷ set) (x ∷ xs) (y ∷ ys) a (suc n) = ap suc (told_long f set xs ys a.1 n)
+pub overwritten_long : {X Y : Type 0} (f : X → Y) (set : List Bool) (xs : List X) (ys : List Y) → Agrees f set xs ys → (n : ℕ) → length (overwritten f n xs ys) ≡ length xs
+overwritten_long f [] [] [] a zero = refl
+overwritten_long f [] [] [] a (suc n) = refl
+overwritten_long f [] [] (y ∷ ys) a n = absurd a
+overwritten_long f [] (x ∷ xs) ys a n = absurd a
+overwritten_long f (b ∷ set) [] ys a n = absurd a
+overwritten_long f (b ∷ set) (x ∷ xs) [] a n = absurd a
+overwritten_long f (b ∷ set) (x ∷ xs) (y ∷ ys) a zero = ap suc (overwritten_long f set xs ys a.1 zero)
+overwritten_long f (b ∷ set) (x ∷ xs) (y ∷ ys) a (suc n) = ap suc (overwritten_long f set xs ys a.1 n)
 
 -- a host without a next place is next nowhere
 not_next : (place : Option ℕ) (host : Standing) → is_unended host ≡ false → false ≡ is_next_at place host

@@ -1,4 +1,4 @@
--- Who is at a place is told by the bits of its number.
+-- Who is at a place is known by the bits of its number.
 use Rattle.std.proofs.Common.{◌≡◌, ◌≢◌, ◌<◌, ◌≤◌, ◌+◌, ◌/◌, ◌%◌, ◌++◌, ◌∙◌, ℕ, zero, suc, Bool, true, false, ◌&&◌, List, [], ◌∷◌, Option, Some, None, map, length, nat_eq, is_some, slice_set, slice_index_or, get_or, arith, refl, ap, sym, subst, inl, inr}
 use Rattle.std.specs.Prelude.{◌==◌, replicate}
 use Rattle.std.specs.Option.{option_map_or}
@@ -82,12 +82,12 @@ at_place : (k place : ℕ) (next : Option ℕ) → behind_bits k (option_map_or 
 at_place k place None no_more fits = refl
 at_place k place (Some p) no_more fits = are_same k p place no_more fits
 
-pub told_at : (k place : ℕ) (hosts : List Standing) → HaveNoMore k hosts → behind_bits k place ≡ 0
+pub at_by_bits : (k place : ℕ) (hosts : List Standing) → HaveNoMore k hosts → behind_bits k place ≡ 0
     → map (λ (host : Standing). is_unended host && same_bits k (number_of host) place) hosts ≡ map (is_next_at (Some place)) hosts
-told_at k place [] no_more fits = refl
-told_at k place (host ∷ hosts) no_more fits =
+at_by_bits k place [] no_more fits = refl
+at_by_bits k place (host ∷ hosts) no_more fits =
     ap (λ b. b ∷ map (λ (one : Standing). is_unended one && same_bits k (number_of one) place) hosts) (at_place k place host.next (no_more 0) fits)
-    ∙ ap (λ rest. is_next_at (Some place) host ∷ rest) (told_at k place hosts (λ h. no_more (suc h)) fits)
+    ∙ ap (λ rest. is_next_at (Some place) host ∷ rest) (at_by_bits k place hosts (λ h. no_more (suc h)) fits)
 
 -- the hosts that have one bit more
 each_alike : (f g : Standing → Bool) → ((host : Standing) → f host ≡ g host) → (hosts : List Standing) → map f hosts ≡ map g hosts
@@ -264,8 +264,8 @@ more_empty bits new set n e s none k lt = ap (λ xs. slice_index_or xs k []) e �
     each (x ∷ xs) all (suc i) below = each xs (λ j lt. all (suc j) (omega (arith, lt))) i (omega (arith, below))
 
 -- who is at a place
-pub told_there : (hosts : List Standing) (unended set : List Bool) (bits : List (List Bool)) (fits : Bool) (place left : ℕ) → fits ≡ true
+pub there_by_bits : (hosts : List Standing) (unended set : List Bool) (bits : List (List Bool)) (fits : Bool) (place left : ℕ) → fits ≡ true
     → ((all : List Standing) (test : Standing → Bool) → AreBits all bits → unended ≡ map test all → set ≡ map (λ (host : Standing). test host && same_bits (length bits) (number_of host) place) all)
     → left ≡ behind_bits (length bits) place → left ≡ 0 → unended ≡ map is_unended hosts → AreNumbered hosts bits fits → set ≡ map (is_next_at (Some place)) hosts
-told_there hosts unended set bits fits place left fit kept behind none u are =
-    kept hosts is_unended are.are_bits u ∙ told_at (length bits) place hosts (are.no_more fit) (sym behind ∙ none)
+there_by_bits hosts unended set bits fits place left fit kept behind none u are =
+    kept hosts is_unended are.are_bits u ∙ at_by_bits (length bits) place hosts (are.no_more fit) (sym behind ∙ none)

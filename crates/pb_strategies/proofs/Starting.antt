@@ -64,13 +64,13 @@ no_room view e h host found = and_left (has_room view) (option_map_or (may_start
 -- a set without throttled hosts is the ready one, by what it says of each host
 opened_ready : (view : ViewOf) (test : Standing → Bool) (set : List Bool) → has_room view ≡ true → set ≡ map test view.hosts
     → ((h : ℕ) (host : Standing) → (test host && is_open_to view host) ≡ may_start_from view h host) → opened view set ≡ ready view
-opened_ready view test set room s each = ready_is view (opened view set) (length-map-range_with_len (stays_open view set) 0 (length set) ∙ width) told
+opened_ready view test set room s each = ready_is view (opened view set) (length-map-range_with_len (stays_open view set) 0 (length set) ∙ width) each_may
   where
     width : length set ≡ length view.hosts
     width = ap length s ∙ length-map view.hosts test
 
-    told : (h : ℕ) (host : Standing) → slice_get view.hosts h ≡ Some host → is_in (opened view set) h ≡ may_start view h
-    told h host e =
+    each_may : (h : ℕ) (host : Standing) → slice_get view.hosts h ≡ Some host → is_in (opened view set) h ≡ may_start view h
+    each_may h host e =
         let within = slice_get_within view.hosts h host e in
         let there : is_in set h ≡ test host = ap (λ xs. is_in xs h) s ∙ mapped test view.hosts h host e in
         let at = get_or-map-range_with_len (stays_open view set) 0 (length set) h h false (omega (arith, within, width)) (omega arith) in
@@ -200,10 +200,10 @@ open_parts r a s g er ea = ap (λ b. b && (a && (s && g))) er ∙ ap (λ b. b &&
 
 pub standing_ready : (view : ViewOf) (place : ℕ) (set : List Bool) → has_room view ≡ true → view.strategy ≡ Linear → view.place ≡ Some place → has_room_at view place ≡ true → runs_once view place ≡ false
     → set ≡ map (stands_at place) view.hosts → set ≡ ready view
-standing_ready view place set room linear current room_at often s = ready_is view set (ap length s ∙ length-map view.hosts (stands_at place)) told
+standing_ready view place set room linear current room_at often s = ready_is view set (ap length s ∙ length-map view.hosts (stands_at place)) each_may
   where
-    told : (h : ℕ) (host : Standing) → slice_get view.hosts h ≡ Some host → is_in set h ≡ may_start view h
-    told h host e =
+    each_may : (h : ℕ) (host : Standing) → slice_get view.hosts h ≡ Some host → is_in set h ≡ may_start view h
+    each_may h host e =
         ap (λ xs. is_in xs h) s ∙ mapped (stands_at place) view.hosts h host e
         ∙ sym (may_is view place h host linear current e
         ∙ open_parts (has_room view) (has_room_at view place) (stands_at place host) (not (runs_once view place) || may_run_once view h place) room room_at
@@ -212,10 +212,10 @@ standing_ready view place set room linear current room_at often s = ready_is vie
 
 pub first_ready : (view : ViewOf) (place : ℕ) (set : List Bool) → has_room view ≡ true → view.strategy ≡ Linear → view.place ≡ Some place → has_room_at view place ≡ true → runs_once view place ≡ true → is_open_once view place ≡ true
     → set ≡ map (first_standing view.hosts place) (range_with_len 0 (length view.hosts)) → set ≡ ready view
-first_ready view place set room linear current room_at once opens s = ready_is view set (ap length s ∙ length-map-range_with_len (first_standing view.hosts place) 0 (length view.hosts)) told
+first_ready view place set room linear current room_at once opens s = ready_is view set (ap length s ∙ length-map-range_with_len (first_standing view.hosts place) 0 (length view.hosts)) each_may
   where
-    told : (h : ℕ) (host : Standing) → slice_get view.hosts h ≡ Some host → is_in set h ≡ may_start view h
-    told h host e =
+    each_may : (h : ℕ) (host : Standing) → slice_get view.hosts h ≡ Some host → is_in set h ≡ may_start view h
+    each_may h host e =
         let within = slice_get_within view.hosts h host e in
         let first = is_first_at view.hosts place h in
         ap (λ xs. is_in xs h) s

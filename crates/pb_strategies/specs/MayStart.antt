@@ -9,7 +9,7 @@ use Rattle.pb_strategies.specs.declared.strategy.Strategy.{Strategy}
 use Rattle.pb_strategies.specs.declared.strategy.Strategy.TheVariants.{Linear, Free, HostPinned}
 use Rattle.pb_strategies.specs.Hosts.{same_place, is_running, is_next_at, is_under_way, runs_in}
 
--- what a strategy sees: of each place its throttle and whether its task runs once, whether such a task is settled at the current place, since a host
+-- what a strategy sees: of each place its throttle and whether its task runs once, whether such a task is done at the current place, since a host
 -- has finished it other than by being gone, and where each host stands
 pub record ViewOf : Type 0 where
   pub strategy : Strategy
@@ -36,7 +36,7 @@ runs_once view p = slice_index_or view.run_once p false
 abbrev pub is_first_at : List Standing → ℕ → ℕ → Bool
 is_first_at hosts p h = not (list_any (is_next_at (Some p)) (take h hosts))
 
--- a task that runs once runs on one host at a time, the first there, until it is settled
+-- a task that runs once runs on one host at a time, the first there, until it is done
 abbrev pub is_open_once : ViewOf → ℕ → Bool
 is_open_once view p = nat_eq (running_at (runs_in view.hosts) p) 0 && not view.is_run_once_done
 
@@ -71,7 +71,7 @@ is_linear Linear = true
 is_linear Free = false
 is_linear HostPinned = false
 
--- under the linear strategy nobody runs, in a run that wasn't told to stop
+-- under the linear strategy nobody runs, in a run that isn't stopped
 abbrev pub is_idle : ViewOf → Bool
 is_idle view = is_linear view.strategy && not view.is_stopped && nat_eq (running (runs_in view.hosts)) 0
 

@@ -55,7 +55,7 @@ once = refl
 once_runs : ready (seen Linear 5 (Some 2) (runs 2 ∷ waits 2 ∷ [])) ≡ false ∷ false ∷ []
 once_runs = refl
 
--- once it is settled it starts on none
+-- once it is done it starts on none
 run_once_done : ready (record (seen Linear 5 (Some 2) (waits 2 ∷ waits 2 ∷ [])) { is_run_once_done = true }) ≡ false ∷ false ∷ []
 run_once_done = refl
 

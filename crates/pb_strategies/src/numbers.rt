@@ -11,7 +11,7 @@ use pb_ids::HostNo;
 use pb_planes::HostSet;
 use std::alloc::{AllocError, Global};
 
-/// Of each bit of a place's number the hosts whose next place has it. So the hosts at a place are told without a set of its own, 64 of them in a word.
+/// Of each bit of a place's number the hosts whose next place has it. So the hosts at a place are known without a set of its own, 64 of them in a word.
 #[derive(Debug, Drop)]
 pub(crate) struct Numbers {
     /// From the lowest bit on.

@@ -54,7 +54,7 @@ pub(crate) fn runs_once(view: &View, place: usize) -> bool
     }
 }
 
-/// Whether no host runs the task at a place, which runs once, and it isn't settled.
+/// Whether no host runs the task at a place, which runs once, and it isn't done.
 pub(crate) fn is_open_once(view: &View, place: usize) -> bool
     ensures { result ≡ is_open_once view.now place }
 {
@@ -307,7 +307,7 @@ fn is_linear(strategy: Strategy) -> bool
     matches!(strategy, Strategy::Linear)
 }
 
-/// Whether nobody runs under `Linear`, and the run wasn't told to stop.
+/// Whether nobody runs under `Linear`, and the run isn't stopped.
 fn is_idle(view: &View) -> bool
     ensures { result ≡ is_idle view.now }
 {

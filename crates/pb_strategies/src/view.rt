@@ -10,7 +10,7 @@ pub struct View<'a> {
     pub strategy: Strategy,
     /// How many hosts may run at once.
     pub forks: u32,
-    /// Whether the run was told to stop.
+    /// Whether the run is stopped.
     pub is_stopped: bool,
     /// The current place, at which the hosts of the batch are under `Strategy::Linear`.
     pub place: Option<usize>,

@@ -2,7 +2,7 @@ pub mod FewItems
 pub mod ForOthers
 pub mod Layered
 pub mod ReadHosts
-mod Settled
+mod FreeOfHostvars
 pub mod FactsAfter
 pub mod Unseeing
 pub mod AttemptsUnread

@@ -137,8 +137,8 @@ items_not_read plan seen play h facts p learnt hosts s is unread =
     (subst (λ (q : PlanOf). ItemsUnread q play h facts (place_for q play h p)) s unread)
 
 pub attempts_not_read : (plan seen : PlanOf) (play : PlayOf) (h : ℕ) (facts : FactsOf) (p : ℕ) (learnt : List FactsOf) (none hosts : Map) (reads : Bool) → seen ≡ with_hosts plan none →
-    reads ≡ false → (reads ≡ false → AttemptsUnread seen play h facts (place_for seen play h p)) → hosts ≡ [] → (told : Option Datum) (attempt : ℕ) (item : ItemResult) →
-    came_at (with_hosts plan hosts) play h facts p told attempt item ≡ came_at (seen_with plan learnt) play h facts p told attempt item
-attempts_not_read plan seen play h facts p learnt none hosts reads s not_read unread is told attempt item =
-    attempts_unread plan play h facts p hosts (hosts_magic (hostvars plan.inventory plan.extra learnt)) (by_none hosts (hostvars plan.inventory plan.extra learnt) is) told attempt item
+    reads ≡ false → (reads ≡ false → AttemptsUnread seen play h facts (place_for seen play h p)) → hosts ≡ [] → (item_value : Option Datum) (attempt : ℕ) (item : ItemResult) →
+    came_at (with_hosts plan hosts) play h facts p item_value attempt item ≡ came_at (seen_with plan learnt) play h facts p item_value attempt item
+attempts_not_read plan seen play h facts p learnt none hosts reads s not_read unread is item_value attempt item =
+    attempts_unread plan play h facts p hosts (hosts_magic (hostvars plan.inventory plan.extra learnt)) (by_none hosts (hostvars plan.inventory plan.extra learnt) is) item_value attempt item
     (subst (λ (q : PlanOf). AttemptsUnread q play h facts (place_for q play h p)) s (unread not_read))

@@ -30,8 +30,8 @@ pub fn hosts_known(alloc: Global, plan: &Plan, learnt: &[&Facts]) -> Result<Dict
 }
 
 impl<'a> Site<'a> {
-    /// Whether the plan has settled that `hostvars` stands in no variable that the task sees, but for what the host has learnt.
-    #[tactic(auto, using(crate::proofs::Settled::free_of_hostvars_at))]
+    /// Whether the plan knows that `hostvars` stands in no variable that the task sees, but for what the host has learnt.
+    #[tactic(auto, using(crate::proofs::FreeOfHostvars::free_of_hostvars_at))]
     fn is_free_of_hostvars(&self) -> bool
         ensures { result ≡ true → IsFreeOfHostvars self.now.plan.now self.now.play.now self.now.host.0 self.now.facts.now
             (place_for self.now.plan.now self.now.play.now self.now.host.0 self.now.place) }
@@ -45,10 +45,10 @@ impl<'a> Site<'a> {
         &self,
         alloc: Global,
         place: &'a Place,
-        settled: bool,
+        is_free: bool,
     ) -> Result<Option<Items<Item>>, AllocError>
         requires there { self.now.host.0 < length self.now.plan.now.inventory.hosts }
-        requires settled { settled ≡ true → IsFreeOfHostvars self.now.plan.now self.now.play.now self.now.host.0 self.now.facts.now (Some place.now) }
+        requires is_free { is_free ≡ true → IsFreeOfHostvars self.now.plan.now self.now.play.now self.now.host.0 self.now.facts.now (Some place.now) }
         ensures value { IfOk result (λ found. IfSome found (λ items. items ≡ items_for self.now.plan.now self.now.play.now self.now.host.0 self.now.facts.now place.now)) }
         ensures unread { IfOk result (λ found. IfSome found (λ _. ItemsUnread self.now.plan.now self.now.play.now self.now.host.0 self.now.facts.now (Some place.now))) }
         ensures few { IfOk result (λ found. IfSome found (λ items. length items ≤ max_items)) }
@@ -58,7 +58,7 @@ impl<'a> Site<'a> {
         }
         let own = HostVars::of(alloc, self.plan, self.host)?;
         let sight = TaskVars::of(self.plan, self.play, self.host, self.facts, place, &own);
-        if sight.is_read_at_start(settled) {
+        if sight.is_read_at_start(is_free) {
             return Ok(None);
         }
         let items = sight.items(alloc)?;
@@ -73,9 +73,9 @@ impl<'a> Site<'a> {
             (place_for self.now.plan.now self.now.play.now self.now.host.0 self.now.place))) }
         ensures few { IfOk result (λ found. IfSome found (λ items. length items ≤ max_items)) }
     {
-        let settled = self.is_free_of_hostvars();
+        let is_free = self.is_free_of_hostvars();
         match self.found() {
-            Some(place) => self.unread_items_for(alloc, place, settled),
+            Some(place) => self.unread_items_for(alloc, place, is_free),
             None => {
                 let items = no_task(alloc)?;
                 Ok(Some(items))
@@ -84,22 +84,22 @@ impl<'a> Site<'a> {
     }
 
     /// Whether the task at a place may look `hostvars` up as it says something of a result. Where it says nothing it sees nothing, and no layers are made;
-    /// nor are they where it is settled that it stands in none of the variables.
+    /// nor are they where it is known that it stands in none of the variables.
     fn result_reads(
         &self,
         alloc: Global,
         place: &'a Place,
-        settled: bool,
+        is_free: bool,
     ) -> Result<bool, AllocError>
         requires there { self.now.host.0 < length self.now.plan.now.inventory.hosts }
-        requires settled { settled ≡ true → IsFreeOfHostvars self.now.plan.now self.now.play.now self.now.host.0 self.now.facts.now (Some place.now) }
+        requires is_free { is_free ≡ true → IsFreeOfHostvars self.now.plan.now self.now.play.now self.now.host.0 self.now.facts.now (Some place.now) }
         ensures { IfOk result (λ reads. reads ≡ false → AttemptsUnread self.now.plan.now self.now.play.now self.now.host.0 self.now.facts.now (Some place.now)) }
     {
         let task = place.task();
         if !has_result_conditions(task) {
             return Ok(false);
         }
-        if settled {
+        if is_free {
             return Ok(may_read_of_result_by_itself("hostvars", task));
         }
         let own = HostVars::of(alloc, self.plan, self.host)?;
@@ -113,9 +113,9 @@ impl<'a> Site<'a> {
         ensures { IfOk result (λ reads. reads ≡ false → AttemptsUnread self.now.plan.now self.now.play.now self.now.host.0 self.now.facts.now
             (place_for self.now.plan.now self.now.play.now self.now.host.0 self.now.place)) }
     {
-        let settled = self.is_free_of_hostvars();
+        let is_free = self.is_free_of_hostvars();
         match self.found() {
-            Some(place) => self.result_reads(alloc, place, settled),
+            Some(place) => self.result_reads(alloc, place, is_free),
             None => Ok(false),
         }
     }

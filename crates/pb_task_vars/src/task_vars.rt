@@ -135,15 +135,15 @@ impl<'a> TaskVars<'a> {
         attempted(alloc, &self.start(), value, attempt, item)
     }
 
-    /// Whether the task's items may look `hostvars` up. Where it is settled that it stands in none of the variables these aren't searched.
-    pub(crate) fn is_read_at_start(&self, settled: bool) -> bool
-        requires { settled ≡ true → layers_mention (codes "hostvars") self.now.layers ≡ false }
+    /// Whether the task's items may look `hostvars` up. Where it is known that it stands in none of the variables these aren't searched.
+    pub(crate) fn is_read_at_start(&self, is_free: bool) -> bool
+        requires { is_free ≡ true → layers_mention (codes "hostvars") self.now.layers ≡ false }
         ensures { result ≡ false → (one other : Map) → SameBut (codes "hostvars") one other → items_of (with_magic self.now one) ≡ items_of (with_magic self.now other) }
     {
         let task = self.place.task();
         let conditions = self.place.conditions();
         let delegate_to = self.place.delegate_to();
-        if settled {
+        if is_free {
             return may_read_by_itself("hostvars", task, conditions, delegate_to);
         }
         may_read("hostvars", task, conditions, delegate_to, &self.layers)

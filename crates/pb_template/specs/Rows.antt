@@ -48,7 +48,7 @@ lone_end : template_of (codes "a }} b") ≡ Some (part.Plain (codes "a }} b") �
 unfolding template_of
 lone_end = refl
 
--- the fault that stands first is told: of the expression, whose bytes count from behind its braces, or of what stands before it
+-- the fault that stands first is reported: of the expression, whose bytes count from behind its braces, or of what stands before it
 expression_first : template_fault_of (codes "{{ 1 + }} {% x %}") ≡ Some End
 unfolding template_fault_of tree_of tree_of_tokens first_fault_of fault_of_tokens
 expression_first = refl

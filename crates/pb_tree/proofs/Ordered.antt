@@ -35,7 +35,7 @@ rising_append [] qs s t a = t
 rising_append (p ∷ ps) qs s t a = (every_append (IsBelow p) ps qs (s.0) (a.0), rising_append ps qs (s.1) t (a.1))
 
 -- ---- two paths
--- the first step that differs decides
+-- the first step that differs orders them
 less_steps : (path : List ℕ) (k m : ℕ) (s t : List ℕ) → k < m → IsBelow (path ++ k ∷ s) (path ++ m ∷ t)
 less_steps [] k m s t lt = ap (λ (o : Ordering). ordering_then o (slice_cmp nat_cmp s t)) (sym (nat_cmp_is k m Less lt))
 less_steps (x ∷ path) k m s t lt =

@@ -12,7 +12,7 @@ ends_tag (b ∷ bs) = b == 44 || (b == 32 && ends_tag bs)
 abbrev pub is_never : List ℕ → Bool
 is_never bs = starts_with nat_eq bs (codes "never") && ends_tag (drop 5 bs)
 
--- the tag `never` is among the tags of a text, which have commas between them; whether a tag may begin here is told:
+-- the tag `never` is among the tags of a text, which have commas between them; the flag says whether a tag may begin here:
 -- it may at the text's front, behind a comma, and behind spaces that stand there
 abbrev pub never_from : Bool → List ℕ → Bool
 never_from begins [] = false

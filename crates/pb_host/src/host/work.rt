@@ -60,7 +60,7 @@ fn parted(alloc: Global, once: bool, items: TaskItems) -> (TaskItems, TaskItems)
 
 impl Host {
     ghost use Rattle.pb_host.specs.Host.{finished, progressed, sent, pending};
-    ghost use Rattle.pb_host.specs.Decides.{done_if};
+    ghost use Rattle.pb_host.specs.StepResults.{done_if};
     ghost use Rattle.pb_host.specs.Back.{back_row, retried_row, finish_run, end_recorded, with_running, waiting, went_on, ended_now, step_result_now, undone};
 
     /// Puts down how the task at a place ended that the host runs. Items that aren't kept are handed back.
@@ -201,8 +201,8 @@ impl Host {
         }
     }
 
-    /// What is decided of the task that the host runs, of which the item with this number came back, or this attempt at it. An `Err` changes nothing.
-    pub fn decide(
+    /// What a step comes to for the task that the host runs, of which the item with this number came back, or this attempt at it. An `Err` changes nothing.
+    pub fn advance(
         &mut self,
         alloc: Global,
         inventory: &Inventory,
@@ -212,7 +212,7 @@ impl Host {
     ) -> Result<Option<StepResult>, AllocError>
         requires { IsAtMost self.old.counts (2 ^ 64 - 2) }
         ensures row { OnOk result (self.new ≡ went_on inventory.now play.now self.old) }
-        ensures decides { IfOk result (λ step_result. step_result ≡ step_result_now play.now number retried self.old) }
+        ensures comes_to { IfOk result (λ step_result. step_result ≡ step_result_now play.now number retried self.old) }
         ensures err { OnErr result (self.new ≡ self.old) }
     {
         match &self.running {

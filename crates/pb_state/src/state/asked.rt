@@ -90,7 +90,7 @@ impl EngineState {
         }
     }
 
-    /// The same in a run that wasn't told to stop.
+    /// The same in a run that isn't stopped.
     fn kept_going_in<'a>(&'a self, play: &'a PlanPlay) -> Option<&'a HostSet>
         requires { self.now.stopped ≡ false }
         ensures { IfSome result (λ set. set.now ≡ ready_in self.now play.now) }
@@ -201,7 +201,7 @@ impl EngineState {
         }
     }
 
-    /// What the last step decided.
+    /// What the last step came to.
     pub fn step_result(&self) -> Option<&StepResult>
         ensures { option_copied result ≡ self.now.step_result }
     {

@@ -11,7 +11,7 @@ use super::EngineState;
 use crate::event::Event;
 use crate::sizes_left::{SizesLeft, first_of};
 use pb_batches::batches;
-use pb_host::decide;
+use pb_host::put_step_result;
 use pb_hosts::{Hosts, begin_first, join_first, least_place, play_host_count, stand_at};
 use pb_plan::{Plan, PlanPlay};
 use pb_strategies::Strategy;
@@ -69,7 +69,7 @@ impl EngineState {
         self.begun = begun;
         self.is_open = true;
         self.stand_first(play.strategy());
-        decide(&mut self.step_result, None);
+        put_step_result(&mut self.step_result, None);
         Ok(())
     }
 
@@ -149,7 +149,7 @@ impl EngineState {
         self.begun = begun;
         self.is_open = true;
         self.stand_first(play.strategy());
-        decide(&mut self.step_result, None);
+        put_step_result(&mut self.step_result, None);
         Ok(())
     }
 

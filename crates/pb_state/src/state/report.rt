@@ -16,7 +16,7 @@ use crate::event::Event;
 use crate::hostvars::{Shown, unread, whole};
 use crate::known::keep;
 use pb_facts::facts::Facts;
-use pb_host::decide;
+use pb_host::put_step_result;
 use pb_hosts::{report_row, send_row};
 use pb_ids::{HostNo, Ticket};
 use pb_outcome::job::Report;
@@ -68,7 +68,7 @@ impl EngineState {
         let _play = play;
         send_row(&mut self.rows, host, ticket)?;
         self.sends += 1;
-        decide(&mut self.step_result, None);
+        put_step_result(&mut self.step_result, None);
         Ok(())
     }
 
@@ -189,7 +189,7 @@ impl EngineState {
             play,
             &report.outcome,
         )?;
-        decide(&mut self.step_result, step_result);
+        put_step_result(&mut self.step_result, step_result);
         Ok(gifts)
     }
 }

@@ -14,7 +14,7 @@ use crate::event::Event;
 use crate::hostvars::{unread, whole};
 use crate::known::keep;
 use pb_facts::facts::Facts;
-use pb_host::{StepResult, TaskItems, decide, numbered};
+use pb_host::{StepResult, TaskItems, numbered, put_step_result};
 use pb_ids::HostNo;
 use pb_inventory::inventory::Inventory;
 use pb_outcome::item::Item;
@@ -213,7 +213,7 @@ impl EngineState {
             .start_row(self.alloc, host, inventory, play, place, items)?;
         let is_new = !has_place(self.begun.as_slice(), place);
         begin_at_place(self.begun.as_mut_slice(), place);
-        decide(
+        put_step_result(
             &mut self.step_result,
             Some(StepResult {
                 place,

@@ -9,7 +9,7 @@ ghost use Rattle.pb_state.specs.Machine.{play_behind};
 use super::EngineState;
 use crate::event::Event;
 use crate::sizes_left::SizesLeft;
-use pb_host::decide;
+use pb_host::put_step_result;
 use pb_hosts::{least_place, leave_all, some_in, stand_at, turn_rows};
 use pb_inventory::inventory::Inventory;
 use pb_plan::{Plan, PlanPlay};
@@ -76,7 +76,7 @@ impl EngineState {
         let place = least_place(&self.rows);
         stand_at(&mut self.rows, place);
         self.place = place;
-        decide(&mut self.step_result, None);
+        put_step_result(&mut self.step_result, None);
     }
 
     pub(crate) fn close(&mut self)
@@ -88,7 +88,7 @@ impl EngineState {
         self.play = play_behind(self.sizes_left.has_some(), self.play);
         self.is_open = false;
         self.begun.clear();
-        decide(&mut self.step_result, None);
+        put_step_result(&mut self.step_result, None);
     }
 }
 

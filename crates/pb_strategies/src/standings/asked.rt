@@ -127,12 +127,12 @@ impl Standings {
     {
         match self.kept_at(place) {
             Some(kept) => set.minus_with(kept),
-            None => self.drop_told(place, set),
+            None => self.drop_known(place, set),
         }
     }
 
     /// The hosts whose next place is this one, by the bits of its number, where these are less to look at than the hosts.
-    fn told_at(&self, place: usize) -> Option<HostSet>
+    fn known_at(&self, place: usize) -> Option<HostSet>
         ensures { IfSome result (λ there. there ≡ map (is_next_at (Some place)) self.now) }
     {
         if self.unended.count() <= words_for(self.unended.width()) {
@@ -143,11 +143,11 @@ impl Standings {
     }
 
     /// Takes the hosts whose next place is this one out of a set, where none of them is kept.
-    fn drop_told(&self, place: usize, set: &mut HostSet)
+    fn drop_known(&self, place: usize, set: &mut HostSet)
         requires { length set.old ≡ length self.now }
         ensures { set.new ≡ zip2 (λ a b. a && not b) set.old (map (is_next_at (Some place)) self.now) }
     {
-        match self.told_at(place) {
+        match self.known_at(place) {
             Some(there) => set.minus_with(&there),
             None => drop_each_next(self.hosts.as_slice(), place, set),
         }

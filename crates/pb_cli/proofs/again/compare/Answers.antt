@@ -2,8 +2,8 @@ use Rattle.std.proofs.lemmas.Result.{IfOk-weaker}
 use Rattle.pb_cli.proofs.Compared.{compared}
 use Rattle.pb_cli.proofs.again.compare.Goals as goal
 
-pub returns-clause-told : goal.returns-clause-told
-returns-clause-told c =
+pub returns-clause-comparison : goal.returns-clause-comparison
+returns-clause-comparison c =
     IfOk-weaker c.same_text.result _ _
     (λ text is. (
       c.in_ok-plan.plan,

@@ -1,18 +1,18 @@
 use Rattle.std.proofs.Common.{rules}
 use Rattle.pb_cli.proofs.playing.play_bundle.Goals as goal
 
-pub returns-clause-untold : goal.returns-clause-untold
-returns-clause-untold g c e h =
-    let untold = c.give.ensures.untold e h in
+pub returns-clause-bad_outcomes : goal.returns-clause-bad_outcomes
+returns-clause-bad_outcomes g c e h =
+    let bad_outcomes = c.give.ensures.bad_outcomes e h in
     record {
       plan = c.in-Ok.plan;
       planned = search rules;
       allowed = search rules;
-      runs = untold.0;
-      unaudited = untold.1;
+      runs = bad_outcomes.0;
+      unaudited = bad_outcomes.1;
       warned = search rules;
-      untouched = untold.2;
-      fault = untold.3;
+      untouched = bad_outcomes.2;
+      fault = bad_outcomes.3;
     }
 
 pub returns-clause-unread : goal.returns-clause-unread

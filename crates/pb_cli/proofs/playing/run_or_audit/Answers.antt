@@ -5,5 +5,5 @@ use Rattle.pb_cli.proofs.playing.run_or_audit.Goals as goal
 pub returns-in-None-clause-stopped : goal.returns-in-None-clause-stopped
 returns-in-None-clause-stopped g c = λ fault trail h. run_cut _ _ _ fault trail _ _ (search rules) (c.run_plan.ensures.stopped fault trail h)
 
-pub returns-in-None-clause-untold : goal.returns-in-None-clause-untold
-returns-in-None-clause-untold g c = λ e h. let untold = c.run_plan.ensures.untold e h in (search rules, untold.0, untold.1)
+pub returns-in-None-clause-bad_outcomes : goal.returns-in-None-clause-bad_outcomes
+returns-in-None-clause-bad_outcomes g c = λ e h. let bad_outcomes = c.run_plan.ensures.bad_outcomes e h in (search rules, bad_outcomes.0, bad_outcomes.1)

@@ -3,7 +3,7 @@ use Rattle.pb_cli.proofs.Ending.{done_badly}
 use Rattle.pb_cli.proofs.program.play_asked.Goals as goal
 
 pub returns-in-Err-Outcomes-clause-fault : goal.returns-in-Err-Outcomes-clause-fault
-returns-in-Err-Outcomes-clause-fault g c = λ one. let untold = c.play_bundle.ensures.untold c.in-Err-Outcomes.fault (search rules) in inl untold.untouched
+returns-in-Err-Outcomes-clause-fault g c = λ one. let bad_outcomes = c.play_bundle.ensures.bad_outcomes c.in-Err-Outcomes.fault (search rules) in inl bad_outcomes.untouched
 
 pub returns-in-Err-Trail-clause-fault : goal.returns-in-Err-Trail-clause-fault
 returns-in-Err-Trail-clause-fault g c = λ one. let unread = c.play_bundle.ensures.unread c.in-Err-Trail.fault (search rules) in inl unread.untouched

@@ -8,15 +8,15 @@ use Rattle.pb_engine.specs.EngineOf.{EngineOf, engine_of}
 use Rattle.pb_engine.specs.Laws.{EndsAsFixed}
 use Rattle.pb_recap.specs.Recap.{recap}
 use Rattle.pb_recap.specs.Kinds.{status_of}
-use Rattle.pb_driver.specs.Driven.{IsTold}
+use Rattle.pb_driver.specs.Driven.{IsRecapped}
 use Rattle.pb_driver.proofs.Driving.{made_of}
 use Rattle.pb_driver.proofs.Turning.{out_of, to_none, to_of}
 use Rattle.pb_driver.proofs.driver.run_crew.Goals as goal
 
 -- the recap and the status of the plan's run
-told_of : (plan : PlanOf) (pool : ℕ) (engine : EngineOf) (new_trail trail : List Event) (counts : List Counts) (status : ℕ) → engine_of plan pool ≡ Ok engine → counts ≡ recap engine.plan engine.pool new_trail
-    → status ≡ status_of counts → EndsAsFixed plan pool trail (state_after plan pool trail) → trail ≡ new_trail → IsTold plan pool trail counts status
-told_of plan pool engine new_trail trail counts status made counted cursor fixed is =
+recapped_of : (plan : PlanOf) (pool : ℕ) (engine : EngineOf) (new_trail trail : List Event) (counts : List Counts) (status : ℕ) → engine_of plan pool ≡ Ok engine → counts ≡ recap engine.plan engine.pool new_trail
+    → status ≡ status_of counts → EndsAsFixed plan pool trail (state_after plan pool trail) → trail ≡ new_trail → IsRecapped plan pool trail counts status
+recapped_of plan pool engine new_trail trail counts status made counted cursor fixed is =
     let from = made_of plan pool engine made in
     let same : counts ≡ recap plan pool trail = rw (is, ← from.0, ← from.1) counted in
     (same, cursor ∙ ap (λ (c : List Counts). status_of c) same, fixed)
@@ -36,7 +36,7 @@ returns-in-Ok-run_engine-clause-run g c =
     c.args.hand.now c.run_engine.new.hand (g.W.LineOut.taken c.args.writer.now) (g.W.LineOut.taken c.run_engine.new.writer) (g.W.LineOut.failures c.args.writer.now) (g.W.LineOut.failures c.run_engine.new.writer)
     c.in-Ok.ensures.value c.in-Ok-run_engine.ensures.run c.into_trail.ensures.value
 
-pub returns-in-Ok-run_engine-clause-told : goal.returns-in-Ok-run_engine-clause-told
-returns-in-Ok-run_engine-clause-told g c =
-    told_of c.args.plan c.args.pool c.in-Ok.engine c.run_engine.new.engine.trail c.into_trail.result.items c.in-Ok-run_engine.recap c.status-status.result c.in-Ok.ensures.value c.in-Ok-run_engine.ensures.recap
+pub returns-in-Ok-run_engine-clause-recapped : goal.returns-in-Ok-run_engine-clause-recapped
+returns-in-Ok-run_engine-clause-recapped g c =
+    recapped_of c.args.plan c.args.pool c.in-Ok.engine c.run_engine.new.engine.trail c.into_trail.result.items c.in-Ok-run_engine.recap c.status-status.result c.in-Ok.ensures.value c.in-Ok-run_engine.ensures.recap
     c.status-status.ensures (c.runs_end_as_fixed.ensures c.args.plan c.args.pool c.into_trail.result.items _) c.into_trail.ensures.value

@@ -16,4 +16,4 @@ returns-clause-many g c = ap length c.part_all.ensures.runners ∙ seats_many (f
 pub returns-clause-shares : goal.returns-clause-shares
 returns-clause-shares g c = λ before paired left.
     shares g.N.Runner.ran c.args.pool g.N.Allows.allows before c.args.workers.items c.args.main c.close.result c.part_all.new.seats.items c.part_all.new.runners.items paired left c.part_all.ensures.seats c.part_all.ensures.runners
-    c.close.ensures.main.0 c.close.ensures.joined c.close.ensures.told c.close.ensures.shut
+    c.close.ensures.main.0 c.close.ensures.joined c.close.ensures.ended c.close.ensures.shut

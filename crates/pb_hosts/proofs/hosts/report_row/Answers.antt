@@ -5,7 +5,7 @@ use Rattle.pb_inventory.specs.InventoryOf.{InventoryOf}
 use Rattle.pb_host.specs.declared.step_result.Retried.{Retried}
 use Rattle.pb_host.specs.declared.items.Before.{Before}
 use Rattle.pb_host.specs.Back.{undone, went_on}
-use Rattle.pb_host.specs.Decides.{report_result}
+use Rattle.pb_host.specs.StepResults.{report_result}
 use Rattle.pb_host.specs.Ends.{IsAtMost}
 use Rattle.pb_host.specs.Host.{HostOf, reported}
 use Rattle.pb_host.specs.Runs.{item_of}
@@ -18,8 +18,8 @@ use Rattle.pb_hosts.proofs.TicketOrder.{reported_quiet}
 use Rattle.pb_hosts.proofs.Turns.{same_due}
 use Rattle.pb_hosts.proofs.hosts.report_row.Goals as goal
 
-pub decide_row-requires : goal.decide_row-requires
-decide_row-requires c =
+pub advance_row-requires : goal.advance_row-requires
+advance_row-requires c =
     room_back c.args.plan.now c.args.play.now c.args.outcome.now c.args.host.0 c.rows.inside.rows.items c.take_back.new.rows.items c.in_ok-came.ensures.ok
     (subst (λ (all : List HostOf). IfSome (slice_get all c.args.host.0) (λ (row : HostOf). IsAtMost row.counts (2 ^ 64 - 2))) (sym c.rows.view_is) c.requires)
 
@@ -44,11 +44,11 @@ invariant_of-rows-in-Ok c =
     (reported_quiet c.args.plan.now c.args.play.now c.args.outcome.now)
     (reported_inside c.args.plan.now c.args.play.now c.args.outcome.now)
     (reported_waits c.args.plan.now c.args.play.now c.args.outcome.now) c.args.host.0 c.rows.inside.sends c.ask_one.new.sends c.rows.inside.standings c.ask_one.new.standings c.rows.inside.batch c.rows.inside.awaits_batch c.rows.inside.out.items c.drop_job.new.all.items
-    c.rows.inside.rows.items c.decide_row.new.rows.items
+    c.rows.inside.rows.items c.advance_row.new.rows.items
     (λ row at out. reported_out c.args.plan.now c.args.play.now c.args.outcome.now row out)
     c.rows.invariant
-    (reported_in c.args.plan.now c.args.play.now c.args.outcome.now c.args.host.0 c.rows.inside.rows.items c.take_back.new.rows.items c.decide_row.new.rows.items c.in_ok-came.ensures.ok
-    (subst (λ (inventory : InventoryOf). c.decide_row.new.rows.items ≡ with_delegated (gives_now inventory c.args.play.now c.args.host.0 c.take_back.new.rows.items) (change c.take_back.new.rows.items c.args.host.0 (went_on inventory c.args.play.now)))
+    (reported_in c.args.plan.now c.args.play.now c.args.outcome.now c.args.host.0 c.rows.inside.rows.items c.take_back.new.rows.items c.advance_row.new.rows.items c.in_ok-came.ensures.ok
+    (subst (λ (inventory : InventoryOf). c.advance_row.new.rows.items ≡ with_delegated (gives_now inventory c.args.play.now c.args.host.0 c.take_back.new.rows.items) (change c.take_back.new.rows.items c.args.host.0 (went_on inventory c.args.play.now)))
     c.inventory-inventory.ensures c.in-Ok.ensures.rows))
     c.ask_one.ensures.sends
     c.ask_one.ensures.stands
@@ -56,15 +56,15 @@ invariant_of-rows-in-Ok c =
 
 pub returns-in-Ok-clause-rows : goal.returns-in-Ok-clause-rows
 returns-in-Ok-clause-rows c =
-    reported_in c.args.plan.now c.args.play.now c.args.outcome.now c.args.host.0 c.rows.inside.rows.items c.take_back.new.rows.items c.decide_row.new.rows.items c.in_ok-came.ensures.ok
-    (subst (λ (inventory : InventoryOf). c.decide_row.new.rows.items ≡ with_delegated (gives_now inventory c.args.play.now c.args.host.0 c.take_back.new.rows.items) (change c.take_back.new.rows.items c.args.host.0 (went_on inventory c.args.play.now)))
+    reported_in c.args.plan.now c.args.play.now c.args.outcome.now c.args.host.0 c.rows.inside.rows.items c.take_back.new.rows.items c.advance_row.new.rows.items c.in_ok-came.ensures.ok
+    (subst (λ (inventory : InventoryOf). c.advance_row.new.rows.items ≡ with_delegated (gives_now inventory c.args.play.now c.args.host.0 c.take_back.new.rows.items) (change c.take_back.new.rows.items c.args.host.0 (went_on inventory c.args.play.now)))
     c.inventory-inventory.ensures c.in-Ok.ensures.rows)
     ∙ ap (λ (all : List HostOf). with_delegated (report_gives c.args.plan.now c.args.play.now c.args.outcome.now c.args.host.0 all) (change all c.args.host.0 (reported c.args.plan.now c.args.play.now c.args.outcome.now))) c.rows.view_is
 
-pub returns-in-Ok-clause-decides : goal.returns-in-Ok-clause-decides
-returns-in-Ok-clause-decides c =
+pub returns-in-Ok-clause-comes_to : goal.returns-in-Ok-clause-comes_to
+returns-in-Ok-clause-comes_to c =
     step_result_in c.args.plan.now c.args.play.now c.args.outcome.now c.args.host.0 c.rows.inside.rows.items c.take_back.new.rows.items c.item_in-number.result c.parts-before.result.1 c.in-Ok.step_result c.in_ok-came.ensures.ok
-    (c.item_in-number.ensures ∙ ap (λ (all : List HostOf). option_map_or item_of (slice_get all c.args.host.0) None) c.as_slice.ensures.value) (ap (λ (p : Option Before × Option Retried). p.1) c.parts-before.ensures ∙ c.in_ok-came.ensures.retried) c.in-Ok.ensures.decides
+    (c.item_in-number.ensures ∙ ap (λ (all : List HostOf). option_map_or item_of (slice_get all c.args.host.0) None) c.as_slice.ensures.value) (ap (λ (p : Option Before × Option Retried). p.1) c.parts-before.ensures ∙ c.in_ok-came.ensures.retried) c.in-Ok.ensures.comes_to
     ∙ ap (λ (all : List HostOf). option_map_or (report_result c.args.plan.now c.args.play.now c.args.outcome.now) (slice_get all c.args.host.0) None) c.rows.view_is
 
 pub returns-in-Ok-clause-gifts : goal.returns-in-Ok-clause-gifts

@@ -1,6 +1,6 @@
 use Rattle.std.proofs.Common.{rules, arith, ◌≡◌, ◌∙◌, ◌*◌, ◌/◌, length, inl, inr}
 use Rattle.std.proofs.lemmas.Bool.{cases_lt}
-use Rattle.pb_lanes.proofs.Hits.{all_told}
+use Rattle.pb_lanes.proofs.Hits.{all_selected}
 use Rattle.pb_lanes.proofs.bytes.select_in.Goals as goal
 
 pub returns : goal.returns
@@ -10,7 +10,7 @@ returns c =
     let kept = c.select_rest.ensures.width in
     let at : c.loop-index.index ≡ length c.args.bytes.now / 64 = search rules in
     let long : length c.select_rest.new.set ≡ length c.args.bytes.now = kept ∙ inv.0 ∙ wide in
-    all_told c.args.bytes.now c.args.byte c.select_rest.new.set long
+    all_selected c.args.bytes.now c.args.byte c.select_rest.new.set long
     (λ i lt.
     elim (cases_lt i (64 * (length c.args.bytes.now / 64))) [
       | inl below ↦ c.select_rest.ensures.below i below ∙ inv.1 i (rw at below)

@@ -1,5 +1,5 @@
-use Rattle.pb_operators.proofs.Texts.{occurs_decides}
+use Rattle.pb_operators.proofs.Texts.{occurs_answers}
 use Rattle.pb_operators.proofs.compare.occurs.Goals as goal
 
 pub returns : goal.returns
-returns c = occurs_decides c.contains.result c.args.text.now c.args.whole.now c.contains.ensures.cases
+returns c = occurs_answers c.contains.result c.args.text.now c.args.whole.now c.contains.ensures.cases

@@ -1,5 +1,5 @@
 use Rattle.std.proofs.Common.{rules, arith, ◌≡◌, ◌∙◌, true, false, sym}
-use Rattle.pb_planes.proofs.Counted.{ones_more, all_told}
+use Rattle.pb_planes.proofs.Counted.{ones_more, all_counted}
 use Rattle.pb_planes.proofs.words.nth_of_word.Goals.{then-bit_of+else-left-eq0, else-bit_of}
 use Rattle.pb_planes.proofs.words.nth_of_word.Goals as goal
 
@@ -17,7 +17,7 @@ loop-j-preserved c =
     ]
 
 pub returns-clause-set : goal.returns-clause-set
-returns-clause-set c = absurd (all_told c.args.word c.args.before c.loop-j.left c.loop-j.j (search rules) c.requires c.loop-j.invariant)
+returns-clause-set c = absurd (all_counted c.args.word c.args.before c.loop-j.left c.loop-j.j (search rules) c.requires c.loop-j.invariant)
 
 pub returns-clause-before : goal.returns-clause-before
-returns-clause-before c = absurd (all_told c.args.word c.args.before c.loop-j.left c.loop-j.j (search rules) c.requires c.loop-j.invariant)
+returns-clause-before c = absurd (all_counted c.args.word c.args.before c.loop-j.left c.loop-j.j (search rules) c.requires c.loop-j.invariant)

@@ -11,13 +11,13 @@ pub returns-in_err-task : goal.returns-in_err-task
 returns-in_err-task c =
     stopped _ c.in_err-task.field-0.0 _ c.from_residual-in_err-task.ensures.1
     (
-    handler_stops c.args.path.now c.args.told (ahead c.args.keys) (ahead c.field_or.new.self) (ahead c.read_loop.new.keys) c.in_ok-listens.listens c.in_ok-looped.looped c.in_err-task.field-0.0
+    handler_stops c.args.path.now c.args.head (ahead c.args.keys) (ahead c.field_or.new.self) (ahead c.read_loop.new.keys) c.in_ok-listens.listens c.in_ok-looped.looped c.in_err-task.field-0.0
     (subst (λ none. field_or tells_of_task (codes "listen") texts none (ahead c.args.keys) ≡ Ok (record { value = c.in_ok-listens.listens; ahead = ahead c.field_or.new.self })) c.new.ensures c.in_ok-listens.ensures.value)
     c.in_ok-looped.ensures.value c.in_err-task.ensures
     )
 
 pub returns : goal.returns
 returns c =
-    handler_is c.args.path.now c.args.told (ahead c.args.keys) (ahead c.field_or.new.self) (ahead c.read_loop.new.keys) c.in_ok-listens.listens c.in_ok-looped.looped c.in_ok-task.task
+    handler_is c.args.path.now c.args.head (ahead c.args.keys) (ahead c.field_or.new.self) (ahead c.read_loop.new.keys) c.in_ok-listens.listens c.in_ok-looped.looped c.in_ok-task.task
     (subst (λ none. field_or tells_of_task (codes "listen") texts none (ahead c.args.keys) ≡ Ok (record { value = c.in_ok-listens.listens; ahead = ahead c.field_or.new.self })) c.new.ensures c.in_ok-listens.ensures.value)
     c.in_ok-looped.ensures.value c.in_ok-task.ensures

@@ -1,11 +1,11 @@
 use Rattle.std.proofs.Common.{◌≡◌, ◌-◌, length}
 use Rattle.pb_strategies.specs.Kept.{AreWatched}
-use Rattle.pb_strategies.proofs.Members.{told, forgotten}
+use Rattle.pb_strategies.proofs.Members.{overwritten, forgotten}
 use Rattle.pb_strategies.proofs.standings.forget_each.Given as goal
 
 abbrev pub invariant-loop-host : goal.invariant-loop-host
 invariant-loop-host l = record {
-  told : l.hosts.items ≡ told forgotten l.from l.initial.hosts.items l.initial.hosts.items;
+  overwritten : l.hosts.items ≡ overwritten forgotten l.from l.initial.hosts.items l.initial.hosts.items;
   watched : AreWatched l.hosts.items l.watched.sets.items;
 }
 

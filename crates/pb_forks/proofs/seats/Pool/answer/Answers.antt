@@ -9,10 +9,10 @@ load-requires g c = let fork = c.args.fork.now in let t = c.requires.taken in (s
 
 pub swap-requires : goal.swap-requires
 swap-requires g c =
-    let told = c.load.ensures.2 in
+    let stepped = c.load.ensures.2 in
     let t = c.requires.taken in
     let job = c.requires.answers in
-    let held = put_in _ _ _ _ _ _ _ told.0 told.1 c.args.fork.now.bare c.exchange.ensures.3 in
+    let held = put_in _ _ _ _ _ _ _ stepped.0 stepped.1 c.args.fork.now.bare c.exchange.ensures.3 in
     (search rules, search rules, fork_answers g.A.Allows.allows _ _ _ _ _ _ c.args.report job.0 job.1 _ held.0 held.1 (omega arith) (omega arith) job.2 job.3)
 
 pub invariant_of-fork : goal.invariant_of-fork
@@ -21,13 +21,13 @@ invariant_of-fork g c =
     let t = c.requires.taken in
     let low = fork.small in
     let held = put_in _ _ _ _ _ _ _ c.load.ensures.2.0 c.load.ensures.2.1 fork.bare c.exchange.ensures.3 in
-    let told = c.swap.ensures.2 c.args.report held.1 in
+    let stepped = c.swap.ensures.2 c.args.report held.1 in
     let ids : c.swap.new.seat.table_id ≡ fork.seat.table_id = c.swap.ensures.0 ∙ (c.exchange.ensures.0 ∙ c.load.ensures.0) in
-    let seen : (fork_of c.swap.new.seat.me.0).seen ≡ 4 * c.args.report.ticket.0 + 3 = ap (λ z. (fork_of z).seen) told.0 in
+    let seen : (fork_of c.swap.new.seat.me.0).seen ≡ 4 * c.args.report.ticket.0 + 3 = ap (λ z. (fork_of z).seen) stepped.0 in
     record {
-      is_fork = is_fork _ _ _ told.0;
-      bare = told.1;
-      free = ap (λ z. (fork_of z).holds) told.0;
+      is_fork = is_fork _ _ _ stepped.0;
+      bare = stepped.1;
+      free = ap (λ z. (fork_of z).holds) stepped.0;
       small = omega arith;
       within = subst (λ z. fork.fork < z.words) (sym ids) fork.within;
     }

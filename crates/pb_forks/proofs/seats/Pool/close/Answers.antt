@@ -7,10 +7,10 @@ use Rattle.pb_forks.specs.declared.views.MainView.{MainView}
 use Rattle.pb_forks.specs.declared.views.Lodged.TheVariants.{Here, Away}
 use Rattle.pb_forks.specs.declared.views.View.{View}
 use Rattle.pb_forks.specs.Views.{main_of, fork_of}
-use Rattle.pb_forks.specs.Ends.{IsTold, IsJoined}
+use Rattle.pb_forks.specs.Ends.{EndedFork, IsJoined}
 use Rattle.pb_forks.specs.Logs.{Rises}
 use Rattle.pb_forks.specs.Seats.{rejoin}
-use Rattle.pb_forks.proofs.Told.{told, equal_when_shut, rejoin_log, rejoin_seen, joined_all, joined_at, parts_at_end, rises_at_end}
+use Rattle.pb_forks.proofs.AtEnd.{ended_fork, equal_when_shut, rejoin_log, rejoin_seen, joined_all, joined_at, parts_at_end, rises_at_end}
 use Rattle.pb_forks.proofs.seats.Pool.close.Goals as goal
 
 pub returns-clause-main : goal.returns-clause-main
@@ -29,8 +29,8 @@ returns-clause-joined g c =
     let rejoined = ap (λ (m : MainView). length m.parts) c.join_all-joined.ensures.1 in
     subst (λ (m : MainView). All (λ (s : ForkSeat). IsJoined m s.fork (fork_of s.seat.me.0)) c.args.forks.items) (sym view) (joined_all c.args.forks.items pool.forks _ c.requires.each_once (omega arith))
 
-pub returns-clause-told : goal.returns-clause-told
-returns-clause-told g c = λ j lt.
+pub returns-clause-ended : goal.returns-clause-ended
+returns-clause-ended g c = λ j lt.
     let pool = c.args.self in
     let main = c.join_all-joined.result in
     let view : c.of-view.result.value.me.0 ≡ main.seat.me.0 = ap (λ z. z.me.0) (c.of-view.ensures ∙ c.into_seat-seat.ensures) in
@@ -45,12 +45,12 @@ returns-clause-told g c = λ j lt.
     let at : (p : ForkView) × IsJoined (rejoin c.args.forks.items before) j p = joined_at c.args.forks.items pool.forks before c.requires.each_once wide j lt in
     let below : j < table.shared.key = omega arith in
     let here : get_or (main_of main.seat.me.0).parts j Away ≡ Here at.0 = ap (λ (m : MainView). get_or m.parts j Away) c.join_all-joined.ensures.1 ∙ at.1 in
-    let is = told g.A.Allows.allows table.shared.key _ _ _ _ (main_of main.seat.me.0) (ap (λ z. z.me.0) c.into_seat-seat.ensures ∙ main.is_main) c.close_with-closed.ensures.values.2 j at.0 below here in
-    subst (λ (z : View × List ℕ). (p : ForkView) × IsJoined (main_of z.0) j p × IsTold g.A.Allows.allows j (get_or z.1 j 0) (main_of z.0) p) (λ i. (sym view i, sym words i)) (at.0, here, is)
+    let is = ended_fork g.A.Allows.allows table.shared.key _ _ _ _ (main_of main.seat.me.0) (ap (λ z. z.me.0) c.into_seat-seat.ensures ∙ main.is_main) c.close_with-closed.ensures.values.2 j at.0 below here in
+    subst (λ (z : View × List ℕ). (p : ForkView) × IsJoined (main_of z.0) j p × EndedFork g.A.Allows.allows j (get_or z.1 j 0) (main_of z.0) p) (λ i. (sym view i, sym words i)) (at.0, here, is)
 
 pub returns-clause-shut : goal.returns-clause-shut
 returns-clause-shut g c = λ j lt four.
-    let t = returns-clause-told g c j lt in
+    let t = returns-clause-ended g c j lt in
     let view = ap (λ z. main_of z.me.0) (c.of-view.ensures ∙ c.into_seat-seat.ensures) ∙ c.join_all-joined.ensures.1 in
     let seen = ap (λ (m : MainView). get_or m.seen j 0) view ∙ ap (λ l. get_or l j 0) (rejoin_seen c.args.forks.items (main_of c.args.main.seat.me.0)) in
     let e = equal_when_shut g.A.Allows.allows j _ _ t.0 (seen ∙ four) t.2 in

@@ -2,7 +2,7 @@ use Rattle.std.proofs.Common.{◌≡◌, ◌∙◌, List, [], true, ap, refl, su
 use Rattle.std.specs.Prelude.{Option, IfSome, slice_get, slice_set}
 use Rattle.std.specs.Option.{option_map_or}
 use Rattle.pb_task_vars.specs.declared.gifts.DelegatedFacts.{DelegatedFacts}
-use Rattle.pb_host.specs.Decides.{done_if}
+use Rattle.pb_host.specs.StepResults.{done_if}
 use Rattle.pb_host.specs.Ends.{IsAtMost}
 use Rattle.pb_host.specs.Host.{HostOf, pending, progressed}
 use Rattle.pb_hosts.specs.Giving.{gifts_at, with_delegated}

@@ -12,14 +12,14 @@ returns-then-not-has_result_conditions c = λ unread one other value attempt ite
     attempts_alike site.plan.now.has_facts_program place (layers_within site.plan.now site.play.now site.host.0 site.facts.now place.role place.block_vars place.task.vars)
     c.task-task.result.now one other value attempt item c.task-task.ensures (c.has_result_conditions.ensures.silent c.if-not-has_result_conditions.true)
 
-pub returns-then-settled : goal.returns-then-settled
-returns-then-settled c = λ unread one other value attempt item same.
+pub returns-then-is_free : goal.returns-then-is_free
+returns-then-is_free c = λ unread one other value attempt item same.
     let site = c.args.self.now in
     let place = c.args.place.now in
     let seen = layers_within site.plan.now site.play.now site.host.0 site.facts.now place.role place.block_vars place.task.vars in
     attempts_of_place site.plan.now.has_facts_program place seen c.task-task.result.now one other value attempt item c.task-task.ensures
-    (c.may_read_of_result_by_itself.ensures.told unread (start_from c.task-task.result.now place.conditions place.delegate_to site.plan.now.has_facts_program seen one) other value attempt item refl
-    (c.requires.settled c.if-settled.true) same)
+    (c.may_read_of_result_by_itself.ensures.results unread (start_from c.task-task.result.now place.conditions place.delegate_to site.plan.now.has_facts_program seen one) other value attempt item refl
+    (c.requires.is_free c.if-is_free.true) same)
 
 pub returns : goal.returns
 returns c = λ unread.

@@ -8,4 +8,4 @@ returns c = λ unread one other value attempt item same.
     let sight = c.self.inside in
     let place = sight.place.now in
     attempts_unseen c.args.self.now sight.has_facts_program place sight.layers sight.magic c.task.result.now one other value attempt item c.self.view_is c.task.ensures
-    (c.may_read_of_result.ensures.told unread (start_from c.task.result.now place.conditions place.delegate_to sight.has_facts_program sight.layers one) other value attempt item refl refl same)
+    (c.may_read_of_result.ensures.results unread (start_from c.task.result.now place.conditions place.delegate_to sight.has_facts_program sight.layers one) other value attempt item refl refl same)

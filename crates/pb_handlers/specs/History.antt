@@ -36,18 +36,18 @@ ran_by (Some handler) kinds.Gone = Ran handler ∷ []
 ran_by (Some handler) kinds.Ended = Ran handler ∷ []
 
 -- What an answer tells where the host is: first that a handler ran, then what was notified. So a handler that notifies itself is pending again.
-abbrev pub told_at : (ℕ → Option ℕ) → Reach → AnswerOf → List Noted
-told_at handler_of (At place) a = ran_by (handler_of place) a.kind ++ Notified a.notified ∷ []
-told_at handler_of (Done ending) a = []
+abbrev pub happened_at : (ℕ → Option ℕ) → Reach → AnswerOf → List Noted
+happened_at handler_of (At place) a = ran_by (handler_of place) a.kind ++ Notified a.notified ∷ []
+happened_at handler_of (Done ending) a = []
 
 -- a second halted answer tells nothing
-abbrev pub told_by : TreeOf → List AnswerOf → AnswerOf → List Noted
-told_by tree before a = if counts before a then told_at (handler_at tree) (reach tree before) a else []
+abbrev pub happened_by : TreeOf → List AnswerOf → AnswerOf → List Noted
+happened_by tree before a = if counts before a then happened_at (handler_at tree) (reach tree before) a else []
 
-abbrev pub told_behind : TreeOf → List AnswerOf → List AnswerOf → List Noted
-told_behind tree before [] = []
-told_behind tree before (a ∷ answers) = told_by tree before a ++ told_behind tree (before ++ a ∷ []) answers
+abbrev pub happened_behind : TreeOf → List AnswerOf → List AnswerOf → List Noted
+happened_behind tree before [] = []
+happened_behind tree before (a ∷ answers) = happened_by tree before a ++ happened_behind tree (before ++ a ∷ []) answers
 
 -- the history that a host's answers in a play tell
 abbrev pub history_of : TreeOf → List AnswerOf → List Noted
-history_of tree answers = told_behind tree [] answers
+history_of tree answers = happened_behind tree [] answers

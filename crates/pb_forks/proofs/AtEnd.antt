@@ -23,7 +23,7 @@ use Rattle.pb_forks.specs.Rule.{Phase, idle, offered, taken, answered, shut, wor
 use Rattle.pb_forks.specs.Mailbox.{IsWord, Row, parcel_at, Lies, HasLists, IsMailbox, MailboxesHold, NothingFollowsShut}
 use Rattle.pb_forks.specs.Steps.{offer, take, answer, collect, shut as shuts}
 use Rattle.std.specs.Prelude.{All, sum_by, IsPermutation}
-use Rattle.pb_forks.specs.Ends.{IsTold, IsJoined, HasEqualLists}
+use Rattle.pb_forks.specs.Ends.{EndedFork, IsJoined, HasEqualLists}
 use Rattle.pb_forks.specs.Views.{MainSees, fork_of, main_joined, upto}
 use Rattle.pb_forks.specs.Seats.{rejoin, number, IsEachOnce}
 use Rattle.pb_forks.proofs.Keeps.{fork_at}
@@ -144,8 +144,8 @@ module _ (allows : Job → Form → Type 0) where
     each_seat = r.each_seat;
   }
 
-  pub told : (k : ℕ) (ws : List ℕ) (xs : List Slot) (id : ℕ) (v : View) (m : MainView) → v ≡ Main m → Final (Seen (Kept allows k) id v) ws xs → (j : ℕ) (p : ForkView) → j < k → get_or m.parts j Away ≡ Here p → IsTold allows j (get_or ws j 0) m p
-  told k ws xs id v m is f j p lt here =
+  pub ended_fork : (k : ℕ) (ws : List ℕ) (xs : List Slot) (id : ℕ) (v : View) (m : MainView) → v ≡ Main m → Final (Seen (Kept allows k) id v) ws xs → (j : ℕ) (p : ForkView) → j < k → get_or m.parts j Away ≡ Here p → EndedFork allows j (get_or ws j 0) m p
+  ended_fork k ws xs id v m is f j p lt here =
       let s = f.0 in
       let r = f.1.0 in
       let at : get_elem? s.views id ≡ some (Main m) = f.1.1 ∙ ap some is in
@@ -156,14 +156,14 @@ module _ (allows : Job → Form → Type 0) where
       let os = offers_of j m.log in
       let cs = collects_of j m.log in
       let word : word_of ok.phase ≡ get_or ws j 0 = sym ok.word_is ∙ ap (λ ls. get_or ls j 0) f.2 in
-      subst (IsTold allows j (get_or ws j 0) m) (sym same)
+      subst (EndedFork allows j (get_or ws j 0) m) (sym same)
       (record {
         sees = subst (MainSees (get_or m.seen j 0)) (ap (λ ls. get_or ls j 0) f.2) ok.main_sees;
         lists = subst (λ n. HasLists allows n os q.takes q.answers cs) word (has_lists j (get_elem? s.homes j) os cs m.hand q ok.phase ok.lists);
       })
 
 -- a fork that was shut has four equal lists
-pub equal_when_shut : (allows : Job → Form → Type 0) (j w : ℕ) (m : MainView) (p : ForkView) → get_or m.seen j 0 ≡ 4 → IsTold allows j w m p → (w ≡ 4) × HasEqualLists j m p
+pub equal_when_shut : (allows : Job → Form → Type 0) (j w : ℕ) (m : MainView) (p : ForkView) → get_or m.seen j 0 ≡ 4 → EndedFork allows j w m p → (w ≡ 4) × HasEqualLists j m p
 equal_when_shut allows j w m p four t =
     let is : w ≡ 4 = t.sees.0 (ap (λ n. n % 4) four) ∙ four in
     (is, t.lists.row.0 (ap (λ n. n % 4) is))

@@ -1,4 +1,4 @@
--- What a step decides of the task that a host runs, and of the items of it that ended.
+-- What a step comes to for the task that a host runs, and of the items of it that ended.
 use Rattle.std.specs.Prelude.{ℕ, nat_lt, Bool, false, List, [], ◌∷◌, Option, Some, None, option_map, slice_get, if◌then◌else◌}
 use Rattle.std.specs.Option.{option_map_or}
 use Rattle.pb_conditions.specs.declared.attempt.Back.{Back}
@@ -30,7 +30,7 @@ done_at play p marks items =
 abbrev pub done_if : PlayOf → ℕ → List Bool → List Item → Option TaskDone
 done_if play p marks items = if is_over items then Some (done_at play p marks items) else None
 
--- what a step decided of the task at a place on a host with these marks: the items that ended in it, and how the task ended
+-- what a step came to for the task at a place on a host with these marks: the items that ended in it, and how the task ended
 abbrev pub step_result_with : PlayOf → ℕ → List Bool → Bool → List (ℕ × ItemResult) → List Item → StepResult
 step_result_with play p marks is_new results items = record { place = p; is_new = is_new; items = results; retried = None; done = done_if play p marks items }
 
@@ -58,11 +58,11 @@ retried_in judge (item ∷ items) = retried_then judge item (retried_in judge it
 abbrev pub retried_after : PlanOf → PlayOf → ℕ → FactsOf → Form → Running → Option Retried
 retried_after plan play host facts outcome r = retried_in (came_back plan play host facts r.place outcome) r.items
 
--- what a step decided where this attempt came back in it
+-- what a step came to where this attempt came back in it
 abbrev pub with_retried : Option Retried → StepResult → StepResult
 with_retried retried step_result = record step_result { retried = retried }
 
--- what a report decides of the task that waited for it
+-- what a report comes to for the task that waited for it
 abbrev pub step_result_by : PlanOf → PlayOf → Form → HostOf → Running → StepResult
 step_result_by plan play outcome row r =
     with_retried (retried_after plan play row.host row.facts outcome r)

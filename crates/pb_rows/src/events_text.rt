@@ -35,7 +35,7 @@ fn put(text: &mut String, event: &Event) -> Result<(), AllocError> {
 }
 
 /// The events of a trail, in their order.
-pub fn told(alloc: Global, trail: &[Event]) -> Result<String, AllocError> {
+pub fn events_text(alloc: Global, trail: &[Event]) -> Result<String, AllocError> {
     let mut text = String::new(alloc);
     for event in trail {
         put(&mut text, event)?;
