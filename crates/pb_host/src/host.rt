@@ -10,7 +10,6 @@ mod batch;
 mod work;
 
 use crate::items::TaskItems;
-use crate::step_result::TaskDone;
 use pb_cursors::PlayWalk;
 use pb_facts::facts::Facts;
 use pb_facts::update::{FactsUndo, FactsUpdate};
