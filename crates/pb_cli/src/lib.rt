@@ -10,6 +10,7 @@
 #![tactic(auto)]
 
 pub mod again;
+mod asked;
 mod auditing;
 mod failed;
 pub mod files;
