@@ -13,4 +13,6 @@ mod groups;
 #[cfg(test)]
 mod handlers;
 #[cfg(test)]
+mod results;
+#[cfg(test)]
 mod templates;

@@ -1,9 +1,10 @@
-//! A template that is rendered.
+//! Templates that are rendered.
 
-use pb_expr_eval::eval::render;
+use pb_expr_eval::eval::{render, render_prepared};
 use pb_layers::layers::{Layers, Magic};
 use pb_layers::lent::Merged;
 use pb_layers::scope::Scope;
+use pb_prepared::prepared::Prepared;
 use pb_template::template::Template;
 use pb_value::text::Text;
 use pb_value::val::{Dict, Val};
@@ -43,20 +44,45 @@ fn rendered_in<'a>(
     }
 }
 
+/// The same of a value whose template was parsed before.
+fn prepared_in<'a>(
+    alloc: Global,
+    layers: &'a Layers<'_>,
+    magic: &'a Magic<'a>,
+    none: &'a Dict,
+    prepared: &Prepared,
+) -> Result<String, Fail> {
+    match render_prepared(alloc, prepared, &Scope::new(layers, magic, none)) {
+        Ok(value) => Ok(value.text_of(alloc)?),
+        Err(_) => Err(Fail::new("a value")),
+    }
+}
+
+/// No magic variables.
+fn no_magic<'a>(none: &'a Dict) -> Magic<'a> {
+    Magic {
+        host: None,
+        play: none,
+        plan: none,
+        hosts: none,
+    }
+}
+
+/// What a prepared value gives where only a play has variables, as a text.
+fn prepared(alloc: Global, variables: &Dict, value: &Prepared) -> Result<String, Fail> {
+    let none = Dict::new(alloc);
+    let layers = layers_of(&none, variables);
+    prepared_in(alloc, &layers, &no_magic(&none), &none, value)
+}
+
 /// What a template gives where only a play has variables, as a text.
 fn rendered(alloc: Global, variables: &Dict, text: &str) -> Result<String, Fail> {
     let none = Dict::new(alloc);
     let layers = layers_of(&none, variables);
-    let magic = Magic {
-        host: None,
-        play: &none,
-        plan: &none,
-        hosts: &none,
-    };
     let Ok(template) = Template::parse(alloc, text) else {
         return Err(Fail::new("a template"));
     };
-    rendered_in(alloc, &layers, &magic, &none, &template)
+    rendered_in(alloc, &layers, &no_magic(&none), &none, &template)
 }
 
 #[test]
@@ -72,5 +98,17 @@ fn a_template(rt: HostRuntime) -> Result<(), Fail> {
         rendered(alloc, &variables, "{{ name ~ '.lan' }}")?.as_str(),
         "web1.lan"
     );
+    Ok(())
+}
+
+#[test]
+fn a_prepared_text(rt: HostRuntime) -> Result<(), Fail> {
+    let alloc = rt.alloc();
+    let mut variables = Dict::new(alloc);
+    variables.put(alloc, "name", Val::text(Text::from_str(alloc, "web1")?))?;
+    let text = Val::text(Text::from_str(alloc, "host {{ name }}!")?);
+    let value = Prepared::of(alloc, text);
+    assert!(rt; value.template().is_some());
+    assert_eq!(rt; prepared(alloc, &variables, &value)?.as_str(), "host web1!");
     Ok(())
 }
