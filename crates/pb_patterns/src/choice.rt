@@ -6,7 +6,6 @@ use pb_planes::HostSet;
 use std::alloc::{AllocError, Global};
 
 /// What the elements so far tell of the hosts.
-#[derive(Drop)]
 pub struct Choice {
     /// Those of some unmarked element.
     joined: HostSet,
@@ -15,6 +14,21 @@ pub struct Choice {
     /// Those of some element marked `!`.
     excluded: HostSet,
     has_unmarked: bool,
+}
+
+// (by hand: it is then dropped by one call, and not set by set at each exit)
+impl Drop for Choice {
+    fn drop(self) {
+        let Choice {
+            joined,
+            met,
+            excluded,
+            has_unmarked: _,
+        } = self;
+        drop(joined);
+        drop(met);
+        drop(excluded);
+    }
 }
 
 /// The hosts of the unmarked elements, or all where there is none.

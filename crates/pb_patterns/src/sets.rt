@@ -1,12 +1,12 @@
 ghost use Rattle.std.specs.Prelude.{◌≡◌, ◌<◌, ◌==◌, ◌||◌, ◌&&◌, ℕ, Bool, false, List, length, map, position, slice_index_or, option_map, IfOk, Option, Some, None};
 ghost use Rattle.std.specs.List.{list_any, range_with_len};
-ghost use Rattle.std.specs.Str.{bytes_eq};
+ghost use Rattle.std.specs.Str.{bytes_eq, chars};
 ghost use Rattle.regex.specs.Strings.{regex_source};
 ghost use Rattle.pb_planes.specs.Set.{is_in};
 ghost use Rattle.pb_inventory.specs.MemberSets.{members_in};
 ghost use Rattle.pb_patterns.specs.Sets.{each_host, meant, one_host, named, term_set, listing, begins_as, contains};
 ghost use Rattle.pb_patterns.specs.Built.{IsRegexOf};
-ghost use Rattle.pb_patterns.specs.Globs.{glob};
+ghost use Rattle.pb_patterns.specs.Globs.{fits, glob};
 
 use crate::glob::{chars_of, is_wild};
 use crate::hits::{groups_that_fit, groups_that_match, hosts_that_fit, hosts_that_match};
@@ -72,19 +72,25 @@ pub fn matched(alloc: Global, inventory: &Inventory, regex: &Regex) -> Result<Ho
     Ok(set)
 }
 
-#[tactic(auto, unfolding(crate::specs::Globs::glob))]
-fn fitted(alloc: Global, inventory: &Inventory, term: &str) -> Result<HostSet, AllocError>
+/// The hosts that a term means with these characters.
+fn fitting(alloc: Global, inventory: &Inventory, signs: &[char]) -> Result<HostSet, AllocError>
     ensures width { IfOk result (λ set. length set ≡ length inventory.now.hosts) }
-    ensures set { IfOk result (λ set. set ≡ meant inventory.now (glob term.now)) }
+    ensures set { IfOk result (λ set. set ≡ meant inventory.now (λ name. fits signs.now (chars name))) }
 {
-    let term = chars_of(alloc, term)?;
-    let signs = term.as_slice();
     let hosts = hosts_that_fit(alloc, inventory, signs)?;
     let groups = groups_that_fit(alloc, inventory, signs)?;
     let host_hits = hosts.as_slice();
     let group_hits = groups.as_slice();
     let set = meant(alloc, inventory, group_hits, host_hits)?;
     Ok(set)
+}
+
+fn fitted(alloc: Global, inventory: &Inventory, term: &str) -> Result<HostSet, AllocError>
+    ensures width { IfOk result (λ set. length set ≡ length inventory.now.hosts) }
+    ensures set { IfOk result (λ set. set ≡ meant inventory.now (glob term.now)) }
+{
+    let signs = chars_of(alloc, term)?;
+    fitting(alloc, inventory, signs.as_slice())
 }
 
 fn one_host(alloc: Global, inventory: &Inventory, name: &str) -> Result<HostSet, AllocError>
