@@ -5,11 +5,12 @@ ghost use Rattle.pb_items.specs.Loops.{values_in, values_of, root_of, name_by, n
 ghost use Rattle.pb_items.specs.declared.fault.ItemFault.TheVariants as item;
 
 use crate::fault::ItemFault;
-use pb_expr_eval::eval::render_value;
+use pb_expr_eval::eval::render_prepared;
 use pb_expr_syntax::fault::ExprFault;
 use pb_expr_syntax::tree::{Expr, Form};
 use pb_layers::scope::Scope;
 use pb_play::loops::Loop;
+use pb_prepared::prepared::Prepared;
 use pb_template::template::Template;
 use pb_value::text::Text;
 use pb_value::val::{Dict, Node, Val, ValList};
@@ -34,11 +35,11 @@ fn values_in(over: Val) -> Result<ValList, ItemFault>
 
 /// The values that a loop goes over: those of a list, or of a text that gives one.
 #[tactic(auto, unfolding(crate::specs::Loops::values_of))]
-pub(crate) fn values_of(alloc: Global, over: &Val, scope: &Scope) -> Result<ValList, ItemFault>
+pub(crate) fn values_of(alloc: Global, over: &Prepared, scope: &Scope) -> Result<ValList, ItemFault>
     ensures value { IfOk result (λ vs. values_of scope.now over.now ≡ Ok vs) }
     ensures fault { IfErr result (λ e. e ≢ item.Memory → values_of scope.now over.now ≡ Err e) }
 {
-    values_in(render_value(alloc, over, scope)?)
+    values_in(render_prepared(alloc, over, scope)?)
 }
 
 /// The name that an expression's value is found under: it is the value of that name, a part of it, or what filters make of one.
@@ -69,9 +70,9 @@ fn root_text(alloc: Global, expr: Option<&Expr>) -> Result<Option<Text>, AllocEr
     }
 }
 
-/// The name among the variables that a loop's list is found under, if the loop is over a text of one expression.
+/// The name among the variables that a loop's list is found under, if the loop is over a text of one expression, which is parsed here.
 #[tactic(auto, unfolding(crate::specs::Loops::name_over))]
-pub(crate) fn name_over(alloc: Global, over: &Val) -> Result<Option<Text>, AllocError>
+fn parsed_name(alloc: Global, over: &Val) -> Result<Option<Text>, AllocError>
     ensures { IfOk result (λ name. name ≡ name_over over.now) }
 {
     let Node::Text(text) = &over.node else {
@@ -81,6 +82,17 @@ pub(crate) fn name_over(alloc: Global, over: &Val) -> Result<Option<Text>, Alloc
         Ok(template) => root_text(alloc, template.single()),
         Err(ExprFault::Memory) => Err(AllocError),
         Err(_) => Ok(None),
+    }
+}
+
+/// The same of a loop whose text was parsed before.
+#[tactic(auto, using(crate::proofs::Listed::name_by_parts))]
+pub(crate) fn name_over(alloc: Global, over: &Prepared) -> Result<Option<Text>, AllocError>
+    ensures { IfOk result (λ name. name ≡ name_over over.now) }
+{
+    match over.template() {
+        Some(template) => root_text(alloc, template.single()),
+        None => parsed_name(alloc, over.value()),
     }
 }
 

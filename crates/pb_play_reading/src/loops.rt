@@ -5,11 +5,11 @@ ghost use Rattle.pb_play_reading.specs.Loops.{over, control, looped};
 
 use crate::other_keys::NoArguments;
 use pb_play::loops::Loop;
+use pb_prepared::prepared::Prepared;
 use pb_reading::keys::Keys;
 use pb_reading::reads::Reads;
 use pb_reading::stop::{Stop, wrong};
 use pb_value::text::Text;
-use pb_value::val::Val;
 use pb_written::fault::LoadFault;
 use pb_written::simple::VariableName;
 use pb_written::values::TemplateValue;
@@ -20,13 +20,16 @@ use std::alloc::Global;
 pub(crate) struct Over;
 
 impl Reads<LoadFault> for Over {
-    type Value = Val;
+    type Value = Prepared;
 
     ghost reads = { over };
 
-    fn read(alloc: Global, path: &Text, json: &Value) -> Result<Val, Stop<LoadFault>> {
+    fn read(alloc: Global, path: &Text, json: &Value) -> Result<Prepared, Stop<LoadFault>> {
         match json {
-            Value::Array(_) | Value::String(_) => TemplateValue::read(alloc, path, json),
+            Value::Array(_) | Value::String(_) => {
+                let over = TemplateValue::read(alloc, path, json)?;
+                Ok(Prepared::of(alloc, over))
+            }
             _ => wrong(path),
         }
     }
@@ -56,7 +59,7 @@ impl Reads<LoadFault> for Control {
 }
 
 /// The loop over this, if there is one.
-pub(crate) fn looped(over: Option<Val>, variable: Text) -> Option<Loop>
+pub(crate) fn looped(over: Option<Prepared>, variable: Text) -> Option<Loop>
     ensures { result ≡ looped over variable }
 {
     match over {

@@ -77,7 +77,7 @@ fn loop_mentions(word: &str, looped: &Option<Loop>) -> bool
     ensures { result ≡ loop_mentions word.now looped.now }
 {
     match looped {
-        Some(looped) => mentions(word, &looped.over),
+        Some(looped) => mentions(word, looped.over.value()),
         None => false,
     }
 }
