@@ -8,8 +8,8 @@ ghost use Rattle.pb_items.specs.Constant.{is_constant_module, has_no_conditions,
 use pb_expr_syntax::tree::Expr;
 use pb_play::modules::Module;
 use pb_play::task::Task;
+use pb_prepared::prepared::PreparedText;
 use pb_template::plain::is_plain;
-use pb_value::text::Text;
 use pb_value::val::Dict;
 
 /// Whether no text of these facts has an expression.
@@ -55,7 +55,7 @@ fn has_no_conditions(task: &Task, conditions: &[Expr]) -> bool
 /// Whether the items of a task, with these conditions and this delegate, are the same whatever variables it sees, since it looks none up: it has
 /// neither loop nor conditions nor delegate, and no text of its module has an expression. It may be said of a task that looks nothing up that it isn't
 /// one of these.
-pub fn is_constant(task: &Task, conditions: &[Expr], delegate_to: Option<&Text>) -> bool
+pub fn is_constant(task: &Task, conditions: &[Expr], delegate_to: Option<&PreparedText>) -> bool
     ensures value { result ≡ is_constant task.now conditions.now (option_copied delegate_to.entry) }
 
     // Such a task has the same items whatever it sees.
@@ -64,7 +64,7 @@ pub fn is_constant(task: &Task, conditions: &[Expr], delegate_to: Option<&Text>)
     stands_alone(task, conditions, delegate_to)
 }
 
-fn stands_alone(task: &Task, conditions: &[Expr], delegate_to: Option<&Text>) -> bool
+fn stands_alone(task: &Task, conditions: &[Expr], delegate_to: Option<&PreparedText>) -> bool
     ensures { result ≡ is_constant task.now conditions.now (option_copied delegate_to.entry) }
 {
     (task.looped.is_none() && delegate_to.is_none())

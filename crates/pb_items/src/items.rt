@@ -13,12 +13,13 @@ use crate::start::Start;
 use pb_conditions::attempt::{Back, Terms};
 use pb_conditions::holds::holds;
 use pb_conditions::result_conditions::{Sight, with_conditions};
-use pb_expr_eval::eval::render_text;
+use pb_expr_eval::eval::render_prepared;
 use pb_layers::scope::Scope;
 use pb_outcome::gather::ItemResult;
 use pb_outcome::item::{Item, Planned};
 use pb_play::loops::Loop;
 use pb_play::retrying::Retrying;
+use pb_prepared::prepared::PreparedText;
 use pb_value::items::Items;
 use pb_value::text::Text;
 use pb_value::val::{Dict, Node, Val, ValList};
@@ -27,7 +28,7 @@ use std::alloc::{AllocError, Global};
 /// To whom an item is delegated, if it is: to a text that isn't empty.
 fn delegate_in(
     alloc: Global,
-    delegate_to: Option<&Text>,
+    delegate_to: Option<&PreparedText>,
     scope: &Scope,
 ) -> Result<Option<Text>, ItemFault>
     ensures value { IfOk result (λ d. delegate_in scope.now (option_copied delegate_to.entry) ≡ Ok d) }
@@ -36,7 +37,7 @@ fn delegate_in(
     let Some(template) = delegate_to else {
         return Ok(None);
     };
-    let name = render_text(alloc, template.as_str(), scope)?;
+    let name = render_prepared(alloc, template.prepared(), scope)?;
     let Node::Text(name) = name.into_node() else {
         return Err(ItemFault::BadDelegate);
     };

@@ -5,7 +5,7 @@ use pb_expr_syntax::tree::Expr;
 use pb_layers::layers::{Layers, Magic};
 use pb_outcome::result_names::ResultNames;
 use pb_play::task::Task;
-use pb_value::text::Text;
+use pb_prepared::prepared::PreparedText;
 use std::marker::Model;
 
 /// What the items of a task on a host are read from when it starts there.
@@ -15,7 +15,7 @@ pub struct Start<'a> {
     /// The conditions that have to hold for it to run: those of the role, of the outer blocks, of the inner blocks, and the task's own.
     pub conditions: &'a [Expr],
     /// The template of the name of the host that runs it in place of the host itself.
-    pub delegate_to: Option<&'a Text>,
+    pub delegate_to: Option<&'a PreparedText>,
     /// Whether there is a program that gathers facts.
     pub has_facts_program: bool,
     /// The names of results that are decided at once.

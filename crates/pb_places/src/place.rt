@@ -14,7 +14,7 @@ use crate::surroundings::{Role, Surroundings};
 use pb_expr_syntax::tree::Expr;
 use pb_mentions::is_free_of_hostvars;
 use pb_play::task::Task;
-use pb_value::text::Text;
+use pb_prepared::prepared::PreparedText;
 use pb_value::val::Dict;
 use std::alloc::{AllocError, Global};
 use std::marker::Model;
@@ -183,7 +183,7 @@ impl Place {
     }
 
     /// The template of the name of the host that runs the task in place of the host itself.
-    pub fn delegate_to(&self) -> Option<&Text>
+    pub fn delegate_to(&self) -> Option<&PreparedText>
         ensures { option_copied result ≡ self.now.delegate_to }
     {
         match &self.surroundings {
@@ -282,7 +282,7 @@ impl Place {
 }
 
 /// The host that a task says runs it in place of the host itself.
-fn delegate_of(task: &Task) -> Option<&Text>
+fn delegate_of(task: &Task) -> Option<&PreparedText>
     ensures { option_copied result ≡ delegate_for task.now.«module» task.now.couplings.delegate_to }
 {
     if task.module.is_meta() {

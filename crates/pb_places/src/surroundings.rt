@@ -5,8 +5,8 @@ ghost use Rattle.pb_places.specs.Place.{no_role};
 
 use crate::searched::{SearchedRole, SearchedVars};
 use pb_expr_syntax::tree::Expr;
+use pb_prepared::prepared::PreparedText;
 use pb_value::items::Items;
-use pb_value::text::Text;
 use pb_value::val::Dict;
 use std::alloc::Global;
 use std::sync::Arc;
@@ -63,7 +63,7 @@ pub struct Surroundings {
     pub throttle: u32,
     pub run_once: bool,
     /// The template of the name of the host that runs it in place of the host itself.
-    pub delegate_to: Option<Text>,
+    pub delegate_to: Option<PreparedText>,
     pub delegate_facts: bool,
     /// Whether a block round the place has it in its body and has a rescue.
     pub is_caught: bool,

@@ -1,7 +1,7 @@
 ghost use Rattle.std.specs.Prelude.{◌≡◌};
 ghost use Rattle.pb_play.specs.Couplings.{uncoupled};
 
-use pb_value::text::Text;
+use pb_prepared::prepared::PreparedText;
 
 /// What a task, a handler or a block says of how its hosts are coupled. Where it doesn't say something, the blocks round it are asked, and of failures that
 /// end the play its play, too. See Ansible's documentation, "Controlling where tasks run" and "Error handling in playbooks".
@@ -11,7 +11,7 @@ pub struct Couplings {
     /// Whether the facts of a delegated task are those of the host that it is delegated to.
     pub delegate_facts: Option<bool>,
     /// The template of the name of the host that runs the task in place of the host itself.
-    pub delegate_to: Option<Text>,
+    pub delegate_to: Option<PreparedText>,
     /// Whether the first host of a batch runs the task for all.
     pub run_once: Option<bool>,
 }

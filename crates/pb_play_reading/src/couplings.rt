@@ -1,15 +1,21 @@
 ghost use Rattle.std.specs.Prelude.{◌≡◌};
+ghost use Rattle.serde_json.specs.View.{view};
 ghost use Rattle.pb_reading.specs.Ahead.{ahead, Takes};
+ghost use Rattle.pb_reading.specs.Reading.{Gives};
+ghost use Rattle.pb_written.specs.Values.{template_text};
 ghost use Rattle.pb_play_reading.specs.Couplings.{coupled, delegation, runs};
 
 use crate::throttle::Throttle;
 use pb_play::couplings::Couplings;
+use pb_prepared::prepared::PreparedText;
 use pb_reading::keys::{Keys, Others};
+use pb_reading::reads::Reads;
 use pb_reading::stop::Stop;
 use pb_value::text::Text;
 use pb_written::fault::LoadFault;
 use pb_written::simple::Switch;
 use pb_written::values::TemplateText;
+use serde_json::Value;
 use std::alloc::Global;
 
 /// Where these keys say it.
@@ -36,7 +42,21 @@ pub(crate) fn coupled(
 #[derive(Drop)]
 pub(crate) struct Delegation {
     pub(crate) delegate_facts: Option<bool>,
-    pub(crate) delegate_to: Option<Text>,
+    pub(crate) delegate_to: Option<PreparedText>,
+}
+
+/// Reads the template of the name of the host that runs a task in place of its own.
+pub(crate) struct Delegate;
+
+impl Reads<LoadFault> for Delegate {
+    type Value = PreparedText;
+
+    ghost reads = { template_text };
+
+    fn read(alloc: Global, path: &Text, json: &Value) -> Result<PreparedText, Stop<LoadFault>> {
+        let name = TemplateText::read(alloc, path, json)?;
+        Ok(PreparedText::of(alloc, name))
+    }
 }
 
 pub(crate) fn read_delegation<O: Others<Fault = LoadFault>>(
@@ -47,7 +67,7 @@ pub(crate) fn read_delegation<O: Others<Fault = LoadFault>>(
     ensures path { (ahead keys.new).path ≡ (ahead keys.old).path }
 {
     let delegate_facts = keys.field::<Switch>(alloc, "delegate_facts")?;
-    let delegate_to = keys.field::<TemplateText>(alloc, "delegate_to")?;
+    let delegate_to = keys.field::<Delegate>(alloc, "delegate_to")?;
     Ok(Delegation {
         delegate_facts,
         delegate_to,

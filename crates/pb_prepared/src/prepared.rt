@@ -1,4 +1,5 @@
-ghost use Rattle.std.specs.Prelude.{◌≡◌, Some, IfSome};
+ghost use Rattle.std.specs.Prelude.{◌≡◌, Some, IfSome, IfOk};
+ghost use Rattle.std.specs.Arc.{arc_value};
 ghost use Rattle.std.specs.Option.{option_copied};
 ghost use Rattle.pb_value.specs.Datum.{text};
 ghost use Rattle.pb_template.specs.Computed.{template_of};
@@ -8,25 +9,26 @@ use pb_template::plain::is_plain;
 use pb_template::template::Template;
 use pb_value::text::Text;
 use pb_value::val::{Node, Val};
-use std::alloc::Global;
+use std::alloc::{AllocError, Global};
 use std::marker::Model;
+use std::sync::Arc;
 
 /// The template that a text is. There is none where it isn't a template, or where memory is refused for it.
-fn parsed(alloc: Global, text: &str) -> Option<Box<Template>>
-    ensures { IfSome result (λ t. template_of text.now ≡ Some t.value.parts) }
+fn parsed(alloc: Global, text: &str) -> Option<Arc<Template>>
+    ensures { IfSome result (λ t. template_of text.now ≡ Some (arc_value t).parts) }
 {
     let Ok(template) = Template::parse(alloc, text) else {
         return None;
     };
-    match Box::new(alloc, template) {
+    match Arc::new(alloc, template) {
         Ok(template) => Some(template),
         Err(_) => None,
     }
 }
 
 /// The template that a value is, where it doesn't stand for itself.
-fn parsed_value(alloc: Global, value: &Val) -> Option<Box<Template>>
-    ensures { IfSome result (λ t. parts_of value.now ≡ Some t.value.parts) }
+fn parsed_value(alloc: Global, value: &Val) -> Option<Arc<Template>>
+    ensures { IfSome result (λ t. parts_of value.now ≡ Some (arc_value t).parts) }
 {
     let Node::Text(text) = &value.node else {
         return None;
@@ -37,10 +39,10 @@ fn parsed_value(alloc: Global, value: &Val) -> Option<Box<Template>>
     parsed(alloc, text.as_str())
 }
 
-/// A value as it is written, with its template where it is a text that has one. Contracts see it as the value.
+/// A value as it is written, with its template where it is a text that has one, which its copies share. Contracts see it as the value.
 pub struct Prepared {
     value: Val,
-    template: Option<Box<Template>>,
+    template: Option<Arc<Template>>,
 }
 
 impl Drop for Prepared {
@@ -53,6 +55,7 @@ impl Drop for Prepared {
 
 impl Model for Prepared {
     ghost use Rattle.std.specs.Prelude.{◌≡◌, Some, IfSome};
+    ghost use Rattle.std.specs.Arc.{arc_value};
     ghost use Rattle.pb_value.specs.Datum.{Datum};
     ghost use Rattle.pb_value.specs.contracts.val.Val as val;
     ghost use Rattle.pb_prepared.specs.Parts.{parts_of};
@@ -63,7 +66,7 @@ impl Model for Prepared {
 
     ghost view = { λ p. p.value };
 
-    ghost invariant = { λ p. IfSome p.template (λ t. parts_of p.value ≡ Some t.value.parts) };
+    ghost invariant = { λ p. IfSome p.template (λ t. parts_of p.value ≡ Some (arc_value t).parts) };
 }
 
 impl Prepared {
@@ -90,6 +93,23 @@ impl Prepared {
         match &self.template {
             Some(template) => Some(template.as_ref()),
             None => None,
+        }
+    }
+
+    /// A copy of the value, which shares the template.
+    pub fn try_clone(&self, alloc: Global) -> Result<Prepared, AllocError>
+        ensures { IfOk result (λ copy. copy ≡ self.now) }
+    {
+        let value = self.value.try_clone(alloc)?;
+        match &self.template {
+            Some(template) => {
+                let template = Some(template.clone()?);
+                Ok(Prepared { value, template })
+            }
+            None => Ok(Prepared {
+                value,
+                template: None,
+            }),
         }
     }
 }
@@ -143,5 +163,14 @@ impl PreparedText {
         ensures { result.now ≡ text self.now }
     {
         &self.prepared
+    }
+
+    /// A copy of the text, which shares the template.
+    pub fn try_clone(&self, alloc: Global) -> Result<PreparedText, AllocError>
+        ensures { IfOk result (λ copy. copy ≡ self.now) }
+    {
+        Ok(PreparedText {
+            prepared: self.prepared.try_clone(alloc)?,
+        })
     }
 }

@@ -23,9 +23,8 @@ use pb_play::loops::Loop;
 use pb_play::modules::Module;
 use pb_play::retrying::Retrying;
 use pb_play::task::Task;
-use pb_prepared::prepared::Prepared;
+use pb_prepared::prepared::{Prepared, PreparedText};
 use pb_value::items::Items;
-use pb_value::text::Text;
 use pb_value::val::Dict;
 
 /// Whether a word stands in the texts of one of some values.
@@ -142,7 +141,7 @@ fn task_mentions(word: &str, task: &Task) -> bool
         || result_names(word, task)
 }
 
-fn delegate_mentions(word: &str, delegate_to: Option<&Text>) -> bool
+fn delegate_mentions(word: &str, delegate_to: Option<&PreparedText>) -> bool
     ensures { result ≡ delegate_mentions word.now (option_copied delegate_to.entry) }
 {
     match delegate_to {
@@ -193,7 +192,7 @@ pub fn may_read(
     word: &str,
     task: &Task,
     conditions: &[Expr],
-    delegate_to: Option<&Text>,
+    delegate_to: Option<&PreparedText>,
     layers: &Layers,
 ) -> bool
     requires { 0 < length word.now }
@@ -211,7 +210,7 @@ fn reads(
     word: &str,
     task: &Task,
     conditions: &[Expr],
-    delegate_to: Option<&Text>,
+    delegate_to: Option<&PreparedText>,
     layers: &Layers,
 ) -> bool
     ensures { result ≡ may_read word.now task.now conditions.now (option_copied delegate_to.entry) layers.now }
@@ -226,7 +225,7 @@ pub fn may_read_by_itself(
     word: &str,
     task: &Task,
     conditions: &[Expr],
-    delegate_to: Option<&Text>,
+    delegate_to: Option<&PreparedText>,
 ) -> bool
     requires { 0 < length word.now }
     ensures value { result ≡ own_texts_mention word.now task.now conditions.now (option_copied delegate_to.entry) }
@@ -243,7 +242,7 @@ fn own_texts_mention(
     word: &str,
     task: &Task,
     conditions: &[Expr],
-    delegate_to: Option<&Text>,
+    delegate_to: Option<&PreparedText>,
 ) -> bool
     ensures { result ≡ own_texts_mention word.now task.now conditions.now (option_copied delegate_to.entry) }
 {

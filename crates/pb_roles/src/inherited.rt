@@ -23,8 +23,8 @@ use pb_play::couplings::Couplings;
 use pb_play::modules::Module;
 use pb_play::node::BlockKeys;
 use pb_play::task::Task;
+use pb_prepared::prepared::PreparedText;
 use pb_value::items::Items;
-use pb_value::text::Text;
 use pb_value::val::Dict;
 use std::alloc::{AllocError, Global};
 use std::marker::Model;
@@ -103,7 +103,7 @@ impl Inherited {
     pub(crate) fn inside(&self, alloc: Global, keys: &BlockKeys) -> Result<Inherited, AllocError>
         ensures { IfOk result (λ inherited. inherited ≡ inside self.now keys.now) }
     {
-        let couplings = inner_couplings(&self.couplings, &keys.couplings)?;
+        let couplings = inner_couplings(alloc, &self.couplings, &keys.couplings)?;
         let conditions = conditions_inside(alloc, &self.conditions, &keys.conditions)?;
         let block_vars = vars_inside(alloc, &self.block_vars, &keys.vars)?;
         let role = sharing(&self.role)?;
@@ -188,7 +188,11 @@ impl Inherited {
     {
         let shared = self.shared(alloc, &task.conditions)?;
         let notifies = notified(alloc, names, task)?;
-        let delegate_to = inner_delegate(&task.couplings.delegate_to, &self.couplings.delegate_to)?;
+        let delegate_to = inner_delegate(
+            alloc,
+            &task.couplings.delegate_to,
+            &self.couplings.delegate_to,
+        )?;
         Ok(shared.with(self, task, delegate_to, notifies, is_caught, handler))
     }
 
@@ -235,7 +239,7 @@ impl Shared {
         self,
         outer: &Inherited,
         task: &Task,
-        delegate_to: Option<Text>,
+        delegate_to: Option<PreparedText>,
         notifies: Items<u32>,
         is_caught: bool,
         handler: Option<u32>,
@@ -303,21 +307,29 @@ fn is_uncoupled(couplings: &Couplings) -> bool
 }
 
 /// The template of the inner delegate, where one is written, or else of the outer one.
-fn inner_delegate(own: &Option<Text>, outer: &Option<Text>) -> Result<Option<Text>, AllocError>
+fn inner_delegate(
+    alloc: Global,
+    own: &Option<PreparedText>,
+    outer: &Option<PreparedText>,
+) -> Result<Option<PreparedText>, AllocError>
     ensures { IfOk result (λ to. to ≡ or_else own.now outer.now) }
 {
     match (own, outer) {
-        (Some(own), _) => Ok(Some(own.try_clone()?)),
-        (None, Some(outer)) => Ok(Some(outer.try_clone()?)),
+        (Some(own), _) => Ok(Some(own.try_clone(alloc)?)),
+        (None, Some(outer)) => Ok(Some(outer.try_clone(alloc)?)),
         (None, None) => Ok(None),
     }
 }
 
 /// How hosts are coupled in what says this, within what says that.
-fn inner_couplings(outer: &Couplings, own: &Couplings) -> Result<Couplings, AllocError>
+fn inner_couplings(
+    alloc: Global,
+    outer: &Couplings,
+    own: &Couplings,
+) -> Result<Couplings, AllocError>
     ensures { IfOk result (λ couplings. couplings ≡ inner_couplings outer.now own.now) }
 {
-    let delegate_to = inner_delegate(&own.delegate_to, &outer.delegate_to)?;
+    let delegate_to = inner_delegate(alloc, &own.delegate_to, &outer.delegate_to)?;
     Ok(Couplings {
         any_errors_fatal: inner(own.any_errors_fatal, outer.any_errors_fatal),
         delegate_facts: inner(own.delegate_facts, outer.delegate_facts),
@@ -327,7 +339,7 @@ fn inner_couplings(outer: &Couplings, own: &Couplings) -> Result<Couplings, Allo
 }
 
 /// The template of the delegate of a task with this module: a task of `meta` runs on no host in place of another.
-fn delegate_for(called: &Module, to: Option<Text>) -> Option<Text>
+fn delegate_for(called: &Module, to: Option<PreparedText>) -> Option<PreparedText>
     ensures { result ≡ delegate_for called.now to }
 {
     if called.is_meta() {
