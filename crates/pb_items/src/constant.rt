@@ -32,7 +32,7 @@ fn is_constant_module(called: &Module) -> bool
         Module::Debug { msg } => is_plain(msg.value()),
         Module::Fail { msg } => is_plain(msg.value()),
         Module::Meta(_) => true,
-        Module::SetFact { facts } => are_plain(facts),
+        Module::SetFact { facts } => are_plain(facts.dict()),
         Module::Setup => true,
         Module::Assert {
             that: _,

@@ -4,6 +4,7 @@ ghost use Rattle.pb_play_reading.specs.Facts.{one_more_fact, set_fact, setup};
 
 use crate::other_keys::NoArguments;
 use pb_play::modules::Module;
+use pb_prepared::dict::PreparedDict;
 use pb_reading::keys::{Keys, Others};
 use pb_reading::reads::Reads;
 use pb_reading::stop::{Stop, wrong};
@@ -60,6 +61,7 @@ pub(crate) fn read_set_fact(
         facts: Dict::new(alloc),
     };
     let Facts { facts } = Keys::of(path, members, none).others(alloc)?;
+    let facts = PreparedDict::of(alloc, facts);
     Ok(Module::SetFact { facts })
 }
 

@@ -66,7 +66,7 @@ fn module_mentions(word: &str, called: &Module) -> bool
         Module::DebugVar { text: _, expr } => has_name(word, expr),
         Module::Fail { msg } => mentions(word, msg.value()),
         Module::Meta(_) => false,
-        Module::SetFact { facts } => members_mention(word, facts),
+        Module::SetFact { facts } => members_mention(word, facts.dict()),
         Module::Setup => false,
         Module::Shell { cmd } => has_inside(word, cmd.as_str()),
     }

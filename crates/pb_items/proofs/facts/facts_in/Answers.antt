@@ -6,7 +6,7 @@ use Rattle.pb_value.specs.Reading.{map_ok}
 use Rattle.pb_expr_eval.proofs.Members.{Entry, put_after, keys_join}
 use Rattle.pb_items.specs.Facts.{facts_of}
 use Rattle.pb_items.proofs.Rendered.{facts_of-step}
-use Rattle.pb_items.proofs.facts.facts_of.Goals as goal
+use Rattle.pb_items.proofs.facts.facts_in.Goals as goal
 
 pub loop-name-preserved : goal.loop-name-preserved
 loop-name-preserved c =

@@ -5,7 +5,7 @@ use Rattle.pb_value.specs.Datum.{Datum, named}
 use Rattle.pb_value.specs.Reading.{map_ok}
 use Rattle.pb_expr_eval.proofs.Members.{Entry}
 use Rattle.pb_items.specs.Facts.{facts_of}
-use Rattle.pb_items.proofs.facts.facts_of.Given as goal
+use Rattle.pb_items.proofs.facts.facts_in.Given as goal
 
 abbrev pub invariant-loop-name : goal.invariant-loop-name
 invariant-loop-name l =
