@@ -2,7 +2,6 @@
 ghost use Rattle.std.specs.Prelude.{◌≡◌, ◌≢◌, IfOk, IfErr, Ok, Err};
 ghost use Rattle.pb_operators.specs.Values.{finished};
 ghost use Rattle.pb_operators.specs.declared.fault.EvalFault.TheVariants as fault;
-ghost use Rattle.pb_value.specs.Datum.{text};
 ghost use Rattle.pb_value.specs.Reading.{and_then};
 ghost use Rattle.pb_expr_eval.specs.Scoped.{eval_of, render_of, rendered_of};
 
@@ -13,7 +12,6 @@ use pb_operators::fault::EvalFault;
 use pb_operators::operators::finished;
 use pb_prepared::prepared::Prepared;
 use pb_template::template::Template;
-use pb_value::text::Text;
 use pb_value::val::Val;
 use std::alloc::Global;
 
@@ -53,15 +51,6 @@ pub fn render_value(alloc: Global, value: &Val, scope: &Scope) -> Result<Val, Ev
         Ok(value) => finished(value),
         Err(fault) => Err(fault),
     }
-}
-
-/// What a text gives as a template, or its first fault, with the limits of `eval`.
-pub fn render_text(alloc: Global, words: &str, scope: &Scope) -> Result<Val, EvalFault>
-    ensures value { IfOk result (λ v. rendered_of scope.now (text words.now) ≡ Ok v) }
-    ensures fault { IfErr result (λ e. e ≢ fault.Memory → rendered_of scope.now (text words.now) ≡ Err e) }
-{
-    let value = Val::text(Text::from_str(alloc, words)?);
-    render_value(alloc, &value, scope)
 }
 
 /// What the parts of a template give, measured at the end.
