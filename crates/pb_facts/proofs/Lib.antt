@@ -3,3 +3,4 @@ pub mod Learnt
 pub mod Restored
 pub mod Applying
 pub mod Heard
+pub mod Ordered

@@ -1,5 +1,6 @@
 -- Worked examples: each is proved by computing both sides.
 use Rattle.std.specs.Prelude.{◌≡◌, ℕ, pos, [], ◌∷◌, ◌++◌, Some, None, codes, refl}
+use Rattle.std.specs.List.Sorted.{IsStrictlySortedBy}
 use Rattle.pb_value.specs.Datum.{int, text, dict, members_of, value_at}
 use Rattle.pb_layers.specs.Scope.{Map}
 use Rattle.pb_outcome.specs.Decided.{debug_result}
@@ -9,7 +10,7 @@ use Rattle.pb_outcome.specs.declared.item.Planned.TheVariants.{Decided}
 use Rattle.pb_facts.specs.declared.facts.Gives.TheVariants.{Nothing, Sets, Gathers}
 use Rattle.pb_facts.specs.Facts.{no_facts, gathered_layer, merged, with_set, with_registered, given_in, learnt, known_of}
 use Rattle.pb_facts.specs.Book.{changed_at, shared}
-use Rattle.pb_facts.specs.Update.{entries_in, registered_entries}
+use Rattle.pb_facts.specs.Update.{entries_in, registered_entries, LearntUnder}
 
 abbrev x : ℕ → Map
 x n = (codes "x", int (pos n)) ∷ []
@@ -93,3 +94,8 @@ nothing_to_share = refl
 -- what a task brings comes entry by entry: its result first, and then the facts of its items
 one_by_one : registered_entries (Some (codes "r")) (int (pos 9)) ++ entries_in (given_in (gives (x 1) ∷ gives (x 2) ∷ [])) ≡ (codes "r", int (pos 9)) ∷ (codes "x", int (pos 1)) ∷ (codes "x", int (pos 2)) ∷ []
 one_by_one = refl
+
+-- a value that came under a name in place of another
+learnt_under : LearntUnder ((codes "x", Some (int (pos 1))) ∷ []) (with_set (x 1) (merged (x 3) no_facts)) (with_set (x 2) (merged (x 3) no_facts))
+unfolding IsStrictlySortedBy
+learnt_under = (refl, (tt, tt), (int (pos 2), record { stood = refl; same = λ some. refl }, refl))

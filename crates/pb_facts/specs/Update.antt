@@ -1,5 +1,9 @@
 -- What a host learns: nothing, all that it knows then, or values that come over what it knows; and what was before, so that it can be put back.
 use Rattle.std.specs.Prelude.{◌≡◌, ℕ, List, [], ◌∷◌, ◌++◌, Option, Some, None}
+use Rattle.std.specs.Ordering.{nat_cmp}
+use Rattle.std.specs.Cmp.Lexicographic.{slice_cmp}
+use Rattle.std.specs.List.Sorted.{IsStrictlySortedBy}
+use Rattle.std.specs.Map.{keys_of}
 use Rattle.pb_value.specs.Datum.{Datum, named, put}
 use Rattle.pb_facts.specs.Stood.{StoodThere}
 use Rattle.pb_layers.specs.Scope.{Map}
@@ -24,6 +28,20 @@ abbrev pub IsUndo : FactsUndo → FactsOf → FactsOf → Type 0
 IsUndo NoUndo was now = was ≡ now
 IsUndo (Was known) was now = known ≡ was
 IsUndo (Stood log) was now = (was.gathered ≡ now.gathered) × LeadsTo (named log.items) was.set now.set
+
+-- names stand in byte order, each once
+abbrev pub IsOrdered : Map → Type 0
+IsOrdered known = IsStrictlySortedBy (slice_cmp nat_cmp) (keys_of known)
+
+-- a host that knew this learnt values under these names, and nothing else
+abbrev pub LearntUnder : List (List ℕ × Option Datum) → FactsOf → FactsOf → Type 0
+LearntUnder log was now = (was.gathered ≡ now.gathered) × IsOrdered was.set × LeadsTo log was.set now.set
+
+-- what lies between what a host knew and what it knows, as what can put it back tells: of all that it knew nothing is told
+abbrev pub IsBetween : FactsUndo → FactsOf → FactsOf → Type 0
+IsBetween NoUndo was now = was ≡ now
+IsBetween (Was known) was now = Unit {0}
+IsBetween (Stood log) was now = LearntUnder (named log.items) was now
 
 -- the entries of several maps, one after another
 abbrev pub entries_in : List Map → Map

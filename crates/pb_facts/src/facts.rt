@@ -4,7 +4,7 @@ ghost use Rattle.pb_facts.specs.Facts.{no_facts, gathered_layer, merged, with_se
 ghost use Rattle.pb_facts.specs.Each.{put_each, gives_some, gathered_after};
 
 use crate::put::put_all;
-use crate::reading::{facts_in, gathered_in};
+use crate::reading::{facts_in, gathered_in, names_are_ordered};
 use crate::update::{FactsUndo, FactsUpdate, put_back, put_entries, set_update};
 use pb_outcome::item::{Item, Planned};
 use pb_value::val::{Dict, Val};
@@ -85,7 +85,7 @@ fn gives_some(items: &[Item]) -> bool
 
 impl Facts {
     ghost use Rattle.pb_facts.specs.Facts.{FactsOf};
-    ghost use Rattle.pb_facts.specs.Update.{applied, IsUndo};
+    ghost use Rattle.pb_facts.specs.Update.{applied, IsUndo, IsBetween};
 
     /// A host that has learnt nothing.
     pub fn new(alloc: Global) -> Facts
@@ -226,12 +226,14 @@ impl Facts {
     pub fn apply(&mut self, alloc: Global, update: FactsUpdate) -> Result<FactsUndo, AllocError>
         ensures ok { OnOk result (self.new ≡ applied update self.old) }
         ensures past { IfOk result (λ past. IsUndo past self.old self.new) }
+        ensures between { IfOk result (λ past. IsBetween past self.old self.new) }
         ensures err { OnErr result (self.new ≡ self.old) }
     {
         match update {
             FactsUpdate::Nothing => Ok(FactsUndo::Nothing),
             FactsUpdate::Whole(known) => Ok(FactsUndo::Was(mem::replace(self, known))),
             FactsUpdate::More(entries) => {
+                names_are_ordered(&self.set);
                 let log = put_entries(alloc, &mut self.set, entries)?;
                 Ok(FactsUndo::Stood(log))
             }

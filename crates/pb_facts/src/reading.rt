@@ -1,6 +1,7 @@
 ghost use Rattle.std.specs.Prelude.{◌≡◌};
 ghost use Rattle.std.specs.Option.{option_copied};
 ghost use Rattle.pb_facts.specs.Facts.{dict_of, facts_in, gathered_in};
+ghost use Rattle.pb_facts.specs.Update.{IsOrdered};
 
 use pb_value::val::{Dict, Node, Val};
 
@@ -32,4 +33,11 @@ pub fn facts_in(shown: &Val) -> Option<&Dict>
         Some(members) => gathered_in(members),
         None => None,
     }
+}
+
+/// The names of a dict stand in order.
+pub(crate) fn names_are_ordered(known: &Dict)
+    ensures { IsOrdered known.now }
+{
+    drop(known.iter());
 }
