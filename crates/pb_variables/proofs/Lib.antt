@@ -1,6 +1,9 @@
 pub mod Belonging
+pub mod Between
+pub mod Followed
 pub mod Keeping
 pub mod Learning
 pub mod Named
+pub mod Puts
 pub mod Renewing
 pub mod Texts

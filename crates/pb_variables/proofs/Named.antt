@@ -23,7 +23,7 @@ put_one : (name key : List ℕ) (x : Datum) (known : List (List ℕ × Datum)) (
 put_one name key x known true e = rw ((bytes_eq-Decides name key).0 e) (value_at-put key x known)
 put_one name key x known false e = value_at-put_other name key x known (is_eq-slice_cmp name key ∙ e)
 
-put_all_at : (name : List ℕ) (es known : List (List ℕ × Datum)) → value_at name (put_all es known) ≡ option_or (last_at name es) (value_at name known)
+pub put_all_at : (name : List ℕ) (es known : List (List ℕ × Datum)) → value_at name (put_all es known) ≡ option_or (last_at name es) (value_at name known)
 put_all_at name [] known = refl
 put_all_at name (e ∷ es) known =
     put_all_at name es (put e.0 e.1 known) ∙ ap (option_or (last_at name es)) (put_one name e.0 e.1 known (bytes_eq name e.0) refl)

@@ -1,5 +1,5 @@
 -- Where one host's variables are put anew into the map of all hosts' variables, it is the map that would be made.
-use Rattle.std.proofs.Common.{◌≡◌, ◌≢◌, ℕ, zero, suc, ◌<◌, ◌≤◌, Bool, true, false, List, [], ◌∷◌, length, Ordering, Less, Equal, Greater, nat_cmp, refl, sym, ap, ◌∙◌, arith, String, Global, string_bytes}
+use Rattle.std.proofs.Common.{◌≡◌, ◌≢◌, ℕ, zero, suc, ◌<◌, ◌≤◌, Bool, true, false, List, [], ◌∷◌, length, Ordering, Less, Equal, Greater, nat_cmp, refl, sym, ap, ◌∙◌, arith}
 use Rattle.std.specs.Prelude.{Option, Some, None, IfSome, ◌==◌}
 use Rattle.std.specs.Cmp.Lexicographic.{slice_cmp}
 use Rattle.std.specs.Ordering.{is_eq, match_ordering, ordering_reverse}
@@ -7,7 +7,7 @@ use Rattle.std.proofs.lemmas.Bool.{eqb-true, eqb-false}
 use Rattle.std.proofs.lemmas.Cmp.{nat_list_cmp_total, tied_itself}
 use Rattle.std.proofs.lemmas.Map.Text.{is_eq-slice_cmp}
 use Rattle.std.proofs.lemmas.Slice.Eq.{bytes_eq-Decides}
-use Rattle.pb_value.specs.Datum.{Datum, dict, put, members_of, entries_of, named}
+use Rattle.pb_value.specs.Datum.{Datum, dict, put, members_of, entries_of}
 use Rattle.pb_facts.specs.Book.{row_of}
 use Rattle.pb_facts.specs.Facts.{FactsOf}
 use Rattle.pb_inventory.specs.InventoryOf.{InventoryOf}
@@ -25,17 +25,6 @@ same_map a b e =
     let members : members_of a ≡ members_of b = cc in
     sym (entries_back a) ∙ ap entries_of members ∙ entries_back b
 
--- and the value under the only name of a dict
-pub only_value : (es rest : List (String Global × Datum)) (e : String Global × Datum) (name : List ℕ) (value : Datum) → es ≡ e ∷ rest → named es ≡ (name, value) ∷ [] → e.1 ≡ value
-only_value es rest e name value is only =
-    let first : (string_bytes e.0, e.1) ∷ named rest ≡ (name, value) ∷ [] = sym (ap named is) ∙ only in
-    let pair : (string_bytes e.0, e.1) ≡ (name, value) = cc in
-    ap (λ (p : List ℕ × Datum). p.1) pair
-
-pub no_value : (es : List (String Global × Datum)) (name : List ℕ) (value : Datum) → length es ≡ 0 → named es ≡ (name, value) ∷ [] → ⊥
-no_value [] name value none only = cc
-no_value (e ∷ es) name value none only = omega (arith, none)
-
 -- ---- what stands last under a name
 again_at : (k : List ℕ) (x y : Datum) (m : List ℕ × Datum) (ms : Map) (o : Ordering) → slice_cmp nat_cmp k m.0 ≡ o → put k x (put k y ms) ≡ put k x ms
     → put k x (match_ordering o ((k, y) ∷ m ∷ ms) ((m.0, y) ∷ ms) (m ∷ put k y ms)) ≡ match_ordering o ((k, x) ∷ m ∷ ms) ((m.0, x) ∷ ms) (m ∷ put k x ms)
@@ -43,7 +32,7 @@ again_at k x y m ms Less e h = rw (tied_itself nat_list_cmp_total k)
 again_at k x y m ms Equal e h = rw e
 again_at k x y m ms Greater e h = rw e (ap (λ (t : Map). m ∷ t) h)
 
-put_again : (k : List ℕ) (x y : Datum) (ms : Map) → put k x (put k y ms) ≡ put k x ms
+pub put_again : (k : List ℕ) (x y : Datum) (ms : Map) → put k x (put k y ms) ≡ put k x ms
 put_again k x y [] = rw (tied_itself nat_list_cmp_total k)
 put_again k x y (m ∷ ms) = again_at k x y m ms (slice_cmp nat_cmp k m.0) refl (put_again k x y ms)
 
@@ -70,7 +59,7 @@ apart_at j k x y m ms a Greater Less ea eb ec n h = let kj : slice_cmp nat_cmp k
 apart_at j k x y m ms a Greater Equal ea eb ec n h = rw (ec, eb)
 apart_at j k x y m ms a Greater Greater ea eb ec n h = rw (ec, eb) (ap (λ (t : Map). m ∷ t) h)
 
-put_apart : (j k : List ℕ) (x y : Datum) (ms : Map) → is_eq (slice_cmp nat_cmp j k) ≡ false → put j y (put k x ms) ≡ put k x (put j y ms)
+pub put_apart : (j k : List ℕ) (x y : Datum) (ms : Map) → is_eq (slice_cmp nat_cmp j k) ≡ false → put j y (put k x ms) ≡ put k x (put j y ms)
 put_apart j k x y [] n = apart_none (slice_cmp nat_cmp j k) refl n
   where
     apart_none : (a : Ordering) → slice_cmp nat_cmp j k ≡ a → is_eq a ≡ false → put j y ((k, x) ∷ []) ≡ put k x ((j, y) ∷ [])
@@ -114,7 +103,7 @@ most_hosts inventory extra learnt (suc n) =
 
 -- ---- the hosts one after another
 -- of hosts before the one that learns the variables are the same
-before_it : (inventory : InventoryOf) (extra : Map) (before now : List FactsOf) (host n : ℕ) → LearnsAlone host before now → n ≤ host → first_hosts inventory extra now n ≡ first_hosts inventory extra before n
+pub before_it : (inventory : InventoryOf) (extra : Map) (before now : List FactsOf) (host n : ℕ) → LearnsAlone host before now → n ≤ host → first_hosts inventory extra now n ≡ first_hosts inventory extra before n
 before_it inventory extra before now host zero alone le = refl
 before_it inventory extra before now host (suc n) alone le =
     let other : n ≢ host = λ e. omega (arith, e, le) in
@@ -134,7 +123,7 @@ other_name inventory extra learnt host n ms true e long is =
     let most = most_hosts inventory extra learnt n in
     absurd (omega (arith, shorter, long, most))
 
-renewed_first : (inventory : InventoryOf) (extra : Map) (before now : List FactsOf) (host n : ℕ) → LearnsAlone host before now → host < n → length (first_hosts inventory extra before n) ≡ n
+pub renewed_first : (inventory : InventoryOf) (extra : Map) (before now : List FactsOf) (host n : ℕ) → LearnsAlone host before now → host < n → length (first_hosts inventory extra before n) ≡ n
     → first_hosts inventory extra now n ≡ put (host_name inventory host) (value_of inventory extra (row_of now host) host) (first_hosts inventory extra before n)
 renewed_first inventory extra before now host zero alone lt long = absurd (omega (arith, lt))
 renewed_first inventory extra before now host (suc n) alone lt long =
@@ -181,13 +170,13 @@ no_host inventory extra facts host hosts le =
     ∙ sym (ap hosts_magic (of_hosts inventory extra now))
 
 -- what is found in the magic variable is the map
-some_is : (a b : Map) (found : Option Map) → found ≡ Some a → found ≡ Some b → a ≡ b
+pub some_is : (a b : Map) (found : Option Map) → found ≡ Some a → found ≡ Some b → a ≡ b
 some_is a b found e f = cc
 
-abbrev Finds : Map → Option Map → Type 0
+abbrev pub Finds : Map → Option Map → Type 0
 Finds hosts found = (known : Map) → hosts ≡ hosts_magic (dict (members_of known)) → found ≡ Some known
 
-found_map : (inventory : InventoryOf) (extra : Map) (before : List FactsOf) (hosts : Map) (found : Option Map) → Finds hosts found → hosts ≡ hosts_magic (hostvars inventory extra before)
+pub found_map : (inventory : InventoryOf) (extra : Map) (before : List FactsOf) (hosts : Map) (found : Option Map) → Finds hosts found → hosts ≡ hosts_magic (hostvars inventory extra before)
     → found ≡ Some (hostvars_map inventory extra before)
 found_map inventory extra before hosts found finds old = finds (hostvars_map inventory extra before) (old ∙ ap hosts_magic (of_hosts inventory extra before))
 
@@ -206,7 +195,7 @@ pub found_twice : (inventory : InventoryOf) (extra : Map) (hosts known : Map) (f
 found_twice inventory extra hosts known found finds is twice =
     λ before old long. twice (ap length (some_is known (hostvars_map inventory extra before) found is (found_map inventory extra before hosts found finds old)) ∙ long)
 
-none_some : (a : Map) (found : Option Map) → found ≡ None → found ≡ Some a → ⊥
+pub none_some : (a : Map) (found : Option Map) → found ≡ None → found ≡ Some a → ⊥
 none_some a found e f = cc
 
 pub found_none : (inventory : InventoryOf) (extra : Map) (hosts : Map) (found : Option Map) → Finds hosts found → found ≡ None

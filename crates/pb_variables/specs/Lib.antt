@@ -1,3 +1,4 @@
+pub mod Between
 pub mod ByName
 pub mod Connector
 pub mod Extra

@@ -1,8 +1,10 @@
 -- What `hostvars` stands for once one host alone has learnt something.
-use Rattle.std.specs.Prelude.{◌≡◌, ◌≢◌, ℕ, List}
+use Rattle.std.specs.Prelude.{◌≡◌, ◌≢◌, ℕ, List, Option}
 use Rattle.pb_value.specs.Datum.{Datum, dict, members_of}
 use Rattle.pb_facts.specs.Book.{row_of}
 use Rattle.pb_facts.specs.Facts.{FactsOf, known_of}
+use Rattle.pb_facts.specs.Update.{LearntUnder, IsBetween}
+use Rattle.pb_facts.specs.declared.update.FactsUndo.{FactsUndo}
 use Rattle.pb_inventory.specs.InventoryOf.{InventoryOf}
 use Rattle.pb_inventory.specs.Vars.{vars_from_groups, vars_of_host}
 use Rattle.pb_variables.specs.Magic.{hostvars, hostvars_map, hosts_magic}
@@ -24,3 +26,20 @@ IsRenewedMap inventory extra facts host old new =
 abbrev pub IsRenewed : InventoryOf → List (List ℕ × Datum) → FactsOf → ℕ → List (List ℕ × Datum) → List (List ℕ × Datum) → Type 0
 IsRenewed inventory extra facts host old new =
     (before now : List FactsOf) → LearnsAlone host before now → facts ≡ row_of now host → old ≡ hosts_magic (hostvars inventory extra before) → new ≡ hosts_magic (hostvars inventory extra now)
+
+-- the same where it learnt values under these names, and nothing else
+abbrev pub IsRenewedMapUnder : InventoryOf → List (List ℕ × Datum) → List (List ℕ × Option Datum) → FactsOf → ℕ → List (List ℕ × Datum) → List (List ℕ × Datum) → Type 0
+IsRenewedMapUnder inventory extra log facts host old new =
+    (before now : List FactsOf) → LearnsAlone host before now → facts ≡ row_of now host → LearntUnder log (row_of before host) facts → old ≡ hostvars_map inventory extra before
+    → new ≡ hosts_magic (hostvars inventory extra now)
+
+abbrev pub IsRenewedUnder : InventoryOf → List (List ℕ × Datum) → List (List ℕ × Option Datum) → FactsOf → ℕ → List (List ℕ × Datum) → List (List ℕ × Datum) → Type 0
+IsRenewedUnder inventory extra log facts host old new =
+    (before now : List FactsOf) → LearnsAlone host before now → facts ≡ row_of now host → LearntUnder log (row_of before host) facts → old ≡ hosts_magic (hostvars inventory extra before)
+    → new ≡ hosts_magic (hostvars inventory extra now)
+
+-- the same where this lies between what the host had learnt and what it has learnt now
+abbrev pub IsRenewedBetween : InventoryOf → List (List ℕ × Datum) → FactsUndo → FactsOf → ℕ → List (List ℕ × Datum) → List (List ℕ × Datum) → Type 0
+IsRenewedBetween inventory extra past facts host old new =
+    (before now : List FactsOf) → LearnsAlone host before now → facts ≡ row_of now host → IsBetween past (row_of before host) facts → old ≡ hosts_magic (hostvars inventory extra before)
+    → new ≡ hosts_magic (hostvars inventory extra now)

@@ -7,6 +7,7 @@ use Rattle.pb_facts.specs.Facts.{FactsOf}
 use Rattle.pb_groups.specs.Members.{own_of as own}
 use Rattle.pb_groups.specs.Ways.{link}
 use Rattle.pb_inventory.specs.InventoryOf.{InventoryOf}
+use Rattle.pb_variables.specs.Between.{put_names}
 use Rattle.pb_variables.specs.Connector.{connector_of, connector_in}
 use Rattle.pb_variables.specs.Extra.{variables_in}
 use Rattle.pb_variables.specs.Magic.{hostvars, plan_magic, play_magic, host_magic}
@@ -103,6 +104,19 @@ pub hostvars_that_learnt : hostvars two_hosts [] two_learnt
     ∷ [])
 unfolding hostvars
 hostvars_that_learnt = refl
+
+-- of two names that were learnt one has an extra variable, which stays
+pub learnt_below_extra : put_names
+    ((codes "x", int (pos 3)) ∷ [])
+    ((codes "x", int (pos 1)) ∷ (codes "y", int (pos 2)) ∷ [])
+    ((codes "x", None) ∷ (codes "y", None) ∷ [])
+    ((codes "x", int (pos 3)) ∷ [])
+    ≡ (codes "x", int (pos 3)) ∷ (codes "y", int (pos 2)) ∷ []
+learnt_below_extra = refl
+
+-- a name that was learnt twice has the value of the second time
+pub learnt_twice : put_names [] ((codes "x", int (pos 2)) ∷ []) ((codes "x", None) ∷ (codes "x", Some (int (pos 1))) ∷ []) [] ≡ (codes "x", int (pos 2)) ∷ []
+learnt_twice = refl
 
 pub magic_of_play : play_magic two_hosts (true ∷ false ∷ []) ≡ (codes "ansible_play_hosts_all", row (text (codes "b") ∷ [])) ∷ []
 unfolding play_magic

@@ -1,15 +1,17 @@
 //! The variables of all hosts.
 ghost use Rattle.std.specs.Prelude.{◌≡◌, ◌≢◌, ◌<◌, ℕ, List, Some, None, length, IfOk, IfSome, OnOk};
-ghost use Rattle.pb_value.specs.Datum.{Datum, dict, members_of, put, value_at};
+ghost use Rattle.pb_value.specs.Datum.{Datum, null, dict, members_of, named, put, value_at};
 ghost use Rattle.pb_facts.specs.Facts.{known_of};
 ghost use Rattle.pb_inventory.specs.Vars.{host_name, vars_from_groups, vars_of_host};
 ghost use Rattle.pb_variables.specs.Magic.{variables_of, hostvars_map, hostvars, hosts_magic};
 ghost use Rattle.pb_variables.specs.ByName.{value_in, variables_under, variable_of_host};
 ghost use Rattle.pb_variables.specs.Learnt.{facts_in};
-ghost use Rattle.pb_variables.specs.Renewed.{IsRenewed, IsRenewedMap};
+ghost use Rattle.pb_variables.specs.Between.{put_found, put_name, put_names, VariablesFollow};
+ghost use Rattle.pb_variables.specs.Renewed.{IsRenewed, IsRenewedMap, IsRenewedMapUnder, IsRenewedUnder, IsRenewedBetween};
 ghost use Rattle.pb_facts.specs.Facts.{FactsOf};
 
 use pb_facts::facts::Facts;
+use pb_facts::update::FactsUndo;
 use pb_ids::HostNo;
 use pb_inventory::inventory::Inventory;
 use pb_value::val::{Dict, Node, Val};
@@ -125,16 +127,24 @@ fn map_of(value: Val) -> Option<Dict>
     }
 }
 
+/// The map that stands under a name of a map, taken out of it: nothing stands there in its place.
+fn taken(alloc: Global, known: &mut Dict, name: &str) -> Result<Option<Dict>, AllocError>
+    ensures left { OnOk result (known.new ≡ put name.now null known.old) }
+    ensures found { (members : List (List ℕ × Datum)) → value_at name.now known.old ≡ Some (dict (members_of members)) → IfOk result (λ found. found ≡ Some members) }
+{
+    let copy = String::from_str(alloc, name)?;
+    match known.replace(copy, Val::null())? {
+        Some(value) => Ok(map_of(value)),
+        None => Ok(None),
+    }
+}
+
 /// The map that the magic variable `hostvars` stands for.
 fn hosts_in(alloc: Global, hosts: Dict) -> Result<Option<Dict>, AllocError>
     ensures { (known : List (List ℕ × Datum)) → hosts ≡ hosts_magic (dict (members_of known)) → IfOk result (λ found. found ≡ Some known) }
 {
     let mut hosts = hosts;
-    let name = String::from_str(alloc, "hostvars")?;
-    match hosts.replace(name, Val::null())? {
-        Some(value) => Ok(map_of(value)),
-        None => Ok(None),
-    }
+    taken(alloc, &mut hosts, "hostvars")
 }
 
 /// The magic variable for a map in which this host's variables were put anew. A map with fewer names than there are hosts tells of two hosts with one name.
@@ -180,5 +190,136 @@ pub fn renewed(
     match hosts_in(alloc, hosts)? {
         Some(known) => map_renewed(alloc, known, inventory, extra, facts, host),
         None => Ok(None),
+    }
+}
+
+/// A host that has learnt something: what it knows now, and what can put back what it knew.
+#[derive(Drop)]
+pub struct Learner<'a> {
+    pub host: HostNo,
+    pub facts: &'a Facts,
+    pub past: &'a FactsUndo,
+}
+
+/// What stands under a name of one map goes there in another, if something does.
+fn put_stood(alloc: Global, variables: &mut Dict, set: &Dict, name: &str) -> Result<(), AllocError>
+    ensures { OnOk result (variables.new ≡ put_found name.now None (value_at name.now set.now) variables.old) }
+{
+    match set.get(name) {
+        Some(value) => variables.put(alloc, name, value.try_clone(alloc)?),
+        None => Ok(()),
+    }
+}
+
+/// What stands under a name of what was set goes there among a host's variables, unless an extra variable has the name.
+fn put_name(
+    alloc: Global,
+    variables: &mut Dict,
+    extra: &Dict,
+    set: &Dict,
+    name: &str,
+) -> Result<(), AllocError>
+    ensures { OnOk result (variables.new ≡ put_name extra.now set.now name.now variables.old) }
+{
+    match extra.get(name) {
+        Some(_) => Ok(()),
+        None => put_stood(alloc, variables, set, name),
+    }
+}
+
+/// And what stands under each of the names of a log.
+#[tactic(auto, using(crate::proofs::Between::name_step))]
+fn put_names(
+    alloc: Global,
+    variables: &mut Dict,
+    extra: &Dict,
+    set: &Dict,
+    log: &[(String, Option<Val>)],
+) -> Result<(), AllocError>
+    ensures { OnOk result (variables.new ≡ put_names extra.now set.now (named log.now) variables.old) }
+{
+    for entry in log {
+        put_name(alloc, variables, extra, set, entry.0.as_str())?;
+    }
+    Ok(())
+}
+
+/// The magic variable for a map in which this host's variables follow what it learnt under these names.
+fn map_under(
+    alloc: Global,
+    known: Dict,
+    inventory: &Inventory,
+    extra: &Dict,
+    learner: &Learner,
+    log: &[(String, Option<Val>)],
+) -> Result<Option<Dict>, AllocError>
+    requires { learner.now.host.0 < length inventory.now.hosts }
+    ensures value { IfOk result (λ kept. IfSome kept (IsRenewedMapUnder inventory.now extra.now (named log.now) learner.now.facts.now learner.now.host.0 known)) }
+    ensures none { IfOk result (λ kept. kept ≡ None → (before : List FactsOf) → known ≡ hostvars_map inventory.now extra.now before → length known ≢ length inventory.now.hosts) }
+{
+    let mut known = known;
+    if known.len() != inventory.hosts() as usize {
+        return Ok(None);
+    }
+    let name = inventory.name(learner.host);
+    match taken(alloc, &mut known, name)? {
+        Some(stored) => {
+            let mut variables = stored;
+            put_names(alloc, &mut variables, extra, learner.facts.set_layer(), log)?;
+            known.put(alloc, name, Val::dict(variables))?;
+            let hosts = hosts_magic(alloc, Val::dict(known))?;
+            Ok(Some(hosts))
+        }
+        None => Ok(None),
+    }
+}
+
+/// The magic variable `hostvars` once one host alone has learnt values under these names: these are put among that host's variables.
+fn renewed_under(
+    alloc: Global,
+    hosts: Dict,
+    inventory: &Inventory,
+    extra: &Dict,
+    learner: &Learner,
+    log: &[(String, Option<Val>)],
+) -> Result<Option<Dict>, AllocError>
+    ensures value { IfOk result (λ kept. IfSome kept (IsRenewedUnder inventory.now extra.now (named log.now) learner.now.facts.now learner.now.host.0 hosts)) }
+    ensures none { IfOk result (λ kept. kept ≡ None → (before : List FactsOf) → hosts ≡ hosts_magic (hostvars inventory.now extra.now before)
+        → length (hostvars_map inventory.now extra.now before) ≢ length inventory.now.hosts) }
+{
+    if learner.host.0 >= inventory.hosts() {
+        return Ok(Some(hosts));
+    }
+    match hosts_in(alloc, hosts)? {
+        Some(known) => map_under(alloc, known, inventory, extra, learner, log),
+        None => Ok(None),
+    }
+}
+
+/// The magic variable `hostvars` once one host alone has learnt something, as what can put back what it knew tells: where values came under names, these
+/// alone are put among that host's variables, each unless an extra variable has its name, so that it costs no more than they. Nothing is answered where
+/// two hosts have one name, as in no inventory that was read. The only error is want of memory, and it leaves nothing of the variable.
+pub fn renewed_between(
+    alloc: Global,
+    hosts: Dict,
+    inventory: &Inventory,
+    extra: &Dict,
+    learner: &Learner,
+) -> Result<Option<Dict>, AllocError>
+    ensures value { IfOk result (λ kept. IfSome kept (IsRenewedBetween inventory.now extra.now learner.now.past.now learner.now.facts.now learner.now.host.0 hosts)) }
+    ensures none { IfOk result (λ kept. kept ≡ None → (before : List FactsOf) → hosts ≡ hosts_magic (hostvars inventory.now extra.now before)
+        → length (hostvars_map inventory.now extra.now before) ≢ length inventory.now.hosts) }
+
+    // Under each name that was learnt the host has the extra variable, or else what was set in the end, and under each other one what it had.
+    ensures names { VariablesFollow inventory.now extra.now learner.now.past.now learner.now.facts.now learner.now.host.0 }
+{
+    match learner.past {
+        FactsUndo::Nothing => Ok(Some(hosts)),
+        FactsUndo::Was(_) => {
+            renewed(alloc, hosts, inventory, extra, learner.facts, learner.host)
+        }
+        FactsUndo::Stood(log) => {
+            renewed_under(alloc, hosts, inventory, extra, learner, log.as_slice())
+        }
     }
 }
