@@ -210,7 +210,7 @@ fn run(slot: &mut Option<Running>, running: Option<Running>)
 impl Host {
     ghost use Rattle.pb_host.specs.Host.{first_row, answered, knows};
     ghost use Rattle.pb_facts.specs.Facts.{FactsOf};
-    ghost use Rattle.pb_facts.specs.Update.{IsUndo};
+    ghost use Rattle.pb_facts.specs.Update.{IsUndo, IsBetween};
     ghost use Rattle.pb_host.specs.Turned.{applies};
 
     /// A host before the run.
@@ -249,10 +249,11 @@ impl Host {
         self.status = go_on(walk, answer);
     }
 
-    /// The host learns this. What was before is handed back. An `Err` changes nothing.
+    /// The host learns this. What was before is handed back, and tells what lies between. An `Err` changes nothing.
     pub fn apply(&mut self, alloc: Global, update: FactsUpdate) -> Result<FactsUndo, AllocError>
         ensures ok { OnOk result (self.new ≡ applies update self.old) }
         ensures past { IfOk result (λ past. IsUndo past self.old.facts self.new.facts) }
+        ensures between { IfOk result (λ past. IsBetween past self.old.facts self.new.facts) }
         ensures err { OnErr result (self.new ≡ self.old) }
     {
         let past = self.facts.apply(alloc, update)?;
@@ -266,21 +267,21 @@ impl Host {
         self.facts.revert(past);
     }
 
-    /// The host learns this, and gets one answer more. An `Err` changes nothing.
+    /// The host learns this, and gets one answer more. What was before it learnt it is handed back. An `Err` changes nothing.
     fn apply_and_answer(
         &mut self,
         alloc: Global,
         answer: &Answer,
         update: FactsUpdate,
-    ) -> Result<(), AllocError>
+    ) -> Result<FactsUndo, AllocError>
         requires { self.old.in_batch ≡ true }
         ensures ok { OnOk result (self.new ≡ answered answer.now (knows (applied update self.old.facts) self.old)) }
+        ensures past { IfOk result (λ past. IsBetween past self.old.facts self.new.facts) }
         ensures err { OnErr result (self.new ≡ self.old) }
     {
         let past = self.apply(alloc, update)?;
-        drop(past);
         self.answer(answer);
-        Ok(())
+        Ok(past)
     }
 
     /// What the host knows from now on.

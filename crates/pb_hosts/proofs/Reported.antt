@@ -5,12 +5,15 @@ use Rattle.std.specs.Option.{option_map_or}
 use Rattle.pb_inventory.specs.InventoryOf.{InventoryOf}
 use Rattle.pb_outcome.specs.declared.outcome.Form.{Form}
 use Rattle.pb_plan.specs.Plan.{PlayOf, PlanOf}
+use Rattle.pb_facts.specs.Update.{IsBetween}
+use Rattle.pb_facts.specs.declared.update.FactsUndo.{FactsUndo}
 use Rattle.pb_task_vars.specs.declared.gifts.DelegatedFacts.{DelegatedFacts}
 use Rattle.pb_outcome.specs.Items.{next_item}
 use Rattle.pb_host.specs.declared.step_result.StepResult.{StepResult}
 use Rattle.pb_host.specs.declared.step_result.Retried.{Retried}
 use Rattle.pb_host.specs.declared.host.Running.{Running}
 use Rattle.pb_host.specs.Back.{back_running, back_row, retried_running, retried_row, went_with, went_on, step_result_back, step_result_now}
+use Rattle.pb_hosts.specs.Applied.{LearnsBetween}
 use Rattle.pb_hosts.specs.Giving.{gives_with, gives_on, gives_now, with_delegated, gifts_by, gifts_of, report_gives}
 use Rattle.pb_host.specs.Ends.{IsAtMost}
 use Rattle.pb_host.specs.Runs.{item_of}
@@ -90,6 +93,19 @@ step_result_in plan play outcome h rows back number retried step_result b n r d 
         ≡ option_map_or (report_result plan play outcome) found None
     by_found None = refl
     by_found (Some row) = step_result_as plan play outcome row
+
+-- what lies between what its host had learnt and has learnt then
+pub between_in : (plan : PlanOf) (play : PlayOf) (outcome : Form) (h : ℕ) (rows back : List HostOf) (past : FactsUndo) → back ≡ change rows h (back_row plan play outcome)
+    → LearnsBetween past h (went_on plan.inventory play) back → LearnsBetween past h (reported plan play outcome) rows
+between_in plan play outcome h rows back past b between =
+    by_found (slice_get rows h)
+    (subst (λ (found : Option HostOf). IfSome found (λ (row : HostOf). IsBetween past row.facts (went_on plan.inventory play row).facts)) (get_changed rows h (back_row plan play outcome))
+    (subst (λ (all : List HostOf). LearnsBetween past h (went_on plan.inventory play) all) b between))
+  where
+    by_found : (found : Option HostOf) → IfSome (option_map (back_row plan play outcome) found) (λ (row : HostOf). IsBetween past row.facts (went_on plan.inventory play row).facts)
+        → IfSome found (λ (row : HostOf). IsBetween past row.facts (reported plan play outcome row).facts)
+    by_found None there = tt
+    by_found (Some row) there = subst (λ (new : HostOf). IsBetween past row.facts new.facts) (reported_as plan play outcome row) there
 
 -- the counts of a host stay as its item comes back
 pub room_back : (plan : PlanOf) (play : PlayOf) (outcome : Form) (h : ℕ) (rows back : List HostOf) → back ≡ change rows h (back_row plan play outcome) → IfSome (slice_get rows h) (λ row. IsAtMost row.counts (2 ^ 64 - 2))

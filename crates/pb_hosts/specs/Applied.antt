@@ -2,7 +2,7 @@
 use Rattle.std.specs.Prelude.{◌≡◌, ℕ, List, [], ◌∷◌, IfSome, slice_get}
 use Rattle.pb_ids.specs.declared.numbers.HostNo.{HostNo}
 use Rattle.pb_facts.specs.Facts.{FactsOf}
-use Rattle.pb_facts.specs.Update.{IsUndo}
+use Rattle.pb_facts.specs.Update.{IsUndo, IsBetween}
 use Rattle.pb_facts.specs.declared.update.FactsUndo.{FactsUndo}
 use Rattle.pb_host.specs.Host.{HostOf, knows}
 use Rattle.pb_host.specs.Turned.{applies}
@@ -22,3 +22,7 @@ AppliedAt h past was now = (facts : FactsOf) × IfSome (slice_get now h) (λ (ro
 abbrev pub LeadsTo : List (HostNo × FactsUndo) → List HostOf → List HostOf → Type 0
 LeadsTo [] was now = was ≡ now
 LeadsTo (before ∷ log) was now = (mid : List HostOf) × AppliedAt before.0.0 before.1 was mid × LeadsTo log mid now
+
+-- what lies between what a host of these rows had learnt and what it has learnt once its row changes so
+abbrev pub LearnsBetween : FactsUndo → ℕ → (HostOf → HostOf) → List HostOf → Type 0
+LearnsBetween past h step rows = IfSome (slice_get rows h) (λ (row : HostOf). IsBetween past row.facts (step row).facts)

@@ -1,4 +1,4 @@
-//! What the tasks of hosts give to other hosts, and what these know then.
+//! What the tasks of hosts teach as they end: what they give to other hosts, and what these know then.
 
 ghost use Rattle.std.specs.Prelude.{◌≡◌, ◌++◌, [], position, IfOk, OnOk};
 ghost use Rattle.pb_hosts.specs.Giving.{gives_now, gifts_at};
@@ -6,6 +6,7 @@ ghost use Rattle.pb_hosts.specs.Prepared.{given_first, is_for, more_at, with_gif
 
 use crate::list::row_at;
 use pb_facts::facts::Facts;
+use pb_facts::update::FactsUndo;
 use pb_host::{Host, TaskItems, task_at};
 use pb_ids::HostNo;
 use pb_inventory::inventory::Inventory;
@@ -54,6 +55,35 @@ pub(crate) fn gives_now(
     match row.running() {
         Some(running) => gifts_at(alloc, inventory, play, running.place, host, &running.items),
         None => Ok(Vec::new(alloc)),
+    }
+}
+
+/// What a task taught: what it gave to other hosts as it ended, and what was before its own host learnt something.
+pub struct Taught {
+    /// What it gave to other hosts.
+    pub gifts: Vec<DelegatedFacts>,
+    /// What was before its own host learnt something.
+    pub past: FactsUndo,
+}
+
+impl Drop for Taught {
+    fn drop(self) {
+        let Taught { gifts, past } = self;
+        drop(gifts);
+        drop(past);
+    }
+}
+
+impl Taught {
+    /// Nothing.
+    pub fn nothing(alloc: Global) -> Taught
+        ensures gifts { result.gifts.items ≡ [] }
+        ensures past { result.past ≡ FactsUndo.Nothing }
+    {
+        Taught {
+            gifts: Vec::new(alloc),
+            past: FactsUndo::Nothing,
+        }
     }
 }
 

@@ -15,12 +15,12 @@ ghost use Rattle.pb_host.specs.Standing.{standing};
 ghost use Rattle.pb_hosts.specs.Due.{asked_at, is_inside, AreOutside};
 ghost use Rattle.pb_strategies.specs.Hosts.{nowhere};
 ghost use Rattle.pb_hosts.specs.Oldest.{oldest_out};
-ghost use Rattle.pb_hosts.specs.Applied.{with_update};
+ghost use Rattle.pb_hosts.specs.Applied.{LearnsBetween, with_update};
 ghost use Rattle.pb_hosts.specs.Turn.{is_run_once_done};
 ghost use Rattle.pb_hosts.specs.TurnMade.{halts_at, turned_rows, turning_row};
 
 use crate::apply::apply_each;
-use crate::gifts::{gifts_at, with_gifts};
+use crate::gifts::{Taught, gifts_at, with_gifts};
 use crate::inside::{
     empty_by, least_inside, leave_inside, put_in, some_inside, stand_inside, stand_left,
     turn_inside,
@@ -40,7 +40,6 @@ use pb_outcome::outcome::Outcome;
 use pb_plan::PlanPlay;
 use pb_planes::HostSet;
 use pb_strategies::Standings;
-use pb_task_vars::gifts::DelegatedFacts;
 use pb_task_vars::with_hostvars::PlanWithHostvars;
 use std::alloc::{AllocError, Global};
 use std::marker::Model;
@@ -251,7 +250,8 @@ pub fn stand_at(rows: &mut Hosts, place: Option<usize>)
 }
 
 impl Hosts {
-    /// A host starts the task at a place with these items; where it ends at once, what it gives to other hosts is theirs, and is handed out. An `Err` changes nothing.
+    /// A host starts the task at a place with these items; where it ends at once, what it gives to other hosts is theirs, and what it taught is handed out. An `Err`
+    /// changes nothing.
     pub fn start_row(
         &mut self,
         alloc: Global,
@@ -260,24 +260,25 @@ impl Hosts {
         play: &PlanPlay,
         place: usize,
         items: TaskItems,
-    ) -> Result<(Option<TaskDone>, Vec<DelegatedFacts>), AllocError>
+    ) -> Result<(Option<TaskDone>, Taught), AllocError>
         requires there { host.0 < length self.old }
         requires batch { IfSome (slice_get self.old host.0) (λ row. row.in_batch ≡ true) }
         requires room { IfSome (slice_get self.old host.0) (λ row. IsAtMost row.counts (2 ^ 64 - 2)) }
         ensures rows { OnOk result (self.new ≡ with_delegated (gifts_at inventory.now play.now place host.0 items) (change self.old host.0 (progressed inventory.now play.now place items))) }
         ensures done { IfOk result (λ started. started.0 ≡ done_if play.now place (pending_in self.old host.0) items) }
-        ensures gifts { IfOk result (λ started. started.1.items ≡ gifts_at inventory.now play.now place host.0 items) }
+        ensures gifts { IfOk result (λ started. started.1.gifts.items ≡ gifts_at inventory.now play.now place host.0 items) }
+        ensures past { IfOk result (λ started. LearnsBetween started.1.past host.0 (progressed inventory.now play.now place items) self.old) }
         ensures err { OnErr result (self.new ≡ self.old) }
     {
         let gifts = gifts_at(alloc, inventory, play, place, host, &items)?;
         let known = with_gifts(alloc, self.rows.as_slice(), gifts.as_slice())?;
         match self.rows.get_mut(host.0 as usize) {
             Some(row) => {
-                let done = row.start(alloc, inventory, play, place, items)?;
+                let (done, past) = row.start(alloc, inventory, play, place, items)?;
                 know_all(&mut self.rows, known);
                 drop_job(&mut self.out, host);
                 ask_one(&self.rows, host, &mut self.sends, &mut self.standings);
-                Ok((done, gifts))
+                Ok((done, Taught { gifts, past }))
             }
             None => unreachable!(),
         }
@@ -296,7 +297,8 @@ pub fn send_row(rows: &mut Hosts, host: HostNo, ticket: Ticket) -> Result<(), Al
     Ok(())
 }
 
-/// The job of a host that is out came to this; where its task ends, what it gives to other hosts is theirs, and is handed out. An `Err` changes nothing.
+/// The job of a host that is out came to this; where its task ends, what it gives to other hosts is theirs, and what it taught is handed out. An `Err` changes
+/// nothing.
 pub fn report_row(
     alloc: Global,
     rows: &mut Hosts,
@@ -304,11 +306,12 @@ pub fn report_row(
     plan: &PlanWithHostvars,
     play: &PlanPlay,
     outcome: &Outcome,
-) -> Result<(Option<StepResult>, Vec<DelegatedFacts>), AllocError>
+) -> Result<(Option<StepResult>, Taught), AllocError>
     requires { IfSome (slice_get rows.old host.0) (λ row. IsAtMost row.counts (2 ^ 64 - 2)) }
     ensures rows { OnOk result (rows.new ≡ with_delegated (report_gives plan.now play.now outcome.now host.0 rows.old) (change rows.old host.0 (reported plan.now play.now outcome.now))) }
     ensures comes_to { IfOk result (λ reported. reported.0 ≡ option_map_or (report_result plan.now play.now outcome.now) (slice_get rows.old host.0) None) }
-    ensures gifts { IfOk result (λ reported. reported.1.items ≡ report_gives plan.now play.now outcome.now host.0 rows.old) }
+    ensures gifts { IfOk result (λ reported. reported.1.gifts.items ≡ report_gives plan.now play.now outcome.now host.0 rows.old) }
+    ensures past { IfOk result (λ both. LearnsBetween both.1.past host.0 (reported plan.now play.now outcome.now) rows.old) }
     ensures err { OnErr result (rows.new ≡ rows.old) }
 {
     let number = item_in(rows.rows.as_slice(), host);
@@ -316,11 +319,11 @@ pub fn report_row(
     let (before, retried) = came.parts();
     let inventory = plan.inventory();
     match advance_row(&mut rows.rows, host, inventory, play, number, retried) {
-        Ok((step_result, gifts)) => {
+        Ok((step_result, taught)) => {
             drop(before);
             drop_job(&mut rows.out, host);
             ask_one(&rows.rows, host, &mut rows.sends, &mut rows.standings);
-            Ok((step_result, gifts))
+            Ok((step_result, taught))
         }
         Err(error) => {
             undo(&mut rows.rows, host, before);

@@ -8,6 +8,7 @@ ghost use Rattle.pb_cursors.specs.Walks.{walk_from};
 ghost use Rattle.pb_hosts.specs.Joining.{first_walks, joined_by};
 ghost use Rattle.pb_host.specs.Runs.{item_of, attempt_of};
 ghost use Rattle.pb_hosts.specs.Hosts.{lesser, change};
+ghost use Rattle.pb_hosts.specs.Applied.{LearnsBetween};
 ghost use Rattle.pb_hosts.specs.Giving.{with_delegated, gives_now};
 ghost use Rattle.pb_host.specs.Back.{back_row, retried_row, undone, went_on, step_result_now};
 ghost use Rattle.pb_hosts.specs.Prepared.{with_facts};
@@ -15,16 +16,16 @@ ghost use Rattle.pb_hosts.specs.Due.{is_inside, AreOutside};
 
 pub(crate) mod play_hosts;
 
-use crate::gifts::{NewFacts, gives_now, with_gifts};
+use crate::gifts::{NewFacts, Taught, gives_now, with_gifts};
 use crate::inside::{empty_by, join_each, step_out};
 use pb_cursors::{LaidTree, PlayWalk};
+use pb_facts::update::FactsUndo;
 use pb_host::{Before, CameBack, Counts, Host, Retried, StepResult};
 use pb_ids::{HostNo, Ticket};
 use pb_inventory::inventory::Inventory;
 use pb_outcome::outcome::Outcome;
 use pb_plan::PlanPlay;
 use pb_planes::HostSet;
-use pb_task_vars::gifts::DelegatedFacts;
 use pb_task_vars::with_hostvars::PlanWithHostvars;
 use std::alloc::{AllocError, Global};
 use std::rc::Rc;
@@ -73,7 +74,7 @@ pub(crate) fn know_all(rows: &mut Vec<Host>, all: Vec<NewFacts>)
 }
 
 /// What a step comes to for the task that a host runs, of which the item with this number came back, or this attempt at it; where the task ends, what it gives to
-/// other hosts is theirs, and is handed out. An `Err` changes nothing.
+/// other hosts is theirs, and what it taught is handed out. An `Err` changes nothing.
 pub(crate) fn advance_row(
     rows: &mut Vec<Host>,
     host: HostNo,
@@ -81,11 +82,12 @@ pub(crate) fn advance_row(
     play: &PlanPlay,
     number: Option<u32>,
     retried: Option<Retried>,
-) -> Result<(Option<StepResult>, Vec<DelegatedFacts>), AllocError>
+) -> Result<(Option<StepResult>, Taught), AllocError>
     requires { IfSome (slice_get rows.old.items host.0) (λ row. IsAtMost row.counts (2 ^ 64 - 2)) }
     ensures rows { OnOk result (rows.new.items ≡ with_delegated (gives_now inventory.now play.now host.0 rows.old.items) (change rows.old.items host.0 (went_on inventory.now play.now))) }
     ensures comes_to { IfOk result (λ both. both.0 ≡ option_map_or (step_result_now play.now number retried) (slice_get rows.old.items host.0) None) }
-    ensures gifts { IfOk result (λ both. both.1.items ≡ gives_now inventory.now play.now host.0 rows.old.items) }
+    ensures gifts { IfOk result (λ both. both.1.gifts.items ≡ gives_now inventory.now play.now host.0 rows.old.items) }
+    ensures past { IfOk result (λ both. LearnsBetween both.1.past host.0 (went_on inventory.now play.now) rows.old.items) }
     ensures err { OnErr result (rows.new.items ≡ rows.old.items) }
 {
     let alloc = *rows.allocator();
@@ -93,11 +95,17 @@ pub(crate) fn advance_row(
     let known = with_gifts(alloc, rows.as_slice(), gifts.as_slice())?;
     match rows.get_mut(host.0 as usize) {
         Some(row) => {
-            let step_result = row.advance(alloc, inventory, play, number, retried)?;
+            let (step_result, past) = row.advance(alloc, inventory, play, number, retried)?;
             know_all(rows, known);
-            Ok((step_result, gifts))
+            Ok((step_result, Taught { gifts, past }))
         }
-        None => Ok((None, gifts)),
+        None => Ok((
+            None,
+            Taught {
+                gifts,
+                past: FactsUndo::Nothing,
+            },
+        )),
     }
 }
 

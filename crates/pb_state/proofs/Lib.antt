@@ -4,6 +4,7 @@ pub mod KeepsFacts
 pub mod GoesOn
 pub mod Learner
 pub mod Renewing
+pub mod Taught
 pub mod Stands
 pub mod Idle
 pub mod Readies

@@ -29,9 +29,6 @@ row_says (row ∷ rows) (suc h) = row_says rows h
 pub row_there : (rows : List HostOf) (h : ℕ) (row : HostOf) → slice_get rows h ≡ Some row → row.facts ≡ row_of (learnt_by rows) h
 row_there rows h row is = sym (row_says rows h ∙ ap (λ (found : Option HostOf). option_map_or (λ (r : HostOf). r.facts) found no_facts) is)
 
-pub row_past : (rows : List HostOf) (h : ℕ) → slice_get rows h ≡ None → no_facts ≡ row_of (learnt_by rows) h
-row_past rows h is = sym (row_says rows h ∙ ap (λ (found : Option HostOf). option_map_or (λ (r : HostOf). r.facts) found no_facts) is)
-
 -- ---- one row that is put, and the others
 put_there : (h : ℕ) (facts : FactsOf) (rows : List FactsOf) → row_of (put_row h facts rows) h ≡ facts
 put_there zero facts [] = refl

@@ -15,12 +15,13 @@ use Rattle.pb_task_vars.specs.Results.{items_at}
 use Rattle.pb_task_vars.specs.declared.gifts.DelegatedFacts.{DelegatedFacts}
 use Rattle.pb_host.specs.declared.host.Running.{Running}
 use Rattle.pb_host.specs.Host.{HostOf}
+use Rattle.pb_hosts.specs.declared.gifts.Taught.{Taught}
 use Rattle.pb_hosts.specs.Giving.{gifts_at, report_gives}
 use Rattle.pb_state.specs.declared.event.Event.{Event}
 use Rattle.pb_state.specs.declared.event.Event.TheVariants.{Open, Start, Send, Report as Reported, Turn, Close, Stop, Forks}
 use Rattle.pb_state.specs.State.{State}
 use Rattle.pb_state.specs.Machine.{open_play, next_at, learnt_by, facts_at, plan_seen}
-use Rattle.pb_state.specs.Learners.{LearnTogether, taught_by}
+use Rattle.pb_state.specs.Learners.{HasTaught, LearnTogether, taught_by}
 
 -- the map of `hostvars` in a state
 abbrev pub hosts_now : PlanOf → State → List (List ℕ × Datum)
@@ -109,3 +110,8 @@ task_goes_on new (Forks n) = false
 abbrev pub AreLearners : Option HostNo → List DelegatedFacts → State → State → Type 0
 AreLearners None gifts old new = Unit {0}
 AreLearners (Some h) gifts old new = LearnTogether (taught_by gifts []) h.0 (learnt_by old.rows) (learnt_by new.rows)
+
+-- and what a task taught, if an event is about one, lies between what its host had learnt in the first of two states and what it has learnt in the second
+abbrev pub HasTaughtLearner : Option HostNo → Taught → State → State → Type 0
+HasTaughtLearner None taught old new = Unit {0}
+HasTaughtLearner (Some h) taught old new = HasTaught taught h.0 (learnt_by old.rows) (learnt_by new.rows)

@@ -1,10 +1,15 @@
--- The hosts that are given facts as a task ends, and how what hosts have learnt differs by them.
+-- The hosts that are given facts as a task ends, and how what hosts have learnt differs by them, and by what the task's own host learnt.
 use Rattle.std.specs.Prelude.{◌≡◌, ◌≢◌, ℕ, zero, suc, ◌==◌, Bool, false, List, [], ◌∷◌, ◌++◌, if◌then◌else◌, refl}
 use Rattle.std.specs.List.{list_any}
 use Rattle.pb_ids.specs.declared.numbers.HostNo.{HostNo}
 use Rattle.pb_facts.specs.declared.facts.Gives.TheVariants.{Nothing}
 use Rattle.pb_facts.specs.Book.{row_of}
 use Rattle.pb_facts.specs.Facts.{FactsOf, no_facts}
+use Rattle.pb_facts.specs.Update.{IsBetween}
+use Rattle.pb_value.specs.Datum.{Datum}
+use Rattle.pb_inventory.specs.InventoryOf.{InventoryOf}
+use Rattle.pb_variables.specs.Magic.{hostvars, hosts_magic}
+use Rattle.pb_hosts.specs.declared.gifts.Taught.{Taught}
 use Rattle.pb_task_vars.specs.declared.gifts.DelegatedFacts.{DelegatedFacts}
 
 abbrev pub has_number : ℕ → HostNo → Bool
@@ -25,6 +30,16 @@ taught_by (gift ∷ gifts) hosts = taught_by gifts (with_host gift.host hosts)
 -- the hosts, by their numbers, have learnt now what they had learnt before, but for these and this one
 abbrev pub LearnTogether : List HostNo → ℕ → List FactsOf → List FactsOf → Type 0
 LearnTogether taught host before now = (other : ℕ) → other ≢ host → is_among taught other ≡ false → row_of now other ≡ row_of before other
+
+-- where a task gave nothing to other hosts, what it taught lies between what its host had learnt before and what it has learnt now
+abbrev pub HasTaught : Taught → ℕ → List FactsOf → List FactsOf → Type 0
+HasTaught taught host before now = taught.gifts.items ≡ [] → IsBetween taught.past (row_of before host) (row_of now host)
+
+-- the magic variable `hostvars`, old and new, where hosts have learnt this now, as the task of one host taught this
+abbrev pub IsRenewedTaught : InventoryOf → List (List ℕ × Datum) → Taught → ℕ → List FactsOf → List (List ℕ × Datum) → List (List ℕ × Datum) → Type 0
+IsRenewedTaught inventory extra taught host now old new =
+    (before : List FactsOf) → LearnTogether (taught_by taught.gifts.items []) host before now → HasTaught taught host before now → old ≡ hosts_magic (hostvars inventory extra before)
+    → new ≡ hosts_magic (hostvars inventory extra now)
 
 -- what a host has learnt is put into a list, which goes as far as this host then
 abbrev pub put_row : ℕ → FactsOf → List FactsOf → List FactsOf

@@ -5,18 +5,20 @@ ghost use Rattle.pb_variables.specs.Learnt.{facts_in};
 ghost use Rattle.pb_facts.specs.Book.{row_of};
 ghost use Rattle.pb_facts.specs.Facts.{FactsOf};
 ghost use Rattle.pb_variables.specs.Magic.{hostvars, hosts_magic};
-ghost use Rattle.pb_variables.specs.Renewed.{IsRenewed};
-ghost use Rattle.pb_state.specs.Learners.{is_among, with_host, taught_by, put_rows, LearnTogether};
+ghost use Rattle.pb_variables.specs.Renewed.{IsRenewed, IsRenewedBetween};
+ghost use Rattle.pb_state.specs.Learners.{is_among, with_host, taught_by, put_rows, LearnTogether, IsRenewedTaught};
 ghost use Rattle.pb_state.specs.Machine.{learnt_by};
 
 use pb_facts::facts::Facts;
+use pb_facts::update::FactsUndo;
 use pb_host::Host;
+use pb_hosts::Taught;
 use pb_ids::HostNo;
 use pb_plan::Plan;
 use pb_task_vars::gifts::DelegatedFacts;
 use pb_task_vars::hostvars::hosts_known;
 use pb_value::val::Dict;
-use pb_variables::hostvars::renewed;
+use pb_variables::hostvars::{Learner, renewed, renewed_between};
 use std::alloc::{AllocError, Global};
 
 /// The map of `hostvars` as a task sees it, and whether it is the one that each task may see.
@@ -146,7 +148,7 @@ fn taught_by(alloc: Global, gifts: &[DelegatedFacts]) -> Result<Vec<HostNo>, All
 }
 
 /// The variable `hostvars` with what this host and those that are given something have learnt put anew, where it can be.
-pub(crate) fn renewed_with_gifts(
+fn renewed_with_gifts(
     alloc: Global,
     plan: &Plan,
     rows: &[Host],
@@ -163,6 +165,65 @@ pub(crate) fn renewed_with_gifts(
     };
     let known = renewed_each(alloc, plan, rows, hosts, taught.as_slice())?;
     renewed_for(alloc, plan, rows, known, host)
+}
+
+/// What a host has learnt, if it has a row.
+fn learnt_at<'a>(rows: &'a [Host], host: HostNo) -> Option<&'a Facts>
+    ensures { IfSome result (λ facts. facts.now ≡ row_of (learnt_by rows.now) host.0) }
+{
+    match rows.get(host.0 as usize) {
+        Some(row) => Some(row.facts()),
+        None => None,
+    }
+}
+
+/// The variable `hostvars` with what this learner alone has learnt put anew, by the names under which it did, where it can be.
+fn renewed_by(alloc: Global, plan: &Plan, hosts: Dict, learner: &Learner) -> Option<Dict>
+    ensures { IfSome result (IsRenewedBetween plan.now.inventory plan.now.extra learner.now.past.now learner.now.facts.now learner.now.host.0 hosts) }
+{
+    match renewed_between(alloc, hosts, plan.inventory(), plan.extra(), learner) {
+        Ok(kept) => kept,
+        Err(_) => None,
+    }
+}
+
+/// The same of a host that has learnt what its row says, where this tells what lies between.
+fn renewed_alone(
+    alloc: Global,
+    plan: &Plan,
+    rows: &[Host],
+    hosts: Dict,
+    past: &FactsUndo,
+    host: HostNo,
+) -> Option<Dict>
+    ensures { IfSome result (IsRenewedBetween plan.now.inventory plan.now.extra past.now (row_of (learnt_by rows.now) host.0) host.0 hosts) }
+{
+    match learnt_at(rows, host) {
+        Some(facts) => renewed_by(alloc, plan, hosts, &Learner { host, facts, past }),
+        None => {
+            drop(hosts);
+            None
+        }
+    }
+}
+
+/// The variable `hostvars` once the task of this host has taught this, where it can be put anew: where it gave nothing to other hosts, by the names alone
+/// under which this host learnt something.
+pub(crate) fn renewed_once_taught(
+    alloc: Global,
+    plan: &Plan,
+    rows: &[Host],
+    hosts: Dict,
+    taught: &Taught,
+    host: HostNo,
+) -> Option<Dict>
+    ensures { IfSome result (IsRenewedTaught plan.now.inventory plan.now.extra taught.now host.0 (learnt_by rows.now) hosts) }
+{
+    let gifts = taught.gifts.as_slice();
+    if gifts.is_empty() {
+        return renewed_alone(alloc, plan, rows, hosts, &taught.past, host);
+    }
+    renewed_with_gifts(alloc, plan, rows, hosts, gifts, host)
 }
 
 /// No variable `hostvars`, as a task may see it that doesn't look it up.

@@ -1,7 +1,7 @@
 //! The state of a run, and its steps.
 
 ghost use Rattle.std.specs.Prelude.{◌≡◌, ◌≤◌, ◌<◌, length, OnOk, OnErr, IfOk, true, false};
-ghost use Rattle.pb_state.specs.Known.{IsKnown, event_gives};
+ghost use Rattle.pb_state.specs.Known.{IsKnown, HasTaughtLearner, event_gives, host_of};
 ghost use Rattle.pb_state.specs.State.{State};
 
 mod asked;
@@ -16,9 +16,8 @@ use crate::event::Event;
 use crate::known::host_of;
 use crate::sizes_left::SizesLeft;
 use pb_host::{StepResult, put_step_result};
-use pb_hosts::Hosts;
+use pb_hosts::{Hosts, Taught};
 use pb_plan::Plan;
-use pb_task_vars::gifts::DelegatedFacts;
 use pb_value::val::Dict;
 use std::alloc::{AllocError, Global};
 use std::marker::Model;
@@ -217,32 +216,33 @@ impl EngineState {
         }
         let keeps = self.keeps_facts(plan, event);
         let learner = host_of(event);
-        let gifts = self.apply(plan, event, known)?;
+        let taught = self.apply(plan, event, known)?;
         if keeps {
             return Ok(());
         }
-        self.renew(plan, event, learner, gifts.as_slice(), known);
+        self.renew(plan, event, learner, &taught, known);
         Ok(())
     }
 
-    /// What an event that is possible leads to. What the task of a host gives to other hosts is handed out.
+    /// What an event that is possible leads to. What the task of a host taught is handed out.
     fn apply(
         &mut self,
         plan: &Plan,
         event: &Event,
         known: &mut Option<Dict>,
-    ) -> Result<Vec<DelegatedFacts>, AllocError>
+    ) -> Result<Taught, AllocError>
         requires may { possible plan.now self.old event.now ≡ true }
         requires known { IsKnown plan.now self.old known.old }
         ensures ok { OnOk result (self.new ≡ after plan.now self.old event.now) }
-        ensures gifts { IfOk result (λ gifts. gifts.items ≡ event_gives plan.now self.old event.now) }
+        ensures gifts { IfOk result (λ taught. taught.gifts.items ≡ event_gives plan.now self.old event.now) }
+        ensures past { IfOk result (λ taught. HasTaughtLearner (host_of event.now) taught self.old self.new) }
         ensures err { OnErr result (self.new ≡ self.old) }
         ensures known { IsKnown plan.now self.old known.new }
     {
         match event {
             Event::Open => {
                 self.open(plan)?;
-                Ok(Vec::new(self.alloc))
+                Ok(Taught::nothing(self.alloc))
             }
             Event::Start(host) => self.start(plan, *host, known),
             Event::Send {
@@ -252,26 +252,26 @@ impl EngineState {
                 ticket,
             } => {
                 self.send(plan, *host, *item, *attempt, *ticket)?;
-                Ok(Vec::new(self.alloc))
+                Ok(Taught::nothing(self.alloc))
             }
             Event::Report(report) => self.report(plan, report, known),
             Event::Turn => {
                 self.turn(plan)?;
-                Ok(Vec::new(self.alloc))
+                Ok(Taught::nothing(self.alloc))
             }
             Event::Close => {
                 self.close();
-                Ok(Vec::new(self.alloc))
+                Ok(Taught::nothing(self.alloc))
             }
             Event::Stop => {
                 self.stopped = true;
                 put_step_result(&mut self.step_result, None);
-                Ok(Vec::new(self.alloc))
+                Ok(Taught::nothing(self.alloc))
             }
             Event::Forks(forks) => {
                 self.forks = *forks;
                 put_step_result(&mut self.step_result, None);
-                Ok(Vec::new(self.alloc))
+                Ok(Taught::nothing(self.alloc))
             }
         }
     }

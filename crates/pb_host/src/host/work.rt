@@ -1,7 +1,7 @@
 //! What a host runs: a task starts, its jobs go out and come back, and it ends.
 
 ghost use Rattle.std.specs.Prelude.{◌≡◌, ◌-◌, ◌^◌, OnOk, OnErr, IfOk, true};
-ghost use Rattle.pb_facts.specs.Update.{applied};
+ghost use Rattle.pb_facts.specs.Update.{applied, IsBetween};
 ghost use Rattle.pb_host.specs.Host.{kept_items, runs_once_at};
 ghost use Rattle.pb_host.specs.Shown.{let_go};
 ghost use Rattle.pb_host.specs.Handlers.{notified_by};
@@ -14,7 +14,7 @@ use crate::handlers::{marks_in, notified_by};
 use crate::item_results::{end_at, item_results_in, runs_once_at};
 use crate::items::{Before, CameBack, TaskItems, none_back};
 use crate::step_result::{Retried, StepResult, TaskDone, TaskEnd};
-use pb_facts::update::FactsUpdate;
+use pb_facts::update::{FactsUndo, FactsUpdate};
 use pb_ids::Ticket;
 use pb_inventory::inventory::Inventory;
 use pb_outcome::outcome::Outcome;
@@ -78,7 +78,8 @@ impl Host {
         gone
     }
 
-    /// The task at a place that the host runs ends, and the host learns this. Items that aren't kept are handed back. An `Err` changes nothing.
+    /// The task at a place that the host runs ends, and the host learns this. Items that aren't kept are handed back, and what was before it learnt it.
+    /// An `Err` changes nothing.
     fn finish(
         &mut self,
         alloc: Global,
@@ -86,17 +87,19 @@ impl Host {
         place: usize,
         task: TaskEnd,
         update: FactsUpdate,
-    ) -> Result<TaskItems, AllocError>
+    ) -> Result<(TaskItems, FactsUndo), AllocError>
         requires batch { self.old.in_batch ≡ true }
         requires room { IsAtMost self.old.counts (2 ^ 64 - 2) }
         ensures ok { OnOk result (self.new ≡ finished (finish_run play.now place task self.old.running) task (notified_by play.now place task) (applied update self.old.facts) self.old) }
-        ensures gone { IfOk result (λ gone. gone ≡ let_go (runs_once_at play.now place) (items_run self.old.running)) }
+        ensures gone { IfOk result (λ ended. ended.0 ≡ let_go (runs_once_at play.now place) (items_run self.old.running)) }
+        ensures past { IfOk result (λ ended. IsBetween ended.1 self.old.facts self.new.facts) }
         ensures err { OnErr result (self.new ≡ self.old) }
     {
         match answer_of(alloc, play, place, task) {
             Ok(answer) => {
-                self.apply_and_answer(alloc, &answer, update)?;
-                Ok(self.record_end(alloc, runs_once_at(play, place), place, task))
+                let past = self.apply_and_answer(alloc, &answer, update)?;
+                let gone = self.record_end(alloc, runs_once_at(play, place), place, task);
+                Ok((gone, past))
             }
             Err(error) => {
                 drop(update);
@@ -105,8 +108,8 @@ impl Host {
         }
     }
 
-    /// The task at a place starts with these items: it waits for their jobs, or ends at once. An `Err` changes nothing.
-    #[tactic(auto, using(crate::proofs::Begun::begun_as))]
+    /// The task at a place starts with these items: it waits for their jobs, or ends at once. What was before the host learnt something by that is handed
+    /// out. An `Err` changes nothing.
     pub fn start(
         &mut self,
         alloc: Global,
@@ -114,11 +117,12 @@ impl Host {
         play: &PlanPlay,
         place: usize,
         items: TaskItems,
-    ) -> Result<Option<TaskDone>, AllocError>
+    ) -> Result<(Option<TaskDone>, FactsUndo), AllocError>
         requires batch { self.old.in_batch ≡ true }
         requires room { IsAtMost self.old.counts (2 ^ 64 - 2) }
         ensures row { OnOk result (self.new ≡ progressed inventory.now play.now place items self.old) }
-        ensures done { IfOk result (λ done. done ≡ done_if play.now place (pending self.old) items) }
+        ensures done { IfOk result (λ started. started.0 ≡ done_if play.now place (pending self.old) items) }
+        ensures past { IfOk result (λ started. IsBetween started.1 self.old.facts self.new.facts) }
         ensures err { OnErr result (self.new ≡ self.old) }
     {
         let before = self.put_running(Some(Running {
@@ -127,7 +131,7 @@ impl Host {
             out: None,
         }));
         match self.end_if_over(alloc, inventory, play) {
-            Ok(done) => Ok(done),
+            Ok(ended) => Ok(ended),
             Err(error) => {
                 self.put_running(before);
                 Err(error)
@@ -201,7 +205,8 @@ impl Host {
         }
     }
 
-    /// What a step comes to for the task that the host runs, of which the item with this number came back, or this attempt at it. An `Err` changes nothing.
+    /// What a step comes to for the task that the host runs, of which the item with this number came back, or this attempt at it; and what was before the host
+    /// learnt something by that. An `Err` changes nothing.
     pub fn advance(
         &mut self,
         alloc: Global,
@@ -209,25 +214,27 @@ impl Host {
         play: &PlanPlay,
         number: Option<u32>,
         retried: Option<Retried>,
-    ) -> Result<Option<StepResult>, AllocError>
+    ) -> Result<(Option<StepResult>, FactsUndo), AllocError>
         requires { IsAtMost self.old.counts (2 ^ 64 - 2) }
         ensures row { OnOk result (self.new ≡ went_on inventory.now play.now self.old) }
-        ensures comes_to { IfOk result (λ step_result. step_result ≡ step_result_now play.now number retried self.old) }
+        ensures comes_to { IfOk result (λ advanced. advanced.0 ≡ step_result_now play.now number retried self.old) }
+        ensures past { IfOk result (λ advanced. IsBetween advanced.1 self.old.facts self.new.facts) }
         ensures err { OnErr result (self.new ≡ self.old) }
     {
         match &self.running {
-            None => Ok(None),
+            None => Ok((None, FactsUndo::Nothing)),
             Some(running) => {
                 let place = running.place;
                 let items = item_results_in(alloc, &running.items, number)?;
-                let done = self.end_if_over(alloc, inventory, play)?;
-                Ok(Some(StepResult {
+                let (done, past) = self.end_if_over(alloc, inventory, play)?;
+                let step_result = StepResult {
                     place,
                     is_new: false,
                     items,
                     retried,
                     done,
-                }))
+                };
+                Ok((Some(step_result), past))
             }
         }
     }
@@ -241,25 +248,27 @@ impl Host {
         }
     }
 
-    /// The task that the host runs goes on, or ends where it is over. An `Err` changes nothing.
+    /// The task that the host runs goes on, or ends where it is over. What was before the host learnt something by that is handed out. An `Err` changes
+    /// nothing.
     fn end_if_over(
         &mut self,
         alloc: Global,
         inventory: &Inventory,
         play: &PlanPlay,
-    ) -> Result<Option<TaskDone>, AllocError>
+    ) -> Result<(Option<TaskDone>, FactsUndo), AllocError>
         requires { IsAtMost self.old.counts (2 ^ 64 - 2) }
         ensures row { OnOk result (self.new ≡ went_on inventory.now play.now self.old) }
-        ensures done { IfOk result (λ done. done ≡ ended_now play.now self.old) }
+        ensures done { IfOk result (λ ended. ended.0 ≡ ended_now play.now self.old) }
+        ensures past { IfOk result (λ ended. IsBetween ended.1 self.old.facts self.new.facts) }
         ensures err { OnErr result (self.new ≡ self.old) }
     {
         self.share(play);
         match &self.running {
-            None => Ok(None),
+            None => Ok((None, FactsUndo::Nothing)),
             Some(running) => {
                 if !running.items.is_over() {
                     self.wait();
-                    return Ok(None);
+                    return Ok((None, FactsUndo::Nothing));
                 }
                 let place = running.place;
                 let end = end_at(alloc, play, place, marks_in(&self.walk), &running.items)?;
@@ -273,8 +282,8 @@ impl Host {
                 };
                 let shown = end.shown(items);
                 let update = ended.teaches(alloc, Some(self.host), shown, &self.facts)?;
-                let gone = self.finish(alloc, play, place, end.task, update)?;
-                Ok(Some(end.done(gone)))
+                let (gone, past) = self.finish(alloc, play, place, end.task, update)?;
+                Ok((Some(end.done(gone)), past))
             }
         }
     }

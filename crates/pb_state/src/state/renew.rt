@@ -1,16 +1,16 @@
 //! How the map of `hostvars` that is kept follows what hosts have learnt.
 
 ghost use Rattle.std.specs.Prelude.{◌≡◌};
-ghost use Rattle.pb_state.specs.Known.{IsKnown, AreLearners};
+ghost use Rattle.pb_state.specs.Known.{IsKnown, AreLearners, HasTaughtLearner};
 ghost use Rattle.pb_state.specs.Machine.{after};
 ghost use Rattle.pb_state.specs.State.{State};
 
 use super::EngineState;
 use crate::event::Event;
-use crate::hostvars::renewed_with_gifts;
+use crate::hostvars::renewed_once_taught;
+use pb_hosts::Taught;
 use pb_ids::HostNo;
 use pb_plan::Plan;
-use pb_task_vars::gifts::DelegatedFacts;
 use pb_value::val::Dict;
 use std::mem;
 
@@ -22,10 +22,10 @@ impl EngineState {
         plan: &Plan,
         event: &Event,
         learner: Option<HostNo>,
-        gifts: &[DelegatedFacts],
+        taught: &Taught,
         known: &mut Option<Dict>,
     )
-        ensures { (old : State) → self.now ≡ after plan.now old event.now → AreLearners learner gifts.now old self.now → IsKnown plan.now old known.old → IsKnown plan.now self.now known.new }
+        ensures { (old : State) → self.now ≡ after plan.now old event.now → AreLearners learner taught.now.gifts.items old self.now → HasTaughtLearner learner taught.now old self.now → IsKnown plan.now old known.old → IsKnown plan.now self.now known.new }
     {
         if self.task_goes_on(event) {
             return;
@@ -38,7 +38,7 @@ impl EngineState {
             return;
         };
         let rows = self.rows.as_slice();
-        let renewed = renewed_with_gifts(self.alloc, plan, rows, hosts, gifts, host);
+        let renewed = renewed_once_taught(self.alloc, plan, rows, hosts, taught, host);
         drop(mem::replace(known, renewed));
     }
 }

@@ -5,7 +5,8 @@ ghost use Rattle.std.specs.Prelude.{slice_set};
 ghost use Rattle.std.specs.Option.{option_map_or};
 ghost use Rattle.pb_planes.specs.Set.{is_in as is_member};
 ghost use Rattle.pb_task_vars.specs.Results.{items_at};
-ghost use Rattle.pb_state.specs.Machine.{facts_at, plan_seen};
+ghost use Rattle.pb_state.specs.Learners.{HasTaught};
+ghost use Rattle.pb_state.specs.Machine.{facts_at, learnt_by, plan_seen};
 ghost use Rattle.pb_state.specs.Known.{IsKnown, running_at, event_gives, start_gives_at};
 ghost use Rattle.pb_hosts.specs.Giving.{gifts_at};
 
@@ -15,11 +16,11 @@ use crate::hostvars::{unread, whole};
 use crate::known::keep;
 use pb_facts::facts::Facts;
 use pb_host::{StepResult, TaskItems, numbered, put_step_result};
+use pb_hosts::Taught;
 use pb_ids::HostNo;
 use pb_inventory::inventory::Inventory;
 use pb_outcome::item::Item;
 use pb_plan::{Plan, PlanPlay};
-use pb_task_vars::gifts::DelegatedFacts;
 use pb_task_vars::site::Site;
 use pb_task_vars::with_hostvars::PlanWithHostvars;
 use pb_value::items::Items;
@@ -35,17 +36,18 @@ impl EngineState {
         plan: &Plan,
         host: HostNo,
         known: &mut Option<Dict>,
-    ) -> Result<Vec<DelegatedFacts>, AllocError>
+    ) -> Result<Taught, AllocError>
         requires may { option_map_or (may_start_in self.old host.0) (open_play plan.now self.old) false ≡ true }
         requires known { IsKnown plan.now self.old known.old }
         ensures ok { OnOk result (self.new ≡ after plan.now self.old (Event.Start host)) }
-        ensures gifts { IfOk result (λ gifts. gifts.items ≡ event_gives plan.now self.old (Event.Start host)) }
+        ensures gifts { IfOk result (λ taught. taught.gifts.items ≡ event_gives plan.now self.old (Event.Start host)) }
+        ensures past { IfOk result (λ taught. HasTaught taught host.0 (learnt_by self.old.rows) (learnt_by self.new.rows)) }
         ensures err { OnErr result (self.new ≡ self.old) }
         ensures known { IsKnown plan.now self.old known.new }
     {
         match (self.open_play(plan), self.next_at(host)) {
             (Some(play), Some(place)) => self.start_at(plan, host, play, place, known),
-            _ => Ok(Vec::new(self.alloc)),
+            _ => Ok(Taught::nothing(self.alloc)),
         }
     }
 
@@ -79,13 +81,14 @@ impl EngineState {
         play: &PlanPlay,
         place: usize,
         known: &mut Option<Dict>,
-    ) -> Result<Vec<DelegatedFacts>, AllocError>
+    ) -> Result<Taught, AllocError>
         requires open { self.old.is_open ≡ true }
         requires may { may_start_in self.old host.0 play.now ≡ true }
         requires here { next_at self.old host.0 ≡ Some place }
         requires known { IsKnown plan.now self.old known.old }
         ensures ok { OnOk result (self.new ≡ start_at plan.now self.old host.0 play.now place) }
-        ensures gifts { IfOk result (λ gifts. gifts.items ≡ start_gives_at plan.now self.old host.0 play.now place) }
+        ensures gifts { IfOk result (λ taught. taught.gifts.items ≡ start_gives_at plan.now self.old host.0 play.now place) }
+        ensures past { IfOk result (λ taught. HasTaught taught host.0 (learnt_by self.old.rows) (learnt_by self.new.rows)) }
         ensures err { OnErr result (self.new ≡ self.old) }
         ensures known { IsKnown plan.now self.old known.new }
     {
@@ -192,7 +195,7 @@ impl EngineState {
         Ok(found)
     }
 
-    /// The task at a place starts on a host with these items. What it gives to other hosts, where it ends at once, is handed out.
+    /// The task at a place starts on a host with these items. What it taught, where it ends at once, is handed out.
     pub(crate) fn start_with(
         &mut self,
         inventory: &Inventory,
@@ -200,15 +203,16 @@ impl EngineState {
         play: &PlanPlay,
         place: usize,
         items: TaskItems,
-    ) -> Result<Vec<DelegatedFacts>, AllocError>
+    ) -> Result<Taught, AllocError>
         requires open { self.old.is_open ≡ true }
         requires may { may_start_in self.old host.0 play.now ≡ true }
         ensures ok { OnOk result (self.new ≡ start_with inventory.now self.old host.0 play.now place items) }
-        ensures gifts { IfOk result (λ gifts. gifts.items ≡ gifts_at inventory.now play.now place host.0 items) }
+        ensures gifts { IfOk result (λ taught. taught.gifts.items ≡ gifts_at inventory.now play.now place host.0 items) }
+        ensures past { IfOk result (λ taught. HasTaught taught host.0 (learnt_by self.old.rows) (learnt_by self.new.rows)) }
         ensures err { OnErr result (self.new ≡ self.old) }
     {
         let results = numbered(self.alloc, &items)?;
-        let (done, gifts) = self
+        let (done, taught) = self
             .rows
             .start_row(self.alloc, host, inventory, play, place, items)?;
         let is_new = !has_place(self.begun.as_slice(), place);
@@ -223,7 +227,7 @@ impl EngineState {
                 done,
             }),
         );
-        Ok(gifts)
+        Ok(taught)
     }
 }
 

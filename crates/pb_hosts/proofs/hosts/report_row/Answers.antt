@@ -9,11 +9,12 @@ use Rattle.pb_host.specs.StepResults.{report_result}
 use Rattle.pb_host.specs.Ends.{IsAtMost}
 use Rattle.pb_host.specs.Host.{HostOf, reported}
 use Rattle.pb_host.specs.Runs.{item_of}
+use Rattle.pb_hosts.specs.Applied.{LearnsBetween}
 use Rattle.pb_hosts.specs.Giving.{gives_now, report_gives, with_delegated}
 use Rattle.pb_hosts.specs.Hosts.{change}
 use Rattle.pb_hosts.proofs.Asked.{given_due}
 use Rattle.pb_hosts.proofs.Outside.{reported_inside, reported_waits, reported_out}
-use Rattle.pb_hosts.proofs.Reported.{gives_in, reported_in, room_back, step_result_in}
+use Rattle.pb_hosts.proofs.Reported.{between_in, gives_in, reported_in, room_back, step_result_in}
 use Rattle.pb_hosts.proofs.TicketOrder.{reported_quiet}
 use Rattle.pb_hosts.proofs.Turns.{same_due}
 use Rattle.pb_hosts.proofs.hosts.report_row.Goals as goal
@@ -69,9 +70,15 @@ returns-in-Ok-clause-comes_to c =
 
 pub returns-in-Ok-clause-gifts : goal.returns-in-Ok-clause-gifts
 returns-in-Ok-clause-gifts c =
-    gives_in c.args.plan.now c.args.play.now c.args.outcome.now c.args.host.0 c.rows.inside.rows.items c.take_back.new.rows.items c.in-Ok.gifts.items c.in_ok-came.ensures.ok
-    (subst (λ (inventory : InventoryOf). c.in-Ok.gifts.items ≡ gives_now inventory c.args.play.now c.args.host.0 c.take_back.new.rows.items) c.inventory-inventory.ensures c.in-Ok.ensures.gifts)
+    gives_in c.args.plan.now c.args.play.now c.args.outcome.now c.args.host.0 c.rows.inside.rows.items c.take_back.new.rows.items c.in-Ok.taught.gifts.items c.in_ok-came.ensures.ok
+    (subst (λ (inventory : InventoryOf). c.in-Ok.taught.gifts.items ≡ gives_now inventory c.args.play.now c.args.host.0 c.take_back.new.rows.items) c.inventory-inventory.ensures c.in-Ok.ensures.gifts)
     ∙ ap (report_gives c.args.plan.now c.args.play.now c.args.outcome.now c.args.host.0) c.rows.view_is
+
+pub returns-in-Ok-clause-past : goal.returns-in-Ok-clause-past
+returns-in-Ok-clause-past c =
+    subst (λ (all : List HostOf). LearnsBetween c.in-Ok.taught.past c.args.host.0 (reported c.args.plan.now c.args.play.now c.args.outcome.now) all) c.rows.view_is
+    (between_in c.args.plan.now c.args.play.now c.args.outcome.now c.args.host.0 c.rows.inside.rows.items c.take_back.new.rows.items c.in-Ok.taught.past c.in_ok-came.ensures.ok
+    (subst (λ (inventory : InventoryOf). LearnsBetween c.in-Ok.taught.past c.args.host.0 (went_on inventory c.args.play.now) c.take_back.new.rows.items) c.inventory-inventory.ensures c.in-Ok.ensures.past))
 
 pub returns-in-Err-clause-err : goal.returns-in-Err-clause-err
 returns-in-Err-clause-err c =

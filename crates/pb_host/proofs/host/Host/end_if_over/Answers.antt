@@ -1,5 +1,5 @@
 use Rattle.std.proofs.Common.{◌≡◌, ◌∙◌, List, Some, ap, is_some, subst, sym}
-use Rattle.pb_facts.specs.Update.{applied}
+use Rattle.pb_facts.specs.Update.{applied, IsBetween}
 use Rattle.pb_outcome.specs.declared.item.Item.{Item}
 use Rattle.pb_task_vars.specs.Learning.{facts_after_end}
 use Rattle.pb_host.specs.Back.{finish_run, went_on}
@@ -38,3 +38,7 @@ returns-in_ok-gone-in-Some-clause-row c =
     ≡ finished (finish_run c.args.play.now c.in-Some.running.place end.task old.running) end.task (notified_by c.args.play.now c.in-Some.running.place end.task) (applied c.in_ok-update-in-Some.update old.facts) old)
     (sym c.self.view_is) c.in_ok-gone-in-Some.ensures.ok)
     ∙ ap (went_on c.args.inventory.now c.args.play.now) (c.self.view_is ∙ c.share.ensures)
+
+pub returns-in_ok-gone-in-Some-clause-past : goal.returns-in_ok-gone-in-Some-clause-past
+returns-in_ok-gone-in-Some-clause-past c =
+    subst (λ (old : HostOf). IsBetween c.in_ok-gone-in-Some.past old.facts c.finish.new.self.facts) c.share.ensures c.in_ok-gone-in-Some.ensures.past

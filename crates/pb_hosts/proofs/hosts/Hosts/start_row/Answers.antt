@@ -9,7 +9,7 @@ use Rattle.pb_hosts.specs.Giving.{gifts_at, with_delegated}
 use Rattle.pb_hosts.specs.Hosts.{change}
 use Rattle.pb_hosts.specs.Prepared.{with_gifts}
 use Rattle.pb_hosts.proofs.Asked.{given_due}
-use Rattle.pb_hosts.proofs.Changed.{asked, changed, on_err, put_same, required, there}
+use Rattle.pb_hosts.proofs.Changed.{asked, between_there, changed, on_err, put_same, required, there}
 use Rattle.pb_hosts.proofs.Outside.{progressed_inside, progressed_waits, progressed_out}
 use Rattle.pb_hosts.proofs.Preparing.{start_given}
 use Rattle.pb_hosts.proofs.TicketOrder.{progressed_quiet}
@@ -83,3 +83,9 @@ returns-clause-done c =
     ∙ asked (λ (found : Option HostOf). done_if c.args.play.now c.args.place (option_map_or pending found []) c.args.items) c.self.inside.rows.items c.args.self.now c.args.host.0 c.in-Some.row.now
     (there c.self.inside.rows.items c.args.host.0 c.in-Some.row.now c.in-Some.ensures.item.3.0 c.in-Some.ensures.item.1)
     c.self.view_is
+
+pub returns-clause-past : goal.returns-clause-past
+returns-clause-past c =
+    between_there c.in_ok-done-in-Some.past (progressed c.args.inventory.now c.args.play.now c.args.place c.args.items) c.self.inside.rows.items c.args.self.now c.args.host.0 c.in-Some.row.now c.start.new.self
+    (there c.self.inside.rows.items c.args.host.0 c.in-Some.row.now c.in-Some.ensures.item.3.0 c.in-Some.ensures.item.1)
+    c.self.view_is c.in_ok-done-in-Some.ensures.row c.in_ok-done-in-Some.ensures.past
