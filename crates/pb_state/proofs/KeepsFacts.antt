@@ -1,5 +1,6 @@
--- After a step that teaches nothing the hosts know what they knew, so that what is kept of it is what would be made.
-use Rattle.std.proofs.Common.{◌≡◌, ◌∙◌, ℕ, zero, suc, Bool, true, false, ◌&&◌, List, [], ◌∷◌, Option, Some, None, IfSome, is_none, slice_get, refl, sym, ap}
+-- After a step that teaches nothing the hosts know what they knew, so that what is kept of it is what would be made: an opening and a closing teach nothing,
+-- and a turn only what one host did for all.
+use Rattle.std.proofs.Common.{◌≡◌, ◌∙◌, ℕ, zero, suc, ◌+◌, Bool, true, false, not, ◌&&◌, ◌||◌, List, [], ◌∷◌, map, Option, Some, None, IfSome, is_none, slice_get, refl, sym, ap}
 use Rattle.std.specs.Prelude.{slice_set, if◌then◌else◌}
 use Rattle.std.specs.Option.{option_map_or}
 use Rattle.pb_value.specs.Datum.{Datum}
@@ -13,7 +14,8 @@ use Rattle.pb_outcome.specs.declared.gather.TaskResult.{TaskResult}
 use Rattle.pb_outcome.specs.declared.item.Item.{Item}
 use Rattle.pb_outcome.specs.declared.job.Report.{Report}
 use Rattle.pb_outcome.specs.declared.outcome.Form.{Form}
-use Rattle.pb_outcome.specs.Items.{is_over}
+use Rattle.pb_outcome.specs.Items.{is_over, result_of}
+use Rattle.pb_batches.specs.Sizes.{batch_sizes}
 use Rattle.pb_variables.specs.Magic.{hostvars, hosts_magic}
 use Rattle.pb_places.specs.Place.{PlaceOf}
 use Rattle.pb_play.specs.declared.modules.Module.{Module}
@@ -21,17 +23,24 @@ use Rattle.pb_plan.specs.Plan.{PlayOf, PlanOf}
 use Rattle.pb_task_vars.specs.Delegates.{kept}
 use Rattle.pb_task_vars.specs.Ends.{has_run}
 use Rattle.pb_task_vars.specs.Learning.{gives_of, gives_if, learns_at, facts_after_end}
-use Rattle.pb_task_vars.specs.Results.{items_at}
+use Rattle.pb_task_vars.specs.Results.{items_at, variable_at}
+use Rattle.pb_tree.specs.Tree.{TreeOf}
+use Rattle.pb_tree.specs.declared.answer.Kind.TheVariants as kinds
 use Rattle.pb_task_vars.specs.declared.gifts.DelegatedFacts.{DelegatedFacts}
 use Rattle.pb_host.specs.declared.host.Running.{Running}
-use Rattle.pb_host.specs.Host.{HostOf, ended, items_after, progressed, reported, reported_running, sent, task_at}
+use Rattle.pb_host.specs.Ends.{plain_answer}
+use Rattle.pb_host.specs.Host.{HostOf, answered, as_play_begins, ended, is_at, items_after, left, progressed, reported, reported_running, runs_once_at, sent, task_at}
+use Rattle.pb_host.specs.Turned.{halted, may_be_halted}
+use Rattle.pb_host.specs.declared.host.LastTask.{LastTask}
+use Rattle.pb_hosts.specs.Batches.{has_batch_left, joined_first, play_host_count, room_behind}
 use Rattle.pb_hosts.specs.Hosts.{change}
+use Rattle.pb_hosts.specs.Turn.{BatchOf, copied, copied_if, copies, is_halting, run_once_host, turned_by, with_copy}
 use Rattle.pb_hosts.specs.Giving.{with_delegated, gifts_at, gifts_of}
 use Rattle.pb_state.specs.declared.event.Event.{Event}
 use Rattle.pb_state.specs.declared.event.Event.TheVariants.{Open, Start, Send, Report as Reported, Turn, Close, Stop, Forks}
 use Rattle.pb_state.specs.State.{State}
-use Rattle.pb_state.specs.Machine.{after, facts_at, learnt_by, next_at, open_play, plan_seen, reported_in, sent_in, start_at, started_in}
-use Rattle.pb_state.specs.Known.{IsKnown, gives_nothing, keeps_facts, report_keeps, start_keeps, teaches_nothing, teaches_nothing_at}
+use Rattle.pb_state.specs.Machine.{after, batch_of, begins, begins_at, facts_at, goes_on, learnt_by, next_at, next_play, open_play, opened_by, plan_seen, reported_in, sent_in, start_at, started_in, turned_in}
+use Rattle.pb_state.specs.Known.{IsKnown, gives_nothing, keeps_facts, report_keeps, start_keeps, teaches_nothing, teaches_nothing_at, turn_keeps, turn_keeps_at}
 use Rattle.pb_state.proofs.Teaching.{gifts_same, gives_nothing_at, gives_nothing_in, report_same, run_place}
 
 first_is : (a b : Bool) → (a && b) ≡ true → a ≡ true
@@ -156,13 +165,86 @@ sent_knows : (s : State) (h : ℕ) (ticket : Ticket) (found : Option PlayOf) →
 sent_knows s h ticket None = refl
 sent_knows s h ticket (Some play) = change_knows s.rows h (sent ticket) (slice_get s.rows h) refl (for_each (λ row. (sent ticket row).facts ≡ row.facts) (λ row. refl) (slice_get s.rows h))
 
+-- ---- an opening, a closing and a turn
+map_knows : (f : HostOf → HostOf) → ((row : HostOf) → (f row).facts ≡ row.facts) → (rows : List HostOf) → learnt_by (map f rows) ≡ learnt_by rows
+map_knows f same [] = refl
+map_knows f same (row ∷ rows) = ap (λ (x : FactsOf). x ∷ learnt_by (map f rows)) (same row) ∙ ap (λ (xs : List FactsOf). row.facts ∷ xs) (map_knows f same rows)
+
+joined_know : (tree : TreeOf) (room : ℕ) (rows : List HostOf) → learnt_by (joined_first tree room rows) ≡ learnt_by rows
+joined_know tree room [] = refl
+joined_know tree room (row ∷ rows) = ap (λ (xs : List FactsOf). row.facts ∷ xs) (joined_know tree (room_behind room row.awaits_batch) rows)
+
+opened_knows : (s : State) (n batch : ℕ) (sizes : List ℕ) (rows : List HostOf) (play : PlayOf) (size : Option ℕ) → learnt_by rows ≡ learnt_by s.rows
+    → learnt_by (option_map_or (opened_by s n batch sizes rows play) size s).rows ≡ learnt_by s.rows
+opened_knows s n batch sizes rows play None e = refl
+opened_knows s n batch sizes rows play (Some size) e = joined_know play.tree size rows ∙ e
+
+goes_on_knows : (s : State) (found : Option PlayOf) → learnt_by (option_map_or (goes_on s) found s).rows ≡ learnt_by s.rows
+goes_on_knows s None = refl
+goes_on_knows s (Some play) = opened_knows s s.play (s.batch + 1) s.sizes_left s.rows play (slice_get s.sizes_left 0) refl
+
+begins_knows : (s : State) (n : ℕ) (found : Option PlayOf) → learnt_by (option_map_or (begins s n) found s).rows ≡ learnt_by s.rows
+begins_knows s n None = refl
+begins_knows s n (Some play) =
+    let sizes = batch_sizes play.serial (play_host_count play.hosts s.rows) in
+    opened_knows s n 0 sizes (map (as_play_begins play.hosts) s.rows) play (slice_get sizes 0) (map_knows (as_play_begins play.hosts) (λ row. refl) s.rows)
+
+next_begins_knows : (plan : PlanOf) (s : State) (next : Option ℕ) → learnt_by (option_map_or (begins_at plan s) next s).rows ≡ learnt_by s.rows
+next_begins_knows plan s None = refl
+next_begins_knows plan s (Some n) = begins_knows s n (slice_get plan.plays n)
+
+open_knows : (plan : PlanOf) (s : State) (b : Bool) (found : Option PlayOf) (next : Option ℕ)
+    → learnt_by (if b then option_map_or (goes_on s) found s else option_map_or (begins_at plan s) next s).rows ≡ learnt_by s.rows
+open_knows plan s true found next = goes_on_knows s found
+open_knows plan s false found next = next_begins_knows plan s next
+
+halted_knows : (row : HostOf) (b : Bool) → (if b then answered (plain_answer kinds.Halted) row else row).facts ≡ row.facts
+halted_knows row true = refl
+halted_knows row false = refl
+
+halts_know : (batch : BatchOf) (b : Bool) → learnt_by (if b then record { rows = map halted batch.rows; sizes_left = [] } else batch).rows ≡ learnt_by batch.rows
+halts_know batch true = map_knows halted (λ row. halted_knows row (may_be_halted row)) batch.rows
+halts_know batch false = refl
+
+-- what another host did for all teaches nothing where the task teaches nothing
+copied_knows : (inventory : InventoryOf) (play : PlayOf) (p : ℕ) (finish : LastTask) (row : HostOf) (b : Bool) → teaches_nothing_at play p ≡ true
+    → (if b then copied inventory play p finish row else row).facts ≡ row.facts
+copied_knows inventory play p finish row true e =
+    facts_after_none inventory play p None (task_at play p finish.items).result (result_of (variable_at play p) finish.items) finish.items row.facts e
+copied_knows inventory play p finish row false e = refl
+
+last_knows : (inventory : InventoryOf) (play : PlayOf) (p : ℕ) (row : HostOf) (last : Option LastTask) → teaches_nothing_at play p ≡ true
+    → (option_map_or (copied_if inventory play p row) last row).facts ≡ row.facts
+last_knows inventory play p row None e = refl
+last_knows inventory play p row (Some finish) e = copied_knows inventory play p finish row (is_at p row) e
+
+copy_knows : (inventory : InventoryOf) (play : PlayOf) (p : ℕ) (from : Option HostOf) (row : HostOf) → teaches_nothing_at play p ≡ true → (with_copy inventory play p from row).facts ≡ row.facts
+copy_knows inventory play p None row e = refl
+copy_knows inventory play p (Some from) row e = last_knows inventory play p row from.last e
+
+copies_know : (inventory : InventoryOf) (play : PlayOf) (p : ℕ) (rows : List HostOf) (once : Bool) → (not once || teaches_nothing_at play p) ≡ true
+    → learnt_by (map (with_copy inventory play p (if once then run_once_host p rows else None)) rows) ≡ learnt_by rows
+copies_know inventory play p rows true e = map_knows (with_copy inventory play p (run_once_host p rows)) (λ row. copy_knows inventory play p (run_once_host p rows) row e) rows
+copies_know inventory play p rows false e = map_knows (with_copy inventory play p None) (λ row. refl) rows
+
+turned_knows : (inventory : InventoryOf) (play : PlayOf) (batch : BatchOf) (place : Option ℕ) → option_map_or (turn_keeps_at play) place true ≡ true
+    → learnt_by (turned_by inventory play batch place).rows ≡ learnt_by batch.rows
+turned_knows inventory play batch None e = refl
+turned_knows inventory play batch (Some p) e =
+    halts_know (copies inventory play p batch) (is_halting play p (copies inventory play p batch).rows)
+    ∙ copies_know inventory play p batch.rows (runs_once_at play p) e
+
+turn_knows : (plan : PlanOf) (s : State) (found : Option PlayOf) → option_map_or (turn_keeps s) found true ≡ true → learnt_by (option_map_or (turned_in plan.inventory s) found s).rows ≡ learnt_by s.rows
+turn_knows plan s None e = refl
+turn_knows plan s (Some play) e = turned_knows plan.inventory play (batch_of s) s.place e
+
 pub knows_same : (plan : PlanOf) (s : State) (event : Event) → keeps_facts plan s event ≡ true → learnt_by (after plan s event).rows ≡ learnt_by s.rows
-knows_same plan s Open e = cc
+knows_same plan s Open e = open_knows plan s (has_batch_left s.sizes_left) (slice_get plan.plays s.play) (next_play plan s)
 knows_same plan s (Start h) e = started_knows plan s h.0 (open_play plan s) e
 knows_same plan s (Send h item attempt ticket) e = sent_knows s h.0 ticket (open_play plan s)
 knows_same plan s (Reported r) e = came_knows plan s r (open_play plan s) e
-knows_same plan s Turn e = cc
-knows_same plan s Close e = cc
+knows_same plan s Turn e = turn_knows plan s (open_play plan s) e
+knows_same plan s Close e = map_knows left (λ row. refl) s.rows
 knows_same plan s Stop e = refl
 knows_same plan s (Forks n) e = refl
 

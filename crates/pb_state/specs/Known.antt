@@ -1,6 +1,6 @@
 -- The map of `hostvars` that is kept from step to step, and which steps surely leave what the hosts know as it was
 -- (Ansible's documentation, "Discovering variables: facts and magic variables").
-use Rattle.std.specs.Prelude.{◌≡◌, ℕ, List, [], Bool, true, false, ◌&&◌, Option, Some, None, is_none, is_some, IfSome, slice_get}
+use Rattle.std.specs.Prelude.{◌≡◌, ℕ, List, [], Bool, true, false, not, ◌&&◌, ◌||◌, Option, Some, None, is_none, is_some, IfSome, slice_get}
 use Rattle.std.specs.Option.{option_map_or}
 use Rattle.pb_value.specs.Datum.{Datum}
 use Rattle.pb_ids.specs.declared.numbers.HostNo.{HostNo}
@@ -14,7 +14,7 @@ use Rattle.pb_task_vars.specs.Learning.{gives_of}
 use Rattle.pb_task_vars.specs.Results.{items_at}
 use Rattle.pb_task_vars.specs.declared.gifts.DelegatedFacts.{DelegatedFacts}
 use Rattle.pb_host.specs.declared.host.Running.{Running}
-use Rattle.pb_host.specs.Host.{HostOf}
+use Rattle.pb_host.specs.Host.{HostOf, runs_once_at}
 use Rattle.pb_hosts.specs.declared.gifts.Taught.{Taught}
 use Rattle.pb_hosts.specs.Giving.{gifts_at, report_gives}
 use Rattle.pb_state.specs.declared.event.Event.{Event}
@@ -53,14 +53,21 @@ start_keeps s h play = option_map_or (teaches_nothing_at play) (next_at s h) tru
 abbrev pub report_keeps : State → ℕ → PlayOf → Bool
 report_keeps s h play = option_map_or (teaches_nothing_at play) (running_at s h) true
 
+-- at a turn the hosts of the batch learn what one of them did for all
+abbrev pub turn_keeps_at : PlayOf → ℕ → Bool
+turn_keeps_at play p = not (runs_once_at play p) || teaches_nothing_at play p
+
+abbrev pub turn_keeps : State → PlayOf → Bool
+turn_keeps s play = option_map_or (turn_keeps_at play) s.place true
+
 -- after these events the hosts know what they knew; after the others they may know more
 abbrev pub keeps_facts : PlanOf → State → Event → Bool
-keeps_facts plan s Open = false
+keeps_facts plan s Open = true
 keeps_facts plan s (Start h) = option_map_or (start_keeps s h.0) (open_play plan s) true
 keeps_facts plan s (Send h item attempt ticket) = true
 keeps_facts plan s (Reported r) = option_map_or (report_keeps s r.host.0) (open_play plan s) true
-keeps_facts plan s Turn = false
-keeps_facts plan s Close = false
+keeps_facts plan s Turn = option_map_or (turn_keeps s) (open_play plan s) true
+keeps_facts plan s Close = true
 keeps_facts plan s Stop = true
 keeps_facts plan s (Forks n) = true
 

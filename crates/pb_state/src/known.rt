@@ -2,12 +2,13 @@
 
 ghost use Rattle.std.specs.Prelude.{◌≡◌, true, Option, Some, None, if◌then◌else◌};
 ghost use Rattle.pb_task_vars.specs.Learning.{gives_of};
-ghost use Rattle.pb_state.specs.Known.{gives_nothing, teaches_nothing, teaches_nothing_at, keeps_facts, start_keeps, report_keeps};
+ghost use Rattle.pb_state.specs.Known.{gives_nothing, teaches_nothing, teaches_nothing_at, keeps_facts, start_keeps, report_keeps, turn_keeps_at};
 ghost use Rattle.pb_state.specs.Known.{host_of, task_goes_on};
 
 use crate::event::Event;
 use crate::hostvars::Shown;
 use crate::state::EngineState;
+use pb_host::runs_once_at;
 use pb_ids::HostNo;
 use pb_places::Place;
 use pb_plan::{Plan, PlanPlay};
@@ -63,6 +64,13 @@ fn teaches_nothing_at(play: &PlanPlay, place: usize) -> bool
     }
 }
 
+/// Whether hosts know what they knew once what one of them did at a place, if the task there runs once, has gone to the others.
+pub(crate) fn turn_keeps_at(play: &PlanPlay, place: usize) -> bool
+    ensures { result ≡ turn_keeps_at play.now place }
+{
+    !runs_once_at(play, place) || teaches_nothing_at(play, place)
+}
+
 /// The host whose task an event starts or brings on, if it does.
 pub(crate) fn host_of(event: &Event) -> Option<HostNo>
     ensures { result ≡ host_of event.now }
@@ -109,8 +117,12 @@ impl EngineState {
                 Some(play) => self.report_keeps(play, report.host),
                 None => true,
             },
+            Event::Turn => match self.open_play(plan) {
+                Some(play) => self.turn_keeps(play),
+                None => true,
+            },
             Event::Send { .. } | Event::Stop | Event::Forks(_) => true,
-            Event::Open | Event::Turn | Event::Close => false,
+            Event::Open | Event::Close => true,
         }
     }
 

@@ -8,6 +8,7 @@ ghost use Rattle.pb_state.specs.Machine.{play_behind};
 
 use super::EngineState;
 use crate::event::Event;
+use crate::known::turn_keeps_at;
 use crate::sizes_left::SizesLeft;
 use pb_host::put_step_result;
 use pb_hosts::{least_place, leave_all, some_in, stand_at, turn_rows};
@@ -16,10 +17,21 @@ use pb_plan::{Plan, PlanPlay};
 use std::alloc::AllocError;
 
 impl EngineState {
+    ghost use Rattle.pb_state.specs.Known.{turn_keeps};
     ghost use Rattle.pb_state.specs.Machine.{open_play, may_turn_in};
     ghost use Rattle.pb_host.specs.Runs.{is_running};
     ghost use Rattle.pb_state.specs.Machine.{after, turned_in, moved, batch_of, with_batch, closed};
     ghost use Rattle.pb_hosts.specs.Turn.{turned};
+
+    /// Whether hosts know what they knew once the batch goes on from its current place.
+    pub(crate) fn turn_keeps(&self, play: &PlanPlay) -> bool
+        ensures { result ≡ turn_keeps self.now play.now }
+    {
+        match self.place {
+            Some(place) => turn_keeps_at(play, place),
+            None => true,
+        }
+    }
 
     pub(crate) fn turn(&mut self, plan: &Plan) -> Result<(), AllocError>
         requires { option_map_or (may_turn_in self.old) (open_play plan.now self.old) false ≡ true }
