@@ -3,8 +3,9 @@ use Rattle.std.proofs.Common.{◌≡◌, ℕ, zero, suc, List, [], ◌∷◌, �
 use Rattle.std.specs.Prelude.{Option, Some, None, IfSome, option_to_list, slice_get, slice_set}
 use Rattle.std.specs.Option.{option_map_or}
 use Rattle.pb_ids.specs.declared.numbers.HostNo.{HostNo}
+use Rattle.pb_facts.specs.Book.{row_of}
 use Rattle.pb_facts.specs.Facts.{FactsOf, no_facts}
-use Rattle.pb_facts.specs.Update.{IsUndo}
+use Rattle.pb_facts.specs.Update.{IsBetween, IsUndo}
 use Rattle.pb_facts.specs.declared.update.FactsUpdate.{FactsUpdate}
 use Rattle.pb_facts.specs.declared.update.FactsUndo.{FactsUndo}
 use Rattle.pb_facts.specs.declared.update.FactsUndo.TheVariants.{Nothing as NoUndo}
@@ -12,7 +13,8 @@ use Rattle.pb_host.specs.Host.{HostOf, knows}
 use Rattle.pb_host.specs.Turned.{applies}
 use Rattle.pb_hosts.specs.declared.turned.HostUpdate.{HostUpdate}
 use Rattle.pb_hosts.specs.Hosts.{change}
-use Rattle.pb_hosts.specs.Applied.{AppliedAt, LeadsTo, with_update}
+use Rattle.pb_hosts.specs.Applied.{AppliedAt, LeadsTo, learnt_in, with_update}
+use Rattle.pb_hosts.proofs.InTurn.{learnt_there}
 use Rattle.pb_hosts.proofs.Reported.{put_back, nobody}
 
 -- ---- one host
@@ -24,12 +26,15 @@ get_set (r ∷ rows) (suc h) row new e = get_set rows h row new e
 set_back : (update : FactsUpdate) (row after : HostOf) → after ≡ applies update row → knows row.facts after ≡ row
 set_back update row after a = ap (knows row.facts) a
 
-pub applied_some : (update : FactsUpdate) (rows new : List HostOf) (h : ℕ) (row after : HostOf) (past : FactsUndo) → slice_get rows h ≡ Some row → new ≡ slice_set rows h after → after ≡ applies update row → IsUndo past row.facts after.facts → AppliedAt h past rows new
-applied_some update rows new h row after past at n a is =
+pub applied_some : (update : FactsUpdate) (rows new : List HostOf) (h : ℕ) (row after : HostOf) (past : FactsUndo) → slice_get rows h ≡ Some row → new ≡ slice_set rows h after → after ≡ applies update row → IsUndo past row.facts after.facts → IsBetween past row.facts after.facts
+    → AppliedAt h past rows new
+applied_some update rows new h row after past at n a is between =
     let there : slice_get new h ≡ Some after = ap (λ (all : List HostOf). slice_get all h) n ∙ get_set rows h row after at in (
       row.facts,
       subst (λ (o : Option HostOf). IfSome o (λ (r : HostOf). IsUndo past row.facts r.facts)) (sym there) is,
       sym (ap (λ (all : List HostOf). change all h (knows row.facts)) n ∙ put_back rows h row after (knows row.facts) at (set_back update row after a)),
+      subst (λ (was : FactsOf). IsBetween past was (row_of (learnt_in new) h)) (sym (learnt_there rows h row at))
+          (subst (λ (now : FactsOf). IsBetween past row.facts now) (sym (learnt_there new h after there)) between),
     )
 
 pub applied_none : (rows new : List HostOf) (h : ℕ) → slice_get rows h ≡ None → new ≡ rows → AppliedAt h NoUndo rows new
@@ -38,6 +43,7 @@ applied_none rows new h at n =
       no_facts,
       subst (λ (o : Option HostOf). IfSome o (λ (r : HostOf). IsUndo NoUndo no_facts r.facts)) (sym nowhere) tt,
       sym n ∙ sym (nobody new h (knows no_facts) nowhere),
+      sym (ap (λ (all : List HostOf). row_of (learnt_in all) h) n),
     )
 
 pub back_some : (rows new : List HostOf) (h : ℕ) (row after : HostOf) (past : FactsUndo) → slice_get rows h ≡ Some row → new ≡ slice_set rows h after → ((facts : FactsOf) → IsUndo past facts row.facts → after ≡ knows facts row) → (was : List HostOf)

@@ -16,4 +16,5 @@ pub mod Reported
 pub mod Members
 pub mod Outside
 pub mod Turns
+pub mod InTurn
 pub mod Applying

@@ -9,6 +9,7 @@ use Rattle.pb_ids.specs.declared.numbers.Ticket.{Ticket}
 use Rattle.pb_planes.specs.Set.{IsNextFrom, HasNoneFrom}
 use Rattle.pb_facts.specs.Update.{applied}
 use Rattle.pb_facts.specs.Facts.{FactsOf}
+use Rattle.pb_facts.specs.declared.update.FactsUndo.{FactsUndo}
 use Rattle.pb_facts.specs.declared.update.FactsUpdate.{FactsUpdate}
 use Rattle.pb_inventory.specs.InventoryOf.{InventoryOf}
 use Rattle.pb_plan.specs.Plan.{PlayOf}
@@ -25,13 +26,14 @@ use Rattle.pb_host.specs.Standing.{standing}
 use Rattle.pb_host.specs.Turned.{applies, answer_copied, with_answer, may_be_halted, halted_if}
 use Rattle.pb_hosts.specs.declared.turned.HostUpdate.{HostUpdate}
 use Rattle.pb_hosts.specs.declared.turned.Turning.{Turning}
-use Rattle.pb_hosts.specs.Applied.{with_update}
+use Rattle.pb_hosts.specs.Applied.{LeadsTo, LearnInTurn, learnt_in, with_update}
 use Rattle.pb_hosts.specs.Hosts.{at_row, change}
 use Rattle.pb_hosts.specs.Turn.{with_copy, ends_run_once_at, has_done_run_once, run_once_host, ends_fatally, has_ended_fatally}
 use Rattle.pb_hosts.specs.TurnMade.{copy_applied, turning_row}
 use Rattle.pb_hosts.specs.Due.{is_inside, IsOutside, AreOutside, IsDue}
 use Rattle.pb_hosts.specs.Oldest.{ticket_of, out_from}
 use Rattle.pb_hosts.proofs.Giving.{change_on, map_same}
+use Rattle.pb_hosts.proofs.InTurn.{log_learns}
 use Rattle.pb_hosts.proofs.Members.{part, Spares, part_skip, at_none, copy_none, reached, finished}
 use Rattle.pb_hosts.proofs.Outside.{out_changed, out_mapped, next_none}
 
@@ -124,6 +126,11 @@ update_column of same all column rows new e n = e ∙ sym (update_map of same al
 turning_column : {A : Type 0} (of : HostOf → A) → ((kind : Kind) (caught : Bool) (row : HostOf) → of (answer_copied kind caught row) ≡ of row) → ((answer : AnswerOf) (row : HostOf) → of (answered answer row) ≡ of row)
     → (t : Turning) (column : List A) (rows new : List HostOf) → column ≡ map of rows → new ≡ map (turning_row t) rows → column ≡ map of new
 turning_column of copies answers t column rows new e n = e ∙ sym (map_kept of (turning_row t) (turning_same of copies answers t) rows) ∙ ap (map of) (sym n)
+
+-- answers teach nothing
+pub turning_learns : (log : List (HostNo × FactsUndo)) (t : Turning) (rows mid new : List HostOf) → LeadsTo log rows mid → new ≡ map (turning_row t) mid → LearnInTurn log (learnt_in rows) (learnt_in new)
+turning_learns log t rows mid new leads n =
+    subst (LearnInTurn log (learnt_in rows)) (turning_column (λ (row : HostOf). row.facts) (λ kind caught row. refl) (λ answer row. refl) t (learnt_in mid) mid new refl n) (log_learns log rows mid leads)
 
 pub inside_applied : (all : List HostUpdate) (batch : List Bool) (rows new : List HostOf) → batch ≡ map is_inside rows → new ≡ with_update all rows → batch ≡ map is_inside new
 inside_applied all batch rows new e n = update_column is_inside (λ update row. refl) all batch rows new e n

@@ -1,6 +1,7 @@
--- Hosts learn something, one after another; and what was before, so that it can be put back.
-use Rattle.std.specs.Prelude.{◌≡◌, ℕ, List, [], ◌∷◌, IfSome, slice_get}
+-- Hosts learn something, one after another; and what was before, so that it can be put back, and tells what lies between.
+use Rattle.std.specs.Prelude.{◌≡◌, ◌≢◌, ℕ, List, [], ◌∷◌, map, IfSome, slice_get}
 use Rattle.pb_ids.specs.declared.numbers.HostNo.{HostNo}
+use Rattle.pb_facts.specs.Book.{row_of}
 use Rattle.pb_facts.specs.Facts.{FactsOf}
 use Rattle.pb_facts.specs.Update.{IsUndo, IsBetween}
 use Rattle.pb_facts.specs.declared.update.FactsUndo.{FactsUndo}
@@ -14,9 +15,14 @@ abbrev pub with_update : List HostUpdate → List HostOf → List HostOf
 with_update [] rows = rows
 with_update (n ∷ all) rows = with_update all (change rows n.host.0 (applies n.update))
 
--- a host learnt something, before which this was; a number that is no host's changes nothing
+-- what the hosts of these rows have learnt
+abbrev pub learnt_in : List HostOf → List FactsOf
+learnt_in rows = map (λ (row : HostOf). row.facts) rows
+
+-- a host learnt something, before which this was, and which tells what lies between; a number that is no host's changes nothing
 abbrev pub AppliedAt : ℕ → FactsUndo → List HostOf → List HostOf → Type 0
-AppliedAt h past was now = (facts : FactsOf) × IfSome (slice_get now h) (λ (row : HostOf). IsUndo past facts row.facts) × (was ≡ change now h (knows facts))
+AppliedAt h past was now =
+    (facts : FactsOf) × IfSome (slice_get now h) (λ (row : HostOf). IsUndo past facts row.facts) × (was ≡ change now h (knows facts)) × IsBetween past (row_of (learnt_in was) h) (row_of (learnt_in now) h)
 
 -- rows became others as these hosts learnt something, in order
 abbrev pub LeadsTo : List (HostNo × FactsUndo) → List HostOf → List HostOf → Type 0
@@ -26,3 +32,12 @@ LeadsTo (before ∷ log) was now = (mid : List HostOf) × AppliedAt before.0.0 b
 -- what lies between what a host of these rows had learnt and what it has learnt once its row changes so
 abbrev pub LearnsBetween : FactsUndo → ℕ → (HostOf → HostOf) → List HostOf → Type 0
 LearnsBetween past h step rows = IfSome (slice_get rows h) (λ (row : HostOf). IsBetween past row.facts (step row).facts)
+
+-- of what hosts have learnt, by their numbers, this one's alone became another, and this lies between
+abbrev pub LearnsOne : ℕ → FactsUndo → List FactsOf → List FactsOf → Type 0
+LearnsOne h past before now = ((other : ℕ) → other ≢ h → row_of now other ≡ row_of before other) × IsBetween past (row_of before h) (row_of now h)
+
+-- these hosts learnt something, one after another, and no other did
+abbrev pub LearnInTurn : List (HostNo × FactsUndo) → List FactsOf → List FactsOf → Type 0
+LearnInTurn [] before now = before ≡ now
+LearnInTurn (one ∷ log) before now = (mid : List FactsOf) × LearnsOne one.0.0 one.1 before mid × LearnInTurn log mid now

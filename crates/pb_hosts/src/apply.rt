@@ -1,4 +1,4 @@
-//! Hosts learn something, all of them or none: what was before is put down on the way, and put back where memory is refused.
+//! Hosts learn something, all of them or none: what was before is put down on the way, and put back where memory is refused, or else handed out.
 
 ghost use Rattle.std.specs.Prelude.{◌≡◌, ◌-◌, List, length, IfOk, OnOk, OnErr};
 ghost use Rattle.pb_host.specs.Host.{HostOf};
@@ -106,18 +106,19 @@ fn revert_all(rows: &mut Vec<Host>, log: Vec<(HostNo, FactsUndo)>)
     }
 }
 
-/// Hosts learn this. An `Err` changes nothing.
+/// Hosts learn this. What was before is handed back, in the order in which they do. An `Err` changes nothing.
 pub(crate) fn apply_each(
     alloc: Global,
     rows: &mut Vec<Host>,
     all: Vec<HostUpdate>,
-) -> Result<(), AllocError>
+) -> Result<Vec<(HostNo, FactsUndo)>, AllocError>
     ensures ok { OnOk result (rows.new.items ≡ with_update all.items rows.old.items) }
+    ensures past { IfOk result (λ log. LeadsTo log.items rows.old.items rows.new.items) }
     ensures err { OnErr result (rows.new.items ≡ rows.old.items) }
 {
     let mut log = Vec::new(alloc);
     match apply_some(alloc, rows, &mut log, all) {
-        Ok(()) => Ok(()),
+        Ok(()) => Ok(log),
         Err(error) => {
             revert_all(rows, log);
             Err(error)

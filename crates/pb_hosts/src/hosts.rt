@@ -15,7 +15,7 @@ ghost use Rattle.pb_host.specs.Standing.{standing};
 ghost use Rattle.pb_hosts.specs.Due.{asked_at, is_inside, AreOutside};
 ghost use Rattle.pb_strategies.specs.Hosts.{nowhere};
 ghost use Rattle.pb_hosts.specs.Oldest.{oldest_out};
-ghost use Rattle.pb_hosts.specs.Applied.{LearnsBetween, with_update};
+ghost use Rattle.pb_hosts.specs.Applied.{LearnInTurn, LearnsBetween, learnt_in, with_update};
 ghost use Rattle.pb_hosts.specs.Turn.{is_run_once_done};
 ghost use Rattle.pb_hosts.specs.TurnMade.{halts_at, turned_rows, turning_row};
 
@@ -31,7 +31,7 @@ use crate::list::{
     self, advance_row, first_rows, item_in, join_waiting, know_all, row_at, take_back, undo,
     walks_for,
 };
-use crate::turned::{TurnMade, is_run_once_done_at, turn_of};
+use crate::turned::{TurnMade, TurnResult, is_run_once_done_at, turn_of};
 use pb_cursors::{LaidTree, PlayWalk};
 use pb_host::{Host, StepResult, TaskDone, TaskItems};
 use pb_ids::{HostNo, Ticket};
@@ -420,44 +420,49 @@ pub fn leave_all(rows: &mut Hosts)
     empty_by(&rows.sends, &mut rows.batch);
 }
 
-/// A batch goes on, whose hosts are these, as was made: hosts learn what goes to them, and each gets its answers then. It says whether hosts are halted.
-/// An `Err` changes nothing.
+/// A batch goes on, whose hosts are these, as was made: hosts learn what goes to them, and each gets its answers then. It says whether hosts are halted,
+/// and hands out what was before they learnt it. An `Err` changes nothing.
 fn turn_batch(
     alloc: Global,
     rows: &mut Vec<Host>,
     batch: &HostSet,
     standings: &mut Standings,
     made: TurnMade,
-) -> Result<bool, AllocError>
+) -> Result<TurnResult, AllocError>
     requires insiders { batch.now ≡ map is_inside rows.old.items }
     requires outsiders { AreOutside rows.old.items }
     requires stands { standings.old ≡ map standing rows.old.items }
     ensures rows { OnOk result (rows.new.items ≡ map (turning_row made.turning) (with_update made.all.items rows.old.items)) }
     ensures stands { OnOk result (standings.new ≡ map standing rows.new.items) }
-    ensures halts { IfOk result (λ halts. halts ≡ made.turning.halts) }
+    ensures halts { IfOk result (λ came. came.halts ≡ made.turning.halts) }
+    ensures learnt { IfOk result (λ came. LearnInTurn came.learnt.items (learnt_in rows.old.items) (learnt_in rows.new.items)) }
     ensures err { OnErr result (rows.new.items ≡ rows.old.items) }
     ensures same { OnErr result (standings.new ≡ standings.old) }
 {
     let (all, turning) = made.parts();
-    apply_each(alloc, rows, all)?;
+    let learnt = apply_each(alloc, rows, all)?;
     // (nobody is at its old place from here on)
     stand_left(rows.as_slice(), batch, standings);
     turn_inside(alloc, rows, batch, turning);
     stand_inside(rows.as_slice(), batch, standings);
-    Ok(turning.halts)
+    Ok(TurnResult {
+        halts: turning.halts,
+        learnt,
+    })
 }
 
-/// The batch goes on from a place: what one host did for all goes to the others, and hosts are halted; it says whether they are. An `Err` changes
-/// nothing.
+/// The batch goes on from a place: what one host did for all goes to the others, and hosts are halted; it says whether they are, and hands out what was
+/// before the others learnt something. An `Err` changes nothing.
 pub fn turn_rows(
     alloc: Global,
     rows: &mut Hosts,
     inventory: &Inventory,
     play: &PlanPlay,
     place: usize,
-) -> Result<bool, AllocError>
+) -> Result<TurnResult, AllocError>
     ensures rows { OnOk result (rows.new ≡ turned_rows inventory.now play.now place rows.old) }
-    ensures halts { IfOk result (λ halts. halts ≡ halts_at inventory.now play.now place rows.old) }
+    ensures halts { IfOk result (λ came. came.halts ≡ halts_at inventory.now play.now place rows.old) }
+    ensures learnt { IfOk result (λ came. LearnInTurn came.learnt.items (learnt_in rows.old) (learnt_in rows.new)) }
     ensures err { OnErr result (rows.new ≡ rows.old) }
 {
     // (there are fewer rows than host numbers)
@@ -471,15 +476,15 @@ pub fn turn_rows(
         &rows.batch,
     )? {
         Some(made) => {
-            let halts = turn_batch(
+            let came = turn_batch(
                 alloc,
                 &mut rows.rows,
                 &rows.batch,
                 &mut rows.standings,
                 made,
             )?;
-            Ok(halts)
+            Ok(came)
         }
-        None => Ok(false),
+        None => Ok(TurnResult::nothing(alloc)),
     }
 }

@@ -1,6 +1,6 @@
 //! What a turn makes of the rows of a batch: what one host did for all goes to the others, and hosts are halted.
 
-ghost use Rattle.std.specs.Prelude.{◌≡◌, ◌<◌, ◌^◌, None, length, map, slice_get, IfOk, IfSome};
+ghost use Rattle.std.specs.Prelude.{◌≡◌, ◌<◌, ◌^◌, [], false, None, length, map, slice_get, IfOk, IfSome};
 ghost use Rattle.std.specs.List.{list_any};
 ghost use Rattle.std.specs.Option.{option_copied};
 ghost use Rattle.pb_facts.specs.Update.{applied};
@@ -14,7 +14,7 @@ ghost use Rattle.pb_hosts.specs.Due.{is_inside, AreOutside};
 use crate::inside::{behind, broken_inside, count_inside};
 use crate::list::row_at;
 use pb_facts::facts::Facts;
-use pb_facts::update::FactsUpdate;
+use pb_facts::update::{FactsUndo, FactsUpdate};
 use pb_host::{
     Host, LastTask, TaskItems, breaks, caught_at, ends_run_once, is_fatal, runs_once_at, task_at,
     variable_at,
@@ -352,6 +352,28 @@ impl TurnMade {
     {
         let TurnMade { all, turning } = self;
         (all, turning)
+    }
+}
+
+/// What a turn came to: whether hosts are halted, and what hosts learnt of what one of them did for all.
+#[derive(Drop)]
+pub struct TurnResult {
+    /// Whether hosts are halted.
+    pub halts: bool,
+    /// What was before each host learnt something, in the order in which they did.
+    pub learnt: Vec<(HostNo, FactsUndo)>,
+}
+
+impl TurnResult {
+    /// Nothing.
+    pub(crate) fn nothing(alloc: Global) -> TurnResult
+        ensures halts { result.halts ≡ false }
+        ensures learnt { result.learnt.items ≡ [] }
+    {
+        TurnResult {
+            halts: false,
+            learnt: Vec::new(alloc),
+        }
     }
 }
 

@@ -5,6 +5,8 @@ pub mod GoesOn
 pub mod Learner
 pub mod Renewing
 pub mod Taught
+pub mod InTurn
+pub mod PutRight
 pub mod Stands
 pub mod Idle
 pub mod Readies

@@ -4,13 +4,11 @@ use Rattle.std.specs.Prelude.{◌==◌, IfSome, option_map}
 use Rattle.std.specs.Option.{option_map_or}
 use Rattle.std.proofs.lemmas.Bool.{eqb-true}
 use Rattle.pb_value.specs.Datum.{Datum}
-use Rattle.pb_ids.specs.declared.numbers.HostNo.{HostNo}
 use Rattle.pb_inventory.specs.InventoryOf.{InventoryOf}
 use Rattle.pb_facts.specs.Book.{row_of}
 use Rattle.pb_facts.specs.Facts.{FactsOf}
 use Rattle.pb_facts.specs.Update.{IsBetween}
 use Rattle.pb_facts.specs.declared.update.FactsUndo.{FactsUndo}
-use Rattle.pb_plan.specs.Plan.{PlanOf}
 use Rattle.pb_task_vars.specs.declared.gifts.DelegatedFacts.{DelegatedFacts}
 use Rattle.pb_variables.specs.Renewed.{IsRenewedBetween, LearnsAlone}
 use Rattle.pb_host.specs.Host.{HostOf}
@@ -19,13 +17,11 @@ use Rattle.pb_hosts.specs.Giving.{with_delegated}
 use Rattle.pb_hosts.specs.Hosts.{at_row, change}
 use Rattle.pb_hosts.specs.declared.gifts.Taught.{Taught}
 use Rattle.pb_hosts.proofs.Giving.{get_changed}
-use Rattle.pb_state.specs.Known.{AreLearners, HasTaughtLearner, IsKnown}
 use Rattle.pb_state.specs.Learners.{HasTaught, IsRenewedTaught, LearnTogether, is_among, taught_by}
 use Rattle.pb_state.specs.Machine.{learnt_by}
-use Rattle.pb_state.specs.State.{State}
 use Rattle.pb_state.proofs.Renewing.{IsPutAll, row_there}
 
-abbrev pub Map : Type 0
+abbrev Map : Type 0
 Map = List (List ℕ × Datum)
 
 never : false ≡ true → ⊥
@@ -63,14 +59,3 @@ pub put_given : (inventory : InventoryOf) (extra : Map) (taught : Taught) (gifts
 put_given inventory extra taught gifts host now old None is put = tt
 put_given inventory extra taught gifts host now old (Some new) is put =
     λ before together has was. put before (subst (λ (given : List DelegatedFacts). LearnTogether (taught_by given []) host before now) (sym is) together) was
-
--- what is kept then is what would be made
-pub renewed_known : (plan : PlanOf) (old new : State) (learner : Option HostNo) (host : HostNo) (taught : Taught) (known found : Option Map) (hosts : Map) → learner ≡ Some host → known ≡ Some hosts
-    → IfSome found (IsRenewedTaught plan.inventory plan.extra taught host.0 (learnt_by new.rows) hosts) → AreLearners learner taught.gifts.items old new → HasTaughtLearner learner taught old new → IsKnown plan old known
-    → IsKnown plan new found
-renewed_known plan old new learner host taught known None hosts l k renewed learners has was = tt
-renewed_known plan old new learner host taught known (Some map) hosts l k renewed learners has was =
-    renewed (learnt_by old.rows)
-    (subst (λ (of : Option HostNo). AreLearners of taught.gifts.items old new) l learners)
-    (subst (λ (of : Option HostNo). HasTaughtLearner of taught old new) l has)
-    (subst (λ (before : Option Map). IsKnown plan old before) k was)

@@ -15,12 +15,15 @@ use Rattle.pb_task_vars.specs.Results.{items_at}
 use Rattle.pb_task_vars.specs.declared.gifts.DelegatedFacts.{DelegatedFacts}
 use Rattle.pb_host.specs.declared.host.Running.{Running}
 use Rattle.pb_host.specs.Host.{HostOf, runs_once_at}
+use Rattle.pb_hosts.specs.Applied.{LearnInTurn}
 use Rattle.pb_hosts.specs.declared.gifts.Taught.{Taught}
 use Rattle.pb_hosts.specs.Giving.{gifts_at, report_gives}
+use Rattle.pb_state.specs.declared.learnt.Learnt.{Learnt}
+use Rattle.pb_state.specs.declared.learnt.Learnt.TheVariants.{Nothing as NoneLearnt, Task, Copies}
 use Rattle.pb_state.specs.declared.event.Event.{Event}
 use Rattle.pb_state.specs.declared.event.Event.TheVariants.{Open, Start, Send, Report as Reported, Turn, Close, Stop, Forks}
 use Rattle.pb_state.specs.State.{State}
-use Rattle.pb_state.specs.Machine.{open_play, next_at, learnt_by, facts_at, plan_seen}
+use Rattle.pb_state.specs.Machine.{after, open_play, next_at, learnt_by, facts_at, plan_seen}
 use Rattle.pb_state.specs.Learners.{HasTaught, LearnTogether, taught_by}
 
 -- the map of `hostvars` in a state
@@ -122,3 +125,13 @@ AreLearners (Some h) gifts old new = LearnTogether (taught_by gifts []) h.0 (lea
 abbrev pub HasTaughtLearner : Option HostNo → Taught → State → State → Type 0
 HasTaughtLearner None taught old new = Unit {0}
 HasTaughtLearner (Some h) taught old new = HasTaught taught h.0 (learnt_by old.rows) (learnt_by new.rows)
+
+-- what an event taught, as it is told: what a task taught, or what hosts learnt one after another
+abbrev pub HasLearnt : PlanOf → Event → Learnt → State → State → Type 0
+HasLearnt plan event NoneLearnt old new = Unit {0}
+HasLearnt plan event (Task taught) old new = (taught.gifts.items ≡ event_gives plan old event) × HasTaughtLearner (host_of event) taught old new
+HasLearnt plan event (Copies log) old new = LearnInTurn log.items (learnt_by old.rows) (learnt_by new.rows)
+
+-- the map of `hostvars`, old and new, where an event has led to this state, and taught this
+abbrev pub IsPutRight : PlanOf → Event → Learnt → State → List (List ℕ × Datum) → List (List ℕ × Datum) → Type 0
+IsPutRight plan event learnt new hosts known = (old : State) → new ≡ after plan old event → HasLearnt plan event learnt old new → hosts ≡ hosts_now plan old → known ≡ hosts_now plan new

@@ -1,12 +1,12 @@
 //! What `hostvars` stands for, with what the rows say that their hosts have learnt.
 
-ghost use Rattle.std.specs.Prelude.{◌≡◌, List, [], true, false, IfOk, IfSome, OnOk};
+ghost use Rattle.std.specs.Prelude.{◌≡◌, List, [], true, false, None, IfOk, IfSome, OnOk};
 ghost use Rattle.pb_variables.specs.Learnt.{facts_in};
 ghost use Rattle.pb_facts.specs.Book.{row_of};
 ghost use Rattle.pb_facts.specs.Facts.{FactsOf};
 ghost use Rattle.pb_variables.specs.Magic.{hostvars, hosts_magic};
 ghost use Rattle.pb_variables.specs.Renewed.{IsRenewed, IsRenewedBetween};
-ghost use Rattle.pb_state.specs.Learners.{is_among, with_host, taught_by, put_rows, LearnTogether, IsRenewedTaught};
+ghost use Rattle.pb_state.specs.Learners.{is_among, is_higher, rises, with_host, taught_by, put_rows, LearnTogether, IsRenewedInTurn, IsRenewedTaught};
 ghost use Rattle.pb_state.specs.Machine.{learnt_by};
 
 use pb_facts::facts::Facts;
@@ -224,6 +224,66 @@ pub(crate) fn renewed_once_taught(
         return renewed_alone(alloc, plan, rows, hosts, &taught.past, host);
     }
     renewed_with_gifts(alloc, plan, rows, hosts, gifts, host)
+}
+
+/// Whether a host's number is over that of the last one, if there was one.
+fn is_higher(last: Option<HostNo>, host: HostNo) -> bool
+    ensures { result ≡ is_higher last host }
+{
+    match last {
+        Some(last) => last.0 < host.0,
+        None => true,
+    }
+}
+
+/// Whether the numbers of the hosts that learnt something rise, so that each did once.
+fn rises(log: &[(HostNo, FactsUndo)]) -> bool
+    ensures { result ≡ rises None log.now }
+{
+    let mut last = None;
+    for entry in log {
+        if !is_higher(last, entry.0) {
+            return false;
+        }
+        last = Some(entry.0);
+    }
+    true
+}
+
+/// The variable `hostvars` with what these hosts have learnt put anew, one after another, by the names alone under which each did, where it can be.
+fn renewed_in_turn(
+    alloc: Global,
+    plan: &Plan,
+    rows: &[Host],
+    hosts: Dict,
+    log: &[(HostNo, FactsUndo)],
+) -> Option<Dict>
+    requires { rises None log.now ≡ true }
+    ensures { IfSome result (IsRenewedInTurn plan.now.inventory plan.now.extra log.now (learnt_by rows.now) hosts) }
+{
+    let mut known = hosts;
+    for one in log {
+        known = renewed_alone(alloc, plan, rows, known, &one.1, one.0)?;
+    }
+    Some(known)
+}
+
+/// The variable `hostvars` once these hosts have learnt what one of them did for all, where it can be put anew: where each learnt once, as their numbers
+/// tell.
+pub(crate) fn renewed_once_copied(
+    alloc: Global,
+    plan: &Plan,
+    rows: &[Host],
+    hosts: Dict,
+    log: &[(HostNo, FactsUndo)],
+) -> Option<Dict>
+    ensures { IfSome result (IsRenewedInTurn plan.now.inventory plan.now.extra log.now (learnt_by rows.now) hosts) }
+{
+    if rises(log) {
+        return renewed_in_turn(alloc, plan, rows, hosts, log);
+    }
+    drop(hosts);
+    None
 }
 
 /// No variable `hostvars`, as a task may see it that doesn't look it up.

@@ -1,7 +1,7 @@
 //! The state of a run, and its steps.
 
 ghost use Rattle.std.specs.Prelude.{◌≡◌, ◌≤◌, ◌<◌, length, OnOk, OnErr, IfOk, true, false};
-ghost use Rattle.pb_state.specs.Known.{IsKnown, HasTaughtLearner, event_gives, host_of};
+ghost use Rattle.pb_state.specs.Known.{IsKnown, HasLearnt};
 ghost use Rattle.pb_state.specs.State.{State};
 
 mod asked;
@@ -13,10 +13,10 @@ mod start;
 mod turn;
 
 use crate::event::Event;
-use crate::known::host_of;
+use crate::learnt::Learnt;
 use crate::sizes_left::SizesLeft;
 use pb_host::{StepResult, put_step_result};
-use pb_hosts::{Hosts, Taught};
+use pb_hosts::Hosts;
 use pb_plan::Plan;
 use pb_value::val::Dict;
 use std::alloc::{AllocError, Global};
@@ -180,9 +180,9 @@ impl EngineState {
         stepped
     }
 
-    /// The same, where the map of `hostvars` is kept from step to step: it is made where a task may look it up and there is none, and is there until a batch
-    /// opens, turns or closes. As a task ends on a host, the variables of that host and of those that the task gives facts to are put anew in it. An `Err`
-    /// changes nothing of the state.
+    /// The same, where the map of `hostvars` is kept from step to step: it is made where a task may look it up and there is none. As a task ends on a host, the
+    /// variables of that host and of those that the task gives facts to are put anew in it, and as a batch goes on what its hosts learn of what one of them did
+    /// for all. An `Err` changes nothing of the state.
     ///
     /// # Errors
     /// `Illegal` where the event isn't possible in this state, `Memory` where memory was refused.
@@ -215,36 +215,34 @@ impl EngineState {
             return Err(StepFault::Illegal);
         }
         let keeps = self.keeps_facts(plan, event);
-        let learner = host_of(event);
-        let taught = self.apply(plan, event, known)?;
+        let learnt = self.apply(plan, event, known)?;
         if keeps {
             return Ok(());
         }
-        self.renew(plan, event, learner, &taught, known);
+        self.renew(plan, event, &learnt, known);
         Ok(())
     }
 
-    /// What an event that is possible leads to. What the task of a host taught is handed out.
+    /// What an event that is possible leads to. What it taught is handed out.
     fn apply(
         &mut self,
         plan: &Plan,
         event: &Event,
         known: &mut Option<Dict>,
-    ) -> Result<Taught, AllocError>
+    ) -> Result<Learnt, AllocError>
         requires may { possible plan.now self.old event.now ≡ true }
         requires known { IsKnown plan.now self.old known.old }
         ensures ok { OnOk result (self.new ≡ after plan.now self.old event.now) }
-        ensures gifts { IfOk result (λ taught. taught.gifts.items ≡ event_gives plan.now self.old event.now) }
-        ensures past { IfOk result (λ taught. HasTaughtLearner (host_of event.now) taught self.old self.new) }
+        ensures learnt { IfOk result (λ learnt. HasLearnt plan.now event.now learnt self.old self.new) }
         ensures err { OnErr result (self.new ≡ self.old) }
         ensures known { IsKnown plan.now self.old known.new }
     {
         match event {
             Event::Open => {
                 self.open(plan)?;
-                Ok(Taught::nothing(self.alloc))
+                Ok(Learnt::Nothing)
             }
-            Event::Start(host) => self.start(plan, *host, known),
+            Event::Start(host) => Ok(Learnt::Task(self.start(plan, *host, known)?)),
             Event::Send {
                 host,
                 item,
@@ -252,26 +250,23 @@ impl EngineState {
                 ticket,
             } => {
                 self.send(plan, *host, *item, *attempt, *ticket)?;
-                Ok(Taught::nothing(self.alloc))
+                Ok(Learnt::Nothing)
             }
-            Event::Report(report) => self.report(plan, report, known),
-            Event::Turn => {
-                self.turn(plan)?;
-                Ok(Taught::nothing(self.alloc))
-            }
+            Event::Report(report) => Ok(Learnt::Task(self.report(plan, report, known)?)),
+            Event::Turn => Ok(Learnt::Copies(self.turn(plan)?)),
             Event::Close => {
                 self.close();
-                Ok(Taught::nothing(self.alloc))
+                Ok(Learnt::Nothing)
             }
             Event::Stop => {
                 self.stopped = true;
                 put_step_result(&mut self.step_result, None);
-                Ok(Taught::nothing(self.alloc))
+                Ok(Learnt::Nothing)
             }
             Event::Forks(forks) => {
                 self.forks = *forks;
                 put_step_result(&mut self.step_result, None);
-                Ok(Taught::nothing(self.alloc))
+                Ok(Learnt::Nothing)
             }
         }
     }
