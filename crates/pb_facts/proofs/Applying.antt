@@ -1,16 +1,14 @@
 -- What a host learns comes to what it learns, and what was before is what is put back.
-use Rattle.std.proofs.Common.{◌≡◌, ℕ, List, [], ◌∷◌, ◌++◌, length, String, Global, string_bytes, refl, sym, ◌∙◌, ap, subst, arith, append_assoc}
-use Rattle.std.specs.Prelude.{Option, Some, None, option_to_list}
+use Rattle.std.proofs.Common.{◌≡◌, ℕ, List, [], ◌∷◌, ◌++◌, length, String, Global, Vec, string_bytes, refl, sym, ◌∙◌, ap, subst, arith, append_assoc}
+use Rattle.std.specs.Prelude.{Option, Some, option_to_list, unwrap_or}
 use Rattle.pb_value.specs.Datum.{Datum, named, put}
 use Rattle.pb_facts.specs.Stood.{StoodThere}
 use Rattle.pb_value.proofs.Named.{named-append}
 use Rattle.pb_layers.specs.Scope.{Map}
-use Rattle.pb_outcome.specs.declared.item.Item.{Item}
-use Rattle.pb_facts.specs.declared.facts.Gives.TheVariants.{Sets}
-use Rattle.pb_facts.specs.Facts.{FactsOf, put_all, given_in, with_set, with_registered, learnt}
-use Rattle.pb_facts.specs.Each.{put_each}
-use Rattle.pb_facts.specs.Update.{entries_in, registered_entries, LeadsTo}
-use Rattle.pb_facts.proofs.Learnt.{set_learnt}
+use Rattle.pb_facts.specs.declared.update.FactsUndo.TheVariants.{Gathered}
+use Rattle.pb_facts.specs.Facts.{FactsOf, put_all, merged, with_set}
+use Rattle.pb_facts.specs.Update.{GatheredUnder, IsBetween, IsOrdered, IsUndo, LeadsTo}
+use Rattle.pb_facts.proofs.Over.{facts_of, same_facts}
 
 -- ---- the entries
 pub entry_more : (xs new : List (String Global × Datum)) (copy : String Global) (name : List ℕ) (value : Datum) → string_bytes copy ≡ name → new ≡ xs ++ (copy, value) ∷ [] → named new ≡ named xs ++ (name, value) ∷ []
@@ -22,35 +20,9 @@ rest_on old new rest whole e n w = ap (λ (all : Map). all ++ rest) n ∙ append
 pub facts_on : (old new given rest whole : Map) → new ≡ old ++ given → old ++ (given ++ rest) ≡ whole → new ++ rest ≡ whole
 facts_on old new given rest whole n w = ap (λ (all : Map). all ++ rest) n ∙ append_assoc old given rest ∙ w
 
-put_both : (one other known : Map) → put_all (one ++ other) known ≡ put_all other (put_all one known)
-put_both [] other known = refl
-put_both (e ∷ one) other known = put_both one other (put e.0 e.1 known)
-
-put_in : (given : List Map) (known : Map) → put_all (entries_in given) known ≡ put_each given known
-put_in [] known = refl
-put_in (g ∷ given) known = put_both g (entries_in given) known ∙ put_in given (put_all g known)
-
-pub registered_applied : (entries : Map) (register : Option (List ℕ)) (shown : Datum) (facts : FactsOf) → entries ≡ registered_entries register shown → with_set entries facts ≡ with_registered register shown facts
-registered_applied entries register shown facts e = ap (λ (all : Map). with_set all facts) e ∙ by_register register
-  where
-    by_register : (r : Option (List ℕ)) → with_set (registered_entries r shown) facts ≡ with_registered r shown facts
-    by_register None = refl
-    by_register (Some name) = refl
-
--- what stands there once the result is registered
-set_of : (register : Option (List ℕ)) (shown : Datum) (facts : FactsOf) → put_all (registered_entries register shown) facts.set ≡ (with_registered register shown facts).set
-set_of None shown facts = refl
-set_of (Some name) shown facts = refl
-
-pub set_applied : (entries : Map) (register : Option (List ℕ)) (shown : Datum) (items : List Item) (facts : FactsOf) → entries ≡ registered_entries register shown ++ entries_in (given_in items)
-    → with_set entries facts ≡ learnt Sets register shown items facts
-set_applied entries register shown items facts e =
-    ap (λ (all : Map). with_set all facts) e
-    ∙ ap (λ (set : Map). record facts { set = set })
-    (put_both (registered_entries register shown) (entries_in (given_in items)) facts.set
-    ∙ ap (put_all (entries_in (given_in items))) (set_of register shown facts)
-    ∙ put_in (given_in items) (with_registered register shown facts).set)
-    ∙ sym (set_learnt register shown items facts)
+-- entries behind none
+pub entries_all : (first new : List (String Global × Datum)) (given : Map) → first ≡ [] → named new ≡ named first ++ given → named new ≡ given
+entries_all first new given e n = n ∙ ap (λ (all : List (String Global × Datum)). named all ++ given) e
 
 -- ---- what was before
 leads_more : (log : List (List ℕ × Option Datum)) (k : List ℕ) (before : Option Datum) (value : Datum) (was mid now : Map) → LeadsTo log was mid → StoodThere k before value mid → now ≡ put k value mid → LeadsTo (log ++ (k, before) ∷ []) was now
@@ -96,3 +68,25 @@ leads_first first log set now e came = came set (subst (λ (all : List (String G
 pub put_step : (all rest : List (String Global × Datum)) (name : String Global) (value : Datum) (set now whole : Map) → all ≡ (name, value) ∷ rest → now ≡ put (string_bytes name) value set → put_all (named all) set ≡ whole
     → put_all (named rest) now ≡ whole
 put_step all rest name value set now whole a n w = ap (put_all (named rest)) n ∙ subst (λ (es : List (String Global × Datum)). put_all (named es) set ≡ whole) a w
+
+-- ---- what was gathered
+pub gathered_on : (was layer : Option Map) (log : List (String Global × Option Datum)) (known new : Map) → known ≡ unwrap_or was [] → IsOrdered known → LeadsTo (named log) known new → layer ≡ Some new → GatheredUnder (named log) was layer
+gathered_on was layer log known new k o l n = (subst (λ (m : Map). IsOrdered m) k o, new, subst (λ (m : Map). LeadsTo (named log) m new) k l, n)
+
+pub merged_in_place : (layer made : Option Map) (set given : Map) (old : FactsOf) → facts_of layer set ≡ old → made ≡ Some (put_all given (unwrap_or layer [])) → facts_of made set ≡ merged given old
+merged_in_place layer made set given old v m = ap (λ (g : Option Map). facts_of g set) m ∙ ap (merged given) v
+
+-- values and facts came over what a host knew
+pub gathered_in_place : (layer made : Option Map) (set now more given : Map) (old : FactsOf) → facts_of layer set ≡ old → made ≡ Some (put_all given (unwrap_or layer [])) → now ≡ put_all more set
+    → facts_of made now ≡ merged given (with_set more old)
+gathered_in_place layer made set now more given old v m n =
+    same_facts made (Some (put_all given (unwrap_or layer []))) now (put_all more set) m n ∙ ap (λ (f : FactsOf). merged given (with_set more f)) v
+
+pub undo_in_place : (stood facts : Vec (String Global × Option Datum) Global) (layer before new : Option Map) (set now : Map) (old : FactsOf) → facts_of layer set ≡ old → before ≡ layer → LeadsTo (named stood.items) set now
+    → IsUndo (Gathered stood facts before) old (facts_of new now)
+undo_in_place stood facts layer before new set now old v b l = subst (λ (f : FactsOf). IsUndo (Gathered stood facts before) f (facts_of new now)) v (b, l)
+
+pub between_in_place : (stood facts : Vec (String Global × Option Datum) Global) (layer before made new : Option Map) (set now : Map) (old : FactsOf) → facts_of layer set ≡ old → new ≡ made → IsOrdered set
+    → LeadsTo (named stood.items) set now → GatheredUnder (named facts.items) layer made → IsBetween (Gathered stood facts before) old (facts_of new now)
+between_in_place stood facts layer before made new set now old v n o l g =
+    subst (λ (f : FactsOf). IsBetween (Gathered stood facts before) f (facts_of new now)) v (o, l, subst (λ (m : Option Map). GatheredUnder (named facts.items) layer m) (sym n) g)

@@ -1,41 +1,39 @@
--- What a finished task leaves with its host, by what its module gives.
-use Rattle.std.proofs.Common.{◌≡◌, ◌∙◌, ℕ, List, Option, Some, None, refl, ap}
+-- What a finished task leaves with its host, by what its module gives, comes to the values and facts under their names.
+use Rattle.std.proofs.Common.{◌≡◌, ◌∙◌, ℕ, true, false, List, ◌++◌, Option, Some, None, refl, ap, sym}
 use Rattle.pb_value.specs.Datum.{Datum}
 use Rattle.pb_layers.specs.Scope.{Map}
 use Rattle.pb_outcome.specs.declared.item.Item.{Item}
 use Rattle.pb_facts.specs.declared.facts.Gives.TheVariants.{Nothing, Sets, Gathers}
-use Rattle.pb_facts.specs.Facts.{FactsOf, given_in, with_registered, learnt, gathered_layer, gathered_in}
-use Rattle.pb_facts.specs.Each.{put_each, gathered_after}
-use Rattle.pb_facts.proofs.Each.{each_nothing, each_set, each_gathered, layer_gathers}
-
-abbrev facts_of : Option Map → Map → FactsOf
-facts_of gathered set = record { gathered = gathered; set = set }
-
--- facts are their parts
-pub same_facts : (g h : Option Map) (s t : Map) → g ≡ h → s ≡ t → facts_of g s ≡ facts_of h t
-same_facts g h s t p q = ap (λ x. facts_of x s) p ∙ ap (λ x. facts_of h x) q
-
--- a registered result changes nothing that was gathered
-kept : (register : Option (List ℕ)) (result : Datum) (facts : FactsOf) → (with_registered register result facts).gathered ≡ facts.gathered
-kept None result facts = refl
-kept (Some name) result facts = refl
+use Rattle.pb_facts.specs.Facts.{FactsOf, given_in, merged, with_set, with_registered, learnt}
+use Rattle.pb_facts.specs.Update.{entries_in, gives_some, registered_entries}
+use Rattle.pb_facts.proofs.Each.{each_nothing, each_set, each_gathered, none_gathered}
+use Rattle.pb_facts.proofs.Over.{set_both}
 
 pub nothing_learnt : (register : Option (List ℕ)) (result : Datum) (items : List Item) (facts : FactsOf) → learnt Nothing register result items facts ≡ with_registered register result facts
 nothing_learnt register result items facts = each_nothing (given_in items) (with_registered register result facts)
 
-pub set_learnt : (register : Option (List ℕ)) (result : Datum) (items : List Item) (facts : FactsOf)
-    → learnt Sets register result items facts ≡ record { gathered = facts.gathered; set = put_each (given_in items) (with_registered register result facts).set }
-set_learnt register result items facts =
-    each_set (given_in items) (with_registered register result facts) ∙ same_facts _ _ _ _ (kept register result facts) refl
+pub registered_applied : (entries : Map) (register : Option (List ℕ)) (shown : Datum) (facts : FactsOf) → entries ≡ registered_entries register shown → with_set entries facts ≡ with_registered register shown facts
+registered_applied entries register shown facts e = ap (λ (all : Map). with_set all facts) e ∙ by_register register
+  where
+    by_register : (r : Option (List ℕ)) → with_set (registered_entries r shown) facts ≡ with_registered r shown facts
+    by_register None = refl
+    by_register (Some name) = refl
 
-pub gathered_learnt : (register : Option (List ℕ)) (result : Datum) (items : List Item) (facts : FactsOf)
-    → learnt Gathers register result items facts ≡ record { gathered = gathered_after (given_in items) facts.gathered; set = (with_registered register result facts).set }
-gathered_learnt register result items facts =
-    each_gathered (given_in items) (with_registered register result facts) ∙ same_facts _ _ _ _ (ap (gathered_after (given_in items)) (kept register result facts)) refl
+pub set_applied : (entries : Map) (register : Option (List ℕ)) (shown : Datum) (items : List Item) (facts : FactsOf) → entries ≡ registered_entries register shown ++ entries_in (given_in items)
+    → with_set entries facts ≡ learnt Sets register shown items facts
+set_applied entries register shown items facts e =
+    set_both (registered_entries register shown) (entries_in (given_in items)) entries facts e
+    ∙ ap (with_set (entries_in (given_in items))) (registered_applied (registered_entries register shown) register shown facts refl)
+    ∙ each_set (given_in items) (with_registered register shown facts)
 
--- a layer that is made of gathered facts
-pub layer_made : (layer : Map) (gathered : Option Map) → layer ≡ gathered_layer gathered → gathered_in layer ≡ gathered
-layer_made layer gathered e = ap gathered_in e ∙ layer_gathers gathered
+-- no item has facts
+pub none_applied : (more : Map) (register : Option (List ℕ)) (shown : Datum) (items : List Item) (facts : FactsOf) → more ≡ registered_entries register shown → gives_some (given_in items) ≡ false
+    → with_set more facts ≡ learnt Gathers register shown items facts
+none_applied more register shown items facts m n = registered_applied more register shown facts m ∙ sym (none_gathered (given_in items) (with_registered register shown facts) n)
 
-pub layer_stands : (layer : Map) (gathered : Option Map) → layer ≡ gathered_layer gathered → layer ≡ gathered_layer (gathered_in layer)
-layer_stands layer gathered e = rw (layer_made layer gathered e) e
+pub gathered_applied : (more given : Map) (register : Option (List ℕ)) (shown : Datum) (items : List Item) (facts : FactsOf) → more ≡ registered_entries register shown → given ≡ entries_in (given_in items)
+    → gives_some (given_in items) ≡ true → merged given (with_set more facts) ≡ learnt Gathers register shown items facts
+gathered_applied more given register shown items facts m g s =
+    ap (λ (all : Map). merged all (with_set more facts)) g
+    ∙ ap (merged (entries_in (given_in items))) (registered_applied more register shown facts m)
+    ∙ each_gathered (given_in items) (with_registered register shown facts) s

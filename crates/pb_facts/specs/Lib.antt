@@ -1,4 +1,3 @@
-pub mod Each
 pub mod Facts
 pub mod Book
 pub mod Rows

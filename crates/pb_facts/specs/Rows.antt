@@ -10,7 +10,7 @@ use Rattle.pb_outcome.specs.declared.item.Planned.TheVariants.{Decided}
 use Rattle.pb_facts.specs.declared.facts.Gives.TheVariants.{Nothing, Sets, Gathers}
 use Rattle.pb_facts.specs.Facts.{no_facts, gathered_layer, merged, with_set, with_registered, given_in, learnt, known_of}
 use Rattle.pb_facts.specs.Book.{changed_at, shared}
-use Rattle.pb_facts.specs.Update.{entries_in, registered_entries, LearntUnder}
+use Rattle.pb_facts.specs.Update.{entries_in, registered_entries, LearntUnder, LearntAndGathered}
 
 abbrev x : ℕ → Map
 x n = (codes "x", int (pos n)) ∷ []
@@ -99,3 +99,12 @@ one_by_one = refl
 learnt_under : LearntUnder ((codes "x", Some (int (pos 1))) ∷ []) (with_set (x 1) (merged (x 3) no_facts)) (with_set (x 2) (merged (x 3) no_facts))
 unfolding IsStrictlySortedBy
 learnt_under = (refl, (tt, tt), (int (pos 2), record { stood = refl; same = λ some. refl }, refl))
+
+-- of a gathering a later item's fact stays, and what it registers stands beside the facts
+gathered_and_registered : learnt Gathers (Some (codes "r")) (int (pos 9)) (gives (x 1) ∷ gives (x 2) ∷ []) (merged (x 3) no_facts) ≡ record { gathered = Some (x 2); set = (codes "r", int (pos 9)) ∷ [] }
+gathered_and_registered = refl
+
+-- a fact that was gathered under a name in place of another
+gathered_under : LearntAndGathered [] ((codes "x", Some (int (pos 3))) ∷ []) (with_set (x 1) (merged (x 3) no_facts)) (with_set (x 1) (merged (x 4) no_facts))
+unfolding IsStrictlySortedBy
+gathered_under = ((tt, tt), refl, ((tt, tt), x 4, (int (pos 4), record { stood = refl; same = λ some. refl }, refl), refl))

@@ -1,5 +1,6 @@
--- What a host learns: nothing, all that it knows then, or values that come over what it knows; and what was before, so that it can be put back.
-use Rattle.std.specs.Prelude.{◌≡◌, ℕ, List, [], ◌∷◌, ◌++◌, Option, Some, None}
+-- What a host learns: nothing, values that come over what was set and registered, or facts that were gathered besides; and what was before, so that
+-- it can be put back.
+use Rattle.std.specs.Prelude.{◌≡◌, ℕ, Bool, true, false, List, [], ◌∷◌, ◌++◌, Option, Some, None, unwrap_or}
 use Rattle.std.specs.Ordering.{nat_cmp}
 use Rattle.std.specs.Cmp.Lexicographic.{slice_cmp}
 use Rattle.std.specs.List.Sorted.{IsStrictlySortedBy}
@@ -8,16 +9,16 @@ use Rattle.pb_value.specs.Datum.{Datum, named, put}
 use Rattle.pb_facts.specs.Stood.{StoodThere}
 use Rattle.pb_layers.specs.Scope.{Map}
 use Rattle.pb_facts.specs.declared.update.FactsUpdate.{FactsUpdate}
-use Rattle.pb_facts.specs.declared.update.FactsUpdate.TheVariants.{Nothing as NoUpdate, Whole, More}
+use Rattle.pb_facts.specs.declared.update.FactsUpdate.TheVariants.{Nothing as NoUpdate, More, Gathered as MoreGathered}
 use Rattle.pb_facts.specs.declared.update.FactsUndo.{FactsUndo}
-use Rattle.pb_facts.specs.declared.update.FactsUndo.TheVariants.{Nothing as NoUndo, Was, Stood}
-use Rattle.pb_facts.specs.Facts.{FactsOf, with_set}
+use Rattle.pb_facts.specs.declared.update.FactsUndo.TheVariants.{Nothing as NoUndo, Stood, Gathered}
+use Rattle.pb_facts.specs.Facts.{FactsOf, merged, with_set}
 
--- the values come one after another
+-- the values come one after another, and so do the facts
 abbrev pub applied : FactsUpdate → FactsOf → FactsOf
 applied NoUpdate facts = facts
-applied (Whole known) facts = known
 applied (More entries) facts = with_set (named entries.items) facts
+applied (MoreGathered more given) facts = merged (named given.items) (with_set (named more.items) facts)
 
 -- one map became another as values were put under these names, in order, under which this stood
 abbrev pub LeadsTo : List (List ℕ × Option Datum) → Map → Map → Type 0
@@ -26,8 +27,8 @@ LeadsTo (before ∷ log) was now = (value : Datum) × StoodThere before.0 before
 
 abbrev pub IsUndo : FactsUndo → FactsOf → FactsOf → Type 0
 IsUndo NoUndo was now = was ≡ now
-IsUndo (Was known) was now = known ≡ was
 IsUndo (Stood log) was now = (was.gathered ≡ now.gathered) × LeadsTo (named log.items) was.set now.set
+IsUndo (Gathered stood facts layer) was now = (layer ≡ was.gathered) × LeadsTo (named stood.items) was.set now.set
 
 -- names stand in byte order, each once
 abbrev pub IsOrdered : Map → Type 0
@@ -37,11 +38,19 @@ IsOrdered known = IsStrictlySortedBy (slice_cmp nat_cmp) (keys_of known)
 abbrev pub LearntUnder : List (List ℕ × Option Datum) → FactsOf → FactsOf → Type 0
 LearntUnder log was now = (was.gathered ≡ now.gathered) × IsOrdered was.set × LeadsTo log was.set now.set
 
--- what lies between what a host knew and what it knows, as what can put it back tells: of all that it knew nothing is told
+-- facts came under these names over those gathered before, of which there may be none
+abbrev pub GatheredUnder : List (List ℕ × Option Datum) → Option Map → Option Map → Type 0
+GatheredUnder log was now = IsOrdered (unwrap_or was []) × (facts : Map) × LeadsTo log (unwrap_or was []) facts × (now ≡ Some facts)
+
+-- a host that knew this learnt values under these names, facts were gathered of it under those, and nothing else
+abbrev pub LearntAndGathered : List (List ℕ × Option Datum) → List (List ℕ × Option Datum) → FactsOf → FactsOf → Type 0
+LearntAndGathered log given was now = IsOrdered was.set × LeadsTo log was.set now.set × GatheredUnder given was.gathered now.gathered
+
+-- what lies between what a host knew and what it knows, as what can put it back tells
 abbrev pub IsBetween : FactsUndo → FactsOf → FactsOf → Type 0
 IsBetween NoUndo was now = was ≡ now
-IsBetween (Was known) was now = Unit {0}
 IsBetween (Stood log) was now = LearntUnder (named log.items) was now
+IsBetween (Gathered stood facts layer) was now = LearntAndGathered (named stood.items) (named facts.items) was now
 
 -- the entries of several maps, one after another
 abbrev pub entries_in : List Map → Map
@@ -52,3 +61,8 @@ entries_in (given ∷ more) = given ++ entries_in more
 abbrev pub registered_entries : Option (List ℕ) → Datum → Map
 registered_entries None shown = []
 registered_entries (Some name) shown = (name, shown) ∷ []
+
+-- whether some item gives facts
+abbrev pub gives_some : List Map → Bool
+gives_some [] = false
+gives_some (given ∷ more) = true

@@ -1,12 +1,13 @@
-ghost use Rattle.std.specs.Prelude.{◌≡◌, [], IfOk, OnOk, OnErr, Some, unwrap_or};
+ghost use Rattle.std.specs.Prelude.{◌≡◌, IfOk, OnOk, OnErr};
 ghost use Rattle.std.specs.Option.{option_copied};
-ghost use Rattle.pb_facts.specs.Facts.{no_facts, gathered_layer, merged, with_set, with_given, with_registered, given_in, learnt, known_of};
-ghost use Rattle.pb_facts.specs.Each.{put_each, gives_some, gathered_after};
+ghost use Rattle.pb_value.specs.Datum.{named};
+ghost use Rattle.pb_facts.specs.Facts.{no_facts, gathered_layer, merged, with_set, with_given, with_registered, learnt, known_of};
 
+use crate::layer::GatheredLayer;
 use crate::put::put_all;
-use crate::reading::{facts_in, gathered_in, names_are_ordered};
-use crate::update::{FactsUndo, FactsUpdate, put_back, put_entries, set_update};
-use pb_outcome::item::{Item, Planned};
+use crate::reading::names_are_ordered;
+use crate::update::{FactsUndo, FactsUpdate, put_back, put_entries, update_of};
+use pb_outcome::item::Item;
 use pb_value::val::{Dict, Val};
 use std::alloc::{AllocError, Global};
 use std::marker::Model;
@@ -25,74 +26,34 @@ pub enum Gives {
 /// What a host has learnt in the run.
 #[derive(Drop)]
 pub struct Facts {
-    /// The layer of gathered facts: empty until there are some.
-    layer: Dict,
+    /// What was gathered, as the layer in which it is seen.
+    layer: GatheredLayer,
     /// What was set and registered.
     set: Dict,
 }
 
 impl Model for Facts {
-    ghost use Rattle.std.specs.Prelude.{◌≡◌};
     ghost use Rattle.std.specs.Coded.{codes};
     ghost use Rattle.pb_value.specs.contracts.val.Dict as dict;
-    ghost use Rattle.pb_facts.specs.Facts.{FactsOf, gathered_layer, gathered_in};
+    ghost use Rattle.pb_facts.specs.Facts.{FactsOf};
 
     ghost Value = { FactsOf };
 
     ghost coded = { Prim.hlevel (codes, dict.the_row.coded) };
 
-    ghost view = { λ f. record { gathered = gathered_in f.layer; set = f.set } };
-
-    ghost invariant = { λ f. f.layer ≡ gathered_layer (gathered_in f.layer) };
-}
-
-/// The layer of these gathered facts.
-fn layer_of(alloc: Global, gathered: Dict) -> Result<Dict, AllocError>
-    ensures { IfOk result (λ layer. layer ≡ gathered_layer (Some gathered)) }
-{
-    let mut layer = gathered.try_clone(alloc)?;
-    layer.put(alloc, "ansible_facts", Val::dict(gathered))?;
-    Ok(layer)
-}
-
-/// Puts the facts of the items that have some into a dict, in order.
-fn put_each(alloc: Global, known: &mut Dict, items: &[Item]) -> Result<(), AllocError>
-    ensures { OnOk result (known.new ≡ put_each (given_in items.now) known.old) }
-{
-    for item in items {
-        if let Planned::Decided(result) = &item.step {
-            if let Some(given) = facts_in(&result.result) {
-                put_all(alloc, known, given)?;
-            }
-        }
-    }
-    Ok(())
-}
-
-/// Whether some item gives facts.
-fn gives_some(items: &[Item]) -> bool
-    ensures { result ≡ gives_some (given_in items.now) }
-{
-    for item in items {
-        if let Planned::Decided(result) = &item.step {
-            if facts_in(&result.result).is_some() {
-                return true;
-            }
-        }
-    }
-    false
+    ghost view = { λ f. record { gathered = f.layer; set = f.set } };
 }
 
 impl Facts {
     ghost use Rattle.pb_facts.specs.Facts.{FactsOf};
-    ghost use Rattle.pb_facts.specs.Update.{applied, IsUndo, IsBetween};
+    ghost use Rattle.pb_facts.specs.Update.{applied, IsUndo, IsBetween, LeadsTo};
 
     /// A host that has learnt nothing.
     pub fn new(alloc: Global) -> Facts
         ensures { result ≡ no_facts }
     {
         Facts {
-            layer: Dict::new(alloc),
+            layer: GatheredLayer::none(alloc),
             set: Dict::new(alloc),
         }
     }
@@ -110,7 +71,7 @@ impl Facts {
     pub fn gathered_layer(&self) -> &Dict
         ensures { result.now ≡ gathered_layer self.now.gathered }
     {
-        &self.layer
+        self.layer.variables()
     }
 
     /// The layer of what was set and registered (9).
@@ -120,24 +81,13 @@ impl Facts {
         &self.set
     }
 
-    /// The facts that were gathered, or none.
-    fn gathered_before(&self, alloc: Global) -> Result<Dict, AllocError>
-        ensures { IfOk result (λ known. known ≡ unwrap_or self.now.gathered []) }
-    {
-        match gathered_in(&self.layer) {
-            Some(gathered) => gathered.try_clone(alloc),
-            None => Ok(Dict::new(alloc)),
-        }
-    }
-
     /// Takes in facts that were gathered, over those gathered before. An `Err` changes nothing.
     pub fn merge(&mut self, alloc: Global, given: &Dict) -> Result<(), AllocError>
         ensures ok { OnOk result (self.new ≡ merged given.now self.old) }
         ensures err { OnErr result (self.new ≡ self.old) }
     {
-        let mut gathered = self.gathered_before(alloc)?;
-        put_all(alloc, &mut gathered, given)?;
-        self.layer = layer_of(alloc, gathered)?;
+        let layer = self.layer.merged(alloc, given)?;
+        self.layer = layer;
         Ok(())
     }
 
@@ -180,21 +130,8 @@ impl Facts {
         }
     }
 
-    /// The layer of gathered facts once the items of a task gave theirs.
-    fn layer_after(&self, alloc: Global, items: &[Item]) -> Result<Dict, AllocError>
-        ensures { IfOk result (λ layer. layer ≡ gathered_layer (gathered_after (given_in items.now) self.now.gathered)) }
-    {
-        if !gives_some(items) {
-            return self.layer.try_clone(alloc);
-        }
-        let mut gathered = self.gathered_before(alloc)?;
-        put_each(alloc, &mut gathered, items)?;
-        layer_of(alloc, gathered)
-    }
-
     /// Takes in what a finished task leaves with its host: its result under the name that it is registered under, if it is, and then
     /// the facts of its items, in order. An `Err` changes nothing.
-    #[tactic(auto, using(crate::proofs::Each::layer_gathers, crate::proofs::Learnt::nothing_learnt, crate::proofs::Learnt::set_learnt, crate::proofs::Learnt::gathered_learnt))]
     pub fn learn(
         &mut self,
         alloc: Global,
@@ -206,20 +143,48 @@ impl Facts {
         ensures ok { OnOk result (self.new ≡ learnt gives (option_copied register.entry) shown items.now self.old) }
         ensures err { OnErr result (self.new ≡ self.old) }
     {
-        match gives {
-            Gives::Nothing => self.register(alloc, register, shown),
-            Gives::Sets => {
-                let update = set_update(alloc, register, shown, items, self)?;
-                drop(self.apply(alloc, update)?);
-                Ok(())
-            }
-            Gives::Gathers => {
-                let layer = self.layer_after(alloc, items)?;
-                self.register(alloc, register, shown)?;
-                self.layer = layer;
-                Ok(())
-            }
-        }
+        let update = update_of(alloc, gives, register, shown, items, self)?;
+        drop(self.apply(alloc, update)?);
+        Ok(())
+    }
+
+    /// Values come under their names, over those set and registered before. What stood there is handed back. An `Err` changes nothing.
+    pub(crate) fn put_more(
+        &mut self,
+        alloc: Global,
+        entries: Vec<(String, Val)>,
+    ) -> Result<FactsUndo, AllocError>
+        ensures ok { OnOk result (self.new ≡ with_set (named entries.items) self.old) }
+        ensures past { IfOk result (λ past. IsUndo past self.old self.new) }
+        ensures between { IfOk result (λ past. IsBetween past self.old self.new) }
+        ensures err { OnErr result (self.new ≡ self.old) }
+    {
+        names_are_ordered(&self.set);
+        let log = put_entries(alloc, &mut self.set, entries)?;
+        Ok(FactsUndo::Stood(log))
+    }
+
+    /// The same, and facts come under theirs, over those gathered before, in a layer that is made anew.
+    pub(crate) fn put_gathered(
+        &mut self,
+        alloc: Global,
+        more: Vec<(String, Val)>,
+        given: Vec<(String, Val)>,
+    ) -> Result<FactsUndo, AllocError>
+        ensures ok { OnOk result (self.new ≡ merged (named given.items) (with_set (named more.items) self.old)) }
+        ensures past { IfOk result (λ past. IsUndo past self.old self.new) }
+        ensures between { IfOk result (λ past. IsBetween past self.old self.new) }
+        ensures err { OnErr result (self.new ≡ self.old) }
+    {
+        let (layer, facts) = self.layer.with_entries(alloc, given)?;
+        names_are_ordered(&self.set);
+        let stood = put_entries(alloc, &mut self.set, more)?;
+        let before = mem::replace(&mut self.layer, layer);
+        Ok(FactsUndo::Gathered {
+            stood,
+            facts,
+            layer: before,
+        })
     }
 
     /// Takes in what the host learns, in place. What was before is handed back. An `Err` changes nothing.
@@ -229,27 +194,29 @@ impl Facts {
         ensures between { IfOk result (λ past. IsBetween past self.old self.new) }
         ensures err { OnErr result (self.new ≡ self.old) }
     {
-        match update {
-            FactsUpdate::Nothing => Ok(FactsUndo::Nothing),
-            FactsUpdate::Whole(known) => Ok(FactsUndo::Was(mem::replace(self, known))),
-            FactsUpdate::More(entries) => {
-                names_are_ordered(&self.set);
-                let log = put_entries(alloc, &mut self.set, entries)?;
-                Ok(FactsUndo::Stood(log))
-            }
-        }
+        update.put_into(alloc, self)
+    }
+
+    /// What was set and registered is as it was before values came under names.
+    pub(crate) fn put_set_back(&mut self, log: Vec<(String, Option<Val>)>)
+        ensures { (was : FactsOf) → was.gathered ≡ self.old.gathered → LeadsTo (named log.items) was.set self.old.set → self.new ≡ was }
+    {
+        put_back(&mut self.set, log);
+    }
+
+    /// The same, and the layer of gathered facts is this one again.
+    pub(crate) fn put_both_back(&mut self, stood: Vec<(String, Option<Val>)>, layer: GatheredLayer)
+        ensures { (was : FactsOf) → layer ≡ was.gathered → LeadsTo (named stood.items) was.set self.old.set → self.new ≡ was }
+    {
+        put_back(&mut self.set, stood);
+        self.layer = layer;
     }
 
     /// Puts back what was before the host learnt something. It takes no memory.
-    #[tactic(auto, using(crate::proofs::Heard::back_nothing, crate::proofs::Heard::back_was, crate::proofs::Heard::back_stood))]
     pub fn revert(&mut self, past: FactsUndo)
         ensures { (was : FactsOf) → IsUndo past was self.old → self.new ≡ was }
     {
-        match past {
-            FactsUndo::Nothing => {}
-            FactsUndo::Was(known) => *self = known,
-            FactsUndo::Stood(log) => put_back(&mut self.set, log),
-        }
+        past.put_into(self);
     }
 
     /// What is known of a host beside any play, as it is stored: the variables of its groups, its own, what it has learnt, and the
@@ -265,8 +232,8 @@ impl Facts {
     {
         let mut known = group_variables.try_clone(alloc)?;
         put_all(alloc, &mut known, host_variables)?;
-        put_all(alloc, &mut known, &self.layer)?;
-        put_all(alloc, &mut known, &self.set)?;
+        put_all(alloc, &mut known, self.gathered_layer())?;
+        put_all(alloc, &mut known, self.set_layer())?;
         put_all(alloc, &mut known, extra)?;
         Ok(known)
     }
