@@ -1,6 +1,7 @@
 pub mod Belonging
 pub mod Between
 pub mod Followed
+pub mod Gathered
 pub mod Keeping
 pub mod Learning
 pub mod Named

@@ -12,12 +12,12 @@ use Rattle.std.proofs.lemmas.Slice.Eq.{bytes_eq-Decides}
 use Rattle.pb_value.specs.Datum.{Datum, put, value_at}
 use Rattle.pb_value.proofs.Puts.{value_at-put, value_at-put_other}
 use Rattle.pb_layers.specs.Scope.{Map}
-use Rattle.pb_facts.specs.Facts.{FactsOf, put_all, gathered_layer, known_of}
-use Rattle.pb_facts.specs.Update.{IsOrdered, LeadsTo, LearntUnder}
+use Rattle.pb_facts.specs.Facts.{put_all}
+use Rattle.pb_facts.specs.Update.{IsOrdered, LeadsTo}
 use Rattle.pb_variables.specs.Between.{put_found, put_names}
 use Rattle.pb_variables.proofs.Renewing.{put_again, put_apart}
 
-same_names : (j k : List ℕ) → is_eq (slice_cmp nat_cmp j k) ≡ true → j ≡ k
+pub same_names : (j k : List ℕ) → is_eq (slice_cmp nat_cmp j k) ≡ true → j ≡ k
 same_names j k e = (bytes_eq-Decides j k).0 (sym (is_eq-slice_cmp j k) ∙ e)
 
 pub never_both : (found : Option Datum) (x : Datum) → found ≡ None → found ≡ Some x → ⊥
@@ -29,7 +29,7 @@ past_at : (k : List ℕ) (x : Datum) (e : List ℕ × Datum) (es m : Map) (b : B
 past_at k x e es m true t f rest = cc
 past_at k x e es m false t f rest = ap (put_all es) (sym (put_apart k e.0 e.1 x m t)) ∙ rest (put e.0 e.1 m) f
 
-put_past : (k : List ℕ) (x : Datum) (es m : Map) → value_at k es ≡ None → put_all es (put k x m) ≡ put k x (put_all es m)
+pub put_past : (k : List ℕ) (x : Datum) (es m : Map) → value_at k es ≡ None → put_all es (put k x m) ≡ put k x (put_all es m)
 put_past k x [] m f = refl
 put_past k x (e ∷ es) m f = past_at k x e es m (is_eq (slice_cmp nat_cmp k e.0)) refl f (put_past k x es)
 
@@ -40,7 +40,7 @@ under_at k x y e es m true t f rest =
     ap (λ (j : List ℕ). put_all es (put e.0 e.1 (put j x m))) (same_names k e.0 t) ∙ ap (put_all es) (put_again e.0 e.1 x m)
 under_at k x y e es m false t f rest = ap (put_all es) (sym (put_apart k e.0 e.1 x m t)) ∙ rest (put e.0 e.1 m) f
 
-put_under : (k : List ℕ) (x y : Datum) (es m : Map) → value_at k es ≡ Some y → put_all es (put k x m) ≡ put_all es m
+pub put_under : (k : List ℕ) (x y : Datum) (es m : Map) → value_at k es ≡ Some y → put_all es (put k x m) ≡ put_all es m
 put_under k x y [] m f = cc
 put_under k x y (e ∷ es) m f = under_at k x y e es m (is_eq (slice_cmp nat_cmp k e.0)) refl f (put_under k x y es)
 
@@ -96,13 +96,13 @@ put_over k x (e ∷ es) m h = over_at k x e es m (slice_cmp nat_cmp k e.0) refl 
 abbrev between : Map → Map → Map → Map
 between extra set base = put_all extra (put_all set base)
 
-found_at : (extra set base : Map) (k : List ℕ) (given found : Option Datum) → value_at k extra ≡ given → IsOrdered set → put_found k given found (between extra set base) ≡ between extra (put_found k None found set) base
+pub found_at : (extra set base : Map) (k : List ℕ) (given found : Option Datum) → value_at k extra ≡ given → IsOrdered set → put_found k given found (between extra set base) ≡ between extra (put_found k None found set) base
 found_at extra set base k (Some given) None e h = refl
 found_at extra set base k None None e h = refl
 found_at extra set base k (Some given) (Some x) e h = sym (put_under k x given extra (put_all set base) e) ∙ ap (put_all extra) (sym (put_over k x set base h))
 found_at extra set base k None (Some x) e h = sym (put_past k x extra (put_all set base) e) ∙ ap (put_all extra) (sym (put_over k x set base h))
 
-found_ordered : (set : Map) (k : List ℕ) (found : Option Datum) → IsOrdered set → IsOrdered (put_found k None found set)
+pub found_ordered : (set : Map) (k : List ℕ) (found : Option Datum) → IsOrdered set → IsOrdered (put_found k None found set)
 found_ordered set k None h = h
 found_ordered set k (Some x) h = put_ordered set k x h
 
@@ -151,34 +151,41 @@ stays_at : (k : List ℕ) (x : Datum) (s : Map) (j : List ℕ) (v : Datum) (b : 
 stays_at k x s j v true e f = (v, ap (λ (name : List ℕ). value_at name (put j v s)) (same_names k j e) ∙ value_at-put j v s)
 stays_at k x s j v false e f = (x, value_at-put_other k j v s e ∙ f)
 
-pub stays : (k : List ℕ) (x : Datum) (log : List (List ℕ × Option Datum)) (s t : Map) → value_at k s ≡ Some x → LeadsTo log s t → (y : Datum) × (value_at k t ≡ Some y)
+-- values came under these names, one after another
+abbrev pub PutsTo : List (List ℕ × Option Datum) → Map → Map → Type 0
+PutsTo [] was now = was ≡ now
+PutsTo (b ∷ log) was now = (value : Datum) × PutsTo log (put b.0 value was) now
+
+pub leads_puts : (log : List (List ℕ × Option Datum)) (s t : Map) → LeadsTo log s t → PutsTo log s t
+leads_puts [] s t l = l
+leads_puts (b ∷ log) s t l = (l.0, leads_puts log (put b.0 l.0 s) t l.2)
+
+pub stays : (k : List ℕ) (x : Datum) (log : List (List ℕ × Option Datum)) (s t : Map) → value_at k s ≡ Some x → PutsTo log s t → (y : Datum) × (value_at k t ≡ Some y)
 stays k x [] s t f l = (x, ap (λ (m : Map). value_at k m) (sym l) ∙ f)
 stays k x (b ∷ log) s t f l =
     let still = stays_at k x s b.0 l.0 (is_eq (slice_cmp nat_cmp k b.0)) refl f in
-    stays k still.0 log (put b.0 l.0 s) t still.1 l.2
+    stays k still.0 log (put b.0 l.0 s) t still.1 l.1
 
-pub leads_ordered : (log : List (List ℕ × Option Datum)) (s t : Map) → LeadsTo log s t → IsOrdered s → IsOrdered t
-leads_ordered [] s t l h = subst (λ (m : Map). IsOrdered m) l h
-leads_ordered (b ∷ log) s t l h = leads_ordered log (put b.0 l.0 s) t l.2 (put_ordered s b.0 l.0 h)
+pub puts_ordered : (log : List (List ℕ × Option Datum)) (s t : Map) → PutsTo log s t → IsOrdered s → IsOrdered t
+puts_ordered [] s t l h = subst (λ (m : Map). IsOrdered m) l h
+puts_ordered (b ∷ log) s t l h = puts_ordered log (put b.0 l.0 s) t l.1 (put_ordered s b.0 l.0 h)
 
 -- so what stands there in the end can come at once
-name_leads : (t s : Map) (k : List ℕ) (v : Datum) (log : List (List ℕ × Option Datum)) (found : Option Datum) → value_at k t ≡ found → IsOrdered t → put_names [] t log (put k v s) ≡ t
+name_put : (t s : Map) (k : List ℕ) (v : Datum) (log : List (List ℕ × Option Datum)) (found : Option Datum) → value_at k t ≡ found → IsOrdered t → put_names [] t log (put k v s) ≡ t
     → ((y : Datum) × (value_at k t ≡ Some y)) → put_names [] t log (put_found k None found s) ≡ t
-name_leads t s k v log None f h rest still = absurd (never_both (value_at k t) still.0 f still.1)
-name_leads t s k v log (Some w) f h rest still =
+name_put t s k v log None f h rest still = absurd (never_both (value_at k t) still.0 f still.1)
+name_put t s k v log (Some w) f h rest still =
     ap (put_names [] t log) (sym (put_again k w v s)) ∙ names_past t (put k v s) log k w f ∙ ap (put k w) rest ∙ put_here k w t h f
 
-names_lead : (log : List (List ℕ × Option Datum)) (s t : Map) → LeadsTo log s t → IsOrdered s → put_names [] t log s ≡ t
-names_lead [] s t l h = l
-names_lead (b ∷ log) s t l h =
+pub names_put : (log : List (List ℕ × Option Datum)) (s t : Map) → PutsTo log s t → IsOrdered s → put_names [] t log s ≡ t
+names_put [] s t l h = l
+names_put (b ∷ log) s t l h =
     let later = put b.0 l.0 s in
     let rises = put_ordered s b.0 l.0 h in
-    name_leads t s b.0 l.0 log (value_at b.0 t) refl (leads_ordered log later t l.2 rises) (names_lead log later t l.2 rises)
-    (stays b.0 l.0 log later t (value_at-put b.0 l.0 s) l.2)
+    name_put t s b.0 l.0 log (value_at b.0 t) refl (puts_ordered log later t l.1 rises) (names_put log later t l.1 rises)
+    (stays b.0 l.0 log later t (value_at-put b.0 l.0 s) l.1)
 
--- ---- what is known of a host follows what it learnt
-pub known_follows : (groups own extra : Map) (was now : FactsOf) (log : List (List ℕ × Option Datum)) → LearntUnder log was now → put_names extra now.set log (known_of groups own was extra) ≡ known_of groups own now extra
-known_follows groups own extra was now log learnt =
-    names_between extra now.set was.set (put_all (gathered_layer was.gathered) (put_all own groups)) log learnt.1
-    ∙ ap (λ (set : Map). between extra set (put_all (gathered_layer was.gathered) (put_all own groups))) (names_lead log was.set now.set learnt.2 learnt.1)
-    ∙ ap (λ (gathered : Option Map). between extra now.set (put_all (gathered_layer gathered) (put_all own groups))) learnt.0
+-- ---- what is known of a host follows what was set
+pub set_follows : (extra s t base : Map) (log : List (List ℕ × Option Datum)) → IsOrdered s → LeadsTo log s t → put_names extra t log (put_all extra (put_all s base)) ≡ put_all extra (put_all t base)
+set_follows extra s t base log h l =
+    names_between extra t s base log h ∙ ap (λ (set : Map). between extra set base) (names_put log s t (leads_puts log s t l) h)

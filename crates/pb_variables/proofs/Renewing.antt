@@ -1,6 +1,6 @@
 -- Where one host's variables are put anew into the map of all hosts' variables, it is the map that would be made.
 use Rattle.std.proofs.Common.{◌≡◌, ◌≢◌, ℕ, zero, suc, ◌<◌, ◌≤◌, Bool, true, false, List, [], ◌∷◌, length, Ordering, Less, Equal, Greater, nat_cmp, refl, sym, ap, ◌∙◌, arith}
-use Rattle.std.specs.Prelude.{Option, Some, None, IfSome, ◌==◌}
+use Rattle.std.specs.Prelude.{Option, Some, None, ◌==◌}
 use Rattle.std.specs.Cmp.Lexicographic.{slice_cmp}
 use Rattle.std.specs.Ordering.{is_eq, match_ordering, ordering_reverse}
 use Rattle.std.proofs.lemmas.Bool.{eqb-true, eqb-false}
@@ -13,7 +13,7 @@ use Rattle.pb_facts.specs.Facts.{FactsOf}
 use Rattle.pb_inventory.specs.InventoryOf.{InventoryOf}
 use Rattle.pb_inventory.specs.Vars.{host_name}
 use Rattle.pb_variables.specs.Magic.{first_hosts, hostvars_map, hostvars, hosts_magic}
-use Rattle.pb_variables.specs.Renewed.{LearnsAlone, IsRenewed, IsRenewedMap, value_of}
+use Rattle.pb_variables.specs.Renewed.{LearnsAlone, value_of}
 use Rattle.pb_variables.proofs.Named.{entries_back, of_hosts}
 
 abbrev Map : Type 0
@@ -151,9 +151,9 @@ renewed_first inventory extra before now host (suc n) alone lt long =
 
 -- ---- the map of all hosts
 pub map_anew : (inventory : InventoryOf) (extra : Map) (facts : FactsOf) (host : ℕ) (known new : Map) → host < length inventory.hosts → length known ≡ length inventory.hosts
-    → new ≡ put (host_name inventory host) (value_of inventory extra facts host) known → (hosts : Map) → hosts ≡ hosts_magic (dict (members_of new)) → IsRenewedMap inventory extra facts host known hosts
-map_anew inventory extra facts host known new lt long is hosts made =
-    λ before now alone learnt old.
+    → new ≡ put (host_name inventory host) (value_of inventory extra facts host) known → (hosts : Map) → hosts ≡ hosts_magic (dict (members_of new))
+    → (before now : List FactsOf) → LearnsAlone host before now → facts ≡ row_of now host → known ≡ hostvars_map inventory extra before → hosts ≡ hosts_magic (hostvars inventory extra now)
+map_anew inventory extra facts host known new lt long is hosts made before now alone learnt old =
     let whole = renewed_first inventory extra before now host (length inventory.hosts) alone lt (ap length (sym old) ∙ long) in
     made
     ∙ ap (λ (map : Map). hosts_magic (dict (members_of map)))
@@ -162,9 +162,9 @@ map_anew inventory extra facts host known new lt long is hosts made =
     ∙ sym (ap hosts_magic (of_hosts inventory extra now))
 
 -- a number that is no host's is nothing to it
-pub no_host : (inventory : InventoryOf) (extra : Map) (facts : FactsOf) (host : ℕ) (hosts : Map) → length inventory.hosts ≤ host → IsRenewed inventory extra facts host hosts hosts
-no_host inventory extra facts host hosts le =
-    λ before now alone learnt old.
+pub no_host : (inventory : InventoryOf) (extra : Map) (host : ℕ) (hosts : Map) → length inventory.hosts ≤ host
+    → (before now : List FactsOf) → LearnsAlone host before now → hosts ≡ hosts_magic (hostvars inventory extra before) → hosts ≡ hosts_magic (hostvars inventory extra now)
+no_host inventory extra host hosts le before now alone old =
     old ∙ ap hosts_magic (of_hosts inventory extra before)
     ∙ ap (λ (map : Map). hosts_magic (dict (members_of map))) (sym (before_it inventory extra before now host (length inventory.hosts) alone le))
     ∙ sym (ap hosts_magic (of_hosts inventory extra now))
@@ -179,21 +179,6 @@ Finds hosts found = (known : Map) → hosts ≡ hosts_magic (dict (members_of kn
 pub found_map : (inventory : InventoryOf) (extra : Map) (before : List FactsOf) (hosts : Map) (found : Option Map) → Finds hosts found → hosts ≡ hosts_magic (hostvars inventory extra before)
     → found ≡ Some (hostvars_map inventory extra before)
 found_map inventory extra before hosts found finds old = finds (hostvars_map inventory extra before) (old ∙ ap hosts_magic (of_hosts inventory extra before))
-
-found_anew : (inventory : InventoryOf) (extra : Map) (facts : FactsOf) (host : ℕ) (hosts known new : Map) (found : Option Map) → Finds hosts found → found ≡ Some known
-    → IsRenewedMap inventory extra facts host known new → IsRenewed inventory extra facts host hosts new
-found_anew inventory extra facts host hosts known new found finds is anew =
-    λ before now alone learnt old. anew before now alone learnt (some_is known (hostvars_map inventory extra before) found is (found_map inventory extra before hosts found finds old))
-
-pub kept_anew : (inventory : InventoryOf) (extra : Map) (facts : FactsOf) (host : ℕ) (hosts known : Map) (found : Option Map) → Finds hosts found → found ≡ Some known
-    → (kept : Option Map) → IfSome kept (IsRenewedMap inventory extra facts host known) → IfSome kept (IsRenewed inventory extra facts host hosts)
-kept_anew inventory extra facts host hosts known found finds is None anew = tt
-kept_anew inventory extra facts host hosts known found finds is (Some new) anew = found_anew inventory extra facts host hosts known new found finds is anew
-
-pub found_twice : (inventory : InventoryOf) (extra : Map) (hosts known : Map) (found : Option Map) → Finds hosts found → found ≡ Some known → length known ≢ length inventory.hosts
-    → (before : List FactsOf) → hosts ≡ hosts_magic (hostvars inventory extra before) → length (hostvars_map inventory extra before) ≢ length inventory.hosts
-found_twice inventory extra hosts known found finds is twice =
-    λ before old long. twice (ap length (some_is known (hostvars_map inventory extra before) found is (found_map inventory extra before hosts found finds old)) ∙ long)
 
 pub none_some : (a : Map) (found : Option Map) → found ≡ None → found ≡ Some a → ⊥
 none_some a found e f = cc

@@ -1,9 +1,9 @@
 -- What `hostvars` stands for once one host alone has learnt something.
-use Rattle.std.specs.Prelude.{◌≡◌, ◌≢◌, ℕ, List, Option}
+use Rattle.std.specs.Prelude.{◌≡◌, ◌≢◌, ℕ, List}
 use Rattle.pb_value.specs.Datum.{Datum, dict, members_of}
 use Rattle.pb_facts.specs.Book.{row_of}
 use Rattle.pb_facts.specs.Facts.{FactsOf, known_of}
-use Rattle.pb_facts.specs.Update.{LearntUnder, IsBetween}
+use Rattle.pb_facts.specs.Update.{IsBetween}
 use Rattle.pb_facts.specs.declared.update.FactsUndo.{FactsUndo}
 use Rattle.pb_inventory.specs.InventoryOf.{InventoryOf}
 use Rattle.pb_inventory.specs.Vars.{vars_from_groups, vars_of_host}
@@ -17,28 +17,14 @@ LearnsAlone host before now = (other : ℕ) → other ≢ host → row_of now ot
 abbrev pub value_of : InventoryOf → List (List ℕ × Datum) → FactsOf → ℕ → Datum
 value_of inventory extra facts host = dict (members_of (known_of (vars_from_groups inventory host) (vars_of_host inventory host) facts extra))
 
--- the map of all hosts' variables, old and new, where this host alone has learnt something, and now has learnt this
-abbrev pub IsRenewedMap : InventoryOf → List (List ℕ × Datum) → FactsOf → ℕ → List (List ℕ × Datum) → List (List ℕ × Datum) → Type 0
-IsRenewedMap inventory extra facts host old new =
-    (before now : List FactsOf) → LearnsAlone host before now → facts ≡ row_of now host → old ≡ hostvars_map inventory extra before → new ≡ hosts_magic (hostvars inventory extra now)
-
--- the same of the magic variable `hostvars`
-abbrev pub IsRenewed : InventoryOf → List (List ℕ × Datum) → FactsOf → ℕ → List (List ℕ × Datum) → List (List ℕ × Datum) → Type 0
-IsRenewed inventory extra facts host old new =
-    (before now : List FactsOf) → LearnsAlone host before now → facts ≡ row_of now host → old ≡ hosts_magic (hostvars inventory extra before) → new ≡ hosts_magic (hostvars inventory extra now)
-
--- the same where it learnt values under these names, and nothing else
-abbrev pub IsRenewedMapUnder : InventoryOf → List (List ℕ × Datum) → List (List ℕ × Option Datum) → FactsOf → ℕ → List (List ℕ × Datum) → List (List ℕ × Datum) → Type 0
-IsRenewedMapUnder inventory extra log facts host old new =
-    (before now : List FactsOf) → LearnsAlone host before now → facts ≡ row_of now host → LearntUnder log (row_of before host) facts → old ≡ hostvars_map inventory extra before
+-- the map of all hosts' variables, old, and the magic variable, new, where this host alone has learnt something: this lies between what it had learnt
+-- and what it has learnt now
+abbrev pub IsRenewedMap : InventoryOf → List (List ℕ × Datum) → FactsUndo → FactsOf → ℕ → List (List ℕ × Datum) → List (List ℕ × Datum) → Type 0
+IsRenewedMap inventory extra past facts host old new =
+    (before now : List FactsOf) → LearnsAlone host before now → facts ≡ row_of now host → IsBetween past (row_of before host) facts → old ≡ hostvars_map inventory extra before
     → new ≡ hosts_magic (hostvars inventory extra now)
 
-abbrev pub IsRenewedUnder : InventoryOf → List (List ℕ × Datum) → List (List ℕ × Option Datum) → FactsOf → ℕ → List (List ℕ × Datum) → List (List ℕ × Datum) → Type 0
-IsRenewedUnder inventory extra log facts host old new =
-    (before now : List FactsOf) → LearnsAlone host before now → facts ≡ row_of now host → LearntUnder log (row_of before host) facts → old ≡ hosts_magic (hostvars inventory extra before)
-    → new ≡ hosts_magic (hostvars inventory extra now)
-
--- the same where this lies between what the host had learnt and what it has learnt now
+-- the same of the magic variable `hostvars`, old and new
 abbrev pub IsRenewedBetween : InventoryOf → List (List ℕ × Datum) → FactsUndo → FactsOf → ℕ → List (List ℕ × Datum) → List (List ℕ × Datum) → Type 0
 IsRenewedBetween inventory extra past facts host old new =
     (before now : List FactsOf) → LearnsAlone host before now → facts ≡ row_of now host → IsBetween past (row_of before host) facts → old ≡ hosts_magic (hostvars inventory extra before)

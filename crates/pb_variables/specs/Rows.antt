@@ -3,11 +3,11 @@ use Rattle.std.specs.Prelude.{◌≡◌, refl, ℕ, pos, true, false, List, [], 
 use Rattle.serde_json.specs.Data as json
 use Rattle.pb_value.specs.Datum.{Datum, int, text, list, dict, items_of, members_of}
 use Rattle.pb_value.specs.FromJson.{value_of}
-use Rattle.pb_facts.specs.Facts.{FactsOf}
+use Rattle.pb_facts.specs.Facts.{FactsOf, gathered_layer}
 use Rattle.pb_groups.specs.Members.{own_of as own}
 use Rattle.pb_groups.specs.Ways.{link}
 use Rattle.pb_inventory.specs.InventoryOf.{InventoryOf}
-use Rattle.pb_variables.specs.Between.{put_names}
+use Rattle.pb_variables.specs.Between.{put_names, put_facts, with_all}
 use Rattle.pb_variables.specs.Connector.{connector_of, connector_in}
 use Rattle.pb_variables.specs.Extra.{variables_in}
 use Rattle.pb_variables.specs.Magic.{hostvars, plan_magic, play_magic, host_magic}
@@ -117,6 +117,29 @@ learnt_below_extra = refl
 -- a name that was learnt twice has the value of the second time
 pub learnt_twice : put_names [] ((codes "x", int (pos 2)) ∷ []) ((codes "x", None) ∷ (codes "x", Some (int (pos 1))) ∷ []) [] ≡ (codes "x", int (pos 2)) ∷ []
 learnt_twice = refl
+
+-- of three facts one has an extra variable, and one the name of what was set, which stay; all three stand in `ansible_facts`
+abbrev pub three_facts : List (List ℕ × Datum)
+three_facts = (codes "x", int (pos 1)) ∷ (codes "y", int (pos 1)) ∷ (codes "z", int (pos 1)) ∷ []
+
+pub gathered_below_set : put_facts
+    ((codes "x", int (pos 3)) ∷ [])
+    ((codes "y", int (pos 2)) ∷ [])
+    (gathered_layer (Some three_facts))
+    (with_all ((codes "x", None) ∷ (codes "y", None) ∷ (codes "z", None) ∷ []))
+    ((codes "x", int (pos 3)) ∷ (codes "y", int (pos 2)) ∷ [])
+    ≡ (codes "ansible_facts", map_of three_facts) ∷ (codes "x", int (pos 3)) ∷ (codes "y", int (pos 2)) ∷ (codes "z", int (pos 1)) ∷ []
+gathered_below_set = refl
+
+-- a fact that is gathered again has the new value, in `ansible_facts`, too
+pub gathered_again : put_facts
+    []
+    []
+    (gathered_layer (Some ((codes "x", int (pos 2)) ∷ [])))
+    (with_all ((codes "x", Some (int (pos 1))) ∷ []))
+    (gathered_layer (Some ((codes "x", int (pos 1)) ∷ [])))
+    ≡ gathered_layer (Some ((codes "x", int (pos 2)) ∷ []))
+gathered_again = refl
 
 pub magic_of_play : play_magic two_hosts (true ∷ false ∷ []) ≡ (codes "ansible_play_hosts_all", row (text (codes "b") ∷ [])) ∷ []
 unfolding play_magic

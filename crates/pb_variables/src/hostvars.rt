@@ -1,13 +1,13 @@
 //! The variables of all hosts.
 ghost use Rattle.std.specs.Prelude.{◌≡◌, ◌≢◌, ◌<◌, ℕ, List, Some, None, length, IfOk, IfSome, OnOk};
 ghost use Rattle.pb_value.specs.Datum.{Datum, null, dict, members_of, named, put, value_at};
-ghost use Rattle.pb_facts.specs.Facts.{known_of};
+ghost use Rattle.pb_facts.specs.Facts.{known_of, gathered_layer};
 ghost use Rattle.pb_inventory.specs.Vars.{host_name, vars_from_groups, vars_of_host};
 ghost use Rattle.pb_variables.specs.Magic.{variables_of, hostvars_map, hostvars, hosts_magic};
 ghost use Rattle.pb_variables.specs.ByName.{value_in, variables_under, variable_of_host};
 ghost use Rattle.pb_variables.specs.Learnt.{facts_in};
-ghost use Rattle.pb_variables.specs.Between.{put_found, put_name, put_names, VariablesFollow};
-ghost use Rattle.pb_variables.specs.Renewed.{IsRenewed, IsRenewedMap, IsRenewedMapUnder, IsRenewedUnder, IsRenewedBetween};
+ghost use Rattle.pb_variables.specs.Between.{put_found, put_name, put_names, put_fact, put_facts, follows, VariablesFollow};
+ghost use Rattle.pb_variables.specs.Renewed.{IsRenewedMap, IsRenewedBetween};
 ghost use Rattle.pb_facts.specs.Facts.{FactsOf};
 
 use pb_facts::facts::Facts;
@@ -127,7 +127,7 @@ fn map_of(value: Val) -> Option<Dict>
     }
 }
 
-/// The map that stands under a name of a map, taken out of it: nothing stands there in its place.
+/// The map that stands under a name of a map, taken out of it: null stands there in its place.
 fn taken(alloc: Global, known: &mut Dict, name: &str) -> Result<Option<Dict>, AllocError>
     ensures left { OnOk result (known.new ≡ put name.now null known.old) }
     ensures found { (members : List (List ℕ × Datum)) → value_at name.now known.old ≡ Some (dict (members_of members)) → IfOk result (λ found. found ≡ Some members) }
@@ -147,52 +147,6 @@ fn hosts_in(alloc: Global, hosts: Dict) -> Result<Option<Dict>, AllocError>
     taken(alloc, &mut hosts, "hostvars")
 }
 
-/// The magic variable for a map in which this host's variables were put anew. A map with fewer names than there are hosts tells of two hosts with one name.
-fn map_renewed(
-    alloc: Global,
-    known: Dict,
-    inventory: &Inventory,
-    extra: &Dict,
-    facts: &Facts,
-    host: HostNo,
-) -> Result<Option<Dict>, AllocError>
-    requires { host.0 < length inventory.now.hosts }
-    ensures value { IfOk result (λ kept. IfSome kept (IsRenewedMap inventory.now extra.now facts.now host.0 known)) }
-    ensures none { IfOk result (λ kept. kept ≡ None → length known ≢ length inventory.now.hosts) }
-{
-    let mut known = known;
-    if known.len() != inventory.hosts() as usize {
-        return Ok(None);
-    }
-    put_known(alloc, &mut known, inventory, extra, facts, host)?;
-    let hosts = hosts_magic(alloc, Val::dict(known))?;
-    Ok(Some(hosts))
-}
-
-/// The magic variable `hostvars` once one host alone has learnt something, and now has learnt this: that host's variables are put anew, and those of the
-/// others stay. Nothing is answered where two hosts have one name, as in no inventory that was read. The only error is want of memory, and it leaves
-/// nothing of the variable.
-pub fn renewed(
-    alloc: Global,
-    hosts: Dict,
-    inventory: &Inventory,
-    extra: &Dict,
-    facts: &Facts,
-    host: HostNo,
-) -> Result<Option<Dict>, AllocError>
-    ensures value { IfOk result (λ kept. IfSome kept (IsRenewed inventory.now extra.now facts.now host.0 hosts)) }
-    ensures none { IfOk result (λ kept. kept ≡ None → (before : List FactsOf) → hosts ≡ hosts_magic (hostvars inventory.now extra.now before)
-        → length (hostvars_map inventory.now extra.now before) ≢ length inventory.now.hosts) }
-{
-    if host.0 >= inventory.hosts() {
-        return Ok(Some(hosts));
-    }
-    match hosts_in(alloc, hosts)? {
-        Some(known) => map_renewed(alloc, known, inventory, extra, facts, host),
-        None => Ok(None),
-    }
-}
-
 /// A host that has learnt something: what it knows now, and what can put back what it knew.
 #[derive(Drop)]
 pub struct Learner<'a> {
@@ -202,32 +156,37 @@ pub struct Learner<'a> {
 }
 
 /// What stands under a name of one map goes there in another, if something does.
-fn put_stood(alloc: Global, variables: &mut Dict, set: &Dict, name: &str) -> Result<(), AllocError>
-    ensures { OnOk result (variables.new ≡ put_found name.now None (value_at name.now set.now) variables.old) }
+fn put_stood(
+    alloc: Global,
+    variables: &mut Dict,
+    layer: &Dict,
+    name: &str,
+) -> Result<(), AllocError>
+    ensures { OnOk result (variables.new ≡ put_found name.now None (value_at name.now layer.now) variables.old) }
 {
-    match set.get(name) {
+    match layer.get(name) {
         Some(value) => variables.put(alloc, name, value.try_clone(alloc)?),
         None => Ok(()),
     }
 }
 
-/// What stands under a name of what was set goes there among a host's variables, unless an extra variable has the name.
+/// What stands under a name of a layer goes there among a host's variables, unless a layer over it has the name.
 fn put_name(
     alloc: Global,
     variables: &mut Dict,
-    extra: &Dict,
-    set: &Dict,
+    over: &Dict,
+    layer: &Dict,
     name: &str,
 ) -> Result<(), AllocError>
-    ensures { OnOk result (variables.new ≡ put_name extra.now set.now name.now variables.old) }
+    ensures { OnOk result (variables.new ≡ put_name over.now layer.now name.now variables.old) }
 {
-    match extra.get(name) {
+    match over.get(name) {
         Some(_) => Ok(()),
-        None => put_stood(alloc, variables, set, name),
+        None => put_stood(alloc, variables, layer, name),
     }
 }
 
-/// And what stands under each of the names of a log.
+/// What was set under each of the names of a log goes there, unless an extra variable has the name.
 #[tactic(auto, using(crate::proofs::Between::name_step))]
 fn put_names(
     alloc: Global,
@@ -244,17 +203,77 @@ fn put_names(
     Ok(())
 }
 
-/// The magic variable for a map in which this host's variables follow what it learnt under these names.
-fn map_under(
+/// What stands under a name in the layer of gathered facts goes there among a host's variables, unless an extra variable or what was set has the name.
+fn put_fact(
+    alloc: Global,
+    variables: &mut Dict,
+    extra: &Dict,
+    facts: &Facts,
+    name: &str,
+) -> Result<(), AllocError>
+    ensures { OnOk result (variables.new ≡ put_fact extra.now facts.now.set (gathered_layer facts.now.gathered) name.now variables.old) }
+{
+    match extra.get(name) {
+        Some(_) => Ok(()),
+        None => put_name(
+            alloc,
+            variables,
+            facts.set_layer(),
+            facts.gathered_layer(),
+            name,
+        ),
+    }
+}
+
+/// And what stands there under each of the names of a log.
+#[tactic(auto, using(crate::proofs::Between::fact_step))]
+fn put_facts(
+    alloc: Global,
+    variables: &mut Dict,
+    extra: &Dict,
+    facts: &Facts,
+    log: &[(String, Option<Val>)],
+) -> Result<(), AllocError>
+    ensures { OnOk result (variables.new ≡ put_facts extra.now facts.now.set (gathered_layer facts.now.gathered) (named log.now) variables.old) }
+{
+    for entry in log {
+        put_fact(alloc, variables, extra, facts, entry.0.as_str())?;
+    }
+    Ok(())
+}
+
+/// What a host learnt goes among its variables: what was set first, then each fact, and all of them under one name.
+fn put_learnt(
+    alloc: Global,
+    variables: &mut Dict,
+    extra: &Dict,
+    learner: &Learner,
+) -> Result<(), AllocError>
+    ensures { OnOk result (variables.new ≡ follows extra.now learner.now.facts.now learner.now.past.now variables.old) }
+{
+    let set = learner.facts.set_layer();
+    match learner.past {
+        FactsUndo::Nothing => Ok(()),
+        FactsUndo::Stood(log) => put_names(alloc, variables, extra, set, log.as_slice()),
+        FactsUndo::Gathered { stood, facts, .. } => {
+            put_names(alloc, variables, extra, set, stood.as_slice())?;
+            put_facts(alloc, variables, extra, learner.facts, facts.as_slice())?;
+            put_fact(alloc, variables, extra, learner.facts, "ansible_facts")
+        }
+    }
+}
+
+/// The magic variable for a map in which this host's variables follow what it learnt. A map with fewer names than there are hosts tells of two hosts with
+/// one name.
+fn map_followed(
     alloc: Global,
     known: Dict,
     inventory: &Inventory,
     extra: &Dict,
     learner: &Learner,
-    log: &[(String, Option<Val>)],
 ) -> Result<Option<Dict>, AllocError>
     requires { learner.now.host.0 < length inventory.now.hosts }
-    ensures value { IfOk result (λ kept. IfSome kept (IsRenewedMapUnder inventory.now extra.now (named log.now) learner.now.facts.now learner.now.host.0 known)) }
+    ensures value { IfOk result (λ kept. IfSome kept (IsRenewedMap inventory.now extra.now learner.now.past.now learner.now.facts.now learner.now.host.0 known)) }
     ensures none { IfOk result (λ kept. kept ≡ None → (before : List FactsOf) → known ≡ hostvars_map inventory.now extra.now before → length known ≢ length inventory.now.hosts) }
 {
     let mut known = known;
@@ -265,7 +284,7 @@ fn map_under(
     match taken(alloc, &mut known, name)? {
         Some(stored) => {
             let mut variables = stored;
-            put_names(alloc, &mut variables, extra, learner.facts.set_layer(), log)?;
+            put_learnt(alloc, &mut variables, extra, learner)?;
             known.put(alloc, name, Val::dict(variables))?;
             let hosts = hosts_magic(alloc, Val::dict(known))?;
             Ok(Some(hosts))
@@ -274,16 +293,15 @@ fn map_under(
     }
 }
 
-/// The magic variable `hostvars` once one host alone has learnt values under these names: these are put among that host's variables.
-fn renewed_under(
+/// The magic variable in which this host's variables follow what it learnt, if there is such a host.
+fn hosts_followed(
     alloc: Global,
     hosts: Dict,
     inventory: &Inventory,
     extra: &Dict,
     learner: &Learner,
-    log: &[(String, Option<Val>)],
 ) -> Result<Option<Dict>, AllocError>
-    ensures value { IfOk result (λ kept. IfSome kept (IsRenewedUnder inventory.now extra.now (named log.now) learner.now.facts.now learner.now.host.0 hosts)) }
+    ensures value { IfOk result (λ kept. IfSome kept (IsRenewedBetween inventory.now extra.now learner.now.past.now learner.now.facts.now learner.now.host.0 hosts)) }
     ensures none { IfOk result (λ kept. kept ≡ None → (before : List FactsOf) → hosts ≡ hosts_magic (hostvars inventory.now extra.now before)
         → length (hostvars_map inventory.now extra.now before) ≢ length inventory.now.hosts) }
 {
@@ -291,14 +309,15 @@ fn renewed_under(
         return Ok(Some(hosts));
     }
     match hosts_in(alloc, hosts)? {
-        Some(known) => map_under(alloc, known, inventory, extra, learner, log),
+        Some(known) => map_followed(alloc, known, inventory, extra, learner),
         None => Ok(None),
     }
 }
 
-/// The magic variable `hostvars` once one host alone has learnt something, as what can put back what it knew tells: where values came under names, these
-/// alone are put among that host's variables, each unless an extra variable has its name, so that it costs no more than they. Nothing is answered where
-/// two hosts have one name, as in no inventory that was read. The only error is want of memory, and it leaves nothing of the variable.
+/// The magic variable `hostvars` once one host alone has learnt something, as what can put back what it knew tells: where values or facts came under names,
+/// these alone are put among that host's variables, and where facts came all of them as `ansible_facts`, each unless what comes over it has its name. So it
+/// takes as long as what was learnt and, where facts came, as these, and not as all that the host has. Nothing is answered where two hosts have one name, as
+/// in no inventory that was read. The only error is want of memory, and it leaves nothing of the variable.
 pub fn renewed_between(
     alloc: Global,
     hosts: Dict,
@@ -310,16 +329,12 @@ pub fn renewed_between(
     ensures none { IfOk result (λ kept. kept ≡ None → (before : List FactsOf) → hosts ≡ hosts_magic (hostvars inventory.now extra.now before)
         → length (hostvars_map inventory.now extra.now before) ≢ length inventory.now.hosts) }
 
-    // Under each name that was learnt the host has the extra variable, or else what was set in the end, and under each other one what it had.
+    // Under each name that was set or gathered the host has the extra variable, or else what was set, or else what was gathered in the end, and under each
+    // other one what it had.
     ensures names { VariablesFollow inventory.now extra.now learner.now.past.now learner.now.facts.now learner.now.host.0 }
 {
     match learner.past {
         FactsUndo::Nothing => Ok(Some(hosts)),
-        FactsUndo::Was(_) => {
-            renewed(alloc, hosts, inventory, extra, learner.facts, learner.host)
-        }
-        FactsUndo::Stood(log) => {
-            renewed_under(alloc, hosts, inventory, extra, learner, log.as_slice())
-        }
+        _ => hosts_followed(alloc, hosts, inventory, extra, learner),
     }
 }
