@@ -1,5 +1,5 @@
 -- What hosts learn one after another, and what was before is what is put back.
-use Rattle.std.proofs.Common.{◌≡◌, ℕ, zero, suc, List, [], ◌∷◌, ◌++◌, length, refl, sym, ◌∙◌, ap, subst, arith}
+use Rattle.std.proofs.Common.{◌≡◌, ℕ, List, [], ◌∷◌, ◌++◌, length, refl, sym, ◌∙◌, ap, subst, arith}
 use Rattle.std.specs.Prelude.{Option, Some, None, IfSome, option_to_list, slice_get, slice_set}
 use Rattle.std.specs.Option.{option_map_or}
 use Rattle.pb_ids.specs.declared.numbers.HostNo.{HostNo}
@@ -14,15 +14,10 @@ use Rattle.pb_host.specs.Turned.{applies}
 use Rattle.pb_hosts.specs.declared.turned.HostUpdate.{HostUpdate}
 use Rattle.pb_hosts.specs.Hosts.{change}
 use Rattle.pb_hosts.specs.Applied.{AppliedAt, LeadsTo, learnt_in, with_update}
-use Rattle.pb_hosts.proofs.InTurn.{learnt_there}
+use Rattle.pb_hosts.proofs.InTurn.{get_set, learnt_there}
 use Rattle.pb_hosts.proofs.Reported.{put_back, nobody}
 
 -- ---- one host
-get_set : (rows : List HostOf) (h : ℕ) (row new : HostOf) → slice_get rows h ≡ Some row → slice_get (slice_set rows h new) h ≡ Some new
-get_set [] h row new e = cc
-get_set (r ∷ rows) zero row new e = refl
-get_set (r ∷ rows) (suc h) row new e = get_set rows h row new e
-
 set_back : (update : FactsUpdate) (row after : HostOf) → after ≡ applies update row → knows row.facts after ≡ row
 set_back update row after a = ap (knows row.facts) a
 
@@ -92,3 +87,8 @@ leads_first first log rows now e came = came rows (subst (λ (all : List (HostNo
 pub update_step : (all rest : List HostUpdate) (applied : HostUpdate) (rows now whole : List HostOf) → all ≡ applied ∷ rest → now ≡ change rows applied.host.0 (applies applied.update) → with_update all rows ≡ whole
     → with_update rest now ≡ whole
 update_step all rest applied rows now whole a n w = ap (with_update rest) n ∙ subst (λ (ns : List HostUpdate). with_update ns rows ≡ whole) a w
+
+-- or one host more behind them
+pub update_more : (all : List HostUpdate) (n : HostUpdate) (rows : List HostOf) → with_update (all ++ n ∷ []) rows ≡ change (with_update all rows) n.host.0 (applies n.update)
+update_more [] n rows = refl
+update_more (m ∷ all) n rows = update_more all n (change rows m.host.0 (applies m.update))

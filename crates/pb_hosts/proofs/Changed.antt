@@ -3,10 +3,7 @@ use Rattle.std.proofs.Common.{◌≡◌, ◌∙◌, ℕ, zero, suc, ◌<◌, Lis
 use Rattle.std.specs.Prelude.{Option, Some, None, Result, Ok, Err, IfSome, OnErr, slice_get, slice_set}
 use Rattle.std.specs.Option.{option_map_or}
 use Rattle.std.proofs.lemmas.Option.{slice_get_read}
-use Rattle.pb_facts.specs.Update.{IsBetween}
-use Rattle.pb_facts.specs.declared.update.FactsUndo.{FactsUndo}
 use Rattle.pb_host.specs.Host.{HostOf}
-use Rattle.pb_hosts.specs.Applied.{LearnsBetween}
 use Rattle.pb_hosts.specs.Hosts.{change}
 
 pub there : (rows : List HostOf) (h : ℕ) (row : HostOf) → h < length rows → row ≡ get_or rows h row → slice_get rows h ≡ Some row
@@ -32,13 +29,3 @@ put_same (r ∷ rows) (suc h) row new e same = ap (λ rest. r ∷ rest) (put_sam
 pub on_err : {T E : Type 0} (r : Result T E) (P : Type 0) → P → OnErr r P
 on_err (Ok x) P p = tt
 on_err (Err e) P p = p
-
--- what lies between what its host had learnt and what it has learnt then
-pub between_there : (past : FactsUndo) (step : HostOf → HostOf) (rows now : List HostOf) (h : ℕ) (row new : HostOf) → slice_get rows h ≡ Some row → rows ≡ now → new ≡ step row → IsBetween past row.facts new.facts
-    → LearnsBetween past h step now
-between_there past step rows now h row new e same n between =
-    subst (λ (found : Option HostOf). IfSome found (λ (r : HostOf). IsBetween past r.facts (step r).facts)) (sym e ∙ ap (λ (all : List HostOf). slice_get all h) same)
-    (subst (λ (r : HostOf). IsBetween past row.facts r.facts) n between)
-
-pub between_nowhere : (past : FactsUndo) (step : HostOf → HostOf) (rows : List HostOf) (h : ℕ) → slice_get rows h ≡ None → LearnsBetween past h step rows
-between_nowhere past step rows h e = subst (λ (found : Option HostOf). IfSome found (λ (r : HostOf). IsBetween past r.facts (step r).facts)) (sym e) tt

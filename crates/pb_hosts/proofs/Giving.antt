@@ -64,6 +64,13 @@ get_changed [] h f = refl
 get_changed (row ∷ rows) zero f = refl
 get_changed (row ∷ rows) (suc h) f = rw (change_on row rows h f) (get_changed rows h f)
 
+pub get_apart : (rows : List HostOf) (h k : ℕ) (f : HostOf → HostOf) → k ≢ h → slice_get (change rows k f) h ≡ slice_get rows h
+get_apart [] h k f d = refl
+get_apart (row ∷ rows) zero zero f d = absurd (d refl)
+get_apart (row ∷ rows) zero (suc k) f d = ap (λ (all : List HostOf). slice_get all zero) (change_on row rows k f)
+get_apart (row ∷ rows) (suc h) zero f d = refl
+get_apart (row ∷ rows) (suc h) (suc k) f d = ap (λ (all : List HostOf). slice_get all (suc h)) (change_on row rows k f) ∙ get_apart rows h k f (λ e. d (ap suc e))
+
 -- changes of one row, one after another, and of two rows, in any order
 pub twice : (rows : List HostOf) (h : ℕ) (f g : HostOf → HostOf) → change (change rows h f) h g ≡ change rows h (λ row. g (f row))
 twice [] h f g = refl

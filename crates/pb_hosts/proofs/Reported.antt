@@ -5,22 +5,20 @@ use Rattle.std.specs.Option.{option_map_or}
 use Rattle.pb_inventory.specs.InventoryOf.{InventoryOf}
 use Rattle.pb_outcome.specs.declared.outcome.Form.{Form}
 use Rattle.pb_plan.specs.Plan.{PlayOf, PlanOf}
-use Rattle.pb_facts.specs.Update.{IsBetween}
-use Rattle.pb_facts.specs.declared.update.FactsUndo.{FactsUndo}
 use Rattle.pb_task_vars.specs.declared.gifts.DelegatedFacts.{DelegatedFacts}
 use Rattle.pb_outcome.specs.Items.{next_item}
 use Rattle.pb_host.specs.declared.step_result.StepResult.{StepResult}
 use Rattle.pb_host.specs.declared.step_result.Retried.{Retried}
 use Rattle.pb_host.specs.declared.host.Running.{Running}
 use Rattle.pb_host.specs.Back.{back_running, back_row, retried_running, retried_row, went_with, went_on, step_result_back, step_result_now}
-use Rattle.pb_hosts.specs.Applied.{LearnsBetween}
+use Rattle.pb_hosts.specs.Applied.{learnt_in}
 use Rattle.pb_hosts.specs.Giving.{gives_with, gives_on, gives_now, with_delegated, gifts_by, gifts_of, report_gives}
 use Rattle.pb_host.specs.Ends.{IsAtMost}
 use Rattle.pb_host.specs.Runs.{item_of}
 use Rattle.pb_host.specs.StepResults.{step_result_by, report_result}
 use Rattle.pb_hosts.specs.Hosts.{change}
 use Rattle.pb_host.specs.Host.{HostOf, reported, reported_running}
-use Rattle.pb_hosts.proofs.Giving.{change_on, get_changed, twice, same_change}
+use Rattle.pb_hosts.proofs.Giving.{change_on, get_changed, map_same, twice, same_change}
 
 -- its item comes back, and its task goes on
 pub reported_as : (plan : PlanOf) (play : PlayOf) (outcome : Form) (row : HostOf) → went_on plan.inventory play (back_row plan play outcome row) ≡ reported plan play outcome row
@@ -73,10 +71,6 @@ reported_in plan play outcome h rows back new b n =
     ∙ ap (with_delegated (report_gives plan play outcome h rows))
     (twice rows h (back_row plan play outcome) (went_on plan.inventory play) ∙ same_change rows h (λ row. went_on plan.inventory play (back_row plan play outcome row)) (reported plan play outcome) (reported_as plan play outcome))
 
-pub gives_in : (plan : PlanOf) (play : PlayOf) (outcome : Form) (h : ℕ) (rows back : List HostOf) (gifts : List DelegatedFacts) → back ≡ change rows h (back_row plan play outcome)
-    → gifts ≡ gives_now plan.inventory play h back → gifts ≡ report_gives plan play outcome h rows
-gives_in plan play outcome h rows back gifts b g = g ∙ ap (gives_now plan.inventory play h) b ∙ gives_as plan play outcome h rows
-
 pub step_result_in : (plan : PlanOf) (play : PlayOf) (outcome : Form) (h : ℕ) (rows back : List HostOf) (number : Option ℕ) (retried : Option Retried) (step_result : Option StepResult)
     → back ≡ change rows h (back_row plan play outcome) → number ≡ option_map_or item_of (slice_get rows h) None → retried ≡ option_map_or (retried_row plan play outcome) (slice_get rows h) None
     → step_result ≡ option_map_or (step_result_now play number retried) (slice_get back h) None → step_result ≡ option_map_or (report_result plan play outcome) (slice_get rows h) None
@@ -94,18 +88,9 @@ step_result_in plan play outcome h rows back number retried step_result b n r d 
     by_found None = refl
     by_found (Some row) = step_result_as plan play outcome row
 
--- what lies between what its host had learnt and has learnt then
-pub between_in : (plan : PlanOf) (play : PlayOf) (outcome : Form) (h : ℕ) (rows back : List HostOf) (past : FactsUndo) → back ≡ change rows h (back_row plan play outcome)
-    → LearnsBetween past h (went_on plan.inventory play) back → LearnsBetween past h (reported plan play outcome) rows
-between_in plan play outcome h rows back past b between =
-    by_found (slice_get rows h)
-    (subst (λ (found : Option HostOf). IfSome found (λ (row : HostOf). IsBetween past row.facts (went_on plan.inventory play row).facts)) (get_changed rows h (back_row plan play outcome))
-    (subst (λ (all : List HostOf). LearnsBetween past h (went_on plan.inventory play) all) b between))
-  where
-    by_found : (found : Option HostOf) → IfSome (option_map (back_row plan play outcome) found) (λ (row : HostOf). IsBetween past row.facts (went_on plan.inventory play row).facts)
-        → IfSome found (λ (row : HostOf). IsBetween past row.facts (reported plan play outcome row).facts)
-    by_found None there = tt
-    by_found (Some row) there = subst (λ (new : HostOf). IsBetween past row.facts new.facts) (reported_as plan play outcome row) there
+-- nobody learns anything as an item comes back
+pub back_learns : (plan : PlanOf) (play : PlayOf) (outcome : Form) (h : ℕ) (rows back : List HostOf) → back ≡ change rows h (back_row plan play outcome) → learnt_in back ≡ learnt_in rows
+back_learns plan play outcome h rows back b = ap learnt_in b ∙ map_same (λ (row : HostOf). row.facts) (back_row plan play outcome) (λ row. refl) rows h
 
 -- the counts of a host stay as its item comes back
 pub room_back : (plan : PlanOf) (play : PlayOf) (outcome : Form) (h : ℕ) (rows back : List HostOf) → back ≡ change rows h (back_row plan play outcome) → IfSome (slice_get rows h) (λ row. IsAtMost row.counts (2 ^ 64 - 2))
@@ -126,8 +111,3 @@ put_back (r ∷ rows) (suc h) row new f e same = change_on r (slice_set rows h n
 
 pub nobody : (rows : List HostOf) (h : ℕ) (f : HostOf → HostOf) → slice_get rows h ≡ None → change rows h f ≡ rows
 nobody rows h f e = ap (λ (found : Option HostOf). option_map_or (λ (row : HostOf). slice_set rows h (f row)) found rows) e
-
--- and nothing goes on, nor is given, of a number that is no host's
-pub nobody_on : (inventory : InventoryOf) (play : PlayOf) (rows : List HostOf) (h : ℕ) → slice_get rows h ≡ None → rows ≡ with_delegated (gives_now inventory play h rows) (change rows h (went_on inventory play))
-nobody_on inventory play rows h e =
-    sym (ap (λ (found : Option HostOf). with_delegated (option_map_or (gives_on inventory play h) found []) (option_map_or (λ (row : HostOf). slice_set rows h (went_on inventory play row)) found rows)) e)

@@ -32,6 +32,7 @@ use Rattle.pb_hosts.specs.Turn.{with_copy, ends_run_once_at, has_done_run_once, 
 use Rattle.pb_hosts.specs.TurnMade.{copy_applied, turning_row}
 use Rattle.pb_hosts.specs.Due.{is_inside, IsOutside, AreOutside, IsDue}
 use Rattle.pb_hosts.specs.Oldest.{ticket_of, out_from}
+use Rattle.pb_hosts.proofs.Applying.{update_more}
 use Rattle.pb_hosts.proofs.Giving.{change_on, map_same}
 use Rattle.pb_hosts.proofs.InTurn.{log_learns}
 use Rattle.pb_hosts.proofs.Members.{part, Spares, part_skip, at_none, copy_none, reached, finished}
@@ -62,10 +63,6 @@ pub turning_spares : (t : Turning) → Spares (turning_row t)
 turning_spares t row out e = turning_none t row e
 
 -- ---- what one host more learns
-update_more : (all : List HostUpdate) (n : HostUpdate) (rows : List HostOf) → with_update (all ++ n ∷ []) rows ≡ change (with_update all rows) n.host.0 (applies n.update)
-update_more [] n rows = refl
-update_more (m ∷ all) n rows = update_more all n (change rows m.host.0 (applies m.update))
-
 part_given : (f g : HostOf → HostOf) (rows : List HostOf) (h : ℕ) → IfSome (slice_get rows h) (λ (row : HostOf). g row ≡ f row) → change (part f h rows) h g ≡ part f (suc h) rows
 part_given f g [] zero e = refl
 part_given f g [] (suc h) e = refl

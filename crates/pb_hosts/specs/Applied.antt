@@ -1,5 +1,5 @@
 -- Hosts learn something, one after another; and what was before, so that it can be put back, and tells what lies between.
-use Rattle.std.specs.Prelude.{◌≡◌, ◌≢◌, ℕ, List, [], ◌∷◌, map, IfSome, slice_get}
+use Rattle.std.specs.Prelude.{◌≡◌, ◌≢◌, ℕ, List, [], ◌∷◌, ◌++◌, map, IfSome, slice_get}
 use Rattle.pb_ids.specs.declared.numbers.HostNo.{HostNo}
 use Rattle.pb_facts.specs.Book.{row_of}
 use Rattle.pb_facts.specs.Facts.{FactsOf}
@@ -29,10 +29,6 @@ abbrev pub LeadsTo : List (HostNo × FactsUndo) → List HostOf → List HostOf 
 LeadsTo [] was now = was ≡ now
 LeadsTo (before ∷ log) was now = (mid : List HostOf) × AppliedAt before.0.0 before.1 was mid × LeadsTo log mid now
 
--- what lies between what a host of these rows had learnt and what it has learnt once its row changes so
-abbrev pub LearnsBetween : FactsUndo → ℕ → (HostOf → HostOf) → List HostOf → Type 0
-LearnsBetween past h step rows = IfSome (slice_get rows h) (λ (row : HostOf). IsBetween past row.facts (step row).facts)
-
 -- of what hosts have learnt, by their numbers, this one's alone became another, and this lies between
 abbrev pub LearnsOne : ℕ → FactsUndo → List FactsOf → List FactsOf → Type 0
 LearnsOne h past before now = ((other : ℕ) → other ≢ h → row_of now other ≡ row_of before other) × IsBetween past (row_of before h) (row_of now h)
@@ -41,3 +37,7 @@ LearnsOne h past before now = ((other : ℕ) → other ≢ h → row_of now othe
 abbrev pub LearnInTurn : List (HostNo × FactsUndo) → List FactsOf → List FactsOf → Type 0
 LearnInTurn [] before now = before ≡ now
 LearnInTurn (one ∷ log) before now = (mid : List FactsOf) × LearnsOne one.0.0 one.1 before mid × LearnInTurn log mid now
+
+-- this host learnt something, which is put down behind what stands in the log
+abbrev pub LearnsLast : HostNo → List (HostNo × FactsUndo) → List (HostNo × FactsUndo) → List FactsOf → List FactsOf → Type 0
+LearnsLast host old new before now = (past : FactsUndo) × LearnsOne host.0 past before now × (new ≡ old ++ (host, past) ∷ [])

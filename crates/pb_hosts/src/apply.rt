@@ -96,7 +96,7 @@ fn revert_last(rows: &mut Vec<Host>, log: &mut Vec<(HostNo, FactsUndo)>)
 
 /// All of them are as they were before.
 #[tactic(auto, using(crate::proofs::Applying::leads_end))]
-fn revert_all(rows: &mut Vec<Host>, log: Vec<(HostNo, FactsUndo)>)
+pub(crate) fn revert_all(rows: &mut Vec<Host>, log: Vec<(HostNo, FactsUndo)>)
     ensures { (was : List HostOf) → LeadsTo log.items was rows.old.items → rows.new.items ≡ was }
 {
     let mut left = log;

@@ -1,12 +1,17 @@
-//! What the tasks of hosts teach as they end: what they give to other hosts, and what these know then.
+//! What the tasks of hosts teach as they end: what they give to other hosts, and what these learn of it.
 
-ghost use Rattle.std.specs.Prelude.{◌≡◌, ◌++◌, [], position, IfOk, OnOk};
-ghost use Rattle.pb_hosts.specs.Giving.{gives_now, gifts_at};
-ghost use Rattle.pb_hosts.specs.Prepared.{given_first, is_for, more_at, with_gift, with_gifts};
+ghost use Rattle.std.specs.Prelude.{◌≡◌, List, position, IfOk, OnOk, OnErr};
+ghost use Rattle.pb_facts.specs.Facts.{FactsOf};
+ghost use Rattle.pb_facts.specs.Update.{applied};
+ghost use Rattle.pb_host.specs.Host.{HostOf};
+ghost use Rattle.pb_hosts.specs.Applied.{LeadsTo, with_update};
+ghost use Rattle.pb_hosts.specs.Giving.{gives_now, gifts_at, with_delegated};
+ghost use Rattle.pb_hosts.specs.Prepared.{AreOnce, IsGift, IsJoinedAt, IsTaken, is_for};
 
+use crate::apply::apply_each;
 use crate::list::row_at;
-use pb_facts::facts::Facts;
-use pb_facts::update::FactsUndo;
+use crate::turned::HostUpdate;
+use pb_facts::update::{FactsUndo, FactsUpdate, gift_update};
 use pb_host::{Host, TaskItems, task_at};
 use pb_ids::HostNo;
 use pb_inventory::inventory::Inventory;
@@ -14,6 +19,7 @@ use pb_plan::PlanPlay;
 use pb_task_vars::ends::Ended;
 use pb_task_vars::gifts::DelegatedFacts;
 use std::alloc::{AllocError, Global};
+use std::mem;
 
 /// What the task at a place gives to other hosts than this one, which started it, once these items end it.
 pub(crate) fn gifts_at(
@@ -58,130 +64,95 @@ pub(crate) fn gives_now(
     }
 }
 
-/// What a task taught: what it gave to other hosts as it ended, and what was before its own host learnt something.
-pub struct Taught {
-    /// What it gave to other hosts.
-    pub gifts: Vec<DelegatedFacts>,
-    /// What was before its own host learnt something.
-    pub past: FactsUndo,
+/// What a host learns by a gift.
+fn update_for(alloc: Global, gift: &DelegatedFacts) -> Result<HostUpdate, AllocError>
+    ensures { IfOk result (λ given. IsGift gift.now given) }
+{
+    let update = gift_update(alloc, gift.gives, &gift.facts)?;
+    Ok(HostUpdate {
+        host: gift.host,
+        update,
+    })
 }
 
-impl Drop for Taught {
-    fn drop(self) {
-        let Taught { gifts, past } = self;
-        drop(gifts);
-        drop(past);
-    }
-}
-
-impl Taught {
-    /// Nothing.
-    pub fn nothing(alloc: Global) -> Taught
-        ensures gifts { result.gifts.items ≡ [] }
-        ensures past { result.past ≡ FactsUndo.Nothing }
-    {
-        Taught {
-            gifts: Vec::new(alloc),
-            past: FactsUndo::Nothing,
-        }
-    }
-}
-
-/// What a host knows once it has been given something.
-pub(crate) struct NewFacts {
-    pub(crate) host: HostNo,
-    pub(crate) facts: Facts,
-}
-
-impl Drop for NewFacts {
-    fn drop(self) {
-        let NewFacts { host: _, facts } = self;
-        drop(facts);
-    }
-}
-
-impl NewFacts {
-    /// The host, and what it knows.
-    pub(crate) fn parts(self) -> (HostNo, Facts)
-        ensures { result ≡ (self.host, self.facts) }
-    {
-        let NewFacts { host, facts } = self;
-        (host, facts)
-    }
-}
-
-/// Where it is kept what this host knows.
-fn known_at(all: &[NewFacts], host: HostNo) -> Option<usize>
+/// Where it is put down what this host learns.
+fn known_at(all: &[HostUpdate], host: HostNo) -> Option<usize>
     ensures { result ≡ position (is_for host.0) all.now }
 {
-    all.iter().position(|known| known.host.0 == host.0)
+    all.iter().position(|one| one.host.0 == host.0)
 }
 
-/// One gift more for the host whose facts are kept there.
-fn take_more(
-    alloc: Global,
-    all: &mut Vec<NewFacts>,
-    at: usize,
-    gift: &DelegatedFacts,
-) -> Result<(), AllocError>
-    ensures { OnOk result (all.new.items ≡ more_at gift.now at all.old.items) }
+/// A host learns this, too, behind what it learns.
+fn join_to(one: &mut HostUpdate, next: FactsUpdate) -> Result<(), AllocError>
+    ensures host { one.new.host ≡ one.old.host }
+    ensures both { OnOk result ((facts : FactsOf) → applied one.new.update facts ≡ applied next (applied one.old.update facts)) }
+{
+    let first = mem::replace(&mut one.update, FactsUpdate::Nothing);
+    let both = first.join(next)?;
+    one.update = both;
+    Ok(())
+}
+
+/// The same of the host at this place.
+fn join_at(all: &mut Vec<HostUpdate>, at: usize, next: FactsUpdate) -> Result<(), AllocError>
+    ensures { OnOk result (IsJoinedAt next at all.old.items all.new.items) }
 {
     match all.get_mut(at) {
-        Some(known) => known.facts.take(alloc, gift.gives, &gift.facts),
-        None => Ok(()),
-    }
-}
-
-/// The first gift for a host, which knows until now what stands in its row.
-fn take_first(
-    alloc: Global,
-    all: &mut Vec<NewFacts>,
-    rows: &[Host],
-    gift: &DelegatedFacts,
-) -> Result<(), AllocError>
-    ensures { OnOk result (all.new.items ≡ all.old.items ++ given_first rows.now gift.now) }
-{
-    match rows.get(gift.host.0 as usize) {
-        Some(row) => {
-            let mut known = NewFacts {
-                host: gift.host,
-                facts: row.facts().try_clone(alloc)?,
-            };
-            known.facts.take(alloc, gift.gives, &gift.facts)?;
-            all.push(known)?;
+        Some(one) => {
+            join_to(one, next)?;
             Ok(())
         }
-        None => Ok(()),
+        None => {
+            drop(next);
+            Ok(())
+        }
     }
 }
 
-/// One gift more.
-#[tactic(auto, using(crate::proofs::Preparing::gift_more, crate::proofs::Preparing::gift_first))]
+/// One gift more: behind what its host learns, or where that learns nothing yet, behind what the others do.
 fn take_in(
     alloc: Global,
-    all: &mut Vec<NewFacts>,
-    rows: &[Host],
+    all: &mut Vec<HostUpdate>,
     gift: &DelegatedFacts,
 ) -> Result<(), AllocError>
-    ensures { OnOk result (all.new.items ≡ with_gift rows.now gift.now all.old.items) }
+    requires { AreOnce all.old.items }
+    ensures { OnOk result (IsTaken gift.now all.old.items all.new.items) }
 {
-    match known_at(all, gift.host) {
-        Some(at) => take_more(alloc, all, at, gift),
-        None => take_first(alloc, all, rows, gift),
+    let given = update_for(alloc, gift)?;
+    match known_at(all.as_slice(), gift.host) {
+        Some(at) => {
+            join_at(all, at, given.into_update())?;
+            Ok(())
+        }
+        None => {
+            all.push(given)?;
+            Ok(())
+        }
     }
 }
 
-/// What the hosts of these rows know once they have these gifts. It is made before a row changes, so that memory that is refused changes nothing.
-pub(crate) fn with_gifts(
-    alloc: Global,
-    rows: &[Host],
-    gifts: &[DelegatedFacts],
-) -> Result<Vec<NewFacts>, AllocError>
-    ensures { IfOk result (λ all. all.items ≡ with_gifts rows.now gifts.now []) }
+/// What hosts learn by these gifts, which is one thing for each of them. It is made before a row changes, so that memory that is refused changes nothing.
+fn gift_updates(alloc: Global, gifts: &[DelegatedFacts]) -> Result<Vec<HostUpdate>, AllocError>
+    ensures { IfOk result (λ all. (rows : List HostOf) → with_update all.items rows ≡ with_delegated gifts.now rows) }
 {
     let mut all = Vec::new(alloc);
     for gift in gifts {
-        take_in(alloc, &mut all, rows, gift)?;
+        take_in(alloc, &mut all, gift)?;
     }
     Ok(all)
+}
+
+/// Hosts are given this. What was before is handed back, in the order in which they learn it, each host once. An `Err` changes nothing.
+pub(crate) fn apply_gifts(
+    alloc: Global,
+    rows: &mut Vec<Host>,
+    gifts: Vec<DelegatedFacts>,
+) -> Result<Vec<(HostNo, FactsUndo)>, AllocError>
+    ensures ok { OnOk result (rows.new.items ≡ with_delegated gifts.items rows.old.items) }
+    ensures past { IfOk result (λ log. LeadsTo log.items rows.old.items rows.new.items) }
+    ensures err { OnErr result (rows.new.items ≡ rows.old.items) }
+{
+    let all = gift_updates(alloc, gifts.as_slice())?;
+    let log = apply_each(alloc, rows, all)?;
+    Ok(log)
 }

@@ -15,24 +15,22 @@ ghost use Rattle.pb_host.specs.Standing.{standing};
 ghost use Rattle.pb_hosts.specs.Due.{asked_at, is_inside, AreOutside};
 ghost use Rattle.pb_strategies.specs.Hosts.{nowhere};
 ghost use Rattle.pb_hosts.specs.Oldest.{oldest_out};
-ghost use Rattle.pb_hosts.specs.Applied.{LearnInTurn, LearnsBetween, learnt_in, with_update};
+ghost use Rattle.pb_hosts.specs.Applied.{LearnInTurn, learnt_in, with_update};
 ghost use Rattle.pb_hosts.specs.Turn.{is_run_once_done};
 ghost use Rattle.pb_hosts.specs.TurnMade.{halts_at, turned_rows, turning_row};
 
 use crate::apply::apply_each;
-use crate::gifts::{Taught, gifts_at, with_gifts};
 use crate::inside::{
     empty_by, least_inside, leave_inside, put_in, some_inside, stand_inside, stand_left,
     turn_inside,
 };
 use crate::jobs_out::{drop_job, first_job, put_job, some_under};
 use crate::list::play_hosts::{begin_all, play_hosts_set};
-use crate::list::{
-    self, advance_row, first_rows, item_in, join_waiting, know_all, row_at, take_back, undo,
-    walks_for,
-};
+use crate::list::{self, first_rows, item_in, join_waiting, row_at, take_back, undo, walks_for};
+use crate::own::OwnTask;
 use crate::turned::{TurnMade, TurnResult, is_run_once_done_at, turn_of};
 use pb_cursors::{LaidTree, PlayWalk};
+use pb_facts::update::FactsUndo;
 use pb_host::{Host, StepResult, TaskDone, TaskItems};
 use pb_ids::{HostNo, Ticket};
 use pb_inventory::inventory::Inventory;
@@ -250,8 +248,8 @@ pub fn stand_at(rows: &mut Hosts, place: Option<usize>)
 }
 
 impl Hosts {
-    /// A host starts the task at a place with these items; where it ends at once, what it gives to other hosts is theirs, and what it taught is handed out. An `Err`
-    /// changes nothing.
+    /// A host starts the task at a place with these items; where it ends at once, what it gives to other hosts is theirs. What was before they learnt something is
+    /// handed out, in the order in which they did, that of the host itself last. An `Err` changes nothing.
     pub fn start_row(
         &mut self,
         alloc: Global,
@@ -260,28 +258,20 @@ impl Hosts {
         play: &PlanPlay,
         place: usize,
         items: TaskItems,
-    ) -> Result<(Option<TaskDone>, Taught), AllocError>
+    ) -> Result<(Option<TaskDone>, Vec<(HostNo, FactsUndo)>), AllocError>
         requires there { host.0 < length self.old }
         requires batch { IfSome (slice_get self.old host.0) (λ row. row.in_batch ≡ true) }
         requires room { IfSome (slice_get self.old host.0) (λ row. IsAtMost row.counts (2 ^ 64 - 2)) }
         ensures rows { OnOk result (self.new ≡ with_delegated (gifts_at inventory.now play.now place host.0 items) (change self.old host.0 (progressed inventory.now play.now place items))) }
         ensures done { IfOk result (λ started. started.0 ≡ done_if play.now place (pending_in self.old host.0) items) }
-        ensures gifts { IfOk result (λ started. started.1.gifts.items ≡ gifts_at inventory.now play.now place host.0 items) }
-        ensures past { IfOk result (λ started. LearnsBetween started.1.past host.0 (progressed inventory.now play.now place items) self.old) }
+        ensures learnt { IfOk result (λ started. LearnInTurn started.1.items (learnt_in self.old) (learnt_in self.new)) }
         ensures err { OnErr result (self.new ≡ self.old) }
     {
-        let gifts = gifts_at(alloc, inventory, play, place, host, &items)?;
-        let known = with_gifts(alloc, self.rows.as_slice(), gifts.as_slice())?;
-        match self.rows.get_mut(host.0 as usize) {
-            Some(row) => {
-                let (done, past) = row.start(alloc, inventory, play, place, items)?;
-                know_all(&mut self.rows, known);
-                drop_job(&mut self.out, host);
-                ask_one(&self.rows, host, &mut self.sends, &mut self.standings);
-                Ok((done, Taught { gifts, past }))
-            }
-            None => unreachable!(),
-        }
+        let own = OwnTask { inventory, play };
+        let (done, learnt) = own.start(alloc, &mut self.rows, host, place, items)?;
+        drop_job(&mut self.out, host);
+        ask_one(&self.rows, host, &mut self.sends, &mut self.standings);
+        Ok((done, learnt))
     }
 }
 
@@ -297,8 +287,8 @@ pub fn send_row(rows: &mut Hosts, host: HostNo, ticket: Ticket) -> Result<(), Al
     Ok(())
 }
 
-/// The job of a host that is out came to this; where its task ends, what it gives to other hosts is theirs, and what it taught is handed out. An `Err` changes
-/// nothing.
+/// The job of a host that is out came to this; where its task ends, what it gives to other hosts is theirs. What was before they learnt something is handed
+/// out, in the order in which they did, that of the host itself last. An `Err` changes nothing.
 pub fn report_row(
     alloc: Global,
     rows: &mut Hosts,
@@ -306,24 +296,24 @@ pub fn report_row(
     plan: &PlanWithHostvars,
     play: &PlanPlay,
     outcome: &Outcome,
-) -> Result<(Option<StepResult>, Taught), AllocError>
+) -> Result<(Option<StepResult>, Vec<(HostNo, FactsUndo)>), AllocError>
     requires { IfSome (slice_get rows.old host.0) (λ row. IsAtMost row.counts (2 ^ 64 - 2)) }
     ensures rows { OnOk result (rows.new ≡ with_delegated (report_gives plan.now play.now outcome.now host.0 rows.old) (change rows.old host.0 (reported plan.now play.now outcome.now))) }
     ensures comes_to { IfOk result (λ reported. reported.0 ≡ option_map_or (report_result plan.now play.now outcome.now) (slice_get rows.old host.0) None) }
-    ensures gifts { IfOk result (λ reported. reported.1.gifts.items ≡ report_gives plan.now play.now outcome.now host.0 rows.old) }
-    ensures past { IfOk result (λ both. LearnsBetween both.1.past host.0 (reported plan.now play.now outcome.now) rows.old) }
+    ensures learnt { IfOk result (λ reported. LearnInTurn reported.1.items (learnt_in rows.old) (learnt_in rows.new)) }
     ensures err { OnErr result (rows.new ≡ rows.old) }
 {
     let number = item_in(rows.rows.as_slice(), host);
     let came = take_back(alloc, &mut rows.rows, host, plan, play, outcome)?;
     let (before, retried) = came.parts();
     let inventory = plan.inventory();
-    match advance_row(&mut rows.rows, host, inventory, play, number, retried) {
-        Ok((step_result, taught)) => {
+    let own = OwnTask { inventory, play };
+    match own.advance(alloc, &mut rows.rows, host, number, retried) {
+        Ok((step_result, learnt)) => {
             drop(before);
             drop_job(&mut rows.out, host);
             ask_one(&rows.rows, host, &mut rows.sends, &mut rows.standings);
-            Ok((step_result, taught))
+            Ok((step_result, learnt))
         }
         Err(error) => {
             undo(&mut rows.rows, host, before);

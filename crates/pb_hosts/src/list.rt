@@ -1,28 +1,21 @@
 //! The rows of all hosts.
 
-ghost use Rattle.std.specs.Prelude.{◌≡◌, ◌≤◌, ◌-◌, ◌^◌, length, map, replicate, slice_get, count_by, IfOk, IfSome, OnOk, OnErr, None};
+ghost use Rattle.std.specs.Prelude.{◌≡◌, ◌≤◌, length, map, replicate, slice_get, count_by, IfOk, OnOk, OnErr, None};
 ghost use Rattle.std.specs.Option.{option_copied, option_map_or};
-ghost use Rattle.pb_host.specs.Host.{HostOf, first_rows, is_waiting, sent, knows};
-ghost use Rattle.pb_host.specs.Ends.{IsAtMost};
+ghost use Rattle.pb_host.specs.Host.{HostOf, first_rows, is_waiting, sent};
 ghost use Rattle.pb_cursors.specs.Walks.{walk_from};
 ghost use Rattle.pb_hosts.specs.Joining.{first_walks, joined_by};
 ghost use Rattle.pb_host.specs.Runs.{item_of, attempt_of};
 ghost use Rattle.pb_hosts.specs.Hosts.{lesser, change};
-ghost use Rattle.pb_hosts.specs.Applied.{LearnsBetween};
-ghost use Rattle.pb_hosts.specs.Giving.{with_delegated, gives_now};
-ghost use Rattle.pb_host.specs.Back.{back_row, retried_row, undone, went_on, step_result_now};
-ghost use Rattle.pb_hosts.specs.Prepared.{with_facts};
+ghost use Rattle.pb_host.specs.Back.{back_row, retried_row, undone};
 ghost use Rattle.pb_hosts.specs.Due.{is_inside, AreOutside};
 
 pub(crate) mod play_hosts;
 
-use crate::gifts::{NewFacts, Taught, gives_now, with_gifts};
 use crate::inside::{empty_by, join_each, step_out};
 use pb_cursors::{LaidTree, PlayWalk};
-use pb_facts::update::FactsUndo;
-use pb_host::{Before, CameBack, Counts, Host, Retried, StepResult};
+use pb_host::{Before, CameBack, Counts, Host};
 use pb_ids::{HostNo, Ticket};
-use pb_inventory::inventory::Inventory;
 use pb_outcome::outcome::Outcome;
 use pb_plan::PlanPlay;
 use pb_planes::HostSet;
@@ -39,74 +32,6 @@ pub(crate) fn first_rows(alloc: Global, hosts: u32) -> Result<Vec<Host>, AllocEr
         rows.push(Host::new(alloc, HostNo(host)))?;
     }
     Ok(rows)
-}
-
-/// What a host knows from now on.
-fn know_row(rows: &mut Vec<Host>, known: NewFacts)
-    ensures { rows.new.items ≡ change rows.old.items known.host.0 (knows known.facts) }
-{
-    let (host, facts) = known.parts();
-    match rows.get_mut(host.0 as usize) {
-        Some(row) => row.know(facts),
-        None => drop(facts),
-    }
-}
-
-/// The last of these hosts knows what is kept for it.
-fn know_last(rows: &mut Vec<Host>, all: &mut Vec<NewFacts>)
-    ensures facts { with_facts all.new.items rows.new.items ≡ with_facts all.old.items rows.old.items }
-    ensures fewer { length all.new.items ≡ length all.old.items - 1 }
-{
-    if let Some(known) = all.pop() {
-        know_row(rows, known);
-    }
-}
-
-/// These hosts know what is kept for them.
-pub(crate) fn know_all(rows: &mut Vec<Host>, all: Vec<NewFacts>)
-    ensures { rows.new.items ≡ with_facts all.items rows.old.items }
-{
-    let mut left = all;
-    let count = left.len();
-    for _ in 0..count {
-        know_last(rows, &mut left);
-    }
-}
-
-/// What a step comes to for the task that a host runs, of which the item with this number came back, or this attempt at it; where the task ends, what it gives to
-/// other hosts is theirs, and what it taught is handed out. An `Err` changes nothing.
-pub(crate) fn advance_row(
-    rows: &mut Vec<Host>,
-    host: HostNo,
-    inventory: &Inventory,
-    play: &PlanPlay,
-    number: Option<u32>,
-    retried: Option<Retried>,
-) -> Result<(Option<StepResult>, Taught), AllocError>
-    requires { IfSome (slice_get rows.old.items host.0) (λ row. IsAtMost row.counts (2 ^ 64 - 2)) }
-    ensures rows { OnOk result (rows.new.items ≡ with_delegated (gives_now inventory.now play.now host.0 rows.old.items) (change rows.old.items host.0 (went_on inventory.now play.now))) }
-    ensures comes_to { IfOk result (λ both. both.0 ≡ option_map_or (step_result_now play.now number retried) (slice_get rows.old.items host.0) None) }
-    ensures gifts { IfOk result (λ both. both.1.gifts.items ≡ gives_now inventory.now play.now host.0 rows.old.items) }
-    ensures past { IfOk result (λ both. LearnsBetween both.1.past host.0 (went_on inventory.now play.now) rows.old.items) }
-    ensures err { OnErr result (rows.new.items ≡ rows.old.items) }
-{
-    let alloc = *rows.allocator();
-    let gifts = gives_now(alloc, inventory, play, rows.as_slice(), host)?;
-    let known = with_gifts(alloc, rows.as_slice(), gifts.as_slice())?;
-    match rows.get_mut(host.0 as usize) {
-        Some(row) => {
-            let (step_result, past) = row.advance(alloc, inventory, play, number, retried)?;
-            know_all(rows, known);
-            Ok((step_result, Taught { gifts, past }))
-        }
-        None => Ok((
-            None,
-            Taught {
-                gifts,
-                past: FactsUndo::Nothing,
-            },
-        )),
-    }
 }
 
 /// A job of a host goes out.

@@ -2,6 +2,7 @@ use Rattle.std.proofs.Common.{◌≡◌, ◌∙◌, ◌-◌, ◌^◌, List, ap, 
 use Rattle.std.specs.Prelude.{Option, None, IfSome, slice_get}
 use Rattle.std.specs.Option.{option_map_or}
 use Rattle.pb_inventory.specs.InventoryOf.{InventoryOf}
+use Rattle.pb_facts.specs.Facts.{FactsOf}
 use Rattle.pb_host.specs.declared.step_result.Retried.{Retried}
 use Rattle.pb_host.specs.declared.items.Before.{Before}
 use Rattle.pb_host.specs.Back.{undone, went_on}
@@ -9,18 +10,18 @@ use Rattle.pb_host.specs.StepResults.{report_result}
 use Rattle.pb_host.specs.Ends.{IsAtMost}
 use Rattle.pb_host.specs.Host.{HostOf, reported}
 use Rattle.pb_host.specs.Runs.{item_of}
-use Rattle.pb_hosts.specs.Applied.{LearnsBetween}
+use Rattle.pb_hosts.specs.Applied.{LearnInTurn, learnt_in}
 use Rattle.pb_hosts.specs.Giving.{gives_now, report_gives, with_delegated}
 use Rattle.pb_hosts.specs.Hosts.{change}
 use Rattle.pb_hosts.proofs.Asked.{given_due}
 use Rattle.pb_hosts.proofs.Outside.{reported_inside, reported_waits, reported_out}
-use Rattle.pb_hosts.proofs.Reported.{between_in, gives_in, reported_in, room_back, step_result_in}
+use Rattle.pb_hosts.proofs.Reported.{back_learns, reported_in, room_back, step_result_in}
 use Rattle.pb_hosts.proofs.TicketOrder.{reported_quiet}
 use Rattle.pb_hosts.proofs.Turns.{same_due}
 use Rattle.pb_hosts.proofs.hosts.report_row.Goals as goal
 
-pub advance_row-requires : goal.advance_row-requires
-advance_row-requires c =
+pub advance-requires : goal.advance-requires
+advance-requires c =
     room_back c.args.plan.now c.args.play.now c.args.outcome.now c.args.host.0 c.rows.inside.rows.items c.take_back.new.rows.items c.in_ok-came.ensures.ok
     (subst (λ (all : List HostOf). IfSome (slice_get all c.args.host.0) (λ (row : HostOf). IsAtMost row.counts (2 ^ 64 - 2))) (sym c.rows.view_is) c.requires)
 
@@ -45,11 +46,11 @@ invariant_of-rows-in-Ok c =
     (reported_quiet c.args.plan.now c.args.play.now c.args.outcome.now)
     (reported_inside c.args.plan.now c.args.play.now c.args.outcome.now)
     (reported_waits c.args.plan.now c.args.play.now c.args.outcome.now) c.args.host.0 c.rows.inside.sends c.ask_one.new.sends c.rows.inside.standings c.ask_one.new.standings c.rows.inside.batch c.rows.inside.awaits_batch c.rows.inside.out.items c.drop_job.new.all.items
-    c.rows.inside.rows.items c.advance_row.new.rows.items
+    c.rows.inside.rows.items c.advance.new.rows.items
     (λ row at out. reported_out c.args.plan.now c.args.play.now c.args.outcome.now row out)
     c.rows.invariant
-    (reported_in c.args.plan.now c.args.play.now c.args.outcome.now c.args.host.0 c.rows.inside.rows.items c.take_back.new.rows.items c.advance_row.new.rows.items c.in_ok-came.ensures.ok
-    (subst (λ (inventory : InventoryOf). c.advance_row.new.rows.items ≡ with_delegated (gives_now inventory c.args.play.now c.args.host.0 c.take_back.new.rows.items) (change c.take_back.new.rows.items c.args.host.0 (went_on inventory c.args.play.now)))
+    (reported_in c.args.plan.now c.args.play.now c.args.outcome.now c.args.host.0 c.rows.inside.rows.items c.take_back.new.rows.items c.advance.new.rows.items c.in_ok-came.ensures.ok
+    (subst (λ (inventory : InventoryOf). c.advance.new.rows.items ≡ with_delegated (gives_now inventory c.args.play.now c.args.host.0 c.take_back.new.rows.items) (change c.take_back.new.rows.items c.args.host.0 (went_on inventory c.args.play.now)))
     c.inventory-inventory.ensures c.in-Ok.ensures.rows))
     c.ask_one.ensures.sends
     c.ask_one.ensures.stands
@@ -57,8 +58,8 @@ invariant_of-rows-in-Ok c =
 
 pub returns-in-Ok-clause-rows : goal.returns-in-Ok-clause-rows
 returns-in-Ok-clause-rows c =
-    reported_in c.args.plan.now c.args.play.now c.args.outcome.now c.args.host.0 c.rows.inside.rows.items c.take_back.new.rows.items c.advance_row.new.rows.items c.in_ok-came.ensures.ok
-    (subst (λ (inventory : InventoryOf). c.advance_row.new.rows.items ≡ with_delegated (gives_now inventory c.args.play.now c.args.host.0 c.take_back.new.rows.items) (change c.take_back.new.rows.items c.args.host.0 (went_on inventory c.args.play.now)))
+    reported_in c.args.plan.now c.args.play.now c.args.outcome.now c.args.host.0 c.rows.inside.rows.items c.take_back.new.rows.items c.advance.new.rows.items c.in_ok-came.ensures.ok
+    (subst (λ (inventory : InventoryOf). c.advance.new.rows.items ≡ with_delegated (gives_now inventory c.args.play.now c.args.host.0 c.take_back.new.rows.items) (change c.take_back.new.rows.items c.args.host.0 (went_on inventory c.args.play.now)))
     c.inventory-inventory.ensures c.in-Ok.ensures.rows)
     ∙ ap (λ (all : List HostOf). with_delegated (report_gives c.args.plan.now c.args.play.now c.args.outcome.now c.args.host.0 all) (change all c.args.host.0 (reported c.args.plan.now c.args.play.now c.args.outcome.now))) c.rows.view_is
 
@@ -68,17 +69,11 @@ returns-in-Ok-clause-comes_to c =
     (c.item_in-number.ensures ∙ ap (λ (all : List HostOf). option_map_or item_of (slice_get all c.args.host.0) None) c.as_slice.ensures.value) (ap (λ (p : Option Before × Option Retried). p.1) c.parts-before.ensures ∙ c.in_ok-came.ensures.retried) c.in-Ok.ensures.comes_to
     ∙ ap (λ (all : List HostOf). option_map_or (report_result c.args.plan.now c.args.play.now c.args.outcome.now) (slice_get all c.args.host.0) None) c.rows.view_is
 
-pub returns-in-Ok-clause-gifts : goal.returns-in-Ok-clause-gifts
-returns-in-Ok-clause-gifts c =
-    gives_in c.args.plan.now c.args.play.now c.args.outcome.now c.args.host.0 c.rows.inside.rows.items c.take_back.new.rows.items c.in-Ok.taught.gifts.items c.in_ok-came.ensures.ok
-    (subst (λ (inventory : InventoryOf). c.in-Ok.taught.gifts.items ≡ gives_now inventory c.args.play.now c.args.host.0 c.take_back.new.rows.items) c.inventory-inventory.ensures c.in-Ok.ensures.gifts)
-    ∙ ap (report_gives c.args.plan.now c.args.play.now c.args.outcome.now c.args.host.0) c.rows.view_is
-
-pub returns-in-Ok-clause-past : goal.returns-in-Ok-clause-past
-returns-in-Ok-clause-past c =
-    subst (λ (all : List HostOf). LearnsBetween c.in-Ok.taught.past c.args.host.0 (reported c.args.plan.now c.args.play.now c.args.outcome.now) all) c.rows.view_is
-    (between_in c.args.plan.now c.args.play.now c.args.outcome.now c.args.host.0 c.rows.inside.rows.items c.take_back.new.rows.items c.in-Ok.taught.past c.in_ok-came.ensures.ok
-    (subst (λ (inventory : InventoryOf). LearnsBetween c.in-Ok.taught.past c.args.host.0 (went_on inventory c.args.play.now) c.take_back.new.rows.items) c.inventory-inventory.ensures c.in-Ok.ensures.past))
+pub returns-in-Ok-clause-learnt : goal.returns-in-Ok-clause-learnt
+returns-in-Ok-clause-learnt c =
+    subst (λ (was : List FactsOf). LearnInTurn c.in-Ok.learnt.items was (learnt_in c.advance.new.rows.items))
+    (back_learns c.args.plan.now c.args.play.now c.args.outcome.now c.args.host.0 c.rows.inside.rows.items c.take_back.new.rows.items c.in_ok-came.ensures.ok ∙ ap learnt_in c.rows.view_is)
+    c.in-Ok.ensures.learnt
 
 pub returns-in-Err-clause-err : goal.returns-in-Err-clause-err
 returns-in-Err-clause-err c =
