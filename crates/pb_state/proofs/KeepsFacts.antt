@@ -112,7 +112,7 @@ set_knows [] h row changed e same = cc
 set_knows (r ∷ rows) zero row changed e same = let first : row ≡ r = cc in ap (λ (x : FactsOf). x ∷ learnt_by rows) (same ∙ ap (λ (x : HostOf). x.facts) first)
 set_knows (r ∷ rows) (suc h) row changed e same = ap (λ (xs : List FactsOf). r.facts ∷ xs) (set_knows rows h row changed e same)
 
-pub change_knows : (rows : List HostOf) (h : ℕ) (f : HostOf → HostOf) (found : Option HostOf) → slice_get rows h ≡ found → IfSome found (λ row. (f row).facts ≡ row.facts) → learnt_by (change rows h f) ≡ learnt_by rows
+change_knows : (rows : List HostOf) (h : ℕ) (f : HostOf → HostOf) (found : Option HostOf) → slice_get rows h ≡ found → IfSome found (λ row. (f row).facts ≡ row.facts) → learnt_by (change rows h f) ≡ learnt_by rows
 change_knows rows h f None e same = ap (λ (o : Option HostOf). learnt_by (option_map_or (λ row. slice_set rows h (f row)) o rows)) e
 change_knows rows h f (Some row) e same = ap (λ (o : Option HostOf). learnt_by (option_map_or (λ row. slice_set rows h (f row)) o rows)) e ∙ set_knows rows h row (f row) e same
 
@@ -120,7 +120,7 @@ given_knows : (gifts : List DelegatedFacts) (rows all : List HostOf) → ((each 
     → learnt_by (with_delegated gifts rows) ≡ learnt_by all
 given_knows gifts rows all nothing same = nothing rows ∙ same
 
-pub for_each : (P : HostOf → Type 0) → ((row : HostOf) → P row) → (found : Option HostOf) → IfSome found P
+for_each : (P : HostOf → Type 0) → ((row : HostOf) → P row) → (found : Option HostOf) → IfSome found P
 for_each P f None = tt
 for_each P f (Some row) = f row
 

@@ -1,10 +1,6 @@
 pub mod ReadHosts
 pub mod Teaching
 pub mod KeepsFacts
-pub mod GoesOn
-pub mod Learner
-pub mod Renewing
-pub mod Taught
 pub mod InTurn
 pub mod PutRight
 pub mod Stands

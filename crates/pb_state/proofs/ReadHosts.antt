@@ -92,7 +92,7 @@ pub rows_same : (one other : PlanOf) → one.inventory ≡ other.inventory → (
 rows_same one other inv play outcome rows h None e same = change_same rows h (reported one play outcome) (reported other play outcome) None e tt
 rows_same one other inv play outcome rows h (Some row) e same = change_same rows h (reported one play outcome) (reported other play outcome) (Some row) e (reported_same one other inv play outcome row row.running same)
 
-pub gives_same : (one other : PlanOf) → one.inventory ≡ other.inventory → (play : PlayOf) (outcome : Form) (h : ℕ) (found : Option HostOf) → IfSome found (λ row. SameAttempts one other play row row.running) →
+gives_same : (one other : PlanOf) → one.inventory ≡ other.inventory → (play : PlayOf) (outcome : Form) (h : ℕ) (found : Option HostOf) → IfSome found (λ row. SameAttempts one other play row row.running) →
     option_map_or (gifts_of one play outcome h) found [] ≡ option_map_or (gifts_of other play outcome h) found []
 gives_same one other inv play outcome h None same = refl
 gives_same one other inv play outcome h (Some row) same = gifts_same one other inv play outcome h row row.running same

@@ -1,7 +1,6 @@
 -- Worked runs of delegated tasks: where their jobs go, and whose their facts are.
 use Rattle.std.specs.Prelude.{◌≡◌, ℕ, pos, true, false, List, [], ◌∷◌, map, codes, Option, Some, refl}
 use Rattle.pb_value.specs.Datum.{Datum, int, text, list, items_of}
-use Rattle.pb_ids.specs.declared.numbers.HostNo.{HostNo}
 use Rattle.pb_facts.specs.Facts.{FactsOf, no_facts}
 use Rattle.pb_outcome.specs.declared.job.Call.TheVariants as call
 use Rattle.pb_outcome.specs.declared.job.Job.{Job}
@@ -12,8 +11,6 @@ use Rattle.pb_play.specs.declared.task.Task.{Task}
 use Rattle.pb_state.specs.declared.event.Event.TheVariants.{Open, Start}
 use Rattle.pb_host.specs.FactRows.{on_facts}
 use Rattle.pb_state.specs.Jobs.{job_of}
-use Rattle.pb_state.specs.Known.{event_gives}
-use Rattle.pb_state.specs.Learners.{taught_by}
 use Rattle.pb_host.specs.Host.{HostOf}
 use Rattle.pb_state.specs.Run.{state_after_under}
 use Rattle.pb_state.specs.State.{State}
@@ -106,25 +103,6 @@ delegates_to_itself = refl
 nobody_learns : learnt (to (codes "z") (gives sets)) ≡ no_facts ∷ no_facts ∷ []
 unfolding on_facts
 nobody_learns = refl
-
--- the hosts that are given something, whose part of `hostvars` is put anew: the delegate, unless the facts stay
-abbrev opened : PlaceOf → State
-opened place = state_after_under (plan_of place) 5 5 (Open ∷ [])
-
-abbrev taught : PlaceOf → List HostNo
-taught place = taught_by (event_gives (plan_of place) (opened place) (Start (record { 0 = 0 }))) []
-
-delegate_is_taught : taught (to (codes "b") (gives sets)) ≡ record { 0 = 1 } ∷ []
-unfolding on_facts
-delegate_is_taught = refl
-
-nobody_is_taught : taught (to (codes "b") (place_of sets)) ≡ []
-unfolding on_facts
-nobody_is_taught = refl
-
-teaches_itself : taught (to (codes "a") (gives sets)) ≡ []
-unfolding on_facts
-teaches_itself = refl
 
 -- what is registered stays with the host that ran the task
 abbrev names : PlaceOf → List (List (List ℕ))

@@ -1,24 +1,21 @@
 //! What `hostvars` stands for, with what the rows say that their hosts have learnt.
 
-ghost use Rattle.std.specs.Prelude.{◌≡◌, List, [], true, false, None, IfOk, IfSome, OnOk};
+ghost use Rattle.std.specs.Prelude.{◌≡◌, ◌+◌, ◌<◌, [], length, drop, true, false, None, IfOk, IfSome};
 ghost use Rattle.pb_variables.specs.Learnt.{facts_in};
 ghost use Rattle.pb_facts.specs.Book.{row_of};
-ghost use Rattle.pb_facts.specs.Facts.{FactsOf};
 ghost use Rattle.pb_variables.specs.Magic.{hostvars, hosts_magic};
-ghost use Rattle.pb_variables.specs.Renewed.{IsRenewed, IsRenewedBetween};
-ghost use Rattle.pb_state.specs.Learners.{is_among, is_higher, rises, with_host, taught_by, put_rows, LearnTogether, IsRenewedInTurn, IsRenewedTaught};
+ghost use Rattle.pb_variables.specs.Renewed.{IsRenewedBetween};
+ghost use Rattle.pb_state.specs.Learners.{is_among, each_once, is_higher, rises, IsRenewedInTurn};
 ghost use Rattle.pb_state.specs.Machine.{learnt_by};
 
 use pb_facts::facts::Facts;
 use pb_facts::update::FactsUndo;
 use pb_host::Host;
-use pb_hosts::Taught;
 use pb_ids::HostNo;
 use pb_plan::Plan;
-use pb_task_vars::gifts::DelegatedFacts;
 use pb_task_vars::hostvars::hosts_known;
 use pb_value::val::Dict;
-use pb_variables::hostvars::{Learner, renewed, renewed_between};
+use pb_variables::hostvars::{Learner, renewed_between};
 use std::alloc::{AllocError, Global};
 
 /// The map of `hostvars` as a task sees it, and whether it is the one that each task may see.
@@ -69,104 +66,6 @@ pub(crate) fn whole(alloc: Global, plan: &Plan, rows: &[Host]) -> Result<Shown, 
     })
 }
 
-/// The variable `hostvars` with what one host has learnt put anew, where it can be.
-fn renewed_with(
-    alloc: Global,
-    plan: &Plan,
-    hosts: Dict,
-    facts: &Facts,
-    host: HostNo,
-) -> Option<Dict>
-    ensures { IfSome result (IsRenewed plan.now.inventory plan.now.extra facts.now host.0 hosts) }
-{
-    match renewed(alloc, hosts, plan.inventory(), plan.extra(), facts, host) {
-        Ok(kept) => kept,
-        Err(_) => None,
-    }
-}
-
-/// The same with what that host's row says that it has learnt.
-fn renewed_for(alloc: Global, plan: &Plan, rows: &[Host], hosts: Dict, host: HostNo) -> Option<Dict>
-    ensures { IfSome result (IsRenewed plan.now.inventory plan.now.extra (row_of (learnt_by rows.now) host.0) host.0 hosts) }
-{
-    match rows.get(host.0 as usize) {
-        Some(row) => renewed_with(alloc, plan, hosts, row.facts(), host),
-        None => {
-            let none = Facts::new(alloc);
-            let kept = renewed_with(alloc, plan, hosts, &none, host);
-            drop(none);
-            kept
-        }
-    }
-}
-
-/// The same of several hosts, one after another.
-fn renewed_each(
-    alloc: Global,
-    plan: &Plan,
-    rows: &[Host],
-    hosts: Dict,
-    taught: &[HostNo],
-) -> Option<Dict>
-    ensures { IfSome result (λ known. (before : List FactsOf) → hosts ≡ hosts_magic (hostvars plan.now.inventory plan.now.extra before)
-        → known ≡ hosts_magic (hostvars plan.now.inventory plan.now.extra (put_rows taught.now (learnt_by rows.now) before))) }
-{
-    let mut known = hosts;
-    for host in taught {
-        known = renewed_for(alloc, plan, rows, known, *host)?;
-    }
-    Some(known)
-}
-
-/// One host more, unless it is among these.
-fn add_host(hosts: &mut Vec<HostNo>, host: HostNo) -> Result<(), AllocError>
-    ensures { OnOk result (hosts.new.items ≡ with_host host hosts.old.items) }
-{
-    if is_among(hosts.as_slice(), host) {
-        return Ok(());
-    }
-    hosts.push(host)?;
-    Ok(())
-}
-
-/// Whether a host is among these.
-fn is_among(hosts: &[HostNo], host: HostNo) -> bool
-    ensures { result ≡ is_among hosts.now host.0 }
-{
-    hosts.iter().any(|one| one.0 == host.0)
-}
-
-/// The hosts that are given something, each once.
-fn taught_by(alloc: Global, gifts: &[DelegatedFacts]) -> Result<Vec<HostNo>, AllocError>
-    ensures { IfOk result (λ taught. taught.items ≡ taught_by gifts.now []) }
-{
-    let mut taught = Vec::new(alloc);
-    for gift in gifts {
-        add_host(&mut taught, gift.host)?;
-    }
-    Ok(taught)
-}
-
-/// The variable `hostvars` with what this host and those that are given something have learnt put anew, where it can be.
-fn renewed_with_gifts(
-    alloc: Global,
-    plan: &Plan,
-    rows: &[Host],
-    hosts: Dict,
-    gifts: &[DelegatedFacts],
-    host: HostNo,
-) -> Option<Dict>
-    ensures { IfSome result (λ known. (before : List FactsOf) → LearnTogether (taught_by gifts.now []) host.0 before (learnt_by rows.now)
-        → hosts ≡ hosts_magic (hostvars plan.now.inventory plan.now.extra before) → known ≡ hosts_magic (hostvars plan.now.inventory plan.now.extra (learnt_by rows.now))) }
-{
-    let Ok(taught) = taught_by(alloc, gifts) else {
-        drop(hosts);
-        return None;
-    };
-    let known = renewed_each(alloc, plan, rows, hosts, taught.as_slice())?;
-    renewed_for(alloc, plan, rows, known, host)
-}
-
 /// What a host has learnt, if it has a row.
 fn learnt_at<'a>(rows: &'a [Host], host: HostNo) -> Option<&'a Facts>
     ensures { IfSome result (λ facts. facts.now ≡ row_of (learnt_by rows.now) host.0) }
@@ -207,25 +106,6 @@ fn renewed_alone(
     }
 }
 
-/// The variable `hostvars` once the task of this host has taught this, where it can be put anew: where it gave nothing to other hosts, by the names alone
-/// under which this host learnt something.
-pub(crate) fn renewed_once_taught(
-    alloc: Global,
-    plan: &Plan,
-    rows: &[Host],
-    hosts: Dict,
-    taught: &Taught,
-    host: HostNo,
-) -> Option<Dict>
-    ensures { IfSome result (IsRenewedTaught plan.now.inventory plan.now.extra taught.now host.0 (learnt_by rows.now) hosts) }
-{
-    let gifts = taught.gifts.as_slice();
-    if gifts.is_empty() {
-        return renewed_alone(alloc, plan, rows, hosts, &taught.past, host);
-    }
-    renewed_with_gifts(alloc, plan, rows, hosts, gifts, host)
-}
-
 /// Whether a host's number is over that of the last one, if there was one.
 fn is_higher(last: Option<HostNo>, host: HostNo) -> bool
     ensures { result ≡ is_higher last host }
@@ -236,7 +116,7 @@ fn is_higher(last: Option<HostNo>, host: HostNo) -> bool
     }
 }
 
-/// Whether the numbers of the hosts that learnt something rise, so that each did once.
+/// Whether the numbers of the hosts that learnt something rise, so that each did so once.
 fn rises(log: &[(HostNo, FactsUndo)]) -> bool
     ensures { result ≡ rises None log.now }
 {
@@ -250,7 +130,45 @@ fn rises(log: &[(HostNo, FactsUndo)]) -> bool
     true
 }
 
-/// The variable `hostvars` with what these hosts have learnt put anew, one after another, by the names alone under which each did, where it can be.
+/// Whether a host is among those that learnt something.
+fn is_among(log: &[(HostNo, FactsUndo)], host: HostNo) -> bool
+    ensures { result ≡ is_among log.now host.0 }
+{
+    log.iter().any(|one| one.0.0 == host.0)
+}
+
+/// What stands in a log behind this entry.
+fn behind(log: &[(HostNo, FactsUndo)], at: usize) -> &[(HostNo, FactsUndo)]
+    requires { at < length log.now }
+    ensures { result.now ≡ drop (at + 1) log.now }
+{
+    &log[at + 1..]
+}
+
+/// Whether none of the hosts that learnt something is among those behind it.
+fn each_once(log: &[(HostNo, FactsUndo)]) -> bool
+    ensures { result ≡ each_once log.now }
+{
+    for at in 0..log.len() {
+        if is_among(behind(log, at), log[at].0) {
+            return false;
+        }
+    }
+    true
+}
+
+/// The same, where rising numbers tell it at once.
+fn learn_once(log: &[(HostNo, FactsUndo)]) -> bool
+    ensures { result ≡ each_once log.now }
+{
+    if rises(log) {
+        return true;
+    }
+    each_once(log)
+}
+
+/// The variable `hostvars` with what these hosts have learnt put anew, one after another, by the names alone under which each did, where it can be. What a
+/// host's row says now is what it was behind its own entry, since no later one is its own.
 fn renewed_in_turn(
     alloc: Global,
     plan: &Plan,
@@ -258,7 +176,7 @@ fn renewed_in_turn(
     hosts: Dict,
     log: &[(HostNo, FactsUndo)],
 ) -> Option<Dict>
-    requires { rises None log.now ≡ true }
+    requires { each_once log.now ≡ true }
     ensures { IfSome result (IsRenewedInTurn plan.now.inventory plan.now.extra log.now (learnt_by rows.now) hosts) }
 {
     let mut known = hosts;
@@ -268,9 +186,8 @@ fn renewed_in_turn(
     Some(known)
 }
 
-/// The variable `hostvars` once these hosts have learnt what one of them did for all, where it can be put anew: where each learnt once, as their numbers
-/// tell.
-pub(crate) fn renewed_once_copied(
+/// The variable `hostvars` once these hosts have learnt something, where it can be put anew: where each did so once.
+pub(crate) fn renewed_once_learnt(
     alloc: Global,
     plan: &Plan,
     rows: &[Host],
@@ -279,7 +196,7 @@ pub(crate) fn renewed_once_copied(
 ) -> Option<Dict>
     ensures { IfSome result (IsRenewedInTurn plan.now.inventory plan.now.extra log.now (learnt_by rows.now) hosts) }
 {
-    if rises(log) {
+    if learn_once(log) {
         return renewed_in_turn(alloc, plan, rows, hosts, log);
     }
     drop(hosts);

@@ -1,9 +1,8 @@
-//! The map of `hostvars` that is kept from step to step, which steps leave what the hosts have learnt as it was, and whose task a step is about.
+//! The map of `hostvars` that is kept from step to step, and which steps leave what the hosts have learnt as it was.
 
-ghost use Rattle.std.specs.Prelude.{◌≡◌, true, Option, Some, None, if◌then◌else◌};
+ghost use Rattle.std.specs.Prelude.{◌≡◌, true, Some, if◌then◌else◌};
 ghost use Rattle.pb_task_vars.specs.Learning.{gives_of};
 ghost use Rattle.pb_state.specs.Known.{gives_nothing, teaches_nothing, teaches_nothing_at, keeps_facts, start_keeps, report_keeps, turn_keeps_at};
-ghost use Rattle.pb_state.specs.Known.{host_of, task_goes_on};
 
 use crate::event::Event;
 use crate::hostvars::Shown;
@@ -71,18 +70,6 @@ pub(crate) fn turn_keeps_at(play: &PlanPlay, place: usize) -> bool
     !runs_once_at(play, place) || teaches_nothing_at(play, place)
 }
 
-/// The host whose task an event starts or brings on, if it does.
-pub(crate) fn host_of(event: &Event) -> Option<HostNo>
-    ensures { result ≡ host_of event.now }
-{
-    match event {
-        Event::Start(host) => Some(*host),
-        Event::Report(report) => Some(report.host),
-        Event::Send { .. } | Event::Stop | Event::Forks(_) => None,
-        Event::Close | Event::Open | Event::Turn => None,
-    }
-}
-
 impl EngineState {
     /// Whether hosts know what they knew once the task that a host starts has ended.
     fn start_keeps(&self, play: &PlanPlay, host: HostNo) -> bool
@@ -123,18 +110,6 @@ impl EngineState {
             },
             Event::Send { .. } | Event::Stop | Event::Forks(_) => true,
             Event::Open | Event::Close => true,
-        }
-    }
-
-    /// Whether the task that an event has started or brought on goes on: what it teaches comes with its end.
-    pub(crate) fn task_goes_on(&self, event: &Event) -> bool
-        ensures { result ≡ task_goes_on self.now event.now }
-    {
-        match event {
-            Event::Start(host) => self.running_at(*host).is_some(),
-            Event::Report(report) => self.running_at(report.host).is_some(),
-            Event::Send { .. } | Event::Stop | Event::Forks(_) => false,
-            Event::Close | Event::Open | Event::Turn => false,
         }
     }
 }

@@ -13,7 +13,6 @@ mod event;
 mod hostvars;
 mod job;
 mod known;
-mod learnt;
 mod sizes_left;
 mod state;
 mod through;

@@ -1,7 +1,9 @@
 //! The state of a run, and its steps.
 
-ghost use Rattle.std.specs.Prelude.{◌≡◌, ◌≤◌, ◌<◌, length, OnOk, OnErr, IfOk, true, false};
-ghost use Rattle.pb_state.specs.Known.{IsKnown, HasLearnt};
+ghost use Rattle.std.specs.Prelude.{◌≡◌, ◌≤◌, ◌<◌, [], length, OnOk, OnErr, IfOk, true, false};
+ghost use Rattle.pb_hosts.specs.Applied.{LearnInTurn};
+ghost use Rattle.pb_state.specs.Known.{IsKnown};
+ghost use Rattle.pb_state.specs.Machine.{learnt_by};
 ghost use Rattle.pb_state.specs.State.{State};
 
 mod asked;
@@ -13,10 +15,11 @@ mod start;
 mod turn;
 
 use crate::event::Event;
-use crate::learnt::Learnt;
 use crate::sizes_left::SizesLeft;
+use pb_facts::update::FactsUndo;
 use pb_host::{StepResult, put_step_result};
 use pb_hosts::Hosts;
+use pb_ids::HostNo;
 use pb_plan::Plan;
 use pb_value::val::Dict;
 use std::alloc::{AllocError, Global};
@@ -118,7 +121,7 @@ impl Model for EngineState {
 
 impl EngineState {
     ghost use Rattle.pb_state.specs.Machine.{possible};
-    ghost use Rattle.pb_state.specs.Machine.{after, first_state};
+    ghost use Rattle.pb_state.specs.Machine.{after, first_state, stopped, with_forks};
     ghost use Rattle.pb_state.specs.Local.{IsLocal, MovesByPlace};
     ghost use Rattle.pb_state.specs.Run.{is_command};
     ghost use Rattle.pb_state.specs.Work.{work};
@@ -180,9 +183,8 @@ impl EngineState {
         stepped
     }
 
-    /// The same, where the map of `hostvars` is kept from step to step: it is made where a task may look it up and there is none. As a task ends on a host, the
-    /// variables of that host and of those that the task gives facts to are put anew in it, and as a batch goes on what its hosts learn of what one of them did
-    /// for all. An `Err` changes nothing of the state.
+    /// The same, where the map of `hostvars` is kept from step to step: it is made where a task may look it up and there is none. Where hosts learn
+    /// something, the names under which they do are put anew in it. An `Err` changes nothing of the state.
     ///
     /// # Errors
     /// `Illegal` where the event isn't possible in this state, `Memory` where memory was refused.
@@ -219,30 +221,30 @@ impl EngineState {
         if keeps {
             return Ok(());
         }
-        self.renew(plan, event, &learnt, known);
+        self.renew(plan, learnt.as_slice(), known);
         Ok(())
     }
 
-    /// What an event that is possible leads to. What it taught is handed out.
+    /// What an event that is possible leads to. What was before each host learnt something is handed out, in the order in which they did.
     fn apply(
         &mut self,
         plan: &Plan,
         event: &Event,
         known: &mut Option<Dict>,
-    ) -> Result<Learnt, AllocError>
+    ) -> Result<Vec<(HostNo, FactsUndo)>, AllocError>
         requires may { possible plan.now self.old event.now ≡ true }
         requires known { IsKnown plan.now self.old known.old }
         ensures ok { OnOk result (self.new ≡ after plan.now self.old event.now) }
-        ensures learnt { IfOk result (λ learnt. HasLearnt plan.now event.now learnt self.old self.new) }
+        ensures learnt { IfOk result (λ log. LearnInTurn log.items (learnt_by self.old.rows) (learnt_by self.new.rows)) }
         ensures err { OnErr result (self.new ≡ self.old) }
         ensures known { IsKnown plan.now self.old known.new }
     {
         match event {
             Event::Open => {
                 self.open(plan)?;
-                Ok(Learnt::Nothing)
+                Ok(Vec::new(self.alloc))
             }
-            Event::Start(host) => Ok(Learnt::Task(self.start(plan, *host, known)?)),
+            Event::Start(host) => self.start(plan, *host, known),
             Event::Send {
                 host,
                 item,
@@ -250,24 +252,36 @@ impl EngineState {
                 ticket,
             } => {
                 self.send(plan, *host, *item, *attempt, *ticket)?;
-                Ok(Learnt::Nothing)
+                Ok(Vec::new(self.alloc))
             }
-            Event::Report(report) => Ok(Learnt::Task(self.report(plan, report, known)?)),
-            Event::Turn => Ok(Learnt::Copies(self.turn(plan)?)),
+            Event::Report(report) => self.report(plan, report, known),
+            Event::Turn => self.turn(plan),
             Event::Close => {
                 self.close();
-                Ok(Learnt::Nothing)
+                Ok(Vec::new(self.alloc))
             }
-            Event::Stop => {
-                self.stopped = true;
-                put_step_result(&mut self.step_result, None);
-                Ok(Learnt::Nothing)
-            }
-            Event::Forks(forks) => {
-                self.forks = *forks;
-                put_step_result(&mut self.step_result, None);
-                Ok(Learnt::Nothing)
-            }
+            Event::Stop => Ok(self.stop()),
+            Event::Forks(forks) => Ok(self.set_forks(*forks)),
         }
+    }
+
+    /// No more is started or sent. No host learns anything of it.
+    fn stop(&mut self) -> Vec<(HostNo, FactsUndo)>
+        ensures ok { self.new ≡ stopped self.old }
+        ensures learnt { result.items ≡ [] }
+    {
+        self.stopped = true;
+        put_step_result(&mut self.step_result, None);
+        Vec::new(self.alloc)
+    }
+
+    /// From now on so many hosts may run at once. No host learns anything of it.
+    fn set_forks(&mut self, forks: u32) -> Vec<(HostNo, FactsUndo)>
+        ensures ok { self.new ≡ with_forks self.old forks }
+        ensures learnt { result.items ≡ [] }
+    {
+        self.forks = forks;
+        put_step_result(&mut self.step_result, None);
+        Vec::new(self.alloc)
     }
 }

@@ -6,10 +6,9 @@ ghost use Rattle.pb_value.specs.Datum.{Datum};
 ghost use Rattle.pb_outcome.specs.declared.gather.ItemResult.{ItemResult};
 ghost use Rattle.pb_task_vars.specs.Results.{came_at};
 ghost use Rattle.pb_task_vars.specs.WithHostvars.{with_hosts};
-ghost use Rattle.pb_state.specs.Learners.{HasTaught};
 ghost use Rattle.pb_state.specs.Machine.{learnt_by, plan_seen};
-ghost use Rattle.pb_state.specs.Known.{IsKnown, hosts_now, event_gives, came_gives};
-ghost use Rattle.pb_hosts.specs.Giving.{report_gives};
+ghost use Rattle.pb_state.specs.Known.{IsKnown, hosts_now};
+ghost use Rattle.pb_hosts.specs.Applied.{LearnInTurn};
 ghost use Rattle.pb_host.specs.Back.{SameAttempts};
 
 use super::EngineState;
@@ -17,8 +16,9 @@ use crate::event::Event;
 use crate::hostvars::{Shown, unread, whole};
 use crate::known::keep;
 use pb_facts::facts::Facts;
+use pb_facts::update::FactsUndo;
 use pb_host::put_step_result;
-use pb_hosts::{Taught, report_row, send_row};
+use pb_hosts::{report_row, send_row};
 use pb_ids::{HostNo, Ticket};
 use pb_outcome::job::Report;
 use pb_plan::{Plan, PlanPlay};
@@ -72,23 +72,23 @@ impl EngineState {
         Ok(())
     }
 
+    /// What was before each host learnt something is handed out, in the order in which they did.
     pub(crate) fn report(
         &mut self,
         plan: &Plan,
         report: &Report,
         known: &mut Option<Dict>,
-    ) -> Result<Taught, AllocError>
+    ) -> Result<Vec<(HostNo, FactsUndo)>, AllocError>
         requires may { option_map_or (may_report_in self.old report.now) (open_play plan.now self.old) false ≡ true }
         requires known { IsKnown plan.now self.old known.old }
         ensures ok { OnOk result (self.new ≡ after plan.now self.old (Event.Report report.now)) }
-        ensures gifts { IfOk result (λ taught. taught.gifts.items ≡ event_gives plan.now self.old (Event.Report report.now)) }
-        ensures past { IfOk result (λ taught. HasTaught taught report.now.host.0 (learnt_by self.old.rows) (learnt_by self.new.rows)) }
+        ensures learnt { IfOk result (λ log. LearnInTurn log.items (learnt_by self.old.rows) (learnt_by self.new.rows)) }
         ensures err { OnErr result (self.new ≡ self.old) }
         ensures known { IsKnown plan.now self.old known.new }
     {
         match self.open_play(plan) {
             Some(play) => self.report_in(plan, play, report, known),
-            None => Ok(Taught::nothing(self.alloc)),
+            None => Ok(Vec::new(self.alloc)),
         }
     }
 
@@ -149,13 +149,12 @@ impl EngineState {
         play: &PlanPlay,
         report: &Report,
         known: &mut Option<Dict>,
-    ) -> Result<Taught, AllocError>
+    ) -> Result<Vec<(HostNo, FactsUndo)>, AllocError>
         requires open { self.old.is_open ≡ true }
         requires may { may_report_in self.old report.now play.now ≡ true }
         requires known { IsKnown plan.now self.old known.old }
         ensures ok { OnOk result (self.new ≡ reported_in plan.now self.old report.now play.now) }
-        ensures gifts { IfOk result (λ taught. taught.gifts.items ≡ came_gives plan.now self.old report.now play.now) }
-        ensures past { IfOk result (λ taught. HasTaught taught report.now.host.0 (learnt_by self.old.rows) (learnt_by self.new.rows)) }
+        ensures learnt { IfOk result (λ log. LearnInTurn log.items (learnt_by self.old.rows) (learnt_by self.new.rows)) }
         ensures err { OnErr result (self.new ≡ self.old) }
         ensures known { IsKnown plan.now self.old known.new }
     {
@@ -165,26 +164,25 @@ impl EngineState {
         }
         let shown = self.hosts_back(plan, play, report.host)?;
         let seen = PlanWithHostvars::new(plan, &shown.hosts);
-        let taught = self.report_seen(&seen, play, report)?;
+        let learnt = self.report_seen(&seen, play, report)?;
         keep(known, shown);
-        Ok(taught)
+        Ok(learnt)
     }
 
-    /// A report comes in, where tasks see the plan so. What the task taught, where it ends, is handed out.
+    /// A report comes in, where tasks see the plan so. What was before each host learnt something, where the task ends, is handed out.
     pub(crate) fn report_seen(
         &mut self,
         plan: &PlanWithHostvars,
         play: &PlanPlay,
         report: &Report,
-    ) -> Result<Taught, AllocError>
+    ) -> Result<Vec<(HostNo, FactsUndo)>, AllocError>
         requires open { self.old.is_open ≡ true }
         requires may { may_report_in self.old report.now play.now ≡ true }
         ensures ok { OnOk result (self.new ≡ reported_seen plan.now self.old report.now play.now) }
-        ensures gifts { IfOk result (λ taught. taught.gifts.items ≡ report_gives plan.now play.now report.now.outcome report.now.host.0 self.old.rows) }
-        ensures past { IfOk result (λ taught. HasTaught taught report.now.host.0 (learnt_by self.old.rows) (learnt_by self.new.rows)) }
+        ensures learnt { IfOk result (λ log. LearnInTurn log.items (learnt_by self.old.rows) (learnt_by self.new.rows)) }
         ensures err { OnErr result (self.new ≡ self.old) }
     {
-        let (step_result, taught) = report_row(
+        let (step_result, learnt) = report_row(
             self.alloc,
             &mut self.rows,
             report.host,
@@ -193,6 +191,6 @@ impl EngineState {
             &report.outcome,
         )?;
         put_step_result(&mut self.step_result, step_result);
-        Ok(taught)
+        Ok(learnt)
     }
 }

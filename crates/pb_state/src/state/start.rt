@@ -5,18 +5,17 @@ ghost use Rattle.std.specs.Prelude.{slice_set};
 ghost use Rattle.std.specs.Option.{option_map_or};
 ghost use Rattle.pb_planes.specs.Set.{is_in as is_member};
 ghost use Rattle.pb_task_vars.specs.Results.{items_at};
-ghost use Rattle.pb_state.specs.Learners.{HasTaught};
 ghost use Rattle.pb_state.specs.Machine.{facts_at, learnt_by, plan_seen};
-ghost use Rattle.pb_state.specs.Known.{IsKnown, running_at, event_gives, start_gives_at};
-ghost use Rattle.pb_hosts.specs.Giving.{gifts_at};
+ghost use Rattle.pb_state.specs.Known.{IsKnown, running_at};
+ghost use Rattle.pb_hosts.specs.Applied.{LearnInTurn};
 
 use super::EngineState;
 use crate::event::Event;
 use crate::hostvars::{unread, whole};
 use crate::known::keep;
 use pb_facts::facts::Facts;
+use pb_facts::update::FactsUndo;
 use pb_host::{StepResult, TaskItems, numbered, put_step_result};
-use pb_hosts::Taught;
 use pb_ids::HostNo;
 use pb_inventory::inventory::Inventory;
 use pb_outcome::item::Item;
@@ -31,23 +30,23 @@ impl EngineState {
     ghost use Rattle.pb_state.specs.Machine.{open_play, may_start_in};
     ghost use Rattle.pb_state.specs.Machine.{after, next_at, start_at, start_with};
 
+    /// What was before each host learnt something is handed out, in the order in which they did.
     pub(crate) fn start(
         &mut self,
         plan: &Plan,
         host: HostNo,
         known: &mut Option<Dict>,
-    ) -> Result<Taught, AllocError>
+    ) -> Result<Vec<(HostNo, FactsUndo)>, AllocError>
         requires may { option_map_or (may_start_in self.old host.0) (open_play plan.now self.old) false ≡ true }
         requires known { IsKnown plan.now self.old known.old }
         ensures ok { OnOk result (self.new ≡ after plan.now self.old (Event.Start host)) }
-        ensures gifts { IfOk result (λ taught. taught.gifts.items ≡ event_gives plan.now self.old (Event.Start host)) }
-        ensures past { IfOk result (λ taught. HasTaught taught host.0 (learnt_by self.old.rows) (learnt_by self.new.rows)) }
+        ensures learnt { IfOk result (λ log. LearnInTurn log.items (learnt_by self.old.rows) (learnt_by self.new.rows)) }
         ensures err { OnErr result (self.new ≡ self.old) }
         ensures known { IsKnown plan.now self.old known.new }
     {
         match (self.open_play(plan), self.next_at(host)) {
             (Some(play), Some(place)) => self.start_at(plan, host, play, place, known),
-            _ => Ok(Taught::nothing(self.alloc)),
+            _ => Ok(Vec::new(self.alloc)),
         }
     }
 
@@ -81,14 +80,13 @@ impl EngineState {
         play: &PlanPlay,
         place: usize,
         known: &mut Option<Dict>,
-    ) -> Result<Taught, AllocError>
+    ) -> Result<Vec<(HostNo, FactsUndo)>, AllocError>
         requires open { self.old.is_open ≡ true }
         requires may { may_start_in self.old host.0 play.now ≡ true }
         requires here { next_at self.old host.0 ≡ Some place }
         requires known { IsKnown plan.now self.old known.old }
         ensures ok { OnOk result (self.new ≡ start_at plan.now self.old host.0 play.now place) }
-        ensures gifts { IfOk result (λ taught. taught.gifts.items ≡ start_gives_at plan.now self.old host.0 play.now place) }
-        ensures past { IfOk result (λ taught. HasTaught taught host.0 (learnt_by self.old.rows) (learnt_by self.new.rows)) }
+        ensures learnt { IfOk result (λ log. LearnInTurn log.items (learnt_by self.old.rows) (learnt_by self.new.rows)) }
         ensures err { OnErr result (self.new ≡ self.old) }
         ensures known { IsKnown plan.now self.old known.new }
     {
@@ -195,7 +193,7 @@ impl EngineState {
         Ok(found)
     }
 
-    /// The task at a place starts on a host with these items. What it taught, where it ends at once, is handed out.
+    /// The task at a place starts on a host with these items. What was before each host learnt something, where it ends at once, is handed out.
     pub(crate) fn start_with(
         &mut self,
         inventory: &Inventory,
@@ -203,16 +201,15 @@ impl EngineState {
         play: &PlanPlay,
         place: usize,
         items: TaskItems,
-    ) -> Result<Taught, AllocError>
+    ) -> Result<Vec<(HostNo, FactsUndo)>, AllocError>
         requires open { self.old.is_open ≡ true }
         requires may { may_start_in self.old host.0 play.now ≡ true }
         ensures ok { OnOk result (self.new ≡ start_with inventory.now self.old host.0 play.now place items) }
-        ensures gifts { IfOk result (λ taught. taught.gifts.items ≡ gifts_at inventory.now play.now place host.0 items) }
-        ensures past { IfOk result (λ taught. HasTaught taught host.0 (learnt_by self.old.rows) (learnt_by self.new.rows)) }
+        ensures learnt { IfOk result (λ log. LearnInTurn log.items (learnt_by self.old.rows) (learnt_by self.new.rows)) }
         ensures err { OnErr result (self.new ≡ self.old) }
     {
         let results = numbered(self.alloc, &items)?;
-        let (done, taught) = self
+        let (done, learnt) = self
             .rows
             .start_row(self.alloc, host, inventory, play, place, items)?;
         let is_new = !has_place(self.begun.as_slice(), place);
@@ -227,7 +224,7 @@ impl EngineState {
                 done,
             }),
         );
-        Ok(taught)
+        Ok(learnt)
     }
 }
 

@@ -1,11 +1,8 @@
 use Rattle.std.proofs.Common.{◌≡◌, true, subst, sym}
 use Rattle.pb_state.specs.State.{State}
+use Rattle.pb_hosts.specs.Applied.{LearnInTurn}
 use Rattle.pb_hosts.specs.Giving.{report_gives}
-use Rattle.pb_host.specs.Host.{reported}
-use Rattle.pb_host.specs.Runs.{awaits}
-use Rattle.pb_state.specs.Learners.{HasTaught}
 use Rattle.pb_state.specs.Machine.{learnt_by, may_report_in}
-use Rattle.pb_state.proofs.Taught.{has_taught}
 use Rattle.pb_state.proofs.Within.{report_bounded}
 use Rattle.pb_state.proofs.BatchBounds.{room_at}
 use Rattle.pb_state.proofs.state.EngineState.report_seen.Goals as goal
@@ -21,10 +18,6 @@ invariant_of-self-2 c =
     (subst (λ (v : State). may_report_in v c.args.report.now c.args.play.now ≡ true) (sym c.self.view_is) c.requires.may)
     c.in_ok-step_result.ensures.rows
 
-pub returns-clause-past : goal.returns-clause-past
-returns-clause-past c =
-    subst (λ (old : State). HasTaught c.in_ok-step_result.taught c.args.report.now.host.0 (learnt_by old.rows) (learnt_by c.report_row.new.rows)) c.self.view_is
-    (has_taught (awaits c.args.report.now.ticket c.args.report.now.item c.args.report.now.attempt) c.args.report.now.host.0 (reported c.args.plan.now c.args.play.now c.args.report.now.outcome)
-    (report_gives c.args.plan.now c.args.play.now c.args.report.now.outcome c.args.report.now.host.0 c.self.inside.rows) c.in_ok-step_result.taught c.self.inside.rows c.report_row.new.rows
-    (subst (λ (v : State). may_report_in v c.args.report.now c.args.play.now ≡ true) (sym c.self.view_is) c.requires.may)
-    c.in_ok-step_result.ensures.rows c.in_ok-step_result.ensures.past c.in_ok-step_result.ensures.gifts)
+pub returns-clause-learnt : goal.returns-clause-learnt
+returns-clause-learnt c =
+    subst (λ (old : State). LearnInTurn c.in_ok-step_result.learnt.items (learnt_by old.rows) (learnt_by c.report_row.new.rows)) c.self.view_is c.in_ok-step_result.ensures.learnt

@@ -1,12 +1,10 @@
 use Rattle.std.proofs.Common.{◌≡◌, true, subst, sym}
 use Rattle.pb_state.specs.State.{State}
+use Rattle.pb_hosts.specs.Applied.{LearnInTurn}
 use Rattle.pb_hosts.specs.Hosts.{at_row}
 use Rattle.pb_hosts.specs.Giving.{gifts_at}
-use Rattle.pb_host.specs.Host.{progressed}
-use Rattle.pb_state.specs.Learners.{HasTaught}
 use Rattle.pb_state.specs.Machine.{learnt_by, next_at}
 use Rattle.pb_state.proofs.Stands.{stands_at, start_stands}
-use Rattle.pb_state.proofs.Taught.{has_taught}
 use Rattle.pb_state.proofs.Within.{start_there, start_in_batch, start_bounded}
 use Rattle.pb_state.proofs.BatchBounds.{room_at}
 use Rattle.pb_state.proofs.state.EngineState.start_with.Goals as goal
@@ -34,10 +32,6 @@ invariant_of-self-2 c =
     (subst (λ (v : State). at_row (stands_at (next_at c.args.self.now c.args.host.0)) v.rows c.args.host.0 ≡ true) (sym c.self.view_is) (start_stands c.args.self.now c.args.host.0 c.args.play.now c.requires.may))
     c.in_ok-done.ensures.rows
 
-pub returns-clause-past : goal.returns-clause-past
-returns-clause-past c =
-    subst (λ (old : State). HasTaught c.in_ok-done.taught c.args.host.0 (learnt_by old.rows) (learnt_by c.start_row.new.self)) c.self.view_is
-    (has_taught (stands_at (next_at c.args.self.now c.args.host.0)) c.args.host.0 (progressed c.args.inventory.now c.args.play.now c.args.place c.args.items)
-    (gifts_at c.args.inventory.now c.args.play.now c.args.place c.args.host.0 c.args.items) c.in_ok-done.taught c.self.inside.rows c.start_row.new.self
-    (subst (λ (v : State). at_row (stands_at (next_at c.args.self.now c.args.host.0)) v.rows c.args.host.0 ≡ true) (sym c.self.view_is) (start_stands c.args.self.now c.args.host.0 c.args.play.now c.requires.may))
-    c.in_ok-done.ensures.rows c.in_ok-done.ensures.past c.in_ok-done.ensures.gifts)
+pub returns-clause-learnt : goal.returns-clause-learnt
+returns-clause-learnt c =
+    subst (λ (old : State). LearnInTurn c.in_ok-done.learnt.items (learnt_by old.rows) (learnt_by c.start_row.new.self)) c.self.view_is c.in_ok-done.ensures.learnt

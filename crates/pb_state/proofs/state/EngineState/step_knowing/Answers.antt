@@ -1,7 +1,10 @@
-use Rattle.std.proofs.Common.{◌≡◌, ◌∙◌, ◌<◌, true, ap, length, subst, sym}
+use Rattle.std.proofs.Common.{◌≡◌, ◌∙◌, ◌<◌, true, List, ap, length, subst, sym}
+use Rattle.pb_hosts.specs.Applied.{LearnInTurn}
 use Rattle.pb_state.specs.Known.{IsKnown, keeps_facts}
+use Rattle.pb_state.specs.Machine.{learnt_by}
 use Rattle.pb_state.specs.State.{State}
 use Rattle.pb_state.specs.Work.{work}
+use Rattle.pb_state.proofs.InTurn.{Entry}
 use Rattle.pb_state.proofs.KeepsFacts.{stays_known}
 use Rattle.pb_state.proofs.Local.{is_local, moves_by_place}
 use Rattle.pb_state.proofs.Steps.{forks_stay, hosts_stay}
@@ -15,7 +18,9 @@ returns-then-keeps-clause-known c =
     (stays_known c.args.plan.now c.args.self.now c.args.event.now c.apply.new.known keeps c.apply.ensures.known)
 
 pub returns-clause-known : goal.returns-clause-known
-returns-clause-known c = c.renew.ensures c.args.self.now c.in_ok-learnt.ensures.ok c.in_ok-learnt.ensures.learnt c.apply.ensures.known
+returns-clause-known c =
+    c.renew.ensures c.args.self.now
+    (subst (λ (log : List Entry). LearnInTurn log (learnt_by c.args.self.now.rows) (learnt_by c.apply.new.self.rows)) (sym c.as_slice.ensures.value) c.in_ok-learnt.ensures.learnt) c.apply.ensures.known
 
 pub returns-then-keeps-clause-hosts : goal.returns-then-keeps-clause-hosts
 returns-then-keeps-clause-hosts c = ap (λ (s : State). length s.rows) c.in_ok-learnt.ensures.ok ∙ hosts_stay c.args.plan.now c.args.self.now c.args.event.now
