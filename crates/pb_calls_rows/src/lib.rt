@@ -13,6 +13,8 @@ mod groups;
 #[cfg(test)]
 mod handlers;
 #[cfg(test)]
+mod hostvars;
+#[cfg(test)]
 mod results;
 #[cfg(test)]
 mod templates;

@@ -4,7 +4,8 @@ use pb_expr_eval::eval::{render, render_prepared};
 use pb_layers::layers::{Layers, Magic};
 use pb_layers::lent::Merged;
 use pb_layers::scope::Scope;
-use pb_prepared::prepared::Prepared;
+use pb_prepared::dict::PreparedDict;
+use pb_prepared::prepared::{Prepared, PreparedText};
 use pb_template::template::Template;
 use pb_value::text::Text;
 use pb_value::val::{Dict, Val};
@@ -110,5 +111,39 @@ fn a_prepared_text(rt: HostRuntime) -> Result<(), Fail> {
     let value = Prepared::of(alloc, text);
     assert!(rt; value.template().is_some());
     assert_eq!(rt; prepared(alloc, &variables, &value)?.as_str(), "host web1!");
+    Ok(())
+}
+
+#[test]
+fn copies_of_prepared_texts(rt: HostRuntime) -> Result<(), Fail> {
+    let alloc = rt.alloc();
+    let mut variables = Dict::new(alloc);
+    variables.put(alloc, "name", Val::text(Text::from_str(alloc, "web1")?))?;
+    let text = PreparedText::of(alloc, Text::from_str(alloc, "host {{ name }}!")?);
+    let copy = text.try_clone(alloc)?;
+    assert_eq!(rt; copy.as_str(), "host {{ name }}!");
+    let value = copy.prepared().try_clone(alloc)?;
+    assert!(rt; value.template().is_some());
+    assert_eq!(rt; prepared(alloc, &variables, &value)?.as_str(), "host web1!");
+    Ok(())
+}
+
+#[test]
+fn a_prepared_dict(rt: HostRuntime) -> Result<(), Fail> {
+    let alloc = rt.alloc();
+    let mut variables = Dict::new(alloc);
+    variables.put(alloc, "name", Val::text(Text::from_str(alloc, "web1")?))?;
+    let mut facts = Dict::new(alloc);
+    let text = Val::text(Text::from_str(alloc, "host {{ name }}!")?);
+    facts.put(alloc, "greeting", text)?;
+    let facts = PreparedDict::of(alloc, facts);
+    let Some(row) = facts.row() else {
+        return Err(Fail::new("a row"));
+    };
+    let Some(value) = row.values.as_slice().get(0) else {
+        return Err(Fail::new("a value"));
+    };
+    assert!(rt; value.template().is_some());
+    assert_eq!(rt; prepared(alloc, &variables, value)?.as_str(), "host web1!");
     Ok(())
 }
