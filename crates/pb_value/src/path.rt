@@ -6,14 +6,19 @@ use std::alloc::{AllocError, Global};
 
 /// The path of a key under a path: both with `/` between, or the key alone where the path is
 /// empty, as it is for the whole of a file.
+#[tactic(auto, using(crate::proofs::Paths::joined))]
 pub fn child(alloc: Global, path: &Text, key: &str) -> Result<Text, AllocError>
     ensures { IfOk result (λ t. t ≡ below path.now key.now) }
 {
     if path.is_empty() {
-        Text::from_str(alloc, key)
-    } else {
-        Ok(Text::from_string(format!(in alloc; "{path}/{key}")?))
+        return Text::from_str(alloc, key);
     }
+    let path = path.as_str();
+    let mut text = String::with_capacity(alloc, path.len() + 1 + key.len())?;
+    text.push_str(path)?;
+    text.push_str("/")?;
+    text.push_str(key)?;
+    Ok(Text::from_string(text))
 }
 
 /// The path of the element of that number, from 0, under the path of its list.
