@@ -40,7 +40,8 @@ pub fn finished(value: Val) -> Result<Val, EvalFault>
     }
 }
 
-fn is_final(value: &Val) -> bool
+/// Whether the value may be the value of a whole expression.
+pub fn is_final(value: &Val) -> bool
     ensures { result ≡ is_final value.now }
 {
     match &value.node {
