@@ -6,7 +6,7 @@ use Rattle.std.specs.List.Sorted.{IsStrictlySortedBy}
 use Rattle.std.specs.Map.{keys_of}
 use Rattle.pb_value.proofs.Order.{above_first}
 use Rattle.pb_value.specs.Datum.{Datum, put, named, members_of}
-use Rattle.pb_value.specs.Reading.{map_ok}
+use Rattle.pb_value.specs.Reading.{and_then, map_ok}
 use Rattle.pb_operators.specs.declared.fault.EvalFault.{EvalFault}
 use Rattle.pb_expr_eval.specs.Value.{Names}
 use Rattle.pb_expr_eval.specs.Rendering.{rendered, rendered_members}
@@ -29,6 +29,12 @@ map_ok_none (Err e) = refl
 pub map_ok_joined : (front s : List ℕ) (r : Result (List ℕ) EvalFault) → map_ok (λ t. front ++ t) (map_ok (λ t. s ++ t) r) ≡ map_ok (λ t. (front ++ s) ++ t) r
 map_ok_joined front s (Ok t) = ap Ok (sym (append_assoc front s t))
 map_ok_joined front s (Err e) = refl
+
+-- a text goes behind those in front of it
+pub shown_step : (front new : List ℕ) (r more : Result (List ℕ) EvalFault) → map_ok (λ s. front ++ s) r ≡ Ok new
+    → map_ok (λ t. front ++ t) (and_then r (λ s. map_ok (λ t. s ++ t) more)) ≡ map_ok (λ t. new ++ t) more
+shown_step front new (Ok s) more e = map_ok_joined front s more ∙ ap (λ n. map_ok (λ t. n ++ t) more) (let same : front ++ s ≡ new = cc in same)
+shown_step front new (Err fault) more e = absurd (cc)
 
 pub rendered_members-step : (names : Names) (m : Entry) (ms : List Entry) (out : List (List ℕ × Datum)) (x : Datum) → rendered names m.1 ≡ Ok x
     → map_ok (λ xs. out ++ xs) (rendered_members names (members_of (named (m ∷ ms)))) ≡ map_ok (λ xs. (out ++ (string_bytes m.0, x) ∷ []) ++ xs) (rendered_members names (members_of (named ms)))

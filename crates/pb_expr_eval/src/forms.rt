@@ -1,8 +1,6 @@
 //! The forms of expressions that ask of their operands no more than their values.
-ghost use Rattle.std.specs.Prelude.{◌≡◌, ◌≢◌, IfOk, IfErr, Ok, Err, string_bytes};
+ghost use Rattle.std.specs.Prelude.{◌≡◌, ◌≢◌, IfOk, IfErr, Ok, Err};
 ghost use Rattle.pb_operators.specs.declared.fault.EvalFault.TheVariants as fault;
-ghost use Rattle.pb_value.specs.Reading.{map_ok};
-ghost use Rattle.pb_value.specs.ToJson.{text_of};
 ghost use Rattle.pb_expr_eval.specs.Value.{short_circuits, apply};
 
 use pb_expr_syntax::tree::{Filter, Op};
@@ -36,16 +34,5 @@ pub(crate) fn apply(alloc: Global, filter: Filter, x: &Val, args: &[Val]) -> Res
         (Filter::Join, []) => join(alloc, x, &Val::text(Text::new(alloc))),
         (Filter::Join, [between]) => join(alloc, x, between),
         _ => Err(EvalFault::WrongKind),
-    }
-}
-
-/// The text of what was read, or its fault.
-pub(crate) fn text_of(alloc: Global, outcome: Result<Val, EvalFault>) -> Result<String, EvalFault>
-    ensures value { IfOk result (λ s. map_ok text_of outcome ≡ Ok (string_bytes s)) }
-    ensures fault { IfErr result (λ e. e ≢ fault.Memory → map_ok text_of outcome ≡ Err e) }
-{
-    match outcome {
-        Ok(value) => Ok(value.text_of(alloc)?),
-        Err(fault) => Err(fault),
     }
 }

@@ -6,6 +6,7 @@ ghost use Rattle.pb_operators.specs.Values.{text_within, finished};
 ghost use Rattle.pb_value.specs.Datum as datum;
 ghost use Rattle.pb_value.specs.Datum.{items_of, members_of, put as with};
 ghost use Rattle.pb_value.specs.Reading.{and_then, map_ok};
+ghost use Rattle.pb_value.specs.ToJson.{text_of};
 ghost use Rattle.pb_value.specs.Truth.{truthy};
 ghost use Rattle.pb_expr_eval.specs.Operand.{held};
 ghost use Rattle.pb_expr_eval.specs.Value.{apply, is_defined};
@@ -14,7 +15,7 @@ use crate::forms::apply;
 use crate::operand::Operand;
 use pb_expr_syntax::tree::{Filter, Op};
 use pb_operators::fault::EvalFault;
-use pb_operators::operators::{binary, finished, negate, text_within};
+use pb_operators::operators::{binary, finished, is_final, negate, text_within};
 use pb_value::text::Text;
 use pb_value::val::{Dict, Val, ValList};
 use std::alloc::Global;
@@ -226,13 +227,22 @@ pub(crate) fn put(
     }
 }
 
-/// Puts the text that was read behind another.
-pub(crate) fn append(to: &mut String, outcome: Result<String, EvalFault>) -> Result<(), EvalFault>
-    ensures value { IfOk result (λ u. map_ok (λ s. string_bytes to.old ++ string_bytes s) outcome ≡ Ok (string_bytes to.new)) }
-    ensures fault { IfErr result (λ e. e ≢ fault.Memory → outcome ≡ Err e) }
+/// Puts the text of what was read behind another, if it may be the value of a whole expression.
+pub(crate) fn append(
+    alloc: Global,
+    to: &mut String,
+    outcome: Result<Operand, EvalFault>,
+) -> Result<(), EvalFault>
+    ensures value { IfOk result (λ u. map_ok (λ s. string_bytes to.old ++ s) (map_ok text_of (and_then (map_ok held outcome.entry) finished)) ≡ Ok (string_bytes to.new)) }
+    ensures fault { IfErr result (λ e. e ≢ fault.Memory → map_ok text_of (and_then (map_ok held outcome.entry) finished) ≡ Err e) }
 {
     match outcome {
-        Ok(more) => Ok(to.push_str(more.as_str())?),
+        Ok(x) => {
+            if !is_final(x.get()) {
+                return Err(EvalFault::TooLarge);
+            }
+            Ok(x.get().show(alloc, to)?)
+        }
         Err(fault) => Err(fault),
     }
 }

@@ -1,8 +1,7 @@
 //! Reads expressions and templates in a scope, with a number of look-ups left.
-ghost use Rattle.std.specs.Prelude.{◌≡◌, ◌≢◌, IfOk, IfErr, IfSome, Ok, Err, string_bytes};
-ghost use Rattle.std.specs.Option.{option_copied};
+ghost use Rattle.std.specs.Prelude.{◌≡◌, ◌≢◌, ◌++◌, IfOk, IfErr, Ok, Err, string_bytes};
 ghost use Rattle.pb_value.specs.Datum.{items_of, members_of, named};
-ghost use Rattle.pb_value.specs.Reading.{and_then};
+ghost use Rattle.pb_value.specs.Reading.{and_then, map_ok};
 ghost use Rattle.pb_expr_syntax.specs.Tree as tree;
 ghost use Rattle.pb_expr_syntax.specs.Tree.{trees_of};
 ghost use Rattle.pb_operators.specs.declared.fault.EvalFault.TheVariants as fault;
@@ -12,7 +11,7 @@ ghost use Rattle.pb_expr_eval.specs.Rendering.{measured, templated, text_in, sho
 ghost use Rattle.pb_expr_eval.specs.Scoped.{names_in};
 ghost use Rattle.pb_expr_eval.specs.Operand.{held};
 
-use crate::forms::{short_circuits, text_of};
+use crate::forms::short_circuits;
 use crate::operand::Operand;
 use crate::outcomes::{
     append, applied, between, bracketed, copied, copied_text, defined, denied, listed, made, named,
@@ -29,6 +28,9 @@ use pb_value::text::Text;
 use pb_value::val::{Dict, Node, Val, ValList};
 use std::alloc::Global;
 
+/// How many bytes the text of a template has room for from the first: most have fewer.
+const ROOM: usize = 32;
+
 /// The value of an expression.
 #[cycle(reading)]
 #[inline(never)]
@@ -36,10 +38,7 @@ fn value(alloc: Global, scope: &Scope, levels: u32, expr: &Expr) -> Result<Val, 
     ensures value { IfOk result (λ v. value (names_in scope.now levels) expr.now ≡ Ok v) }
     ensures fault { IfErr result (λ e. e ≢ fault.Memory → value (names_in scope.now levels) expr.now ≡ Err e) }
 {
-    match &expr.form {
-        Form::Name(name) => read(alloc, scope, levels, name.as_str()),
-        _ => owned(alloc, operand(alloc, scope, levels, expr)),
-    }
+    owned(alloc, operand(alloc, scope, levels, expr))
 }
 
 /// An operator between two operands; the second is read where the first isn't the result.
@@ -63,27 +62,6 @@ fn operated<'a>(
     between(alloc, op, x, operand(alloc, scope, levels, y))
 }
 
-/// The value of a name, where it is read as it is stored: its layer has no templates, or there is none in the value.
-#[tactic(auto, using(crate::proofs::Steps::stored_name, crate::proofs::Unrendered::known_name, crate::proofs::Unrendered::plain_name))]
-fn stored<'a>(scope: &Scope<'a>, levels: u32, name: &str) -> Option<&'a Val>
-    ensures { IfSome (option_copied result) (λ v. names_in scope.now levels name.now ≡ Ok v) }
-{
-    if levels == 0 {
-        return None;
-    }
-    let found = scope.find(name)?;
-    if !has_templates(found.layer) {
-        return Some(found.value);
-    }
-    if scope.knows_plain(name) {
-        return Some(found.value);
-    }
-    if is_plain(found.value) {
-        return Some(found.value);
-    }
-    None
-}
-
 /// An operand, which is lent where it can be: a name that is read as it is stored, and what stands in it, so that it is read without a copy of the whole.
 /// `hostvars` has an entry for each host.
 #[cycle(reading)]
@@ -100,10 +78,7 @@ fn operand<'a>(
     match &expr.form {
         Form::Int(number) => Ok(Operand::Made(Val::int(*number))),
         Form::Text(text) => copied_text(text),
-        Form::Name(name) => match stored(scope, levels, name.as_str()) {
-            Some(value) => Ok(Operand::Lent(value)),
-            None => made(read(alloc, scope, levels, name.as_str())),
-        },
+        Form::Name(name) => read(alloc, scope, levels, name.as_str()),
         Form::Truth(truth) => Ok(Operand::Made(Val::boolean(*truth))),
         Form::Null => Ok(Operand::Made(Val::null())),
         Form::List(items) => made(listed(values(alloc, scope, levels, items.as_slice()))),
@@ -241,11 +216,18 @@ fn default_if<'a>(
     }
 }
 
-/// What a name stands for, where there is a look-up left.
+/// What a name stands for, where there is a look-up left. It is lent where it is read as it is stored: its layer has no templates, or there is none in
+/// the value.
 #[cycle(reading)]
 #[inline(never)]
-fn read(alloc: Global, scope: &Scope, levels: u32, name: &str) -> Result<Val, EvalFault>
-    ensures value { IfOk result (λ v. names_in scope.now levels name.now ≡ Ok v) }
+#[tactic(auto, using(crate::proofs::Steps::stored_name, crate::proofs::Unrendered::known_name, crate::proofs::Unrendered::plain_name))]
+fn read<'a>(
+    alloc: Global,
+    scope: &Scope<'a>,
+    levels: u32,
+    name: &str,
+) -> Result<Operand<'a>, EvalFault>
+    ensures value { IfOk result (λ x. names_in scope.now levels name.now ≡ Ok (held x)) }
     ensures fault { IfErr result (λ e. e ≢ fault.Memory → names_in scope.now levels name.now ≡ Err e) }
 {
     if levels == 0 {
@@ -254,11 +236,16 @@ fn read(alloc: Global, scope: &Scope, levels: u32, name: &str) -> Result<Val, Ev
     match scope.find(name) {
         None => Err(undefined(alloc, name)),
         Some(found) => {
-            if has_templates(found.layer) {
-                rendered(alloc, scope, levels - 1, found.value)
-            } else {
-                copied(alloc, found.value)
+            if !has_templates(found.layer) {
+                return Ok(Operand::Lent(found.value));
             }
+            if scope.knows_plain(name) {
+                return Ok(Operand::Lent(found.value));
+            }
+            if is_plain(found.value) {
+                return Ok(Operand::Lent(found.value));
+            }
+            made(rendered(alloc, scope, levels - 1, found.value))
         }
     }
 }
@@ -361,28 +348,34 @@ pub(crate) fn rendered_parts(
 /// The texts of parts in one.
 #[cycle(reading)]
 #[inline(never)]
-#[tactic(auto, using(crate::proofs::Members::map_ok_none, crate::proofs::Members::map_ok_joined))]
+#[tactic(auto, using(crate::proofs::Members::map_ok_none))]
 fn shown(alloc: Global, scope: &Scope, levels: u32, parts: &[Part]) -> Result<String, EvalFault>
     ensures value { IfOk result (λ s. shown (names_in scope.now levels) parts.now ≡ Ok (string_bytes s)) }
     ensures fault { IfErr result (λ e. e ≢ fault.Memory → shown (names_in scope.now levels) parts.now ≡ Err e) }
 {
-    let mut text = String::new(alloc);
+    let mut text = String::with_capacity(alloc, ROOM)?;
     for part in parts {
-        append(&mut text, text_in(alloc, scope, levels, part))?;
+        show(alloc, scope, levels, part, &mut text)?;
     }
     Ok(text)
 }
 
-/// The text of a part.
+/// Puts the text of a part behind another. That of a value that is lent goes there as it stands.
 #[cycle(reading)]
 #[inline(never)]
-fn text_in(alloc: Global, scope: &Scope, levels: u32, part: &Part) -> Result<String, EvalFault>
-    ensures value { IfOk result (λ s. text_in (names_in scope.now levels) part.now ≡ Ok (string_bytes s)) }
+fn show(
+    alloc: Global,
+    scope: &Scope,
+    levels: u32,
+    part: &Part,
+    to: &mut String,
+) -> Result<(), EvalFault>
+    ensures value { IfOk result (λ u. map_ok (λ s. string_bytes to.old ++ s) (text_in (names_in scope.now levels) part.now) ≡ Ok (string_bytes to.new)) }
     ensures fault { IfErr result (λ e. e ≢ fault.Memory → text_in (names_in scope.now levels) part.now ≡ Err e) }
 {
     match part {
-        Part::Plain(text) => Ok(String::from_str(alloc, text.as_str())?),
-        Part::Code(expr) => text_of(alloc, measured(alloc, scope, levels, expr)),
+        Part::Plain(text) => Ok(to.push_str(text.as_str())?),
+        Part::Code(expr) => append(alloc, to, operand(alloc, scope, levels, expr)),
     }
 }
 

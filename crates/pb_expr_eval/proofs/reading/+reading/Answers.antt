@@ -1,4 +1,5 @@
-use Rattle.std.proofs.Common.{◌≡◌, ◌+◌, ◌*◌, ◌-◌, ◌<◌, ◌≤◌, ℕ, true, false, List, [], ◌∷◌, ◌++◌, Some, Ok, IfOk, string_bytes, sym, ap, ◌∙◌, subst, append_assoc, string_cmp, map, arith}
+use Rattle.std.proofs.Common.{◌≡◌, ◌+◌, ◌*◌, ◌-◌, ◌<◌, ◌≤◌, ℕ, true, List, [], ◌∷◌, ◌++◌, Some, Ok, IfOk, string_bytes, sym, ap, ◌∙◌, subst, append_assoc, string_cmp, map, drop, arith}
+use Rattle.std.proofs.lemmas.List.{drop_more}
 use Rattle.std.proofs.lemmas.Result.{IfOk-weaker, IfErr-weaker}
 use Rattle.std.specs.List.Sorted.{IsStrictlySortedBy}
 use Rattle.std.specs.Map.{keys_of}
@@ -7,11 +8,11 @@ use Rattle.pb_value.specs.Reading.{map_ok}
 use Rattle.pb_expr_syntax.specs.Tree.{nodes}
 use Rattle.pb_layers.specs.Scope.{found, has_templates}
 use Rattle.pb_template.specs.Plain.{is_plain}
-use Rattle.pb_expr_eval.specs.Rendering.{rendered, rendered_members}
+use Rattle.pb_expr_eval.specs.Rendering.{rendered, rendered_members, shown, text_in}
 use Rattle.pb_expr_eval.specs.Scoped.{names_in}
-use Rattle.pb_expr_eval.proofs.Members.{Entry, map_ok-none, put_after, rendered_members-step, keys_join}
-use Rattle.pb_expr_eval.proofs.Read.{taken}
-use Rattle.pb_expr_eval.proofs.Steps.{rendered_name, stored_name}
+use Rattle.pb_expr_eval.proofs.Members.{Entry, map_ok-none, put_after, rendered_members-step, keys_join, shown_step}
+use Rattle.pb_expr_eval.proofs.Read.{taken, made_value, made_fault, shown_value, shown_fault}
+use Rattle.pb_expr_eval.proofs.Steps.{rendered_name}
 use Rattle.pb_expr_eval.proofs.Unrendered.{plain_rendered}
 use Rattle.pb_expr_eval.proofs.Weights.{spent, part_weight, weight, items_weight, members_weight, nodes_at, weight_at, part_weight_at, member_weight, found_weight, look_up_spends}
 use Rattle.pb_expr_eval.proofs.reading.+reading.Goals as goal
@@ -22,8 +23,8 @@ values-value-requires t c =
     let h : spent c.args.scope.now c.args.levels + (4 * nodes c.item-item.result + 2) < t = omega (arith, w) in
     (h, tt)
 
-pub shown-text_in-requires : goal.shown-text_in-requires
-shown-text_in-requires t c =
+pub shown-show-requires : goal.shown-show-requires
+shown-show-requires t c =
     let w = part_weight_at c.args.parts.now c.loop-part.part-index c.part-item.result c.loop-part-test.true c.part-item.is in
     let h : spent c.args.scope.now c.args.levels + (4 * part_weight c.part-item.result + 1) < t = omega (arith, w) in
     (h, tt)
@@ -75,19 +76,19 @@ read-rendered-requires t c =
     let h : spent c.args.scope.now (c.args.levels - 1) + (4 * weight c.in-Some.found.value.now + 2) < t = omega (arith, w) in
     (h, tt)
 
-pub read-returns-then-has_templates-clause-value : goal.read-returns-then-has_templates-clause-value
-read-returns-then-has_templates-clause-value t c =
+pub read-returns-else-is_plain-clause-value : goal.read-returns-else-is_plain-clause-value
+read-returns-else-is_plain-clause-value t c =
     let f : found c.args.name.now c.args.scope.now ≡ Some (c.in-Some.found.layer, c.in-Some.found.value.now) = sym c.in-Some.ensures in
     let true_so : has_templates c.in-Some.found.layer ≡ true = cc in
     let step = rendered_name c.args.scope.now c.args.levels c.args.name.now (c.in-Some.found.layer, c.in-Some.found.value.now) (omega arith) f true_so in
-    IfOk-weaker c.rendered.result _ _ (λ v h. step ∙ h) c.rendered.ensures.value
+    made_value c.made.result c.rendered.result (names_in c.args.scope.now c.args.levels c.args.name.now) c.made.ensures (IfOk-weaker c.rendered.result _ _ (λ v h. step ∙ h) c.rendered.ensures.value)
 
-pub read-returns-then-has_templates-clause-fault : goal.read-returns-then-has_templates-clause-fault
-read-returns-then-has_templates-clause-fault t c =
+pub read-returns-else-is_plain-clause-fault : goal.read-returns-else-is_plain-clause-fault
+read-returns-else-is_plain-clause-fault t c =
     let f : found c.args.name.now c.args.scope.now ≡ Some (c.in-Some.found.layer, c.in-Some.found.value.now) = sym c.in-Some.ensures in
     let true_so : has_templates c.in-Some.found.layer ≡ true = cc in
     let step = rendered_name c.args.scope.now c.args.levels c.args.name.now (c.in-Some.found.layer, c.in-Some.found.value.now) (omega arith) f true_so in
-    IfErr-weaker c.rendered.result _ _ (λ e h other. step ∙ h other) c.rendered.ensures.fault
+    made_fault c.made.result c.rendered.result (names_in c.args.scope.now c.args.levels c.args.name.now) c.made.ensures (IfErr-weaker c.rendered.result _ _ (λ e h other. step ∙ h other) c.rendered.ensures.fault)
 
 pub rendered_members-loop-key-init : goal.rendered_members-loop-key-init
 rendered_members-loop-key-init t c =
@@ -104,14 +105,30 @@ rendered_members-loop-key-init t c =
           ∙ ap (λ (out : List (List ℕ × Datum)). map_ok (λ xs. out ++ xs) (rendered_members names (members_of (named c.into_iter-key-iterator.result)))) (sym none),
     )
 
-pub read-returns-else-has_templates-clause-value : goal.read-returns-else-has_templates-clause-value
-read-returns-else-has_templates-clause-value t c =
-    let f : found c.args.name.now c.args.scope.now ≡ Some (c.in-Some.found.layer, c.in-Some.found.value.now) = sym c.in-Some.ensures in
-    let false_so : has_templates c.in-Some.found.layer ≡ false = cc in
-    let step = stored_name c.args.scope.now c.args.levels c.args.name.now (c.in-Some.found.layer, c.in-Some.found.value.now) (omega arith) f false_so in
-    IfOk-weaker c.copied.result _ _ (λ v h. step ∙ ap Ok (sym h)) c.copied.ensures.value
-
 pub rendered-returns-then-is_plain-clause-value : goal.rendered-returns-then-is_plain-clause-value
 rendered-returns-then-is_plain-clause-value t c =
     let plain : is_plain c.args.stored.now ≡ true = cc in
     IfOk-weaker c.copied.result _ _ (λ v h. plain_rendered (names_in c.args.scope.now c.args.levels) c.args.stored.now plain ∙ ap Ok (sym h)) c.copied.ensures.value
+
+pub show-returns-in-Code-clause-value : goal.show-returns-in-Code-clause-value
+show-returns-in-Code-clause-value t c =
+    let names = names_in c.args.scope.now c.args.levels in
+    rw c.in-Code.is (IfOk-weaker c.append.result _ _
+    (λ u h. shown_value names c.in-Code.expr c.operand.result (string_bytes c.args.to.now) (string_bytes c.append.new.to) c.operand.ensures.value h) c.append.ensures.value)
+
+pub show-returns-in-Code-clause-fault : goal.show-returns-in-Code-clause-fault
+show-returns-in-Code-clause-fault t c =
+    let names = names_in c.args.scope.now c.args.levels in
+    rw c.in-Code.is (IfErr-weaker c.append.result _ _
+    (λ e h other. shown_fault names c.in-Code.expr c.operand.result e c.operand.ensures.value c.operand.ensures.fault other (h other)) c.append.ensures.fault)
+
+pub shown-loop-part-preserved : goal.shown-loop-part-preserved
+shown-loop-part-preserved t c =
+    let names = names_in c.args.scope.now c.args.levels in
+    let parts = c.args.parts.now in
+    let at = c.loop-part.part-index in
+    let part = c.part-item.result in
+    let cut : drop at parts ≡ part ∷ drop (at + 1) parts = drop_more parts at part c.loop-part-test.true ∙ ap (λ p. p ∷ drop (at + 1) parts) (sym c.part-item.is) in
+    c.loop-part.invariant
+    ∙ ap (λ ps. map_ok (λ s. string_bytes c.loop-part.text ++ s) (shown names ps)) cut
+    ∙ shown_step (string_bytes c.loop-part.text) (string_bytes c.show.new.to) (text_in names part) (shown names (drop (at + 1) parts)) c.in_ok-show.ensures.value

@@ -63,8 +63,8 @@ decreases-shown l = spent l.scope.now l.levels + (4 * parts_weight l.parts.now +
 abbrev pub decreases-measured : goal.decreases-measured
 decreases-measured l = spent l.scope.now l.levels + (4 * nodes l.expr.now + 3)
 
-abbrev pub decreases-text_in : goal.decreases-text_in
-decreases-text_in l = spent l.scope.now l.levels + (4 * part_weight l.part.now + 1)
+abbrev pub decreases-show : goal.decreases-show
+decreases-show l = spent l.scope.now l.levels + (4 * part_weight l.part.now + 1)
 
 abbrev pub invariant-values-loop-item : goal.invariant-values-loop-item
 invariant-values-loop-item l =
