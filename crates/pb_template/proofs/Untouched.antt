@@ -1,11 +1,14 @@
 -- A text that stands for itself has one part, or none.
-use Rattle.std.proofs.Common.{◌≡◌, ℕ, ◌+◌, ◌==◌, ◌||◌, Bool, true, false, cond, List, [], ◌∷◌, Some, None, Ok, Err, refl, ◌∙◌, ap, take, drop, length, arith, eqb-true}
+use Rattle.std.specs.Prelude.{is_some, nat_le}
+use Rattle.std.proofs.Common.{◌≡◌, ℕ, ◌+◌, ◌==◌, ◌&&◌, ◌||◌, Bool, true, false, cond, List, [], ◌∷◌, Some, None, Ok, Err, refl, ◌∙◌, ap, take, drop, length, arith, eqb-true}
 use Rattle.std.proofs.lemmas.List.{take_all, drop_all}
 use Rattle.pb_expr_syntax.specs.declared.fault.ExprFault.TheVariants as fault
+use Rattle.pb_value.specs.Limits.{max_text}
 use Rattle.pb_template.specs.declared.pieces.Piece.TheVariants as piece
 use Rattle.pb_template.specs.declared.template.Part.{Part}
 use Rattle.pb_template.specs.declared.template.Part.TheVariants as part
 use Rattle.pb_template.specs.Computed.{parts_in, unless_bad, template_of}
+use Rattle.pb_template.specs.Plain.{is_plain_text}
 use Rattle.pb_template.specs.Pieces.{begins_open, begins_refused, plain_size, begins_special, plain_front, code_front, front_at, Pieces, before, pieces_from}
 use Rattle.pb_template.proofs.Cutting.{next_good}
 
@@ -51,3 +54,11 @@ plain_template [] e = refl
 plain_template (b ∷ bs) e =
     ap (λ (ps : Pieces). unless_bad ps.1 (parts_in ps.0))
     (by_tests b bs (begins_refused (b ∷ bs)) (begins_open (b ∷ bs)) refl refl (eqb-true (plain_size (b ∷ bs)) (length (b ∷ bs)) e))
+
+and_second : (x y : Bool) → (x && y) ≡ true → y ≡ true
+and_second true y h = h
+and_second false y h = cc
+
+-- such a text is a template
+pub plain_is_template : (s : List ℕ) → is_plain_text s ≡ true → is_some (template_of s) ≡ true
+plain_is_template s plain = ap is_some (plain_template s (and_second (nat_le (length s) max_text) (plain_size s == length s) plain))

@@ -1,6 +1,7 @@
 //! Values that stand for themselves, since no text in them has an expression.
-ghost use Rattle.std.specs.Prelude.{◌≡◌};
+ghost use Rattle.std.specs.Prelude.{◌≡◌, true, is_some};
 ghost use Rattle.pb_value.specs.Datum.{items_of, members_of};
+ghost use Rattle.pb_template.specs.Computed.{template_of};
 ghost use Rattle.pb_template.specs.Plain.{is_plain_text, is_plain, items_plain, members_plain};
 
 use crate::pieces::plain_size;
@@ -12,6 +13,18 @@ fn is_plain_text(text: &str) -> bool
     ensures { result ≡ is_plain_text text.now }
 {
     text.len() <= MAX_TEXT && plain_size(text.as_bytes()) == text.len()
+}
+
+/// Whether a text stands for itself as a template, which is told without parsing it: nothing in it begins an expression, or has another meaning in
+/// Jinja, and it has at most 1 MiB.
+#[tactic(auto, using(crate::proofs::Untouched::plain_is_template))]
+pub fn stands_for_itself(text: &str) -> bool
+    ensures value { result ≡ is_plain_text text.now }
+
+    // Such a text is a template.
+    ensures template { result ≡ true → is_some (template_of text.now) ≡ true }
+{
+    is_plain_text(text)
 }
 
 /// Whether each text of the value stands for itself as a template, at any depth, names of dicts

@@ -3,15 +3,19 @@ ghost use Rattle.serde_json.specs.View.{view, items_view, members_view};
 ghost use Rattle.pb_written.specs.Templates.{is_template, are_templates, items_are_templates, members_are_templates};
 
 use pb_expr_syntax::fault::ExprFault;
+use pb_template::plain::stands_for_itself;
 use pb_template::template::Template;
 use serde_json::{Map, Value};
 use std::alloc::{AllocError, Global};
 
-/// Whether the text is a template.
+/// Whether the text is a template. One that stands for itself isn't parsed.
 #[tactic(auto, unfolding(crate::specs::Templates::is_template))]
 pub fn is_template(alloc: Global, text: &str) -> Result<bool, AllocError>
     ensures { IfOk result (λ b. b ≡ is_template text.now) }
 {
+    if stands_for_itself(text) {
+        return Ok(true);
+    }
     match Template::parse(alloc, text) {
         Ok(_) => Ok(true),
         Err(ExprFault::Memory) => Err(AllocError),
