@@ -216,10 +216,13 @@ pub fn with_conditions(
         Ending::Ran {
             changed: _,
             failed: _,
-        } => or_faulty(
-            alloc,
-            by_conditions(alloc, sight, changed_when, failed_when, item),
-        ),
+        } => match (changed_when, failed_when) {
+            (None, None) => Ok(item),
+            _ => or_faulty(
+                alloc,
+                by_conditions(alloc, sight, changed_when, failed_when, item),
+            ),
+        },
         _ => Ok(item),
     }
 }

@@ -201,9 +201,9 @@ fn item_of_each(alloc: Global, start: &Start, values: ValList) -> Result<Items<I
 fn only(alloc: Global, item: Item) -> Result<Items<Item>, AllocError>
     ensures { IfOk result (λ items. items ≡ item ∷ []) }
 {
-    let mut items = Items::new(alloc);
+    let mut items = Vec::with_capacity(alloc, 1)?;
     items.push(item)?;
-    Ok(items)
+    Ok(Items::from_vec(items))
 }
 
 /// The items of a loop over these values, in layers that are marked with the name that its list is found under: a key that names it doesn't look
