@@ -1,7 +1,7 @@
 ghost use Rattle.std.specs.Prelude.{◌≡◌, IfOk, OnOk, OnErr};
 ghost use Rattle.std.specs.Option.{option_copied};
 ghost use Rattle.pb_value.specs.Datum.{named};
-ghost use Rattle.pb_facts.specs.Facts.{no_facts, gathered_layer, merged, with_set, with_given, with_registered, learnt, known_of};
+ghost use Rattle.pb_facts.specs.Facts.{no_facts, gathered_layer, merged, with_set, with_registered, learnt, known_of};
 
 use crate::layer::GatheredLayer;
 use crate::put::put_all;
@@ -100,18 +100,6 @@ impl Facts {
         put_all(alloc, &mut set, given)?;
         self.set = set;
         Ok(())
-    }
-
-    /// Takes in what a module gave beside its result, as it gives it. An `Err` changes nothing.
-    pub fn take(&mut self, alloc: Global, gives: Gives, given: &Dict) -> Result<(), AllocError>
-        ensures ok { OnOk result (self.new ≡ with_given gives given.now self.old) }
-        ensures err { OnErr result (self.new ≡ self.old) }
-    {
-        match gives {
-            Gives::Nothing => Ok(()),
-            Gives::Sets => self.set(alloc, given),
-            Gives::Gathers => self.merge(alloc, given),
-        }
     }
 
     /// Takes in a task's result under the name that it is registered under, if it is. An `Err` changes nothing.

@@ -17,7 +17,6 @@ use pb_ids::{HostNo, Ticket};
 use pb_tree::{Answer, Kind, Reach, Status};
 use std::alloc::{AllocError, Global};
 use std::marker::Model;
-use std::mem;
 
 /// How a host's finished tasks count in the recap (Ansible's documentation, "Return Values").
 #[derive(Clone, Copy, PartialEq, Eq)]
@@ -282,12 +281,5 @@ impl Host {
         let past = self.apply(alloc, update)?;
         self.answer(answer);
         Ok(past)
-    }
-
-    /// What the host knows from now on.
-    pub fn know(&mut self, facts: Facts)
-        ensures { self.new ≡ knows facts self.old }
-    {
-        drop(mem::replace(&mut self.facts, facts));
     }
 }
