@@ -18,3 +18,5 @@ mod hostvars;
 mod results;
 #[cfg(test)]
 mod templates;
+#[cfg(test)]
+mod values;
