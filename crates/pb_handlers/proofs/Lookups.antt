@@ -1,5 +1,5 @@
 -- An index of words, with a number more beside one of them.
-use Rattle.std.proofs.Common.{◌≡◌, ℕ, zero, suc, ◌+◌, ◌<◌, Bool, true, false, List, [], ◌∷◌, ◌++◌, length, get_or, set, take, String, Global, string_bytes, cond, refl, sym, ap, subst, ◌∙◌, ◌≤◌, arith}
+use Rattle.std.proofs.Common.{◌≡◌, ℕ, zero, suc, ◌+◌, ◌<◌, Bool, true, false, List, [], ◌∷◌, ◌++◌, length, get_or, set, take, cond, refl, sym, ap, subst, ◌∙◌, ◌≤◌, arith}
 use Rattle.std.specs.Prelude.{◌&&◌, ◌||◌, not, Some, None, slice_get, nat_eq, nat_lt, if◌then◌else◌, position, unwrap_or}
 use Rattle.std.specs.List.{list_any, position_or_len}
 use Rattle.std.specs.Str.{bytes_eq}
@@ -8,42 +8,10 @@ use Rattle.std.proofs.lemmas.List.Folds.{list_any-append}
 use Rattle.std.proofs.lemmas.Bool.Decides.{nat_tests, same_from_decides, Decides-like}
 use Rattle.std.proofs.lemmas.Slice.Eq.{bytes_eq-Decides}
 use Rattle.pb_handlers.proofs.Bits.{other_number, next_number}
-use Rattle.indexmap.specs.IndexSet.{insert_key}
 use Rattle.pb_handlers.specs.declared.naming.HandlerNames.{HandlerNames}
 use Rattle.pb_handlers.specs.Pending.{is_among}
 use Rattle.pb_handlers.specs.Naming.{answers_to}
-use Rattle.pb_handlers.specs.Index.{texts, with_word, under, answers_at}
-
--- ---- names as text beside the same names as bytes
-place-texts : (p : List ℕ → Bool) (names : List (String Global)) → position_or_len (λ k. p (string_bytes k)) names ≡ position_or_len p (texts names)
-place-texts p [] = refl
-place-texts p (n ∷ ns) = rw (place-texts p ns)
-
-length-texts : (names : List (String Global)) → length (texts names) ≡ length names
-length-texts [] = refl
-length-texts (n ∷ ns) = ap suc (length-texts ns)
-
-pub position-texts : (p : List ℕ → Bool) (names : List (String Global)) → position (λ k. p (string_bytes k)) names ≡ position p (texts names)
-position-texts p names = rw (place-texts p names, length-texts names)
-
-pub number-texts : (p : List ℕ → Bool) (names : List (String Global)) → position_or_len (λ k. p (string_bytes k)) names ≡ position_or_len p (texts names)
-number-texts p names = place-texts p names
-
-pub any-texts : (p : List ℕ → Bool) (names : List (String Global)) → list_any (λ k. p (string_bytes k)) names ≡ list_any p (texts names)
-any-texts p [] = refl
-any-texts p (n ∷ ns) = rw (any-texts p ns)
-
-texts-push : (names : List (String Global)) (n : String Global) → texts (names ++ n ∷ []) ≡ texts names ++ string_bytes n ∷ []
-texts-push [] n = refl
-texts-push (m ∷ ms) n = ap (λ t. string_bytes m ∷ t) (texts-push ms n)
-
-texts-cond : (b : Bool) (x y : List (String Global)) → texts (cond b x y) ≡ cond b (texts x) (texts y)
-texts-cond true x y = refl
-texts-cond false x y = refl
-
-pub texts-insert_key : (names : List (String Global)) (n : String Global) → texts (insert_key (λ a b. bytes_eq (string_bytes a) (string_bytes b)) names n) ≡ with_word (string_bytes n) (texts names)
-texts-insert_key names n =
-    texts-cond (list_any (λ k. bytes_eq (string_bytes n) (string_bytes k)) names) names (names ++ n ∷ []) ∙ rw (any-texts (bytes_eq (string_bytes n)) names, texts-push names n)
+use Rattle.pb_handlers.specs.Index.{with_word, under, answers_at}
 
 -- ---- equal words
 same_words : (a b : List ℕ) → bytes_eq a b ≡ true → a ≡ b
@@ -188,6 +156,42 @@ added_known other word (x ∷ words) [] k n l e = absurd (omega (arith, l))
 added_known other word (x ∷ words) (m ∷ numbers) k n l e =
     known_one (bytes_eq word x) other word x words numbers m k n (position_or_len (bytes_eq word) words) refl
     (λ f. added_known other word words numbers k n (omega (arith, l)) (rest_known (bytes_eq word x) (list_any (bytes_eq word) words) e f))
+
+-- ---- a word's number
+is_within : (b : Bool) (p n : ℕ) (rest : Bool) → cond (not b) (1 + p) 0 < suc n → (p < n → rest ≡ true) → (b || rest) ≡ true
+is_within true p n rest l f = refl
+is_within false p n rest l f = f (omega (arith, l))
+
+within_known : (word : List ℕ) (words : List (List ℕ)) → position_or_len (bytes_eq word) words < length words → list_any (bytes_eq word) words ≡ true
+within_known word [] l = absurd (omega (arith, l))
+within_known word (x ∷ words) l = is_within (bytes_eq word x) (position_or_len (bytes_eq word) words) (length words) (list_any (bytes_eq word) words) l (within_known word words)
+
+pub known_some : (word : List ℕ) (words : List (List ℕ)) (n : ℕ) → Some n ≡ position (bytes_eq word) words → list_any (bytes_eq word) words ≡ true
+known_some word words n e =
+    within_known word words (found_or n (position_or_len (bytes_eq word) words) (length words) (nat_lt (position_or_len (bytes_eq word) words) (length words)) refl (sym e)).0
+
+one_below : (b : Bool) (p n : ℕ) → p ≤ n → cond (not b) (1 + p) 0 ≤ suc n
+one_below true p n l = omega arith
+one_below false p n l = omega (arith, l)
+
+place_below : (word : List ℕ) (words : List (List ℕ)) → position_or_len (bytes_eq word) words ≤ length words
+place_below word [] = omega arith
+place_below word (x ∷ words) = one_below (bytes_eq word x) (position_or_len (bytes_eq word) words) (length words) (place_below word words)
+
+pub number_none : (word : List ℕ) (words : List (List ℕ)) → None ≡ position (bytes_eq word) words → length words ≡ position_or_len (bytes_eq word) words
+number_none word words e =
+    let least = none_or (position_or_len (bytes_eq word) words) (length words) (nat_lt (position_or_len (bytes_eq word) words) (length words)) refl (sym e) in
+    let most = place_below word words in
+    omega (arith, least, most)
+
+missing_fresh : (any : Bool) (p n : ℕ) → (any ≡ true → p < n) → n ≤ p → any ≡ false
+missing_fresh true p n f l = let less = f refl in absurd (omega (arith, l, less))
+missing_fresh false p n f l = refl
+
+pub fresh_none : (word : List ℕ) (words : List (List ℕ)) → None ≡ position (bytes_eq word) words → list_any (bytes_eq word) words ≡ false
+fresh_none word words e =
+    missing_fresh (list_any (bytes_eq word) words) (position_or_len (bytes_eq word) words) (length words) (known_within word words)
+    (none_or (position_or_len (bytes_eq word) words) (length words) (nat_lt (position_or_len (bytes_eq word) words) (length words)) refl (sym e))
 
 -- ---- a topic and a handler more
 or_swap : (a b c d : Bool) → ((a || (b && d)) || (c && d)) ≡ (a || ((b || c) && d))

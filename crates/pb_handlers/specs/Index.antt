@@ -1,15 +1,11 @@
 -- An index of words, as the code keeps it.
-use Rattle.std.specs.Prelude.{◌≡◌, ℕ, ◌+◌, Bool, false, List, [], ◌∷◌, ◌++◌, slice_get, String, string_bytes, map, if◌then◌else◌}
-use Rattle.std.specs.declared.alloc.Global.{Global}
+use Rattle.std.specs.Prelude.{◌≡◌, ℕ, ◌+◌, Bool, false, List, [], ◌∷◌, ◌++◌, slice_get, if◌then◌else◌}
 use Rattle.std.specs.List.{list_any}
 use Rattle.std.specs.Option.{option_map_or}
 use Rattle.std.specs.Str.{bytes_eq}
 use Rattle.pb_handlers.specs.declared.naming.HandlerNames.{HandlerNames}
 use Rattle.pb_handlers.specs.Naming.{answers_to}
 use Rattle.pb_handlers.specs.Pending.{is_among}
-
-abbrev pub texts : List (String Global) → List (List ℕ)
-texts words = map string_bytes words
 
 -- a word that is there keeps its place, and a new one goes last
 abbrev pub with_word : List ℕ → List (List ℕ) → List (List ℕ)

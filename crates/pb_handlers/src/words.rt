@@ -3,29 +3,28 @@ ghost use Rattle.std.specs.List.{list_any, position_or_len};
 ghost use Rattle.std.specs.Str.{bytes_eq};
 ghost use Rattle.pb_handlers.specs.Index.{with_word};
 
-use indexmap::IndexSet;
+use pb_names::NameList;
 use std::alloc::{AllocError, Global};
 use std::marker::Model;
 
 /// Words, each once, in the order in which they came. A word is found without a look at the others.
 pub(crate) struct WordSet {
-    set: IndexSet<String>,
+    list: NameList,
 }
 
 impl Drop for WordSet {
     fn drop(self) {
-        let WordSet { set } = self;
-        drop(set);
+        let WordSet { list } = self;
+        drop(list);
     }
 }
 
 impl Model for WordSet {
     ghost use Rattle.std.specs.Prelude.{ℕ, List};
-    ghost use Rattle.pb_handlers.specs.Index.{texts};
 
     ghost Value = { List (List ℕ) };
 
-    ghost view = { λ w. texts w.set.keys };
+    ghost view = { λ w. w.list };
 }
 
 impl WordSet {
@@ -34,7 +33,7 @@ impl WordSet {
         ensures { result ≡ [] }
     {
         WordSet {
-            set: IndexSet::new(alloc),
+            list: NameList::new(alloc),
         }
     }
 
@@ -42,7 +41,7 @@ impl WordSet {
     pub(crate) fn number(&self, word: &str) -> Option<usize>
         ensures { result ≡ position (bytes_eq word.now) self.now }
     {
-        self.set.get_index_of(word)
+        self.list.number(word)
     }
 
     /// Puts a word in, unless it is there; the word's number, and whether it is new.
@@ -51,6 +50,13 @@ impl WordSet {
         ensures is_new { IfOk result (λ r. r.1 ≡ not (list_any (bytes_eq word.now) self.old)) }
         ensures words { OnOk result (self.new ≡ with_word word.now self.old) }
     {
-        Ok(self.set.insert_full(String::from_str(alloc, word)?)?)
+        match self.list.number(word) {
+            Some(number) => Ok((number, false)),
+            None => {
+                let number = self.list.len();
+                self.list.put(alloc, word)?;
+                Ok((number, true))
+            }
+        }
     }
 }

@@ -1,22 +1,20 @@
-use Rattle.std.proofs.Common.{◌∙◌, ap, string_bytes}
+use Rattle.std.proofs.Common.{ap, sym, ◌∙◌}
 use Rattle.std.specs.Prelude.{not}
-use Rattle.std.specs.List.{list_any, position_or_len}
-use Rattle.std.specs.Str.{bytes_eq}
-use Rattle.pb_handlers.specs.Index.{texts, with_word}
-use Rattle.pb_handlers.proofs.Lookups.{number-texts, any-texts, texts-insert_key}
+use Rattle.pb_handlers.proofs.Lookups.{known_some, number_none, fresh_none, words_stay}
 use Rattle.pb_handlers.proofs.words.WordSet.insert.Goals as goal
 
-pub returns-clause-number : goal.returns-clause-number
-returns-clause-number c =
-    rw (← c.self.view_is) (c.in_ok-insert_full.ensures.index ∙ number-texts (bytes_eq (string_bytes c.in_ok-from_str.field-0)) c.self.inside.set.keys
-    ∙ ap (λ w. position_or_len (bytes_eq w) (texts c.self.inside.set.keys)) c.in_ok-from_str.ensures.ok)
+pub returns-in-Some-clause-is_new : goal.returns-in-Some-clause-is_new
+returns-in-Some-clause-is_new c =
+    rw (← c.self.view_is) (sym (ap not (known_some c.args.word.now c.self.inside.list c.in-Some.number c.in-Some.ensures)))
 
-pub returns-clause-is_new : goal.returns-clause-is_new
-returns-clause-is_new c =
-    rw (← c.self.view_is) (c.in_ok-insert_full.ensures.added ∙ ap not (any-texts (bytes_eq (string_bytes c.in_ok-from_str.field-0)) c.self.inside.set.keys
-    ∙ ap (λ w. list_any (bytes_eq w) (texts c.self.inside.set.keys)) c.in_ok-from_str.ensures.ok))
+pub returns-in-Some-clause-words : goal.returns-in-Some-clause-words
+returns-in-Some-clause-words c =
+    rw (← c.self.view_is) (sym (words_stay c.args.word.now c.self.inside.list (known_some c.args.word.now c.self.inside.list c.in-Some.number c.in-Some.ensures)))
 
-pub returns-clause-words : goal.returns-clause-words
-returns-clause-words c =
-    rw (← c.self.view_is) (ap texts c.in_ok-insert_full.ensures.keys ∙ texts-insert_key c.self.inside.set.keys c.in_ok-from_str.field-0
-    ∙ ap (λ w. with_word w (texts c.self.inside.set.keys)) c.in_ok-from_str.ensures.ok)
+pub returns-in_ok-put-in-None-clause-number : goal.returns-in_ok-put-in-None-clause-number
+returns-in_ok-put-in-None-clause-number c =
+    rw (← c.self.view_is) (c.len-number.ensures ∙ number_none c.args.word.now c.self.inside.list c.in-None.ensures)
+
+pub returns-in_ok-put-in-None-clause-is_new : goal.returns-in_ok-put-in-None-clause-is_new
+returns-in_ok-put-in-None-clause-is_new c =
+    rw (← c.self.view_is) (sym (ap not (fresh_none c.args.word.now c.self.inside.list c.in-None.ensures)))
