@@ -1,11 +1,11 @@
 -- Names, each once, in the order of their first mention or in byte order.
-use Rattle.std.specs.Prelude.{ℕ, List, [], ◌∷◌, ◌++◌, map, filter, not, String, string_bytes, if◌then◌else◌}
+use Rattle.std.specs.Prelude.{ℕ, List, [], ◌∷◌, map, filter, not, String, string_bytes}
 use Rattle.std.specs.declared.alloc.Global.{Global}
-use Rattle.std.specs.List.{list_any}
 use Rattle.std.specs.Str.{bytes_eq}
 use Rattle.std.specs.BTreeSet.{insert_key}
 use Rattle.std.specs.Cmp.Lexicographic.{slice_cmp}
 use Rattle.std.specs.Ordering.{nat_cmp}
+pub use Rattle.pb_names.specs.Names.{with_name}
 
 abbrev pub texts : List (String Global) → List (List ℕ)
 texts names = map string_bytes names
@@ -14,10 +14,6 @@ texts names = map string_bytes names
 abbrev pub once : List (List ℕ) → List (List ℕ)
 once [] = []
 once (name ∷ names) = name ∷ filter (λ other. not (bytes_eq name other)) (once names)
-
--- a name that is among the known ones keeps its place, and a new one goes last
-abbrev pub with_name : List ℕ → List (List ℕ) → List (List ℕ)
-with_name name known = if list_any (bytes_eq name) known then known else known ++ name ∷ []
 
 -- each of these names in turn
 abbrev pub with_names : List (List ℕ) → List (List ℕ) → List (List ℕ)

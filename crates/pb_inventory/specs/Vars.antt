@@ -1,5 +1,5 @@
 -- The variables of groups and hosts (Ansible's documentation, "How variables are merged").
-use Rattle.std.specs.Prelude.{◌≡◌, ℕ, zero, suc, ℤ, pos, Bool, not, ◌&&◌, List, [], ◌∷◌, map, filter, length, slice_index_or, Option, Some, None, is_some, position, unwrap_or, codes, if◌then◌else◌}
+use Rattle.std.specs.Prelude.{ℕ, ℤ, pos, Bool, not, ◌&&◌, List, [], ◌∷◌, map, filter, length, slice_index_or, Option, Some, None, is_some, position, unwrap_or, codes, if◌then◌else◌}
 use Rattle.std.specs.List.{range_with_len}
 use Rattle.std.specs.Map.{keys_of}
 use Rattle.std.specs.Option.{option_or}

@@ -14,11 +14,12 @@ ghost use Rattle.pb_inventory.specs.Vars.{priorities_in};
 use crate::fault::InvFault;
 use crate::listed::Listed;
 use crate::named::Named;
-use crate::names::NameList;
+use crate::names::priorities_of;
 use crate::numbering::{group_names_of, host_names_of, links_of, own_of};
 use crate::vars::GroupVars;
 use pb_groups::{GroupFault, Groups, OwnHost};
 use pb_ids::{GroupNo, HostNo};
+use pb_names::NameList;
 use pb_planes::HostSet;
 use std::alloc::{AllocError, Global};
 use std::marker::Model;
@@ -230,7 +231,7 @@ impl Graph {
         ensures value { IfOk result (λ order. order.items ≡ in_order (numbered self.now) (priorities_in vars.now self.now.groups)) }
         ensures below { IfOk result (λ order. All (λ g. g.0 < length self.now.groups) order.items) }
     {
-        let priorities = self.names.priorities(alloc, vars)?;
+        let priorities = priorities_of(alloc, &self.names, vars)?;
         self.groups.in_order(alloc, priorities.as_slice())
     }
 

@@ -6,10 +6,10 @@ ghost use Rattle.pb_inventory.specs.Names.{with_names, in_place};
 ghost use Rattle.pb_inventory.specs.Graph.{host_names, group_names, numbers_of, own_listed, links_listed, listed_hosts, own_under, links_under, group_number, number_first, missing, is_unmarked, own_of, links_of, all, ungrouped};
 
 use crate::listed::Listed;
-use crate::names::NameList;
 use crate::sorted::SortedNames;
 use pb_groups::{ChildLink, OwnHost};
 use pb_ids::{GroupNo, HostNo};
+use pb_names::NameList;
 use pb_value::text::Text;
 use std::alloc::{AllocError, Global};
 

@@ -1,7 +1,7 @@
 ghost use Rattle.std.specs.Prelude.{◌≡◌, [], string_bytes, IfOk, OnOk, OnErr};
 ghost use Rattle.pb_inventory.specs.Names.{texts, in_place, all_in_place};
 
-use crate::names::NameList;
+use pb_names::NameList;
 use pb_value::text::Text;
 use std::alloc::{AllocError, Global};
 use std::collections::BTreeSet;

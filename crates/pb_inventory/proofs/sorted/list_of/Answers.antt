@@ -1,4 +1,4 @@
-use Rattle.std.proofs.Common.{◌≡◌, ◌∙◌, ℕ, List, [], String, Global, ap, sym}
+use Rattle.std.proofs.Common.{◌≡◌, ◌∙◌, ℕ, List, [], String, Global}
 use Rattle.pb_inventory.specs.Names.{texts, with_names}
 use Rattle.pb_inventory.proofs.Once.{with_names-none, once-sorted}
 use Rattle.pb_inventory.proofs.sorted.list_of.Goals as goal
