@@ -27,6 +27,7 @@ pub mod RowsOfKeys
 pub mod RowsOfModules
 pub mod RowsOfNodes
 pub mod RowsOfRetries
+pub mod ShortTasks
 pub mod Strategies
 pub mod Tasks
 pub mod Throttles

@@ -38,6 +38,7 @@ mod percentage;
 pub mod play;
 pub mod playbook;
 mod retrying;
+mod short;
 mod strategies;
 mod task;
 mod throttle;

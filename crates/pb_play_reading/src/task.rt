@@ -12,6 +12,7 @@ use crate::loops::{Control, Over, looped};
 use crate::modules::ModuleKey;
 use crate::no_effect::check_without_effect;
 use crate::retrying::{Delay, Tries, read_tries, retrying_of};
+use crate::short::Short;
 use pb_expr_syntax::tree::Expr;
 use pb_play::loops::Loop;
 use pb_play::modules::Module;
@@ -437,7 +438,7 @@ fn read_module(
 }
 
 /// The name of a task: that of its module where it has none.
-fn named(alloc: Global, name: Option<Text>, called: &Module) -> Result<Text, AllocError>
+pub(crate) fn named(alloc: Global, name: Option<Text>, called: &Module) -> Result<Text, AllocError>
     ensures { IfOk result (λ t. t ≡ unwrap_or name (module_name called.now)) }
 {
     match name {
@@ -447,8 +448,22 @@ fn named(alloc: Global, name: Option<Text>, called: &Module) -> Result<Text, All
 }
 
 /// A task, as the members of an object spell it.
-#[tactic(auto, unfolding(crate::specs::Tasks::task))]
 pub(crate) fn read_task(
+    alloc: Global,
+    path: &Text,
+    members: &Map<String, Value>,
+) -> Result<Task, Stop<LoadFault>>
+    ensures { Gives result (task path.now (json.object (members_view members.now.entries))) }
+{
+    match Short::of(members) {
+        Some(short) => short.read(alloc, path),
+        None => read_by_key(alloc, path, members),
+    }
+}
+
+/// A task, by a look for each key that a task may have.
+#[tactic(auto, unfolding(crate::specs::Tasks::task))]
+fn read_by_key(
     alloc: Global,
     path: &Text,
     members: &Map<String, Value>,
