@@ -131,7 +131,7 @@ impl Engine {
     ///
     /// # Errors
     /// `UnknownTicket` exactly where no job was sent under the report's ticket, `AlreadyReported` exactly where one was sent
-    /// and isn't out, `WrongItem` exactly where it is out for another host or item; else `Memory` where memory was refused.
+    /// and isn't out, `WrongItem` exactly where it is out for another host, item or attempt; else `Memory` where memory was refused.
     #[tactic(auto, using(crate::proofs::Waits::report_in_run, crate::proofs::Waits::wrong_in_run))]
     pub fn absorb(&mut self, report: Report) -> Result<(), (Report, Refusal)>
         ensures ok { OnOk result (Takes self.old self.new (Event.Report report)) }

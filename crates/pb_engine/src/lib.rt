@@ -25,7 +25,7 @@ pub use pb_laws::{runs_end_as_fixed, runs_keep_laws};
 pub use picker::{Lowest, Picker, RoundRobin};
 pub use refusal::Refusal;
 
-/// What holds of every run: a report of a job that is out, of its host and its item, is not refused.
+/// What holds of every run: a report of a job that is out, of its host, its item and its attempt, is not refused.
 pub fn jobs_that_are_out_are_awaited()
     ensures { JobsOutAreAwaited }
 {}

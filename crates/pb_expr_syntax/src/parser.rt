@@ -46,6 +46,7 @@ impl<T: Drop> From<AllocFailed<T>> for Refusal {
     }
 }
 
+/// What was built so far: an expression, the members of a list or the arguments of a filter, or a filter that is called, with the byte at which it stands.
 #[derive(Drop)]
 pub enum Part {
     One(Expr),
@@ -53,6 +54,7 @@ pub enum Part {
     Called(Filter, usize),
 }
 
+/// The parser: what is still wanted, what was built, and how far the tokens were read.
 #[derive(Drop)]
 pub struct Machine {
     symbols: Vec<Symbol>,

@@ -19,6 +19,7 @@ pub fn mentions(word: &str, value: &Val) -> bool
     }
 }
 
+/// Whether a word stands in a text of one of these values, at any depth, names of dicts aside.
 #[cycle(mentions)]
 pub fn items_mention(word: &str, list: &ValList) -> bool
     ensures { result ≡ items_mention word.now (items_of list.now) }

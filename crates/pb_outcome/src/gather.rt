@@ -38,6 +38,7 @@ pub struct TaskResult {
 }
 
 impl Ending {
+    /// Whether the target couldn't be reached.
     pub fn is_unreachable(self) -> bool
         ensures { result ≡ is_unreachable self }
     {
@@ -61,6 +62,7 @@ impl Ending {
         matches!(self, Ending::Faulty)
     }
 
+    /// Whether the item was left out by a condition.
     pub fn is_skipped(self) -> bool
         ensures { result ≡ is_skipped self }
     {
