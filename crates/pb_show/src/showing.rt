@@ -1,6 +1,6 @@
 //! What a line becomes, and what is kept of it for the next one.
 
-ghost use Rattle.std.specs.Prelude.{◌≡◌, ◌++◌, [], IfOk, OnOk, unwrap_or};
+ghost use Rattle.std.specs.Prelude.{◌≡◌, ◌++◌, [], IfOk, OnOk, OnErr, unwrap_or};
 ghost use Rattle.serde_json.specs.View.{view};
 ghost use Rattle.pb_show.specs.Results.{ended_text};
 ghost use Rattle.pb_show.specs.Showing.{start, unknown, task_for, banner_for, going, is_first, noted, ended_after, progress_text, play_shown, task_shown, ended_shown, notice_shown, totals_shown, started_shown, begun_shown, event_shown, event_in, event_at, text_of, state_of, lacks_end, shown};
@@ -165,7 +165,8 @@ impl Showing {
 
     /// Notes a failure, if it is the first that counts.
     fn note(&mut self, alloc: Global, ended: &Ended) -> Result<(), AllocError>
-        ensures { OnOk result (self.new ≡ noted self.old ended.now) }
+        ensures ok { OnOk result (self.new ≡ noted self.old ended.now) }
+        ensures err { OnErr result (self.new ≡ self.old) }
     {
         if self.is_first(ended) {
             let task = task_for(alloc, self.tasks.as_slice(), ended.place.as_str())?;
@@ -207,6 +208,7 @@ impl Showing {
     ) -> Result<Option<Text>, AllocError>
         ensures text { IfOk result (λ text. text ≡ text_of (begun_shown look self.old (view json.now))) }
         ensures state { OnOk result (self.new ≡ state_of (begun_shown look self.old (view json.now)) self.old) }
+        ensures err { OnErr result (self.new ≡ self.old) }
     {
         let Some(plays) = whole_at(json, "plays") else {
             return Ok(None);
@@ -219,6 +221,7 @@ impl Showing {
     fn show_play(&mut self, alloc: Global, json: &Value) -> Result<Option<Text>, AllocError>
         ensures text { IfOk result (λ text. text ≡ text_of (play_shown self.old (view json.now))) }
         ensures state { OnOk result (self.new ≡ state_of (play_shown self.old (view json.now)) self.old) }
+        ensures err { OnErr result (self.new ≡ self.old) }
     {
         let Some(play) = play_in(alloc, json)? else {
             return Ok(None);
@@ -240,14 +243,16 @@ impl Showing {
     ) -> Result<Option<Text>, AllocError>
         ensures text { IfOk result (λ text. text ≡ text_of (task_shown is_handler self.old (view json.now))) }
         ensures state { OnOk result (self.new ≡ state_of (task_shown is_handler self.old (view json.now)) self.old) }
+        ensures err { OnErr result (self.new ≡ self.old) }
     {
         let Some(task) = task_in(alloc, is_handler, json)? else {
             return Ok(None);
         };
         let mut line = Line::new(alloc);
         put_task(&mut line, &task)?;
-        self.place = task.place.try_clone()?;
+        let place = task.place.try_clone()?;
         self.tasks.push(task)?;
+        self.place = place;
         self.ended = 0;
         self.go_on();
         Ok(Some(line.into_text()))
@@ -261,6 +266,7 @@ impl Showing {
     ) -> Result<Option<Text>, AllocError>
         ensures text { IfOk result (λ text. text ≡ text_of (started_shown look self.old (view json.now))) }
         ensures state { OnOk result (self.new ≡ state_of (started_shown look self.old (view json.now)) self.old) }
+        ensures err { OnErr result (self.new ≡ self.old) }
     {
         let Some(host) = text_at(alloc, json, "host")? else {
             return Ok(None);
@@ -280,14 +286,16 @@ impl Showing {
     ) -> Result<Option<Text>, AllocError>
         ensures text { IfOk result (λ text. text ≡ text_of (ended_shown look how is_item self.old (view json.now))) }
         ensures state { OnOk result (self.new ≡ state_of (ended_shown look how is_item self.old (view json.now)) self.old) }
+        ensures err { OnErr result (self.new ≡ self.old) }
     {
         let Some(ended) = ended_in(alloc, how, is_item, json)? else {
             return Ok(None);
         };
         let text = self.ended_text(alloc, look, &ended)?;
+        let place = ended.place.try_clone()?;
         self.note(alloc, &ended)?;
         self.ended = self.ended_after(&ended);
-        self.place = ended.place.try_clone()?;
+        self.place = place;
         self.go_on();
         Ok(Some(text))
     }
@@ -295,6 +303,7 @@ impl Showing {
     fn show_notice(&mut self, alloc: Global, json: &Value) -> Result<Option<Text>, AllocError>
         ensures text { IfOk result (λ text. text ≡ text_of (notice_shown self.old (view json.now))) }
         ensures state { OnOk result (self.new ≡ state_of (notice_shown self.old (view json.now)) self.old) }
+        ensures err { OnErr result (self.new ≡ self.old) }
     {
         let Some(notice) = notice_in(alloc, json)? else {
             return Ok(None);
@@ -307,6 +316,7 @@ impl Showing {
     fn show_totals(&mut self, alloc: Global, json: &Value) -> Result<Option<Text>, AllocError>
         ensures text { IfOk result (λ text. text ≡ text_of (totals_shown self.old (view json.now))) }
         ensures state { OnOk result (self.new ≡ state_of (totals_shown self.old (view json.now)) self.old) }
+        ensures err { OnErr result (self.new ≡ self.old) }
     {
         let Some(totals) = totals_in(json) else {
             return Ok(None);
@@ -344,6 +354,7 @@ impl Showing {
     ) -> Result<Option<Text>, AllocError>
         ensures text { IfOk result (λ text. text ≡ text_of (event_shown look self.old (view json.now) kind)) }
         ensures state { OnOk result (self.new ≡ state_of (event_shown look self.old (view json.now) kind) self.old) }
+        ensures err { OnErr result (self.new ≡ self.old) }
     {
         match kind {
             Kind::Begun => self.show_begun(alloc, look, json),
@@ -367,6 +378,7 @@ impl Showing {
     ) -> Result<Option<Text>, AllocError>
         ensures text { IfOk result (λ text. text ≡ text_of (event_in look self.old (view json.now))) }
         ensures state { OnOk result (self.new ≡ state_of (event_in look self.old (view json.now)) self.old) }
+        ensures err { OnErr result (self.new ≡ self.old) }
     {
         match kind_in(json) {
             Some(kind) => self.show_event(alloc, look, json, kind),
@@ -383,6 +395,7 @@ impl Showing {
     ) -> Result<Option<Text>, AllocError>
         ensures text { IfOk result (λ text. text ≡ text_of (event_at look self.old line.now)) }
         ensures state { OnOk result (self.new ≡ state_of (event_at look self.old line.now) self.old) }
+        ensures err { OnErr result (self.new ≡ self.old) }
     {
         match json_at(alloc, line)? {
             Some(json) => self.show_json(alloc, look, &json),
@@ -393,6 +406,9 @@ impl Showing {
     /// The text that a line becomes, where it is an event of `pb-play`: an object whose `event` is one of its words, with the keys that
     /// such an event has, of their kinds. None where it isn't: the line is then passed on as it is. The line has its line end with it, if
     /// it has one. A start of the run or of a host has the empty text, unless these are shown.
+    ///
+    /// # Errors
+    /// Memory was refused. What is kept of the lines before stays as it was.
     pub fn show_line(
         &mut self,
         alloc: Global,
@@ -402,6 +418,7 @@ impl Showing {
         ensures text { IfOk result (λ text. text ≡ text_of (event_at look self.old line.now)) }
         ensures shown { IfOk result (λ text. unwrap_or text line.now ≡ (shown look self.old line.now).text) }
         ensures state { OnOk result (self.new ≡ (shown look self.old line.now).state) }
+        ensures err { OnErr result (self.new ≡ self.old) }
     {
         let text = self.show_known(alloc, look, line)?;
         if text.is_none() {
