@@ -25,7 +25,6 @@ use crate::line_out::LineOut;
 use pb_engine::{Engine, Picker};
 use pb_forks::{MainSeat, Pool};
 use pb_outcome::job::{Allows, Job, Report};
-use pb_runner::runner::Runner;
 use pb_state::{Event, Plan};
 use std::alloc::{AllocError, Global};
 use std::sync::Wait;
@@ -118,7 +117,7 @@ fn collect_rest<N: Allows, R: Wait>(rt: &R, pool: &Pool<N>, main: &mut MainSeat)
 ///
 /// # Errors
 /// As those of `run_plain`. The reports of jobs that are still out are waited for then, and dropped.
-pub fn drive<N: Runner, R: Wait, P: Picker, W: LineOut>(
+pub fn drive<N: Allows, R: Wait, P: Picker, W: LineOut>(
     rt: &R,
     alloc: Global,
     pool: &Pool<N>,
