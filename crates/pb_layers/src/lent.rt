@@ -1,5 +1,5 @@
 //! Values that stand elsewhere, lent under their names.
-ghost use Rattle.std.specs.Prelude.{◌≡◌, [], IfOk, OnOk};
+ghost use Rattle.std.specs.Prelude.{◌≡◌, [], IfOk, OnOk, OnErr};
 ghost use Rattle.std.specs.Option.{option_copied};
 ghost use Rattle.std.specs.Cmp.Lexicographic.{slice_cmp};
 ghost use Rattle.std.specs.List.Sorted.{IsStrictlySortedBy};
@@ -48,7 +48,8 @@ impl<'a> Lending<'a> {
     /// Puts a value under a name, in place of the one that stood there.
     #[tactic(auto, using(crate::proofs::LentMaps::lent_put))]
     pub fn put(&mut self, name: &'a str, value: &'a Val) -> Result<(), AllocError>
-        ensures { OnOk result (self.new ≡ put name.now value.now self.old) }
+        ensures ok { OnOk result (self.new ≡ put name.now value.now self.old) }
+        ensures err { OnErr result (self.new ≡ self.old) }
     {
         self.entries.insert(name, value)?;
         Ok(())
