@@ -1,5 +1,6 @@
 pub mod Over
 pub mod Each
+pub mod Fronts
 pub mod Learnt
 pub mod Restored
 pub mod Applying
