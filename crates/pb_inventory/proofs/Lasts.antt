@@ -2,7 +2,8 @@
 use Rattle.std.specs.Prelude.{Option, Some, None}
 use Rattle.std.specs.Option.{option_or}
 use Rattle.std.specs.Str.{bytes_eq}
-use Rattle.std.proofs.Common.{◌≡◌, ℕ, Bool, true, false, cond, List, [], ◌∷◌, refl, ap, ◌∙◌}
+use Rattle.std.proofs.Common.{◌≡◌, ℕ, Bool, true, false, cond, List, [], ◌∷◌, ◌++◌, ◌+◌, ◌<◌, length, take, get_or, refl, sym, ap, ◌∙◌}
+use Rattle.std.proofs.lemmas.List.{take_more}
 use Rattle.std.proofs.lemmas.Map.Text.{is_eq-slice_cmp}
 use Rattle.std.proofs.lemmas.Slice.Eq.{bytes_eq-Decides}
 use Rattle.pb_ids.specs.declared.numbers.GroupNo.{GroupNo}
@@ -29,6 +30,16 @@ put_all name [] known = refl
 put_all name (v ∷ vs) known =
     put_all name vs (put v.name v.value known) ∙ ap (option_or (last_named name vs)) (put_one name v known (bytes_eq name v.name) refl)
     ∙ or_or (last_named name vs) (cond (bytes_eq name v.name) (Some v.value) None) (value_at name known)
+
+put_vars_behind : (vs : List Variable) (v : Variable) (known : List (List ℕ × Datum)) → put_vars (vs ++ v ∷ []) known ≡ put v.name v.value (put_vars vs known)
+put_vars_behind [] v known = refl
+put_vars_behind (w ∷ vs) v known = put_vars_behind vs v (put w.name w.value known)
+
+-- one more is put
+pub put_vars_more : (vs : List Variable) (i : ℕ) (v : Variable) (known now : List (List ℕ × Datum)) → i < length vs → v ≡ get_or vs i v → now ≡ put_vars (take i vs) known → put v.name v.value now ≡ put_vars (take (i + 1) vs) known
+put_vars_more vs i v known now lt is n =
+    let front : take i vs ++ v ∷ [] ≡ take (i + 1) vs = ap (λ (w : Variable). take i vs ++ w ∷ []) is ∙ sym (take_more vs i v lt) in
+    ap (put v.name v.value) n ∙ sym (put_vars_behind (take i vs) v known) ∙ ap (λ (ws : List Variable). put_vars ws known) front
 
 put_each : (inventory : InventoryOf) (name : List ℕ) (gs : List GroupNo) (known : List (List ℕ × Datum)) → value_at name (put_groups inventory gs known) ≡ option_or (last_given inventory name gs) (value_at name known)
 put_each inventory name [] known = refl

@@ -1,4 +1,4 @@
-ghost use Rattle.std.specs.Prelude.{◌≡◌, OnOk};
+ghost use Rattle.std.specs.Prelude.{◌≡◌, ◌<◌, ℕ, length, take, OnOk, OnErr};
 ghost use Rattle.pb_inventory.specs.Values.{variable_value, with_variable, with_value, group_vars};
 ghost use Rattle.pb_inventory.specs.Vars.{priority_in, no_vars, put_vars};
 
@@ -117,9 +117,10 @@ impl Reads<InvFault> for GroupVars {
     }
 }
 
-/// Puts each variable under its name, in place of one that stands there.
+/// Puts each variable under its name, in place of one that stands there. The only error is want of memory: the first few of them are put then.
 pub fn put_vars(alloc: Global, vars: &[Variable], known: &mut Dict) -> Result<(), AllocError>
-    ensures { OnOk result (known.new ≡ put_vars vars.now known.old) }
+    ensures ok { OnOk result (known.new ≡ put_vars vars.now known.old) }
+    ensures err { OnErr result ((n : ℕ) × (n < length vars.now) × (known.new ≡ put_vars (take n vars.now) known.old)) }
 {
     for variable in vars {
         let value = variable.value.try_clone(alloc)?;
