@@ -15,6 +15,7 @@ use pb_ids::{HostNo, Ticket};
 use pb_outcome::fault::OutcomeFault;
 use pb_outcome::job::Report;
 use pb_outcome::outcome::Outcome;
+use pb_outcome::reading::read_outcome;
 use pb_state::{BoxedReport, Event, Trail};
 use pb_value::read_json::{JsonFault, read_json};
 use pb_value::text::Text;
@@ -137,7 +138,7 @@ fn outcome_at(alloc: Global, json: &Value) -> Result<Option<Outcome>, AllocError
     ensures { IfOk result (λ o. o ≡ outcome_at (view json.now)) }
 {
     match json.get("o") {
-        Some(value) => match Outcome::read(alloc, &Text::new(alloc), value) {
+        Some(value) => match read_outcome(alloc, &Text::new(alloc), value) {
             Ok(outcome) => Ok(Some(outcome)),
             Err(OutcomeFault::Memory) => Err(AllocError),
             Err(_) => Ok(None),
@@ -283,7 +284,7 @@ fn events_in(
 /// | `{"e":"start","h":H}` | 1, 2 | the host H starts the task at its next place |
 /// | `{"e":"send","h":H,"i":I,"t":T}` | 1 | the job of its item I goes out under the ticket T, as its first attempt |
 /// | `{"a":A,"e":"send","h":H,"i":I,"t":T}` | 2 | the same, as the attempt A |
-/// | `{"e":"report","h":H,"i":I,"o":O,"t":T}` | 1 | what came of such a job, which was the first attempt; O is an outcome as `Outcome::read` reads it |
+/// | `{"e":"report","h":H,"i":I,"o":O,"t":T}` | 1 | what came of such a job, which was the first attempt; O is an outcome as `read_outcome` reads it |
 /// | `{"a":A,"e":"report","h":H,"i":I,"o":O,"t":T}` | 2 | the same, of the attempt A |
 /// | `{"e":"forks","n":N}` | 1, 2 | from now on N hosts may run at once |
 ///

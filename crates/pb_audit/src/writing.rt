@@ -11,6 +11,7 @@ ghost use Rattle.pb_audit.specs.Writing.{whole, event_json, line, trail_text, Is
 use crate::name::EventName;
 use pb_ids::{HostNo, Ticket};
 use pb_outcome::job::Report;
+use pb_outcome::writing::outcome_to_json;
 use pb_state::Event;
 use serde_json::{Map, Value, put};
 use std::alloc::{AllocError, Global};
@@ -91,7 +92,12 @@ fn report_json(alloc: Global, report: &Report) -> Result<Value, AllocError>
     let mut members = attempted(alloc, report.attempt, EventName::Report)?;
     put(&mut members, alloc, "h", number(report.host.0))?;
     put(&mut members, alloc, "i", number(report.item))?;
-    put(&mut members, alloc, "o", report.outcome.to_json(alloc)?)?;
+    put(
+        &mut members,
+        alloc,
+        "o",
+        outcome_to_json(alloc, &report.outcome)?,
+    )?;
     put(&mut members, alloc, "t", Value::from(report.ticket.0))?;
     Ok(Value::Object(members))
 }

@@ -7,6 +7,7 @@ use pb_reading::keys::{Keys, Others};
 use pb_reading::reads::Reads;
 use pb_reading::stop::{Stop, wrong};
 use pb_value::fault::ValFault;
+use pb_value::from_json::from_json;
 use pb_value::items::Items;
 use pb_value::text::Text;
 use pb_value::val::{Dict, Node, Val};
@@ -77,7 +78,7 @@ impl Reads<InvFault> for VariableValue {
     ghost reads = { variable_value };
 
     fn read(alloc: Global, _path: &Text, json: &Value) -> Result<Val, Stop<InvFault>> {
-        match Val::from_json(alloc, json) {
+        match from_json(alloc, json) {
             Ok(value) => Ok(value),
             Err(ValFault::Memory) => Err(Stop::Memory),
             Err(_) => Err(Stop::Fault(InvFault::Value)),

@@ -15,8 +15,8 @@ use pb_reading::keys::{Keys, Others};
 use pb_reading::reads::Reads;
 use pb_reading::stop::{Stop, required, wrong};
 use pb_value::fault::ValFault;
+use pb_value::from_json::from_json;
 use pb_value::text::Text;
-use pb_value::val::Val;
 use serde_json::{Map, Value};
 use std::alloc::Global;
 
@@ -121,7 +121,7 @@ impl Reads<OutcomeFault> for Facts {
 
     #[tactic(auto, unfolding(crate::specs::Reading::facts))]
     fn read(alloc: Global, path: &Text, json: &Value) -> Result<Outcome, Stop<OutcomeFault>> {
-        match Val::from_json(alloc, json) {
+        match from_json(alloc, json) {
             Ok(value) => match Outcome::module(value) {
                 Ok(outcome) => Ok(outcome),
                 Err(_) => wrong(path),
@@ -333,21 +333,19 @@ fn read_rest(
     Ok(first.finish(path, out, rc, unreachable, unknown)?)
 }
 
-impl Outcome {
-    /// The outcome that stands at the path of a file, or the first fault in it. It is an object with exactly the keys
-    /// of one of four forms: `err`, `out` and `rc`; `facts`; `unreachable`; `not_started`, a number from 1 to 6. What
-    /// the constructors refuse as too large is a wrong shape here.
-    #[tactic(auto, unfolding(crate::specs::Reading::outcome_of))]
-    pub fn read(alloc: Global, path: &Text, json: &Value) -> Result<Outcome, OutcomeFault>
-        ensures value { IfOk result (λ o. outcome_of path.now (view json.now) ≡ Ok o) }
-        ensures fault { IfErr result
-            (λ e. e ≢ OutcomeFault.Memory → outcome_of path.now (view json.now) ≡ Err e) }
-    {
-        match AnOutcome::read(alloc, path, json) {
-            Ok(outcome) => Ok(outcome),
-            Err(Stop::Memory) => Err(OutcomeFault::Memory),
-            Err(Stop::WrongShape { path }) => Err(OutcomeFault::WrongShape { path }),
-            Err(Stop::Fault(fault)) => Err(fault),
-        }
+/// The outcome that stands at the path of a file, or the first fault in it. It is an object with exactly the keys
+/// of one of four forms: `err`, `out` and `rc`; `facts`; `unreachable`; `not_started`, a number from 1 to 6. What
+/// the constructors refuse as too large is a wrong shape here.
+#[tactic(auto, unfolding(crate::specs::Reading::outcome_of))]
+pub fn read_outcome(alloc: Global, path: &Text, json: &Value) -> Result<Outcome, OutcomeFault>
+    ensures value { IfOk result (λ o. outcome_of path.now (view json.now) ≡ Ok o) }
+    ensures fault { IfErr result
+        (λ e. e ≢ OutcomeFault.Memory → outcome_of path.now (view json.now) ≡ Err e) }
+{
+    match AnOutcome::read(alloc, path, json) {
+        Ok(outcome) => Ok(outcome),
+        Err(Stop::Memory) => Err(OutcomeFault::Memory),
+        Err(Stop::WrongShape { path }) => Err(OutcomeFault::WrongShape { path }),
+        Err(Stop::Fault(fault)) => Err(fault),
     }
 }

@@ -7,19 +7,18 @@ ghost use Rattle.pb_outcome.specs.Writing.{outcome_json};
 
 use crate::outcome::{Form, Outcome};
 use pb_value::text::Text;
+use pb_value::to_json::to_json;
 use serde_json::{Map, Value, put};
 use std::alloc::{AllocError, Global};
 
-impl Outcome {
-    /// The outcome as JSON: an object with the keys of its form. `Outcome::read` reads it as the same outcome.
-    pub fn to_json(&self, alloc: Global) -> Result<Value, AllocError>
-        ensures json { IfOk result (λ j. view j ≡ outcome_json self.now) }
-        ensures reads_back { IfOk result (λ j. (path : List ℕ) → outcome_of path (view j) ≡ Ok self.now) }
-    {
-        let form = self.form();
-        let json = form_json(alloc, form)?;
-        Ok(json)
-    }
+/// The outcome as JSON: an object with the keys of its form. `read_outcome` reads it as the same outcome.
+pub fn outcome_to_json(alloc: Global, outcome: &Outcome) -> Result<Value, AllocError>
+    ensures json { IfOk result (λ j. view j ≡ outcome_json outcome.now) }
+    ensures reads_back { IfOk result (λ j. (path : List ℕ) → outcome_of path (view j) ≡ Ok outcome.now) }
+{
+    let form = outcome.form();
+    let json = form_json(alloc, form)?;
+    Ok(json)
 }
 
 fn form_json(alloc: Global, form: &Form) -> Result<Value, AllocError>
@@ -27,7 +26,7 @@ fn form_json(alloc: Global, form: &Form) -> Result<Value, AllocError>
 {
     match form {
         Form::Ran { rc, out, err } => ran_json(alloc, *rc, out, err),
-        Form::Module(value) => one_member(alloc, "facts", value.to_json(alloc)?),
+        Form::Module(value) => one_member(alloc, "facts", to_json(alloc, value)?),
         Form::Unreachable { msg } => one_member(alloc, "unreachable", text_json(alloc, msg)?),
         Form::NotStarted { cause } => {
             one_member(alloc, "not_started", Value::from(cause.number()))

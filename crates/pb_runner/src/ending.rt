@@ -17,6 +17,7 @@ use pb_outcome::job::{Call, Job};
 use pb_outcome::outcome::Outcome;
 use pb_outcome::output::stripped;
 use pb_value::fault::ValFault;
+use pb_value::from_json::from_json;
 use pb_value::read_json::{JsonFault, read_json};
 use pb_value::text::Text;
 use pb_value::val::Val;
@@ -135,7 +136,7 @@ fn gathered(alloc: Global, out: &str) -> Outcome
     let Value::Object(_) = &json else {
         return Outcome::not_started(Cause::FactsNotObject);
     };
-    match Val::from_json(alloc, &json) {
+    match from_json(alloc, &json) {
         Ok(value) => facts(value),
         Err(ValFault::Memory) => Outcome::not_started(Cause::OutOfMemory),
         Err(_) => Outcome::not_started(Cause::FactsNotObject),

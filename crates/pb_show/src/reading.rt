@@ -9,10 +9,10 @@ use crate::ended::{Ended, Ending};
 use crate::kind::{How, Kind};
 use crate::notices::{Notice, Play, Task, Totals};
 use pb_value::fault::ValFault;
+use pb_value::from_json::from_json;
 use pb_value::items::Items;
 use pb_value::read_json::{JsonFault, read_json};
 use pb_value::text::Text;
-use pb_value::val::Val;
 use serde_json::{Map, Value};
 use std::alloc::{AllocError, Global};
 
@@ -104,7 +104,7 @@ fn is_true_at(json: &Value, key: &str) -> bool
 fn message_of(alloc: Global, json: &Value) -> Result<Text, AllocError>
     ensures { IfOk result (λ text. text ≡ message_of (view json.now)) }
 {
-    match Val::from_json(alloc, json) {
+    match from_json(alloc, json) {
         Ok(value) => Ok(Text::from_string(value.text_of(alloc)?)),
         Err(ValFault::Memory) => Err(AllocError),
         Err(_) => Ok(Text::new(alloc)),

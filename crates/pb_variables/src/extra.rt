@@ -7,6 +7,7 @@ use pb_reading::list::EachNamed;
 use pb_reading::reads::Reads;
 use pb_reading::stop::{Stop, wrong};
 use pb_value::fault::ValFault;
+use pb_value::from_json::from_json;
 use pb_value::read_json::{JsonFault, read_json};
 use pb_value::text::Text;
 use pb_value::val::{Dict, Val};
@@ -54,7 +55,7 @@ impl Reads<ExtraFault> for Variable {
         if !is_name(path.as_str()) {
             return wrong(path);
         }
-        match Val::from_json(alloc, json) {
+        match from_json(alloc, json) {
             Ok(value) => Ok(value),
             Err(ValFault::Memory) => Err(Stop::Memory),
             Err(_) => wrong(path),

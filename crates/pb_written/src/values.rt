@@ -7,6 +7,7 @@ use crate::templates::{are_templates, is_template};
 use pb_reading::reads::Reads;
 use pb_reading::stop::{Stop, wrong};
 use pb_value::fault::ValFault;
+use pb_value::from_json::from_json;
 use pb_value::text::Text;
 use pb_value::val::Val;
 use serde_json::Value;
@@ -21,7 +22,7 @@ impl Reads<LoadFault> for PlainValue {
     ghost reads = { plain_value };
 
     fn read(alloc: Global, path: &Text, json: &Value) -> Result<Val, Stop<LoadFault>> {
-        match Val::from_json(alloc, json) {
+        match from_json(alloc, json) {
             Ok(value) => Ok(value),
             Err(ValFault::Memory) => Err(Stop::Memory),
             Err(_) => wrong(path),
