@@ -7,7 +7,7 @@ ghost use Rattle.pb_inventory.specs.Group.{name, child, no_child, entry, entry_o
 
 use crate::fault::InvFault;
 use crate::listed::Listed;
-use crate::vars::GroupVars;
+use crate::vars::{GroupVars, VarsOfGroup};
 use pb_reading::keys::{Keys, Others};
 use pb_reading::list::{Each, read_each};
 use pb_reading::reads::Reads;
@@ -163,7 +163,7 @@ fn read_fields<C: Reads<InvFault, Value = Text>>(
     let mut keys = Keys::of(path, members, NoOtherKey);
     let children = keys.field_or::<Each<C>>(alloc, "children", Items::new(alloc))?;
     let hosts = keys.field_or::<Each<Name>>(alloc, "hosts", Items::new(alloc))?;
-    let vars = keys.field_or::<GroupVars>(alloc, "vars", GroupVars::none(alloc))?;
+    let vars = keys.field_or::<VarsOfGroup>(alloc, "vars", GroupVars::none(alloc))?;
     keys.others(alloc)?;
     Ok(GroupEntry {
         children,

@@ -11,9 +11,28 @@ use pb_value::text::Text;
 use pb_value::val::Dict;
 use serde_json::Value;
 use std::alloc::Global;
+use std::marker::Model;
 
-/// The variables of hosts, which stand under their names.
-impl Others for Named<Dict> {
+/// The variables of hosts as they are read. (A type of its own, so that crates that name `Named` don't load what JSON needs.)
+#[derive(Drop)]
+struct HostVarsRead {
+    vars: Named<Dict>,
+}
+
+impl Model for HostVarsRead {
+    ghost use Rattle.std.specs.Coded.{coded×, coded_ℕ, coded_list};
+    ghost use Rattle.pb_value.specs.Code.{coded_datum};
+    ghost use Rattle.pb_inventory.specs.Meta.{MetaVars};
+
+    ghost Value = { MetaVars };
+
+    ghost coded = { coded_list (coded× (coded_list coded_ℕ) (coded_list (coded× (coded_list coded_ℕ) coded_datum))) };
+
+    ghost view = { λ read. read.vars };
+}
+
+/// They stand under their names.
+impl Others for HostVarsRead {
     type Fault = InvFault;
 
     ghost tells = { with_host };
@@ -29,12 +48,15 @@ impl Others for Named<Dict> {
             return wrong(path);
         }
         let vars = EachNamed::<VariableValue>::read(alloc, path, json)?;
-        self.insert(String::from_str(alloc, key)?, vars)?;
+        self.vars.insert(String::from_str(alloc, key)?, vars)?;
         Ok(())
     }
 }
 
-impl Reads<InvFault> for Named<Dict> {
+/// Reads the variables of hosts.
+struct VarsOfHosts;
+
+impl Reads<InvFault> for VarsOfHosts {
     type Value = Named<Dict>;
 
     ghost reads = { host_entries };
@@ -43,7 +65,9 @@ impl Reads<InvFault> for Named<Dict> {
         let Value::Object(members) = json else {
             return wrong(path);
         };
-        Keys::of(path, members, Named::new(alloc)).others(alloc)
+        let vars = Named::new(alloc);
+        let HostVarsRead { vars } = Keys::of(path, members, HostVarsRead { vars }).others(alloc)?;
+        Ok(vars)
     }
 }
 
@@ -81,7 +105,7 @@ impl Reads<InvFault> for Meta {
             return wrong(path);
         };
         let mut keys = Keys::of(path, members, PassedOver);
-        let host_vars = keys.field_or::<Named<Dict>>(alloc, "hostvars", Named::new(alloc))?;
+        let host_vars = keys.field_or::<VarsOfHosts>(alloc, "hostvars", Named::new(alloc))?;
         keys.others(alloc)?;
         Ok(host_vars)
     }

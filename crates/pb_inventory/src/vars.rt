@@ -13,6 +13,7 @@ use pb_value::text::Text;
 use pb_value::val::{Dict, Node, Val};
 use serde_json::Value;
 use std::alloc::{AllocError, Global};
+use std::marker::Model;
 
 /// A variable: its name and its value.
 #[derive(Drop)]
@@ -86,8 +87,26 @@ impl Reads<InvFault> for VariableValue {
     }
 }
 
-/// The variables of a group, which stand under their names.
-impl Others for GroupVars {
+/// The variables of a group as they are read. (A type of its own, so that crates that name `GroupVars` don't load what JSON needs.)
+#[derive(Drop)]
+struct VarsRead {
+    vars: GroupVars,
+}
+
+impl Model for VarsRead {
+    ghost use Rattle.std.specs.Coded.{codes};
+    ghost use Rattle.pb_value.specs.contracts.val.Val as val;
+    ghost use Rattle.pb_inventory.specs.declared.vars.GroupVars.{GroupVars};
+
+    ghost Value = { GroupVars };
+
+    ghost coded = { Prim.hlevel (codes, val.the_row.coded) };
+
+    ghost view = { λ read. read.vars };
+}
+
+/// They stand under their names.
+impl Others for VarsRead {
     type Fault = InvFault;
 
     ghost tells = { with_value };
@@ -100,12 +119,15 @@ impl Others for GroupVars {
         json: &Value,
     ) -> Result<(), Stop<InvFault>> {
         let value = VariableValue::read(alloc, path, json)?;
-        self.add(alloc, key, value)?;
+        self.vars.add(alloc, key, value)?;
         Ok(())
     }
 }
 
-impl Reads<InvFault> for GroupVars {
+/// Reads the variables of a group.
+pub struct VarsOfGroup;
+
+impl Reads<InvFault> for VarsOfGroup {
     type Value = GroupVars;
 
     ghost reads = { group_vars };
@@ -114,7 +136,9 @@ impl Reads<InvFault> for GroupVars {
         let Value::Object(members) = json else {
             return wrong(path);
         };
-        Keys::of(path, members, GroupVars::none(alloc)).others(alloc)
+        let vars = GroupVars::none(alloc);
+        let VarsRead { vars } = Keys::of(path, members, VarsRead { vars }).others(alloc)?;
+        Ok(vars)
     }
 }
 

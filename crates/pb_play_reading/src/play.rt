@@ -25,6 +25,7 @@ use pb_reading::list::{Each, EachNamed};
 use pb_reading::simple::PlainText;
 use pb_reading::stop::{Stop, required, wrong};
 use pb_role_entries::entry::RoleEntry;
+use pb_role_entries::reading::OneRoleEntry;
 use pb_strategies::Strategy;
 use pb_value::items::Items;
 use pb_value::path::child;
@@ -265,7 +266,7 @@ fn read_lists(alloc: Global, keys: &mut Keys<'_, WithoutEffect>) -> Result<Lists
 {
     let post_tasks = keys.field_or::<TaskList>(alloc, "post_tasks", no_nodes(alloc))?;
     let pre_tasks = keys.field_or::<TaskList>(alloc, "pre_tasks", no_nodes(alloc))?;
-    let roles = keys.field_or::<Each<RoleEntry>>(alloc, "roles", Items::new(alloc))?;
+    let roles = keys.field_or::<Each<OneRoleEntry>>(alloc, "roles", Items::new(alloc))?;
     let manner = read_manner(alloc, keys)?;
     let tasks = keys.field_or::<TaskList>(alloc, "tasks", no_nodes(alloc))?;
     Ok(Lists {

@@ -6,4 +6,4 @@
 
 pub mod entry;
 mod keys;
-mod reading;
+pub mod reading;

@@ -190,8 +190,10 @@ fn named_alone(alloc: Global, name: &str) -> Result<RoleEntry, AllocError>
     entry_of(alloc, name, None, None, None, Dict::new(alloc))
 }
 
-/// Reads a role entry.
-impl Reads<LoadFault> for RoleEntry {
+/// Reads a role entry. (A type of its own, so that crates that name `RoleEntry` don't load what JSON needs.)
+pub struct OneRoleEntry;
+
+impl Reads<LoadFault> for OneRoleEntry {
     type Value = RoleEntry;
 
     ghost reads = { role_entry };

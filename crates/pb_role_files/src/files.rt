@@ -3,7 +3,7 @@ ghost use Rattle.serde_json.specs.View.{view};
 ghost use Rattle.pb_reading.specs.Reading.{Gives};
 ghost use Rattle.pb_role_files.specs.RoleFiles.{file_of, nodes_of_file, handlers_of_file, variables_of_file, meta_of_file};
 
-use crate::meta::RoleMeta;
+use crate::meta::{MetaOfRole, RoleMeta};
 use pb_play::node::NodeList;
 use pb_play_reading::handlers::Handler;
 use pb_play_reading::nodes::TaskList;
@@ -76,5 +76,5 @@ pub fn read_meta_file(alloc: Global, bytes: &[u8]) -> Result<RoleMeta, LoadFault
     ensures value { IfOk result (λ v. meta_of_file bytes.now ≡ Ok v) }
     ensures fault { IfErr result (λ e. e ≢ LoadFault.Memory → meta_of_file bytes.now ≡ Err e) }
 {
-    read_file::<RoleMeta>(alloc, bytes)
+    read_file::<MetaOfRole>(alloc, bytes)
 }

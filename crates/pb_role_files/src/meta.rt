@@ -9,6 +9,7 @@ use pb_reading::list::Each;
 use pb_reading::reads::Reads;
 use pb_reading::stop::{Stop, wrong};
 use pb_role_entries::entry::RoleEntry;
+use pb_role_entries::reading::OneRoleEntry;
 use pb_value::items::Items;
 use pb_value::text::Text;
 use pb_written::fault::{LoadFault, not_in_profile};
@@ -51,7 +52,11 @@ fn read_own_keys(alloc: Global, keys: &mut Keys<'_, NoOthers>) -> Result<RoleMet
     ensures path { (ahead keys.new).path ≡ (ahead keys.old).path }
 {
     let allow_duplicates = keys.field_or::<Switch>(alloc, "allow_duplicates", false)?;
-    let dependencies = keys.field_or::<Each<RoleEntry>>(alloc, "dependencies", Items::new(alloc))?;
+    let dependencies = keys.field_or::<Each<OneRoleEntry>>(
+        alloc,
+        "dependencies",
+        Items::new(alloc),
+    )?;
     Ok(RoleMeta {
         dependencies,
         allow_duplicates,
@@ -59,7 +64,9 @@ fn read_own_keys(alloc: Global, keys: &mut Keys<'_, NoOthers>) -> Result<RoleMet
 }
 
 /// Reads what a role says of itself.
-impl Reads<LoadFault> for RoleMeta {
+pub struct MetaOfRole;
+
+impl Reads<LoadFault> for MetaOfRole {
     type Value = RoleMeta;
 
     ghost reads = { role_meta };
