@@ -15,6 +15,8 @@ mod handlers;
 #[cfg(test)]
 mod hostvars;
 #[cfg(test)]
+mod json;
+#[cfg(test)]
 mod results;
 #[cfg(test)]
 mod templates;
