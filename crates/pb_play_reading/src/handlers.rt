@@ -39,8 +39,10 @@ fn read_rest_of_handler(
     Ok(Handler { task, listens })
 }
 
-/// Reads a handler.
-impl Reads<LoadFault> for Handler {
+/// Reads a handler. (A type of its own, so that crates that name `Handler` don't load what JSON needs.)
+pub struct OneHandler;
+
+impl Reads<LoadFault> for OneHandler {
     type Value = Handler;
 
     ghost reads = { handler };

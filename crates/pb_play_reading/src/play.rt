@@ -11,7 +11,7 @@ ghost use Rattle.pb_play_reading.specs.Plays.{on_failure, before_hosts, toleranc
 
 use crate::batches::Sizes;
 use crate::gathering::begun;
-use crate::handlers::Handler;
+use crate::handlers::{Handler, OneHandler};
 use crate::hosts::{PlayHosts, read_hosts};
 use crate::nodes::{TaskList, no_nodes};
 use crate::other_keys::WithoutEffect;
@@ -134,7 +134,7 @@ fn read_before_hosts(
 {
     let on_failure = read_on_failure(alloc, keys)?;
     let gathers = keys.field_or::<Switch>(alloc, "gather_facts", true)?;
-    let handlers = keys.field_or::<Each<Handler>>(alloc, "handlers", Items::new(alloc))?;
+    let handlers = keys.field_or::<Each<OneHandler>>(alloc, "handlers", Items::new(alloc))?;
     Ok(BeforeHosts {
         on_failure,
         gathers,

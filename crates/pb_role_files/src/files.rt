@@ -5,7 +5,7 @@ ghost use Rattle.pb_role_files.specs.RoleFiles.{file_of, nodes_of_file, handlers
 
 use crate::meta::{MetaOfRole, RoleMeta};
 use pb_play::node::NodeList;
-use pb_play_reading::handlers::Handler;
+use pb_play_reading::handlers::{Handler, OneHandler};
 use pb_play_reading::nodes::TaskList;
 use pb_reading::list::{Each, EachNamed};
 use pb_reading::reads::Reads;
@@ -58,7 +58,7 @@ pub fn read_handlers_file(alloc: Global, bytes: &[u8]) -> Result<Items<Handler>,
     ensures value { IfOk result (λ v. handlers_of_file bytes.now ≡ Ok v) }
     ensures fault { IfErr result (λ e. e ≢ LoadFault.Memory → handlers_of_file bytes.now ≡ Err e) }
 {
-    read_file::<Each<Handler>>(alloc, bytes)
+    read_file::<Each<OneHandler>>(alloc, bytes)
 }
 
 /// Variables of a role, those of its defaults or its own, or the first fault in the file. Their texts are templates.
