@@ -7,8 +7,8 @@ use Rattle.pb_ids.specs.declared.numbers.Ticket.{Ticket}
 use Rattle.pb_inventory.specs.InventoryOf.{InventoryOf}
 use Rattle.pb_outcome.specs.declared.job.Report.{Report}
 use Rattle.pb_batches.specs.Sizes.{batch_sizes}
-use Rattle.pb_hosts.specs.Batches.{has_batch_left, play_host_count}
-use Rattle.pb_host.specs.Host.{HostOf, as_play_begins}
+use Rattle.pb_state.specs.FromHosts.{has_batch_left, play_host_count}
+use Rattle.pb_state.specs.FromHost.{HostOf, as_play_begins}
 use Rattle.pb_plan.specs.Plan.{PlayOf, PlanOf}
 use Rattle.pb_state.specs.declared.event.Event.{Event}
 use Rattle.pb_state.specs.declared.event.Event.TheVariants.{Open, Start, Send, Report as Reported, Turn, Close, Stop, Forks}

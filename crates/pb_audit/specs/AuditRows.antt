@@ -3,7 +3,7 @@ use Rattle.std.specs.Prelude.{◌≡◌, ℕ, pos, [], ◌∷◌, true, codes, r
 use Rattle.pb_plan.specs.Plan.{PlanOf, bare_play, bare_plan, bare_tree}
 use Rattle.pb_state.specs.BatchRows.{start, send, went}
 use Rattle.pb_state.specs.BlockRows.{says, runs}
-use Rattle.pb_host.specs.FactRows.{on_facts}
+use Rattle.pb_state.specs.FromHost.{on_facts}
 use Rattle.pb_state.specs.declared.event.Event.{Event}
 use Rattle.pb_outcome.specs.declared.outcome.Form.TheVariants.{Ran}
 use Rattle.pb_state.specs.declared.event.Event.TheVariants.{Open, Send, Report as Reported, Turn, Close, Stop, Forks}

@@ -6,7 +6,7 @@ use Rattle.pb_value.specs.Reading.{and_then}
 use Rattle.pb_inventory.specs.Reading.{inventory_of}
 use Rattle.pb_driver.specs.Laws.{IsEnd, IsWhole, with_forks, Fixed, IsFixed, is_independent, are_linear}
 use Rattle.pb_driver.proofs.Laws.{end_alike, state_forks, whole_forks}
-use Rattle.pb_recap.specs.Kinds.{status_of}
+use Rattle.pb_driver.specs.FromRecap.{status_of}
 use Rattle.pb_play_reading.specs.Playbooks.{playbook_of}
 use Rattle.pb_planning.specs.Bundle.{Readings, Variables, are_bad_forks, bundle_bytes, in_part, limited, varied, variables_of, IsPlanOf}
 use Rattle.pb_plan.specs.Plan.{PlanOf}

@@ -7,11 +7,10 @@ use Rattle.pb_outcome.specs.declared.outcome.Form.{Form}
 use Rattle.pb_plan.specs.Plan.{PlanOf}
 use Rattle.pb_planning.specs.declared.bundle.Bundle.{Bundle}
 use Rattle.pb_state.specs.declared.event.Event.{Event}
-use Rattle.pb_host.specs.declared.host.Counts.{Counts}
+use Rattle.pb_driver.specs.FromHost.{Counts}
 use Rattle.pb_audit.specs.Audit.{is_legal}
 use Rattle.pb_audit.specs.Larger.{LargerPoolsAllow}
-use Rattle.pb_recap.specs.Kinds.{Failed, Unreachable, status_of, has}
-use Rattle.pb_recap.specs.Recap.{recap}
+use Rattle.pb_driver.specs.FromRecap.{Failed, Unreachable, status_of, has, recap}
 use Rattle.pb_driver.specs.declared.driver.RunFault.{RunFault}
 use Rattle.pb_driver.specs.Laws.{RunsKeepLaws}
 use Rattle.pb_driver.specs.Cut.{IsCut}

@@ -10,7 +10,7 @@ use Rattle.pb_runner.specs.declared.table.Table.{Table}
 use Rattle.pb_runner.specs.Reading.{table_of}
 use Rattle.pb_runner.specs.Table.{TableGives}
 use Rattle.pb_state.specs.declared.event.Event.{Event}
-use Rattle.pb_recap.specs.Recap.{recap}
+use Rattle.pb_driver.specs.FromRecap.{recap}
 use Rattle.pb_state.specs.Machine.{facts_at, first_state}
 use Rattle.pb_driver.specs.ByTable.{IsUnrefused, allows_all}
 use Rattle.pb_driver.specs.Driven.{IsAnswer}

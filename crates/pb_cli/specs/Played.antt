@@ -11,8 +11,7 @@ use Rattle.pb_runner.specs.Table.{TableGives, AllGiven}
 use Rattle.pb_state.specs.declared.event.Event.{Event}
 use Rattle.pb_plan.specs.Plan.{PlanOf}
 use Rattle.pb_audit.specs.Audit.{is_legal}
-use Rattle.pb_recap.specs.Recap.{recap}
-use Rattle.pb_recap.specs.Kinds.{status_of}
+use Rattle.pb_driver.specs.FromRecap.{recap, status_of}
 use Rattle.pb_driver.specs.Laws.{KeepsLaws}
 use Rattle.pb_driver.specs.Engine.{Stop}
 use Rattle.pb_driver.specs.declared.driver.RunFault.{RunFault}

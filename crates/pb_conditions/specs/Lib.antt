@@ -4,3 +4,4 @@ pub mod Attempts
 pub mod Rows
 pub mod ResultConditionsRows
 pub mod AttemptRows
+pub mod FromExprEval

@@ -4,7 +4,7 @@ use Rattle.pb_value.specs.Datum.{int, text}
 use Rattle.std.specs.Prelude.{pos}
 use Rattle.pb_expr_syntax.specs.Computed.{tree_of, tree_of_tokens}
 use Rattle.pb_expr_syntax.specs.Tree.{Tree}
-use Rattle.pb_template.specs.Computed.{template_of}
+use Rattle.pb_expr_eval.specs.FromTemplate.{template_of}
 use Rattle.pb_layers.specs.Scope.{Map, layers}
 use Rattle.pb_expr_eval.specs.Rendering.{measured}
 use Rattle.pb_expr_eval.specs.Scoped.{eval_of}

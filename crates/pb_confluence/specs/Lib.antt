@@ -6,3 +6,5 @@ pub mod Rows
 pub mod Alone
 pub mod AloneRows
 pub mod Ends
+pub mod FromIndependence
+pub mod FromRecap

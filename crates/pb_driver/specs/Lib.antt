@@ -19,3 +19,5 @@ pub mod MailRows
 pub mod ByTable
 pub mod SameEnd
 pub mod SameEndRows
+pub mod FromHost
+pub mod FromRecap

@@ -34,6 +34,7 @@ pub use line_out::{Failed, LineOut, Printed, Silent, put_all};
 pub use pb_engine::{
     Command, CommandFault, Engine, Lowest, Next, Picker, Refusal, RoundRobin, runs_keep_laws,
 };
+pub use pb_recap::{CountKind, Recap};
 pub use pooled::drive;
 pub use threads::run_pool;
 

@@ -4,3 +4,4 @@ pub mod Rendering
 pub mod Scoped
 pub mod Messages
 pub mod Rows
+pub mod FromTemplate

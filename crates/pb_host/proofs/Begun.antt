@@ -4,7 +4,7 @@ use Rattle.std.specs.Prelude.{Some, None, if◌then◌else◌}
 use Rattle.pb_inventory.specs.InventoryOf.{InventoryOf}
 use Rattle.pb_outcome.specs.declared.item.Item.{Item}
 use Rattle.pb_outcome.specs.Items.{is_over}
-use Rattle.pb_plan.specs.Plan.{PlayOf}
+use Rattle.pb_task_vars.specs.FromPlan.{PlayOf}
 use Rattle.pb_host.specs.Back.{with_running, went_on}
 use Rattle.pb_host.specs.Host.{HostOf, ended, progressed}
 

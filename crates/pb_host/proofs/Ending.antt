@@ -6,7 +6,7 @@ use Rattle.pb_value.specs.Datum.{Datum}
 use Rattle.pb_inventory.specs.InventoryOf.{InventoryOf}
 use Rattle.pb_facts.specs.Facts.{FactsOf}
 use Rattle.pb_outcome.specs.Items.{is_over, result_of}
-use Rattle.pb_plan.specs.Plan.{PlayOf}
+use Rattle.pb_task_vars.specs.FromPlan.{PlayOf}
 use Rattle.pb_task_vars.specs.Learning.{facts_after_end}
 use Rattle.pb_task_vars.specs.Results.{variable_at}
 use Rattle.pb_host.specs.declared.host.Running.{Running}

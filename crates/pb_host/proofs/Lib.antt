@@ -4,3 +4,4 @@ pub mod Ending
 pub mod Numbering
 pub mod Went
 pub mod Placed
+pub mod FromTaskVars

@@ -10,7 +10,7 @@ use Rattle.pb_outcome.specs.declared.item.Item.{Item}
 use Rattle.pb_outcome.specs.declared.job.Call.{Call}
 use Rattle.pb_outcome.specs.declared.outcome.Form.{Form}
 use Rattle.pb_outcome.specs.Results.{judged}
-use Rattle.pb_plan.specs.Plan.{PlayOf, PlanOf}
+use Rattle.pb_task_vars.specs.FromPlan.{PlayOf, PlanOf}
 use Rattle.pb_task_vars.specs.Results.{came_at}
 use Rattle.pb_host.specs.Attempts.{attempt_after}
 use Rattle.pb_host.specs.Back.{came_in}

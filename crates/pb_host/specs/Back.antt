@@ -10,7 +10,7 @@ use Rattle.pb_outcome.specs.declared.gather.ItemResult.{ItemResult}
 use Rattle.pb_outcome.specs.declared.item.Item.{Item}
 use Rattle.pb_outcome.specs.declared.item.Planned.{Planned}
 use Rattle.pb_outcome.specs.declared.outcome.Form.{Form}
-use Rattle.pb_plan.specs.Plan.{PlayOf, PlanOf}
+use Rattle.pb_task_vars.specs.FromPlan.{PlayOf, PlanOf}
 use Rattle.pb_task_vars.specs.Results.{came_at}
 use Rattle.pb_host.specs.declared.step_result.StepResult.{StepResult}
 use Rattle.pb_host.specs.declared.step_result.TaskDone.{TaskDone}

@@ -1,12 +1,11 @@
 -- Worked tasks that leave something with their host, and that say themselves what their items came to.
 use Rattle.std.specs.Prelude.{◌≡◌, ⊤, ℕ, pos, true, false, List, [], ◌∷◌, codes, Some, None, refl}
 use Rattle.pb_value.specs.Datum.{int, text, list, items_of}
-use Rattle.pb_expr_eval.specs.Rendering.{measured}
-use Rattle.pb_expr_eval.specs.Scoped.{eval_of}
+use Rattle.pb_conditions.specs.FromExprEval.{measured, eval_of}
 use Rattle.pb_expr_syntax.specs.Tree as tree
 use Rattle.pb_expr_syntax.specs.declared.tree.Op.TheVariants.{NotEqual}
 use Rattle.pb_facts.specs.Facts.{no_facts}
-use Rattle.pb_items.specs.Results.{skipped_result}
+use Rattle.pb_task_vars.specs.FromItems.{skipped_result}
 use Rattle.pb_outcome.specs.Decided.{debug_result, shown_result}
 use Rattle.pb_outcome.specs.Items.{result_of}
 use Rattle.pb_outcome.specs.Results.{ran_result}
@@ -17,9 +16,9 @@ use Rattle.pb_outcome.specs.declared.outcome.Form.{Form}
 use Rattle.pb_outcome.specs.declared.outcome.Form.TheVariants.{Ran, Unreachable as NoAnswer}
 use Rattle.pb_play.specs.declared.modules.Module.TheVariants.{Debug, DebugVar, SetFact, Shell}
 use Rattle.pb_play.specs.declared.task.Task.{Task}
-use Rattle.pb_places.specs.Place.{place_of, bare_task}
-use Rattle.pb_plan.specs.Plan.{PlayOf, PlanOf, bare_play, bare_plan, bare_tree}
-use Rattle.pb_variables.specs.Magic.{host_magic}
+use Rattle.pb_task_vars.specs.FromPlaces.{place_of, bare_task}
+use Rattle.pb_task_vars.specs.FromPlan.{PlayOf, PlanOf, bare_play, bare_plan, bare_tree}
+use Rattle.pb_task_vars.specs.FromVariables.{host_magic}
 use Rattle.pb_task_vars.specs.Results.{items_at, on_tasks}
 use Rattle.pb_host.specs.Host.{HostOf, first_row, none_counted, joined, progressed, sent, reported}
 

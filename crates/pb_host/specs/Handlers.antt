@@ -3,8 +3,8 @@
 use Rattle.std.specs.Prelude.{ℕ, ◌==◌, Bool, false, ◌&&◌, not, List, [], Option, None, filter, slice_get, if◌then◌else◌}
 use Rattle.std.specs.Option.{option_map_or}
 use Rattle.pb_planes.specs.Set.{is_in as is_marked}
-use Rattle.pb_places.specs.Place.{PlaceOf}
-use Rattle.pb_plan.specs.Plan.{PlayOf}
+use Rattle.pb_task_vars.specs.FromPlaces.{PlaceOf}
+use Rattle.pb_task_vars.specs.FromPlan.{PlayOf}
 use Rattle.pb_host.specs.Ends.{does_notify}
 use Rattle.pb_host.specs.declared.step_result.TaskEnd.{TaskEnd}
 

@@ -18,11 +18,11 @@ use Rattle.pb_outcome.specs.declared.outcome.Form.{Form}
 use Rattle.pb_facts.specs.Facts.{FactsOf, no_facts}
 use Rattle.pb_outcome.specs.Items.{task_of, is_over, result_of}
 use Rattle.pb_outcome.specs.Results.{judged}
-use Rattle.pb_places.specs.Place.{PlaceOf}
+use Rattle.pb_task_vars.specs.FromPlaces.{PlaceOf}
 use Rattle.pb_play.specs.declared.modules.Meta.{Meta}
 use Rattle.pb_play.specs.declared.modules.Module.{Module}
 use Rattle.pb_play.specs.declared.modules.Module.TheVariants.{Meta as CalledMeta}
-use Rattle.pb_plan.specs.Plan.{PlayOf, PlanOf, run_once_of}
+use Rattle.pb_task_vars.specs.FromPlan.{PlayOf, PlanOf, run_once_of}
 use Rattle.pb_task_vars.specs.Learning.{facts_after_end}
 use Rattle.pb_task_vars.specs.Results.{came_at, variable_at}
 use Rattle.pb_host.specs.Attempts.{attempt_after, back_in}

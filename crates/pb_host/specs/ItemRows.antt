@@ -11,8 +11,8 @@ use Rattle.pb_outcome.specs.declared.outcome.Form.TheVariants.{Ran, Unreachable 
 use Rattle.pb_outcome.specs.Results.{ran_result, lost}
 use Rattle.pb_play.specs.declared.modules.Module.TheVariants.{Shell}
 use Rattle.pb_play.specs.declared.task.Task.{Task}
-use Rattle.pb_places.specs.Place.{place_of, bare_task, bare_place}
-use Rattle.pb_plan.specs.Plan.{PlayOf, PlanOf, bare_play, bare_plan, bare_tree}
+use Rattle.pb_task_vars.specs.FromPlaces.{place_of, bare_task, bare_place}
+use Rattle.pb_task_vars.specs.FromPlan.{PlayOf, PlanOf, bare_play, bare_plan, bare_tree}
 use Rattle.pb_tree.specs.declared.tree.Status.TheVariants as status
 use Rattle.pb_task_vars.specs.Results.{items_at, on_tasks}
 use Rattle.pb_host.specs.Host.{HostOf, first_row, none_counted, joined, progressed, sent, reported}

@@ -14,3 +14,7 @@ pub mod ItemRows
 pub mod FactRows
 pub mod Calls
 pub mod Standing
+pub mod FromPlaces
+pub mod FromPlan
+pub mod FromTaskVars
+pub mod FromVariables

@@ -12,7 +12,7 @@ use Rattle.pb_outcome.specs.declared.job.Call.{Call}
 use Rattle.pb_outcome.specs.declared.outcome.Form.{Form}
 use Rattle.pb_outcome.specs.Items.{next_item, is_over, numbered_at, result_of}
 use Rattle.pb_task_vars.specs.Results.{variable_at}
-use Rattle.pb_plan.specs.Plan.{PlayOf, PlanOf}
+use Rattle.pb_task_vars.specs.FromPlan.{PlayOf, PlanOf}
 use Rattle.pb_host.specs.declared.host.Running.{Running}
 use Rattle.pb_host.specs.declared.step_result.StepResult.{StepResult}
 use Rattle.pb_host.specs.declared.step_result.TaskDone.{TaskDone}

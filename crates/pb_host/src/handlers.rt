@@ -9,7 +9,7 @@ ghost use Rattle.pb_host.specs.Walking.{tree_in, answers_in};
 use crate::ends::does_notify;
 use crate::step_result::TaskEnd;
 use pb_cursors::PlayWalk;
-use pb_plan::PlanPlay;
+use pb_task_vars::PlanPlay;
 use pb_value::items::Items;
 use std::alloc::{AllocError, Global};
 

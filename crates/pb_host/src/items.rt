@@ -20,7 +20,7 @@ use pb_outcome::items::has_unreachable;
 use pb_outcome::job::Call;
 use pb_outcome::judge::judge;
 use pb_outcome::outcome::Outcome;
-use pb_plan::PlanPlay;
+use pb_task_vars::PlanPlay;
 use pb_task_vars::site::Site;
 use pb_value::items::Items;
 use pb_value::text::Text;

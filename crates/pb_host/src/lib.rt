@@ -18,4 +18,8 @@ pub use ends::{breaks, ends_run_once, is_fatal};
 pub use host::{Counts, Host, LastTask, Running};
 pub use item_results::{caught_at, numbered, runs_once_at, task_at, variable_at};
 pub use items::{Before, CameBack, TaskItems};
+pub use pb_task_vars::PlanPlay;
+pub use pb_task_vars::ends::Ended;
+pub use pb_task_vars::gifts::DelegatedFacts;
+pub use pb_task_vars::with_hostvars::PlanWithHostvars;
 pub use step_result::{Retried, StepResult, TaskDone, TaskEnd, put_step_result};

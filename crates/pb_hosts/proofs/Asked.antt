@@ -9,7 +9,7 @@ use Rattle.pb_ids.specs.declared.numbers.Ticket.{Ticket}
 use Rattle.pb_strategies.specs.declared.standings.Standing.{Standing}
 use Rattle.pb_strategies.specs.Hosts.{nowhere}
 use Rattle.pb_host.specs.Host.{HostOf, first_row, first_rows, is_play_host, is_waiting, as_play_begins, left, sent}
-use Rattle.pb_task_vars.specs.declared.gifts.DelegatedFacts.{DelegatedFacts}
+use Rattle.pb_host.specs.FromTaskVars.{DelegatedFacts}
 use Rattle.pb_host.specs.Runs.{has_send}
 use Rattle.pb_hosts.specs.Hosts.{at_row, change}
 use Rattle.pb_hosts.specs.Giving.{takes, with_delegated}

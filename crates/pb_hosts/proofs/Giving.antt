@@ -3,7 +3,7 @@ use Rattle.std.proofs.Common.{◌≡◌, ◌≢◌, ℕ, zero, suc, List, [], �
 use Rattle.std.specs.Prelude.{Option, Some, None, option_map, slice_get, slice_set, sum_by}
 use Rattle.std.specs.Option.{option_map_or}
 use Rattle.std.proofs.lemmas.List.Sums.{sum_by-cons}
-use Rattle.pb_task_vars.specs.declared.gifts.DelegatedFacts.{DelegatedFacts}
+use Rattle.pb_host.specs.FromTaskVars.{DelegatedFacts}
 use Rattle.pb_hosts.specs.Hosts.{change, lesser, least_place}
 use Rattle.pb_hosts.specs.Giving.{takes, with_delegated}
 use Rattle.pb_host.specs.Host.{HostOf, next_place}

@@ -18,3 +18,4 @@ pub mod Outside
 pub mod Turns
 pub mod InTurn
 pub mod Applying
+pub mod FromTaskVars

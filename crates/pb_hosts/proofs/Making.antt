@@ -9,9 +9,8 @@ use Rattle.pb_inventory.specs.InventoryOf.{InventoryOf}
 use Rattle.pb_facts.specs.Facts.{FactsOf}
 use Rattle.pb_outcome.specs.declared.item.Item.{Item}
 use Rattle.pb_outcome.specs.Items.{only_result, result_of}
-use Rattle.pb_plan.specs.Plan.{PlayOf}
-use Rattle.pb_task_vars.specs.Learning.{facts_after_end}
-use Rattle.pb_task_vars.specs.Results.{variable_at}
+use Rattle.pb_host.specs.FromPlan.{PlayOf}
+use Rattle.pb_host.specs.FromTaskVars.{facts_after_end, variable_at}
 use Rattle.pb_tree.specs.declared.answer.Kind.{Kind}
 use Rattle.pb_host.specs.declared.host.LastTask.{LastTask}
 use Rattle.pb_hosts.specs.declared.turned.HostUpdate.{HostUpdate}

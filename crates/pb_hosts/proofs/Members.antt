@@ -10,7 +10,7 @@ use Rattle.std.proofs.lemmas.List.Sums.{sum_by-cons}
 use Rattle.std.proofs.lemmas.Simd.{length-zip2}
 use Rattle.pb_planes.specs.Set.{is_in as is_member, IsNextFrom, HasNoneFrom}
 use Rattle.pb_inventory.specs.InventoryOf.{InventoryOf}
-use Rattle.pb_plan.specs.Plan.{PlayOf}
+use Rattle.pb_host.specs.FromPlan.{PlayOf}
 use Rattle.pb_strategies.specs.declared.standings.Standing.{Standing}
 use Rattle.pb_strategies.specs.Hosts.{nowhere}
 use Rattle.pb_host.specs.declared.host.LastTask.{LastTask}

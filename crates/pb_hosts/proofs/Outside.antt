@@ -8,8 +8,8 @@ use Rattle.pb_facts.specs.Facts.{with_given}
 use Rattle.pb_outcome.specs.declared.item.Item.{Item}
 use Rattle.pb_outcome.specs.declared.outcome.Form.{Form}
 use Rattle.pb_outcome.specs.Items.{is_over}
-use Rattle.pb_task_vars.specs.declared.gifts.DelegatedFacts.{DelegatedFacts}
-use Rattle.pb_plan.specs.Plan.{PlanOf, PlayOf}
+use Rattle.pb_host.specs.FromTaskVars.{DelegatedFacts}
+use Rattle.pb_host.specs.FromPlan.{PlanOf, PlayOf}
 use Rattle.pb_tree.specs.Walk.{reach}
 use Rattle.pb_cursors.specs.Walks.{PlayWalkOf}
 use Rattle.pb_host.specs.declared.host.Running.{Running}

@@ -12,10 +12,9 @@ use Rattle.pb_facts.specs.Update.{applied}
 use Rattle.pb_facts.specs.declared.update.FactsUpdate.{FactsUpdate}
 use Rattle.pb_outcome.specs.declared.item.Item.{Item}
 use Rattle.pb_outcome.specs.Items.{is_over}
-use Rattle.pb_plan.specs.Plan.{PlayOf}
-use Rattle.pb_task_vars.specs.Gifts.{given_by}
-use Rattle.pb_task_vars.proofs.ForOthers.{AreForOthers, all_for_others}
-use Rattle.pb_task_vars.specs.declared.gifts.DelegatedFacts.{DelegatedFacts}
+use Rattle.pb_host.specs.FromPlan.{PlayOf}
+use Rattle.pb_host.specs.FromTaskVars.{given_by, DelegatedFacts}
+use Rattle.pb_host.proofs.FromTaskVars.{AreForOthers, all_for_others}
 use Rattle.pb_host.specs.declared.host.Running.{Running}
 use Rattle.pb_host.specs.Host.{HostOf, knows, task_at}
 use Rattle.pb_host.specs.Turned.{applies}

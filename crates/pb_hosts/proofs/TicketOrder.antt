@@ -10,8 +10,8 @@ use Rattle.pb_inventory.specs.InventoryOf.{InventoryOf}
 use Rattle.pb_outcome.specs.declared.item.Item.{Item}
 use Rattle.pb_outcome.specs.declared.outcome.Form.{Form}
 use Rattle.pb_outcome.specs.Items.{is_over}
-use Rattle.pb_plan.specs.Plan.{PlayOf, PlanOf}
-use Rattle.pb_task_vars.specs.declared.gifts.DelegatedFacts.{DelegatedFacts}
+use Rattle.pb_host.specs.FromPlan.{PlayOf, PlanOf}
+use Rattle.pb_host.specs.FromTaskVars.{DelegatedFacts}
 use Rattle.pb_cursors.specs.Walks.{PlayWalkOf}
 use Rattle.pb_host.specs.declared.host.Running.{Running}
 use Rattle.pb_hosts.specs.Joining.{walks_behind, joined_by}

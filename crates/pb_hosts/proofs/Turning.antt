@@ -9,7 +9,7 @@ use Rattle.pb_facts.specs.Facts.{FactsOf}
 use Rattle.pb_inventory.specs.InventoryOf.{InventoryOf}
 use Rattle.pb_tree.specs.declared.answer.Kind.{Kind}
 use Rattle.pb_tree.specs.declared.answer.Kind.TheVariants as kinds
-use Rattle.pb_plan.specs.Plan.{PlayOf}
+use Rattle.pb_host.specs.FromPlan.{PlayOf}
 use Rattle.pb_host.specs.declared.host.LastTask.{LastTask}
 use Rattle.pb_host.specs.Host.{HostOf, next_place, is_active, answered, is_at}
 use Rattle.pb_host.specs.Runs.{is_running}

@@ -12,7 +12,7 @@ use Rattle.pb_facts.specs.Facts.{FactsOf}
 use Rattle.pb_facts.specs.declared.update.FactsUndo.{FactsUndo}
 use Rattle.pb_facts.specs.declared.update.FactsUpdate.{FactsUpdate}
 use Rattle.pb_inventory.specs.InventoryOf.{InventoryOf}
-use Rattle.pb_plan.specs.Plan.{PlayOf}
+use Rattle.pb_host.specs.FromPlan.{PlayOf}
 use Rattle.pb_strategies.specs.declared.standings.Standing.{Standing}
 use Rattle.pb_strategies.specs.Hosts.{nowhere}
 use Rattle.pb_tree.specs.Answer.{AnswerOf}

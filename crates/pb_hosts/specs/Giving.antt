@@ -6,9 +6,8 @@ use Rattle.pb_facts.specs.Facts.{with_given}
 use Rattle.pb_outcome.specs.declared.item.Item.{Item}
 use Rattle.pb_outcome.specs.declared.outcome.Form.{Form}
 use Rattle.pb_outcome.specs.Items.{is_over}
-use Rattle.pb_task_vars.specs.Gifts.{given_by}
-use Rattle.pb_task_vars.specs.declared.gifts.DelegatedFacts.{DelegatedFacts}
-use Rattle.pb_plan.specs.Plan.{PlayOf, PlanOf}
+use Rattle.pb_host.specs.FromTaskVars.{given_by, DelegatedFacts}
+use Rattle.pb_host.specs.FromPlan.{PlayOf, PlanOf}
 use Rattle.pb_host.specs.declared.host.Running.{Running}
 use Rattle.pb_host.specs.Host.{HostOf, task_at, items_after}
 use Rattle.pb_hosts.specs.Hosts.{change}

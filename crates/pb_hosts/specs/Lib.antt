@@ -9,3 +9,7 @@ pub mod Due
 pub mod Giving
 pub mod TurnMade
 pub mod Applied
+pub mod FromHost
+pub mod FromPlan
+pub mod FromTaskVars
+pub mod FromVariables

@@ -3,7 +3,7 @@ use Rattle.std.specs.Prelude.{◌≡◌, ◌≢◌, ⊤, ℕ, ◌==◌, Bool, Li
 use Rattle.pb_facts.specs.Facts.{FactsOf, with_given}
 use Rattle.pb_facts.specs.Update.{applied}
 use Rattle.pb_facts.specs.declared.update.FactsUpdate.{FactsUpdate}
-use Rattle.pb_task_vars.specs.declared.gifts.DelegatedFacts.{DelegatedFacts}
+use Rattle.pb_host.specs.FromTaskVars.{DelegatedFacts}
 use Rattle.pb_host.specs.Host.{HostOf}
 use Rattle.pb_hosts.specs.declared.turned.HostUpdate.{HostUpdate}
 use Rattle.pb_hosts.specs.Applied.{with_update}

@@ -5,8 +5,8 @@ use Rattle.std.specs.Prelude.{ℕ, ◌*◌, ◌==◌, nat_lt, Bool, false, ◌&&
 use Rattle.std.specs.List.{list_any}
 use Rattle.std.specs.Option.{option_map_or}
 use Rattle.pb_inventory.specs.InventoryOf.{InventoryOf}
-use Rattle.pb_places.specs.Place.{PlaceOf}
-use Rattle.pb_plan.specs.Plan.{PlayOf}
+use Rattle.pb_host.specs.FromPlaces.{PlaceOf}
+use Rattle.pb_host.specs.FromPlan.{PlayOf}
 use Rattle.pb_host.specs.Ends.{breaks, plain_answer, ends_run_once, is_fatal}
 use Rattle.pb_host.specs.Host.{HostOf, answered, caught_at, runs_once_at, facts_after, is_at}
 use Rattle.pb_host.specs.declared.host.LastTask.{LastTask}

@@ -2,7 +2,7 @@
 use Rattle.std.specs.Prelude.{◌≡◌, ℕ, Bool, false, List, map, Option, Some, None, option_map}
 use Rattle.std.specs.Option.{option_map_or}
 use Rattle.pb_inventory.specs.InventoryOf.{InventoryOf}
-use Rattle.pb_plan.specs.Plan.{PlayOf}
+use Rattle.pb_host.specs.FromPlan.{PlayOf}
 use Rattle.pb_tree.specs.declared.answer.Kind.{Kind}
 use Rattle.pb_host.specs.declared.host.LastTask.{LastTask}
 use Rattle.pb_host.specs.Host.{HostOf, knows}

@@ -12,12 +12,9 @@ use crate::apply::apply_each;
 use crate::list::row_at;
 use crate::turned::HostUpdate;
 use pb_facts::update::{FactsUndo, FactsUpdate, gift_update};
-use pb_host::{Host, TaskItems, task_at};
+use pb_host::{DelegatedFacts, Ended, Host, PlanPlay, TaskItems, task_at};
 use pb_ids::HostNo;
 use pb_inventory::inventory::Inventory;
-use pb_plan::PlanPlay;
-use pb_task_vars::ends::Ended;
-use pb_task_vars::gifts::DelegatedFacts;
 use std::alloc::{AllocError, Global};
 use std::mem;
 

@@ -14,12 +14,10 @@ pub(crate) mod play_hosts;
 
 use crate::inside::{empty_by, join_each, step_out};
 use pb_cursors::{LaidTree, PlayWalk};
-use pb_host::{Before, CameBack, Counts, Host};
+use pb_host::{Before, CameBack, Counts, Host, PlanPlay, PlanWithHostvars};
 use pb_ids::{HostNo, Ticket};
 use pb_outcome::outcome::Outcome;
-use pb_plan::PlanPlay;
 use pb_planes::HostSet;
-use pb_task_vars::with_hostvars::PlanWithHostvars;
 use std::alloc::{AllocError, Global};
 use std::rc::Rc;
 

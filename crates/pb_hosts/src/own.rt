@@ -14,10 +14,9 @@ ghost use Rattle.pb_hosts.specs.Hosts.{change, pending_in};
 use crate::apply::revert_all;
 use crate::gifts::{apply_gifts, gifts_at, gives_now};
 use pb_facts::update::FactsUndo;
-use pb_host::{Host, Retried, StepResult, TaskDone, TaskItems};
+use pb_host::{Host, PlanPlay, Retried, StepResult, TaskDone, TaskItems};
 use pb_ids::HostNo;
 use pb_inventory::inventory::Inventory;
-use pb_plan::PlanPlay;
 use std::alloc::{AllocError, Global};
 
 /// A task that a host has of its own: the hosts that it may give something to, and the play that it is of.

@@ -16,15 +16,13 @@ use crate::list::row_at;
 use pb_facts::facts::Facts;
 use pb_facts::update::{FactsUndo, FactsUpdate};
 use pb_host::{
-    Host, LastTask, TaskItems, breaks, caught_at, ends_run_once, is_fatal, runs_once_at, task_at,
-    variable_at,
+    Ended, Host, LastTask, PlanPlay, TaskItems, breaks, caught_at, ends_run_once, is_fatal,
+    runs_once_at, task_at, variable_at,
 };
 use pb_ids::HostNo;
 use pb_inventory::inventory::Inventory;
 use pb_outcome::registered::{only_result, registered};
-use pb_plan::PlanPlay;
 use pb_planes::HostSet;
-use pb_task_vars::ends::Ended;
 use pb_tree::Kind;
 use std::alloc::{AllocError, Global};
 

@@ -19,7 +19,7 @@ use Rattle.pb_inventory.specs.declared.vars.Variable.{Variable}
 use Rattle.pb_facts.specs.Facts.{FactsOf}
 use Rattle.pb_layers.specs.Scope.{Map}
 use Rattle.pb_expr_syntax.specs.Tree.{trees_of}
-use Rattle.pb_items.specs.Loops.{loop_variable}
+use Rattle.pb_reach.specs.FromItems.{loop_variable}
 use Rattle.pb_conditions.specs.declared.attempt.Back.TheVariants.{Ends}
 use Rattle.pb_outcome.specs.declared.gather.ItemResult.{ItemResult}
 use Rattle.pb_outcome.specs.declared.gather.TaskResult.{TaskResult}
@@ -27,20 +27,16 @@ use Rattle.pb_outcome.specs.declared.item.Item.{Item}
 use Rattle.pb_outcome.specs.declared.item.Planned.TheVariants.{Decided as DecidedItem}
 use Rattle.pb_outcome.specs.Items.{is_over}
 use Rattle.pb_places.specs.Place.{PlaceOf}
-use Rattle.pb_plan.specs.Plan.{PlayOf, PlanOf}
+use Rattle.pb_hosts.specs.FromPlan.{PlayOf, PlanOf}
 use Rattle.pb_reach.specs.Apart.{SameBut}
 use Rattle.pb_reach.specs.Named.{in_trees, in_value, in_members}
 use Rattle.pb_reach.specs.Reach.{conditions_name, result_names, start_from}
 use Rattle.pb_reach.specs.ResultConditions.{until_of}
 use Rattle.pb_reach.proofs.Tests.{none_of}
-use Rattle.pb_variables.specs.Magic.{host_magic, hostvars, hosts_magic}
-use Rattle.pb_task_vars.specs.Ends.{has_run}
-use Rattle.pb_task_vars.specs.Gifts.{gifts_from, given_by, gifts_of}
-use Rattle.pb_task_vars.specs.Learning.{gives_of}
-use Rattle.pb_task_vars.specs.Results.{layers_within, magic_of, nothing, place_for, items_for, items_at, came_for, came_at}
-use Rattle.pb_task_vars.specs.WithHostvars.{with_hosts}
-use Rattle.pb_task_vars.proofs.ReadHosts.{items_of_place, attempts_of_place}
-use Rattle.pb_host.specs.Host.{task_at}
+use Rattle.pb_hosts.specs.FromVariables.{host_magic, hostvars, hosts_magic}
+use Rattle.pb_hosts.specs.FromTaskVars.{has_run, gifts_from, given_by, gifts_of, gives_of, layers_within, magic_of, nothing, place_for, items_for, items_at, came_for, came_at, with_hosts}
+use Rattle.pb_hosts.proofs.FromTaskVars.{items_of_place, attempts_of_place}
+use Rattle.pb_hosts.specs.FromHost.{task_at}
 use Rattle.pb_hosts.specs.Giving.{gifts_at}
 use Rattle.pb_independence.specs.Independent.{module_names, loop_names, map_names, task_names, role_names, delegate_names, place_names, play_names, variable_names, group_names, host_names, inventory_names, plan_names, play_delegates, is_independent}
 use Rattle.pb_independence.specs.Apart.{AreApart}

@@ -16,13 +16,8 @@ use Rattle.pb_play.specs.declared.commands.CommandWords.TheVariants.{Line, Argv}
 use Rattle.pb_play.specs.declared.loops.Loop.{Loop}
 use Rattle.pb_play.specs.declared.modules.Module.{Module}
 use Rattle.pb_play.specs.declared.modules.Module.TheVariants.{Assert, Command, Debug, DebugVar, Fail, Meta, SetFact, Setup, Shell}
-use Rattle.pb_items.specs.Calls.{words_in, command_in}
-use Rattle.pb_items.specs.Facts.{facts_of}
-use Rattle.pb_items.specs.Faults.{evaluated}
-use Rattle.pb_items.specs.Items.{StartOf, Step, seen_by, delegate_in, attempted_by, with_conditions_step, step_of, step_if, step_in, item_of, item_in, looped_items, items_by, items_of}
-use Rattle.pb_items.specs.Loops.{loop_variable, values_of}
-use Rattle.pb_items.specs.Planning.{done_by}
-use Rattle.pb_items.specs.declared.fault.ItemFault.{ItemFault}
+use Rattle.pb_reach.specs.FromItems.{words_in, command_in, facts_of, evaluated, StartOf, Step, seen_by, delegate_in, attempted_by, with_conditions_step, step_of, step_if, step_in, item_of, item_in}
+use Rattle.pb_reach.specs.FromItems.{looped_items, items_by, items_of, loop_variable, values_of, done_by, ItemFault}
 use Rattle.pb_reach.specs.Apart.{SameBut, AreApart}
 use Rattle.pb_reach.specs.Named.{in_tree, in_trees, in_value, in_items, in_members}
 use Rattle.pb_reach.specs.Reach.{conditions_name, with_magic}

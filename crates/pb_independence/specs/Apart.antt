@@ -4,9 +4,8 @@ use Rattle.pb_value.specs.Datum.{Datum}
 use Rattle.pb_facts.specs.Facts.{FactsOf}
 use Rattle.pb_outcome.specs.declared.gather.ItemResult.{ItemResult}
 use Rattle.pb_outcome.specs.declared.item.Item.{Item}
-use Rattle.pb_plan.specs.Plan.{PlayOf, PlanOf}
-use Rattle.pb_task_vars.specs.Results.{items_at, came_at}
-use Rattle.pb_task_vars.specs.WithHostvars.{seen_with}
+use Rattle.pb_hosts.specs.FromPlan.{PlayOf, PlanOf}
+use Rattle.pb_hosts.specs.FromTaskVars.{items_at, came_at, seen_with}
 use Rattle.pb_hosts.specs.Giving.{gifts_at}
 use Rattle.pb_independence.specs.Independent.{is_independent}
 

@@ -17,7 +17,7 @@ use Rattle.pb_play.specs.declared.modules.Module.TheVariants.{Assert, Command, D
 use Rattle.pb_play.specs.declared.task.Task.{Task}
 use Rattle.pb_places.specs.Place.{PlaceOf}
 use Rattle.pb_places.specs.declared.surroundings.Role.{Role}
-use Rattle.pb_plan.specs.Plan.{PlayOf, PlanOf}
+use Rattle.pb_hosts.specs.FromPlan.{PlayOf, PlanOf}
 use Rattle.pb_reach.specs.Named.{in_tree, in_trees, in_text, in_value, in_items, in_members}
 use Rattle.pb_reach.specs.Reach.{result_names}
 use Rattle.pb_strategies.specs.MayStart.{is_linear}

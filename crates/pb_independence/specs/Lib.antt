@@ -1,3 +1,4 @@
 pub mod Independent
 pub mod Apart
 pub mod Rows
+pub mod FromConditions

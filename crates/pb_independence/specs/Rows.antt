@@ -2,7 +2,7 @@
 use Rattle.std.specs.Prelude.{◌≡◌, ℕ, true, false, List, [], ◌∷◌, codes, refl}
 use Rattle.pb_expr_syntax.specs.Tree as tree
 use Rattle.pb_places.specs.Place.{PlaceOf, bare_place}
-use Rattle.pb_plan.specs.Plan.{PlanOf, bare_plan, bare_play, bare_tree}
+use Rattle.pb_hosts.specs.FromPlan.{PlanOf, bare_plan, bare_play, bare_tree}
 use Rattle.pb_play.specs.declared.modules.Module.TheVariants.{DebugVar}
 use Rattle.pb_strategies.specs.declared.strategy.Strategy.TheVariants.{Free}
 use Rattle.pb_independence.specs.Independent.{is_independent, are_linear}

@@ -9,3 +9,5 @@ pub mod Constant
 pub mod Rows
 pub mod RowsItems
 pub mod AttemptRows
+pub mod FromConditions
+pub mod FromExprEval

@@ -16,3 +16,5 @@ pub mod planned;
 pub mod planning;
 mod results;
 pub mod start;
+
+pub use pb_conditions::attempt::Back;

@@ -30,8 +30,7 @@ use Rattle.pb_state.specs.State.{State}
 use Rattle.pb_state.proofs.StepNumbers.{and_left, and_right}
 use Rattle.pb_state.proofs.Once.{start_place}
 use Rattle.pb_state.proofs.Stands.{both}
-use Rattle.pb_recap.specs.Kinds.{CountKind, Okay, Unreachable, Failed, Skipped, Rescued, has, status_of}
-use Rattle.pb_recap.specs.Recap.{by_host, ended_by, finishes, result_counts, counted, count_from, hosts_from, recap}
+use Rattle.pb_confluence.specs.FromRecap.{CountKind, Okay, Unreachable, Failed, Skipped, Rescued, has, status_of, by_host, ended_by, finishes, result_counts, counted, count_from, hosts_from, recap}
 use Rattle.pb_laws.specs.History.{HostTask, Happening, MayRun, Starts, Sends, Reports, at_place, ended_in, ends_if, given_in, happenings, history_from, history}
 use Rattle.pb_laws.specs.Laws.{so_far, counts, tasks_ended, add_up, has_trouble, status_tells, RecapAddsUp}
 use Rattle.pb_laws.proofs.Telling.{row_at}

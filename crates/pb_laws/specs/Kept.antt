@@ -3,7 +3,7 @@ use Rattle.std.specs.Prelude.{◌≡◌, ℕ, Bool, true, List, []}
 use Rattle.pb_plan.specs.Plan.{PlanOf}
 use Rattle.pb_state.specs.declared.event.Event.{Event}
 use Rattle.pb_state.specs.Run.{IsLegal, state_after, IsFinished}
-use Rattle.pb_recap.specs.Recap.{recap}
+use Rattle.pb_confluence.specs.FromRecap.{recap}
 use Rattle.pb_confluence.specs.Ends.{EndsAsFixed}
 use Rattle.pb_laws.specs.History.{Happening, history}
 use Rattle.pb_laws.specs.States.{GoesOn}

@@ -23,8 +23,7 @@ use Rattle.pb_hosts.specs.Hosts.{one_if}
 use Rattle.pb_host.specs.Ends.{answer_of, kind_of, plain_answer}
 use Rattle.pb_host.specs.Host.{place_of, no_tree}
 use Rattle.pb_state.specs.Run.{IsLegal, IsLegalUnder, state_after_under, IsFinished}
-use Rattle.pb_recap.specs.Kinds.{Failed, Unreachable, has, status_of}
-use Rattle.pb_recap.specs.Recap.{recap}
+use Rattle.pb_confluence.specs.FromRecap.{Failed, Unreachable, has, status_of, recap}
 use Rattle.pb_laws.specs.History.{HostTask, Happening, MayRun, Opens, Starts, Sends, Reports, Ends, Given, Closes, Stops, history}
 
 -- ---- what a law says of runs

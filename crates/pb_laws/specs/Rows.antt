@@ -3,7 +3,7 @@ use Rattle.std.specs.Prelude.{◌≡◌, ℕ, pos, Bool, true, false, List, [], 
 use Rattle.pb_outcome.specs.declared.outcome.Form.TheVariants.{Ran}
 use Rattle.pb_outcome.specs.declared.gather.TaskResult.{TaskResult}
 use Rattle.pb_plan.specs.Plan.{PlanOf, PlayOf, bare_play, bare_plan, bare_tree}
-use Rattle.pb_recap.specs.Recap.{recap}
+use Rattle.pb_confluence.specs.FromRecap.{recap}
 use Rattle.pb_state.specs.BatchRows.{start, send, went}
 use Rattle.pb_state.specs.BlockRows.{runs, refuses, says, last}
 use Rattle.pb_host.specs.FactRows.{on_facts}

@@ -4,3 +4,4 @@ pub mod Within
 pub mod Held
 pub mod Caught
 pub mod Rows
+pub mod FromPlay

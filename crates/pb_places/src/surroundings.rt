@@ -5,7 +5,7 @@ ghost use Rattle.pb_places.specs.Place.{no_role};
 
 use crate::searched::{SearchedRole, SearchedVars};
 use pb_expr_syntax::tree::Expr;
-use pb_prepared::prepared::PreparedText;
+use pb_play::PreparedText;
 use pb_value::items::Items;
 use pb_value::val::Dict;
 use std::alloc::Global;

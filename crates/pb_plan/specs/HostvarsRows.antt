@@ -2,7 +2,7 @@
 use Rattle.std.specs.Prelude.{[], ◌∷◌, codes, refl}
 use Rattle.pb_value.specs.Datum.{text}
 use Rattle.pb_places.specs.Place.{bare_place}
-use Rattle.pb_play.specs.declared.modules.Module.TheVariants.{Debug}
+use Rattle.pb_places.specs.FromPlay.{Debug}
 use Rattle.pb_plan.specs.Hostvars.{IsFreePlace, IsFreeAt}
 
 -- a task may show it, and have no variable with it

@@ -1,3 +1,4 @@
 pub mod Plan
 pub mod Hostvars
 pub mod HostvarsRows
+pub mod FromPlaces

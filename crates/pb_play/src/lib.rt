@@ -13,3 +13,5 @@ pub mod modules;
 pub mod node;
 pub mod retrying;
 pub mod task;
+
+pub use pb_prepared::prepared::PreparedText;

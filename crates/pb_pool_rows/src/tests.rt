@@ -1,8 +1,7 @@
 use crate::failing::Failing;
 use crate::gates::Gate;
 use crate::made::plan_of;
-use pb_driver::{Command, Ended, Given, LineOut, Lowest, RunFault, Silent, run_pool};
-use pb_recap::CountKind;
+use pb_driver::{Command, CountKind, Ended, Given, LineOut, Lowest, RunFault, Silent, run_pool};
 use pb_state::Event;
 use std::alloc::Global;
 use std::process::Abort;

@@ -14,9 +14,7 @@ use Rattle.pb_template.specs.declared.template.Part.{Part}
 use Rattle.pb_template.specs.declared.template.Part.TheVariants.{Plain, Code}
 use Rattle.pb_operators.specs.declared.fault.EvalFault.{EvalFault}
 use Rattle.pb_operators.specs.Values.{Value, text_within, finished}
-use Rattle.pb_expr_eval.specs.Value.{Names, value, values, each}
-use Rattle.pb_expr_eval.specs.Rendering.{measured, text_in, shown, render, templated, rendered, rendered_items, rendered_members}
-use Rattle.pb_expr_eval.specs.Scoped.{read_as, names_in, max_look_ups, eval_of, rendered_of}
+use Rattle.pb_items.specs.FromExprEval.{Names, value, values, each, measured, text_in, shown, render, templated, rendered, rendered_items, rendered_members, read_as, names_in, max_look_ups, eval_of, rendered_of}
 use Rattle.pb_reach.specs.Named.{in_tree, in_trees, in_part, in_value, in_items, in_members}
 use Rattle.pb_reach.specs.Apart.{Agree, AreApart}
 use Rattle.pb_reach.proofs.Tests.{neither}

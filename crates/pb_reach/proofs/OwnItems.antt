@@ -6,12 +6,10 @@ use Rattle.pb_value.specs.Datum.{Datum, text, items_of as row_of, members_of}
 use Rattle.pb_value.specs.Reading.{and_then, map_ok}
 use Rattle.pb_expr_syntax.specs.Tree.{Tree, trees_of}
 use Rattle.pb_layers.specs.Scope.{Map}
-use Rattle.pb_expr_eval.specs.Scoped.{rendered_of}
+use Rattle.pb_items.specs.FromExprEval.{rendered_of}
 use Rattle.pb_operators.specs.declared.fault.EvalFault.{EvalFault}
-use Rattle.pb_conditions.specs.Attempts.{counted, is_enough, by_until, came_by, came, attempted}
-use Rattle.pb_conditions.specs.Conditions.{holds}
-use Rattle.pb_conditions.specs.ResultConditions.{Sees, sees, seen_as, by_condition, changed_to, failed_to, by_conditions, or_faulty, with_conditions_by, with_conditions}
-use Rattle.pb_conditions.specs.declared.attempt.Back.TheVariants.{Ends}
+use Rattle.pb_items.specs.FromConditions.{counted, is_enough, by_until, came_by, came, attempted, holds, Sees, sees, seen_as, by_condition, changed_to, failed_to, by_conditions, or_faulty}
+use Rattle.pb_items.specs.FromConditions.{with_conditions_by, with_conditions, Ends}
 use Rattle.pb_outcome.specs.declared.gather.Ending.{Ending}
 use Rattle.pb_outcome.specs.declared.gather.Ending.TheVariants.{Skipped, Faulty, Unreachable, NotStarted, Ran}
 use Rattle.pb_outcome.specs.declared.gather.ItemResult.{ItemResult}

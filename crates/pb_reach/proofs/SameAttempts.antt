@@ -4,8 +4,7 @@ use Rattle.std.proofs.Common.{◌≡◌, ℕ, ◌<◌, Bool, true, false, ◌&&�
 use Rattle.std.specs.Prelude.{is_some}
 use Rattle.pb_expr_syntax.specs.Tree.{Tree}
 use Rattle.pb_layers.specs.Scope.{Map}
-use Rattle.pb_conditions.specs.ResultConditions.{Sees, sees, with_conditions_by}
-use Rattle.pb_conditions.specs.declared.attempt.Back.TheVariants.{Ends}
+use Rattle.pb_items.specs.FromConditions.{Sees, sees, with_conditions_by, Ends}
 use Rattle.pb_outcome.specs.declared.gather.Ending.{Ending}
 use Rattle.pb_outcome.specs.declared.gather.Ending.TheVariants.{Skipped, Faulty, Unreachable, NotStarted, Ran}
 use Rattle.pb_outcome.specs.declared.gather.ItemResult.{ItemResult}

@@ -11,8 +11,7 @@ use Rattle.pb_template.specs.declared.template.Part.{Part}
 use Rattle.pb_template.specs.declared.template.Part.TheVariants as part
 use Rattle.pb_operators.specs.declared.fault.EvalFault.{EvalFault}
 use Rattle.pb_operators.specs.Values.{text_within}
-use Rattle.pb_expr_eval.specs.Value.{Names}
-use Rattle.pb_expr_eval.specs.Rendering.{shown, render, templated, rendered, rendered_items, rendered_members}
+use Rattle.pb_items.specs.FromExprEval.{Names, shown, render, templated, rendered, rendered_items, rendered_members}
 use Rattle.pb_mentions.specs.Mentions.{begins, has_inside, mentions, items_mention, members_mention}
 use Rattle.pb_reach.proofs.Tests.{neither}
 use Rattle.pb_reach.proofs.Unnamed.{FrontWithout, refused_without, by_without, PartsWithout, with_without, good_without}

@@ -8,7 +8,7 @@ use Rattle.std.specs.Cmp.Lexicographic.{slice_cmp}
 use Rattle.std.specs.Str.{bytes_eq}
 use Rattle.pb_value.specs.Datum.{Datum, members_of, put, value_at}
 use Rattle.pb_layers.specs.Scope.{Map, found, or_else, has_templates, scope, with_seen}
-use Rattle.pb_conditions.specs.ResultConditions.{seen_in, sees}
+use Rattle.pb_items.specs.FromConditions.{seen_in, sees}
 use Rattle.pb_reach.specs.Apart.{SameBut, AreApart}
 use Rattle.pb_mentions.specs.Mentions.{mentions, members_mention}
 use Rattle.pb_reach.specs.Reach.{maps_mention, layers_mention}

@@ -9,11 +9,8 @@ use Rattle.pb_expr_syntax.specs.Tree.{Tree, Trees, no_trees, tree_and, trees_of}
 use Rattle.pb_expr_syntax.specs.declared.tree.Filter.TheVariants as filter
 use Rattle.pb_layers.specs.Scope.{Map, found, or_else, has_templates, scope, with_seen}
 use Rattle.pb_operators.specs.Values.{Value, finished}
-use Rattle.pb_expr_eval.specs.Value.{Names, value, values, each}
-use Rattle.pb_expr_eval.specs.Rendering.{measured, rendered}
-use Rattle.pb_expr_eval.specs.Scoped.{read_as, names_in, max_look_ups, eval_of}
-use Rattle.pb_conditions.specs.Conditions.{holds}
-use Rattle.pb_conditions.specs.ResultConditions.{seen_in, sees}
+use Rattle.pb_items.specs.FromExprEval.{Names, value, values, each, measured, rendered, read_as, names_in, max_look_ups, eval_of}
+use Rattle.pb_items.specs.FromConditions.{holds, seen_in, sees}
 use Rattle.pb_reach.specs.Apart.{SameBut}
 use Rattle.pb_reach.specs.Named.{in_tree, in_trees}
 use Rattle.pb_mentions.specs.Mentions.{mentions}

@@ -3,7 +3,7 @@ use Rattle.std.specs.Prelude.{◌≡◌, ℕ, true, false, List, Some}
 use Rattle.std.specs.Str.{bytes_eq}
 use Rattle.pb_value.specs.Datum.{Datum, value_at}
 use Rattle.pb_layers.specs.Scope.{Map, found, has_templates}
-use Rattle.pb_expr_eval.specs.Value.{Names}
+use Rattle.pb_items.specs.FromExprEval.{Names}
 use Rattle.pb_reach.specs.Named.{in_value}
 
 -- every other name has the same value in both maps

@@ -4,3 +4,4 @@ pub mod ResultConditions
 pub mod Reached
 pub mod Reach
 pub mod Rows
+pub mod FromItems

@@ -4,7 +4,7 @@
 use Rattle.std.specs.Prelude.{◌≡◌, ℕ, Bool, ◌||◌, List, Option, Some, None, is_some}
 use Rattle.pb_value.specs.Datum.{Datum}
 use Rattle.pb_expr_syntax.specs.Tree.{Tree}
-use Rattle.pb_conditions.specs.declared.attempt.Back.TheVariants.{Ends}
+use Rattle.pb_items.specs.FromConditions.{Ends}
 use Rattle.pb_outcome.specs.declared.gather.ItemResult.{ItemResult}
 use Rattle.pb_play.specs.declared.retrying.Retrying.{Retrying}
 use Rattle.pb_play.specs.declared.task.Task.{Task}

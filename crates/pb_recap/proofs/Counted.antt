@@ -11,27 +11,21 @@ use Rattle.pb_outcome.specs.declared.outcome.Form.{Form}
 use Rattle.pb_outcome.specs.Items.{is_over}
 use Rattle.pb_tree.specs.Tree.{TreeOf}
 use Rattle.pb_inventory.specs.InventoryOf.{InventoryOf}
-use Rattle.pb_task_vars.specs.Results.{items_at}
-use Rattle.pb_task_vars.specs.declared.gifts.DelegatedFacts.{DelegatedFacts}
+use Rattle.pb_state.specs.FromTaskVars.{items_at, DelegatedFacts}
 use Rattle.pb_state.specs.declared.event.Event.{Event}
 use Rattle.pb_state.specs.declared.event.Event.TheVariants.{Open, Start, Send, Report as Reported, Turn, Close, Stop, Forks}
 use Rattle.pb_host.specs.declared.host.Counts.{Counts}
 use Rattle.pb_host.specs.declared.host.Running.{Running}
 use Rattle.pb_plan.specs.Plan.{PlayOf, PlanOf}
-use Rattle.pb_hosts.specs.Batches.{room_behind, joined_first}
+use Rattle.pb_state.specs.FromHosts.{room_behind, joined_first, change, at_row, takes, with_delegated, gifts_at, report_gives}
 use Rattle.pb_host.specs.Host.{HostOf, first_rows, next_place, as_play_begins, left, ended, pending, ignores_at, caught_at, meta_at, task_at, items_after, progressed, sent, reported, reported_running}
 use Rattle.pb_state.specs.State.{State}
 use Rattle.pb_host.specs.StepResults.{done_at, done_if, report_result, step_result_by}
-use Rattle.pb_hosts.specs.Hosts.{change, at_row}
-use Rattle.pb_hosts.specs.Giving.{takes, with_delegated, gifts_at, report_gives}
 use Rattle.pb_state.specs.Machine.{open_play, possible, after, first_state, after_open, started_in, facts_at, plan_seen, start_at, start_with, sent_in, reported_in, pending_at, batch_of, turned_in, may_start_in, next_at, may_report_in, same_place}
 use Rattle.pb_state.specs.Run.{legal_from, state_from, IsLegal, state_after, IsRun}
-use Rattle.pb_hosts.proofs.Batching.{length-joined}
-use Rattle.pb_hosts.proofs.Giving.{length-given}
+use Rattle.pb_state.proofs.FromHosts.{length-joined, length-given, length-first, Goes, goes_counts, turned_by_case, turned_hosts as length-turned}
 use Rattle.pb_state.proofs.Stands.{stands_at, start_stands}
-use Rattle.pb_hosts.proofs.FirstRows.{length-first}
 use Rattle.pb_state.proofs.Opening.{open_case, rows_case}
-use Rattle.pb_hosts.proofs.Turning.{Goes, goes_counts, turned_by_case, turned_hosts as length-turned}
 use Rattle.pb_lanes.specs.declared.kind.CountKind.{CountKind}
 use Rattle.pb_lanes.specs.declared.kind.CountKind.TheVariants.{Okay, Changed, Unreachable, Failed, Skipped, Rescued, Ignored}
 use Rattle.pb_recap.specs.Kinds.{count_of}

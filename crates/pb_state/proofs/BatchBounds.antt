@@ -12,7 +12,7 @@ use Rattle.pb_tree.specs.Answer.{AnswerOf}
 use Rattle.pb_tree.specs.declared.answer.Kind.{Kind}
 use Rattle.pb_tree.specs.Tree.{TreeOf, size_of}
 use Rattle.pb_tree.specs.Walk.{reach, one_halted, without_halted, is_halted}
-use Rattle.pb_items.specs.Loops.{max_items}
+use Rattle.pb_task_vars.specs.FromItems.{max_items}
 use Rattle.pb_host.specs.declared.host.Running.{Running}
 use Rattle.pb_hosts.specs.Batches.{has_batch_left, joins, room_behind, joined_first}
 use Rattle.pb_host.specs.Host.{HostOf, no_tree, first_rows, place_of, next_place, answered, as_play_begins, joined, left}

@@ -9,7 +9,7 @@ use Rattle.pb_ids.specs.declared.numbers.Ticket.{Ticket}
 use Rattle.pb_outcome.specs.declared.job.Report.{Report}
 use Rattle.pb_outcome.specs.declared.outcome.Form.{Form}
 use Rattle.pb_facts.specs.Facts.{FactsOf}
-use Rattle.pb_items.specs.Loops.{max_items}
+use Rattle.pb_task_vars.specs.FromItems.{max_items}
 use Rattle.pb_task_vars.specs.Results.{items_at}
 use Rattle.pb_task_vars.proofs.FewItems.{few_items}
 use Rattle.pb_host.specs.declared.step_result.StepResult.{StepResult}

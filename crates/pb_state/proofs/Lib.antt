@@ -29,3 +29,4 @@ pub mod HasJob
 pub mod Local
 pub mod Quiet
 pub mod Trails
+pub mod FromHosts

@@ -6,7 +6,7 @@ use Rattle.std.specs.Option.{option_map_or}
 use Rattle.std.proofs.lemmas.List.{map-append}
 use Rattle.pb_value.specs.Datum.{Datum}
 use Rattle.pb_facts.specs.Facts.{FactsOf}
-use Rattle.pb_conditions.specs.declared.attempt.Back.{Back}
+use Rattle.pb_independence.specs.FromConditions.{Back}
 use Rattle.pb_outcome.specs.Items.{next_item}
 use Rattle.pb_outcome.specs.declared.gather.ItemResult.{ItemResult}
 use Rattle.pb_outcome.specs.declared.item.Item.{Item}

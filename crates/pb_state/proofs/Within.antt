@@ -13,7 +13,7 @@ use Rattle.pb_inventory.specs.InventoryOf.{InventoryOf}
 use Rattle.pb_plan.specs.Plan.{PlayOf, PlanOf}
 use Rattle.pb_tree.specs.Tree.{size_of}
 use Rattle.pb_tree.specs.Walk.{one_halted}
-use Rattle.pb_items.specs.Loops.{max_items}
+use Rattle.pb_task_vars.specs.FromItems.{max_items}
 use Rattle.pb_host.specs.declared.step_result.TaskEnd.{TaskEnd}
 use Rattle.pb_host.specs.declared.host.Counts.{Counts}
 use Rattle.pb_host.specs.declared.host.LastTask.{LastTask}

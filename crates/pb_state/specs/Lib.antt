@@ -21,3 +21,6 @@ pub mod Over
 pub mod Local
 pub mod Through
 pub mod ThroughRows
+pub mod FromHost
+pub mod FromHosts
+pub mod FromTaskVars

@@ -4,7 +4,7 @@ use Rattle.std.specs.Option.{option_map_or}
 use Rattle.pb_ids.specs.declared.numbers.Ticket.{Ticket}
 use Rattle.pb_tree.specs.Tree.{size_of}
 use Rattle.pb_tree.specs.Walk.{one_halted}
-use Rattle.pb_items.specs.Loops.{max_items}
+use Rattle.pb_task_vars.specs.FromItems.{max_items}
 use Rattle.pb_host.specs.declared.host.Running.{Running}
 use Rattle.pb_plan.specs.Plan.{PlayOf, PlanOf}
 use Rattle.pb_hosts.specs.Batches.{has_batch_left}

@@ -2,7 +2,7 @@
 use Rattle.std.proofs.Common.{◌≡◌, ℕ, Bool, List, Option, sym, ◌∙◌}
 use Rattle.pb_value.specs.Datum.{Datum}
 use Rattle.pb_layers.specs.Scope.{Map}
-use Rattle.pb_conditions.specs.declared.attempt.Back.TheVariants.{Ends}
+use Rattle.pb_items.specs.FromConditions.{Ends}
 use Rattle.pb_items.specs.Items.{attempted_item}
 use Rattle.pb_outcome.specs.declared.gather.ItemResult.{ItemResult}
 use Rattle.pb_places.specs.Place.{PlaceOf}

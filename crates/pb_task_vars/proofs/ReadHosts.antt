@@ -9,7 +9,7 @@ use Rattle.std.proofs.lemmas.Map.Text.{is_eq-slice_cmp}
 use Rattle.pb_value.specs.Datum.{Datum}
 use Rattle.pb_facts.specs.Facts.{FactsOf}
 use Rattle.pb_layers.specs.Scope.{Map}
-use Rattle.pb_conditions.specs.declared.attempt.Back.TheVariants.{Ends}
+use Rattle.pb_items.specs.FromConditions.{Ends}
 use Rattle.pb_expr_syntax.specs.Tree.{Tree}
 use Rattle.pb_items.specs.Items.{StartOf, items_of, attempted_item}
 use Rattle.pb_play.specs.declared.task.Task.{Task}

@@ -7,3 +7,7 @@ pub mod Results
 pub mod WithHostvars
 pub mod Unread
 pub mod HostVars
+pub mod FromItems
+pub mod FromPlaces
+pub mod FromPlan
+pub mod FromVariables

@@ -6,8 +6,7 @@ use Rattle.pb_facts.specs.Facts.{FactsOf, gathered_layer}
 use Rattle.pb_inventory.specs.Vars.{vars_from_groups, vars_of_host}
 use Rattle.pb_layers.specs.Scope.{Map, layers}
 use Rattle.pb_variables.specs.Magic.{host_magic}
-use Rattle.pb_conditions.specs.declared.attempt.Back.{Back}
-use Rattle.pb_conditions.specs.declared.attempt.Back.TheVariants.{Ends}
+use Rattle.pb_items.specs.FromConditions.{Back, Ends}
 use Rattle.pb_items.specs.Items.{StartOf, item_in, items_of, attempted_item}
 use Rattle.pb_items.specs.Loops.{values_of}
 use Rattle.pb_items.specs.Planning.{on_plain_texts}

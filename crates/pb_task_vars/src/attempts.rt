@@ -6,7 +6,7 @@ ghost use Rattle.pb_task_vars.specs.Results.{came_for, came_at};
 use crate::host_vars::HostVars;
 use crate::site::Site;
 use crate::task_vars::TaskVars;
-use pb_conditions::attempt::Back;
+use pb_items::Back;
 use pb_outcome::gather::ItemResult;
 use pb_places::Place;
 use pb_reach::reach::has_result_conditions;

@@ -23,6 +23,8 @@ pub mod site;
 mod task_vars;
 pub mod with_hostvars;
 
+pub use pb_plan::PlanPlay;
+
 /// What a task leaves that failed, be that ignored or not, or that was left out: what its host knows stays, but for the task's result
 /// under the name that it registers, and where the host was out of reach it stays as it is.
 #[tactic(auto, using(crate::proofs::FactsAfter::only_good_tasks_teach))]

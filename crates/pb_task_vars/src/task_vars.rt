@@ -13,9 +13,9 @@ ghost use Rattle.pb_task_vars.specs.Results.{start_of};
 
 use crate::host_vars::HostVars;
 use crate::with_hostvars::PlanWithHostvars;
-use pb_conditions::attempt::Back;
 use pb_facts::facts::Facts;
 use pb_ids::HostNo;
+use pb_items::Back;
 use pb_items::items::{attempted, items};
 use pb_items::start::Start;
 use pb_layers::layers::{Layers, Magic};

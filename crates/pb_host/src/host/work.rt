@@ -18,7 +18,7 @@ use pb_facts::update::{FactsUndo, FactsUpdate};
 use pb_ids::Ticket;
 use pb_inventory::inventory::Inventory;
 use pb_outcome::outcome::Outcome;
-use pb_plan::PlanPlay;
+use pb_task_vars::PlanPlay;
 use pb_task_vars::ends::Ended;
 use pb_task_vars::site::Site;
 use pb_task_vars::with_hostvars::PlanWithHostvars;

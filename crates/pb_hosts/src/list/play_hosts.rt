@@ -6,9 +6,8 @@ ghost use Rattle.pb_host.specs.Host.{is_play_host, as_play_begins};
 ghost use Rattle.pb_hosts.specs.Batches.{play_host_count};
 ghost use Rattle.pb_hosts.specs.Hosts.{first_play};
 
-use pb_host::Host;
+use pb_host::{Host, PlanPlay};
 use pb_ids::HostNo;
-use pb_plan::PlanPlay;
 use pb_planes::HostSet;
 use std::alloc::{AllocError, Global};
 

@@ -1,5 +1,5 @@
 use Rattle.std.proofs.Common.{◌∙◌, List, ap}
-use Rattle.pb_task_vars.specs.declared.gifts.DelegatedFacts.{DelegatedFacts}
+use Rattle.pb_host.specs.FromTaskVars.{DelegatedFacts}
 use Rattle.pb_hosts.specs.Giving.{with_delegated}
 use Rattle.pb_hosts.proofs.gifts.apply_gifts.Goals as goal
 

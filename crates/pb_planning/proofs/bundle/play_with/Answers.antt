@@ -1,5 +1,5 @@
 use Rattle.std.proofs.Common.{◌≤◌, ◌∙◌, List, ap, subst, sym}
-use Rattle.pb_places.specs.Place.{PlaceOf}
+use Rattle.pb_plan.specs.FromPlaces.{PlaceOf}
 use Rattle.pb_plan.specs.Hostvars.{AreFreePlaces}
 use Rattle.pb_tree.specs.Tree.{TreeOf, size_of}
 use Rattle.pb_planning.proofs.bundle.play_with.Goals as goal
