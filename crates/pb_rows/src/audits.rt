@@ -1,7 +1,8 @@
 //! Audits of trails that are cut at each byte, and of trails with the largest numbers and with larger ones.
 
+use crate::kept::Kept;
+use crate::seen::{Seen, play_texts};
 use crate::writers::INVENTORY;
-use pb_kept::{Kept, Seen, play_texts};
 use std::alloc::{AllocError, Global};
 use std::fs;
 use std::fs::Files;

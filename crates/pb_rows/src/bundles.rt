@@ -1,7 +1,8 @@
 //! The largest bundles that are taken, and those that are one larger.
 
+use crate::kept::Kept;
 use crate::made::{blocks, inventory, playbook};
-use pb_kept::{Kept, Seen, play_texts};
+use crate::seen::{Seen, play_texts};
 use std::fs;
 use std::fs::Files;
 use std::process::{Processes, SystemProcess};

@@ -3,8 +3,7 @@
 use crate::engines::{engine_of, is_over, report};
 use crate::events_text::events_text;
 use crate::trails::plan_on;
-use pb_driver::{Given, Silent, run_plain};
-use pb_engine::{Command, CommandFault, Engine, Lowest};
+use pb_driver::{Command, CommandFault, Engine, Given, Lowest, Silent, run_plain};
 use pb_runner::table::TableRunner;
 use std::alloc::Global;
 use std::test::Fail;

@@ -1,6 +1,7 @@
 //! Files that are cut short.
 
-use pb_kept::{Kept, play_texts};
+use crate::kept::Kept;
+use crate::seen::play_texts;
 use std::fs;
 use std::fs::Files;
 use std::process::{Processes, SystemProcess};

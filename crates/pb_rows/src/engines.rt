@@ -1,7 +1,7 @@
 //! Engines that go on as far as they can.
 
 use crate::trails::plan_on;
-use pb_engine::{Engine, Next, Picker};
+use pb_driver::{Engine, Next, Picker};
 use pb_ids::{HostNo, Ticket};
 use pb_outcome::job::Report;
 use pb_outcome::outcome::Outcome;

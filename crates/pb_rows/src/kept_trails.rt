@@ -1,8 +1,9 @@
 //! Trails of runs that fail, and trails that can't be written.
 
 use crate::audits::{audit, is_legal};
+use crate::kept::Kept;
+use crate::seen::{Seen, play_texts};
 use crate::writers::{INVENTORY, OUT, PLAYBOOK, has_failed};
-use pb_kept::{Kept, Seen, play_texts};
 use std::fs;
 use std::fs::Files;
 use std::process::{Processes, SystemProcess};

@@ -19,6 +19,8 @@ mod engines;
 #[cfg(test)]
 mod events_text;
 #[cfg(test)]
+mod kept;
+#[cfg(test)]
 mod kept_trails;
 #[cfg(test)]
 mod loops;
@@ -36,6 +38,8 @@ mod reports;
 mod roles;
 #[cfg(test)]
 mod same_ends;
+#[cfg(test)]
+mod seen;
 #[cfg(test)]
 mod small_writers;
 #[cfg(test)]

@@ -2,8 +2,7 @@
 
 use crate::events_text::events_text;
 use crate::trails::plan_of;
-use pb_driver::{Silent, run_plain};
-use pb_engine::Lowest;
+use pb_driver::{Lowest, Silent, run_plain};
 use pb_runner::table::TableRunner;
 use std::alloc::{AllocError, Global};
 use std::test::Fail;

@@ -1,7 +1,8 @@
 //! Files of many outcomes, and of the longest texts in them.
 
+use crate::kept::Kept;
 use crate::made::inventory;
-use pb_kept::{Kept, Seen, play_texts};
+use crate::seen::{Seen, play_texts};
 use std::alloc::{AllocError, Global};
 use std::fs;
 use std::fs::Files;

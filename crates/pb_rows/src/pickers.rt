@@ -1,9 +1,8 @@
 //! A failure that is fatal for all hosts, under any forks and by each picker.
 
+use crate::kept::Kept;
 use crate::trails::plan_on;
-use pb_driver::run_plain;
-use pb_engine::{Lowest, Picker, RoundRobin};
-use pb_kept::Kept;
+use pb_driver::{Lowest, Picker, RoundRobin, run_plain};
 use pb_runner::table::TableRunner;
 use std::alloc::Global;
 use std::test::Fail;

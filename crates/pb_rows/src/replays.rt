@@ -3,9 +3,8 @@
 use crate::engines::{engine_of, is_over, report};
 use crate::trails::plan_on;
 use pb_audit::{AuditFault, EventName, replay};
-use pb_engine::{Engine, Lowest};
+use pb_driver::{CountKind, Engine, Lowest, Recap};
 use pb_ids::PlayNo;
-use pb_recap::{CountKind, Recap};
 use std::alloc::Global;
 use std::test::Fail;
 

@@ -1,7 +1,7 @@
 //! Reports that are refused and handed back.
 
 use crate::trails::plan_of;
-use pb_engine::{Command, Engine, Lowest, Next, Refusal};
+use pb_driver::{Command, Engine, Lowest, Next, Refusal};
 use pb_ids::{HostNo, Ticket};
 use pb_outcome::job::Report;
 use pb_outcome::outcome::Outcome;

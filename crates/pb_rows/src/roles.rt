@@ -3,8 +3,10 @@
 ghost use Rattle.std.specs.Prelude.{◌≤◌};
 ghost use Rattle.pb_value.specs.Limits.{max_bytes};
 
+use crate::kept::Kept;
+use crate::seen::{Seen, play_texts};
 use crate::vanishing::Vanishing;
-use pb_kept::{Kept, Seen, play_texts, read_role_files};
+use pb_cli::role_files::read_role_files;
 use pb_roles::RoleFiles;
 use std::alloc::{AllocError, Global};
 use std::fs;

@@ -2,10 +2,10 @@
 
 ghost use Rattle.std.specs.Prelude.{None};
 
+use crate::kept::Kept;
 use crate::trails::plan_on;
 use pb_audit::trail_text;
 use pb_driver::{Failed, LineOut, Lowest, RunFault, run_plain};
-use pb_kept::Kept;
 use pb_runner::table::TableRunner;
 use std::alloc::Global;
 use std::test::Fail;

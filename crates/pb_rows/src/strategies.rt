@@ -2,7 +2,7 @@
 
 use crate::engines::{engine_of, is_over, report};
 use crate::events_text::events_text;
-use pb_engine::{Lowest, Picker, RoundRobin};
+use pb_driver::{Lowest, Picker, RoundRobin};
 use std::alloc::Global;
 use std::test::Fail;
 

@@ -1,7 +1,6 @@
 //! The events of runs, in their order.
 
-use pb_driver::{Ended, Silent, run_plain};
-use pb_engine::Lowest;
+use pb_driver::{Ended, Lowest, Silent, run_plain};
 use pb_ids::{HostNo, Ticket};
 use pb_roles::RoleFiles;
 use pb_runner::table::TableRunner;

@@ -1,6 +1,7 @@
 //! Writers that fail, and one that takes little.
 
-use pb_kept::{Kept, Seen, play_texts};
+use crate::kept::Kept;
+use crate::seen::{Seen, play_texts};
 use std::fs;
 use std::fs::Files;
 use std::process::{Processes, SystemProcess};

@@ -30,7 +30,7 @@ impl Drop for Seen {
 }
 
 /// Plays these words, the first of which is the program's name, with this writer as standard output.
-pub fn play_words<
+fn play_words<
     R: Files + AllocGlobal + Processes<Started = SystemProcess> + Clock + Threads + Wait + Sync,
 >(rt: &R, words: &[String], mut out: Kept) -> Result<Seen, AllocError> {
     let mut err = Kept::new(rt.alloc());
