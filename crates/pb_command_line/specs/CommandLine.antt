@@ -1,7 +1,7 @@
 -- What the words of the command line mean: `pb-play -i FILE [-f N] [-l PATTERN] [-e JSON] [--roles DIR] [--facts-program PATH] [--outcomes FILE] [--stop-after N] [--same-under M] [--failed FILE] [--trail FILE]
 -- [--audit TRAIL] [--syntax-check] [--list-hosts] [--strict] [--where] PLAYBOOK`, and `--help`.
 -- clap's own definitions say how words are read; the program's arguments are stated here. std's say how a number is read.
-use Rattle.std.specs.Prelude.{◌≡◌, ◌≢◌, ◌⊎◌, ◌≤◌, ℕ, Bool, true, false, List, [], Some, None, Option, codes}
+use Rattle.std.specs.Prelude.{◌≡◌, ◌≢◌, ◌⊎◌, ◌≤◌, ℕ, Bool, true, false, List, [], ◌∷◌, Some, None, Option, codes}
 use Rattle.std.specs.Str.{bytes_eq}
 use Rattle.std.specs.Str.Parse.{IsNumeral, digits_value, without_leading_plus}
 use Rattle.clap.specs.Words.{App, IsAmong, Kinds, Rule, Text, fault_of, first_of, matches_of, new_app, new_rule, with_rule}
@@ -85,32 +85,17 @@ strict = record (new_rule (codes "strict")) { long = Some (codes "strict"); acti
 abbrev pub places : Rule
 places = record (new_rule (codes "where")) { long = Some (codes "where"); action = Some SetTrue }
 
-abbrev pub file_program : App
-file_program = with_rule (with_rule (new_app (codes "pb-play")) inventory) playbook
+-- all of them, in the order of the help
+abbrev pub rules : List Rule
+rules = inventory ∷ playbook ∷ forks ∷ outcomes ∷ limit ∷ extra ∷ roles ∷ facts_program ∷ stop_after ∷ same_under ∷ failed ∷ trail ∷ audit ∷ syntax_check ∷ list_hosts ∷ strict ∷ places ∷ []
 
-abbrev pub run_program : App
-run_program = with_rule (with_rule file_program forks) outcomes
-
-abbrev pub limited_program : App
-limited_program = with_rule (with_rule run_program limit) extra
-
-abbrev pub gathering_program : App
-gathering_program = with_rule (with_rule limited_program roles) facts_program
-
-abbrev pub stopping_program : App
-stopping_program = with_rule (with_rule gathering_program stop_after) same_under
-
-abbrev pub recording_program : App
-recording_program = with_rule (with_rule stopping_program failed) trail
-
-abbrev pub choosing_program : App
-choosing_program = with_rule (with_rule recording_program audit) syntax_check
-
-abbrev pub warning_program : App
-warning_program = with_rule (with_rule choosing_program list_hosts) strict
+-- an app with more arguments, one after another
+abbrev pub with_rules : App → List Rule → App
+with_rules app [] = app
+with_rules app (rule ∷ more) = with_rules (with_rule app rule) more
 
 abbrev pub program : App
-program = with_rule warning_program places
+program = with_rules (new_app (codes "pb-play")) rules
 
 -- what the words, the first of which is the program's name, give an argument
 unfoldable pub value_in : Text → List Text → Option Text

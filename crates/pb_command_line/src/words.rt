@@ -1,11 +1,11 @@
 ghost use Rattle.pb_command_line.specs.declared.words.WordsFault.TheVariants.{Memory};
 ghost use Rattle.std.specs.Prelude.{◌≡◌, ◌⊎◌, None, IfOk, IfErr, OnOk, map, codes, string_bytes};
-ghost use Rattle.clap.specs.Words.{app_of, kind_of, found_of, first_value};
-ghost use Rattle.pb_command_line.specs.CommandLine.{file_program, run_program, limited_program, gathering_program, stopping_program, recording_program, choosing_program, warning_program, program, is_true, purpose_of, AreNumbers, texts_of, flags_of, request_of, AskFor, AreRefused, Asks, IsCount, IsNoCount, AreForks, NoForks, IsStop, NoStop, IsSameUnder, IsReportCount, IsNoReportCount, IsBadNumber, IsRefused, TellsKind};
+ghost use Rattle.clap.specs.Words.{kind_of, found_of, first_value};
+ghost use Rattle.pb_command_line.specs.CommandLine.{is_true, purpose_of, AreNumbers, texts_of, flags_of, request_of, AskFor, AreRefused, Asks, IsCount, IsNoCount, AreForks, NoForks, IsStop, NoStop, IsSameUnder, IsReportCount, IsNoReportCount, IsBadNumber, IsRefused, TellsKind};
 
 use crate::arguments;
 use clap::error::ErrorKind;
-use clap::{ArgMatches, Command, Error};
+use clap::{ArgMatches, Error};
 use pb_value::text::Text;
 use std::alloc::{AllocError, Global};
 
@@ -79,84 +79,6 @@ impl From<AllocError> for WordsFault {
     fn from(_e: AllocError) -> WordsFault {
         WordsFault::Memory
     }
-}
-
-/// The program with its files.
-fn file_words<'a>(alloc: Global) -> Result<Command<'a>, AllocError>
-    ensures { IfOk result (λ c. app_of c ≡ file_program) }
-{
-    Command::new(alloc, "pb-play")
-        .arg(arguments::inventory(alloc))?
-        .arg(arguments::playbook(alloc))
-}
-
-/// The program with its files and what a run takes.
-fn run_words<'a>(alloc: Global) -> Result<Command<'a>, AllocError>
-    ensures { IfOk result (λ c. app_of c ≡ run_program) }
-{
-    file_words(alloc)?
-        .arg(arguments::forks(alloc))?
-        .arg(arguments::outcomes(alloc))
-}
-
-/// The program with its files, what a run takes, the limit and the extra variables.
-fn limited_words<'a>(alloc: Global) -> Result<Command<'a>, AllocError>
-    ensures { IfOk result (λ c. app_of c ≡ limited_program) }
-{
-    run_words(alloc)?
-        .arg(arguments::limit(alloc))?
-        .arg(arguments::extra(alloc))
-}
-
-/// The program with its files, what a run takes, the limit, the extra variables, the roles and the facts program.
-fn gathering_words<'a>(alloc: Global) -> Result<Command<'a>, AllocError>
-    ensures { IfOk result (λ c. app_of c ≡ gathering_program) }
-{
-    limited_words(alloc)?
-        .arg(arguments::roles(alloc))?
-        .arg(arguments::facts_program(alloc))
-}
-
-/// The program with what stands above, after how many reports the run is stopped, and with how many forks it is done once more.
-fn stopping_words<'a>(alloc: Global) -> Result<Command<'a>, AllocError>
-    ensures { IfOk result (λ c. app_of c ≡ stopping_program) }
-{
-    gathering_words(alloc)?
-        .arg(arguments::stop_after(alloc))?
-        .arg(arguments::same_under(alloc))
-}
-
-/// The program with what stands above, and the files that are written once a run is over.
-fn recording_words<'a>(alloc: Global) -> Result<Command<'a>, AllocError>
-    ensures { IfOk result (λ c. app_of c ≡ recording_program) }
-{
-    stopping_words(alloc)?
-        .arg(arguments::failed(alloc))?
-        .arg(arguments::trail(alloc))
-}
-
-/// The program with all its arguments but the last three.
-fn choosing_words<'a>(alloc: Global) -> Result<Command<'a>, AllocError>
-    ensures { IfOk result (λ c. app_of c ≡ choosing_program) }
-{
-    recording_words(alloc)?
-        .arg(arguments::audit(alloc))?
-        .arg(arguments::syntax_check(alloc))
-}
-
-/// The program with all its arguments but the last one.
-fn warning_words<'a>(alloc: Global) -> Result<Command<'a>, AllocError>
-    ensures { IfOk result (λ c. app_of c ≡ warning_program) }
-{
-    choosing_words(alloc)?
-        .arg(arguments::list_hosts(alloc))?
-        .arg(arguments::strict(alloc))
-}
-
-fn command<'a>(alloc: Global) -> Result<Command<'a>, AllocError>
-    ensures { IfOk result (λ c. app_of c ≡ program) }
-{
-    warning_words(alloc)?.arg(arguments::places(alloc))
 }
 
 fn fault(alloc: Global, error: &Error) -> WordsFault
@@ -486,7 +408,7 @@ pub fn read_words(alloc: Global, words: &[String]) -> Result<Request, WordsFault
     ensures value { IfOk result (Asks (map string_bytes words.now)) }
     ensures fault { IfErr result (IsRefused (map string_bytes words.now)) }
 {
-    let command = command(alloc)?;
+    let command = arguments::command(alloc)?;
     match command.try_get_matches_from(words) {
         Ok(matches) => request_in(alloc, &matches),
         Err(error) => Err(fault(alloc, &error)),
