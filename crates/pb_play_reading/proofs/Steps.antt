@@ -6,21 +6,26 @@ use Rattle.pb_expr_syntax.specs.Tree.{Tree}
 use Rattle.pb_value.specs.Datum.{Datum}
 use Rattle.pb_value.specs.Reading.{and_then, map_ok}
 use Rattle.pb_reading.specs.Ahead.{Takes}
-use Rattle.pb_reading.specs.Fields.{Ahead, Part, Read, field_or, others, rule, value_of}
+use Rattle.pb_reading.specs.Fields.{Ahead, Part, Read, field, field_or, others, rule, value_of}
 use Rattle.pb_reading.specs.Reading.{Reading, Stops, Gives, each_of, required}
 use Rattle.pb_reading.specs.Simple.{text}
 use Rattle.pb_reading.specs.declared.stop.Stop.{Stop}
+use Rattle.pb_role_entries.specs.RoleEntries.{role_entry}
+use Rattle.pb_role_entries.specs.declared.entry.RoleEntry.{RoleEntry}
 use Rattle.pb_reading.specs.declared.stop.Stop.TheVariants as stop
 use Rattle.pb_written.specs.Conditions.{conditions}
-use Rattle.pb_written.specs.Simple.{switched}
+use Rattle.pb_written.specs.Simple.{switched, variable_name}
 use Rattle.pb_written.specs.Texts.{texts}
 use Rattle.pb_play_reading.specs.Arguments.{argument}
 use Rattle.pb_play_reading.specs.Assert.{said}
 use Rattle.pb_play_reading.specs.Handlers.{handler, rest_of_handler}
 use Rattle.pb_play_reading.specs.NoEffect.{has_no_effect, key, key_or}
-use Rattle.pb_play_reading.specs.Plays.{on_failure, before_hosts, tolerance, lists, after_hosts, play_over, rest_of_play}
+use Rattle.pb_play_reading.specs.NodeLists.{node_list}
+use Rattle.pb_play.specs.Nodes.{Written, Nothing}
+use Rattle.pb_play_reading.specs.Plays.{on_failure, before_hosts, tolerance, manner, lists, after_hosts, play_over, rest_of_play}
 use Rattle.pb_written.specs.Values.{template_value}
-use Rattle.pb_play_reading.specs.Tasks.{tells_of_task, looping, begun_task, module_at, last_of_task, rest_of_task}
+use Rattle.pb_play_reading.specs.Retrying.{tries}
+use Rattle.pb_play_reading.specs.Tasks.{tells_of_task, looping, middle, begun_task, module_at, last_of_task, rest_of_task}
 use Rattle.pb_play_reading.specs.Variables.{variables}
 use Rattle.pb_play_reading.specs.declared.assert.Said.{Said}
 use Rattle.pb_written.specs.declared.fault.LoadFault.{LoadFault}
@@ -33,10 +38,13 @@ use Rattle.pb_play_reading.specs.declared.other_keys.WithoutEffect.{WithoutEffec
 use Rattle.pb_play_reading.specs.declared.play.AfterHosts.{AfterHosts}
 use Rattle.pb_play_reading.specs.declared.play.BeforeHosts.{BeforeHosts}
 use Rattle.pb_play_reading.specs.declared.play.Lists.{Lists}
+use Rattle.pb_play_reading.specs.declared.play.Manner.{Manner}
 use Rattle.pb_play_reading.specs.declared.play.OnFailure.{OnFailure}
 use Rattle.pb_play_reading.specs.declared.play.Tolerance.{Tolerance}
 use Rattle.pb_play_reading.specs.declared.play.Play.{Play}
 use Rattle.pb_play_reading.specs.declared.task.Begun.{Begun}
+use Rattle.pb_play_reading.specs.declared.retrying.Tries.{Tries}
+use Rattle.pb_play_reading.specs.declared.task.Middle.{Middle}
 use Rattle.pb_play_reading.specs.declared.task.Modules.{Modules}
 use Rattle.pb_play.specs.declared.task.Task.{Task}
 use Rattle.pb_play_reading.specs.declared.task.Head.{Head}
@@ -70,6 +78,9 @@ behind_first : {S A B C : Type 0} (made : A → B → C) (first : Part S LoadFau
     → both_parts made first second a ≡ and_then (second b) (λ y. rule (Ok (made x y.value)) y.ahead)
 behind_first made first second a b x e = ap (λ r. and_then r (λ x. and_then (second x.ahead) (λ y. rule (Ok (made x.value y.value)) y.ahead))) e
 
+pub first_stops : {S A B C : Type 0} (made : A → B → C) (first : Part S LoadFault A) (second : Part S LoadFault B) (a : Ahead S) (s : Stop LoadFault) → Stops s (first a) → Stops s (both_parts made first second a)
+first_stops made first second a s stops = stops_then s (first a) (λ x. and_then (second x.ahead) (λ y. rule (Ok (made x.value y.value)) y.ahead)) stops
+
 pub second_stops : {S A B C : Type 0} (made : A → B → C) (first : Part S LoadFault A) (second : Part S LoadFault B) (a b : Ahead S) (x : A) (s : Stop LoadFault) → first a ≡ Ok (record { value = x; ahead = b })
     → Stops s (second b) → Stops s (both_parts made first second a)
 second_stops made first second a b x s e stops =
@@ -98,6 +109,66 @@ pub said_is : (a b d g : Ahead NoArguments) (fail_msg msg success_msg : Option D
     → argument (codes "msg") template_value b ≡ Ok (record { value = msg; ahead = d }) → argument (codes "success_msg") template_value d ≡ Ok (record { value = success_msg; ahead = g })
     → said a ≡ Ok (record { value = record { fail_msg = fail_msg; msg = msg; success_msg = success_msg }; ahead = g })
 said_is a b d g fail_msg msg success_msg e f h = behind_msg a b d fail_msg msg e f ∙ ap (λ r. and_then r (with_messages fail_msg msg)) h
+
+-- the lists of a play, part by part
+abbrev with_tasks : Written → Written → List RoleEntry → Manner → Read Written WithoutEffect → Reading (Read Lists WithoutEffect) LoadFault
+with_tasks post pre roles manner x = rule (Ok (record { post_tasks = post; pre_tasks = pre; roles = roles; manner = manner; tasks = x.value })) x.ahead
+
+abbrev with_manner : Written → Written → List RoleEntry → Read Manner WithoutEffect → Reading (Read Lists WithoutEffect) LoadFault
+with_manner post pre roles x = and_then (key_or (codes "tasks") node_list Nothing x.ahead) (with_tasks post pre roles x.value)
+
+abbrev with_roles : Written → Written → Read (List RoleEntry) WithoutEffect → Reading (Read Lists WithoutEffect) LoadFault
+with_roles post pre x = and_then (manner x.ahead) (with_manner post pre x.value)
+
+abbrev with_pre_tasks : Written → Read Written WithoutEffect → Reading (Read Lists WithoutEffect) LoadFault
+with_pre_tasks post x = and_then (key_or (codes "roles") (each_of role_entry) [] x.ahead) (with_roles post x.value)
+
+abbrev with_post_tasks : Read Written WithoutEffect → Reading (Read Lists WithoutEffect) LoadFault
+with_post_tasks x = and_then (key_or (codes "pre_tasks") node_list Nothing x.ahead) (with_pre_tasks x.value)
+
+behind_post_tasks : (a b : Ahead WithoutEffect) (post : Written) → key_or (codes "post_tasks") node_list Nothing a ≡ Ok (record { value = post; ahead = b })
+    → lists a ≡ and_then (key_or (codes "pre_tasks") node_list Nothing b) (with_pre_tasks post)
+behind_post_tasks a b post e = ap (λ r. and_then r with_post_tasks) e
+
+behind_pre_tasks : (a b d : Ahead WithoutEffect) (post pre : Written) → key_or (codes "post_tasks") node_list Nothing a ≡ Ok (record { value = post; ahead = b })
+    → key_or (codes "pre_tasks") node_list Nothing b ≡ Ok (record { value = pre; ahead = d }) → lists a ≡ and_then (key_or (codes "roles") (each_of role_entry) [] d) (with_roles post pre)
+behind_pre_tasks a b d post pre e f = behind_post_tasks a b post e ∙ ap (λ r. and_then r (with_pre_tasks post)) f
+
+behind_roles : (a b d g : Ahead WithoutEffect) (post pre : Written) (roles : List RoleEntry) → key_or (codes "post_tasks") node_list Nothing a ≡ Ok (record { value = post; ahead = b })
+    → key_or (codes "pre_tasks") node_list Nothing b ≡ Ok (record { value = pre; ahead = d }) → key_or (codes "roles") (each_of role_entry) [] d ≡ Ok (record { value = roles; ahead = g })
+    → lists a ≡ and_then (manner g) (with_manner post pre roles)
+behind_roles a b d g post pre roles e f h = behind_pre_tasks a b d post pre e f ∙ ap (λ r. and_then r (with_roles post pre)) h
+
+behind_manner : (a b d g k : Ahead WithoutEffect) (post pre : Written) (roles : List RoleEntry) (by : Manner) → key_or (codes "post_tasks") node_list Nothing a ≡ Ok (record { value = post; ahead = b })
+    → key_or (codes "pre_tasks") node_list Nothing b ≡ Ok (record { value = pre; ahead = d }) → key_or (codes "roles") (each_of role_entry) [] d ≡ Ok (record { value = roles; ahead = g })
+    → manner g ≡ Ok (record { value = by; ahead = k }) → lists a ≡ and_then (key_or (codes "tasks") node_list Nothing k) (with_tasks post pre roles by)
+behind_manner a b d g k post pre roles by e f h i = behind_roles a b d g post pre roles e f h ∙ ap (λ r. and_then r (with_manner post pre roles)) i
+
+pub pre_tasks_stop : (a b : Ahead WithoutEffect) (post : Written) (s : Stop LoadFault) → key_or (codes "post_tasks") node_list Nothing a ≡ Ok (record { value = post; ahead = b })
+    → Stops s (key_or (codes "pre_tasks") node_list Nothing b) → Stops s (lists a)
+pre_tasks_stop a b post s e stops = subst (Stops s) (sym (behind_post_tasks a b post e)) (stops_then s (key_or (codes "pre_tasks") node_list Nothing b) (with_pre_tasks post) stops)
+
+pub roles_stop : (a b d : Ahead WithoutEffect) (post pre : Written) (s : Stop LoadFault) → key_or (codes "post_tasks") node_list Nothing a ≡ Ok (record { value = post; ahead = b })
+    → key_or (codes "pre_tasks") node_list Nothing b ≡ Ok (record { value = pre; ahead = d }) → Stops s (key_or (codes "roles") (each_of role_entry) [] d) → Stops s (lists a)
+roles_stop a b d post pre s e f stops =
+    subst (Stops s) (sym (behind_pre_tasks a b d post pre e f)) (stops_then s (key_or (codes "roles") (each_of role_entry) [] d) (with_roles post pre) stops)
+
+pub manner_stops : (a b d g : Ahead WithoutEffect) (post pre : Written) (roles : List RoleEntry) (s : Stop LoadFault) → key_or (codes "post_tasks") node_list Nothing a ≡ Ok (record { value = post; ahead = b })
+    → key_or (codes "pre_tasks") node_list Nothing b ≡ Ok (record { value = pre; ahead = d }) → key_or (codes "roles") (each_of role_entry) [] d ≡ Ok (record { value = roles; ahead = g })
+    → Stops s (manner g) → Stops s (lists a)
+manner_stops a b d g post pre roles s e f h stops = subst (Stops s) (sym (behind_roles a b d g post pre roles e f h)) (stops_then s (manner g) (with_manner post pre roles) stops)
+
+pub tasks_stop : (a b d g k : Ahead WithoutEffect) (post pre : Written) (roles : List RoleEntry) (by : Manner) (s : Stop LoadFault) → key_or (codes "post_tasks") node_list Nothing a ≡ Ok (record { value = post; ahead = b })
+    → key_or (codes "pre_tasks") node_list Nothing b ≡ Ok (record { value = pre; ahead = d }) → key_or (codes "roles") (each_of role_entry) [] d ≡ Ok (record { value = roles; ahead = g })
+    → manner g ≡ Ok (record { value = by; ahead = k }) → Stops s (key_or (codes "tasks") node_list Nothing k) → Stops s (lists a)
+tasks_stop a b d g k post pre roles by s e f h i stops =
+    subst (Stops s) (sym (behind_manner a b d g k post pre roles by e f h i)) (stops_then s (key_or (codes "tasks") node_list Nothing k) (with_tasks post pre roles by) stops)
+
+pub lists_are : (a b d g k m : Ahead WithoutEffect) (post pre tasks : Written) (roles : List RoleEntry) (by : Manner) → key_or (codes "post_tasks") node_list Nothing a ≡ Ok (record { value = post; ahead = b })
+    → key_or (codes "pre_tasks") node_list Nothing b ≡ Ok (record { value = pre; ahead = d }) → key_or (codes "roles") (each_of role_entry) [] d ≡ Ok (record { value = roles; ahead = g })
+    → manner g ≡ Ok (record { value = by; ahead = k }) → key_or (codes "tasks") node_list Nothing k ≡ Ok (record { value = tasks; ahead = m })
+    → lists a ≡ Ok (record { value = record { post_tasks = post; pre_tasks = pre; roles = roles; manner = by; tasks = tasks }; ahead = m })
+lists_are a b d g k m post pre tasks roles by e f h i j = behind_manner a b d g k post pre roles by e f h i ∙ ap (λ r. and_then r (with_tasks post pre roles by)) j
 
 -- what a play says in front of its hosts, behind what comes of a failure
 abbrev with_handlers : OnFailure → Bool → Read (List Handler) WithoutEffect → Reading (Read BeforeHosts WithoutEffect) LoadFault
@@ -217,6 +288,52 @@ pub stops_made : {A B : Type 0} (s : Stop LoadFault) (f : A → B) (r : Reading 
 stops_made stop.Memory f r stops = stops
 stops_made (stop.WrongShape path) f r stops = ap (map_ok f) stops
 stops_made (stop.Fault fault) f r stops = ap (map_ok f) stops
+
+-- what a task's keys between `loop_control` and `vars` say, part by part
+abbrev with_tries : Option (List ℕ) → List (List ℕ) → Option (List ℕ) → Read Tries Modules → Reading (Read Middle Modules) LoadFault
+with_tries name notify register x = rule (Ok (record { name = name; notify = notify; register = register; tries = x.value })) x.ahead
+
+abbrev with_register : Option (List ℕ) → List (List ℕ) → Read (Option (List ℕ)) Modules → Reading (Read Middle Modules) LoadFault
+with_register name notify x = and_then (tries tells_of_task x.ahead) (with_tries name notify x.value)
+
+abbrev with_topics : Option (List ℕ) → Read (List (List ℕ)) Modules → Reading (Read Middle Modules) LoadFault
+with_topics name x = and_then (field tells_of_task (codes "register") variable_name x.ahead) (with_register name x.value)
+
+abbrev with_task_name : Read (Option (List ℕ)) Modules → Reading (Read Middle Modules) LoadFault
+with_task_name x = and_then (field_or tells_of_task (codes "notify") texts [] x.ahead) (with_topics x.value)
+
+behind_task_name : (a b : Ahead Modules) (name : Option (List ℕ)) → field tells_of_task (codes "name") text a ≡ Ok (record { value = name; ahead = b }) → middle a ≡ and_then (field_or tells_of_task (codes "notify") texts [] b) (with_topics name)
+behind_task_name a b name e = ap (λ r. and_then r with_task_name) e
+
+behind_topics : (a b d : Ahead Modules) (name : Option (List ℕ)) (notify : List (List ℕ)) → field tells_of_task (codes "name") text a ≡ Ok (record { value = name; ahead = b })
+    → field_or tells_of_task (codes "notify") texts [] b ≡ Ok (record { value = notify; ahead = d }) → middle a ≡ and_then (field tells_of_task (codes "register") variable_name d) (with_register name notify)
+behind_topics a b d name notify e f = behind_task_name a b name e ∙ ap (λ r. and_then r (with_topics name)) f
+
+behind_register : (a b d g : Ahead Modules) (name : Option (List ℕ)) (notify : List (List ℕ)) (register : Option (List ℕ)) → field tells_of_task (codes "name") text a ≡ Ok (record { value = name; ahead = b })
+    → field_or tells_of_task (codes "notify") texts [] b ≡ Ok (record { value = notify; ahead = d }) → field tells_of_task (codes "register") variable_name d ≡ Ok (record { value = register; ahead = g })
+    → middle a ≡ and_then (tries tells_of_task g) (with_tries name notify register)
+behind_register a b d g name notify register e f h = behind_topics a b d name notify e f ∙ ap (λ r. and_then r (with_register name notify)) h
+
+pub topics_stop : (a b : Ahead Modules) (name : Option (List ℕ)) (s : Stop LoadFault) → field tells_of_task (codes "name") text a ≡ Ok (record { value = name; ahead = b })
+    → Stops s (field_or tells_of_task (codes "notify") texts [] b) → Stops s (middle a)
+topics_stop a b name s e stops = subst (Stops s) (sym (behind_task_name a b name e)) (stops_then s (field_or tells_of_task (codes "notify") texts [] b) (with_topics name) stops)
+
+pub register_stops : (a b d : Ahead Modules) (name : Option (List ℕ)) (notify : List (List ℕ)) (s : Stop LoadFault) → field tells_of_task (codes "name") text a ≡ Ok (record { value = name; ahead = b })
+    → field_or tells_of_task (codes "notify") texts [] b ≡ Ok (record { value = notify; ahead = d }) → Stops s (field tells_of_task (codes "register") variable_name d) → Stops s (middle a)
+register_stops a b d name notify s e f stops =
+    subst (Stops s) (sym (behind_topics a b d name notify e f)) (stops_then s (field tells_of_task (codes "register") variable_name d) (with_register name notify) stops)
+
+pub tries_stop : (a b d g : Ahead Modules) (name : Option (List ℕ)) (notify : List (List ℕ)) (register : Option (List ℕ)) (s : Stop LoadFault) → field tells_of_task (codes "name") text a ≡ Ok (record { value = name; ahead = b })
+    → field_or tells_of_task (codes "notify") texts [] b ≡ Ok (record { value = notify; ahead = d }) → field tells_of_task (codes "register") variable_name d ≡ Ok (record { value = register; ahead = g })
+    → Stops s (tries tells_of_task g) → Stops s (middle a)
+tries_stop a b d g name notify register s e f h stops =
+    subst (Stops s) (sym (behind_register a b d g name notify register e f h)) (stops_then s (tries tells_of_task g) (with_tries name notify register) stops)
+
+pub middle_is : (a b d g k : Ahead Modules) (name : Option (List ℕ)) (notify : List (List ℕ)) (register : Option (List ℕ)) (tried : Tries) → field tells_of_task (codes "name") text a ≡ Ok (record { value = name; ahead = b })
+    → field_or tells_of_task (codes "notify") texts [] b ≡ Ok (record { value = notify; ahead = d }) → field tells_of_task (codes "register") variable_name d ≡ Ok (record { value = register; ahead = g })
+    → tries tells_of_task g ≡ Ok (record { value = tried; ahead = k })
+    → middle a ≡ Ok (record { value = record { name = name; notify = notify; register = register; tries = tried }; ahead = k })
+middle_is a b d g k name notify register tried e f h i = behind_register a b d g name notify register e f h ∙ ap (λ r. and_then r (with_tries name notify register)) i
 
 -- a task behind its keys up to `until`
 abbrev called_by : Begun → List (List ℕ × Datum) → List Tree → Module → Task

@@ -17,19 +17,16 @@ fn gathering_task(alloc: Global) -> Result<Task, AllocError>
 }
 
 /// The first nodes of a play: where it gathers facts, it begins with that.
-pub(crate) fn begun(
+pub(crate) fn begin(
     alloc: Global,
     gathers: bool,
-    pre_tasks: NodeList,
-) -> Result<NodeList, AllocError>
-    ensures { IfOk result (λ nodes. nodes ≡ begun gathers pre_tasks) }
+    pre_tasks: &mut NodeList,
+) -> Result<(), AllocError>
+    ensures { IfOk result (λ _. pre_tasks.new ≡ begun gathers pre_tasks.old) }
 {
-    if !gathers {
-        return Ok(pre_tasks);
+    if gathers {
+        let first = gathering_task(alloc)?;
+        pre_tasks.nodes.insert(0, Node::Task(first))?;
     }
-    let first = gathering_task(alloc)?;
-    let NodeList { nodes } = pre_tasks;
-    let mut nodes = nodes;
-    nodes.insert(0, Node::Task(first))?;
-    Ok(NodeList { nodes })
+    Ok(())
 }

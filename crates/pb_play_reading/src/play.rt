@@ -1,4 +1,4 @@
-ghost use Rattle.std.specs.Prelude.{◌≡◌, IfOk, option_map, codes};
+ghost use Rattle.std.specs.Prelude.{◌≡◌, option_map, codes};
 ghost use Rattle.serde_json.specs.Data as json;
 ghost use Rattle.serde_json.specs.View.{view, members_view};
 ghost use Rattle.pb_value.specs.Reading.{below, map_ok};
@@ -7,10 +7,13 @@ ghost use Rattle.pb_reading.specs.Fields.{optional, value_of};
 ghost use Rattle.pb_reading.specs.Reading.{Gives, required};
 ghost use Rattle.pb_play_reading.specs.Refusals.{GivesOf};
 ghost use Rattle.pb_play_reading.specs.Hosts.{hosts};
+ghost use Rattle.pb_play_reading.specs.NodeLists.{node_list};
+ghost use Rattle.pb_play_reading.specs.NoEffect.{key_or};
+ghost use Rattle.pb_play.specs.Nodes.{Nothing};
 ghost use Rattle.pb_play_reading.specs.Plays.{on_failure, before_hosts, tolerance, manner, play_of, lists, after_hosts, play_over, rest_of_play, play, expressions_at, expressions_of_play};
 
 use crate::batches::Sizes;
-use crate::gathering::begun;
+use crate::gathering::begin;
 use crate::handlers::{Handler, OneHandler};
 use crate::hosts::{PlayHosts, read_hosts};
 use crate::nodes::{TaskList, no_nodes};
@@ -35,7 +38,7 @@ use pb_written::fault::LoadFault;
 use pb_written::simple::Switch;
 use pb_written::values::TemplateValue;
 use serde_json::{Map, Value};
-use std::alloc::{AllocError, Global};
+use std::alloc::Global;
 
 /// A play of a playbook.
 #[derive(Drop)]
@@ -207,17 +210,16 @@ impl Drop for Lists {
 }
 
 impl Lists {
-    /// The play that has them.
+    /// The play that has them, as they are.
     fn of(
         self,
-        alloc: Global,
         before: BeforeHosts,
         name: Text,
         hosts: Pattern,
         vars: Dict,
         tolerance: Tolerance,
-    ) -> Result<Play, AllocError>
-        ensures { IfOk result (λ play. play ≡ play_of before name hosts vars tolerance self) }
+    ) -> Play
+        ensures { result ≡ record (play_of before name hosts vars tolerance self) { pre_tasks = self.pre_tasks } }
     {
         let Lists {
             post_tasks,
@@ -229,7 +231,7 @@ impl Lists {
         let Manner { serial, strategy } = manner;
         let BeforeHosts {
             on_failure,
-            gathers,
+            gathers: _,
             handlers,
         } = before;
         let OnFailure {
@@ -240,8 +242,7 @@ impl Lists {
             ignore_errors,
             max_fail_percentage,
         } = tolerance;
-        let pre_tasks = begun(alloc, gathers, pre_tasks)?;
-        Ok(Play {
+        Play {
             name,
             hosts,
             vars,
@@ -256,19 +257,31 @@ impl Lists {
             force_handlers,
             strategy,
             serial,
-        })
+        }
     }
+}
+
+/// The nodes at a key of a play: none where it doesn't stand there.
+fn read_tasks(
+    alloc: Global,
+    keys: &mut Keys<'_, WithoutEffect>,
+    key: &str,
+) -> Result<NodeList, Stop<LoadFault>>
+    ensures value { Takes (λ v. v) result (ahead keys.new) (key_or key.now node_list Nothing (ahead keys.old)) }
+    ensures path { (ahead keys.new).path ≡ (ahead keys.old).path }
+{
+    keys.field_or::<TaskList>(alloc, key, no_nodes(alloc))
 }
 
 fn read_lists(alloc: Global, keys: &mut Keys<'_, WithoutEffect>) -> Result<Lists, Stop<LoadFault>>
     ensures value { Takes (λ v. v) result (ahead keys.new) (lists (ahead keys.old)) }
     ensures path { (ahead keys.new).path ≡ (ahead keys.old).path }
 {
-    let post_tasks = keys.field_or::<TaskList>(alloc, "post_tasks", no_nodes(alloc))?;
-    let pre_tasks = keys.field_or::<TaskList>(alloc, "pre_tasks", no_nodes(alloc))?;
+    let post_tasks = read_tasks(alloc, keys, "post_tasks")?;
+    let pre_tasks = read_tasks(alloc, keys, "pre_tasks")?;
     let roles = keys.field_or::<Each<OneRoleEntry>>(alloc, "roles", Items::new(alloc))?;
     let manner = read_manner(alloc, keys)?;
-    let tasks = keys.field_or::<TaskList>(alloc, "tasks", no_nodes(alloc))?;
+    let tasks = read_tasks(alloc, keys, "tasks")?;
     Ok(Lists {
         post_tasks,
         pre_tasks,
@@ -298,15 +311,9 @@ impl Drop for AfterHosts {
 }
 
 impl AfterHosts {
-    /// The play over these hosts.
-    fn over(
-        self,
-        alloc: Global,
-        before: BeforeHosts,
-        hosts: PlayHosts,
-        vars: Dict,
-    ) -> Result<Play, AllocError>
-        ensures { IfOk result (λ play. play ≡ play_over before self vars hosts) }
+    /// The play over these hosts, with the lists as they are.
+    fn over(self, before: BeforeHosts, hosts: PlayHosts, vars: Dict) -> Play
+        ensures { result ≡ record (play_over before self vars hosts) { pre_tasks = self.lists.pre_tasks } }
     {
         let AfterHosts {
             tolerance,
@@ -314,14 +321,7 @@ impl AfterHosts {
             lists,
         } = self;
         let PlayHosts { text, pattern } = hosts;
-        lists.of(
-            alloc,
-            before,
-            name.unwrap_or(text),
-            pattern,
-            vars,
-            tolerance,
-        )
+        lists.of(before, name.unwrap_or(text), pattern, vars, tolerance)
     }
 }
 
@@ -380,7 +380,9 @@ impl UpToHosts {
     {
         let UpToHosts { before, hosts } = self;
         let hosts = required(path, hosts)?;
-        Ok(after.over(alloc, before, hosts, vars)?)
+        let mut after = after;
+        begin(alloc, before.gathers, &mut after.lists.pre_tasks)?;
+        Ok(after.over(before, hosts, vars))
     }
 }
 

@@ -1,4 +1,4 @@
-ghost use Rattle.std.specs.Prelude.{◌≡◌, true, false, IfOk, unwrap_or};
+ghost use Rattle.std.specs.Prelude.{◌≡◌, true, false, Ok, IfOk, unwrap_or};
 ghost use Rattle.serde_json.specs.Data as json;
 ghost use Rattle.serde_json.specs.View.{view, members_view};
 ghost use Rattle.pb_reading.specs.Ahead.{ahead, Takes};
@@ -249,8 +249,8 @@ impl Begun {
         vars: Dict,
         module: Module,
         conditions: Items<Expr>,
-    ) -> Result<Task, AllocError>
-        ensures { IfOk result (λ task. task ≡ begun_task self vars «module» conditions) }
+    ) -> Result<Task, Stop<LoadFault>>
+        ensures { Gives result (Ok (begun_task self vars «module» conditions)) }
     {
         let Begun {
             head,
@@ -419,7 +419,7 @@ fn read_last(
     let vars = keys.field_or::<EachNamed<TemplateValue>>(alloc, "vars", Dict::new(alloc))?;
     let conditions = keys.field_or::<Conditions>(alloc, "when", Items::new(alloc))?;
     let module = read_module(alloc, keys, path, &begun.middle.tries)?;
-    Ok(begun.of(alloc, vars, module, conditions)?)
+    begun.of(alloc, vars, module, conditions)
 }
 
 /// The module that the task at the path calls, as its other keys tell.

@@ -5,8 +5,14 @@ use Rattle.pb_written.specs.Simple.{switched}
 use Rattle.pb_written.specs.Conditions.{conditions}
 use Rattle.pb_play_reading.specs.Tasks.{key}
 use Rattle.pb_play_reading.specs.declared.task.Failing.{Failing}
-use Rattle.pb_play_reading.proofs.Steps.{part_stopped, second_stops, both_are}
+use Rattle.pb_play_reading.proofs.Steps.{part_stopped, first_stops, second_stops, both_are}
 use Rattle.pb_play_reading.proofs.task.read_failing.Goals as goal
+
+pub returns-in_err-failed_when-clause-value : goal.returns-in_err-failed_when-clause-value
+returns-in_err-failed_when-clause-value c =
+    part_stopped _ c.in_err-failed_when.field-0.0 _ _ c.from_residual.ensures.1
+    (first_stops {C = Failing} (λ failed ignored. record { failed_when = failed; ignore_errors = ignored }) (key (codes "failed_when") conditions) (key (codes "ignore_errors") switched)
+    (ahead c.args.keys.now) c.in_err-failed_when.field-0.0 c.in_err-failed_when.ensures.value)
 
 pub returns-in_err-ignore_errors-clause-value : goal.returns-in_err-ignore_errors-clause-value
 returns-in_err-ignore_errors-clause-value c =

@@ -11,4 +11,6 @@ returns-in_err-hosts c =
     (stops_made c.in_err-hosts.field-0.0 (play_over c.args.self.before c.args.after c.args.vars) (required c.args.path.now c.args.self.hosts) c.in_err-hosts.ensures)
 
 pub returns : goal.returns
-returns c = ap (map_ok (play_over c.args.self.before c.args.after c.args.vars)) c.in_ok-hosts.ensures ∙ ap Ok (sym c.in_ok-over.ensures)
+returns c =
+    ap (map_ok (play_over c.args.self.before c.args.after c.args.vars)) c.in_ok-hosts.ensures
+    ∙ ap Ok (sym (c.over.ensures ∙ ap (λ first. record (play_over c.args.self.before c.args.after c.args.vars c.in_ok-hosts.hosts) { pre_tasks = first }) c.in_ok-begin.ensures))
