@@ -1,7 +1,9 @@
 ghost use Rattle.std.specs.Prelude.{◌≡◌};
+ghost use Rattle.std.specs.List.{list_any};
+ghost use Rattle.std.specs.Str.{bytes_eq};
 ghost use Rattle.serde_json.specs.View.{view};
 ghost use Rattle.pb_reading.specs.Reading.{Gives};
-ghost use Rattle.pb_role_entries.specs.Keys.{is_of_user, is_of_connection, is_of_running, is_of_tasks, is_refused, one_more_param, tags, asked};
+ghost use Rattle.pb_role_entries.specs.Keys.{is_refused, one_more_param, tags, asked};
 
 use pb_expr_syntax::tree::Expr;
 use pb_reading::keys::Others;
@@ -17,57 +19,55 @@ use pb_written::values::{PlainValue, TemplateValue};
 use serde_json::Value;
 use std::alloc::Global;
 
-/// Whether the key says as whom tasks run.
-fn is_of_user(key: &str) -> bool
-    ensures { result ≡ is_of_user key.now }
-{
-    key == "become"
-        || key == "become_exe"
-        || key == "become_flags"
-        || key == "become_method"
-        || key == "become_user"
-}
+/// The keys that mean something else in Ansible than a parameter.
+const REFUSED: [&str; 24] = [
+    // as whom tasks run
+    "become",
+    "become_exe",
+    "become_flags",
+    "become_method",
+    "become_user",
+    // how a host is reached
+    "connection",
+    "port",
+    "timeout",
+    // in what way tasks run
+    "async",
+    "check_mode",
+    "collections",
+    "debugger",
+    "diff",
+    "environment",
+    "module_defaults",
+    "no_log",
+    "poll",
+    // what tasks, blocks or plays may have, and entries don't hand down
+    "any_errors_fatal",
+    "delegate_facts",
+    "delegate_to",
+    "ignore_errors",
+    "ignore_unreachable",
+    "run_once",
+    "throttle",
+];
 
-/// Whether the key says how a host is reached.
-fn is_of_connection(key: &str) -> bool
-    ensures { result ≡ is_of_connection key.now }
+/// Whether the key is one of these words.
+fn is_among(key: &str, words: &[&str]) -> bool
+    ensures { result ≡ list_any (λ word. bytes_eq key.now word.now) words.now }
 {
-    key == "connection" || key == "port" || key == "timeout"
-}
-
-/// Whether the key says in what way tasks run.
-fn is_of_running(key: &str) -> bool
-    ensures { result ≡ is_of_running key.now }
-{
-    key == "async"
-        || key == "check_mode"
-        || key == "collections"
-        || key == "debugger"
-        || key == "diff"
-        || key == "environment"
-        || key == "module_defaults"
-        || key == "no_log"
-        || key == "poll"
-}
-
-/// Whether the key is one that tasks, blocks or plays may have, and that entries don't hand down.
-fn is_of_tasks(key: &str) -> bool
-    ensures { result ≡ is_of_tasks key.now }
-{
-    key == "any_errors_fatal"
-        || key == "delegate_facts"
-        || key == "delegate_to"
-        || key == "ignore_errors"
-        || key == "ignore_unreachable"
-        || key == "run_once"
-        || key == "throttle"
+    for word in words {
+        if key == *word {
+            return true;
+        }
+    }
+    false
 }
 
 /// Whether a key of an entry is refused: it means something else in Ansible than a parameter.
 fn is_refused(key: &str) -> bool
     ensures { result ≡ is_refused key.now }
 {
-    is_of_user(key) || is_of_connection(key) || is_of_running(key) || is_of_tasks(key)
+    is_among(key, &REFUSED)
 }
 
 /// The parameters that an entry gives its role: its keys that mean nothing else.
