@@ -9,6 +9,8 @@ use Rattle.pb_value.specs.Reading.{and_then}
 use Rattle.pb_inventory.specs.InventoryOf.{InventoryOf}
 use Rattle.pb_inventory.specs.Reading.{inventory_of}
 use Rattle.pb_layers.specs.Scope.{Map}
+use Rattle.pb_variables.specs.Magic.{play_magic}
+use Rattle.pb_tree.specs.Tree.{TreeOf}
 use Rattle.pb_patterns.specs.Expressions.{AreTaken, IsFirstFault}
 use Rattle.pb_patterns.specs.Reading.{pattern_of, expressions_of}
 use Rattle.pb_patterns.proofs.Firsts.{made_of}
@@ -41,11 +43,13 @@ one_more inventory limit all rest play planned p lines more before is later othe
     rw (append_assoc planned (p ∷ []) later, append_assoc lines more others) (before (p ∷ later) (more ++ others) (more, others, is, are, refl))
 
 -- a play has the hosts that both select, and its lines
-pub play_planned : (inventory : InventoryOf) (limit : List Bool) (play : Expanded) (own : Selected) (hosts : List Bool) (planned : PlayOf) (names before after : List (List ℕ))
-    → IsSelection inventory play.hosts own → hosts ≡ both own.hosts limit → planned ≡ play_with inventory hosts play → names ≡ own.unmatched → after ≡ before ++ lines_of_play names play
+pub play_planned : (inventory : InventoryOf) (limit : List Bool) (play : Expanded) (hosts : List Bool) (tree : TreeOf) (magic : Map) (planned : PlayOf) (before after : List (List ℕ))
+    → ((own : Selected) × IsSelection inventory play.hosts own × (hosts ≡ both own.hosts limit) × (after ≡ before ++ lines_of_play own.unmatched play))
+    → tree ≡ play.tree → magic ≡ play_magic inventory hosts → planned ≡ record (play_with inventory hosts play) { tree = tree; magic = magic }
     → (more : List (List ℕ)) × IsPlayOf inventory limit play planned more × (after ≡ before ++ more)
-play_planned inventory limit play own hosts planned names before after selects are is named put =
-    (lines_of_play own.unmatched play, (own, selects, is ∙ ap (λ (h : List Bool). play_with inventory h play) are, refl), put ∙ ap (λ (ns : List (List ℕ)). before ++ lines_of_play ns play) named)
+play_planned inventory limit play hosts tree magic planned before after (own, selects, are, put) laid made is =
+    let with_hosts : planned ≡ play_with inventory hosts play = is ∙ rw (laid, made) refl in
+    (lines_of_play own.unmatched play, (own, selects, with_hosts ∙ ap (λ (h : List Bool). play_with inventory h play) are, refl), put)
 
 -- the next play is planned
 pub next_planned : (inventory : InventoryOf) (limit : List Bool) (all old rest : List Expanded) (play : Expanded) (planned built : List PlayOf) (p : PlayOf) (first before after : List (List ℕ))
@@ -60,12 +64,12 @@ next_planned inventory limit all old rest play planned built p first before afte
   more ∙ ap (λ t. t ++ n) is ∙ append_assoc first m n,
 )
 
-pub all_planned : (inventory : InventoryOf) (limit : List Bool) (all rest : List Expanded) (planned built : List PlayOf) (first lines : List (List ℕ))
-    → rest ≡ [] → built ≡ planned → ((more : List (List ℕ)) × ArePlannedTo inventory limit all rest planned more × (lines ≡ first ++ more))
-    → (more : List (List ℕ)) × ArePlaysOf inventory limit all built more × (lines ≡ first ++ more)
-all_planned inventory limit all rest planned built first lines none same (m, are, is) =
+pub all_planned : (inventory : InventoryOf) (limit : List Bool) (all rest : List Expanded) (planned : List PlayOf) (first lines : List (List ℕ))
+    → rest ≡ [] → ((more : List (List ℕ)) × ArePlannedTo inventory limit all rest planned more × (lines ≡ first ++ more))
+    → (more : List (List ℕ)) × ArePlaysOf inventory limit all planned more × (lines ≡ first ++ more)
+all_planned inventory limit all rest planned first lines none (m, are, is) =
     let whole : ArePlaysOf inventory limit all (planned ++ []) (m ++ []) = are [] [] (subst (λ r. ArePlaysOf inventory limit r [] []) (sym none) refl) in
-    (m, subst (λ b. ArePlaysOf inventory limit all b m) (sym same) (rw (← append-nil planned, ← append-nil m) whole), is)
+    (m, rw (← append-nil planned, ← append-nil m) whole, is)
 
 pub rest_built : (old rest : List Expanded) (play : Expanded) → old ≡ play ∷ rest → All IsBuilt old → All IsBuilt rest
 rest_built old rest play steps built = All-tail IsBuilt play rest (subst (All IsBuilt) steps built)

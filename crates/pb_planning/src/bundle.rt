@@ -1,32 +1,19 @@
 //! What a run is made of, and its plan.
 
-ghost use Rattle.std.specs.Prelude.{◌≡◌, ◌<◌, ◌≤◌, ◌+◌, length, nat_lt, IfOk, IfErr, IfSome, IfNone};
-ghost use Rattle.pb_flat.specs.Deep.{always_depth};
-ghost use Rattle.pb_planning.specs.Bundle.{play_with, bundle_bytes, bytes_in, role_bytes};
-ghost use Rattle.pb_roles.specs.Plays.{IsBuilt};
+ghost use Rattle.std.specs.Prelude.{◌≡◌, ◌<◌, ◌+◌, nat_lt, IfSome, IfNone};
+ghost use Rattle.pb_planning.specs.Bundle.{bundle_bytes, bytes_in, role_bytes};
 ghost use Rattle.pb_value.specs.Limits.{max_bytes};
 
-use pb_cursors::LaidTree;
-use pb_flat::FlatFault;
 use pb_inventory::fault::InvFault;
-use pb_inventory::inventory::Inventory;
-use pb_outcome::judge::ran_names;
-use pb_outcome::result_names::ResultNames;
 use pb_patterns::fault::PatFault;
-use pb_plan::hostvars::free_places;
-use pb_plan::parts::{AtPlaces, PlayHead, run_once_of, throttles_of};
-use pb_plan::plan::PlanPlay;
-use pb_planes::HostSet;
-use pb_roles::{Expanded, RoleFault, RoleFile, RoleFiles};
-use pb_tree::PlayTree;
+use pb_roles::{RoleFault, RoleFile, RoleFiles};
 use pb_value::items::Items;
 use pb_value::limits::MAX_BYTES;
 use pb_value::text::Text;
 use pb_variables::fault::ExtraFault;
-use pb_variables::magic::play_magic;
 use pb_written::fault::LoadFault;
-use std::alloc::{AllocError, AllocFailed, Global};
-use std::rc::Rc;
+use std::alloc::{AllocError, AllocFailed};
+use std::fmt::{self, Debug, Display, Formatter};
 use thiserror::Error;
 
 /// What a run is made of: the bytes of its files and of its extra variables, how many hosts may run at once, and whether a program gathers facts.
@@ -49,7 +36,7 @@ pub struct Bundle {
 }
 
 /// Why a bundle has no plan.
-#[derive(Debug, Error)]
+#[derive(Error)]
 pub enum BundleFault {
     /// A fault of the inventory.
     #[error("1 Inventory {0}")]
@@ -91,6 +78,13 @@ impl Drop for BundleFault {
     }
 }
 
+// (by hand: it shows what is printed)
+impl Debug for BundleFault {
+    fn fmt<W: fmt::Write>(&self, f: &mut Formatter<W>) -> fmt::Result {
+        Display::fmt(self, f)
+    }
+}
+
 impl From<AllocError> for BundleFault {
     ghost use Rattle.std.specs.Prelude.{◌≡◌};
     ghost use Rattle.pb_planning.specs.declared.bundle.BundleFault.TheVariants.{Memory};
@@ -111,58 +105,6 @@ impl<T: Drop> From<AllocFailed<T>> for BundleFault {
     fn from(_: AllocFailed<T>) -> BundleFault {
         BundleFault::Memory
     }
-}
-
-/// A play's tree, laid out for its hosts. Its always parts stand in one another at most 32 deep.
-fn laid_out(alloc: Global, tree: PlayTree) -> Result<Rc<LaidTree>, BundleFault>
-    requires { always_depth tree.nodes ≤ 32 }
-    ensures value { IfOk result (λ laid. laid.value.tree ≡ tree) }
-    ensures fault { IfErr result (λ e. e ≡ BundleFault.Memory) }
-{
-    match LaidTree::of(alloc, tree) {
-        Ok(laid) => Ok(Rc::new(alloc, laid)?),
-        Err(FlatFault::TooDeep) => unreachable!(),
-        Err(FlatFault::Memory) => Err(BundleFault::Memory),
-    }
-}
-
-/// A play with its roles, whose own hosts are these.
-pub(crate) fn play_with(
-    alloc: Global,
-    inventory: &Inventory,
-    play: Expanded,
-    hosts: HostSet,
-) -> Result<PlanPlay, BundleFault>
-    requires built { IsBuilt play }
-    requires width { length hosts ≡ length inventory.now.hosts }
-    ensures value { IfOk result (λ p. p ≡ play_with inventory.now hosts play) }
-    ensures fault { IfErr result (λ e. e ≡ BundleFault.Memory) }
-{
-    let laid = laid_out(alloc, play.tree)?;
-    let magic = play_magic(alloc, inventory, &hosts)?;
-    let throttles = throttles_of(alloc, play.places.as_slice())?;
-    let run_once = run_once_of(alloc, play.places.as_slice())?;
-    let free_places = free_places(alloc, &play.vars, play.places.as_slice())?;
-    let ran = ran_names(alloc)?;
-    let names = ResultNames::new(alloc)?;
-    let head = PlayHead {
-        name: play.name,
-        hosts,
-        strategy: play.strategy,
-        serial: play.serial,
-        max_fail_percentage: play.max_fail_percentage,
-        vars: play.vars,
-        magic,
-    };
-    let at_places = AtPlaces {
-        places: play.places,
-        throttles,
-        run_once,
-        free_places,
-        ran,
-        names,
-    };
-    Ok(PlanPlay::new(head, laid, at_places))
 }
 
 /// How many bytes a text has that may be given.

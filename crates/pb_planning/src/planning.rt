@@ -8,31 +8,43 @@ ghost use Rattle.pb_inventory.specs.Vars.{strangers};
 ghost use Rattle.pb_play_reading.specs.Playbooks.{playbook_of, expressions_of_book};
 ghost use Rattle.pb_play_reading.specs.Refusals.{AllTaken};
 ghost use Rattle.pb_roles.specs.Plays.{expansion_of, IsBuilt};
-ghost use Rattle.pb_plan.specs.Plan.{Fits};
-ghost use Rattle.pb_planning.specs.Bundle.{in_part, limit_of, expressions_of_limit, extra_in, lines_of_play, stranger_line, unmatched_line, IsLimit, IsPlayOf, ArePlaysOf, IsPlanIn, IsPlanOf, IsBundleFault, IsPlaybookFault, IsLimitFault};
+ghost use Rattle.pb_patterns.specs.Selection.{IsSelection};
+ghost use Rattle.pb_flat.specs.Deep.{always_depth};
+ghost use Rattle.pb_plan.specs.Hostvars.{AreFreeHosts, AreFreePlaces};
+ghost use Rattle.pb_plan.specs.Plan.{Fits, throttles_of, run_once_of};
+ghost use Rattle.pb_variables.specs.Magic.{plan_magic, play_magic};
+ghost use Rattle.pb_variables.specs.Shared.{AreKept};
+ghost use Rattle.pb_planning.specs.Bundle.{in_part, both, limit_of, expressions_of_limit, extra_in, lines_of_play, stranger_line, unmatched_line, IsLimit, IsPlayOf, ArePlaysOf, IsPlanIn, IsPlanOf, IsBundleFault, IsPlaybookFault, IsLimitFault};
 
-use crate::bundle::{Bundle, BundleFault, is_too_large, play_with};
+use crate::bundle::{Bundle, BundleFault, is_too_large};
 use crate::ignored::push_ignored;
+use pb_cursors::LaidTree;
+use pb_flat::FlatFault;
 use pb_inventory::fault::InvFault;
 use pb_inventory::inventory::Inventory;
+use pb_outcome::judge::ran_names;
+use pb_outcome::result_names::ResultNames;
 use pb_patterns::fault::PatFault;
 use pb_patterns::pattern::Pattern;
 use pb_patterns::selected::Selected;
-use pb_plan::hostvars::free_hosts;
-use pb_plan::parts::PlanHosts;
+use pb_plan::hostvars::{free_hosts, free_places};
+use pb_plan::parts::{AtPlaces, PlanHosts, PlayHead, run_once_of, throttles_of};
 use pb_plan::{Plan, PlanPlay, Planned};
 use pb_planes::HostSet;
 use pb_play_reading::playbook::Playbook;
 use pb_roles::{Expanded, RoleFault, expand};
+use pb_tree::PlayTree;
 use pb_value::items::Items;
+use pb_value::names::Names;
 use pb_value::text::Text;
 use pb_value::val::Dict;
 use pb_variables::extra::read_extra;
 use pb_variables::fault::ExtraFault;
-use pb_variables::magic::plan_magic;
+use pb_variables::magic::{plan_magic, play_magic};
 use pb_variables::shared::GroupShares;
 use pb_written::fault::LoadFault;
 use std::alloc::{AllocError, Global};
+use std::rc::Rc;
 
 /// The inventory of a bundle.
 fn inventory_in(alloc: Global, bundle: &Bundle) -> Result<Inventory, BundleFault>
@@ -156,17 +168,111 @@ fn push_line(
     Ok(())
 }
 
-/// Adds lines for the elements of a play's pattern that select no host, and for the keys that its strategy ignores.
-fn push_lines_of_play(
+/// The hosts that a play's own pattern and the limit select, and lines for the elements that select none and for the keys that the strategy ignores.
+fn own_hosts(
     alloc: Global,
-    lines: &mut Items<Text>,
+    inventory: &Inventory,
+    limit: &HostSet,
     play: &Expanded,
-    unmatched: &[Text],
-) -> Result<(), AllocError>
-    ensures { OnOk result (lines.new ≡ lines.old ++ lines_of_play unmatched.now play.now) }
+    lines: &mut Items<Text>,
+) -> Result<HostSet, AllocError>
+    requires { length limit.now ≡ length inventory.now.hosts }
+    ensures value { IfOk result (λ hosts. (own : Selected) × IsSelection inventory.now play.now.hosts own × (hosts ≡ both own.hosts limit.now) × (lines.new ≡ lines.old ++ lines_of_play own.unmatched play.now)) }
+    ensures width { IfOk result (λ hosts. length hosts ≡ length inventory.now.hosts) }
 {
-    push_lines(alloc, lines, "warning: no host matches ", unmatched)?;
-    push_ignored(alloc, lines, play.strategy, play.linear_keys)
+    let mut own = play.hosts.select(alloc, inventory)?;
+    push_lines(
+        alloc,
+        lines,
+        "warning: no host matches ",
+        own.unmatched.as_slice(),
+    )?;
+    push_ignored(alloc, lines, play.strategy, play.linear_keys)?;
+    own.hosts.and_with(limit);
+    Ok(own.hosts)
+}
+
+/// What is known of a play's places once for all hosts.
+#[derive(Drop)]
+struct KnownPlaces {
+    /// How many hosts may run the task there at once.
+    throttles: Vec<u32>,
+    /// Whether the first host of a batch runs the task there for all.
+    run_once: Vec<bool>,
+    /// The places that are marked have no variable in whose text `hostvars` stands.
+    free_places: Vec<bool>,
+}
+
+/// What is known of the places of a play.
+fn known_of(alloc: Global, play: &Expanded) -> Result<KnownPlaces, AllocError>
+    ensures throttles { IfOk result (λ known. known.throttles.items ≡ throttles_of play.now.places) }
+    ensures once { IfOk result (λ known. known.run_once.items ≡ run_once_of play.now.places) }
+    ensures free { IfOk result (λ known. AreFreePlaces play.now.vars play.now.places known.free_places.items) }
+{
+    let places = play.places.as_slice();
+    let throttles = throttles_of(alloc, places)?;
+    let run_once = run_once_of(alloc, places)?;
+    let free_places = free_places(alloc, &play.vars, places)?;
+    Ok(KnownPlaces {
+        throttles,
+        run_once,
+        free_places,
+    })
+}
+
+/// What is made for a play, beside what it says itself.
+#[derive(Drop)]
+struct Made {
+    /// The hosts that are its own.
+    hosts: HostSet,
+    /// The variables that it gives by itself.
+    magic: Dict,
+    /// The names of results that are decided as a task starts.
+    names: ResultNames,
+    /// Those of the result of a program that ran.
+    ran: Option<Names>,
+    known: KnownPlaces,
+}
+
+/// What is made for a play within a limit, and lines for what is odd in it.
+fn made_for(
+    alloc: Global,
+    inventory: &Inventory,
+    limit: &HostSet,
+    play: &Expanded,
+    lines: &mut Items<Text>,
+) -> Result<Made, AllocError>
+    requires { length limit.now ≡ length inventory.now.hosts }
+    ensures hosts { IfOk result (λ made. (own : Selected) × IsSelection inventory.now play.now.hosts own × (made.hosts ≡ both own.hosts limit.now) × (lines.new ≡ lines.old ++ lines_of_play own.unmatched play.now)) }
+    ensures magic { IfOk result (λ made. made.magic ≡ play_magic inventory.now made.hosts) }
+    ensures throttles { IfOk result (λ made. made.known.throttles.items ≡ throttles_of play.now.places) }
+    ensures once { IfOk result (λ made. made.known.run_once.items ≡ run_once_of play.now.places) }
+    ensures free { IfOk result (λ made. AreFreePlaces play.now.vars play.now.places made.known.free_places.items) }
+{
+    let hosts = own_hosts(alloc, inventory, limit, play, lines)?;
+    let magic = play_magic(alloc, inventory, &hosts)?;
+    let names = ResultNames::new(alloc)?;
+    let ran = ran_names(alloc)?;
+    let known = known_of(alloc, play)?;
+    Ok(Made {
+        hosts,
+        magic,
+        names,
+        ran,
+        known,
+    })
+}
+
+/// A play's tree, laid out for its hosts. Its always parts stand in one another at most 32 deep.
+fn laid_out(alloc: Global, tree: PlayTree) -> Result<Rc<LaidTree>, AllocError>
+    requires { always_depth tree.nodes ≤ 32 }
+    ensures { IfOk result (λ laid. laid.value.tree ≡ tree) }
+{
+    match LaidTree::of(alloc, tree) {
+        Ok(laid) => Ok(Rc::new(alloc, laid)?),
+        Err(FlatFault::TooDeep) => unreachable!(),
+        Err(FlatFault::Memory) => Err(AllocError),
+    }
 }
 
 /// A play with the hosts that its own pattern and the limit select, and lines for what is odd in it.
@@ -176,39 +282,31 @@ fn plan_play(
     limit: &HostSet,
     play: Expanded,
     lines: &mut Items<Text>,
-) -> Result<PlanPlay, BundleFault>
+) -> Result<PlanPlay, AllocError>
     requires built { IsBuilt play }
     requires width { length limit.now ≡ length inventory.now.hosts }
-    ensures value { IfOk result (λ planned. (more : List (List ℕ)) × IsPlayOf inventory.now limit.now play planned more × (lines.new ≡ lines.old ++ more)) }
-    ensures fault { IfErr result (λ e. e ≡ BundleFault.Memory) }
+    ensures { IfOk result (λ planned. (more : List (List ℕ)) × IsPlayOf inventory.now limit.now play planned more × (lines.new ≡ lines.old ++ more)) }
 {
-    let Selected { hosts, unmatched } = play.hosts.select(alloc, inventory)?;
-    push_lines_of_play(alloc, lines, &play, unmatched.as_slice())?;
-    let mut own = hosts;
-    own.and_with(limit);
-    play_with(alloc, inventory, play, own)
-}
-
-/// The plays with their hosts.
-fn plan_plays(
-    alloc: Global,
-    inventory: &Inventory,
-    limit: &HostSet,
-    plays: Items<Expanded>,
-    lines: &mut Items<Text>,
-) -> Result<Items<PlanPlay>, BundleFault>
-    requires built { All IsBuilt plays }
-    requires width { length limit.now ≡ length inventory.now.hosts }
-    ensures value { IfOk result (λ planned. (more : List (List ℕ)) × ArePlaysOf inventory.now limit.now plays planned more × (lines.new ≡ lines.old ++ more)) }
-    ensures count { IfOk result (λ planned. length planned ≡ length plays) }
-    ensures fault { IfErr result (λ e. e ≡ BundleFault.Memory) }
-{
-    let mut all = Vec::with_capacity(alloc, plays.len())?;
-    for play in plays.into_vec() {
-        let planned = plan_play(alloc, inventory, limit, play, lines)?;
-        all.push(planned)?;
-    }
-    Ok(Items::from_vec(all))
+    let made = made_for(alloc, inventory, limit, &play, lines)?;
+    let laid = laid_out(alloc, play.tree)?;
+    let head = PlayHead {
+        name: play.name,
+        hosts: made.hosts,
+        strategy: play.strategy,
+        serial: play.serial,
+        max_fail_percentage: play.max_fail_percentage,
+        vars: play.vars,
+        magic: made.magic,
+    };
+    let at_places = AtPlaces {
+        places: play.places,
+        throttles: made.known.throttles,
+        run_once: made.known.run_once,
+        free_places: made.known.free_places,
+        ran: made.ran,
+        names: made.names,
+    };
+    Ok(PlanPlay::new(head, laid, at_places))
 }
 
 /// The lines that warn of the inventory and of the limit.
@@ -236,6 +334,76 @@ fn first_lines(
     Ok(lines)
 }
 
+/// The plays of a plan, and the lines that warn of the inventory, of the limit and of the plays.
+#[derive(Drop)]
+struct PlannedPlays {
+    plays: Items<PlanPlay>,
+    lines: Items<Text>,
+}
+
+/// The plays with their hosts within what a limit selects.
+fn plan_plays(
+    alloc: Global,
+    inventory: &Inventory,
+    limit: &Selected,
+    plays: Items<Expanded>,
+) -> Result<PlannedPlays, AllocError>
+    requires built { All IsBuilt plays }
+    requires width { length limit.now.hosts ≡ length inventory.now.hosts }
+    ensures value { IfOk result (λ planned. (more : List (List ℕ)) × ArePlaysOf inventory.now limit.now.hosts plays planned.plays more × (planned.lines ≡ (map stranger_line (strangers inventory.now) ++ map unmatched_line limit.now.unmatched) ++ more)) }
+    ensures count { IfOk result (λ planned. length planned.plays ≡ length plays) }
+{
+    let mut lines = first_lines(alloc, inventory, limit)?;
+    let mut all = Items::new(alloc);
+    for play in plays.into_vec() {
+        let planned = plan_play(alloc, inventory, &limit.hosts, play, &mut lines)?;
+        all.push(planned)?;
+    }
+    Ok(PlannedPlays { plays: all, lines })
+}
+
+/// The plays with the hosts that they have within a limit.
+fn plays_within(
+    alloc: Global,
+    inventory: &Inventory,
+    limit: &Option<Pattern>,
+    plays: Items<Expanded>,
+) -> Result<PlannedPlays, AllocError>
+    requires { All IsBuilt plays }
+    ensures value { IfOk result (λ planned. (selected : Selected) × (more : List (List ℕ)) × IsLimit inventory.now limit.now selected × ArePlaysOf inventory.now selected.hosts plays planned.plays more × (planned.lines ≡ (map stranger_line (strangers inventory.now) ++ map unmatched_line selected.unmatched) ++ more)) }
+    ensures count { IfOk result (λ planned. length planned.plays ≡ length plays) }
+{
+    let selected = limit_selects(alloc, inventory, limit)?;
+    plan_plays(alloc, inventory, &selected, plays)
+}
+
+/// What is known of the hosts of a plan once for all plays.
+#[derive(Drop)]
+struct KnownHosts {
+    /// The variables that the plan gives by itself.
+    magic: Dict,
+    /// What hosts have from their groups.
+    shares: GroupShares,
+    /// The hosts that are marked have no variable in whose text `hostvars` stands.
+    free_hosts: Vec<bool>,
+}
+
+/// What is known of the hosts of an inventory, beside these extra variables.
+fn known_hosts(alloc: Global, inventory: &Inventory, extra: &Dict) -> Result<KnownHosts, AllocError>
+    ensures magic { IfOk result (λ known. known.magic ≡ plan_magic inventory.now) }
+    ensures kept { IfOk result (λ known. AreKept inventory.now known.shares) }
+    ensures free { IfOk result (λ known. AreFreeHosts inventory.now extra.now known.free_hosts.items) }
+{
+    let magic = plan_magic(alloc, inventory)?;
+    let shares = GroupShares::of(alloc, inventory)?;
+    let free_hosts = free_hosts(alloc, inventory, &shares, extra)?;
+    Ok(KnownHosts {
+        magic,
+        shares,
+        free_hosts,
+    })
+}
+
 /// The plan of what a bundle says.
 fn plan_with(
     alloc: Global,
@@ -252,25 +420,21 @@ fn plan_with(
     ensures value { IfOk result (λ plan. IsPlanIn inventory extra limit.now bundle.now.forks bundle.now.has_facts_program plays plan) }
     ensures fault { IfErr result (λ e. e ≡ BundleFault.Memory) }
 {
-    let selected = limit_selects(alloc, &inventory, limit)?;
-    let mut lines = first_lines(alloc, &inventory, &selected)?;
-    let plays = plan_plays(alloc, &inventory, &selected.hosts, plays, &mut lines)?;
-    let magic = plan_magic(alloc, &inventory)?;
-    let shares = GroupShares::of(alloc, &inventory)?;
-    let free_hosts = free_hosts(alloc, &inventory, &shares, &extra)?;
+    let planned = plays_within(alloc, &inventory, limit, plays)?;
+    let known = known_hosts(alloc, &inventory, &extra)?;
     let hosts = PlanHosts {
         inventory,
         extra,
-        shares,
-        free_hosts,
+        shares: known.shares,
+        free_hosts: known.free_hosts,
     };
     Ok(Plan::from_parts(
         hosts,
-        plays,
+        planned.plays,
         bundle.forks,
         bundle.has_facts_program,
-        lines,
-        magic,
+        planned.lines,
+        known.magic,
     ))
 }
 

@@ -1,17 +1,18 @@
-use Rattle.std.proofs.Common.{◌≡◌, ◌∙◌, length, ap, sym}
-use Rattle.std.proofs.lemmas.Result.{IfOk-weaker}
-use Rattle.std.proofs.lemmas.Simd.{length-zip2}
+use Rattle.std.proofs.Common.{◌≤◌, ◌∙◌, ap, subst, sym}
+use Rattle.pb_tree.specs.Tree.{TreeOf, size_of}
 use Rattle.pb_planning.proofs.Plans.{play_planned}
 use Rattle.pb_planning.proofs.planning.plan_play.Goals as goal
 
-pub play_with-requires-clause-width : goal.play_with-requires-clause-width
-play_with-requires-clause-width c =
-    let wide : length c.in_ok-hosts.field-0.hosts ≡ length c.args.inventory.now.hosts = c.in_ok-hosts.ensures.width in
-    ap length c.and_with.ensures ∙ length-zip2 _ _ _ (wide ∙ sym c.requires.width) ∙ wide
+pub laid_out-requires : goal.laid_out-requires
+laid_out-requires c = c.requires.built.flat
 
-pub returns-clause-value : goal.returns-clause-value
-returns-clause-value c =
-    IfOk-weaker c.play_with.result _ _
-    (λ planned is.
-    play_planned c.args.inventory.now c.args.limit.now c.args.play c.in_ok-hosts.field-0 _ planned _ _ _ c.in_ok-hosts.ensures.selection c.and_with.ensures is c.as_slice.ensures c.in_ok-push_lines_of_play.ensures)
-    c.play_with.ensures.value
+pub new-requires-clause-bound : goal.new-requires-clause-bound
+new-requires-clause-bound c = subst (λ (t : TreeOf). size_of t ≤ 16384) (sym c.in_ok-laid.ensures) c.requires.built.few
+
+pub new-requires-clause-places : goal.new-requires-clause-places
+new-requires-clause-places c = c.requires.built.places ∙ ap size_of (sym c.in_ok-laid.ensures)
+
+pub returns : goal.returns
+returns c =
+    play_planned c.args.inventory.now c.args.limit.now c.args.play c.in_ok-made.made.hosts c.in_ok-laid.laid.value.tree c.in_ok-made.made.magic c.new.result _ _
+    c.in_ok-made.ensures.hosts c.in_ok-laid.ensures c.in_ok-made.ensures.magic c.new.ensures

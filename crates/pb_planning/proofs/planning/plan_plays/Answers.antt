@@ -6,9 +6,9 @@ use Rattle.pb_planning.proofs.planning.plan_plays.Goals as goal
 pub loop-play-preserved : goal.loop-play-preserved
 loop-play-preserved c = record {
   planned =
-      next_planned c.args.inventory.now c.args.limit.now c.args.plays c.loop-play.play-iterator.rest.items c.next.new.self.rest.items c.in-Some.play c.loop-play.all.items c.push.new.self.items
-      c.in_ok-planned.planned c.args.lines.now c.loop-play.lines c.plan_play.new.lines c.in-Some.ensures.steps.0 c.in_ok-push.ensures.items c.loop-play.invariant.planned
-      c.in_ok-planned.ensures.value;
+      next_planned c.args.inventory.now c.args.limit.now.hosts c.args.plays c.loop-play.play-iterator.rest.items c.next.new.self.rest.items c.in-Some.play c.loop-play.all c.push.new.self
+      c.in_ok-planned.planned _ c.loop-play.lines c.plan_play.new.lines c.in-Some.ensures.steps.0 c.in_ok-push.ensures.ok c.loop-play.invariant.planned
+      c.in_ok-planned.ensures;
   built = rest_built _ _ _ c.in-Some.ensures.steps.0 c.loop-play.invariant.built;
   count = grind (arith, common_steps);
 }
@@ -16,8 +16,7 @@ loop-play-preserved c = record {
 pub returns-clause-value : goal.returns-clause-value
 returns-clause-value c =
     let none : c.loop-play.play-iterator.rest.items ≡ [] = grind (arith, common_steps) in
-    all_planned c.args.inventory.now c.args.limit.now c.args.plays c.loop-play.play-iterator.rest.items c.loop-play.all.items c.from_vec.result c.args.lines.now c.loop-play.lines none
-    c.from_vec.ensures c.loop-play.invariant.planned
+    all_planned c.args.inventory.now c.args.limit.now.hosts c.args.plays c.loop-play.play-iterator.rest.items c.loop-play.all _ c.loop-play.lines none c.loop-play.invariant.planned
 
 pub plan_play-requires-clause-built : goal.plan_play-requires-clause-built
 plan_play-requires-clause-built c = first_built _ _ _ c.in-Some.ensures.steps.0 c.loop-play.invariant.built
