@@ -54,7 +54,7 @@ pub struct Engine {
     state: EngineState,
     trail: Vec<Event>,
     ready: HostSet,
-    /// The map of `hostvars`, where a task looked it up and no host has learnt anything since.
+    /// The map of `hostvars`, where a task looked it up. What hosts learn since is put into it.
     known: Option<Dict>,
 }
 

@@ -1,7 +1,8 @@
 //! The state of a run and its steps.
 //!
-//! For the layers above: `EngineState` is the state of the strategy machine, and `step` takes exactly the events that
-//! may happen in it, each with exactly its effect; an event that may not happen is `Illegal` and changes nothing.
+//! For the layers above: `EngineState` is the state of the strategy machine, and `step_knowing` takes exactly the events that
+//! may happen in it, each with exactly its effect; an event that may not happen is `Illegal` and changes nothing. It keeps the map of
+//! `hostvars` from step to step; `step`, which nothing calls, does the same without it.
 //! `Plan` (pb_plan) is what the machine reads of a bundle, `pb_host` what a step does to one host, and `pb_hosts` what it does to the rows of all.
 #![tactic(auto)]
 
