@@ -3,4 +3,5 @@ mod Going
 mod Joined
 mod Lines
 mod Rows
+mod Seen
 mod Standing

@@ -1,13 +1,11 @@
 -- The laws of what is shown.
-use Rattle.std.proofs.Common.{◌≡◌, ◌≢◌, ◌<◌, ◌≤◌, ◌+◌, ◌/◌, ◌%◌, ℕ, Bool, true, false, cond, List, [], ◌∷◌, ◌++◌, length, Option, Some, None, codes, refl, sym, ap, ◌∙◌, subst, arith, append_assoc, append-nil}
-use Rattle.std.proofs.lemmas.Bool.Decides.{nat_tests}
-use Rattle.std.specs.Prelude.{◌==◌, ◌-◌, nat_lt, IfSome, option_map, decimal, is_some, replicate}
-use Rattle.std.specs.Char.{encode_utf8}
+use Rattle.std.proofs.Common.{◌≡◌, ℕ, Bool, true, false, cond, List, [], ◌∷◌, ◌++◌, length, Option, Some, None, codes, refl, sym, ap, ◌∙◌, subst, append_assoc, append-nil}
+use Rattle.std.specs.Prelude.{◌==◌, ◌-◌, IfSome, option_map, decimal, is_some, replicate}
 use Rattle.std.specs.Str.{chars}
 use Rattle.serde_json.specs.Data.{Data}
 use Rattle.pb_show.specs.Banners.{starred, batch_text, play_text, task_head, task_text, notice_text, started_text, begun_text}
-use Rattle.pb_show.specs.Escaped.{is_hidden, hex_digit, by_number, shown_char, shown_chars, escaped, stars}
-use Rattle.pb_show.specs.Laws.{Stands, EachStands, EndsLine, IsVisible, joined, is_start, TextsStand}
+use Rattle.pb_show.specs.Escaped.{escaped, stars}
+use Rattle.pb_show.specs.Laws.{Stands, EachStands, EndsLine, joined, is_start, TextsStand}
 use Rattle.pb_show.specs.Reading.{text_at, whole_at, ended_in, play_in, task_in, notice_in, totals_in}
 use Rattle.pb_show.specs.Results.{word_of, verdict_of, lead_of, paint, unpaint, counted_by, item_text, message_text, code_text, error_line, error_lines, ignoring, who_of, said_of, head_of, ended_text}
 use Rattle.pb_show.specs.Showing.{Shown, banner_for, or_passed, event_shown, event_at, shown}
@@ -22,6 +20,7 @@ use Rattle.pb_show.specs.declared.showing.Showing.{Showing}
 use Rattle.pb_show.specs.declared.notices.Notice.{Notice}
 use Rattle.pb_show.specs.declared.notices.Play.{Play}
 use Rattle.pb_show.specs.declared.notices.Task.{Task}
+use Rattle.pb_show.proofs.Seen.{none_hidden, bytes_seen}
 
 -- ---- what stands where
 itself : (part : List ℕ) → Stands part part
@@ -201,66 +200,6 @@ all_cut : (bytes : List ℕ) → joined (lines_in bytes) ≡ bytes
 all_cut [] = refl
 all_cut (b ∷ bytes) = cut_there (b == 10) b (lines_in bytes) ∙ ap (λ l. b ∷ l) (all_cut bytes)
 
--- ---- bytes that are seen
-seen_both : (a b : List ℕ) → IsVisible a → IsVisible b → IsVisible (a ++ b)
-seen_both [] b p q = q
-seen_both (x ∷ a) b p q = (p.0, p.1, seen_both a b p.2 q)
-
-either : (t : Bool) (a b : List ℕ) → (t ≡ true → IsVisible a) → (t ≡ false → IsVisible b) → IsVisible (cond t a b)
-either true a b p q = p refl
-either false a b p q = q refl
-
-high : (x : ℕ) → 128 ≤ x → (32 ≤ x) × (x ≢ 127)
-high x h = (omega arith, omega arith)
-
-digit_case : (t : Bool) (n : ℕ) → n < 16 → (nat_lt n 10 ≡ t) → (32 ≤ cond t (48 + n) (87 + n)) × (cond t (48 + n) (87 + n) ≢ 127)
-digit_case true n h e = (omega arith, omega arith)
-digit_case false n h e = (omega arith, omega arith)
-
-digit_seen : (n : ℕ) → (32 ≤ hex_digit n) × (hex_digit n ≢ 127)
-digit_seen n = digit_case (nat_lt (n % 16) 10) (n % 16) (omega arith) refl
-
-number_seen : (c : ℕ) → IsVisible (by_number c)
-number_seen c =
-    let a = digit_seen (c / 4096) in
-    let b = digit_seen (c / 256) in
-    let d = digit_seen (c / 16) in
-    let e = digit_seen c in
-    (omega arith, omega arith, (omega arith, omega arith, (a.0, a.1, (b.0, b.1, (d.0, d.1, (e.0, e.1, tt))))))
-
-not_hidden : (c : ℕ) → is_hidden c ≡ false → (32 ≤ c) × (c ≢ 127)
-not_hidden c h = (grind (arith, nat_tests), grind (arith, nat_tests))
-
-encoded_seen : (c : ℕ) → (32 ≤ c) × (c ≢ 127) → IsVisible (encode_utf8 c)
-unfolding encode_utf8
-encoded_seen c h =
-    let one = high (192 + c / 64) (omega arith) in
-    let two = high (224 + c / 4096) (omega arith) in
-    let three = high (240 + c / 262144) (omega arith) in
-    let next : (n : ℕ) → (32 ≤ 128 + n % 64) × (128 + n % 64 ≢ 127) = λ n. high (128 + n % 64) (omega arith) in
-    let last = next c in
-    let mid = next (c / 64) in
-    let top = next (c / 4096) in
-    either (nat_lt c 128) _ _ (λ _. (h.0, h.1, tt))
-    (λ _. either (nat_lt c 2048) _ _ (λ _. (one.0, one.1, (last.0, last.1, tt)))
-    (λ _. either (nat_lt c 65536) _ _ (λ _. (two.0, two.1, (mid.0, mid.1, (last.0, last.1, tt))))
-    (λ _. (three.0, three.1, (top.0, top.1, (mid.0, mid.1, (last.0, last.1, tt)))))))
-
-two_seen : (a b : ℕ) → (32 ≤ a) × (a ≢ 127) → (32 ≤ b) × (b ≢ 127) → IsVisible (a ∷ b ∷ [])
-two_seen a b p q = (p.0, p.1, (q.0, q.1, tt))
-
-char_seen : (c : ℕ) → IsVisible (shown_char c)
-char_seen c =
-    either (c == 10) _ _ (λ _. two_seen 92 110 (omega arith, omega arith) (omega arith, omega arith))
-    (λ _. either (c == 13) _ _ (λ _. two_seen 92 114 (omega arith, omega arith) (omega arith, omega arith))
-    (λ _. either (c == 9) _ _ (λ _. two_seen 92 116 (omega arith, omega arith) (omega arith, omega arith))
-    (λ _. either (c == 92) _ _ (λ _. two_seen 92 92 (omega arith, omega arith) (omega arith, omega arith))
-    (λ _. either (is_hidden c) _ _ (λ _. number_seen c) (λ h. encoded_seen c (not_hidden c h))))))
-
-chars_seen : (cs : List ℕ) → IsVisible (shown_chars cs)
-chars_seen [] = tt
-chars_seen (c ∷ cs) = seen_both (shown_char c) (shown_chars cs) (char_seen c) (chars_seen cs)
-
 pub texts_stand : TextsStand
 texts_stand = record {
   play = play_stands;
@@ -269,7 +208,8 @@ texts_stand = record {
   message = message_stands;
   errors = errors_stand;
   notice = notice_stands;
-  visible = λ text. chars_seen (chars text);
+  visible = λ text. none_hidden (chars text);
+  bytes = λ text. bytes_seen (chars text);
   whole = all_whole;
   starts = all_started;
   passed = as_it_is;

@@ -3,9 +3,16 @@ use Rattle.std.specs.Prelude.{ℕ, ◌+◌, ◌-◌, ◌/◌, ◌%◌, ◌==◌,
 use Rattle.std.specs.Char.{encode_utf8}
 use Rattle.std.specs.Str.{chars}
 
--- the controls of ASCII and those behind it; the marks that turn the direction of text, and the ends of lines and paragraphs
+-- the controls of ASCII and those behind it, 128 to 159; the marks that turn the direction of text, which UAX #9 names (1564, 8206, 8207,
+-- 8234 to 8238 and 8294 to 8297); and Unicode's line separator and paragraph separator (8232 and 8233)
 abbrev pub is_hidden : ℕ → Bool
-is_hidden c = nat_lt c 32 || (nat_le 127 c && nat_lt c 160) || (nat_le 8206 c && nat_lt c 8208) || (nat_le 8232 c && nat_lt c 8239) || (nat_le 8294 c && nat_lt c 8298)
+is_hidden c =
+    nat_lt c 32
+    || (nat_le 127 c && nat_lt c 160)
+    || c == 1564
+    || (nat_le 8206 c && nat_lt c 8208)
+    || (nat_le 8232 c && nat_lt c 8239)
+    || (nat_le 8294 c && nat_lt c 8298)
 
 -- the last digit of a number in hexadecimal
 abbrev pub hex_digit : ℕ → ℕ

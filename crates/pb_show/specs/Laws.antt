@@ -1,8 +1,9 @@
 -- What holds of all that is shown, whatever the events are.
 use Rattle.std.specs.Prelude.{◌≡◌, ◌≢◌, ⊤, ◌≤◌, ℕ, Bool, true, false, List, [], ◌∷◌, ◌++◌, None, IfSome}
+use Rattle.std.specs.Str.{chars, NonePass}
 use Rattle.serde_json.specs.Data.{Data}
 use Rattle.pb_show.specs.Banners.{play_text, task_text, notice_text}
-use Rattle.pb_show.specs.Escaped.{escaped}
+use Rattle.pb_show.specs.Escaped.{is_hidden, escaped}
 use Rattle.pb_show.specs.Results.{ended_text}
 use Rattle.pb_show.specs.Showing.{Shown, event_shown, event_at, shown}
 use Rattle.pb_show.specs.Whole.{lines_in}
@@ -26,6 +27,10 @@ EachStands (part ∷ parts) text = Stands (escaped part) text × EachStands part
 -- a text that ends in a line end, and so isn't empty
 abbrev pub EndsLine : List ℕ → Type 0
 EndsLine text = (front : List ℕ) × (text ≡ front ++ 10 ∷ [])
+
+-- no character that ends a line, moves the cursor or turns the direction of text
+abbrev pub NoneHidden : List ℕ → Type 0
+NoneHidden text = NonePass is_hidden (chars text)
 
 -- no byte of ASCII's controls
 abbrev pub IsVisible : List ℕ → Type 0
@@ -57,8 +62,9 @@ pub record TextsStand : Type 0 where
   pub message : (look : Look) (e : Ended) → Stands (escaped e.message) (ended_text look e)
   pub errors : (look : Look) (e : Ended) → EachStands e.errors (ended_text look e)
   pub notice : (notice : Notice) → Stands (escaped notice.host) (notice_text notice) × Stands (escaped notice.handler) (notice_text notice)
-  -- and there it ends no line and moves no cursor
-  pub visible : (text : List ℕ) → IsVisible (escaped text)
+  -- and there it ends no line, moves no cursor and turns no text: none of its characters is hidden, and none of its bytes is a control
+  pub visible : (text : List ℕ) → NoneHidden (escaped text)
+  pub bytes : (text : List ℕ) → IsVisible (escaped text)
   -- an event's text is never empty and ends in a line end, but that starts are passed over unless they are shown
   pub whole : (look : Look) (s : Showing) (d : Data) (kind : Kind) → is_start kind ≡ false → IfSome (event_shown look s d kind) (λ (x : Shown). EndsLine x.text)
   pub starts : (look : Look) (s : Showing) (d : Data) (kind : Kind) → look.starts ≡ true → IfSome (event_shown look s d kind) (λ (x : Shown). EndsLine x.text)

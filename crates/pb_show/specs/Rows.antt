@@ -36,6 +36,11 @@ escapes : escaped (27 ∷ codes "[2J\n" ++ 195 ∷ 169 ∷ []) ≡ codes "\\u001
 unfolding on_texts
 escapes = refl
 
+-- U+061C, U+200F, U+202E, U+2029 and U+009B, and then U+061B, which does none of it
+marks : escaped (216 ∷ 156 ∷ 226 ∷ 128 ∷ 143 ∷ 226 ∷ 128 ∷ 174 ∷ 226 ∷ 128 ∷ 169 ∷ 194 ∷ 155 ∷ 216 ∷ 155 ∷ []) ≡ codes "\\u061c\\u200f\\u202e\\u2029\\u009b" ++ 216 ∷ 155 ∷ []
+unfolding on_texts
+marks = refl
+
 -- the second batch of a play
 banner : play_text (record { name = codes "web"; batch = 1; hosts = 3 }) ≡ codes "\nPLAY [web] (batch 2) **********************************************************\n"
 unfolding on_texts

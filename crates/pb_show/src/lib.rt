@@ -4,7 +4,8 @@
 //! program becomes its text, and any other line is passed on as it is. `show_lines` does so for all lines of a reader, in order,
 //! with a line behind them that says how the run went, and `show` is the whole program for its words. Only want of memory, and a
 //! reader or writer that fails, may cut that short; what was written then is a beginning of it (`specs/Whole.antt`).
-//! `texts_stand` is what holds of all texts of events: they are whole lines, and no text in them moves the cursor or ends a line.
+//! `texts_stand` is what holds of all texts of events: they are whole lines, and no text in them ends a line, moves the cursor or
+//! turns the direction of text.
 #![tactic(auto)]
 
 ghost use Rattle.pb_show.specs.Laws.{TextsStand};
@@ -31,8 +32,9 @@ pub use program::show;
 pub use showing::{Failure, Phase, Showing};
 pub use words::{Asked, read_words};
 
-/// What holds of the texts of all events: what they show of an event stands in them, escaped, so that it ends no line and moves no cursor;
-/// they are whole lines and never empty, but for starts that are not to be shown; and other lines are passed on, byte for byte.
+/// What holds of the texts of all events: what they show of an event stands in them, escaped, so that none of its characters ends a line,
+/// moves the cursor or turns the direction of text; they are whole lines and never empty, but for starts that are not to be shown; and
+/// other lines are passed on, byte for byte.
 #[tactic(auto, using(crate::proofs::Standing::texts_stand))]
 pub fn texts_stand()
     ensures { TextsStand }

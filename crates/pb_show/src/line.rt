@@ -22,13 +22,15 @@ impl Model for Line {
     ghost view = { λ l. string_bytes l.text };
 }
 
-/// Whether a terminal may act on a character in place of showing it, or a text end a line or turn its direction by it.
+/// Whether a terminal may act on a character in place of showing it, or a text end a line or turn its direction by it: the marks of
+/// UAX #9, and Unicode's separators of lines and paragraphs.
 fn is_hidden(c: char) -> bool
     ensures { result ≡ is_hidden c }
 {
     let n = c as u32;
     n < 32
         || (127 <= n && n < 160)
+        || n == 1564
         || (8206 <= n && n < 8208)
         || (8232 <= n && n < 8239)
         || (8294 <= n && n < 8298)
