@@ -1,6 +1,7 @@
 pub mod Banners
 pub mod Closing
 pub mod Escaped
+pub mod Faults
 pub mod Kinds
 pub mod Reading
 pub mod Results

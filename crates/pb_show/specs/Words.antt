@@ -32,13 +32,13 @@ abbrev pub asked : Look → ℕ → List (List ℕ) → Asked
 asked look i [] = Show look
 asked look i (word ∷ words) = asked_by (word_named word) look i (λ (l : Look). asked l (i + 1) words)
 
--- at the status 0: the help, or all that is shown of the reader's bytes, where these are known
+-- where it ends well: the help, or all that is shown of the reader's bytes, where these are known
 abbrev pub IsDone : List ℕ → Asked → Option (List ℕ) → Option (List ℕ) → Option (List ℕ) → Type 0
 IsDone help Help bytes old new = Appends old new help
 IsDone help (Show look) bytes old new = IfSome bytes (λ bs. Appends old new (all_shown look bs))
 IsDone help (Unknown i) bytes old new = ⊥
 
--- at any status: a front of that
+-- however it ends: a front of that
 abbrev pub IsBegun : List ℕ → Asked → Option (List ℕ) → Option (List ℕ) → Option (List ℕ) → Type 0
 IsBegun help Help bytes old new = AppendsFront old new help
 IsBegun help (Show look) bytes old new = IfSome bytes (λ bs. AppendsFront old new (all_shown look bs))

@@ -21,6 +21,7 @@ mod output;
 mod program;
 mod reading;
 mod showing;
+mod streams;
 mod words;
 
 pub use ended::{Ended, Ending};
@@ -30,6 +31,7 @@ pub use notices::{Notice, Play, Task, Totals};
 pub use output::{ShowFault, show_lines};
 pub use program::show;
 pub use showing::{Failure, Phase, Showing};
+pub use streams::{BytesOut, Counted, Failed, LinesIn};
 pub use words::{Asked, read_words};
 
 /// What holds of the texts of all events: what they show of an event stands in them, escaped, so that none of its characters ends a line,

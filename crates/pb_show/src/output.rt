@@ -1,88 +1,89 @@
 //! All lines of a reader, shown on a writer.
 
-ghost use Rattle.std.specs.Prelude.{◌≡◌, ℕ, take, unwrap_or, IfSome, IfOk, OnOk, OnErr};
+ghost use Rattle.std.specs.Prelude.{◌≡◌, IfSome, IfErr, OnOk, OnErr};
 ghost use Rattle.std.specs.Io.KnownBytes.{Appends};
-ghost use Rattle.pb_show.specs.declared.output.ShowFault.TheVariants.{Memory};
+ghost use Rattle.pb_show.specs.declared.output.ShowFault.TheVariants as fault;
+ghost use Rattle.pb_show.specs.Faults.{IsCut, IsWhy};
 ghost use Rattle.pb_show.specs.Showing.{start, shown};
 ghost use Rattle.pb_show.specs.Closing.{closing};
 ghost use Rattle.pb_show.specs.Whole.{all_shown, AppendsFront};
 
 use crate::look::Look;
 use crate::showing::Showing;
+use crate::streams::{BytesOut, Failed, LinesIn, put_all};
 use pb_value::text::Text;
 use std::alloc::{AllocError, Global};
-use std::io::{BufRead, Write};
+use std::io::Write;
 use thiserror::Error;
 
 /// Why lines aren't shown to their end.
 #[derive(Clone, Copy, Debug, PartialEq, Eq, Error)]
 pub enum ShowFault {
-    /// The reader failed, or gave 2^64 lines.
+    /// A call of the reader failed, or it has 2^64 - 1 lines or more.
     #[error("the lines can't be read")]
     Read,
-    /// The writer failed, or takes no more.
+    /// A call of the writer failed.
     #[error("what is shown can't be written")]
     Write,
     #[error("out of memory")]
     Memory,
+    /// A word isn't one of the program's; of `show` alone.
+    #[error("a word is not one of the program's")]
+    Word,
 }
 
 impl From<AllocError> for ShowFault {
-    ghost from_gives = { λ _ e. e ≡ Memory };
+    ghost from_gives = { λ _ e. e ≡ fault.Memory };
 
     fn from(_e: AllocError) -> ShowFault {
         ShowFault::Memory
     }
 }
 
-/// Writes all of the bytes. A short write goes on; it stops at the first call that fails.
-pub(crate) fn put_all<W: Write>(writer: &mut W, bytes: &[u8]) -> Result<(), ShowFault>
-    ensures ok { OnOk result (Appends (W.contents writer.old) (W.contents writer.new) bytes.now) }
-    ensures err { OnErr result (AppendsFront (W.contents writer.old) (W.contents writer.new) bytes.now) }
-{
-    let mut at = 0;
-    while at < bytes.len() {
-        let Ok(n) = writer.write(&bytes[at..]) else {
-            return Err(ShowFault::Write);
-        };
-        if n == 0 {
-            return Err(ShowFault::Write);
-        }
-        at += n;
+impl From<Failed> for ShowFault {
+    ghost from_gives = { λ _ e. e ≡ fault.Write };
+
+    fn from(_e: Failed) -> ShowFault {
+        ShowFault::Write
     }
-    Ok(())
 }
 
 /// Writes what a line becomes: the whole of it, or a front of it at a fault.
-fn show_one<W: Write>(
+fn show_one<W: BytesOut>(
     alloc: Global,
     look: Look,
     showing: &mut Showing,
     line: &[u8],
     writer: &mut W,
 ) -> Result<(), ShowFault>
-    ensures ok { OnOk result (Appends (W.contents writer.old) (W.contents writer.new) (shown look showing.old line.now).text) }
+    ensures ok { OnOk result (Appends (W.taken writer.old) (W.taken writer.new) (shown look showing.old line.now).text) }
     ensures state { OnOk result (showing.new ≡ (shown look showing.old line.now).state) }
-    ensures err { OnErr result (AppendsFront (W.contents writer.old) (W.contents writer.new) (shown look showing.old line.now).text) }
+    ensures err { OnErr result (AppendsFront (W.taken writer.old) (W.taken writer.new) (shown look showing.old line.now).text) }
+    ensures quiet { OnOk result (W.failures writer.new ≡ W.failures writer.old) }
+    ensures fault { IfErr result (λ e. IsCut e (W.failures writer.old) (W.failures writer.new)) }
 {
     match showing.show_line(alloc, look, line)? {
-        Some(text) => put_all(writer, text.as_str().as_bytes()),
-        None => put_all(writer, line),
+        Some(text) => writer.put(text.as_str().as_bytes())?,
+        None => writer.put(line)?,
     }
+    Ok(())
 }
 
 /// Writes the line at the end.
-fn show_closing<W: Write>(
+fn show_closing<W: BytesOut>(
     alloc: Global,
     look: Look,
     showing: &Showing,
     writer: &mut W,
 ) -> Result<(), ShowFault>
-    ensures ok { OnOk result (Appends (W.contents writer.old) (W.contents writer.new) (closing look showing.now)) }
-    ensures err { OnErr result (AppendsFront (W.contents writer.old) (W.contents writer.new) (closing look showing.now)) }
+    ensures ok { OnOk result (Appends (W.taken writer.old) (W.taken writer.new) (closing look showing.now)) }
+    ensures err { OnErr result (AppendsFront (W.taken writer.old) (W.taken writer.new) (closing look showing.now)) }
+    ensures quiet { OnOk result (W.failures writer.new ≡ W.failures writer.old) }
+    ensures fault { IfErr result (λ e. IsCut e (W.failures writer.old) (W.failures writer.new)) }
 {
     let text = showing.closing(alloc, look)?;
-    put_all(writer, text.as_str().as_bytes())
+    writer.put(text.as_str().as_bytes())?;
+    Ok(())
 }
 
 /// Writes how many hosts have ended the task, where that is asked for; what can't be written is left out.
@@ -107,32 +108,36 @@ fn wipe<E: Write>(look: Look, err: &mut E) {
 /// ended the task, which is wiped off before more is shown.
 ///
 /// # Errors
-/// `Read` where the reader failed, `Write` where the writer failed or took nothing, `Memory` where memory was refused. What was written
-/// is then a front of what would have been.
-pub fn show_lines<R: BufRead, W: Write, E: Write>(
+/// `Read` where a call of the reader failed, or it has 2^64 - 1 lines or more; `Write` where a call of the writer failed; `Memory` where
+/// memory was refused. What was written is then a front of what would have been.
+pub fn show_lines<R: LinesIn, W: BytesOut, E: Write>(
     alloc: Global,
     look: Look,
     reader: &mut R,
     writer: &mut W,
     err: &mut E,
 ) -> Result<(), ShowFault>
-    ensures whole { OnOk result (IfSome (R.remaining reader.old) (λ bytes. Appends (W.contents writer.old) (W.contents writer.new) (all_shown look bytes))) }
-    ensures begun { IfSome (R.remaining reader.old) (λ bytes. AppendsFront (W.contents writer.old) (W.contents writer.new) (all_shown look bytes)) }
+    ensures whole { OnOk result (IfSome (R.left reader.old) (λ bytes. Appends (W.taken writer.old) (W.taken writer.new) (all_shown look bytes))) }
+    ensures begun { IfSome (R.left reader.old) (λ bytes. AppendsFront (W.taken writer.old) (W.taken writer.new) (all_shown look bytes)) }
+    ensures read { OnOk result (R.failures reader.new ≡ R.failures reader.old) }
+    ensures written { OnOk result (W.failures writer.new ≡ W.failures writer.old) }
+    ensures fault { IfErr result (λ e. IsWhy e (R.left reader.old) (R.failures reader.old) (R.failures reader.new) (W.failures writer.old) (W.failures writer.new)) }
 {
     let mut showing = Showing::new(alloc);
     let mut line = Vec::new(alloc);
-    for _ in 0..u64::MAX {
-        line.clear();
-        let Ok(count) = reader.read_until(b'\n', &mut line) else {
+    let mut lines = 0;
+    while lines < u64::MAX {
+        let Ok(()) = reader.next_line(&mut line) else {
             return Err(ShowFault::Read);
         };
         wipe(look, err);
-        if count == 0 {
+        if line.is_empty() {
             show_closing(alloc, look, &showing, writer)?;
             return Ok(());
         }
         show_one(alloc, look, &mut showing, line.as_slice(), writer)?;
         show_progress(alloc, look, &showing, err);
+        lines += 1;
     }
     Err(ShowFault::Read)
 }

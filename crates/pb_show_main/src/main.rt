@@ -1,13 +1,13 @@
 //! The program `pb-show`: its words and its streams, handed to the library.
 #![tactic(auto)]
 
-use pb_show::{Look, show};
+use pb_show::{Counted, Look, show};
 use std::env;
 use std::io::{BufReader, IsTerminal};
 use std::process::ExitCode;
 
 fn main(rt: HostRuntime) -> ExitCode {
-    let mut out = rt.stdout();
+    let out = rt.stdout();
     let mut err = rt.stderr();
     let words = match env::args(&rt) {
         Ok(args) => args.skip(1).collect(rt.alloc()),
@@ -17,7 +17,7 @@ fn main(rt: HostRuntime) -> ExitCode {
         Ok(words) => words,
         Err(_) => return ExitCode::from(1),
     };
-    let Ok(mut reader) = BufReader::new(rt.alloc(), rt.stdin()) else {
+    let Ok(reader) = BufReader::new(rt.alloc(), rt.stdin()) else {
         return ExitCode::from(1);
     };
     let look = Look {
@@ -25,12 +25,16 @@ fn main(rt: HostRuntime) -> ExitCode {
         starts: false,
         progress: err.is_terminal(),
     };
-    ExitCode::from(show(
+    let shown = show(
         rt.alloc(),
         words.as_slice(),
         look,
-        &mut reader,
-        &mut out,
+        &mut Counted::new(reader),
+        &mut Counted::new(out),
         &mut err,
-    ))
+    );
+    match shown {
+        Ok(()) => ExitCode::from(0),
+        Err(_) => ExitCode::from(1),
+    }
 }

@@ -1,5 +1,5 @@
 use Rattle.pb_show.proofs.Fronts.{piece_within, piece_taken}
-use Rattle.pb_show.proofs.output.put_all.Goals as goal
+use Rattle.pb_show.proofs.streams.put_all.Goals as goal
 
 pub loop-at-preserved : goal.loop-at-preserved
 loop-at-preserved g c =
