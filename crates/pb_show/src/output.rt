@@ -19,9 +19,12 @@ use thiserror::Error;
 /// Why lines aren't shown to their end.
 #[derive(Clone, Copy, Debug, PartialEq, Eq, Error)]
 pub enum ShowFault {
-    /// A call of the reader failed, or it has 2^64 - 1 lines or more.
+    /// A call of the reader failed.
     #[error("the lines can't be read")]
     Read,
+    /// The reader has 2^64 - 1 lines or more.
+    #[error("there are too many lines")]
+    TooLong,
     /// A call of the writer failed.
     #[error("what is shown can't be written")]
     Write,
@@ -108,8 +111,8 @@ fn wipe<E: Write>(look: Look, err: &mut E) {
 /// ended the task, which is wiped off before more is shown.
 ///
 /// # Errors
-/// `Read` where a call of the reader failed, or it has 2^64 - 1 lines or more; `Write` where a call of the writer failed; `Memory` where
-/// memory was refused. What was written is then a front of what would have been.
+/// `Read` where a call of the reader failed, `TooLong` where it has 2^64 - 1 lines or more, `Write` where a call of the writer failed,
+/// `Memory` where memory was refused. What was written is then a front of what would have been.
 pub fn show_lines<R: LinesIn, W: BytesOut, E: Write>(
     alloc: Global,
     look: Look,
@@ -139,5 +142,5 @@ pub fn show_lines<R: LinesIn, W: BytesOut, E: Write>(
         show_progress(alloc, look, &showing, err);
         lines += 1;
     }
-    Err(ShowFault::Read)
+    Err(ShowFault::TooLong)
 }

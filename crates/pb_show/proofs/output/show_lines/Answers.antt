@@ -1,4 +1,5 @@
-use Rattle.std.proofs.Common.{◌≡◌, ◌<◌, ◌≤◌, ◌-◌, ◌^◌, length, inr, refl, sym, ◌∙◌, subst, arith}
+use Rattle.std.proofs.Common.{◌≡◌, ◌<◌, ◌≤◌, ◌-◌, ◌^◌, length, refl, sym, ◌∙◌, subst, arith}
+use Rattle.pb_show.specs.Closing.{closing}
 use Rattle.pb_show.specs.declared.showing.Showing.{Showing}
 use Rattle.pb_show.proofs.Fronts.{whole_front}
 use Rattle.pb_show.proofs.Going.{Goes, goes_first, goes_on, goes_endless, handed_on, at_end, stops_in_line, stops_here, ends, stops_at_end}
@@ -23,7 +24,7 @@ returns-clause-begun g c = stops_here c.args.look _ _ _ _ c.loop-lines.showing _
 pub returns-clause-fault : goal.returns-clause-fault
 returns-clause-fault g c =
     let full : 2 ^ 64 - 1 ≤ c.loop-lines.lines = omega (arith, c.loop-lines-test.false) in
-    (inr (c.loop-lines.invariant.read, goes_endless c.args.look _ _ _ _ c.loop-lines.showing _ c.loop-lines.invariant.going full), c.loop-lines.invariant.written)
+    (c.loop-lines.invariant.read, c.loop-lines.invariant.written, goes_endless c.args.look _ _ _ _ c.loop-lines.showing _ c.loop-lines.invariant.going full)
 
 pub returns-in_err-show_one-clause-begun : goal.returns-in_err-show_one-clause-begun
 returns-in_err-show_one-clause-begun g c =
@@ -55,4 +56,4 @@ pub returns-then-is_empty-clause-begun : goal.returns-then-is_empty-clause-begun
 returns-then-is_empty-clause-begun g c =
     let none : length c.next_line.new.line.items ≡ 0 = grind (arith, c.if-is_empty.true, c.is_empty.ensures) in
     stops_at_end c.args.look _ _ _ _ _ c.loop-lines.showing _ c.loop-lines.invariant.going (at_end (g.R.LinesIn.left c.loop-lines.reader) _ c.in-Ok.ensures.bytes none)
-    (whole_front _ _ _ c.in_ok-show_closing.ensures.ok)
+    (whole_front (g.W.BytesOut.taken c.loop-lines.writer) (g.W.BytesOut.taken c.show_closing.new.writer) (closing c.args.look c.loop-lines.showing) c.in_ok-show_closing.ensures.ok)
