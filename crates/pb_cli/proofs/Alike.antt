@@ -72,7 +72,7 @@ whole_again plan forks table commands again status some run unrefused unstopped 
     (whole_forks forks plan (given_by plan.inventory table) 256 again s is_end).0
 
 pub forks_change_nothing : ForksChangeNothing
-forks_change_nothing bundle forks bytes trail plan found before after status first second linear independent unstopped unstopped_too unrefused unrefused_too =
+forks_change_nothing bundle forks stop_after other_stop_after bytes trail plan found before after status first second linear independent unstopped unstopped_too unrefused unrefused_too =
     let apart : second.other ≡ with_forks forks plan = forks_are_apart bundle forks plan second.other second.planned second.others in
     let one : IsWhole plan (given_by plan.inventory first.table) plan.forks 256 trail = record {
       some = subst (λ (n : ℕ). 0 < n) (sym second.planned.planned.has_forks) (has_forks bundle plan second.planned);
@@ -81,20 +81,20 @@ forks_change_nothing bundle forks bytes trail plan found before after status fir
       finished = first.run.run.finished;
       unstopped = unstopped;
     } in
-    let two = whole_again plan forks second.table (commands_for None) second.again second.status (has_forks _ second.other second.others)
-    (subst (λ (p : PlanOf). IsRunBy (IsAnswer allows_all (TableGives second.table)) p 256 (commands_for None) second.again None None second.status) apart second.run)
+    let two = whole_again plan forks second.table (commands_for other_stop_after) second.again second.status (has_forks _ second.other second.others)
+    (subst (λ (p : PlanOf). IsRunBy (IsAnswer allows_all (TableGives second.table)) p 256 (commands_for other_stop_after) second.again None None second.status) apart second.run)
     (subst (λ (p : PlanOf). IsUnrefused second.table p (first_state p p.forks 256) second.again) apart unrefused_too) unstopped_too in
     let same : second.table ≡ first.table = one_of _ second.table first.table second.tabled first.tabled in
     second.same (given_by plan.inventory first.table) linear independent one
     (subst (λ (t : Table). IsWhole plan (given_by plan.inventory t) forks 256 second.again) same two)
 
 -- ---- two plays
-module _ (bundle : Bundle) (forks : ℕ) (bytes : List ℕ) (plan : PlanOf) (trail again : List Event) (before after before_again after_again : Option (List ℕ)) (status other_status : ℕ)
-    (first : IsTabled bytes plan None trail before after status) where
+module _ (bundle : Bundle) (forks : ℕ) (stop_after other_stop_after : Option ℕ) (bytes : List ℕ) (plan : PlanOf) (trail again : List Event) (before after before_again after_again : Option (List ℕ)) (status other_status : ℕ)
+    (first : IsTabled bytes plan stop_after trail before after status) where
   -- what is known of the second one, and what follows
   abbrev Agrees : PlanOf → Type 0
   Agrees other =
-      (second : IsTabled bytes other None again before_again after_again other_status) → (end_of other again).stopped ≡ false → IsUnrefused second.table other (first_state other other.forks 256) again →
+      (second : IsTabled bytes other other_stop_after again before_again after_again other_status) → (end_of other again).stopped ≡ false → IsUnrefused second.table other (first_state other other.forks 256) again →
       AreAlike plan other trail again status other_status
 
   agrees : IsPlanOf bundle plan → 0 < forks → are_linear plan ≡ true → is_independent plan ≡ true → (end_of plan trail).stopped ≡ false → IsUnrefused first.table plan (first_state plan plan.forks 256) trail
@@ -125,8 +125,8 @@ module _ (bundle : Bundle) (forks : ℕ) (bytes : List ℕ) (plan : PlanOf) (tra
       }
 
 pub plays_agree : PlaysAgree
-plays_agree bundle forks bytes plan other trail again before after before_again after_again status other_status first second planned others linear independent unstopped unstopped_too unrefused unrefused_too =
+plays_agree bundle forks stop_after other_stop_after bytes plan other trail again before after before_again after_again status other_status first second planned others linear independent unstopped unstopped_too unrefused unrefused_too =
     let apart : other ≡ with_forks forks plan = forks_are_apart bundle forks plan other planned others in
-    subst (Agrees bundle forks bytes plan trail again before after before_again after_again status other_status first) (sym apart)
-    (agrees bundle forks bytes plan trail again before after before_again after_again status other_status first planned (has_forks (record bundle { forks = forks }) other others) linear independent unstopped unrefused)
+    subst (Agrees bundle forks stop_after other_stop_after bytes plan trail again before after before_again after_again status other_status first) (sym apart)
+    (agrees bundle forks stop_after other_stop_after bytes plan trail again before after before_again after_again status other_status first planned (has_forks (record bundle { forks = forks }) other others) linear independent unstopped unrefused)
     second unstopped_too unrefused_too

@@ -8,3 +8,4 @@ pub mod Alike
 pub mod Compared
 pub mod Left
 pub mod Telling
+pub mod Putting

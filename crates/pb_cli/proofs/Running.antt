@@ -1,7 +1,7 @@
 -- A run, said of what a caller sees.
 use Rattle.std.proofs.Common.{◌≡◌, ◌⊎◌, ◌≤◌, ℕ, Bool, true, false, List, Option, Some, None, Ok, inl, inr, arith, sym, subst}
 use Rattle.std.specs.List.{list_any}
-use Rattle.std.specs.Prelude.{if◌then◌else◌}
+use Rattle.std.specs.Prelude.{◌≢◌, if◌then◌else◌}
 use Rattle.pb_outcome.specs.declared.job.Job.{Job}
 use Rattle.pb_outcome.specs.declared.outcome.Form.{Form}
 use Rattle.pb_plan.specs.Plan.{PlanOf}
@@ -12,6 +12,7 @@ use Rattle.pb_audit.specs.Audit.{is_legal}
 use Rattle.pb_audit.specs.Larger.{LargerPoolsAllow}
 use Rattle.pb_driver.specs.FromRecap.{Failed, Unreachable, status_of, has, recap}
 use Rattle.pb_driver.specs.declared.driver.RunFault.{RunFault}
+use Rattle.pb_driver.specs.declared.driver.RunFault.TheVariants.{Closed}
 use Rattle.pb_driver.specs.Laws.{RunsKeepLaws}
 use Rattle.pb_driver.specs.Cut.{IsCut}
 use Rattle.pb_driver.specs.Driven.{Answers, IsAnswer, IsBegun, IsBegunBy, IsWhole, IsWholeRun}
@@ -114,10 +115,10 @@ tabled_by bytes plan stop_after table table_after trail before after status is r
 -- one that couldn't go on, by the fault that is answered
 pub tabled_to : (bytes : List ℕ) (plan : PlanOf) (stop_after : Option ℕ) (table table_after : Table) (events : List Event) (met fault : RunFault) (trail : Option (List Event)) (before after : Option (List ℕ))
     → table_of bytes ≡ Ok table → IsCutBy (IsAnswer allows_all (TableGives table)) plan 256 (commands_for stop_after) events before after → IsRanTo (λ jobs. TableRan table jobs table_after) plan 256 events met
-    → met ≡ fault → Some events ≡ trail → HasTrail trail (λ es. IsTabledCut bytes plan stop_after es fault before after)
-tabled_to bytes plan stop_after table table_after events met fault trail before after is cut ran same_fault same_trail =
+    → met ≢ Closed → met ≡ fault → Some events ≡ trail → HasTrail trail (λ es. IsTabledCut bytes plan stop_after es fault before after)
+tabled_to bytes plan stop_after table table_after events met fault trail before after is cut ran opened same_fault same_trail =
     let whole : IsTabledCut bytes plan stop_after events met before after =
-    record { table = table; tabled = is; cut = cut; ran = ran_as (λ jobs. TableRan table jobs table_after) (AllGiven table) plan 256 events met (λ jobs given. given.1) ran }
+    record { table = table; tabled = is; cut = cut; ran = ran_as (λ jobs. TableRan table jobs table_after) (AllGiven table) plan 256 events met (λ jobs given. given.1) ran; opened = opened }
     in
     subst (λ (f : RunFault). HasTrail trail (λ es. IsTabledCut bytes plan stop_after es f before after)) same_fault
     (subst (λ (t : Option (List Event)). HasTrail t (λ es. IsTabledCut bytes plan stop_after es met before after)) same_trail whole)

@@ -1,5 +1,5 @@
 -- The trails that are handed out are legal.
-use Rattle.std.proofs.Common.{◌≡◌, ℕ, Bool, true, false, List, Option, Some, None, inl, inr, refl, subst}
+use Rattle.std.proofs.Common.{◌≡◌, ◌⊎◌, ℕ, Bool, true, false, List, Option, Some, None, inl, inr, refl, subst}
 use Rattle.pb_planning.specs.Bundle.{IsPlanOf}
 use Rattle.pb_plan.specs.Plan.{PlanOf}
 use Rattle.pb_planning.specs.declared.bundle.Bundle.{Bundle}
@@ -11,9 +11,9 @@ use Rattle.pb_command_line.specs.declared.words.Purpose.{Purpose}
 use Rattle.pb_command_line.specs.declared.words.Purpose.TheVariants.{Run, CheckSyntax, ListHosts}
 use Rattle.pb_cli.specs.declared.playing.Played.{Played}
 use Rattle.pb_cli.specs.declared.playing.Wanted.{Wanted}
-use Rattle.pb_cli.specs.Played.{IsPlayed, IsPlayedTo, HasTrail, IsRunOrAudited, IsRunOrAuditedTo, IsGivenFor, IsGivenToFor, IsGivenTo, IsGivenUnless, IsGivenToUnless, is_forbidden}
-use Rattle.pb_cli.specs.Done.{TrailsAreLegal}
-use Rattle.pb_cli.specs.World.{Stage}
+use Rattle.pb_cli.specs.Played.{IsPlayed, IsPlayedTo, HasTrail, IsRunOrAudited, IsRunOrAuditedTo, IsGivenFor, IsGivenToFor, IsGivenTo, IsGivenUnless, is_forbidden, IsUnbegun}
+use Rattle.pb_cli.specs.Done.{IsWarnedAndStopped, TrailsAreLegal}
+use Rattle.pb_cli.specs.World.{Stage, World, IsQuiet}
 
 of_run : (plan : PlanOf) (stop_after : Option ℕ) (facts outcomes : Option (List ℕ)) (trail : List Event) (before after : Stage) (status : ℕ)
     → IsPlayed plan stop_after facts outcomes trail before after status → is_legal plan trail ≡ true
@@ -48,13 +48,13 @@ of_given ListHosts wanted plan before after played trail given is = no_trail pla
 of_whole_cut : (audited : Option (List ℕ)) (wanted : Wanted) (plan : PlanOf) (fault : RunFault) (trail : List Event) (before after : Stage)
     → IsRunOrAuditedTo audited wanted plan fault (Some trail) before after → is_legal plan trail ≡ true
 of_whole_cut None wanted plan fault trail before after cut = of_cut plan wanted.stop_after wanted.facts_program wanted.outcomes trail fault before after cut
-of_whole_cut (Some bytes) wanted plan fault trail before after cut = no_trail (Some trail) trail cut.1 refl
+of_whole_cut (Some bytes) wanted plan fault trail before after cut = no_trail (Some trail) trail cut.2 refl
 
 of_given_cut : (purpose : Purpose) (wanted : Wanted) (plan : PlanOf) (fault : RunFault) (trail : List Event) (before after : Stage)
     → IsGivenToFor purpose wanted plan fault (Some trail) before after → is_legal plan trail ≡ true
 of_given_cut Run wanted plan fault trail before after cut = of_whole_cut wanted.audited wanted plan fault trail before after cut
-of_given_cut CheckSyntax wanted plan fault trail before after cut = no_trail (Some trail) trail cut.1 refl
-of_given_cut ListHosts wanted plan fault trail before after cut = no_trail (Some trail) trail cut.1 refl
+of_given_cut CheckSyntax wanted plan fault trail before after cut = no_trail (Some trail) trail cut.2 refl
+of_given_cut ListHosts wanted plan fault trail before after cut = no_trail (Some trail) trail cut.2 refl
 
 of_stopped : (wanted : Wanted) (plan : PlanOf) (fault : RunFault) (trail : List Event) (before after : Stage)
     → IsGivenTo wanted plan fault (Some trail) before after → is_legal plan trail ≡ true
@@ -66,10 +66,10 @@ of_given_unless : (forbidden : Bool) (wanted : Wanted) (plan : PlanOf) (before a
 of_given_unless true wanted plan before after played trail given is = no_trail played.trail trail given.2 is
 of_given_unless false wanted plan before after played trail given is = of_given wanted.purpose wanted plan before after played trail given is
 
-of_stopped_unless : (forbidden : Bool) (wanted : Wanted) (plan : PlanOf) (fault : RunFault) (trail : List Event) (before after : Stage)
-    → IsGivenToUnless forbidden wanted plan fault (Some trail) before after → is_legal plan trail ≡ true
-of_stopped_unless true wanted plan fault trail before after unbegun = no_trail (Some trail) trail unbegun.1 refl
-of_stopped_unless false wanted plan fault trail before after cut = of_stopped wanted plan fault trail before after cut
+of_warned : (wanted : Wanted) (plan : PlanOf) (fault : RunFault) (trail : List Event) (before after : World)
+    → (IsUnbegun fault (Some trail) before.stage after.stage × IsQuiet before.err after.err) ⊎ IsWarnedAndStopped wanted plan fault (Some trail) before after → is_legal plan trail ≡ true
+of_warned wanted plan fault trail before after (inl unwarned) = let unbegun = unwarned.0 in no_trail (Some trail) trail unbegun.1 refl
+of_warned wanted plan fault trail before after (inr stopped) = of_stopped wanted plan fault trail before.stage after.stage stopped.2
 
 -- so it is under every plan of the bundle
 under_any : (bundle : Bundle) (one plan : PlanOf) (trail : List Event) → IsPlanOf bundle one → IsPlanOf bundle plan → is_legal one trail ≡ true → is_legal plan trail ≡ true
@@ -80,5 +80,5 @@ trails_are_legal = (
   λ bundle wanted before after played trail shown is plan planned.
       under_any bundle shown.0 plan trail shown.1 planned (of_given_unless (is_forbidden wanted shown.0) wanted shown.0 before.stage after.stage played trail shown.2 is),
   λ bundle wanted fault before after trail stopped plan planned.
-      under_any bundle stopped.0 plan trail stopped.1 planned (of_stopped_unless (is_forbidden wanted stopped.0) wanted stopped.0 fault trail before after stopped.2),
+      under_any bundle stopped.0 plan trail stopped.1 planned (of_warned wanted stopped.0 fault trail before after stopped.2),
 )

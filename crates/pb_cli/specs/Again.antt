@@ -56,8 +56,8 @@ IsSameUnderPut (Some forks) (Some trail) bundle wanted before after =
 -- two runs of one bundle by one file of outcomes, with any forks, end in the same, if its plays are linear, no host knows of another, and neither run was stopped, or lacked memory for what the file gives
 abbrev pub ForksChangeNothing : Type 0
 ForksChangeNothing =
-    (bundle : Bundle) (forks : ℕ) (bytes : List ℕ) (trail : List Event) (plan : PlanOf) (found : Option HostNo) (before after : Option (List ℕ)) (status : ℕ)
-    (first : IsTabled bytes plan None trail before after status) (second : IsCompared bundle forks None bytes trail plan found) →
+    (bundle : Bundle) (forks : ℕ) (stop_after other_stop_after : Option ℕ) (bytes : List ℕ) (trail : List Event) (plan : PlanOf) (found : Option HostNo) (before after : Option (List ℕ)) (status : ℕ)
+    (first : IsTabled bytes plan stop_after trail before after status) (second : IsCompared bundle forks other_stop_after bytes trail plan found) →
     are_linear plan ≡ true → is_independent plan ≡ true → (end_of plan trail).stopped ≡ false → (end_under plan forks second.again).stopped ≡ false →
     IsUnrefused first.table plan (first_state plan plan.forks 256) trail → IsUnrefused second.table second.other (first_state second.other second.other.forks 256) second.again →
     found ≡ None
@@ -70,8 +70,8 @@ pub record AreAlike (plan other : PlanOf) (trail again : List Event) (status oth
 
 abbrev pub PlaysAgree : Type 0
 PlaysAgree =
-    (bundle : Bundle) (forks : ℕ) (bytes : List ℕ) (plan other : PlanOf) (trail again : List Event) (before after before_again after_again : Option (List ℕ)) (status other_status : ℕ)
-    (first : IsTabled bytes plan None trail before after status) (second : IsTabled bytes other None again before_again after_again other_status) →
+    (bundle : Bundle) (forks : ℕ) (stop_after other_stop_after : Option ℕ) (bytes : List ℕ) (plan other : PlanOf) (trail again : List Event) (before after before_again after_again : Option (List ℕ)) (status other_status : ℕ)
+    (first : IsTabled bytes plan stop_after trail before after status) (second : IsTabled bytes other other_stop_after again before_again after_again other_status) →
     IsPlanOf bundle plan → IsPlanOf (record bundle { forks = forks }) other → are_linear plan ≡ true → is_independent plan ≡ true →
     (end_of plan trail).stopped ≡ false → (end_of other again).stopped ≡ false →
     IsUnrefused first.table plan (first_state plan plan.forks 256) trail → IsUnrefused second.table other (first_state other other.forks 256) again →

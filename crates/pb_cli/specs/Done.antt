@@ -11,8 +11,8 @@ use Rattle.pb_planning.specs.declared.bundle.Bundle.{Bundle}
 use Rattle.pb_plan.specs.Plan.{PlanOf}
 use Rattle.pb_planning.specs.Bundle.{IsPlanOf}
 use Rattle.pb_driver.specs.declared.driver.RunFault.{RunFault}
-use Rattle.pb_driver.specs.declared.driver.RunFault.TheVariants.{Write}
 use Rattle.pb_driver.specs.Cut.{IsPart}
+use Rattle.pb_driver.specs.Failing.{failures_by}
 use Rattle.pb_driver.specs.Taken.{with_more, one_more}
 use Rattle.pb_command_line.specs.declared.words.Request.{Request}
 use Rattle.pb_command_line.specs.declared.words.Purpose.TheVariants.{Run}
@@ -23,9 +23,9 @@ use Rattle.pb_cli.specs.declared.playing.Wanted.{Wanted}
 use Rattle.pb_cli.specs.Again.{IsSameUnderPut}
 use Rattle.pb_cli.specs.Audited.{IsBadTrail}
 use Rattle.pb_cli.specs.RoleFiles.{AreRolesIn}
-use Rattle.pb_cli.specs.Played.{IsBadTable, is_forbidden, IsGivenUnless, IsGivenToUnless}
+use Rattle.pb_cli.specs.Played.{IsBadTable, is_forbidden, IsGivenUnless, IsGivenTo, IsUnbegun}
 use Rattle.pb_cli.specs.Warned.{IsWarned}
-use Rattle.pb_cli.specs.World.{Stage, Stream, World, IsUntouched}
+use Rattle.pb_cli.specs.World.{Stage, Stream, World, IsQuiet, IsUntouched}
 
 -- the bundle of a request: its forks, limit and extra variables, whether it names a facts program, and of each file's bytes no more than there is room for, and one byte that tells that there are more;
 -- the files of roles stand behind the inventory and the playbook
@@ -59,6 +59,7 @@ pub record HasBadOutcomes (bundle : Bundle) (wanted : Wanted) (e : TableFault) (
   pub allowed : is_forbidden wanted plan ≡ false
   pub runs : wanted.purpose ≡ Run
   pub unaudited : wanted.audited ≡ None
+  pub given : is_some wanted.outcomes ≡ true
   pub warned : IsWarned plan.warnings before.err after.err
   pub untouched : IsUntouched before.stage after.stage
   pub fault : e ≢ Memory → IsBadTable wanted.outcomes e
@@ -69,6 +70,7 @@ pub record IsUnread (bundle : Bundle) (wanted : Wanted) (e : TrailFault) (before
   pub planned : IsPlanOf bundle plan
   pub allowed : is_forbidden wanted plan ≡ false
   pub runs : wanted.purpose ≡ Run
+  pub given : is_some wanted.audited ≡ true
   pub warned : IsWarned plan.warnings before.err after.err
   pub untouched : IsUntouched before.stage after.stage
   pub fault : e ≢ NoTrailMemory → IsBadTrail wanted.audited e
@@ -86,18 +88,23 @@ pub record IsShownAs (status : ℕ) (bundle : Bundle) (wanted : Wanted) (same_un
   pub exit_status : played.status ≡ status
   pub again : IsSameUnderPut same_under played.trail bundle wanted err_shown after.err
 
--- a bundle has a plan, and what it is made for couldn't go on: memory was refused before anything was started or written, or no warning is a fault and a beginning of it was done; the trail is that of the run, where one
--- began
-abbrev pub IsStopped : Bundle → Wanted → RunFault → (trail : Option (List Event)) → (before after : Stage) → Type 0
+-- what a plan is made for couldn't go on behind its warnings, which are no faults or there are none
+abbrev pub IsWarnedAndStopped : Wanted → PlanOf → RunFault → (trail : Option (List Event)) → (before after : World) → Type 0
+IsWarnedAndStopped wanted plan fault trail before after =
+    (is_forbidden wanted plan ≡ false) × IsWarned plan.warnings before.err after.err × IsGivenTo wanted plan fault trail before.stage after.stage
+
+-- a bundle has a plan, and what it is made for couldn't go on: memory was refused for the text of its warnings, and nothing was started or written; or they were written, and then memory was refused before anything was
+-- started or written, or a beginning of it was done. The trail is that of the run, where one began
+abbrev pub IsStopped : Bundle → Wanted → RunFault → (trail : Option (List Event)) → (before after : World) → Type 0
 IsStopped bundle wanted fault trail before after =
-    (plan : PlanOf) × IsPlanOf bundle plan × IsGivenToUnless (is_forbidden wanted plan) wanted plan fault trail before after
+    (plan : PlanOf) × IsPlanOf bundle plan × ((IsUnbegun fault trail before.stage after.stage × IsQuiet before.err after.err) ⊎ IsWarnedAndStopped wanted plan fault trail before after)
 
 -- of each bundle's run that is whole the trail that is handed out is legal under the bundle's plan, of which there is one, and so is that of a run that couldn't go on
 abbrev pub TrailsAreLegal : Type 0
 TrailsAreLegal =
     ((bundle : Bundle) (wanted : Wanted) (before after : World) (played : Played) (trail : List Event) → IsShown bundle wanted before after played → played.trail ≡ Some trail
     → (plan : PlanOf) → IsPlanOf bundle plan → is_legal plan trail ≡ true)
-    × ((bundle : Bundle) (wanted : Wanted) (fault : RunFault) (before after : Stage) (trail : List Event) → IsStopped bundle wanted fault (Some trail) before after
+    × ((bundle : Bundle) (wanted : Wanted) (fault : RunFault) (before after : World) (trail : List Event) → IsStopped bundle wanted fault (Some trail) before after
     → (plan : PlanOf) → IsPlanOf bundle plan → is_legal plan trail ≡ true)
 
 -- what a request asks for was done, with a bundle of it
@@ -110,9 +117,10 @@ pub record IsDone (request : Request) (before after : World) (status : ℕ) : Ty
   pub shown : IsShownAs status bundle wanted request.same_under before after
 
 -- what a bundle is for couldn't go on, where memory was refused, or standard output took no more
-abbrev pub IsCutShort : Bundle → Wanted → (before after : Stage) → Type 0
+abbrev pub IsCutShort : Bundle → Wanted → (before after : World) → Type 0
 IsCutShort bundle wanted before after =
-    (fault : RunFault) × (trail : Option (List Event)) × IsStopped bundle wanted fault trail before after × (fault ≡ Write → after.out.failures ≡ one_more before.out.failures)
+    (fault : RunFault) × (trail : Option (List Event)) × (err_warned : Stream) × IsStopped bundle wanted fault trail before (record after { err = err_warned })
+    × (after.stage.out.failures ≡ failures_by fault before.stage.out.failures)
 
 -- what a bundle is for was done whole, and the trail of its run, for which a file is named, couldn't be written there; or memory was refused for the run that was to be made once more;
 -- or the names of the hosts that didn't get through, for which a file is named, couldn't be written there
@@ -125,7 +133,7 @@ pub record IsUnkept (bundle : Bundle) (wanted : Wanted) (path : Option (List ℕ
 
 -- it couldn't go on, or its trail or the hosts that didn't get through couldn't be kept, or another run not be made
 abbrev pub IsCutOrUnkept : Bundle → Wanted → (path : Option (List ℕ)) → (same_under : Option ℕ) → (failed : Option (List ℕ)) → (before after : World) → Type 0
-IsCutOrUnkept bundle wanted path same_under failed before after = IsCutShort bundle wanted before.stage after.stage ⊎ IsUnkept bundle wanted path same_under failed before after
+IsCutOrUnkept bundle wanted path same_under failed before after = IsCutShort bundle wanted before after ⊎ IsUnkept bundle wanted path same_under failed before after
 
 -- the same of what a request asks for
 pub record IsBroken (request : Request) (before after : World) : Type 0 where

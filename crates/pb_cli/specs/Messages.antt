@@ -53,6 +53,6 @@ part_of bundle.Memory = Bundle
 abbrev pub IsBundleMessage : (places : Bool) → BundleFault → List ℕ → Type 0
 IsBundleMessage places fault text = (said : List ℕ) × (text ≡ placed_message (part_of fault) said (place_if places fault))
 
--- it was written whole, or the writer failed; or nothing was written, where memory was refused
+-- it was written whole, or a part of it, behind which the writer failed; or nothing was written, where memory was refused
 abbrev pub IsBundleReported : (places : Bool) → BundleFault → (before after : Stream) → Type 0
 IsBundleReported places fault before after = ((text : List ℕ) × IsBundleMessage places fault text × IsPut text before after) ⊎ (after.taken ≡ before.taken)

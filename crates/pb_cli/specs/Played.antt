@@ -1,5 +1,5 @@
 -- What playing a bundle means.
-use Rattle.std.specs.Prelude.{◌≡◌, ◌⊎◌, ℕ, Bool, true, false, ◌&&◌, List, [], ◌∷◌, ◌++◌, length, Option, Some, None, Ok, Err, codes}
+use Rattle.std.specs.Prelude.{◌≡◌, ◌≢◌, ◌⊎◌, ℕ, Bool, true, false, ◌&&◌, List, [], ◌∷◌, ◌++◌, length, Option, Some, None, Ok, Err, codes}
 use Rattle.pb_outcome.specs.declared.job.Report.{Report}
 use Rattle.pb_runner.specs.declared.fault.TableFault.{TableFault}
 use Rattle.pb_runner.specs.declared.table.Table.{Table}
@@ -15,7 +15,7 @@ use Rattle.pb_driver.specs.FromRecap.{recap, status_of}
 use Rattle.pb_driver.specs.Laws.{KeepsLaws}
 use Rattle.pb_driver.specs.Engine.{Stop}
 use Rattle.pb_driver.specs.declared.driver.RunFault.{RunFault}
-use Rattle.pb_driver.specs.declared.driver.RunFault.TheVariants.{Memory, Closed}
+use Rattle.pb_driver.specs.declared.driver.RunFault.TheVariants.{Memory, Write, Closed}
 use Rattle.pb_driver.specs.declared.given.Given.{Given}
 use Rattle.pb_driver.specs.ByTable.{allows_all}
 use Rattle.pb_driver.specs.Cut.{IsPart, IsCut}
@@ -89,6 +89,7 @@ pub record IsTabledCut (bytes : List ℕ) (plan : PlanOf) (stop_after : Option �
   pub tabled : table_of bytes ≡ Ok table
   pub cut : IsCutBy (IsAnswer allows_all (TableGives table)) plan 256 (commands_for stop_after) trail before after
   pub ran : IsRanTo (AllGiven table) plan 256 trail fault
+  pub opened : fault ≢ Closed
 
 -- a run of a plan with this trail, stopped behind so many reports where that is asked for: without a file of outcomes the programs of its jobs are started, with this facts program or none, and with one nothing is started
 -- but what the file says comes of each job
@@ -130,19 +131,19 @@ IsGivenFor ListHosts wanted plan before after played = IsSaid (listing plan) bef
 abbrev pub IsGiven : Wanted → PlanOf → (before after : Stage) → Played → Type 0
 IsGiven wanted plan before after played = IsGivenFor wanted.purpose wanted plan before after played
 
--- a beginning of a text was written, and nothing else done
-abbrev pub IsSaidTo : List ℕ → (trail : Option (List Event)) → (before after : Stage) → Type 0
-IsSaidTo text trail before after = (after.started ≡ before.started) × (trail ≡ None) × IsPart before.out.taken after.out.taken text
+-- the writer failed: a beginning of a text was written, and nothing else done
+abbrev pub IsSaidTo : List ℕ → RunFault → (trail : Option (List Event)) → (before after : Stage) → Type 0
+IsSaidTo text fault trail before after = (fault ≡ Write) × (after.started ≡ before.started) × (trail ≡ None) × IsPart before.out.taken after.out.taken text
 
 abbrev pub IsRunOrAuditedTo : (audited : Option (List ℕ)) → Wanted → PlanOf → RunFault → (trail : Option (List Event)) → (before after : Stage) → Type 0
 IsRunOrAuditedTo None wanted plan fault trail before after =
     HasTrail trail (λ events. IsPlayedTo plan wanted.stop_after wanted.facts_program wanted.outcomes events fault before after)
-IsRunOrAuditedTo (Some bytes) wanted plan fault trail before after = (after.started ≡ before.started) × (trail ≡ None) × IsAuditCut bytes plan before.out.taken after.out.taken
+IsRunOrAuditedTo (Some bytes) wanted plan fault trail before after = (fault ≡ Write) × (after.started ≡ before.started) × (trail ≡ None) × IsAuditCut bytes plan before.out.taken after.out.taken
 
 abbrev pub IsGivenToFor : Purpose → Wanted → PlanOf → RunFault → (trail : Option (List Event)) → (before after : Stage) → Type 0
 IsGivenToFor Run wanted plan fault trail before after = IsRunOrAuditedTo wanted.audited wanted plan fault trail before after
-IsGivenToFor CheckSyntax wanted plan fault trail before after = IsSaidTo (codes "ok\n") trail before after
-IsGivenToFor ListHosts wanted plan fault trail before after = IsSaidTo (listing plan) trail before after
+IsGivenToFor CheckSyntax wanted plan fault trail before after = IsSaidTo (codes "ok\n") fault trail before after
+IsGivenToFor ListHosts wanted plan fault trail before after = IsSaidTo (listing plan) fault trail before after
 
 -- memory was refused before anything was started or written, and so before a run began
 abbrev pub IsUnbegun : RunFault → (trail : Option (List Event)) → (before after : Stage) → Type 0
@@ -164,7 +165,3 @@ is_forbidden wanted plan = wanted.strict && has_some plan.warnings
 abbrev pub IsGivenUnless : (forbidden : Bool) → Wanted → PlanOf → (before after : Stage) → Played → Type 0
 IsGivenUnless true wanted plan before after played = IsUntouched before after × (played.status ≡ 1) × (played.trail ≡ None)
 IsGivenUnless false wanted plan before after played = IsGiven wanted plan before after played
-
-abbrev pub IsGivenToUnless : (forbidden : Bool) → Wanted → PlanOf → RunFault → (trail : Option (List Event)) → (before after : Stage) → Type 0
-IsGivenToUnless true wanted plan fault trail before after = IsUnbegun fault trail before after
-IsGivenToUnless false wanted plan fault trail before after = IsGivenTo wanted plan fault trail before after

@@ -10,6 +10,6 @@ ended line = line ++ codes "\n"
 abbrev pub warning_text : List (List ℕ) → List ℕ
 warning_text lines = flat_map ended lines
 
--- all lines are written, or the writer failed
+-- all lines are written, or a part of them, behind which the writer failed
 abbrev pub IsWarned : List (List ℕ) → (before after : Stream) → Type 0
 IsWarned lines before after = IsPut (warning_text lines) before after

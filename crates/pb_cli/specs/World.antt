@@ -3,6 +3,7 @@ use Rattle.std.specs.Prelude.{◌≡◌, ◌⊎◌, ℕ, List, Option, map}
 use Rattle.pb_runner.specs.Launch.{Launch}
 use Rattle.pb_runner.specs.declared.launcher.Launcher as Launcher
 use Rattle.pb_driver.specs.declared.line_out.LineOut as LineOut
+use Rattle.pb_driver.specs.Cut.{IsPart}
 use Rattle.pb_driver.specs.Taken.{with_more, one_more}
 
 -- what each launcher was to start so far, with what came of it, where it tells
@@ -38,9 +39,9 @@ world_of launches writes tells launchers out err = record { stage = stage_of lau
 abbrev pub IsQuiet : (before after : Stream) → Type 0
 IsQuiet before after = (after.taken ≡ before.taken) × (after.failures ≡ before.failures)
 
--- a text was put out whole, or the writer failed
+-- a text was put out whole, or a part of it, behind which the writer failed
 abbrev pub IsPut : List ℕ → (before after : Stream) → Type 0
-IsPut text before after = (after.taken ≡ with_more before.taken text) ⊎ (after.failures ≡ one_more before.failures)
+IsPut text before after = (after.taken ≡ with_more before.taken text) ⊎ (IsPart before.taken after.taken text × (after.failures ≡ one_more before.failures))
 
 -- nothing was started, and nothing written on standard output
 abbrev pub IsUntouched : (before after : Stage) → Type 0

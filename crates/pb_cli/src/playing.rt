@@ -1,14 +1,14 @@
 //! What is done with a bundle: its plan, its warnings, and then what the plan is made for. The program's theorem is the contract of `play_bundle`;
 //! its steps stand below it, and in runs.rt, showing.rt and warnings.rt.
 
-ghost use Rattle.std.specs.Prelude.{◌≡◌, ◌≢◌, ◌⊎◌, ◌≤◌, List, length, Option, None, IfOk, Err, is_some};
+ghost use Rattle.std.specs.Prelude.{◌≡◌, ◌≢◌, ◌⊎◌, ◌≤◌, List, length, Option, None, IfOk, Err, is_some, true};
 ghost use Rattle.pb_state.specs.declared.event.Event.{Event};
 ghost use Rattle.pb_planning.specs.Bundle.{IsBundleFault};
-ghost use Rattle.pb_driver.specs.Taken.{one_more};
+ghost use Rattle.pb_driver.specs.Failing.{failures_by};
 ghost use Rattle.pb_cli.specs.Audited.{IsBadTrail};
 ghost use Rattle.pb_cli.specs.Played.{IsBadTable, IsRunOrAudited, IsRunOrAuditedTo, IsUnbegun, IsGiven, IsGivenTo};
 ghost use Rattle.pb_cli.specs.Done.{HasBadOutcomes, IsUnread, IsShown, IsStopped, TrailsAreLegal};
-ghost use Rattle.pb_cli.specs.World.{stage_of, world_of, IsUntouched};
+ghost use Rattle.pb_cli.specs.World.{stage_of, stream_of, world_of, IsQuiet, IsUntouched};
 
 use crate::runs::run_plan;
 use crate::showing::{show, show_audit, show_hosts};
@@ -34,7 +34,7 @@ use std::thread::Threads;
 /// exactly where there is such a program.
 ///
 /// # Errors
-/// `Bundle` with the bundle's first fault, where it has no plan: nothing is started, and nothing written on `out` then. `Outcomes`
+/// `Bundle` with the bundle's first fault, where it has no plan: nothing is started, and nothing written on `out` or `err` then. `Outcomes`
 /// with the first fault of the outcomes, which are looked into only where there is a plan, its warnings are written, and it is to
 /// be run, and `Trail` with that of a trail, which is looked into only where it is to be looked at in place of a run: nothing is
 /// started, and nothing written on `out` then. `Run` where memory was refused or the writer failed: what was started and written
@@ -56,11 +56,11 @@ pub fn play_bundle<
     requires facts { bundle.now.has_facts_program ≡ is_some wanted.now.facts_program }
     requires launchers { 256 ≤ length launchers.old.items }
     ensures answered { IfOk result (IsShown bundle.now wanted.now (world_of L.Launcher O.LineOut E.LineOut launchers.old.items out.old err.old) (world_of L.Launcher O.LineOut E.LineOut launchers.new.items out.new err.new)) }
-    ensures refused { (e : BundleFault) → result ≡ Err (PlayFault.Bundle e) → IsUntouched (stage_of L.Launcher O.LineOut launchers.old.items out.old) (stage_of L.Launcher O.LineOut launchers.new.items out.new) × (e ≢ BundleFault.Memory → IsBundleFault bundle.now e) }
+    ensures refused { (e : BundleFault) → result ≡ Err (PlayFault.Bundle e) → IsUntouched (stage_of L.Launcher O.LineOut launchers.old.items out.old) (stage_of L.Launcher O.LineOut launchers.new.items out.new) × IsQuiet (stream_of E.LineOut err.old) (stream_of E.LineOut err.new) × (e ≢ BundleFault.Memory → IsBundleFault bundle.now e) }
     ensures bad_outcomes { (e : TableFault) → result ≡ Err (PlayFault.Outcomes e) → HasBadOutcomes bundle.now wanted.now e (world_of L.Launcher O.LineOut E.LineOut launchers.old.items out.old err.old) (world_of L.Launcher O.LineOut E.LineOut launchers.new.items out.new err.new) }
     ensures unread { (e : TrailFault) → result ≡ Err (PlayFault.Trail e) → IsUnread bundle.now wanted.now e (world_of L.Launcher O.LineOut E.LineOut launchers.old.items out.old err.old) (world_of L.Launcher O.LineOut E.LineOut launchers.new.items out.new err.new) }
-    ensures stopped { (fault : RunFault) (trail : Option (List Event)) → result ≡ Err (PlayFault.Run fault trail) → IsStopped bundle.now wanted.now fault trail (stage_of L.Launcher O.LineOut launchers.old.items out.old) (stage_of L.Launcher O.LineOut launchers.new.items out.new) }
-    ensures write { (trail : Option (List Event)) → result ≡ Err (PlayFault.Run RunFault.Write trail) → O.failures out.new ≡ one_more (O.failures out.old) }
+    ensures stopped { (fault : RunFault) (trail : Option (List Event)) → result ≡ Err (PlayFault.Run fault trail) → IsStopped bundle.now wanted.now fault trail (world_of L.Launcher O.LineOut E.LineOut launchers.old.items out.old err.old) (world_of L.Launcher O.LineOut E.LineOut launchers.new.items out.new err.new) }
+    ensures failed { (fault : RunFault) (trail : Option (List Event)) → result ≡ Err (PlayFault.Run fault trail) → O.failures out.new ≡ failures_by fault (O.failures out.old) }
 {
     let alloc = rt.alloc();
     let plan = match Plan::of(alloc, bundle) {
@@ -152,10 +152,10 @@ fn give<L: Launcher + Send + Drop, R: AllocGlobal + Threads + Wait + Sync, O: Li
     requires { 256 ≤ length launchers.old.items }
     ensures given { IfOk result (IsGiven wanted.now plan (stage_of L.Launcher O.LineOut launchers.old.items out.old) (stage_of L.Launcher O.LineOut launchers.new.items out.new)) }
     ensures stopped { (fault : RunFault) (trail : Option (List Event)) → result ≡ Err (PlayFault.Run fault trail) → IsGivenTo wanted.now plan fault trail (stage_of L.Launcher O.LineOut launchers.old.items out.old) (stage_of L.Launcher O.LineOut launchers.new.items out.new) }
-    ensures write { (trail : Option (List Event)) → result ≡ Err (PlayFault.Run RunFault.Write trail) → O.failures out.new ≡ one_more (O.failures out.old) }
+    ensures failed { (fault : RunFault) (trail : Option (List Event)) → result ≡ Err (PlayFault.Run fault trail) → O.failures out.new ≡ failures_by fault (O.failures out.old) }
     ensures planned { (e : BundleFault) → result ≢ Err (PlayFault.Bundle e) }
-    ensures bad_outcomes { (e : TableFault) → result ≡ Err (PlayFault.Outcomes e) → (wanted.now.purpose ≡ Purpose.Run) × (wanted.now.audited ≡ None) × IsUntouched (stage_of L.Launcher O.LineOut launchers.old.items out.old) (stage_of L.Launcher O.LineOut launchers.new.items out.new) × (e ≢ TableFault.Memory → IsBadTable wanted.now.outcomes e) }
-    ensures unread { (e : TrailFault) → result ≡ Err (PlayFault.Trail e) → (wanted.now.purpose ≡ Purpose.Run) × IsUntouched (stage_of L.Launcher O.LineOut launchers.old.items out.old) (stage_of L.Launcher O.LineOut launchers.new.items out.new) × (e ≢ TrailFault.Memory → IsBadTrail wanted.now.audited e) }
+    ensures bad_outcomes { (e : TableFault) → result ≡ Err (PlayFault.Outcomes e) → (wanted.now.purpose ≡ Purpose.Run) × (wanted.now.audited ≡ None) × (is_some wanted.now.outcomes ≡ true) × IsUntouched (stage_of L.Launcher O.LineOut launchers.old.items out.old) (stage_of L.Launcher O.LineOut launchers.new.items out.new) × (e ≢ TableFault.Memory → IsBadTable wanted.now.outcomes e) }
+    ensures unread { (e : TrailFault) → result ≡ Err (PlayFault.Trail e) → (wanted.now.purpose ≡ Purpose.Run) × (is_some wanted.now.audited ≡ true) × IsUntouched (stage_of L.Launcher O.LineOut launchers.old.items out.old) (stage_of L.Launcher O.LineOut launchers.new.items out.new) × (e ≢ TrailFault.Memory → IsBadTrail wanted.now.audited e) }
 {
     match wanted.purpose {
         Purpose::CheckSyntax => show(out, "ok\n", 0),
@@ -176,10 +176,10 @@ fn run_or_audit<L: Launcher + Send + Drop, R: AllocGlobal + Threads + Wait + Syn
     requires { 256 ≤ length launchers.old.items }
     ensures given { IfOk result (IsRunOrAudited wanted.now.audited wanted.now plan (stage_of L.Launcher O.LineOut launchers.old.items out.old) (stage_of L.Launcher O.LineOut launchers.new.items out.new)) }
     ensures stopped { (fault : RunFault) (trail : Option (List Event)) → result ≡ Err (PlayFault.Run fault trail) → IsUnbegun fault trail (stage_of L.Launcher O.LineOut launchers.old.items out.old) (stage_of L.Launcher O.LineOut launchers.new.items out.new) ⊎ IsRunOrAuditedTo wanted.now.audited wanted.now plan fault trail (stage_of L.Launcher O.LineOut launchers.old.items out.old) (stage_of L.Launcher O.LineOut launchers.new.items out.new) }
-    ensures write { (trail : Option (List Event)) → result ≡ Err (PlayFault.Run RunFault.Write trail) → O.failures out.new ≡ one_more (O.failures out.old) }
+    ensures failed { (fault : RunFault) (trail : Option (List Event)) → result ≡ Err (PlayFault.Run fault trail) → O.failures out.new ≡ failures_by fault (O.failures out.old) }
     ensures planned { (e : BundleFault) → result ≢ Err (PlayFault.Bundle e) }
-    ensures bad_outcomes { (e : TableFault) → result ≡ Err (PlayFault.Outcomes e) → (wanted.now.audited ≡ None) × IsUntouched (stage_of L.Launcher O.LineOut launchers.old.items out.old) (stage_of L.Launcher O.LineOut launchers.new.items out.new) × (e ≢ TableFault.Memory → IsBadTable wanted.now.outcomes e) }
-    ensures unread { (e : TrailFault) → result ≡ Err (PlayFault.Trail e) → IsUntouched (stage_of L.Launcher O.LineOut launchers.old.items out.old) (stage_of L.Launcher O.LineOut launchers.new.items out.new) × (e ≢ TrailFault.Memory → IsBadTrail wanted.now.audited e) }
+    ensures bad_outcomes { (e : TableFault) → result ≡ Err (PlayFault.Outcomes e) → (wanted.now.audited ≡ None) × (is_some wanted.now.outcomes ≡ true) × IsUntouched (stage_of L.Launcher O.LineOut launchers.old.items out.old) (stage_of L.Launcher O.LineOut launchers.new.items out.new) × (e ≢ TableFault.Memory → IsBadTable wanted.now.outcomes e) }
+    ensures unread { (e : TrailFault) → result ≡ Err (PlayFault.Trail e) → (is_some wanted.now.audited ≡ true) × IsUntouched (stage_of L.Launcher O.LineOut launchers.old.items out.old) (stage_of L.Launcher O.LineOut launchers.new.items out.new) × (e ≢ TrailFault.Memory → IsBadTrail wanted.now.audited e) }
 {
     match &wanted.audited {
         Some(bytes) => show_audit(rt.alloc(), &plan, bytes.as_slice(), out),

@@ -1,10 +1,10 @@
 //! Runs of a plan: by the programs of its jobs, or by a file of outcomes.
 
-ghost use Rattle.std.specs.Prelude.{◌≡◌, ◌≢◌, ◌⊎◌, ◌≤◌, List, length, Option, IfOk, IfErr, Err};
+ghost use Rattle.std.specs.Prelude.{◌≡◌, ◌≢◌, ◌⊎◌, ◌≤◌, List, length, Option, IfOk, IfErr, Err, is_some, true};
 ghost use Rattle.pb_state.specs.declared.event.Event.{Event};
 ghost use Rattle.pb_driver.specs.Driven.{IsAnswer};
 ghost use Rattle.pb_driver.specs.Ran.{IsRanTo, answers_of};
-ghost use Rattle.pb_driver.specs.Taken.{one_more};
+ghost use Rattle.pb_driver.specs.Failing.{failures_by};
 ghost use Rattle.pb_runner.specs.Reading.{table_of};
 ghost use Rattle.pb_cli.specs.Played.{commands_for, IsBadTable, IsRunBy, IsCutBy, IsTabled, IsTabledCut, IsPlayed, IsPlayedTo, HasTrail, IsUnbegun};
 ghost use Rattle.pb_cli.specs.World.{stage_of, IsUntouched};
@@ -40,10 +40,10 @@ pub(crate) fn run_plan<
     requires { 256 ≤ length launchers.old.items }
     ensures played { IfOk result (λ played. HasTrail played.trail (λ trail. IsPlayed plan wanted.now.stop_after wanted.now.facts_program wanted.now.outcomes trail (stage_of L.Launcher O.LineOut launchers.old.items out.old) (stage_of L.Launcher O.LineOut launchers.new.items out.new) played.status)) }
     ensures stopped { (fault : RunFault) (trail : Option (List Event)) → result ≡ Err (PlayFault.Run fault trail) → IsUnbegun fault trail (stage_of L.Launcher O.LineOut launchers.old.items out.old) (stage_of L.Launcher O.LineOut launchers.new.items out.new) ⊎ HasTrail trail (λ events. IsPlayedTo plan wanted.now.stop_after wanted.now.facts_program wanted.now.outcomes events fault (stage_of L.Launcher O.LineOut launchers.old.items out.old) (stage_of L.Launcher O.LineOut launchers.new.items out.new)) }
-    ensures write { (trail : Option (List Event)) → result ≡ Err (PlayFault.Run RunFault.Write trail) → O.failures out.new ≡ one_more (O.failures out.old) }
+    ensures failed { (fault : RunFault) (trail : Option (List Event)) → result ≡ Err (PlayFault.Run fault trail) → O.failures out.new ≡ failures_by fault (O.failures out.old) }
     ensures planned { (e : BundleFault) → result ≢ Err (PlayFault.Bundle e) }
     ensures unaudited { (e : TrailFault) → result ≢ Err (PlayFault.Trail e) }
-    ensures bad_outcomes { (e : TableFault) → result ≡ Err (PlayFault.Outcomes e) → IsUntouched (stage_of L.Launcher O.LineOut launchers.old.items out.old) (stage_of L.Launcher O.LineOut launchers.new.items out.new) × (e ≢ TableFault.Memory → IsBadTable wanted.now.outcomes e) }
+    ensures bad_outcomes { (e : TableFault) → result ≡ Err (PlayFault.Outcomes e) → (is_some wanted.now.outcomes ≡ true) × IsUntouched (stage_of L.Launcher O.LineOut launchers.old.items out.old) (stage_of L.Launcher O.LineOut launchers.new.items out.new) × (e ≢ TableFault.Memory → IsBadTable wanted.now.outcomes e) }
 {
     if let Some(bytes) = &wanted.outcomes {
         return run_tabled(rt.alloc(), plan, wanted.stop_after, bytes.as_slice(), out);
@@ -67,7 +67,7 @@ fn run_tabled<O: LineOut>(
 ) -> Result<Played, PlayFault>
     ensures run { IfOk result (λ played. HasTrail played.trail (λ trail. IsTabled bytes.now plan stop_after trail (O.taken out.old) (O.taken out.new) played.status)) }
     ensures cut { (fault : RunFault) (trail : Option (List Event)) → result ≡ Err (PlayFault.Run fault trail) → HasTrail trail (λ events. IsTabledCut bytes.now plan stop_after events fault (O.taken out.old) (O.taken out.new)) }
-    ensures write { (trail : Option (List Event)) → result ≡ Err (PlayFault.Run RunFault.Write trail) → O.failures out.new ≡ one_more (O.failures out.old) }
+    ensures failed { (fault : RunFault) (trail : Option (List Event)) → result ≡ Err (PlayFault.Run fault trail) → O.failures out.new ≡ failures_by fault (O.failures out.old) }
     ensures planned { (e : BundleFault) → result ≢ Err (PlayFault.Bundle e) }
     ensures unaudited { (e : TrailFault) → result ≢ Err (PlayFault.Trail e) }
     ensures bad_outcomes { (e : TableFault) → result ≡ Err (PlayFault.Outcomes e) → (O.taken out.new ≡ O.taken out.old) × (e ≢ TableFault.Memory → table_of bytes.now ≡ Err e) }
@@ -98,7 +98,8 @@ pub(crate) fn run_by<N: Runner, P: Picker, O: LineOut>(
     ensures ran { IfOk result (λ ran. N.ran runner.old (answers_of plan 256 ran.1) runner.new) }
     ensures cut { IfErr result (λ cut. IsCutBy (IsAnswer N.allows (N.gives runner.old)) plan 256 (commands_for stop_after) cut.1 (O.taken out.old) (O.taken out.new)) }
     ensures over { IfErr result (λ cut. IsRanTo (λ jobs. N.ran runner.old jobs runner.new) plan 256 cut.1 cut.0) }
-    ensures write { IfErr result (λ cut. cut.0 ≡ RunFault.Write → O.failures out.new ≡ one_more (O.failures out.old)) }
+    ensures failed { IfErr result (λ cut. O.failures out.new ≡ failures_by cut.0 (O.failures out.old)) }
+    ensures opened { IfErr result (λ cut. cut.0 ≢ RunFault.Closed) }
 {
     match stop_after {
         Some(after) => {
@@ -130,7 +131,8 @@ fn run_given<N: Runner, P: Picker, O: LineOut>(
     ensures ran { IfOk result (λ ran. N.ran runner.old (answers_of plan 256 ran.1) runner.new) }
     ensures cut { IfErr result (λ cut. IsCutBy (IsAnswer N.allows (N.gives runner.old)) plan 256 commands.now cut.1 (O.taken out.old) (O.taken out.new)) }
     ensures over { IfErr result (λ cut. IsRanTo (λ jobs. N.ran runner.old jobs runner.new) plan 256 cut.1 cut.0) }
-    ensures write { IfErr result (λ cut. cut.0 ≡ RunFault.Write → O.failures out.new ≡ one_more (O.failures out.old)) }
+    ensures failed { IfErr result (λ cut. O.failures out.new ≡ failures_by cut.0 (O.failures out.old)) }
+    ensures opened { IfErr result (λ cut. cut.0 ≢ RunFault.Closed) }
 {
     pb_driver::runs_keep_laws();
     pb_driver::lines_stand_behind_events();

@@ -4,6 +4,7 @@ ghost use Rattle.std.specs.Prelude.{◌≡◌, ◌≢◌, ◌⊎◌, ℕ, List, 
 ghost use Rattle.pb_state.specs.declared.event.Event.{Event};
 ghost use Rattle.pb_driver.specs.Cut.{IsPart};
 ghost use Rattle.pb_driver.specs.Taken.{with_more, one_more};
+ghost use Rattle.pb_driver.specs.Failing.{failures_by};
 ghost use Rattle.pb_audit.specs.Reading.{trail_in};
 ghost use Rattle.pb_cli.specs.Audited.{IsVerdict, IsAudited, IsAuditCut};
 ghost use Rattle.pb_cli.specs.Listing.{listing};
@@ -22,7 +23,7 @@ pub(crate) fn show<O: LineOut>(out: &mut O, text: &str, status: u8) -> Result<Pl
     ensures shown { IfOk result (λ played. (O.taken out.new ≡ with_more (O.taken out.old) text.now) × (played.status ≡ status) × (played.trail ≡ None)) }
     ensures fault { IfErr result (λ e. e ≡ PlayFault.Run RunFault.Write None) }
     ensures part { OnErr result (IsPart (O.taken out.old) (O.taken out.new) text.now) }
-    ensures write { OnErr result (O.failures out.new ≡ one_more (O.failures out.old)) }
+    ensures failed { OnErr result (O.failures out.new ≡ one_more (O.failures out.old)) }
 {
     match put_all(out, text.as_bytes()) {
         Ok(()) => Ok(Played {
@@ -41,8 +42,8 @@ pub(crate) fn show_hosts<O: LineOut>(
 ) -> Result<Played, PlayFault>
     ensures shown { IfOk result (λ played. (O.taken out.new ≡ with_more (O.taken out.old) (listing plan.now)) × (played.status ≡ 0) × (played.trail ≡ None)) }
     ensures fault { IfErr result (λ e. (fault : RunFault) × (e ≡ PlayFault.Run fault None)) }
-    ensures part { OnErr result (IsPart (O.taken out.old) (O.taken out.new) (listing plan.now)) }
-    ensures write { (trail : Option (List Event)) → result ≡ Err (PlayFault.Run RunFault.Write trail) → O.failures out.new ≡ one_more (O.failures out.old) }
+    ensures cut { (fault : RunFault) (trail : Option (List Event)) → result ≡ Err (PlayFault.Run fault trail) → ((fault ≡ RunFault.Memory) × (O.taken out.new ≡ O.taken out.old)) ⊎ ((fault ≡ RunFault.Write) × IsPart (O.taken out.old) (O.taken out.new) (listing plan.now)) }
+    ensures failed { (fault : RunFault) (trail : Option (List Event)) → result ≡ Err (PlayFault.Run fault trail) → O.failures out.new ≡ failures_by fault (O.failures out.old) }
 {
     match listing(alloc, plan) {
         Ok(text) => show(out, text.as_str(), 0),
@@ -58,8 +59,8 @@ pub(crate) fn show_audit<O: LineOut>(
     out: &mut O,
 ) -> Result<Played, PlayFault>
     ensures audited { IfOk result (λ played. (played.trail ≡ None) × IsAudited bytes.now plan.now (O.taken out.old) (O.taken out.new) played.status) }
-    ensures cut { (fault : RunFault) (trail : Option (List Event)) → result ≡ Err (PlayFault.Run fault trail) → (trail ≡ None) × (((fault ≡ RunFault.Memory) × (O.taken out.new ≡ O.taken out.old)) ⊎ IsAuditCut bytes.now plan.now (O.taken out.old) (O.taken out.new)) }
-    ensures write { (trail : Option (List Event)) → result ≡ Err (PlayFault.Run RunFault.Write trail) → O.failures out.new ≡ one_more (O.failures out.old) }
+    ensures cut { (fault : RunFault) (trail : Option (List Event)) → result ≡ Err (PlayFault.Run fault trail) → (trail ≡ None) × (((fault ≡ RunFault.Memory) × (O.taken out.new ≡ O.taken out.old)) ⊎ ((fault ≡ RunFault.Write) × IsAuditCut bytes.now plan.now (O.taken out.old) (O.taken out.new))) }
+    ensures failed { (fault : RunFault) (trail : Option (List Event)) → result ≡ Err (PlayFault.Run fault trail) → O.failures out.new ≡ failures_by fault (O.failures out.old) }
     ensures planned { (e : BundleFault) → result ≢ Err (PlayFault.Bundle e) }
     ensures tabled { (e : TableFault) → result ≢ Err (PlayFault.Outcomes e) }
     ensures unread { (e : TrailFault) → result ≡ Err (PlayFault.Trail e) → (O.taken out.new ≡ O.taken out.old) × (e ≢ TrailFault.Memory → trail_in bytes.now ≡ Err e) }
@@ -79,8 +80,8 @@ fn show_verdict<O: LineOut>(
 ) -> Result<Played, PlayFault>
     ensures said { IfOk result (λ played. (text : List ℕ) × IsVerdict plan.now trail.now text played.status × (O.taken out.new ≡ with_more (O.taken out.old) text) × (played.trail ≡ None)) }
     ensures fault { IfErr result (λ e. (fault : RunFault) × (e ≡ PlayFault.Run fault None)) }
-    ensures cut { (fault : RunFault) (handed : Option (List Event)) → result ≡ Err (PlayFault.Run fault handed) → ((fault ≡ RunFault.Memory) × (O.taken out.new ≡ O.taken out.old)) ⊎ ((text : List ℕ) × (status : ℕ) × IsVerdict plan.now trail.now text status × IsPart (O.taken out.old) (O.taken out.new) text) }
-    ensures write { (handed : Option (List Event)) → result ≡ Err (PlayFault.Run RunFault.Write handed) → O.failures out.new ≡ one_more (O.failures out.old) }
+    ensures cut { (fault : RunFault) (handed : Option (List Event)) → result ≡ Err (PlayFault.Run fault handed) → ((fault ≡ RunFault.Memory) × (O.taken out.new ≡ O.taken out.old)) ⊎ ((fault ≡ RunFault.Write) × (text : List ℕ) × (status : ℕ) × IsVerdict plan.now trail.now text status × IsPart (O.taken out.old) (O.taken out.new) text) }
+    ensures failed { (fault : RunFault) (handed : Option (List Event)) → result ≡ Err (PlayFault.Run fault handed) → O.failures out.new ≡ failures_by fault (O.failures out.old) }
 {
     match verdict(alloc, plan, trail) {
         Ok((text, status)) => show(out, text.as_str(), status),

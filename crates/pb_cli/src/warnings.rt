@@ -1,9 +1,9 @@
 //! The warnings of a plan.
 
-ghost use Rattle.std.specs.Prelude.{◌≡◌, ◌++◌, IfOk, string_bytes};
+ghost use Rattle.std.specs.Prelude.{◌≡◌, ◌++◌, IfOk, OnErr, string_bytes};
 ghost use Rattle.pb_cli.specs.Played.{is_forbidden};
 ghost use Rattle.pb_cli.specs.Warned.{ended, warning_text, IsWarned};
-ghost use Rattle.pb_cli.specs.World.{stream_of};
+ghost use Rattle.pb_cli.specs.World.{stream_of, IsQuiet};
 
 use crate::playing::Wanted;
 use pb_driver::{LineOut, put_all};
@@ -13,7 +13,8 @@ use std::alloc::{AllocError, Global};
 
 /// Writes the warnings of a plan, a line each. That they can't be written changes nothing.
 pub(crate) fn warn<E: LineOut>(alloc: Global, plan: &Plan, err: &mut E) -> Result<(), AllocError>
-    ensures { IfOk result (λ _. IsWarned plan.now.warnings (stream_of E.LineOut err.old) (stream_of E.LineOut err.new)) }
+    ensures warned { IfOk result (λ _. IsWarned plan.now.warnings (stream_of E.LineOut err.old) (stream_of E.LineOut err.new)) }
+    ensures quiet { OnErr result (IsQuiet (stream_of E.LineOut err.old) (stream_of E.LineOut err.new)) }
 {
     let text = warning_text(alloc, plan.warnings())?;
     let _ = put_all(err, text.as_bytes());

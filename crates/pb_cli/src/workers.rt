@@ -3,7 +3,7 @@
 ghost use Rattle.std.specs.Prelude.{◌≡◌, ◌≤◌, ◌<◌, ◌+◌, ◌++◌, ◌⊎◌, [], All, List, Option, ℕ, IfOk, IfErr, length, map, reverse, vec_capacity};
 ghost use Rattle.pb_outcome.specs.declared.job.Report.{Report};
 ghost use Rattle.pb_driver.specs.Driven.{IsWorkersAnswer};
-ghost use Rattle.pb_driver.specs.Taken.{one_more};
+ghost use Rattle.pb_driver.specs.Failing.{failures_by};
 ghost use Rattle.pb_driver.specs.Workers.{IsSpread};
 ghost use Rattle.pb_cli.specs.Played.{commands_for, IsRunBy, IsCutBy, IsLocalRun, IsLocalCut, IsUnbegun, HasTrail};
 ghost use Rattle.pb_cli.specs.Hired.{launcher_of, facts_of, HasRoomFor};
@@ -58,7 +58,7 @@ fn run_commanded<N: Runner + Send + Drop, R: AllocGlobal + Threads + Wait + Sync
     ensures cut { IfErr result (λ cut. IsCutBy (IsWorkersAnswer N.allows) plan (length runners.old.items) commands.now cut.1 (O.taken out.old) (O.taken out.new)) }
     ensures later { IfErr result (λ cut. (later : List Report) × IsSpread N.ran runners.old.items runners.new.items plan cut.1 later) }
     ensures closed { IfErr result (λ cut. cut.0 ≡ RunFault.Closed → (cut.1 ≡ []) × (O.taken out.new ≡ O.taken out.old) × IsSpread N.ran runners.old.items runners.new.items plan [] []) }
-    ensures write { IfErr result (λ cut. cut.0 ≡ RunFault.Write → O.failures out.new ≡ one_more (O.failures out.old)) }
+    ensures failed { IfErr result (λ cut. O.failures out.new ≡ failures_by cut.0 (O.failures out.old)) }
 {
     pb_driver::runs_keep_laws();
     pb_driver::lines_stand_behind_events();
@@ -92,7 +92,7 @@ fn run_workers<N: Runner + Send + Drop, R: AllocGlobal + Threads + Wait + Sync, 
     ensures cut { IfErr result (λ cut. IsCutBy (IsWorkersAnswer N.allows) plan (length runners.old.items) (commands_for stop_after) cut.1 (O.taken out.old) (O.taken out.new)) }
     ensures later { IfErr result (λ cut. (later : List Report) × IsSpread N.ran runners.old.items runners.new.items plan cut.1 later) }
     ensures closed { IfErr result (λ cut. cut.0 ≡ RunFault.Closed → (cut.1 ≡ []) × (O.taken out.new ≡ O.taken out.old) × IsSpread N.ran runners.old.items runners.new.items plan [] []) }
-    ensures write { IfErr result (λ cut. cut.0 ≡ RunFault.Write → O.failures out.new ≡ one_more (O.failures out.old)) }
+    ensures failed { IfErr result (λ cut. O.failures out.new ≡ failures_by cut.0 (O.failures out.old)) }
 {
     match stop_after {
         Some(after) => {
@@ -206,15 +206,13 @@ fn run_hired<L: Launcher + Send + Drop, R: AllocGlobal + Threads + Wait + Sync, 
     requires room { HasRoomFor wanted.now.facts_program (length launchers.old.items) plan.forks staff }
     ensures run { IfOk result (λ ran. IsLocalRun plan wanted.now.stop_after wanted.now.facts_program ran.1 (stage_of L.Launcher O.LineOut launchers.old.items out.old) (stage_of L.Launcher O.LineOut launchers.new.items out.new) ran.0) }
     ensures cut { IfErr result (λ cut. IsLocalCut plan wanted.now.stop_after wanted.now.facts_program cut.1 cut.0 (stage_of L.Launcher O.LineOut launchers.old.items out.old) (stage_of L.Launcher O.LineOut launchers.new.items out.new)) }
-    ensures write { IfErr result (λ cut. cut.0 ≡ RunFault.Write → O.failures out.new ≡ one_more (O.failures out.old)) }
+    ensures failed { IfErr result (λ cut. O.failures out.new ≡ failures_by cut.0 (O.failures out.old)) }
 {
     let Staff {
-        queue,
+        mut queue,
         facts,
-        runners,
+        mut runners,
     } = staff;
-    let mut queue = queue;
-    let mut runners = runners;
     pour(launchers, &mut queue);
     pair(&mut queue, facts, &mut runners);
     let ran = run_workers(rt, plan, wanted.stop_after, &mut runners, out);
@@ -242,7 +240,7 @@ pub(crate) fn run_local<
     requires { 256 ≤ length launchers.old.items }
     ensures run { IfOk result (λ ran. IsLocalRun plan wanted.now.stop_after wanted.now.facts_program ran.1 (stage_of L.Launcher O.LineOut launchers.old.items out.old) (stage_of L.Launcher O.LineOut launchers.new.items out.new) ran.0) }
     ensures cut { IfErr result (λ cut. IsUnbegun cut.0 cut.1 (stage_of L.Launcher O.LineOut launchers.old.items out.old) (stage_of L.Launcher O.LineOut launchers.new.items out.new) ⊎ HasTrail cut.1 (λ events. IsLocalCut plan wanted.now.stop_after wanted.now.facts_program events cut.0 (stage_of L.Launcher O.LineOut launchers.old.items out.old) (stage_of L.Launcher O.LineOut launchers.new.items out.new))) }
-    ensures write { IfErr result (λ cut. cut.0 ≡ RunFault.Write → O.failures out.new ≡ one_more (O.failures out.old)) }
+    ensures failed { IfErr result (λ cut. O.failures out.new ≡ failures_by cut.0 (O.failures out.old)) }
 {
     let forks = plan.forks() as usize;
     let Ok(staff) = make_staff(rt.alloc(), &wanted.facts_program, launchers.len(), forks) else {

@@ -12,7 +12,7 @@ use Rattle.pb_plan.specs.Plan.{PlanOf}
 use Rattle.pb_host.specs.declared.host.Counts.{Counts}
 use Rattle.pb_state.specs.declared.event.Event.{Event}
 use Rattle.pb_driver.specs.declared.driver.RunFault.{RunFault}
-use Rattle.pb_driver.specs.declared.driver.RunFault.TheVariants.{Closed, Write}
+use Rattle.pb_driver.specs.declared.driver.RunFault.TheVariants.{Closed}
 use Rattle.pb_driver.specs.declared.given.Given.{Given}
 use Rattle.pb_driver.specs.Driven.{IsWorkersAnswer}
 use Rattle.pb_driver.specs.Mails.{AreMails, AreWithin, letter_at}
@@ -59,16 +59,13 @@ pub quiet_ended : {X Y A : Type 0} (r other : Result X Y) (Q : A → Type 0) (a 
 quiet_ended {X} {Y} {A} r other Q a b is same p = subst (λ (c : A). OnOk r (Q c)) same (subst (λ s. OnOk s (Q a)) (sym is) p)
 
 -- no worker was started
-closed_write : {X : Type 0} → Closed ≡ Write → X
-closed_write {X} e = cc
-
 pub closed_stopped : (allows : Job → Form → Type 0) (plan : PlanOf) (k : ℕ) (commands : List Given) (log : List Entry) (t : Option (List ℕ)) (failures : ℕ) → log ≡ [] → IsStoppedInPool allows plan k commands Closed [] log t t failures failures
 closed_stopped allows plan k commands log t failures none =
     record {
       begun = empty_begun (IsWorkersAnswer allows) plan k commands;
       cut = cut_none plan k t;
       later = ([], ap (map letter_at) none);
-      write = λ e. closed_write e;
+      failed = refl;
       closed = λ e. (refl, none, refl);
     }
 

@@ -8,32 +8,27 @@ use Rattle.pb_engine.specs.EngineOf.{EngineOf, IsSound, engine_of}
 use Rattle.pb_events.specs.Lines.{start_line}
 use Rattle.pb_recap.specs.Recap.{recap}
 use Rattle.pb_driver.specs.declared.driver.RunFault.{RunFault}
-use Rattle.pb_driver.specs.declared.driver.RunFault.TheVariants.{Memory, Write, Closed}
+use Rattle.pb_driver.specs.declared.driver.RunFault.TheVariants.{Memory, Closed}
 use Rattle.pb_driver.specs.declared.given.Given.{Given}
-use Rattle.pb_driver.specs.Taken.{with_more, one_more}
+use Rattle.pb_driver.specs.Taken.{with_more}
 use Rattle.pb_driver.specs.Output.{end_lines}
 use Rattle.pb_driver.specs.Commanded.{IsObeyed, IsObeyedTo}
 use Rattle.pb_driver.specs.Crews.{FitsSince}
 use Rattle.pb_driver.specs.Cut.{IsPart}
+use Rattle.pb_driver.specs.Failing.{failures_by}
 use Rattle.pb_driver.specs.Driven.{Answers, HasBegun, HasEnded, IsBegunBy, IsFresh, IsSame, TakesCommands, TakesOne, last_lines}
 use Rattle.pb_driver.specs.Mails.{Mail, GoesAlong, GoesOver}
 use Rattle.pb_driver.specs.Turning.{Stands, GoesOn, BreaksOff, RunsOut, RunsTo}
 use Rattle.pb_driver.proofs.Driving.{begun_one, begun_same, empty_begun, fresh_begun, keeps_one, keeps_same, made_of, same_one, same_same, whole}
 use Rattle.pb_driver.proofs.Cutting.{breaks_after, breaks_one, breaks_same, cut_end, cut_fresh, cut_none, cut_turns}
+use Rattle.pb_driver.proofs.Failing.{failed_as, memory_quiet}
 use Rattle.pb_driver.proofs.Going.{along_both, done_over, gone_along, gone_over, fresh_over, none_over, over_along, over_both}
 use Rattle.pb_driver.proofs.Commanding.{along_behind, begun_behind, breaks_commanded, keeps_behind}
 use Rattle.pb_driver.proofs.Crewing.{fit_end, since_now, since_commanded}
 use Rattle.pb_driver.proofs.Obeying.{obeyed_front}
 
--- a want of memory is no failed call
-memory_write : {X : Type 0} (fault : RunFault) → fault ≡ Memory → fault ≡ Write → X
-memory_write {X} fault memory write = let wrong : Memory ≡ Write = sym memory ∙ write in cc
-
 memory_closed : (fault : RunFault) → fault ≡ Memory → fault ≢ Closed
 memory_closed fault memory = λ closed. let wrong : Memory ≡ Closed = sym memory ∙ closed in cc
-
-more_failed : (m n : ℕ) → n ≡ m → one_more n ≡ one_more m
-more_failed m n same = ap (λ (k : ℕ). one_more k) same
 
 pub same_both : (a b c : EngineOf) → IsSame a b → IsSame b c → IsSame a c
 same_both a b c first second = record { plan = second.plan ∙ first.plan; pool = second.pool ∙ first.pool; run = second.run }
@@ -90,13 +85,13 @@ module _ {H : Type 0} (answers : Answers) (went : H → List Mail → H → Type
     begun = begun_same answers old new same begun;
     breaks = breaks_same old new t same;
     lost = over;
-    failed = λ write. memory_write fault memory write;
+    failed = memory_quiet fault m memory;
     opened = memory_closed fault memory;
   }
 
   -- one event was taken, and its lines weren't written
   pub off_one : (old new : EngineOf) (before after : H) (t u : Option (List ℕ)) (m n : ℕ) (fault : RunFault) → IsSound old → IsSound new → HasBegun answers old → TakesOne answers old new → GoesAlong went old new before after
-      → IsPart t u (last_lines new) → (fault ≡ Write → n ≡ one_more m) → fault ≢ Closed → BreaksOff answers went old new before after t u m n fault
+      → IsPart t u (last_lines new) → n ≡ failures_by fault m → fault ≢ Closed → BreaksOff answers went old new before after t u m n fault
   off_one old new before after t u m n fault was sound begun one along part failed opened = record {
     same = same_one answers old new one sound;
     begun = begun_one answers old new was begun one;
@@ -113,7 +108,7 @@ module _ {H : Type 0} (answers : Answers) (went : H → List Mail → H → Type
     begun = begun_behind answers old new took begun;
     breaks = breaks_commanded old new t took;
     lost = over_along answers went old new hand hand fault (along_behind went old new new hand hand took (λ base was. was));
-    failed = λ write. memory_write fault memory write;
+    failed = memory_quiet fault m memory;
     opened = memory_closed fault memory;
   }
 
@@ -123,7 +118,7 @@ module _ {H : Type 0} (answers : Answers) (went : H → List Mail → H → Type
     begun = second.begun;
     breaks = breaks_after a b c t u w first.keeps second.breaks;
     lost = over_both answers went a b c r s v fault first.mails second.lost;
-    failed = λ write. second.failed write ∙ more_failed m n first.quiet;
+    failed = second.failed ∙ failed_as fault m n first.quiet;
     opened = second.opened;
   }
 
@@ -137,7 +132,7 @@ counted_as old new counts same counted = rw (← same.plan, ← same.pool) count
 
 module _ {H : Type 0} (answers : Answers) (went : H → List Mail → H → Type 0) (commands : List Given) where
   -- the first line wasn't written
-  pub to_start : (old : EngineOf) (hand : H) (t u : Option (List ℕ)) (m n : ℕ) (fault : RunFault) → IsFresh old → went hand [] hand → IsPart t u (start_line (length old.plan.plays)) → (fault ≡ Write → n ≡ one_more m) → fault ≢ Closed
+  pub to_start : (old : EngineOf) (hand : H) (t u : Option (List ℕ)) (m n : ℕ) (fault : RunFault) → IsFresh old → went hand [] hand → IsPart t u (start_line (length old.plan.plays)) → n ≡ failures_by fault m → fault ≢ Closed
       → RunsTo answers went old.plan old.pool commands old.trail hand hand t u m n fault
   to_start old hand t u m n fault fresh none part failed opened = record {
     begun = rw fresh.1 (empty_begun answers old.plan old.pool commands);
@@ -154,19 +149,19 @@ module _ {H : Type 0} (answers : Answers) (went : H → List Mail → H → Type
     begun = begun_as answers commands old new off.same off.begun front;
     cut = cut_turns old new t u v fresh started off.breaks off.same;
     lost = gone_over answers went old new before after fault fresh none off.lost off.same;
-    failed = λ write. off.failed write ∙ more_failed m n quiet;
+    failed = off.failed ∙ failed_as fault m n quiet;
     opened = off.opened;
   }
 
   -- its end wasn't written
   pub to_end : (fits : EngineOf → Type 0) (old new : EngineOf) (before after : H) (t u v w : Option (List ℕ)) (m n o p : ℕ) (fault : RunFault) → IsFresh old → went before [] before
       → u ≡ with_more t (start_line (length old.plan.plays)) → n ≡ m → GoesOn went old new before after u v n o → Stands answers fits new → HasEnded new.plan new.state → IsObeyed new.plan new.pool commands new.trail
-      → IsPart v w (end_lines new.plan (recap new.plan new.pool new.trail)) → (fault ≡ Write → p ≡ one_more o) → fault ≢ Closed → RunsTo answers went old.plan old.pool commands new.trail before after t w m p fault
+      → IsPart v w (end_lines new.plan (recap new.plan new.pool new.trail)) → p ≡ failures_by fault o → fault ≢ Closed → RunsTo answers went old.plan old.pool commands new.trail before after t w m p fault
   to_end fits old new before after t u v w m n o p fault fresh none started quiet on stands ended obeyed part failed opened = record {
     begun = begun_as answers commands old new on.same stands.begun (obeyed_front commands new new (record { plan = refl; pool = refl; run = on.same.run }) obeyed);
     cut = cut_end old new t u v w (recap new.plan new.pool new.trail) fresh started on.keeps ended.finished on.same refl part;
     lost = done_over answers went old new before after fault fresh none on.mails on.same;
-    failed = λ write. failed write ∙ more_failed m o (on.quiet ∙ quiet);
+    failed = failed ∙ failed_as fault m o (on.quiet ∙ quiet);
     opened = opened;
   }
 
@@ -200,6 +195,6 @@ module _ {H : Type 0} (answers : Answers) (went : H → List Mail → H → Type
     begun = empty_begun answers plan pool commands;
     cut = cut_none plan pool t;
     lost = none_over answers went plan pool hand Memory none;
-    failed = λ write. memory_write Memory refl write;
+    failed = refl;
     opened = memory_closed Memory refl;
   }

@@ -1,6 +1,7 @@
 pub mod Engine
 pub mod Laws
 pub mod Taken
+pub mod Failing
 pub mod Output
 pub mod Ran
 pub mod Mails

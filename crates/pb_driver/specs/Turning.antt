@@ -4,13 +4,13 @@ use Rattle.pb_plan.specs.Plan.{PlanOf}
 use Rattle.pb_state.specs.declared.event.Event.{Event}
 use Rattle.pb_engine.specs.EngineOf.{EngineOf}
 use Rattle.pb_driver.specs.declared.driver.RunFault.{RunFault}
-use Rattle.pb_driver.specs.declared.driver.RunFault.TheVariants.{Write, Closed}
+use Rattle.pb_driver.specs.declared.driver.RunFault.TheVariants.{Closed}
 use Rattle.pb_driver.specs.declared.given.Given.{Given}
 use Rattle.pb_driver.specs.Crews.{FitsSince, HasFitEnd}
 use Rattle.pb_driver.specs.Cut.{Breaks, IsCut}
+use Rattle.pb_driver.specs.Failing.{failures_by}
 use Rattle.pb_driver.specs.Driven.{Answers, HasBegun, IsBegunBy, IsSame, IsWhole, Keeps}
 use Rattle.pb_driver.specs.Mails.{Mail, GoesAlong, GoesOver, HasGoneTo, mails_of}
-use Rattle.pb_driver.specs.Taken.{one_more}
 
 -- an engine has the beginning of a run, and its crew knows of it
 pub record Stands (answers : Answers) (fits : EngineOf → Type 0) (engine : EngineOf) : Type 0 where
@@ -30,7 +30,7 @@ pub record BreaksOff {H : Type 0} (answers : Answers) (went : H → List Mail �
   pub begun : HasBegun answers new
   pub breaks : Breaks old new taken taken_after
   pub lost : GoesOver answers went old new before after fault
-  pub failed : fault ≡ Write → failures_after ≡ one_more failures
+  pub failed : failures_after ≡ failures_by fault failures
   pub opened : fault ≢ Closed
 
 -- a whole run of a plan, with what went to its crew and came from it
@@ -45,5 +45,5 @@ pub record RunsTo {H : Type 0} (answers : Answers) (went : H → List Mail → H
   pub begun : IsBegunBy answers plan pool commands trail
   pub cut : IsCut plan pool trail taken taken_after
   pub lost : HasGoneTo answers (λ mails. went before mails after) plan pool trail fault
-  pub failed : fault ≡ Write → failures_after ≡ one_more failures
+  pub failed : failures_after ≡ failures_by fault failures
   pub opened : fault ≢ Closed

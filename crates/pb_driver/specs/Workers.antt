@@ -17,15 +17,15 @@ use Rattle.pb_plan.specs.Plan.{PlanOf}
 use Rattle.pb_host.specs.declared.host.Counts.{Counts}
 use Rattle.pb_state.specs.declared.event.Event.{Event}
 use Rattle.pb_driver.specs.declared.driver.RunFault.{RunFault}
-use Rattle.pb_driver.specs.declared.driver.RunFault.TheVariants.{Write, Closed}
+use Rattle.pb_driver.specs.declared.driver.RunFault.TheVariants.{Closed}
 use Rattle.pb_driver.specs.declared.given.Given.{Given}
 use Rattle.pb_driver.specs.declared.threads.Staff.{Staff}
 use Rattle.pb_driver.specs.declared.workers.Back.{Back}
 use Rattle.pb_driver.specs.declared.workers.Worker.{Worker}
 use Rattle.pb_driver.specs.Cut.{IsCut}
+use Rattle.pb_driver.specs.Failing.{failures_by}
 use Rattle.pb_driver.specs.Driven.{IsBegunBy, IsRecapped, IsWhole, IsWorkersAnswer}
 use Rattle.pb_driver.specs.Mails.{AreMails, AreWithin}
-use Rattle.pb_driver.specs.Taken.{one_more}
 
 -- ---- a pool before its run, and at its end
 -- no job is out
@@ -125,5 +125,5 @@ pub record IsStoppedInPool (allows : Job → Form → Type 0) (plan : PlanOf) (k
   pub begun : IsBegunBy (IsWorkersAnswer allows) plan k commands trail
   pub cut : IsCut plan k trail before after
   pub later : (later : List Report) × AreMails plan k trail later log
-  pub write : fault ≡ Write → failures_after ≡ one_more failures
+  pub failed : failures_after ≡ failures_by fault failures
   pub closed : fault ≡ Closed → (trail ≡ []) × (log ≡ []) × (after ≡ before)

@@ -8,7 +8,7 @@ ghost use Rattle.pb_host.specs.Runs.{is_out};
 ghost use Rattle.pb_engine.specs.Commands.{event_for};
 ghost use Rattle.pb_engine.specs.EngineOf.{EngineOf, LessWork, IsSound, Takes, engine_of};
 ghost use Rattle.pb_recap.specs.Recap.{recap};
-ghost use Rattle.pb_driver.specs.Taken.{one_more};
+ghost use Rattle.pb_driver.specs.Failing.{failures_by};
 ghost use Rattle.pb_driver.specs.Crews.{FitsSince};
 ghost use Rattle.pb_driver.specs.Cut.{IsCut};
 ghost use Rattle.pb_driver.specs.Turning.{Stands, GoesOn, BreaksOff, RunsOut, RunsTo};
@@ -369,7 +369,7 @@ pub fn run_plain<R: Runner, P: Picker, W: LineOut>(
     ensures cut { IfErr result (λ e. IsCut plan 256 e.1.items (W.taken writer.old) (W.taken writer.new)) }
     ensures ran { IfErr result (λ e. IsRanTo (λ jobs. R.ran runner.old jobs runner.new) plan 256 e.1.items e.0) }
     ensures quiet { OnOk result (W.failures writer.new ≡ W.failures writer.old) }
-    ensures write { IfErr result (λ e. e.0 ≡ RunFault.Write → W.failures writer.new ≡ one_more (W.failures writer.old)) }
+    ensures failed { IfErr result (λ e. W.failures writer.new ≡ failures_by e.0 (W.failures writer.old)) }
     ensures opened { IfErr result (λ e. e.0 ≢ RunFault.Closed) }
 {
     let _forks = plan.forks();

@@ -5,7 +5,8 @@ ghost use Rattle.pb_events.specs.Lines.{start_line};
 ghost use Rattle.pb_recap.specs.Recap.{recap};
 ghost use Rattle.pb_recap.specs.Stats.{stats_line};
 ghost use Rattle.pb_recap.specs.Text.{recap_text};
-ghost use Rattle.pb_driver.specs.Taken.{with_more, one_more};
+ghost use Rattle.pb_driver.specs.Taken.{with_more};
+ghost use Rattle.pb_driver.specs.Failing.{failures_by};
 ghost use Rattle.pb_driver.specs.Output.{end_lines};
 ghost use Rattle.pb_driver.specs.Cut.{IsPart};
 ghost use Rattle.pb_driver.specs.Driven.{last_lines};
@@ -18,7 +19,7 @@ use pb_recap::Recap;
 use std::alloc::Global;
 
 /// Writes the first line.
-#[tactic(auto, using(crate::proofs::Cutting::part_none, crate::proofs::Cutting::part_as))]
+#[tactic(auto, using(crate::proofs::Cutting::part_none, crate::proofs::Cutting::part_as, crate::proofs::Failing::memory_quiet, crate::proofs::Failing::write_once))]
 pub(crate) fn emit_start<W: LineOut>(
     alloc: Global,
     engine: &Engine,
@@ -27,7 +28,7 @@ pub(crate) fn emit_start<W: LineOut>(
     ensures took { OnOk result (W.taken writer.new ≡ with_more (W.taken writer.old) (start_line (length engine.now.plan.plays))) }
     ensures part { OnErr result (IsPart (W.taken writer.old) (W.taken writer.new) (start_line (length engine.now.plan.plays))) }
     ensures quiet { OnOk result (W.failures writer.new ≡ W.failures writer.old) }
-    ensures failed { IfErr result (λ e. e ≡ RunFault.Write → W.failures writer.new ≡ one_more (W.failures writer.old)) }
+    ensures failed { IfErr result (λ e. W.failures writer.new ≡ failures_by e (W.failures writer.old)) }
     ensures opened { IfErr result (λ e. e ≢ RunFault.Closed) }
 {
     let start = start_line(alloc, engine.plan().plays().len() as u32)?;
@@ -36,7 +37,7 @@ pub(crate) fn emit_start<W: LineOut>(
 }
 
 /// Writes the lines of the last event.
-#[tactic(auto, using(crate::proofs::Cutting::part_none, crate::proofs::Cutting::part_as))]
+#[tactic(auto, using(crate::proofs::Cutting::part_none, crate::proofs::Cutting::part_as, crate::proofs::Failing::memory_quiet, crate::proofs::Failing::write_once))]
 pub(crate) fn emit<W: LineOut>(
     alloc: Global,
     engine: &Engine,
@@ -45,7 +46,7 @@ pub(crate) fn emit<W: LineOut>(
     ensures took { OnOk result (W.taken writer.new ≡ with_more (W.taken writer.old) (last_lines engine.now)) }
     ensures part { OnErr result (IsPart (W.taken writer.old) (W.taken writer.new) (last_lines engine.now)) }
     ensures quiet { OnOk result (W.failures writer.new ≡ W.failures writer.old) }
-    ensures failed { IfErr result (λ e. e ≡ RunFault.Write → W.failures writer.new ≡ one_more (W.failures writer.old)) }
+    ensures failed { IfErr result (λ e. W.failures writer.new ≡ failures_by e (W.failures writer.old)) }
     ensures opened { IfErr result (λ e. e ≢ RunFault.Closed) }
 {
     if let Some(event) = engine.last() {
@@ -56,7 +57,7 @@ pub(crate) fn emit<W: LineOut>(
 }
 
 /// Writes the line of the statistics.
-#[tactic(auto, using(crate::proofs::Cutting::part_none, crate::proofs::Cutting::part_as))]
+#[tactic(auto, using(crate::proofs::Cutting::part_none, crate::proofs::Cutting::part_as, crate::proofs::Failing::memory_quiet, crate::proofs::Failing::write_once))]
 fn emit_stats<W: LineOut>(
     alloc: Global,
     engine: &Engine,
@@ -66,7 +67,7 @@ fn emit_stats<W: LineOut>(
     ensures took { OnOk result (W.taken writer.new ≡ with_more (W.taken writer.old) (stats_line engine.now.plan.inventory.hosts recap.now)) }
     ensures part { OnErr result (IsPart (W.taken writer.old) (W.taken writer.new) (stats_line engine.now.plan.inventory.hosts recap.now)) }
     ensures quiet { OnOk result (W.failures writer.new ≡ W.failures writer.old) }
-    ensures failed { IfErr result (λ e. e ≡ RunFault.Write → W.failures writer.new ≡ one_more (W.failures writer.old)) }
+    ensures failed { IfErr result (λ e. W.failures writer.new ≡ failures_by e (W.failures writer.old)) }
     ensures opened { IfErr result (λ e. e ≢ RunFault.Closed) }
 {
     let text = recap.stats_line(alloc, engine.plan())?;
@@ -75,7 +76,7 @@ fn emit_stats<W: LineOut>(
 }
 
 /// Writes the recap.
-#[tactic(auto, using(crate::proofs::Cutting::part_none, crate::proofs::Cutting::part_as))]
+#[tactic(auto, using(crate::proofs::Cutting::part_none, crate::proofs::Cutting::part_as, crate::proofs::Failing::memory_quiet, crate::proofs::Failing::write_once))]
 fn emit_recap<W: LineOut>(
     alloc: Global,
     engine: &Engine,
@@ -85,7 +86,7 @@ fn emit_recap<W: LineOut>(
     ensures took { OnOk result (W.taken writer.new ≡ with_more (W.taken writer.old) (recap_text engine.now.plan.inventory.hosts recap.now)) }
     ensures part { OnErr result (IsPart (W.taken writer.old) (W.taken writer.new) (recap_text engine.now.plan.inventory.hosts recap.now)) }
     ensures quiet { OnOk result (W.failures writer.new ≡ W.failures writer.old) }
-    ensures failed { IfErr result (λ e. e ≡ RunFault.Write → W.failures writer.new ≡ one_more (W.failures writer.old)) }
+    ensures failed { IfErr result (λ e. W.failures writer.new ≡ failures_by e (W.failures writer.old)) }
     ensures opened { IfErr result (λ e. e ≢ RunFault.Closed) }
 {
     let text = recap.text(alloc, engine.plan())?;
@@ -104,7 +105,7 @@ fn emit_end<W: LineOut>(
     ensures took { OnOk result (W.taken writer.new ≡ with_more (W.taken writer.old) (end_lines engine.now.plan recap.now)) }
     ensures part { OnErr result (IsPart (W.taken writer.old) (W.taken writer.new) (end_lines engine.now.plan recap.now)) }
     ensures quiet { OnOk result (W.failures writer.new ≡ W.failures writer.old) }
-    ensures failed { IfErr result (λ e. e ≡ RunFault.Write → W.failures writer.new ≡ one_more (W.failures writer.old)) }
+    ensures failed { IfErr result (λ e. W.failures writer.new ≡ failures_by e (W.failures writer.old)) }
     ensures opened { IfErr result (λ e. e ≢ RunFault.Closed) }
 {
     emit_stats(alloc, engine, recap, writer)?;
@@ -113,7 +114,7 @@ fn emit_end<W: LineOut>(
 }
 
 /// Makes the recap of a finished run, and writes what stands at its end.
-#[tactic(auto, using(crate::proofs::Cutting::part_none))]
+#[tactic(auto, using(crate::proofs::Cutting::part_none, crate::proofs::Failing::memory_quiet))]
 pub(crate) fn end_run<W: LineOut>(
     alloc: Global,
     engine: &Engine,
@@ -123,7 +124,7 @@ pub(crate) fn end_run<W: LineOut>(
     ensures took { IfOk result (λ r. W.taken writer.new ≡ with_more (W.taken writer.old) (end_lines engine.now.plan r)) }
     ensures part { OnErr result (IsPart (W.taken writer.old) (W.taken writer.new) (end_lines engine.now.plan (recap engine.now.plan engine.now.pool engine.now.trail))) }
     ensures quiet { OnOk result (W.failures writer.new ≡ W.failures writer.old) }
-    ensures failed { IfErr result (λ e. e ≡ RunFault.Write → W.failures writer.new ≡ one_more (W.failures writer.old)) }
+    ensures failed { IfErr result (λ e. W.failures writer.new ≡ failures_by e (W.failures writer.old)) }
     ensures opened { IfErr result (λ e. e ≢ RunFault.Closed) }
 {
     let recap = Recap::of(alloc, engine.state())?;

@@ -16,7 +16,7 @@ ghost use Rattle.pb_driver.specs.Cut.{IsCut};
 ghost use Rattle.pb_driver.specs.Driven.{IsBegunBy, IsRecapped, IsWhole, IsWorkersAnswer};
 ghost use Rattle.pb_driver.specs.FitsPool.{FitsPool};
 ghost use Rattle.pb_driver.specs.Mails.{Goes, Comes, AreMails, AreWithin, HasDrained};
-ghost use Rattle.pb_driver.specs.Taken.{one_more};
+ghost use Rattle.pb_driver.specs.Failing.{failures_by};
 
 use crate::crew::{Crew, Desk};
 use crate::driver::{Ended, RunFault, run_crew};
@@ -140,7 +140,7 @@ pub fn drive<N: Allows, R: Wait, P: Picker, W: LineOut>(
     ensures seat { IsSameMain main.old main.new }
     ensures shut { (j : ℕ) → j < forks_of pool.now → last_seen (main_view main.new) j ≡ 4 }
     ensures quiet { OnOk result (W.failures writer.new ≡ W.failures writer.old) }
-    ensures write { IfErr result (λ e. e.0 ≡ RunFault.Write → W.failures writer.new ≡ one_more (W.failures writer.old)) }
+    ensures failed { IfErr result (λ e. W.failures writer.new ≡ failures_by e.0 (W.failures writer.old)) }
     ensures opened { IfErr result (λ e. e.0 ≢ RunFault.Closed) }
 {
     let forks = pool.forks();

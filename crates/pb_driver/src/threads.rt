@@ -8,7 +8,7 @@ ghost use Rattle.pb_driver.specs.declared.workers.Worker.{Worker};
 ghost use Rattle.pb_driver.specs.Cut.{IsCut};
 ghost use Rattle.pb_driver.specs.Driven.{IsBegunBy, IsRecapped, IsWhole, IsWorkersAnswer};
 ghost use Rattle.pb_driver.specs.Mails.{AreWithin};
-ghost use Rattle.pb_driver.specs.Taken.{one_more};
+ghost use Rattle.pb_driver.specs.Failing.{failures_by};
 ghost use Rattle.pb_driver.specs.Workers.{AreShut, AreWorkersOf, ArePaired, HaveShares, IsLeft, IsReady, IsRunInPool, IsSpread, IsStoppedInPool, IsUnused, runner_of};
 
 use crate::driver::{Ended, RunFault};
@@ -106,13 +106,10 @@ fn supervise<
     ensures quiet { OnOk result.ended (W.failures result.writer.now ≡ W.failures writer.entry.now) }
 {
     let Staff {
-        main,
-        workers,
-        handles,
+        mut main,
+        mut workers,
+        mut handles,
     } = staff;
-    let mut main = main;
-    let mut workers = workers;
-    let mut handles = handles;
     let started = start_all(hall, scope, &mut main, &mut workers, &mut handles);
     let ended = drive_if(hall, started, &mut main, plan, picker, writer);
     join_all(hall.rt, handles, &mut workers);
@@ -210,7 +207,7 @@ pub fn run_pool<N: Runner + Send + Drop, R: Threads + Wait + Sync, P: Picker + D
     ensures cut { IfErr result (λ e. IsCut plan (length runners.old.items) e.1.items (W.taken writer.old) (W.taken writer.new)) }
     ensures later { IfErr result (λ e. (later : List Report) × IsSpread N.ran runners.old.items runners.new.items plan e.1.items later) }
     ensures quiet { OnOk result (W.failures writer.new ≡ W.failures writer.old) }
-    ensures write { IfErr result (λ e. e.0 ≡ RunFault.Write → W.failures writer.new ≡ one_more (W.failures writer.old)) }
+    ensures failed { IfErr result (λ e. W.failures writer.new ≡ failures_by e.0 (W.failures writer.old)) }
     ensures closed { IfErr result (λ e. e.0 ≡ RunFault.Closed → (e.1.items ≡ []) × (W.taken writer.new ≡ W.taken writer.old) × IsSpread N.ran runners.old.items runners.new.items plan [] []) }
 {
     // (a plan has a fork, so there is a runner)

@@ -10,9 +10,10 @@ returns-clause-bad_outcomes g c e h =
       allowed = search rules;
       runs = bad_outcomes.0;
       unaudited = bad_outcomes.1;
+      given = bad_outcomes.2;
       warned = search rules;
-      untouched = bad_outcomes.2;
-      fault = bad_outcomes.3;
+      untouched = bad_outcomes.3;
+      fault = bad_outcomes.4;
     }
 
 pub returns-clause-unread : goal.returns-clause-unread
@@ -23,7 +24,8 @@ returns-clause-unread g c e h =
       planned = search rules;
       allowed = search rules;
       runs = unread.0;
+      given = unread.1;
       warned = search rules;
-      untouched = unread.1;
-      fault = unread.2;
+      untouched = unread.2;
+      fault = unread.3;
     }

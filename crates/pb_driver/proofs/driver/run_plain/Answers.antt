@@ -19,8 +19,8 @@ returns-in-Ok-clause-quiet g c = c.in-Ok.ensures.run.quiet
 pub returns-clause-cut : goal.returns-clause-cut
 returns-clause-cut g c = c.in-Err.ensures.stopped.cut
 
-pub returns-clause-write : goal.returns-clause-write
-returns-clause-write g c = c.in-Err.ensures.stopped.failed
+pub returns-clause-failed : goal.returns-clause-failed
+returns-clause-failed g c = c.in-Err.ensures.stopped.failed
 
 pub returns-clause-opened : goal.returns-clause-opened
 returns-clause-opened g c = c.in-Err.ensures.stopped.opened

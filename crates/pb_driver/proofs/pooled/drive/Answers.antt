@@ -63,8 +63,8 @@ pub returns-in-Err-clause-cut : goal.returns-in-Err-clause-cut
 returns-in-Err-clause-cut g c =
     subst (λ (k : ℕ). IsCut c.args.plan k c.in-Err.stopped.1.items (g.W.LineOut.taken c.args.writer.now) (g.W.LineOut.taken c.run_crew.new.writer)) c.forks-forks.ensures.is c.in-Err.ensures.stopped.cut
 
-pub returns-in-Err-clause-write : goal.returns-in-Err-clause-write
-returns-in-Err-clause-write g c = c.in-Err.ensures.stopped.failed
+pub returns-in-Err-clause-failed : goal.returns-in-Err-clause-failed
+returns-in-Err-clause-failed g c = c.in-Err.ensures.stopped.failed
 
 pub returns-in-Err-clause-opened : goal.returns-in-Err-clause-opened
 returns-in-Err-clause-opened g c = c.in-Err.ensures.stopped.opened
