@@ -24,6 +24,7 @@ abbrev pub same_text : PlanOf → Option HostNo → List ℕ
 same_text plan None = codes "same\n"
 same_text plan (Some host) = codes "not same: " ++ unwrap_or (slice_get plan.inventory.hosts host.0) [] ++ codes "\n"
 
+-- the warning where two runs are to be compared and no file of outcomes is named
 abbrev pub ignored_text : List ℕ
 ignored_text = codes "warning: same-under is ignored without outcomes\n"
 
@@ -41,6 +42,7 @@ pub record IsCompared (bundle : Bundle) (forks : ℕ) (stop_after : Option ℕ) 
   pub first : IsFirstApart plan (end_of plan trail) (end_under plan forks again) host
   pub same : EndsSame plan trail forks again host
 
+-- what was written says whether two runs end in the same; or, without a file of outcomes, that they aren't compared
 abbrev pub IsComparisonPut : (outcomes : Option (List ℕ)) → (forks : ℕ) → Bundle → (stop_after : Option ℕ) → List Event → (before after : Stream) → Type 0
 IsComparisonPut None forks bundle stop_after trail before after = IsPut ignored_text before after
 IsComparisonPut (Some bytes) forks bundle stop_after trail before after =
@@ -68,6 +70,7 @@ pub record AreAlike (plan other : PlanOf) (trail again : List Event) (status oth
   pub statuses : status ≡ other_status
   pub facts : (host : ℕ) → facts_at (end_of plan trail) host ≡ facts_at (end_of other again) host
 
+-- so it is where the plays are linear, no host knows of another, and neither run was stopped or lacked memory for what the file gives
 abbrev pub PlaysAgree : Type 0
 PlaysAgree =
     (bundle : Bundle) (forks : ℕ) (stop_after other_stop_after : Option ℕ) (bytes : List ℕ) (plan other : PlanOf) (trail again : List Event) (before after before_again after_again : Option (List ℕ)) (status other_status : ℕ)

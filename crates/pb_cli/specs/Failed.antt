@@ -29,6 +29,7 @@ abbrev pub left_if : (through others : Bool) → List ℕ → List ℕ
 left_if true others name = []
 left_if false others name = behind others name
 
+-- the text of all hosts that a run which has come to this state didn't bring through; empty where there is none
 abbrev pub failed_text : PlanOf → State → List ℕ
 failed_text plan s = joined false (left_from (got_through plan s) 0 plan.inventory.hosts)
 

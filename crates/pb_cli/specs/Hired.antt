@@ -6,6 +6,7 @@ use Rattle.pb_cli.specs.declared.workers.Staff.{Staff}
 abbrev pub launcher_of : {L : Type 0} → LocalRunner L → L
 launcher_of runner = runner.launcher
 
+-- the program that a runner has for gathering facts, if it has one
 abbrev pub facts_of : {L : Type 0} → LocalRunner L → Option (List ℕ)
 facts_of runner = runner.facts
 

@@ -10,6 +10,7 @@ use Rattle.pb_written.specs.Faults.{place_of}
 abbrev pub in_role : (path place : List ℕ) → List ℕ
 in_role path place = path ++ codes " " ++ place
 
+-- of a fault of roles: only one that stands in a role's file has a place, and not each of these
 abbrev pub place_of_role : RoleFault → Option (List ℕ)
 place_of_role (role.Load path fault) = option_map (in_role path) (place_of fault)
 place_of_role (role.Unknown name) = None

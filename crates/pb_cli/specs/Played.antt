@@ -84,6 +84,7 @@ pub record IsTabled (bytes : List ℕ) (plan : PlanOf) (stop_after : Option ℕ)
   pub run : IsRunBy (IsAnswer allows_all (TableGives table)) plan 256 (commands_for stop_after) trail before after status
   pub ran : AllGiven table (answers_of plan 256 trail)
 
+-- the same of a run that couldn't go on
 pub record IsTabledCut (bytes : List ℕ) (plan : PlanOf) (stop_after : Option ℕ) (trail : List Event) (fault : RunFault) (before after : Option (List ℕ)) : Type 0 where
   pub table : Table
   pub tabled : table_of bytes ≡ Ok table
@@ -128,6 +129,7 @@ IsGivenFor Run wanted plan before after played = IsRunOrAudited wanted.audited w
 IsGivenFor CheckSyntax wanted plan before after played = IsSaid (codes "ok\n") before after played
 IsGivenFor ListHosts wanted plan before after played = IsSaid (listing plan) before after played
 
+-- the same by what is wanted of the plan
 abbrev pub IsGiven : Wanted → PlanOf → (before after : Stage) → Played → Type 0
 IsGiven wanted plan before after played = IsGivenFor wanted.purpose wanted plan before after played
 
@@ -135,11 +137,13 @@ IsGiven wanted plan before after played = IsGivenFor wanted.purpose wanted plan 
 abbrev pub IsSaidTo : List ℕ → RunFault → (trail : Option (List Event)) → (before after : Stage) → Type 0
 IsSaidTo text fault trail before after = (fault ≡ Write) × (after.started ≡ before.started) × (trail ≡ None) × IsPart before.out.taken after.out.taken text
 
+-- a plan's run couldn't go on, or what is said of a trail couldn't be written whole
 abbrev pub IsRunOrAuditedTo : (audited : Option (List ℕ)) → Wanted → PlanOf → RunFault → (trail : Option (List Event)) → (before after : Stage) → Type 0
 IsRunOrAuditedTo None wanted plan fault trail before after =
     HasTrail trail (λ events. IsPlayedTo plan wanted.stop_after wanted.facts_program wanted.outcomes events fault before after)
 IsRunOrAuditedTo (Some bytes) wanted plan fault trail before after = (fault ≡ Write) × (after.started ≡ before.started) × (trail ≡ None) × IsAuditCut bytes plan before.out.taken after.out.taken
 
+-- what a plan is made for couldn't go on once it was begun
 abbrev pub IsGivenToFor : Purpose → Wanted → PlanOf → RunFault → (trail : Option (List Event)) → (before after : Stage) → Type 0
 IsGivenToFor Run wanted plan fault trail before after = IsRunOrAuditedTo wanted.audited wanted plan fault trail before after
 IsGivenToFor CheckSyntax wanted plan fault trail before after = IsSaidTo (codes "ok\n") fault trail before after
@@ -154,14 +158,16 @@ abbrev pub IsGivenTo : Wanted → PlanOf → RunFault → (trail : Option (List 
 IsGivenTo wanted plan fault trail before after =
     IsUnbegun fault trail before after ⊎ IsGivenToFor wanted.purpose wanted plan fault trail before after
 
--- warnings are faults, and there are some: nothing is started or written then
+-- there are warnings
 abbrev pub has_some : List (List ℕ) → Bool
 has_some [] = false
 has_some (line ∷ lines) = true
 
+-- warnings are faults, and there are some: nothing is started or written then
 abbrev pub is_forbidden : Wanted → PlanOf → Bool
 is_forbidden wanted plan = wanted.strict && has_some plan.warnings
 
+-- what is wanted of a plan was done; or nothing, with the status 1, where it is forbidden
 abbrev pub IsGivenUnless : (forbidden : Bool) → Wanted → PlanOf → (before after : Stage) → Played → Type 0
 IsGivenUnless true wanted plan before after played = IsUntouched before after × (played.status ≡ 1) × (played.trail ≡ None)
 IsGivenUnless false wanted plan before after played = IsGiven wanted plan before after played

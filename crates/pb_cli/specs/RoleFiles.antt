@@ -18,6 +18,7 @@ folder_name Vars = codes "vars"
 abbrev pub role_path : List ℕ → RoleFolder → List ℕ
 role_path name folder = name ++ codes "/" ++ folder_name folder ++ codes "/main.json"
 
+-- a path is that of a file in one of the folders of some role
 abbrev pub IsRolePath : List ℕ → Type 0
 IsRolePath path = (name : List ℕ) × (folder : RoleFolder) × (path ≡ role_path name folder)
 

@@ -7,6 +7,7 @@ use Rattle.pb_cli.specs.World.{Stream, IsPut}
 abbrev pub ended : List ℕ → List ℕ
 ended line = line ++ codes "\n"
 
+-- the text of these lines; empty where there are none
 abbrev pub warning_text : List (List ℕ) → List ℕ
 warning_text lines = flat_map ended lines
 

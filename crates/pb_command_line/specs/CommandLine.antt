@@ -94,6 +94,7 @@ abbrev pub with_rules : App → List Rule → App
 with_rules app [] = app
 with_rules app (rule ∷ more) = with_rules (with_rule app rule) more
 
+-- the program's command line: its name, and all of its arguments
 abbrev pub program : App
 program = with_rules (new_app (codes "pb-play")) rules
 
@@ -150,9 +151,11 @@ abbrev pub NoForks : Option Text → Type 0
 NoForks None = ⊥
 NoForks (Some text) = IsNoCount text
 
+-- what is written is no number of reports
 abbrev pub IsNoReportCount : Text → Type 0
 IsNoReportCount text = (n : ℕ) → IsReportCount text n → ⊥
 
+-- what is written as the number of reports after which the run is stopped is no such number
 abbrev pub NoStop : Option Text → Type 0
 NoStop None = ⊥
 NoStop (Some text) = IsNoReportCount text

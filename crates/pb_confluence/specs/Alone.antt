@@ -34,6 +34,7 @@ walks plan f number play (suc n) row = walks plan f number play n (goes plan f n
 abbrev pub between : HostOf → HostOf
 between row = record (first_row row.host) { status = row.status; facts = row.facts; counts = row.counts }
 
+-- the host in this play; where it isn't one of the play's own, or isn't active, it stays as it is
 abbrev pub alone_in : PlanOf → Fixed → ℕ → PlayOf → HostOf → HostOf
 alone_in plan f number play row = if is_play_host play.hosts row then between (walks plan f number play (size_of play.tree) (joined play.tree true (between row))) else row
 
@@ -42,6 +43,7 @@ abbrev pub alone_from : PlanOf → Fixed → ℕ → List PlayOf → HostOf → 
 alone_from plan f number [] row = row
 alone_from plan f number (play ∷ plays) row = alone_from plan f (number + 1) plays (alone_in plan f number play row)
 
+-- the host with this number, after the whole playbook
 abbrev pub alone : PlanOf → Fixed → ℕ → HostOf
 alone plan f host = alone_from plan f 0 plan.plays (first_row host)
 
@@ -66,6 +68,7 @@ EndsAlone =
 abbrev pub without_order : PlayOf → PlayOf
 without_order play = record play { strategy = Linear; serial = [] }
 
+-- a plan without its own: its plays are linear and have no sizes of batches, and there is one fork and no warning
 abbrev pub without_orders : PlanOf → PlanOf
 without_orders plan = record plan { plays = map without_order plan.plays; forks = 1; warnings = [] }
 

@@ -49,6 +49,7 @@ pub record AreAlike (one two : PlanOf) (pool other_pool : ℕ) (trail other : Li
   pub facts : (host : ℕ) → facts_at s host ≡ facts_at t host
   pub counts : recap one pool trail ≡ recap two other_pool other
 
+-- so two whole runs of one plan end, whatever the forks of each, where all plays are linear and no host knows of another
 abbrev pub EndAlike : Type 0
 EndAlike =
     (plan : PlanOf) (f : Fixed) (m n pool other_pool : ℕ) (trail other : List Event) (s t : State) → are_linear plan ≡ true → is_independent plan ≡ true →

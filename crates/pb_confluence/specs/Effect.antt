@@ -37,6 +37,7 @@ played_out plan f number play (Some r) row = items_back plan f number play (atte
 abbrev pub started : PlanOf → PlayOf → ℕ → HostOf → HostOf
 started plan play p row = progressed plan.inventory play p (items_at plan play row.host row.facts p) row
 
+-- the task at a place as a whole: a host starts it, and it comes to its end
 abbrev pub whole : PlanOf → Fixed → ℕ → PlayOf → ℕ → HostOf → HostOf
 whole plan f number play p row = played_out plan f number play (started plan play p row).running (started plan play p row)
 
@@ -45,5 +46,6 @@ abbrev pub completed : PlanOf → Fixed → ℕ → PlayOf → ℕ → Option Ru
 completed plan f number play p None row = if is_at p row then whole plan f number play p row else row
 completed plan f number play p (Some r) row = played_out plan f number play (Some r) row
 
+-- the same, where what the host runs is read off its row
 abbrev pub complete : PlanOf → Fixed → ℕ → PlayOf → ℕ → HostOf → HostOf
 complete plan f number play p row = completed plan f number play p row.running row

@@ -58,6 +58,7 @@ IsFixedAt plan f s Close = Unit {0}
 IsFixedAt plan f s Stop = Unit {0}
 IsFixedAt plan f s (Forks n) = Unit {0}
 
+-- each report among these events does, from this state on
 abbrev pub IsFixed : PlanOf → Fixed → State → List Event → Type 0
 IsFixed plan f s [] = Unit {0}
 IsFixed plan f s (e ∷ es) = IsFixedAt plan f s e × IsFixed plan f (after plan s e) es

@@ -19,9 +19,11 @@ abbrev pub until_played_out : ℕ → (HostOf → HostOf) → List HostOf → Li
 until_played_out p does [] = []
 until_played_out p does (row ∷ rows) = does row ∷ (if has_done_run_once p (does row) then rows else until_played_out p does rows)
 
+-- each of these hosts does the task; or where it is done once, those up to the first that does it for all
 abbrev pub by_each : Bool → ℕ → (HostOf → HostOf) → List HostOf → List HostOf
 by_each once p does rows = if once then until_played_out p does rows else map does rows
 
+-- what the place p does to the hosts, before anything of it goes from one to the others
 abbrev pub at_place : PlanOf → Fixed → ℕ → PlayOf → ℕ → List HostOf → List HostOf
 at_place plan f number play p rows = by_each (runs_once_at play p) p (complete plan f number play p) rows
 

@@ -52,6 +52,7 @@ IsUnrefusedAt table plan s Close = Unit {0}
 IsUnrefusedAt table plan s Stop = Unit {0}
 IsUnrefusedAt table plan s (Forks n) = Unit {0}
 
+-- the same of each of these events, from this state on
 abbrev pub IsUnrefused : Table → PlanOf → State → List Event → Type 0
 IsUnrefused table plan s [] = Unit {0}
 IsUnrefused table plan s (e ∷ es) = IsUnrefusedAt table plan s e × IsUnrefused table plan (after plan s e) es

@@ -52,6 +52,7 @@ pub record HasSent (fits : EngineOf → Type 0) (engine : EngineOf) (job : Job) 
   pub takes : Takes old engine (Send host item attempt ticket)
   pub is : job_of old.plan old.state host ticket ≡ Some job
 
+-- the answers among two lists of mails are those of the first, and then those of the second
 pub among_both : (first more : List Mail) → answers_among (first ++ more) ≡ answers_among first ++ answers_among more
 among_both [] more = refl
 among_both (Goes job ∷ mails) more = among_both mails more
@@ -65,9 +66,11 @@ GivesSame {R} gives old new = (job : Job) (outcome : Form) → gives new job out
 abbrev pub HasRunMail : {R : Type 0} → (R → Job → Form → Type 0) → (R → List (Job × Form) → R → Type 0) → R → List Mail → R → Type 0
 HasRunMail {R} gives ran old mails new = ran old (answers_among mails) new × GivesSame gives old new
 
+-- without mails a runner has run nothing
 pub run_none : {R : Type 0} (gives : R → Job → Form → Type 0) (ran : R → List (Job × Form) → R → Type 0) (runner : R) → ran runner [] runner → HasRunMail gives ran runner [] runner
 run_none {R} gives ran runner none = (none, λ job outcome. (λ g. g, λ g. g))
 
+-- what was run for some mails, and then for more, was run for all of them
 pub run_more : {R : Type 0} (gives : R → Job → Form → Type 0) (ran : R → List (Job × Form) → R → Type 0)
     → ((old mid new : R) (first more : List (Job × Form)) → ran old first mid → ran mid more new → ran old (first ++ more) new)
     → (old mid new : R) (first more : List Mail) → HasRunMail gives ran old first mid → HasRunMail gives ran mid more new → HasRunMail gives ran old (first ++ more) new
@@ -86,12 +89,14 @@ HasPosted old mails new =
     IsSameMain old new × (idle_forks (main_view new) + jobs_out (main_view new) ≡ idle_forks (main_view old) + jobs_out (main_view old))
     × (map letter_at (main_view new).log ≡ map letter_at (main_view old).log ++ map letter_of mails) × StaysWithin (main_view old) (main_view new)
 
+-- without mails a main seat has offered and collected nothing
 pub posted_none : (main : MainSeat) → HasPosted main [] main
 posted_none main = (refl, refl, sym (append-nil (map letter_at (main_view main).log)), (refl, λ within. within))
 
 pub stays_more : (m n o : MainView) → StaysWithin m n → StaysWithin n o → StaysWithin m o
 stays_more m n o a b = (b.0 ∙ a.0, λ within. subst (λ (k : ℕ). AreWithin k o.log) a.0 (b.1 (subst (λ (k : ℕ). AreWithin k n.log) (sym a.0) (a.1 within))))
 
+-- what was posted for some mails, and then for more, was posted for all of them
 pub posted_more : (old mid new : MainSeat) (first more : List Mail) → HasPosted old first mid → HasPosted mid more new → HasPosted old (first ++ more) new
 posted_more old mid new first more a b = (
   b.0 ∙ a.0,

@@ -10,6 +10,7 @@ use Rattle.pb_driver.specs.Taken.{with_more}
 use Rattle.pb_driver.specs.Output.{lines_from, output}
 use Rattle.pb_driver.specs.Driven.{lines_of_trail}
 
+-- the events in front of the last; none where there is none
 abbrev pub all_but_last : List Event → List Event
 all_but_last es = take (length es - 1) es
 

@@ -45,6 +45,7 @@ pub record IsWorkersAnswer (allows : Job → Form → Type 0) (plan : PlanOf) (s
 abbrev pub Answers : Type 1
 Answers = PlanOf → State → Report → Type 0
 
+-- the same of an event: one that is no report has nothing to answer
 abbrev pub IsAnswerAt : Answers → PlanOf → State → Event → Type 0
 IsAnswerAt answers plan s Open = Unit {0}
 IsAnswerAt answers plan s (Start h) = Unit {0}
@@ -123,10 +124,11 @@ pub record TakesOne (answers : Answers) (old new : EngineOf) : Type 0 where
   pub answer : IsAnswerAt answers old.plan old.state event
   pub uncommanded : is_command event ≡ false
 
--- at most one event was taken, and no command
+-- one event was taken, which is no command
 abbrev pub TakesOwn : EngineOf → EngineOf → Type 0
 TakesOwn old new = (e : Event) × Takes old new e × (is_command e ≡ false)
 
+-- at most one event was taken, and no command
 abbrev pub TakesAtMost : EngineOf → EngineOf → Type 0
 TakesAtMost old new = (new ≡ old) ⊎ TakesOwn old new
 

@@ -14,6 +14,7 @@ use Rattle.pb_engine.specs.EngineOf.{EngineOf}
 abbrev pub HasItsJob : MainView → EngineOf → ℕ → Type 0
 HasItsJob m engine j = (x : Job) × EndsIn (offers_of j m.log) x × (slice_index m.seen j / 4 ≡ x.ticket.0) × IsOut engine.plan engine.state x
 
+-- a main seat of k forks fits an engine: the jobs that its forks have are the engine's jobs that are out, and no two forks have the same
 pub record FitsView (k : ℕ) (m : MainView) (engine : EngineOf) : Type 0 where
   pub size : engine.pool ≡ k
   pub forks : engine.plan.forks ≤ k
@@ -24,5 +25,6 @@ pub record FitsView (k : ℕ) (m : MainView) (engine : EngineOf) : Type 0 where
   pub each : (j : ℕ) → is_out (slice_index m.seen j) ≡ true → HasItsJob m engine j
   pub apart : (i j : ℕ) → is_out (slice_index m.seen i) ≡ true → is_out (slice_index m.seen j) ≡ true → slice_index m.seen i / 4 ≡ slice_index m.seen j / 4 → i ≡ j
 
+-- the same of the main seat of this pool, with as many forks as the pool has
 abbrev pub FitsPool : {A : Type 0} → Pool A → MainSeat → EngineOf → Type 0
 FitsPool pool main engine = IsMainOf pool main × FitsView (forks_of pool) (main_view main) engine

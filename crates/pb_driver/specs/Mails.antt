@@ -25,6 +25,7 @@ pub data Mail : Type 0 where
   Goes : Job → Mail
   Comes : Job → Form → Mail
 
+-- the mail of an event: the job that a send lets go out, or the one that a report answers; none for other events
 abbrev pub mail_in : PlanOf → State → Event → List Mail
 mail_in plan s Open = []
 mail_in plan s (Start h) = []
@@ -40,9 +41,11 @@ abbrev pub mails_from : PlanOf → State → List Event → List Mail
 mails_from plan s [] = []
 mails_from plan s (e ∷ es) = mail_in plan s e ++ mails_from plan (after plan s e) es
 
+-- the mails of a whole trail, with the plan's own forks and so many workers
 abbrev pub mails_of : PlanOf → ℕ → List Event → List Mail
 mails_of plan pool trail = mails_from plan (first_state plan plan.forks pool) trail
 
+-- the mails of an engine's trail
 abbrev pub mails_in : EngineOf → List Mail
 mails_in engine = mails_of engine.plan engine.pool engine.trail
 

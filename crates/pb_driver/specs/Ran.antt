@@ -32,6 +32,7 @@ abbrev pub answers_from : PlanOf → State → List Event → List (Job × Form)
 answers_from plan s [] = []
 answers_from plan s (e ∷ es) = answer_in plan s e ++ answers_from plan (after plan s e) es
 
+-- those of a whole trail, with the plan's own forks and so many workers
 abbrev pub answers_of : PlanOf → ℕ → List Event → List (Job × Form)
 answers_of plan pool trail = answers_from plan (first_state plan plan.forks pool) trail
 

@@ -15,5 +15,6 @@ is_failed bytes (Ok n) = nat_eq n 0 && not (nat_eq (length bytes) 0)
 abbrev pub one_more : ℕ → ℕ
 one_more failures = (failures + 1) % 2 ^ 64
 
+-- how often calls failed, with one call more that failed or not
 abbrev pub counted : Bool → ℕ → ℕ
 counted failed failures = if failed then one_more failures else failures

@@ -23,9 +23,11 @@ abbrev pub event_lines : PlanOf → State → ℕ → List Event → List (ℕ �
 event_lines plan s n [] = []
 event_lines plan s n (e ∷ es) = numbered n (lines_in (lines_of plan (after plan s e) e)) ++ event_lines plan (after plan s e) (n + 1) es
 
+-- the lines of a whole trail's events, the first of which has the number 0
 abbrev pub lines_along : PlanOf → ℕ → List Event → List (ℕ × List ℕ)
 lines_along plan pool trail = event_lines plan (first_state plan plan.forks pool) 0 trail
 
+-- the lines without the numbers of their events
 abbrev pub only_lines : List (ℕ × List ℕ) → List (List ℕ)
 only_lines numbered_lines = map (λ (t : ℕ × List ℕ). t.1) numbered_lines
 

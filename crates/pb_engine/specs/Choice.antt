@@ -40,6 +40,7 @@ host_of Close = None
 host_of Stop = None
 host_of (Forks n) = None
 
+-- what the machine does next: an event that it takes by itself, a wait where a job is out, or nothing where the run is finished
 abbrev pub IsChoice : {P : Type 0} → PlanOf → State → (P → List Bool → ℕ → P → Type 0) → P → P → Choice → Type 0
 IsChoice plan s picks old new (Take e) = (possible plan s e ≡ true) × (is_move e ≡ true) × IsPicked picks old new (ready plan s) e
 IsChoice plan s picks old new Waits = IsQuiet plan s × (list_any is_out s.rows ≡ true) × (new ≡ old)

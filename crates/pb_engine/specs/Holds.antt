@@ -4,6 +4,7 @@ use Rattle.pb_state.specs.Known.{IsKnown}
 use Rattle.pb_state.specs.Run.{IsRun}
 use Rattle.pb_engine.specs.declared.engine.Engine.TheInside.{Inside}
 
+-- the trail leads to the state, `ready` has an entry for each host, some host may run, and what is kept of `hostvars` is what it is now
 pub record Holds (e : Inside) : Type 0 where
   pub run : IsRun e.plan e.pool e.trail.items e.state
   pub width : length e.ready ≡ length e.state.rows

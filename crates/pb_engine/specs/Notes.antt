@@ -7,6 +7,7 @@ use Rattle.pb_handlers.specs.History.{history_of}
 use Rattle.pb_host.specs.Host.{HostOf}
 use Rattle.pb_state.specs.State.{State}
 
+-- of each handler of the play whether it is pending on the host of this row
 abbrev pub noted_on : HostOf → List Bool
 noted_on row = marks_after row.tree.handlers (history_of row.tree row.answers)
 

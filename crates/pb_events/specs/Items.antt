@@ -6,11 +6,13 @@ use Rattle.pb_outcome.specs.declared.gather.Ending.{Ending}
 use Rattle.pb_outcome.specs.declared.gather.ItemResult.{ItemResult}
 use Rattle.pb_events.specs.Line.{line}
 
+-- the name that the line of an item has, by how the item ended: it failed, was left out, or went well
 abbrev pub item_event : Ending → List ℕ
 item_event ending =
     if is_failed ending then codes "runner_item_on_failed"
     else (if is_skipped ending then codes "runner_item_on_skipped" else codes "runner_item_on_ok")
 
+-- the line of an item: of the two numbers the first is the play's, the second the item's in its loop
 abbrev pub item_end : List ℕ → List ℕ → List ℕ → ℕ → ℕ → Datum → List ℕ
 item_end event host place play number result =
     line

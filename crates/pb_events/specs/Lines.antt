@@ -34,6 +34,7 @@ abbrev pub start_event : Option ℕ → List ℕ
 start_event None = codes "playbook_on_task_start"
 start_event (Some handler) = codes "playbook_on_handler_task_start"
 
+-- the line of that start: with the task's name, its place, and the number of its play
 abbrev pub task_start : List ℕ → List ℕ → List ℕ → ℕ → List ℕ
 task_start event name place play =
     line ((codes "event", text event) ∷ (codes "name", text name) ∷ (codes "place", text place) ∷ (codes "play", int (pos play)) ∷ [])
@@ -73,6 +74,7 @@ retry_line host place play retried =
     ((codes "attempt", int (pos retried.attempt)) ∷ (codes "event", text (codes "runner_retry")) ∷ (codes "host", text host) ∷ (codes "place", text place)
     ∷ (codes "play", int (pos play)) ∷ (codes "result", retried.result) ∷ [])
 
+-- none where no attempt came back, or no other one comes behind it
 abbrev pub retried_text : List ℕ → List ℕ → ℕ → Option Retried → List ℕ
 retried_text host place play None = []
 retried_text host place play (Some retried) = retry_line host place play retried
@@ -96,6 +98,7 @@ abbrev pub site_at : PlayOf → ℕ → List ℕ → StepResult → Option Place
 site_at play number host step_result (Some place) (Some path) = Some (record { play = play; number = number; host = host; place = place; path = dotted path; step_result = step_result })
 site_at play number host step_result place path = None
 
+-- none where there is no such play or host, or where the last step was about no task
 abbrev pub site_in : ℕ → Option PlayOf → Option StepResult → Option (List ℕ) → Option SiteOf
 site_in number (Some play) (Some step_result) (Some host) = site_at play number host step_result (slice_get play.places step_result.place) (path_at play.tree step_result.place)
 site_in number play step_result host = None
@@ -131,6 +134,7 @@ abbrev pub site_lines : Bool → PlanOf → State → ℕ → List ℕ
 site_lines true plan s h = option_map_or started (site_of plan s h) []
 site_lines false plan s h = option_map_or came_back (site_of plan s h) []
 
+-- the line of the batch that opened in this play, with the names of its hosts
 abbrev pub opened_in : PlanOf → State → PlayOf → List ℕ
 opened_in plan s play = play_start s.play s.batch play.name (map text (batch_names plan.inventory.hosts s.rows))
 

@@ -20,6 +20,7 @@ abbrev pub notify_line : List ℕ → List ℕ → ℕ → List ℕ
 notify_line host name play =
     line ((codes "event", text (codes "playbook_on_notify")) ∷ (codes "handler", text name) ∷ (codes "host", text host) ∷ (codes "play", int (pos play)) ∷ [])
 
+-- a line for each of these handlers, on the host with this name, in the play with this number
 abbrev pub notify_lines : List ℕ → PlayOf → ℕ → List ℕ → List ℕ
 notify_lines host play number [] = []
 notify_lines host play number (handler ∷ handlers) = notify_line host (handler_name play handler) number ++ notify_lines host play number handlers

@@ -23,6 +23,7 @@ lines_in (byte ∷ bytes) = if byte == 10 then (10 ∷ []) ∷ lines_in bytes el
 abbrev pub IsObject : List ℕ → Type 0
 IsObject text = (members : List (List ℕ × Datum)) × (text ≡ line members)
 
+-- the same of each of these texts
 abbrev pub AreObjects : List (List ℕ) → Type 0
 AreObjects [] = ⊤
 AreObjects (text ∷ texts) = IsObject text × AreObjects texts

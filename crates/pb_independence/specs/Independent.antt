@@ -27,6 +27,7 @@ abbrev pub words_name : List ℕ → CommandWords → Bool
 words_name word (Line line) = in_text word line
 words_name word (Argv argv) = in_items word (items_of argv)
 
+-- in what a module is given; `meta` and `setup` are given nothing that names a word
 abbrev pub module_names : List ℕ → Module → Bool
 module_names word (Assert that fail_msg success_msg) = in_trees word (trees_of that) || in_value word fail_msg || in_value word success_msg
 module_names word (Command words) = words_name word words
@@ -38,21 +39,25 @@ module_names word (SetFact facts) = in_members word (members_of facts)
 module_names word Setup = false
 module_names word (Shell cmd) = in_text word cmd
 
+-- in what a loop goes over; a task without a loop names nothing there
 abbrev pub loop_names : List ℕ → Option Loop → Bool
 loop_names word looped = option_map_or (λ (l : Loop). in_value word l.over) looped false
 
 abbrev pub map_names : List ℕ → Map → Bool
 map_names word m = in_members word (members_of m)
 
+-- in what a task runs, its loop, its conditions on results, and its own variables
 abbrev pub task_names : List ℕ → Task → Bool
 task_names word task = module_names word task.«module» || loop_names word task.looped || result_names word task || map_names word task.vars
 
 abbrev pub role_names : List ℕ → Role → Bool
 role_names word role = map_names word role.defaults || map_names word role.vars || map_names word role.params
 
+-- in the name of the host that a task is delegated to, if it is
 abbrev pub delegate_names : List ℕ → Option (List ℕ) → Bool
 delegate_names word to = option_map_or (in_text word) to false
 
+-- in the task at a place, its conditions, its delegate, and the variables of its blocks and its role
 abbrev pub place_names : List ℕ → PlaceOf → Bool
 place_names word place =
     task_names word place.task || in_trees word (trees_of place.conditions) || delegate_names word place.delegate_to || map_names word place.block_vars
@@ -73,6 +78,7 @@ host_names word entry = map_names word entry.1
 abbrev pub inventory_names : List ℕ → InventoryOf → Bool
 inventory_names word inventory = list_any (group_names word) inventory.group_vars || list_any (host_names word) inventory.host_vars
 
+-- anywhere in a plan: in its plays, in the variables of its groups and hosts, and in the extra ones
 abbrev pub plan_names : List ℕ → PlanOf → Bool
 plan_names word plan = list_any (play_names word) plan.plays || inventory_names word plan.inventory || map_names word plan.extra
 
@@ -80,6 +86,7 @@ plan_names word plan = list_any (play_names word) plan.plays || inventory_names 
 abbrev pub play_delegates : PlayOf → Bool
 play_delegates play = list_any (λ (place : PlaceOf). place.delegate_facts) play.places
 
+-- hosts know nothing of each other: nothing in the plan names `hostvars`, and no task gives its facts to another host
 abbrev pub is_independent : PlanOf → Bool
 is_independent plan = not (plan_names (codes "hostvars") plan) && not (list_any play_delegates plan.plays)
 

@@ -24,6 +24,7 @@ pub record HostTask : Type 0 where
   pub host : ℕ
   pub place : ℕ
 
+-- one thing that happens in a run
 pub data Happening : Type 0 where
   -- from now on so many hosts may run at once
   MayRun : ℕ → Happening
@@ -54,9 +55,11 @@ at_place play host (Some place) tells = tells (record { play = play; host = host
 abbrev pub ended_in : Option StepResult → Option TaskEnd
 ended_in step_result = option_map_or (λ (d : StepResult). option_map (λ (done : TaskDone). done.task) d.done) step_result None
 
+-- the handlers that a task notifies as it ends so at a place of this play; none where there is no play
 abbrev pub notified_in : Option PlayOf → ℕ → TaskEnd → List ℕ
 notified_in play place end = option_map_or (λ (p : PlayOf). notified_by p place end) play []
 
+-- the end of a task, if it ended
 abbrev pub ends_if : Option PlayOf → Option TaskEnd → HostTask → List Happening
 ends_if play None task = []
 ends_if play (Some end) task = Ends task end (notified_in play task.place end) ∷ []
@@ -67,6 +70,7 @@ given_beyond play host tree had [] = []
 given_beyond play host tree had (answer ∷ more) =
     at_place play host (place_of (reach tree had)) (λ task. Given task answer.kind ∷ []) ++ given_beyond play host tree (had ++ answer ∷ []) more
 
+-- what all hosts are given, the first of which has the number `host`: by their rows before, and their rows now
 abbrev pub given_in : ℕ → ℕ → List HostOf → List HostOf → List Happening
 given_in play host [] news = []
 given_in play host (old ∷ olds) [] = []
@@ -89,6 +93,7 @@ happenings plan s Close new = Closes s.play ∷ []
 happenings plan s Stop new = Stops ∷ []
 happenings plan s (Forks n) new = MayRun n ∷ []
 
+-- what the events tell one after another, from a state on; the oldest stands first
 abbrev pub history_from : PlanOf → State → List Event → List Happening
 history_from plan s [] = []
 history_from plan s (e ∷ es) = happenings plan s e (after plan s e) ++ history_from plan (after plan s e) es

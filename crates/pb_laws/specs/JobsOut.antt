@@ -65,6 +65,7 @@ is_report_of host (Forks n) = false
 abbrev pub IsReportOf : Job → Report → Type 0
 IsReportOf x r = (r.ticket ≡ x.ticket) × (r.host ≡ x.host) × (r.item ≡ x.item) × (r.attempt ≡ x.attempt)
 
+-- what a run that has come to this state owes its workers, of whom there are as many as the pool says
 pub record FitsWorkers (plan : PlanOf) (pool : ℕ) (s : State) : Type 0 where
   -- as many hosts may run as there are workers, or fewer; as many run as may, or fewer; and as many jobs are out as hosts run, or fewer
   pub forks : s.forks ≤ pool

@@ -63,6 +63,7 @@ batch_of play (Opens other hosts ∷ past) = if other == play then hosts else []
 batch_of play (Closes other ∷ past) = []
 batch_of play (now ∷ past) = batch_of play past
 
+-- whether some host is in both sets, each of which says of hosts by their numbers whether they are in it
 abbrev pub share : List Bool → List Bool → Bool
 share [] others = false
 share (a ∷ hosts) [] = false
@@ -74,6 +75,7 @@ some_were_in play hosts [] = false
 some_were_in play hosts (Opens other before ∷ past) = ((other == play) && share before hosts) || some_were_in play hosts past
 some_were_in play hosts (now ∷ past) = some_were_in play hosts past
 
+-- of a start, and of a batch that opens; all else that happens fits
 abbrev pub own_hosts : PlanOf → List Happening → Happening → Bool
 own_hosts plan past (Starts task) = selects plan task.play task.host && is_member (batch_of task.play past) task.host
 own_hosts plan past (Opens play hosts) = not (some_were_in play hosts past)
@@ -92,9 +94,11 @@ running of (Starts task ∷ past) = running of past + one_if (of task)
 running of (Ends task end notified ∷ past) = running of past - one_if (of task)
 running of (now ∷ past) = running of past
 
+-- whichever task it is
 abbrev pub any_task : HostTask → Bool
 any_task task = true
 
+-- the task at this place of this play, whichever host runs it
 abbrev pub task_at : ℕ → ℕ → HostTask → Bool
 task_at play place task = (play == task.play) && (place == task.place)
 
@@ -102,6 +106,7 @@ task_at play place task = (play == task.play) && (place == task.place)
 abbrev pub throttle_at : PlanOf → ℕ → ℕ → ℕ
 throttle_at plan play place = option_map_or (λ (p : PlayOf). slice_index_or (throttles_of p.places) place 0) (slice_get plan.plays play) 0
 
+-- of a start; all else that happens fits
 abbrev pub within_forks : PlanOf → List Happening → Happening → Bool
 within_forks plan past (Starts task) =
     nat_lt (running any_task past) (may_run past) && has_room_for (running (task_at task.play task.place) past) (throttle_at plan task.play task.place)
@@ -124,6 +129,7 @@ answers host (now ∷ past) = answers host past
 abbrev pub leads_to : PlanOf → ℕ → ℕ → List Happening → Option ℕ
 leads_to plan play host past = place_of (reach (tree_at plan play) (answers host past))
 
+-- whether the host of a task stands at its place; a host at its end stands nowhere
 abbrev pub stands_at : PlanOf → HostTask → List Happening → Bool
 stands_at plan task past = option_map_or (λ p. p == task.place) (leads_to plan task.play task.host past) false
 
@@ -132,6 +138,7 @@ abbrev pub each_host : (ℕ → Bool) → ℕ → List Bool → Bool
 each_host test h [] = true
 each_host test h (inside ∷ hosts) = (not inside || test h) && each_host test (h + 1) hosts
 
+-- the same place of the same play, on the same host
 abbrev pub is_same_task : HostTask → HostTask → Bool
 is_same_task a b = (a.play == b.play) && (a.host == b.host) && (a.place == b.place)
 
@@ -148,11 +155,13 @@ runs task (now ∷ past) = runs task past
 abbrev pub is_of : ℕ → HostTask → Bool
 is_of host task = task.host == host
 
+-- whether all places at which the task's host started before in its play stand before the task's own
 abbrev pub rises : HostTask → List Happening → Bool
 rises task [] = true
 rises task (Starts other ∷ past) = (not ((other.host == task.host) && (other.play == task.play)) || nat_lt other.place task.place) && rises task past
 rises task (now ∷ past) = rises task past
 
+-- whether the play with this number has the linear strategy; a number that is no play's hasn't
 abbrev pub is_linear_play : PlanOf → ℕ → Bool
 is_linear_play plan play = option_map_or (λ (p : PlayOf). is_linear p.strategy) (slice_get plan.plays play) false
 
@@ -160,10 +169,12 @@ is_linear_play plan play = option_map_or (λ (p : PlayOf). is_linear p.strategy)
 abbrev pub is_not_before : PlanOf → HostTask → List Happening → ℕ → Bool
 is_not_before plan task past host = option_map_or (λ p. nat_le task.place p) (leads_to plan task.play host past) true
 
+-- of a start; all else that happens fits
 abbrev pub places_rise : PlanOf → List Happening → Happening → Bool
 places_rise plan past (Starts task) = rises task past
 places_rise plan past now = true
 
+-- of a start, of a task that ends, and of an answer that a host is given; all else that happens fits
 abbrev pub in_order : PlanOf → List Happening → Happening → Bool
 in_order plan past (Starts task) =
     stands_at plan task past && (running (is_of task.host) past == 0)
@@ -174,10 +185,11 @@ in_order plan past now = true
 
 -- ---- out is out: a host that couldn't be reached starts nothing more; one that failed where no rescue catches that, or that was halted, starts nothing more but
 -- the always parts round the place where that was and the handlers that are forced, unless one of these ends the play for it
--- whether the place q stands in the always part of a block that has the place p in its body or its rescue; the first place of the nodes is `at`
+-- whether the place p is one of so many places, the first of which is `at`
 abbrev pub is_within : ℕ → ℕ → ℕ → Bool
 is_within at count p = nat_le at p && nat_lt p (at + count)
 
+-- whether the place q stands in the always part of a block that has the place p in its body or its rescue; the first place of the nodes is `at`
 abbrev pub is_always_for : ℕ → ℕ → Nodes → ℕ → ℕ → Bool
 is_always_for handlers at Nothing p q = false
 is_always_for handlers at (Task rest) p q = is_always_for handlers (at + 1) rest p q
@@ -192,11 +204,13 @@ is_always_for handlers at (Flush rest) p q = is_always_for handlers (at + handle
 abbrev pub is_forced : TreeOf → ℕ → Bool
 is_forced tree q = tree.force_handlers && ends_in_flush tree.nodes && nat_le (size tree.handlers (front tree.nodes)) q
 
+-- whether a host out at the first of two tasks of a play may still start the second: in an always part round it, or as a forced handler
 abbrev pub may_follow : PlanOf → HostTask → HostTask → Bool
 may_follow plan before task =
     (before.play == task.play)
     && (is_always_for (tree_at plan task.play).handlers 0 (tree_at plan task.play).nodes before.place task.place || is_forced (tree_at plan task.play) task.place)
 
+-- whether a failure of this task is caught: its place stands in the body of a block that has a rescue
 abbrev pub is_caught : PlanOf → HostTask → Bool
 is_caught plan task = slice_index_or (caught_places (tree_at plan task.play)) task.place false
 
@@ -212,6 +226,7 @@ keeps_out plan before kinds.Bad task else_so = (not (is_caught plan before) && n
 abbrev pub is_halted_again : ℕ → Kind → List Happening → Bool
 is_halted_again host kind past = is_halted kind && list_any (λ (a : AnswerOf). is_halted a.kind) (answers host past)
 
+-- whether what the task's host answered so far, in this play or before, keeps it from starting the task
 abbrev pub is_kept_out : PlanOf → HostTask → List Happening → Bool
 is_kept_out plan task [] = false
 is_kept_out plan task (Ends before end notified ∷ past) =
@@ -220,6 +235,7 @@ is_kept_out plan task (Given before kind ∷ past) =
     if (before.host == task.host) && not (is_halted_again before.host kind past) then keeps_out plan before kind task (is_kept_out plan task past) else is_kept_out plan task past
 is_kept_out plan task (now ∷ past) = is_kept_out plan task past
 
+-- of a start; all else that happens fits
 abbrev pub out_is_out : PlanOf → List Happening → Happening → Bool
 out_is_out plan past (Starts task) = not (is_kept_out plan task past)
 out_is_out plan past now = true
@@ -230,17 +246,20 @@ abbrev pub have_walked : PlanOf → List Happening → Happening → Bool
 have_walked plan past (Closes play) = each_host (λ host. is_none (leads_to plan play host past)) 0 (batch_of play past)
 have_walked plan past now = true
 
+-- whether the batch that opened last hasn't closed
 abbrev pub is_open : List Happening → Bool
 is_open [] = false
 is_open (Opens play hosts ∷ past) = true
 is_open (Closes play ∷ past) = false
 is_open (now ∷ past) = is_open past
 
+-- whether the run was commanded to stop
 abbrev pub was_stopped : List Happening → Bool
 was_stopped [] = false
 was_stopped (Stops ∷ past) = true
 was_stopped (now ∷ past) = was_stopped past
 
+-- of all that happened in a run: it was stopped, no host may run, or no batch is open
 abbrev pub all_closed : PlanOf → List Happening → Bool
 all_closed plan past = was_stopped past || (may_run past == 0) || not (is_open past)
 
@@ -258,6 +277,7 @@ is_out host item ticket (Sends task other attempt under ∷ past) = if under == 
 is_out host item ticket (Reports from other under ∷ past) = not (under == ticket) && is_out host item ticket past
 is_out host item ticket (now ∷ past) = is_out host item ticket past
 
+-- of a job that goes out, and of a report; all else that happens fits
 abbrev pub jobs_in_order : PlanOf → List Happening → Happening → Bool
 jobs_in_order plan past (Sends task item attempt ticket) = (ticket == jobs_sent past) && runs task past
 jobs_in_order plan past (Reports host item ticket) = is_out host item ticket past
@@ -274,6 +294,7 @@ abbrev pub answered_below : ℕ → List Happening → Bool
 answered_below zero past = true
 answered_below (suc ticket) past = is_answered ticket past && answered_below ticket past
 
+-- of all that happened in a run: each job that went out is answered
 abbrev pub all_answered : PlanOf → List Happening → Bool
 all_answered plan past = answered_below (jobs_sent past) past
 
@@ -283,9 +304,11 @@ all_answered plan past = answered_below (jobs_sent past) past
 abbrev pub most_attempts : PlayTask → ℕ
 most_attempts task = option_map_or (λ (r : Retrying). r.retries + 1) task.retrying 1
 
+-- the same of the task at a place of a play; 1 where there is no such place
 abbrev pub attempts_in : ℕ → PlayOf → ℕ
 attempts_in place play = option_map_or (λ (at : PlaceOf). most_attempts at.task) (slice_get play.places place) 1
 
+-- the same by the number of the play, and then that of the place; 1 where there is no such task
 abbrev pub attempts_at : PlanOf → ℕ → ℕ → ℕ
 attempts_at plan play place = option_map_or (attempts_in place) (slice_get plan.plays play) 1
 
@@ -308,6 +331,7 @@ is_awaited host (Sends task item attempt ticket ∷ past) = (task.host == host) 
 is_awaited host (Reports from item ticket ∷ past) = not (from == host) && is_awaited host past
 is_awaited host (now ∷ past) = is_awaited host past
 
+-- of a job that goes out, and of a task that ends; all else that happens fits
 abbrev pub attempts_in_order : PlanOf → List Happening → Happening → Bool
 attempts_in_order plan past (Sends task item attempt ticket) =
     follows_in_item item attempt (last_sent task past) && nat_le attempt (attempts_at plan task.play task.place) && not (is_awaited task.host past)
@@ -320,6 +344,7 @@ attempts_in_order plan past now = true
 abbrev pub counts : TaskEnd → Bool
 counts end = is_none end.meta || end.result.failed
 
+-- how many tasks that count have ended on the host with this number
 abbrev pub tasks_ended : ℕ → List Happening → ℕ
 tasks_ended host [] = 0
 tasks_ended host (Ends task end notified ∷ past) = tasks_ended host past + one_if ((task.host == host) && counts end)
@@ -330,12 +355,15 @@ abbrev pub add_up : ℕ → List Counts → List Happening → Bool
 add_up h [] past = true
 add_up h (c ∷ rest) past = (c.ok + c.failed + c.rescued + c.skipped + c.unreachable == tasks_ended h past) && add_up (h + 1) rest past
 
+-- a host has a task that counts as failed or as unreachable
 abbrev pub has_trouble : Counts → Bool
 has_trouble c = has Failed c || has Unreachable c
 
+-- the exit status that comes of these counts is 0 exactly where no host has trouble
 abbrev pub status_tells : List Counts → Bool
 status_tells all = if list_any has_trouble all then not (status_of all == 0) else status_of all == 0
 
+-- the counts add up, and the status tells, in every legal run, whether it goes on to its end or not
 abbrev pub RecapAddsUp : Type 0
 RecapAddsUp =
     (plan : PlanOf) (pool : ℕ) (trail : List Event) →

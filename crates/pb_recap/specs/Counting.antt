@@ -31,6 +31,7 @@ with_task task c =
       ignored = more (counts_under Ignored task) c.ignored;
     }
 
+-- the counts of all hosts with a finished task; they stay as they are where its host isn't among them
 abbrev pub with_task_at : List Counts → FinishedTask → List Counts
 with_task_at all finished = option_map_or (λ c. slice_set all finished.host (with_task finished.task c)) (slice_get all finished.host) all
 
@@ -53,5 +54,6 @@ host_of (Forks n) = None
 abbrev pub task_done : StepResult → Option TaskEnd
 task_done step_result = option_map (λ (d : TaskDone). d.task) step_result.done
 
+-- the same by the state; none where no task ended in that step
 abbrev pub task_in : State → Option TaskEnd
 task_in s = option_map_or task_done s.step_result None

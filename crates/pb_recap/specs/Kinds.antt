@@ -19,9 +19,11 @@ count_of Ignored counts = counts.ignored
 abbrev pub count_at : CountKind → List Counts → ℕ → ℕ
 count_at kind counts h = option_map_or (count_of kind) (slice_get counts h) 0
 
+-- some task of a host counts under this kind
 abbrev pub has : CountKind → Counts → Bool
 has kind counts = nat_lt 0 (count_of kind counts)
 
+-- some task of a host counts, under whatever kind
 abbrev pub has_count : Counts → Bool
 has_count counts =
     has Okay counts || has Changed counts || has Unreachable counts || has Failed counts || has Skipped counts || has Rescued counts || has Ignored counts

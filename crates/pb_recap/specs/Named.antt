@@ -17,6 +17,7 @@ abbrev pub members_of : List (List ℕ × Counts) → Members
 members_of [] = no_members
 members_of (host ∷ hosts) = member host.0 (counts_data host.1) (members_of hosts)
 
+-- the line of statistics, as JSON, with these members for its hosts
 abbrev pub line_with : Members → Data
 line_with ms =
     object

@@ -23,6 +23,7 @@ pub record FinishedTask : Type 0 where
 abbrev pub by_host : ℕ → TaskDone → FinishedTask
 by_host h done = record { host = h; task = done.task }
 
+-- the task that a step ended on the host with this number, if it ended one
 abbrev pub ended_by : ℕ → StepResult → Option FinishedTask
 ended_by h step_result = option_map (by_host h) step_result.done
 
@@ -41,6 +42,7 @@ finished_in s Close = None
 finished_in s Stop = None
 finished_in s (Forks n) = None
 
+-- the task that an event finishes, by the state before it
 abbrev pub finishes : PlanOf → State → Event → Option FinishedTask
 finishes plan s e = finished_in (after plan s e) e
 
@@ -48,9 +50,11 @@ finishes plan s e = finished_in (after plan s e) e
 abbrev pub went_well : TaskResult → Bool
 went_well task = not (task.failed || task.skipped || task.unreachable)
 
+-- a failure that is ignored
 abbrev pub is_ignored : TaskResult → Bool
 is_ignored task = task.failed && task.ignored
 
+-- a failure that isn't ignored
 abbrev pub is_failure : TaskResult → Bool
 is_failure task = task.failed && not task.ignored
 
@@ -73,6 +77,7 @@ counts_at_all task = is_none task.meta || task.result.failed
 abbrev pub counts_under : CountKind → TaskEnd → Bool
 counts_under kind task = counts_at_all task && result_counts kind task.is_caught task.result
 
+-- 1 where a task was finished that is of the host h and counts under this kind, else 0
 abbrev pub counted : ℕ → CountKind → Option FinishedTask → ℕ
 counted h kind None = 0
 counted h kind (Some task) = if task.host == h && counts_under kind task.task then 1 else 0
@@ -82,6 +87,7 @@ abbrev pub count_from : PlanOf → State → List Event → ℕ → CountKind �
 count_from plan s [] h kind = 0
 count_from plan s (e ∷ es) h kind = counted h kind (finishes plan s e) + count_from plan (after plan s e) es h kind
 
+-- the same under each kind
 abbrev pub counts_from : PlanOf → State → List Event → ℕ → Counts
 counts_from plan s trail h =
     record {

@@ -5,9 +5,11 @@ use Rattle.serde_json.specs.Written.{compact_text}
 use Rattle.pb_host.specs.declared.host.Counts.{Counts}
 use Rattle.pb_recap.specs.Hosts.{hosts_with_count}
 
+-- a count under its name, in front of other members
 abbrev pub counted_as : List ℕ → ℕ → Members → Members
 counted_as name count rest = member name (number (unsigned count)) rest
 
+-- the seven counts of a host as JSON
 abbrev pub counts_data : Counts → Data
 counts_data counts =
     object
@@ -30,5 +32,6 @@ line_data names all =
     (member (codes "event") (string (codes "playbook_on_stats"))
     (member (codes "stats") (object (with_hosts no_members (hosts_with_count names all))) no_members))
 
+-- the text of the line, with its end; names and counts stand in host order
 abbrev pub stats_line : List (List ℕ) → List Counts → List ℕ
 stats_line names all = compact_text (line_data names all) ++ 10 ∷ []

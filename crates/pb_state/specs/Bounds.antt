@@ -16,6 +16,7 @@ abbrev pub run_places : Option Running → ℕ
 run_places None = 0
 run_places (Some r) = 1
 
+-- one job, where one is out under a ticket
 abbrev pub out_jobs : Option Ticket → ℕ
 out_jobs None = 0
 out_jobs (Some ticket) = 1
@@ -25,6 +26,7 @@ abbrev pub running_jobs : Option Running → ℕ
 running_jobs None = 0
 running_jobs (Some r) = min (101 * length r.items) (rank r.items + out_jobs r.out)
 
+-- how many items the task has that a host runs; none where it runs nothing
 abbrev pub running_items : Option Running → ℕ
 running_items None = 0
 running_items (Some r) = length r.items
@@ -45,6 +47,7 @@ IsWithin true goes_on play row =
     × (size_of row.tree ≤ 16384) × (running_items row.running ≤ max_items) × IsPlacedIn row.in_batch row
 IsWithin false goes_on play row = IsAtMost row.counts (16384 * plays_behind goes_on play row)
 
+-- the same of all these hosts
 abbrev pub AllWithin : (is_open goes_on : Bool) → ℕ → List HostOf → Type 0
 AllWithin is_open goes_on play [] = Unit {0}
 AllWithin is_open goes_on play (row ∷ rows) = IsWithin is_open goes_on play row × AllWithin is_open goes_on play rows
@@ -58,6 +61,7 @@ abbrev pub most_jobs : (is_open goes_on : Bool) → ℕ → HostOf → ℕ
 most_jobs true goes_on play row = max_jobs * (16384 * plays_behind true play row + length (one_halted row.answers)) + running_jobs row.running
 most_jobs false goes_on play row = max_jobs * (16384 * plays_behind goes_on play row)
 
+-- how far a state has come at most: in what its hosts have counted, in plays, hosts and batches, and in the jobs that were sent
 pub record IsBounded (is_open : Bool) (batch : ℕ) (sizes_left : List ℕ) (play sends : ℕ) (rows : List HostOf) : Type 0 where
   pub counts : AllWithin is_open (has_batch_left sizes_left) play rows
   pub plays : play ≤ 256

@@ -31,10 +31,12 @@ pub record AttemptOf : Type 0 where
 abbrev pub connector_named : InventoryOf → List ℕ → List (List ℕ)
 connector_named inventory name = option_map_or (connector_of inventory) (host_named inventory name) []
 
+-- the words that connect to where a job runs: the host with this number, or the one with this name where there is a name
 abbrev pub connector_for : InventoryOf → ℕ → Option (List ℕ) → List (List ℕ)
 connector_for inventory host None = connector_of inventory host
 connector_for inventory host (Some name) = connector_named inventory name
 
+-- the job put together; `name` is its host's, `target` the name of the host where it runs, and `path` that of its place in the play's tree
 abbrev pub job_with : ℕ → HostNo → Ticket → AttemptOf → Call → List ℕ → List ℕ → List (List ℕ) → List ℕ → Job
 job_with play host ticket item call name target connector path =
     record {
@@ -51,11 +53,13 @@ job_with play host ticket item call name target connector path =
       call = call;
     }
 
+-- the job of an attempt, run on the host itself or on the delegate if there is one; none for a number that is no host's
 abbrev pub named_job : PlanOf → ℕ → HostNo → Ticket → AttemptOf → Option (List ℕ) → Call → List ℕ → Option Job
 named_job plan play host ticket item delegate call path =
     option_map (λ name. job_with play host ticket item call name (unwrap_or delegate name) (connector_for plan.inventory host.0 delegate) path)
     (slice_get plan.inventory.hosts host.0)
 
+-- the job of an attempt at the place p of the play with this number; none where the play's tree has no such place
 abbrev pub placed_job : PlanOf → ℕ → HostNo → Ticket → PlayOf → ℕ → AttemptOf → Option (List ℕ) → Call → Option Job
 placed_job plan number host ticket play p item delegate call = option_map_or (named_job plan number host ticket item delegate call) (path_at play.tree p) None
 
@@ -67,15 +71,19 @@ delay_at play p attempt = option_map_or (λ (place : PlaceOf). delay_before plac
 abbrev pub next_attempt : PlayOf → Running → ℕ → AttemptOf
 next_attempt play r n = record { item = n; attempt = attempt_next r.items; delay = delay_at play r.place (attempt_next r.items) }
 
+-- the job of the item with the number n of the task that a host runs; none where nothing is to be sent for it
 abbrev pub item_job : PlanOf → ℕ → HostNo → Ticket → PlayOf → Running → ℕ → Option Job
 item_job plan number host ticket play r n = option_map_or (placed_job plan number host ticket play r.place (next_attempt play r n) (delegate_in r.items n)) (call_in r.items n) None
 
+-- the job of the next item of that task; none where no item is to be sent
 abbrev pub running_job : PlanOf → ℕ → HostNo → Ticket → PlayOf → Running → Option Job
 running_job plan number host ticket play r = option_map_or (item_job plan number host ticket play r) (next_item r.items) None
 
+-- the job of a host by its row; none where it runs nothing
 abbrev pub row_job : PlanOf → ℕ → HostNo → Ticket → PlayOf → HostOf → Option Job
 row_job plan number host ticket play row = option_map_or (running_job plan number host ticket play) row.running None
 
+-- the same by the host's number, in the open play of a state; none where there is no such host
 abbrev pub job_in : PlanOf → State → HostNo → Ticket → PlayOf → Option Job
 job_in plan s host ticket play = option_map_or (row_job plan s.play host ticket play) (slice_get s.rows host.0) None
 

@@ -24,6 +24,7 @@ hosts_now plan s = hosts_magic (hostvars plan.inventory plan.extra (learnt_by s.
 abbrev pub IsKnown : PlanOf → State → Option (List (List ℕ × Datum)) → Type 0
 IsKnown plan s known = IfSome known (λ hosts. hosts ≡ hosts_now plan s)
 
+-- a module neither sets facts nor gathers them
 abbrev pub gives_nothing : Gives → Bool
 gives_nothing Nothing = true
 gives_nothing Sets = false
@@ -33,6 +34,7 @@ gives_nothing Gathers = false
 abbrev pub teaches_nothing : PlaceOf → Bool
 teaches_nothing place = is_none place.task.register && gives_nothing (gives_of place.task.«module»)
 
+-- the same of the task at a place; a place without a task teaches nothing
 abbrev pub teaches_nothing_at : PlayOf → ℕ → Bool
 teaches_nothing_at play p = option_map_or teaches_nothing (slice_get play.places p) true
 
@@ -40,9 +42,11 @@ teaches_nothing_at play p = option_map_or teaches_nothing (slice_get play.places
 abbrev pub running_at : State → ℕ → Option ℕ
 running_at s h = option_map_or (λ (row : HostOf). option_map_or (λ (r : Running). Some r.place) row.running None) (slice_get s.rows h) None
 
+-- where a host starts, the task at its next place surely teaches nothing, or it has no next place
 abbrev pub start_keeps : State → ℕ → PlayOf → Bool
 start_keeps s h play = option_map_or (teaches_nothing_at play) (next_at s h) true
 
+-- where a report of a host comes, the task that it runs surely teaches nothing, or it runs none
 abbrev pub report_keeps : State → ℕ → PlayOf → Bool
 report_keeps s h play = option_map_or (teaches_nothing_at play) (running_at s h) true
 
@@ -50,6 +54,7 @@ report_keeps s h play = option_map_or (teaches_nothing_at play) (running_at s h)
 abbrev pub turn_keeps_at : PlayOf → ℕ → Bool
 turn_keeps_at play p = not (runs_once_at play p) || teaches_nothing_at play p
 
+-- the same at the current place; a turn without one teaches nothing
 abbrev pub turn_keeps : State → PlayOf → Bool
 turn_keeps s play = option_map_or (turn_keeps_at play) s.place true
 

@@ -10,6 +10,7 @@ use Rattle.pb_inventory.specs.InventoryOf.{InventoryOf}
 use Rattle.pb_variables.specs.Magic.{hostvars, hosts_magic}
 use Rattle.pb_hosts.specs.Applied.{LearnInTurn}
 
+-- an entry of the log is of the host with this number
 abbrev pub has_number : ℕ → HostNo × FactsUndo → Bool
 has_number number one = one.0.0 == number
 
@@ -27,6 +28,7 @@ abbrev pub is_higher : Option HostNo → HostNo → Bool
 is_higher None host = true
 is_higher (Some last) host = nat_lt last.0 host.0
 
+-- the numbers of the hosts in a log rise, the first over that of the last host before it, if there was one
 abbrev pub rises : Option HostNo → List (HostNo × FactsUndo) → Bool
 rises last [] = true
 rises last (one ∷ log) = is_higher last one.0 && rises (Some one.0) log

@@ -48,6 +48,7 @@ pub record Place : Type 0 where
 abbrev pub place_in : State → Place
 place_in s = record { rows = s.rows; play = s.play; batch = s.batch; sizes_left = s.sizes_left; is_open = s.is_open; place = s.place; ended = s.ended }
 
+-- the events of a batch as a whole, and of no one host: it opens, turns or closes
 abbrev pub is_shared : Event → Bool
 is_shared Open = true
 is_shared (Start h) = false

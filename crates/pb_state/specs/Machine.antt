@@ -34,14 +34,17 @@ use Rattle.pb_hosts.specs.Giving.{with_delegated, gifts_at, report_gives}
 abbrev pub open_play : PlanOf → State → Option PlayOf
 open_play plan s = if s.is_open then slice_get plan.plays s.play else None
 
+-- two places are the same one: where either of them or both are none they are not
 abbrev pub same_place : Option ℕ → Option ℕ → Bool
 same_place (Some p) (Some q) = p == q
 same_place (Some p) None = false
 same_place None q = false
 
+-- the number of the item that a host sends next, or whose job is out; none where it runs nothing, or is no host
 abbrev pub item_at : State → ℕ → Option ℕ
 item_at s h = option_map_or item_of (slice_get s.rows h) None
 
+-- which attempt at that item this is, from 1; 1 too where a host runs nothing, or is no host
 abbrev pub attempt_at : State → ℕ → ℕ
 attempt_at s h = option_map_or attempt_of (slice_get s.rows h) 1
 
@@ -54,21 +57,27 @@ next_play plan s = first_play s.rows s.play (drop s.play plan.plays)
 abbrev pub is_left : PlanOf → State → Bool
 is_left plan s = if has_batch_left s.sizes_left then is_some (slice_get plan.plays s.play) else is_some (next_play plan s)
 
+-- the next batch may open: the run wasn't stopped and didn't end early, no batch is open, and one is left
 abbrev pub may_open : PlanOf → State → Bool
 may_open plan s = not s.stopped && not s.is_open && not s.ended && is_left plan s
 
+-- in the open play the host with this number may start the task at its next place
 abbrev pub may_start_in : State → ℕ → PlayOf → Bool
 may_start_in s h play = may_start (view_of s play) h
 
+-- the host with the first number may send this attempt at this item under this ticket, which is the next; in a stopped run none may
 abbrev pub may_send_in : State → ℕ → ℕ → ℕ → Ticket → PlayOf → Bool
 may_send_in s h item attempt ticket play = not s.stopped && (ticket.0 == s.sends) && at_row (may_send_item item attempt) s.rows h
 
+-- a report may come of a job that is out: of its host, its item, its attempt and its ticket, also in a stopped run
 abbrev pub may_report_in : State → Report → PlayOf → Bool
 may_report_in s r play = at_row (awaits r.ticket r.item r.attempt) s.rows r.host.0
 
+-- a linear batch may go on from its current place: no host runs, none may start, and the run isn't stopped
 abbrev pub may_turn_in : State → PlayOf → Bool
 may_turn_in s play = turn_ready (view_of s play)
 
+-- the batch may close: no host runs or has a next place, there is no current place, and the run isn't stopped
 abbrev pub may_close_in : State → PlayOf → Bool
 may_close_in s play = not s.stopped && is_none s.place && not (list_any is_running s.rows) && is_none (least_place s.rows)
 
@@ -87,12 +96,15 @@ possible plan s (Forks n) = nat_le 1 n && nat_le n s.pool
 abbrev pub with_sends : Bool → List HostOf → List Bool → List Bool
 with_sends stopped rows starts = if stopped then starts else zip2 (λ (a b : Bool). a || b) starts (map has_send rows)
 
+-- the hosts that may start a task or send a job, in the open play
 abbrev pub ready_in : State → PlayOf → List Bool
 ready_in s play = with_sends s.stopped s.rows (starting (view_of s play))
 
+-- of each host whether it may start a task or send a job: none may while no batch is open
 abbrev pub ready : PlanOf → State → List Bool
 ready plan s = option_map_or (ready_in s) (open_play plan s) (replicate (length s.rows) false)
 
+-- of each handler of the play whether it is pending on this host; an empty list for a number that is no host's
 abbrev pub pending_at : State → ℕ → List Bool
 pending_at s h = pending_in s.rows h
 
@@ -122,6 +134,7 @@ opened_with s n batch sizes_left rows play =
 abbrev pub opened_by : State → ℕ → ℕ → List ℕ → List HostOf → PlayOf → ℕ → State
 opened_by s n batch sizes rows play size = opened_with s n batch (drop 1 sizes) (joined_first play.tree size rows) play
 
+-- a batch opens, of the first of these sizes; where there is no size the state stays as it is
 abbrev pub opened : State → ℕ → ℕ → List ℕ → List HostOf → PlayOf → State
 opened s n batch sizes rows play = option_map_or (opened_by s n batch sizes rows play) (slice_get sizes 0) s
 
@@ -133,14 +146,17 @@ goes_on s play = opened s s.play (s.batch + 1) s.sizes_left s.rows play
 abbrev pub begins : State → ℕ → PlayOf → State
 begins s n play = opened s n 0 (batch_sizes play.serial (play_host_count play.hosts s.rows)) (map (as_play_begins play.hosts) s.rows) play
 
+-- the play with this number begins; where there is none the state stays as it is
 abbrev pub begins_at : PlanOf → State → ℕ → State
 begins_at plan s n = option_map_or (begins s n) (slice_get plan.plays n) s
 
+-- the next batch opens: of the play that goes on, where it has one left, or else the first of the next play that has hosts
 abbrev pub after_open : PlanOf → State → State
 after_open plan s =
     if has_batch_left s.sizes_left then option_map_or (goes_on s) (slice_get plan.plays s.play) s
     else option_map_or (begins_at plan s) (next_play plan s) s
 
+-- the host h starts the task at the place p with these items, and ends it at once where they leave nothing to be sent
 abbrev pub start_with : InventoryOf → State → ℕ → PlayOf → ℕ → List Item → State
 start_with inventory s h play p items =
     record s {
@@ -160,6 +176,7 @@ learnt_by rows = map (λ (row : HostOf). row.facts) rows
 abbrev pub plan_seen : PlanOf → State → PlanOf
 plan_seen plan s = seen_with plan (learnt_by s.rows)
 
+-- the host h starts the task at the place p: its items are made with what the hosts have learnt so far
 abbrev pub start_at : PlanOf → State → ℕ → PlayOf → ℕ → State
 start_at plan s h play p = start_with plan.inventory s h play p (items_at (plan_seen plan s) play h (facts_at s h) p)
 
@@ -167,9 +184,11 @@ start_at plan s h play p = start_with plan.inventory s h play p (items_at (plan_
 abbrev pub next_at : State → ℕ → Option ℕ
 next_at s h = option_map_or next_place (slice_get s.rows h) None
 
+-- the host starts the task at its next place; where it has none the state stays as it is
 abbrev pub started_in : PlanOf → State → ℕ → PlayOf → State
 started_in plan s h play = option_map_or (start_at plan s h play) (next_at s h) s
 
+-- the job of a host goes out under this ticket, and is one more that was sent
 abbrev pub sent_in : State → ℕ → Ticket → PlayOf → State
 sent_in s h ticket play = record s { rows = change s.rows h (sent ticket); sends = s.sends + 1; step_result = None }
 
@@ -181,6 +200,7 @@ reported_seen plan s r play =
       step_result = option_map_or (report_result plan play r.outcome) (slice_get s.rows r.host.0) None;
     }
 
+-- a report of a job comes back: the host's task goes on, or ends
 abbrev pub reported_in : PlanOf → State → Report → PlayOf → State
 reported_in plan s r play = reported_seen (plan_seen plan s) s r play
 
@@ -188,6 +208,7 @@ reported_in plan s r play = reported_seen (plan_seen plan s) s r play
 abbrev pub moved : State → BatchOf → State
 moved s batch = record s { rows = batch.rows; sizes_left = batch.sizes_left; place = least_place batch.rows; step_result = None }
 
+-- the rows of all hosts, and the sizes of the batches of the play that come behind this one
 abbrev pub batch_of : State → BatchOf
 batch_of s = record { rows = s.rows; sizes_left = s.sizes_left }
 
@@ -195,6 +216,7 @@ batch_of s = record { rows = s.rows; sizes_left = s.sizes_left }
 abbrev pub with_batch : BatchOf → State → State
 with_batch batch s = record s { rows = batch.rows; sizes_left = batch.sizes_left }
 
+-- the whole turn: what one host did for all goes to the others, hosts are halted where failures ask for it, and the place moves on
 abbrev pub turned_in : InventoryOf → State → PlayOf → State
 turned_in inventory s play = moved s (turned_by inventory play (batch_of s) s.place)
 
@@ -202,6 +224,7 @@ turned_in inventory s play = moved s (turned_by inventory play (batch_of s) s.pl
 abbrev pub play_behind : Bool → ℕ → ℕ
 play_behind goes_on play = if goes_on then play else play + 1
 
+-- the batch closes: its hosts wait no more, and where none of them is active the run ends early; the next play is due where no batch is left
 abbrev pub closed : State → State
 closed s =
     record s {
@@ -213,12 +236,15 @@ closed s =
       step_result = None;
     }
 
+-- the run is commanded to stop
 abbrev pub stopped : State → State
 stopped s = record s { stopped = true; step_result = None }
 
+-- from now on so many hosts may run at once
 abbrev pub with_forks : State → ℕ → State
 with_forks s n = record s { forks = n; step_result = None }
 
+-- the state to which an event leads, where it is possible; a start, a send, a report or a turn changes nothing where no batch is open
 abbrev pub after : PlanOf → State → Event → State
 after plan s Open = after_open plan s
 after plan s (Start h) = option_map_or (started_in plan s h.0) (open_play plan s) s
@@ -229,6 +255,7 @@ after plan s Close = closed s
 after plan s Stop = stopped s
 after plan s (Forks n) = with_forks s n
 
+-- the state before any event: no play has begun; the first number is that of the forks, the second that of the workers
 abbrev pub first_state : PlanOf → ℕ → ℕ → State
 first_state plan forks pool =
     record {

@@ -30,6 +30,7 @@ pub record SendOf : Type 0 where
 abbrev pub running_place : HostOf → Option ℕ
 running_place row = option_map (λ (r : Running). r.place) row.running
 
+-- the same of the host with this number; none too where there is no such host
 abbrev pub place_run_by : State → HostNo → Option ℕ
 place_run_by s host = option_map_or running_place (slice_get s.rows host.0) None
 

@@ -16,6 +16,7 @@ use Rattle.pb_state.specs.Machine.{open_play}
 abbrev pub has_more : PlanOf → State → Bool
 has_more plan s = if has_batch_left s.sizes_left then is_some (slice_get plan.plays s.play) else list_any (has_hosts s.rows) (drop s.play plan.plays)
 
+-- a run is over: it was stopped or ended early, or no batch is open and none is left
 abbrev pub IsOver : PlanOf → State → Type 0
 IsOver plan s = (s.stopped ≡ true) ⊎ (s.ended ≡ true) ⊎ ((s.is_open ≡ false) × (has_more plan s ≡ false))
 
@@ -36,9 +37,11 @@ abbrev pub IsUnfinished : Option Running → Type 0
 IsUnfinished None = Unit {0}
 IsUnfinished (Some r) = is_over r.items ≡ false
 
+-- the same of the tasks of all these hosts
 abbrev pub AreUnfinished : List HostOf → Type 0
 AreUnfinished [] = Unit {0}
 AreUnfinished (row ∷ rows) = IsUnfinished row.running × AreUnfinished rows
 
+-- no host of the state runs a task that is over
 pub record IsGoing (s : State) : Type 0 where
   pub tasks : AreUnfinished s.rows

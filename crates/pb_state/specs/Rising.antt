@@ -17,10 +17,12 @@ IsBefore None q = ⊥
 abbrev pub IsRise : StartOf → StartOf → Type 0
 IsRise first later = first.host ≡ later.host → first.play ≡ later.play → IsBefore first.place later.place
 
+-- the same of a start and each of these later ones
 abbrev pub IsBeforeAll : StartOf → List StartOf → Type 0
 IsBeforeAll first [] = Unit {0}
 IsBeforeAll first (later ∷ rest) = IsRise first later × IsBeforeAll first rest
 
+-- the same of each of these starts, oldest first, and all behind it
 abbrev pub DoRise : List StartOf → Type 0
 DoRise [] = Unit {0}
 DoRise (first ∷ rest) = IsBeforeAll first rest × DoRise rest

@@ -34,6 +34,7 @@ state_after_under plan forks pool trail = state_from plan (first_state plan fork
 abbrev pub IsLegal : PlanOf → (pool : ℕ) → List Event → Type 0
 IsLegal plan pool trail = IsLegalUnder plan plan.forks pool trail
 
+-- and the state in which it ends then
 abbrev pub state_after : PlanOf → (pool : ℕ) → List Event → State
 state_after plan pool trail = state_after_under plan plan.forks pool trail
 

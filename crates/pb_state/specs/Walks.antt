@@ -10,6 +10,7 @@ use Rattle.pb_state.specs.State.{State}
 use Rattle.pb_state.specs.Machine.{open_play}
 use Rattle.pb_state.specs.Run.{state_after_under}
 
+-- the place to which a host's answers lead it in this tree; none where it has walked to its end
 abbrev pub walks_in : TreeOf → HostOf → Option ℕ
 walks_in tree row = place_of (reach tree row.answers)
 
@@ -19,6 +20,7 @@ pub record IsWalked (tree : TreeOf) (row : HostOf) : Type 0 where
   pub whose : row.in_batch ≡ true → row.tree ≡ tree
   pub away : row.in_batch ≡ false → next_place row ≡ None
 
+-- the same of all these hosts
 abbrev pub AreWalked : TreeOf → List HostOf → Type 0
 AreWalked tree [] = Unit {0}
 AreWalked tree (row ∷ rows) = IsWalked tree row × AreWalked tree rows
@@ -36,5 +38,6 @@ AreNumbered h (row ∷ rows) = (row.host ≡ h) × AreNumbered (h + 1) rows
 abbrev pub RowsStay : Type 0
 RowsStay = (plan : PlanOf) (forks pool : ℕ) (trail : List Event) → AreNumbered 0 (state_after_under plan forks pool trail).rows
 
+-- and there each host of the open batch is where its answers lead it
 abbrev pub WalksLead : Type 0
 WalksLead = (plan : PlanOf) (forks pool : ℕ) (trail : List Event) → IsTracked plan (state_after_under plan forks pool trail)

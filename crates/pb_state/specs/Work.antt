@@ -22,6 +22,7 @@ most_events = 2 * (101 * max_items) + 1
 abbrev pub places_left : HostOf → ℕ
 places_left row = size_of row.tree - length (one_halted row.answers)
 
+-- of a host that runs nothing, by its next place: nothing is left where it has none
 abbrev pub place_work : HostOf → Option ℕ → ℕ
 place_work row None = 0
 place_work row (Some p) = most_events * places_left row
@@ -38,6 +39,7 @@ abbrev pub running_work : HostOf → Option Running → ℕ
 running_work row None = place_work row (next_place row)
 running_work row (Some r) = items_work r + most_events * (places_left row - 1)
 
+-- of one host in the open batch, whether it runs a task or not
 abbrev pub row_work : HostOf → ℕ
 row_work row = running_work row row.running
 
@@ -60,22 +62,26 @@ is_place None None = true
 is_place None (Some q) = false
 is_place (Some p) q = same_place (Some p) q
 
+-- one event more where a turn is due
 abbrev pub turn_work : Option ℕ → Option ℕ → ℕ
 turn_work place least = if is_place place least then 0 else 1
 
--- of the play that is under way the batches that are left, and the plays behind it; of the plays from this number on
+-- of the play that is under way, and has this number, the batches of these sizes, and the plays behind it; for n hosts at most
 abbrev pub rest_work : PlanOf → ℕ → List ℕ → ℕ → PlayOf → ℕ
 rest_work plan n sizes number play = batches_work n sizes play + later_work n (drop (number + 1) plan.plays)
 
+-- where no batch is open: of the play that goes on and those behind it, or else of the plays that haven't begun
 abbrev pub between_work : PlanOf → State → ℕ
 between_work plan s =
     if has_batch_left s.sizes_left then option_map_or (rest_work plan (length s.rows) s.sizes_left s.play) (slice_get plan.plays s.play) 0
     else later_work (length s.rows) (drop s.play plan.plays)
 
+-- of a state in this open play, or where no batch is open
 abbrev pub work_in : PlanOf → State → Option PlayOf → ℕ
 work_in plan s None = between_work plan s
 work_in plan s (Some play) =
     2 * sum_by row_work s.rows + 1 + turn_work s.place (least_place s.rows) + rest_work plan (length s.rows) s.sizes_left s.play play
 
+-- how much is left to be done in a state
 abbrev pub work : PlanOf → State → ℕ
 work plan s = work_in plan s (open_play plan s)
