@@ -23,6 +23,7 @@ abbrev pub counted_by : Ending → ℕ → ItemResult → ItemResult
 counted_by (Ran changed failed) attempt item = record { ending = item.ending; result = with_attempt attempt item.result }
 counted_by ending attempt item = item
 
+-- an item's result, with the number of the attempt that it came of
 abbrev pub counted : ℕ → ItemResult → ItemResult
 counted attempt item = counted_by item.ending attempt item
 
@@ -43,6 +44,7 @@ abbrev pub came_by : Ending → Sees → Option (List ℕ) → Option (List Tree
 came_by (Ran changed failed) sees register until is_last item = by_until (is_enough sees register until item) is_last item
 came_by ending sees register until is_last item = Ends item
 
+-- what an attempt comes to that had this result; where it is the last one, no other follows
 abbrev pub came : Sees → Option (List ℕ) → Option (List Tree) → Bool → ItemResult → Back
 came sees register until is_last item = came_by item.ending sees register until is_last item
 

@@ -18,17 +18,21 @@ abbrev pub with_key : List ℕ → Bool → Datum → Datum
 with_key key b (dict ms) = dict (members_of (put key (boolean b) (entries_of ms)))
 with_key key b other = other
 
+-- where a module ran, whether it changed something is this; each other ending stays as it is
 abbrev pub ended_changed : Bool → Ending → Ending
 ended_changed b (Ran changed failed) = Ran b failed
 ended_changed b ending = ending
 
+-- the same of whether it failed
 abbrev pub ended_failed : Bool → Ending → Ending
 ended_failed b (Ran changed failed) = Ran changed b
 ended_failed b ending = ending
 
+-- an item of which this is said of whether it changed something: in its ending, and in its result
 abbrev pub changed_to : ItemResult → Bool → ItemResult
 changed_to item b = record { ending = ended_changed b item.ending; result = with_key (codes "changed") b item.result }
 
+-- the same of whether it failed
 abbrev pub failed_to : ItemResult → Bool → ItemResult
 failed_to item b = record { ending = ended_failed b item.ending; result = with_key (codes "failed") b item.result }
 
@@ -36,10 +40,12 @@ failed_to item b = record { ending = ended_failed b item.ending; result = with_k
 abbrev pub Sees : Type 0
 Sees = Map → List Map
 
+-- layers with these variables put, one after another, among those that were set and registered
 abbrev pub seen_in : Map → List Map → List Map
 seen_in [] layers = layers
 seen_in (e ∷ es) layers = seen_in es (with_seen (Some e) layers)
 
+-- the scope of these layers, with the magic variables and the loop variable, in this order
 abbrev pub sees : List Map → Map → Map → Sees
 sees layers magic loop_variable seen = scope (seen_in seen layers) magic loop_variable
 
@@ -48,6 +54,7 @@ abbrev pub seen_as : Option (List ℕ) → Datum → Map
 seen_as None result = []
 seen_as (Some name) result = (name, result) ∷ []
 
+-- an item, changed by whether these conditions hold, which see its result; without conditions it stays as it is
 abbrev pub by_condition : (ItemResult → Bool → ItemResult) → Sees → Option (List ℕ) → Option (List Tree) → ItemResult → Result ItemResult EvalFault
 by_condition change sees register None item = Ok item
 by_condition change sees register (Some conditions) item = map_ok (change item) (holds (sees (seen_as register item.result)) conditions)

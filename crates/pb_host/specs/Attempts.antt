@@ -19,6 +19,7 @@ abbrev pub back_at : (Item → Call → Back) → Item → List Item → List It
 back_at judge item rest back (Decided result) = item ∷ back
 back_at judge item rest back (Sends call) = came (judge item call) item ∷ rest
 
+-- the same of all items of a task; they stay as they are where none waits
 abbrev pub back_in : (Item → Call → Back) → List Item → List Item
 back_in judge [] = []
 back_in judge (item ∷ items) = back_at judge item items (back_in judge items) item.step
@@ -44,6 +45,7 @@ attempt_next items = attempt_after (tried_next items)
 abbrev pub tried_most : ℕ → ℕ
 tried_most tried = if nat_lt tried 100 then tried else 100
 
+-- from 0 to 100, and 0 where no item waits
 abbrev pub tried_count : List Item → ℕ
 tried_count items = tried_most (tried_next items)
 

@@ -11,6 +11,7 @@ abbrev pub call_of : Planned → Option Call
 call_of (Decided result) = None
 call_of (Sends call) = Some call
 
+-- none where it has its result already, or where there is no such item
 abbrev pub call_in : List Item → ℕ → Option Call
 call_in items n = option_map_or (λ (item : Item). call_of item.step) (slice_get items n) None
 

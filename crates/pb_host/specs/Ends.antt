@@ -22,6 +22,7 @@ ends_play None = false
 ends_play (Some Noop) = false
 ends_play (Some EndHost) = true
 
+-- what a host answers that can be reached, by whether its task fails, and whether it ends the play for it: a failure counts first
 abbrev pub kind_if : Bool → Bool → Kind
 kind_if true ends = kinds.Bad
 kind_if false true = kinds.Ended
@@ -93,6 +94,7 @@ counted_result is_caught result counts =
 abbrev pub is_counted : TaskEnd → Bool
 is_counted task = is_none task.meta || task.result.failed
 
+-- the counts of a host, once a task ended so on it
 abbrev pub counted : TaskEnd → Counts → Counts
 counted task counts = if is_counted task then counted_result task.is_caught task.result counts else counts
 

@@ -33,6 +33,7 @@ use Rattle.pb_host.specs.declared.host.Counts.{Counts}
 use Rattle.pb_host.specs.declared.host.LastTask.{LastTask}
 use Rattle.pb_host.specs.declared.host.Running.{Running}
 
+-- the row of one host: what the state keeps of it
 pub record HostOf : Type 0 where
   -- the host's number
   pub host : ℕ
@@ -55,12 +56,15 @@ pub record HostOf : Type 0 where
   -- how its finished tasks count in the recap
   pub counts : Counts
 
+-- the counts of a host that has finished no task yet
 abbrev pub none_counted : Counts
 none_counted = record { ok = 0; changed = 0; unreachable = 0; failed = 0; skipped = 0; rescued = 0; ignored = 0 }
 
+-- the tree of a host that is in no batch: it has no place and no handler
 abbrev pub no_tree : TreeOf
 no_tree = record { nodes = Nothing; handlers = 0; force_handlers = false }
 
+-- the row of the host with this number as a run begins: it is active, in no batch, runs nothing and has learnt nothing
 abbrev pub first_row : ℕ → HostOf
 first_row host =
     record { host = host; tree = no_tree; answers = []; status = stays.Active; in_batch = false; awaits_batch = false; is_broken = false; running = None; last = None; facts = no_facts; counts = none_counted }
@@ -70,6 +74,7 @@ abbrev pub first_rows : ℕ → ℕ → List HostOf
 first_rows h zero = []
 first_rows h (suc n) = first_row h ∷ first_rows (h + 1) n
 
+-- a host that neither failed, was halted nor is gone; any other one is out for the rest of the playbook
 abbrev pub is_active : Status → Bool
 is_active stays.Active = true
 is_active stays.Failed = false
@@ -81,6 +86,7 @@ abbrev pub place_of : Reach → Option ℕ
 place_of (At p) = Some p
 place_of (Done ending) = None
 
+-- none where the host is in no batch, or at the end of its play
 abbrev pub next_place : HostOf → Option ℕ
 next_place row = if row.in_batch then place_of (reach row.tree row.answers) else None
 
@@ -115,6 +121,7 @@ ignores_at play p = option_map_or (λ (place : PlaceOf). place.ignore_errors) (s
 abbrev pub caught_at : PlayOf → ℕ → Bool
 caught_at play p = option_map_or (λ (place : PlaceOf). place.is_caught) (slice_get play.places p) false
 
+-- which task of `meta` a module is; none of any other module
 abbrev pub meta_in : Module → Option Meta
 meta_in (CalledMeta which) = Some which
 meta_in other = None
@@ -131,9 +138,11 @@ task_at play p items = record { result = task_of (ignores_at play p) items; is_c
 abbrev pub runs_once_at : PlayOf → ℕ → Bool
 runs_once_at play p = slice_index_or (run_once_of play.places) p false
 
+-- all items of a task that runs once, and none of one that each host runs
 abbrev pub kept_items : Bool → List Item → List Item
 kept_items once items = if once then items else []
 
+-- what is kept of the task at a place that ended with these items
 abbrev pub finish_at : PlayOf → ℕ → List Item → LastTask
 finish_at play p items = record { place = p; kind = kind_of (task_at play p items); items = kept_items (runs_once_at play p) items }
 
@@ -156,6 +165,7 @@ progressed inventory play p items row =
 abbrev pub sent_running : Ticket → Running → Running
 sent_running ticket r = record r { out = Some ticket }
 
+-- the same of a host's row; a host that runs nothing stays as it is
 abbrev pub sent : Ticket → HostOf → HostOf
 sent ticket row = record row { running = option_map (sent_running ticket) row.running }
 
@@ -164,9 +174,11 @@ sent ticket row = record row { running = option_map (sent_running ticket) row.ru
 abbrev pub came_back : PlanOf → PlayOf → ℕ → FactsOf → ℕ → Form → Item → Call → Back
 came_back plan play host facts p outcome item call = came_at plan play host facts p item.value (attempt_after item.tried) (judged call outcome)
 
+-- the items of the task that this host runs, once its job came to this: the first one that waits has its result, or waits for its next attempt
 abbrev pub items_after : PlanOf → PlayOf → ℕ → FactsOf → Form → Running → List Item
 items_after plan play host facts outcome r = back_in (came_back plan play host facts r.place outcome) r.items
 
+-- a host that runs this, once its job came to this: its task goes on, or ends
 abbrev pub reported_running : PlanOf → PlayOf → Form → HostOf → Running → HostOf
 reported_running plan play outcome row r = progressed plan.inventory play r.place (items_after plan play row.host row.facts outcome r) row
 
@@ -182,6 +194,7 @@ is_play_host hosts row = is_member hosts row.host && is_active row.status
 abbrev pub as_play_begins : List Bool → HostOf → HostOf
 as_play_begins hosts row = record row { awaits_batch = is_play_host hosts row }
 
+-- one of the hosts of the play that goes on whose batch hasn't closed, be it open or not
 abbrev pub is_waiting : HostOf → Bool
 is_waiting row = row.awaits_batch
 

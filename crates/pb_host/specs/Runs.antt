@@ -16,6 +16,7 @@ is_in row = row.in_batch && is_active row.status
 abbrev pub is_running : HostOf → Bool
 is_running row = is_some row.running
 
+-- whether the job that is out has this ticket; where none is out, it hasn't
 abbrev pub is_ticket : Ticket → Option Ticket → Bool
 is_ticket ticket out = option_map_or (λ (t : Ticket). t.0 == ticket.0) out false
 
@@ -43,6 +44,7 @@ is_next item attempt r = is_item item r.items && (attempt_next r.items == attemp
 abbrev pub sends_running : ℕ → ℕ → Running → Bool
 sends_running item attempt r = is_none r.out && is_next item attempt r
 
+-- the same of a host's row: one that runs nothing sends nothing
 abbrev pub may_send_item : ℕ → ℕ → HostOf → Bool
 may_send_item item attempt row = option_map_or (sends_running item attempt) row.running false
 
@@ -50,6 +52,7 @@ may_send_item item attempt row = option_map_or (sends_running item attempt) row.
 abbrev pub awaits_running : Ticket → ℕ → ℕ → Running → Bool
 awaits_running ticket item attempt r = is_ticket ticket r.out && is_next item attempt r
 
+-- the same of a host's row: one that runs nothing awaits nothing
 abbrev pub awaits : Ticket → ℕ → ℕ → HostOf → Bool
 awaits ticket item attempt row = option_map_or (awaits_running ticket item attempt) row.running false
 

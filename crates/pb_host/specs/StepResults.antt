@@ -27,6 +27,7 @@ abbrev pub done_at : PlayOf → ℕ → List Bool → List Item → TaskDone
 done_at play p marks items =
     record { result = result_of (variable_at play p) items; task = task_at play p items; notified = newly_at play p marks (task_at play p items) }
 
+-- none where the task isn't over with these items
 abbrev pub done_if : PlayOf → ℕ → List Bool → List Item → Option TaskDone
 done_if play p marks items = if is_over items then Some (done_at play p marks items) else None
 
@@ -38,6 +39,7 @@ step_result_with play p marks is_new results items = record { place = p; is_new 
 abbrev pub item_results_at : List Item → ℕ → List (ℕ × ItemResult)
 item_results_at items n = numbered_at n (slice_get items n)
 
+-- nothing where no item came back, or where it waits for its next attempt
 abbrev pub item_results_in : List Item → Option ℕ → List (ℕ × ItemResult)
 item_results_in items number = option_map_or (item_results_at items) number []
 
@@ -51,10 +53,12 @@ abbrev pub retried_then : (Item → Call → Back) → Item → Option Retried �
 retried_then judge item rest (Decided result) = rest
 retried_then judge item rest (Sends call) = retried_by (judge item call) item
 
+-- none where no item waits
 abbrev pub retried_in : (Item → Call → Back) → List Item → Option Retried
 retried_in judge [] = None
 retried_in judge (item ∷ items) = retried_then judge item (retried_in judge items) item.step
 
+-- the attempt whose job is out, once it came to this, if another one comes behind it
 abbrev pub retried_after : PlanOf → PlayOf → ℕ → FactsOf → Form → Running → Option Retried
 retried_after plan play host facts outcome r = retried_in (came_back plan play host facts r.place outcome) r.items
 
@@ -69,5 +73,6 @@ step_result_by plan play outcome row r =
     (step_result_with play r.place (pending row) false (item_results_in (items_after plan play row.host row.facts outcome r) (next_item r.items))
     (items_after plan play row.host row.facts outcome r))
 
+-- none where the host runs nothing
 abbrev pub report_result : PlanOf → PlayOf → Form → HostOf → Option StepResult
 report_result plan play outcome row = option_map (step_result_by plan play outcome row) row.running

@@ -16,6 +16,7 @@ applies update row = knows (applied update row.facts) row
 abbrev pub answer_copied : Kind → Bool → HostOf → HostOf
 answer_copied kind is_caught row = record (answered (plain_answer kind) row) { is_broken = row.is_broken || breaks is_caught kind }
 
+-- a host whose next place is another one stays as it is
 abbrev pub answer_copied_at : ℕ → Bool → HostOf → Kind → HostOf
 answer_copied_at p is_caught row kind = if is_at p row then answer_copied kind is_caught row else row
 
@@ -27,6 +28,7 @@ with_answer p kind is_caught row = option_map_or (answer_copied_at p is_caught r
 abbrev pub may_be_halted : HostOf → Bool
 may_be_halted row = is_active row.status && not row.is_broken && is_some (next_place row)
 
+-- such a host answers so at its next place, and each other one stays as it is
 abbrev pub halted : HostOf → HostOf
 halted row = if may_be_halted row then answered (plain_answer kinds.Halted) row else row
 

@@ -23,10 +23,13 @@ is_inside row = row.in_batch
 abbrev pub IsOutside : HostOf → Type 0
 IsOutside row = row.in_batch ≡ false → left row ≡ row
 
+-- so it is with each of these hosts
 abbrev pub AreOutside : List HostOf → Type 0
 AreOutside [] = ⊤
 AreOutside (row ∷ rows) = IsOutside row × AreOutside rows
 
+-- what is kept says the same as the rows of all hosts: of each host whether it has a job to send, where it stands, whether it is in the batch,
+-- and whether it waits for its own, and then the jobs that are out; a host outside of the batch has nothing left of one
 pub record IsDue (sends : List Bool) (standings : List Standing) (batch : List Bool) (awaits_batch : List Bool) (jobs : List (HostNo × Ticket)) (rows : List HostOf) : Type 0 where
   pub sending : sends ≡ map has_send rows
   pub stands : standings ≡ map standing rows

@@ -29,9 +29,11 @@ gifts_at inventory play p h items = if is_over items then given_by inventory pla
 abbrev pub gifts_by : PlanOf → PlayOf → Form → ℕ → HostOf → Running → List DelegatedFacts
 gifts_by plan play outcome h row r = gifts_at plan.inventory play r.place h (items_after plan play row.host row.facts outcome r)
 
+-- nothing where the host runs nothing
 abbrev pub gifts_of : PlanOf → PlayOf → Form → ℕ → HostOf → List DelegatedFacts
 gifts_of plan play outcome h row = option_map_or (gifts_by plan play outcome h row) row.running []
 
+-- the same of the host with this number; a number that is no host's gives nothing
 abbrev pub report_gives : PlanOf → PlayOf → Form → ℕ → List HostOf → List DelegatedFacts
 report_gives plan play outcome h rows = option_map_or (gifts_of plan play outcome h) (slice_get rows h) []
 
@@ -39,8 +41,10 @@ report_gives plan play outcome h rows = option_map_or (gifts_of plan play outcom
 abbrev pub gives_with : InventoryOf → PlayOf → ℕ → Running → List DelegatedFacts
 gives_with inventory play h r = gifts_at inventory play r.place h r.items
 
+-- nothing where the host runs nothing
 abbrev pub gives_on : InventoryOf → PlayOf → ℕ → HostOf → List DelegatedFacts
 gives_on inventory play h row = option_map_or (gives_with inventory play h) row.running []
 
+-- the same of the host with this number; a number that is no host's gives nothing
 abbrev pub gives_now : InventoryOf → PlayOf → ℕ → List HostOf → List DelegatedFacts
 gives_now inventory play h rows = option_map_or (gives_on inventory play h) (slice_get rows h) []

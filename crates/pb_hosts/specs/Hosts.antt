@@ -13,12 +13,13 @@ one_if b = if b then 1 else 0
 abbrev pub at_row : (HostOf → Bool) → List HostOf → ℕ → Bool
 at_row test rows h = option_map_or test (slice_get rows h) false
 
--- the least place at which a host of the batch is
+-- the lesser of two places; where one is missing it is the other
 abbrev pub lesser : Option ℕ → Option ℕ → Option ℕ
 lesser None q = q
 lesser (Some p) None = Some p
 lesser (Some p) (Some q) = Some (min p q)
 
+-- the least place at which a host of the batch is; none where each of them is at the end of its play
 abbrev pub least_place : List HostOf → Option ℕ
 least_place [] = None
 least_place (row ∷ rows) = lesser (next_place row) (least_place rows)

@@ -6,15 +6,17 @@ use Rattle.pb_ids.specs.declared.numbers.Ticket.{Ticket}
 use Rattle.pb_host.specs.declared.host.Running.{Running}
 use Rattle.pb_host.specs.Host.{HostOf}
 
--- a host and the ticket of its job
+-- of two jobs, each of them a host and its ticket, the one that was sent first; where one is missing it is the other
 abbrev pub older : Option (HostNo × Ticket) → Option (HostNo × Ticket) → Option (HostNo × Ticket)
 older None q = q
 older (Some p) None = Some p
 older (Some p) (Some q) = if nat_le p.1.0 q.1.0 then Some p else Some q
 
+-- the ticket of a task's job that is out, if one is
 abbrev pub out_of : Running → Option Ticket
 out_of r = r.out
 
+-- the host with this number, and the ticket of its job, if that is out
 abbrev pub out_at : ℕ → HostOf → Option (HostNo × Ticket)
 out_at h row = option_map (λ ticket. (record { 0 = h }, ticket)) (option_map_or out_of row.running None)
 
@@ -23,6 +25,7 @@ abbrev pub oldest_from : ℕ → List HostOf → Option (HostNo × Ticket)
 oldest_from h [] = None
 oldest_from h (row ∷ rows) = older (out_at h row) (oldest_from (h + 1) rows)
 
+-- the job of all hosts that was sent first; none where no job is out
 abbrev pub oldest_out : List HostOf → Option (HostNo × Ticket)
 oldest_out rows = oldest_from 0 rows
 
@@ -39,6 +42,7 @@ abbrev pub with_job : HostNo × Ticket → List (HostNo × Ticket) → List (Hos
 with_job p [] = p ∷ []
 with_job p (q ∷ jobs) = if is_before p q then p ∷ q ∷ jobs else q ∷ with_job p jobs
 
+-- one job more of the host with this number, if it has a ticket
 abbrev pub with_ticket : ℕ → Option Ticket → List (HostNo × Ticket) → List (HostNo × Ticket)
 with_ticket h None jobs = jobs
 with_ticket h (Some ticket) jobs = with_job (record { 0 = h }, ticket) jobs
@@ -56,6 +60,7 @@ all_out rows = out_from 0 (map ticket_of rows)
 abbrev pub is_of : ℕ → HostNo × Ticket → Bool
 is_of h p = p.0.0 == h
 
+-- the first job of this host is taken away; the jobs stay as they are where it has none
 abbrev pub without_job : ℕ → List (HostNo × Ticket) → List (HostNo × Ticket)
 without_job h [] = []
 without_job h (p ∷ jobs) = if is_of h p then jobs else p ∷ without_job h jobs

@@ -33,6 +33,7 @@ abbrev pub IsJoinedTo : FactsUpdate → ℕ → List HostUpdate → List HostUpd
 IsJoinedTo next at old new one =
     (both : HostUpdate) × (new ≡ slice_set old at both) × (both.host.0 ≡ one.host.0) × ((facts : FactsOf) → applied both.update facts ≡ applied next (applied one.update facts))
 
+-- where there is one at this place; of a number past the end nothing is said
 abbrev pub IsJoinedAt : FactsUpdate → ℕ → List HostUpdate → List HostUpdate → Type 0
 IsJoinedAt next at old new = IfSome (slice_get old at) (IsJoinedTo next at old new)
 

@@ -16,9 +16,11 @@ use Rattle.pb_hosts.specs.Turn.{with_copy, source, is_halting}
 abbrev pub turned_row : InventoryOf → PlayOf → ℕ → Option HostOf → Bool → HostOf → HostOf
 turned_row inventory play p from halts row = halted_if halts (with_copy inventory play p from row)
 
+-- what the first part alone makes of the rows
 abbrev pub copied_rows : InventoryOf → PlayOf → ℕ → List HostOf → List HostOf
 copied_rows inventory play p rows = map (with_copy inventory play p (source play p rows)) rows
 
+-- whether the second part halts hosts, as the rows are behind the first one
 abbrev pub halts_at : InventoryOf → PlayOf → ℕ → List HostOf → Bool
 halts_at inventory play p rows = is_halting play p (copied_rows inventory play p rows)
 

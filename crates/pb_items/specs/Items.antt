@@ -50,6 +50,7 @@ abbrev pub delegate_named : Datum → Result (Option (List ℕ)) ItemFault
 delegate_named (text (b ∷ name)) = Ok (Some (b ∷ name))
 delegate_named other = Err BadDelegate
 
+-- to whom an item is delegated, by this template of a name; without one it is delegated to no host
 abbrev pub delegate_in : List Map → Option (List ℕ) → Result (Option (List ℕ)) ItemFault
 delegate_in scope None = Ok None
 delegate_in scope (Some template) = and_then (evaluated (rendered_of scope (text template))) delegate_named
@@ -69,6 +70,7 @@ attempted_by (Some retrying) start variable attempt item =
 abbrev pub attempted_item : StartOf → Option Datum → ℕ → ItemResult → Back
 attempted_item start value attempt item = attempted_by start.task.retrying start (loop_variable start.task.looped value) attempt item
 
+-- what is sent as a job stays as it is, until that comes back
 abbrev pub with_conditions_step : StartOf → Map → Planned → Planned
 with_conditions_step start variable (Decided item) = Decided (with_conditions_of start variable item)
 with_conditions_step start variable (Sends call) = Sends call
@@ -77,6 +79,7 @@ with_conditions_step start variable (Sends call) = Sends call
 abbrev pub Step : Type 0
 Step = Planned × Option (List ℕ)
 
+-- the step of an item whose conditions hold, or the first fault: that of its module comes before that of its delegate
 abbrev pub step_of : StartOf → Map → Result Step ItemFault
 step_of start variable =
     and_then (done_by start.has_facts_program (seen_by start variable) start.task.module)
@@ -87,6 +90,7 @@ abbrev pub step_if : StartOf → Map → Bool → Result Step ItemFault
 step_if start variable true = step_of start variable
 step_if start variable false = Ok (Decided skipped_result, None)
 
+-- the step of an item, or its first fault: where its conditions don't hold it is skipped, and delegated to no host
 abbrev pub step_in : StartOf → Map → Result Step ItemFault
 step_in start variable = and_then (evaluated (holds (seen_by start variable) start.conditions)) (step_if start variable)
 
@@ -94,6 +98,7 @@ step_in start variable = and_then (evaluated (holds (seen_by start variable) sta
 abbrev pub faulty_item : Option Datum → ItemFault → Item
 faulty_item value fault = record { value = value; delegate = None; tried = 0; step = Decided (faulty_result (said fault)) }
 
+-- an item of this value with this step, of which no attempt came back yet; a fault makes it a faulty one
 abbrev pub item_of : Option Datum → Result Step ItemFault → Item
 item_of value (Ok step) = record { value = value; delegate = step.1; tried = 0; step = step.0 }
 item_of value (Err fault) = faulty_item value fault
@@ -106,6 +111,7 @@ abbrev pub looped_items : (Option Datum → Item) → Result (List Datum) ItemFa
 looped_items item (Ok values) = map (λ value. item (Some value)) values
 looped_items item (Err fault) = faulty_item None fault ∷ []
 
+-- a task without a loop has one item, which has no value
 abbrev pub items_by : StartOf → Option Loop → List Item
 items_by start None = item_in start None ∷ []
 items_by start (Some looped) = looped_items (item_in start) (values_of (seen_by start []) looped.over)

@@ -18,9 +18,11 @@ use Rattle.pb_items.specs.Faults.{evaluated}
 abbrev pub max_items : ℕ
 max_items = 10000
 
+-- these values, unless they are too many
 abbrev pub within_items : List Datum → Result (List Datum) ItemFault
 within_items values = if nat_lt max_items (length values) then Err TooManyItems else Ok values
 
+-- the values that a loop goes over: those of a list, and no others
 abbrev pub values_in : Datum → Result (List Datum) ItemFault
 values_in (list ds) = within_items (list_of ds)
 values_in other = Err LoopNotList
@@ -40,6 +42,7 @@ abbrev pub name_by : Option Tree → Option (List ℕ)
 name_by None = None
 name_by (Some t) = root_of t
 
+-- none where the text is no template, or isn't one expression alone
 abbrev pub name_in : Option (List Part) → Option (List ℕ)
 name_in None = None
 name_in (Some parts) = name_by (single_of parts)

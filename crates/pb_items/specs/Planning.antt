@@ -38,6 +38,7 @@ asserted scope that fail_msg success_msg =
     and_then (evaluated (holds scope that))
     (λ ok. and_then (evaluated (rendered_of scope fail_msg)) (λ f. map_ok (λ s. assert_result ok f s) (evaluated (rendered_of scope success_msg))))
 
+-- facts are gathered by a job, where there is a program for that; else none are gathered, at once
 abbrev pub setup_of : Bool → Planned
 setup_of true = Sends SetupCall
 setup_of false = Decided (facts_result (dict no_members))

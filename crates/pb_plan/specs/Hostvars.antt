@@ -27,6 +27,7 @@ IsFreeGroup vars = All (λ (v : Variable). mentions (codes "hostvars") v.value �
 abbrev pub AreFreeGroups : InventoryOf → List Bool → Type 0
 AreFreeGroups inventory marked = (group : ℕ) → slice_get marked group ≡ Some true → IsFreeGroup (vars_of_group inventory group)
 
+-- all of these groups are marked; a group past the end of the marks isn't
 abbrev pub AreMarked : List Bool → List GroupNo → Type 0
 AreMarked marked groups = All (λ (g : GroupNo). slice_get marked g.0 ≡ Some true) groups
 

@@ -50,6 +50,7 @@ play_with inventory hosts play =
       magic = play_magic inventory hosts;
     }
 
+-- how many bytes a text has; 0 where none is given
 abbrev pub bytes_in : Option (List ℕ) → ℕ
 bytes_in given = option_map_or length given 0
 
@@ -58,6 +59,7 @@ abbrev pub role_bytes : List RoleFile → ℕ
 role_bytes [] = 0
 role_bytes (file ∷ files) = length file.path + length file.bytes + role_bytes files
 
+-- how large a bundle is: the bytes of all its files, of its limit and of its extra variables
 abbrev pub bundle_bytes : Bundle → ℕ
 bundle_bytes bundle = length bundle.inventory + length bundle.playbook + bytes_in bundle.limit + bytes_in bundle.extra + role_bytes bundle.roles.files
 
@@ -74,6 +76,7 @@ pub record Readings : Type 0 where
   -- the elements of the pattern that the plays are limited to, if there is one
   pub limit : Option (List Element)
 
+-- the elements of the pattern of a limit, or its fault; without a limit there are none
 abbrev pub limit_of : Option (List ℕ) → Result (Option (List Element)) BundleFault
 limit_of None = Ok None
 limit_of (Some text) = in_part Limit (map_ok Some (pattern_of (text ∷ [])))
@@ -93,6 +96,7 @@ pub record Variables : Type 0 where
   pub inventory : InventoryOf
   pub extra : Map
 
+-- this inventory, with the extra variables of the bundle
 abbrev pub varied : Bundle → InventoryOf → Result Variables BundleFault
 varied bundle inventory = and_then (extra_in bundle.extra) (λ extra. Ok (record { inventory = inventory; extra = extra }))
 
@@ -107,6 +111,7 @@ variables_of bundle =
 abbrev pub book_of : Bundle → Result Playbook BundleFault
 book_of bundle = and_then (variables_of bundle) (λ _. in_part InPlaybook (playbook_of bundle.playbook))
 
+-- what a bundle says whose variables and playbook are these, or the first fault: that of the limit comes before those of roles and trees
 abbrev pub limited : Bundle → Variables → Playbook → Result Readings BundleFault
 limited bundle variables book =
     and_then (limit_of bundle.limit) (λ elements.
@@ -150,6 +155,7 @@ abbrev pub IsPlayOf : InventoryOf → List Bool → Expanded → PlayOf → List
 IsPlayOf inventory limit play planned lines =
     (own : Selected) × IsSelection inventory play.hosts own × (planned ≡ play_with inventory (both own.hosts limit) play) × (lines ≡ lines_of_play own.unmatched play)
 
+-- so it is with each play in its order, and as many are planned; the lines of all stand one behind another
 abbrev pub ArePlaysOf : InventoryOf → List Bool → List Expanded → List PlayOf → List (List ℕ) → Type 0
 ArePlaysOf inventory limit [] [] lines = lines ≡ []
 ArePlaysOf inventory limit [] (planned ∷ rest) lines = ⊥
@@ -171,6 +177,7 @@ pub record IsPlanIn (inventory : InventoryOf) (extra : Map) (limit : Option (Lis
   pub has_magic : plan.magic ≡ plan_magic inventory
   pub warnings : plan.warnings ≡ map stranger_line (strangers inventory) ++ map unmatched_line selected.unmatched ++ lines
 
+-- the plan of a bundle that has no fault: each regular expression in it is taken, and the plan is that of what it says
 pub record IsPlanOf (bundle : Bundle) (plan : PlanOf) : Type 0 where
   pub readings : Readings
   pub plays_taken : AllTaken (expressions_in_plays bundle)

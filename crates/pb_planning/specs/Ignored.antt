@@ -11,6 +11,7 @@ name_of Linear = codes "linear"
 name_of Free = codes "free"
 name_of HostPinned = codes "host_pinned"
 
+-- the warning that this key has no effect under this strategy
 abbrev pub ignored_line : Strategy → List ℕ → List ℕ
 ignored_line strategy key = codes "warning: " ++ key ++ codes " is ignored under " ++ name_of strategy
 

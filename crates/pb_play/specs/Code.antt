@@ -7,11 +7,13 @@ use Rattle.pb_play.specs.Nodes.{Written, Nothing, Task, Block, Flush}
 use Rattle.pb_play.specs.declared.node.BlockKeys.{BlockKeys}
 use Rattle.pb_play.specs.declared.task.Task as declared
 
+-- the first half of a stored pair; nothing where no pair is stored
 abbrev head : Gv → Gv
 head gnil = gnil
 head (gnum n) = gnil
 head (gcons g h) = g
 
+-- its second half; nothing where no pair is stored
 abbrev tail : Gv → Gv
 tail gnil = gnil
 tail (gnum n) = gnil

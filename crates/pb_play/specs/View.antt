@@ -5,6 +5,7 @@ use Rattle.pb_play.specs.declared.node.Node.{Node}
 use Rattle.pb_play.specs.declared.node.Node.TheOpen.{Node-F, Task as OneTask, Block as OneBlock, Flush as OneFlush}
 use Rattle.pb_play.specs.declared.node.Node.TheFolds.{fold-Node}
 
+-- nodes one behind another
 abbrev pub joined : List (Written → Written) → Written
 joined [] = Nothing
 joined (f ∷ fs) = f (joined fs)

@@ -15,8 +15,10 @@ refuses told path k d = refused_key path k
 abbrev pub argument : {A : Type 0} → List ℕ → (List ℕ → json.Data → Reading A LoadFault) → Part NoArguments LoadFault (Option A)
 argument = field refuses
 
+-- whatever key is left over behind the arguments is refused
 abbrev pub no_other : Part NoArguments LoadFault NoArguments
 no_other = others refuses
 
+-- a module's arguments at a path, read by these parts; what is no object has the wrong shape
 abbrev pub arguments : {A : Type 0} → Part NoArguments LoadFault A → List ℕ → json.Data → Reading A LoadFault
 arguments = object (record {})

@@ -39,6 +39,7 @@ said = do
   success_msg ← argument (codes "success_msg") template_value
   rule (Ok (record { fail_msg = fail_msg; msg = msg; success_msg = success_msg }))
 
+-- `that` has to be there; of the messages each may be left out
 abbrev pub assert : List ℕ → json.Data → Reading Module LoadFault
 assert path = arguments (do
   said ← said

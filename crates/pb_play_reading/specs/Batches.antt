@@ -28,6 +28,7 @@ sized front (Some (b ∷ bs)) = None
 abbrev pub entry_of : List ℕ → Option Entry
 entry_of bs = sized (before 37 bs) (behind 37 bs)
 
+-- a whole number, which may be 0 or less, or what a text spells; all else is no size
 abbrev pub entry_in : json.Data → Option Entry
 entry_in json.null = None
 entry_in (json.boolean b) = None
@@ -41,6 +42,7 @@ abbrev pub sure : List ℕ → Option Entry → Reading Entry LoadFault
 sure path (Some e) = Ok e
 sure path None = Err (Own (BadSerial path))
 
+-- the size that stands at a path
 abbrev pub entry : List ℕ → json.Data → Reading Entry LoadFault
 entry path d = sure path (entry_in d)
 

@@ -59,6 +59,7 @@ rest_of_block early middle rescue = do
   _ ← others has_no_effect
   rule (Ok (Block (keys_in_block middle early.any_errors_fatal runs vars conditions) early.body rescue early.always Nothing))
 
+-- the block, whose keys in front of `rescue` are these
 abbrev pub late : Lists → Early → MiddleOfBlock → Part WithoutEffect LoadFault Written
 late nodes early middle = do
   rescue ← key_or (codes "rescue") nodes Nothing

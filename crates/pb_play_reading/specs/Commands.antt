@@ -30,6 +30,7 @@ one_of path None (Some ws) = Ok (Argv ws)
 one_of path (Some s) (Some ws) = wrong path
 one_of path None None = wrong path
 
+-- `command`, by an object with one of `argv` and `cmd`
 abbrev pub command_in : List ℕ → json.Data → Reading CommandWords LoadFault
 command_in path = arguments (do
   ws ← argument (codes "argv") argv
@@ -37,16 +38,19 @@ command_in path = arguments (do
   _ ← no_other
   rule (one_of path s ws)) path
 
+-- `command`, by an object, or else by its text
 abbrev pub command : List ℕ → json.Data → Reading CommandWords LoadFault
 command path (json.object ms) = command_in path (json.object ms)
 command path d = map_ok Line (template_text path d)
 
+-- `shell`, by an object with `cmd`
 abbrev pub shell_in : List ℕ → json.Data → Reading (List ℕ) LoadFault
 shell_in path = arguments (do
   s ← argument (codes "cmd") template_text
   _ ← no_other
   rule (required path s)) path
 
+-- `shell`, by an object, or else by its text
 abbrev pub shell : List ℕ → json.Data → Reading (List ℕ) LoadFault
 shell path (json.object ms) = shell_in path (json.object ms)
 shell path d = template_text path d

@@ -30,6 +30,7 @@ shown path (Some v) None = Ok (Debug v)
 shown path None (Some x) = Ok (DebugVar x.text x.expr)
 shown path (Some v) (Some x) = wrong path
 
+-- `debug`: with neither of its arguments it shows the greeting
 abbrev pub debug : List ℕ → json.Data → Reading Module LoadFault
 debug path = arguments (do
   msg ← argument (codes "msg") template_value

@@ -22,11 +22,13 @@ one_more_fact told path k d =
     if bytes_eq k (codes "cacheable") then refused_key path k
     else (if is_name k then map_ok (λ v. record { facts = put k v told.facts }) (template_value path d) else wrong path)
 
+-- `set_fact`; it may set no fact at all
 abbrev pub set_fact : List ℕ → json.Data → Reading Module LoadFault
 set_fact = object (record { facts = [] }) do
   told ← others one_more_fact
   rule (Ok (called.SetFact told.facts))
 
+-- `setup`; any key that it is given is refused
 abbrev pub setup : List ℕ → json.Data → Reading Module LoadFault
 setup = arguments do
   _ ← no_other

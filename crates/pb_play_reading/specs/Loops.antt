@@ -16,6 +16,7 @@ over path (json.array ds) = template_value path (json.array ds)
 over path (json.string s) = template_value path (json.string s)
 over path d = wrong path
 
+-- the name of a loop's variable where the task gives it none
 abbrev pub item : List ℕ
 item = codes "item"
 
@@ -27,5 +28,6 @@ control = arguments do
   _ ← no_other
   rule (Ok (unwrap_or variable item))
 
+-- a task without `loop` has no loop, whatever its variable is named
 abbrev pub looped : Option Datum → List ℕ → Option Loop
 looped over variable = option_map (λ o. record { over = o; variable = variable }) over

@@ -13,6 +13,7 @@ use Rattle.pb_written.specs.declared.fault.LoadFault.{LoadFault}
 abbrev pub or_said : Option value.Datum → List ℕ → Reading value.Datum LoadFault
 or_said msg otherwise = Ok (unwrap_or msg (value.text otherwise))
 
+-- the message of a module that has no other argument, or this text where none is written
 abbrev pub message : List ℕ → List ℕ → json.Data → Reading value.Datum LoadFault
 message otherwise = arguments do
   msg ← argument (codes "msg") template_value

@@ -39,6 +39,7 @@ one_of path None (Some s) = Ok s
 one_of path (Some s) (Some t) = refused_below path (codes "meta")
 one_of path None None = Err (Own (NoModule path))
 
+-- what stands at the key, with the prefix or without; where neither stands there is no module
 abbrev pub what_is_said : List ℕ → Part WithoutEffect LoadFault Said
 what_is_said path = do
   full ← key (codes "ansible.builtin.meta") said
@@ -61,6 +62,7 @@ rest_of_flush = do
   _ ← others has_no_effect
   rule (Ok (Flush Nothing))
 
+-- a task that steers the run, by the keys behind its first: it may have a name and conditions
 abbrev pub rest_of_meta_task : Meta → Part WithoutEffect LoadFault Written
 rest_of_meta_task m = do
   name ← key (codes "name") text
@@ -73,6 +75,7 @@ abbrev pub rest_of_meta : Said → Part WithoutEffect LoadFault Written
 rest_of_meta (Does m) = rest_of_meta_task m
 rest_of_meta Flushes = rest_of_flush
 
+-- a task that steers the run, or a place where the handlers run that are pending
 abbrev pub meta : List ℕ → json.Data → Reading Written LoadFault
 meta path = object (record {}) (do
   said ← what_is_said path

@@ -22,6 +22,7 @@ abbrev pub is_off : Option Bool → Bool
 is_off (Some b) = not b
 is_off None = false
 
+-- where it is allowed nothing is read; else it is refused under this name
 abbrev pub allowed : List ℕ → Bool → List ℕ → Reading Unit LoadFault
 allowed path true name = Ok tt
 allowed path false name = refused_key path name

@@ -37,6 +37,7 @@ abbrev pub each_node : Lists → List ℕ → ℕ → json.Items → Reading Wri
 each_node reads path i json.no_items = Ok Nothing
 each_node reads path i (json.item d ds) = and_then (reads (below path (decimal i)) d) (λ n. map_ok (followed n) (each_node reads path (i + 1) ds))
 
+-- a list whose members are read so, one behind another; what is no list has the wrong shape
 abbrev pub nodes_of : Lists → Lists
 nodes_of reads path (json.array ds) = each_node reads path 0 ds
 nodes_of reads path d = wrong path
@@ -58,5 +59,6 @@ nodes left = nodes_of (node (inner left))
 abbrev pub max_blocks : ℕ
 max_blocks = 32
 
+-- a list of nodes, as plays and roles have it
 abbrev pub node_list : Lists
 node_list = nodes max_blocks

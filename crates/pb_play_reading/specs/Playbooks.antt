@@ -24,14 +24,17 @@ count (json.item d ds) = count ds + 1
 abbrev pub max_plays : ℕ
 max_plays = 256
 
+-- the plays of a playbook, or the first fault: where they are too many, none is looked at
 abbrev pub plays : json.Data → Reading (List Play) LoadFault
 plays (json.array ds) = if nat_lt max_plays (count ds) then Err (Own (TooLarge Plays [])) else each play [] 0 ds
 plays d = wrong []
 
+-- what was read as a playbook, or the fault as one of its file
 abbrev pub as_playbook : Reading (List Play) LoadFault → Result Playbook LoadFault
 as_playbook (Ok ps) = Ok (record { plays = ps })
 as_playbook (Err e) = Err (as_load_fault e)
 
+-- the playbook of this JSON, or its first fault; bytes that spell no JSON are a fault
 abbrev pub of_json : Option json.Data → Result Playbook LoadFault
 of_json None = Err load.NotJson
 of_json (Some d) = as_playbook (plays d)
@@ -45,10 +48,12 @@ abbrev pub each_expression : List ℕ → ℕ → json.Items → List Placed
 each_expression path i json.no_items = []
 each_expression path i (json.item d ds) = expressions_of_play (below path (decimal i)) d ++ met_behind (play (below path (decimal i)) d) (λ _. each_expression path (i + 1) ds)
 
+-- those of all plays, up to the first fault; none are met in what is no list, or has too many plays
 abbrev pub expressions_of_plays : json.Data → List Placed
 expressions_of_plays (json.array ds) = if nat_lt max_plays (count ds) then [] else each_expression [] 0 ds
 expressions_of_plays d = []
 
+-- none are met in bytes that spell no JSON
 abbrev pub expressions_in : Option json.Data → List Placed
 expressions_in None = []
 expressions_in (Some d) = expressions_of_plays d

@@ -19,6 +19,7 @@ abbrev pub within : ℕ → ℤ → Option ℕ
 within most (pos n) = if nat_lt most n then None else Some n
 within most (negsuc n) = None
 
+-- a whole number from 0 up to this one; all else has the wrong shape
 abbrev pub up_to : ℕ → List ℕ → json.Data → Reading ℕ LoadFault
 up_to most path (json.number n) = required path (option_and_then (within most) (as_i64 n))
 up_to most path d = wrong path
@@ -44,6 +45,7 @@ not_tried_again path None None = Ok tt
 not_tried_again path None (Some n) = refused_below path (codes "retries")
 not_tried_again path (Some until) retries = refused_below path (codes "until")
 
+-- what a task says of further attempts is refused, unless its module runs a program
 abbrev pub may_retry : List ℕ → Module → Tries → Reading Unit LoadFault
 may_retry path called tries = if is_program called then Ok tt else not_tried_again path tries.until tries.retries
 

@@ -18,6 +18,7 @@ use Rattle.pb_play_reading.specs.declared.short.Short.{Short}
 use Rattle.pb_play_reading.specs.declared.short.Short.TheVariants.{Nameless, NameFirst, NameLast}
 use Rattle.pb_written.specs.declared.fault.LoadFault.{LoadFault}
 
+-- the key at which a task's name stands
 abbrev pub name : List ℕ
 name = codes "name"
 
@@ -31,6 +32,7 @@ members_of (Nameless call) = calling call json.no_members
 members_of (NameFirst d call) = json.member name (view d.now) (calling call json.no_members)
 members_of (NameLast call d) = calling call (json.member name (view d.now) json.no_members)
 
+-- the key of this member names the module that it calls
 abbrev pub Calls : Call → Type 0
 Calls call = module_key call.key.now ≡ Some call.named
 

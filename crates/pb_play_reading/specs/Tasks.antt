@@ -53,6 +53,7 @@ the_module path Nothing = Err (Own (NoModule path))
 the_module path (One m) = Ok m
 the_module path Several = Err (Own (TwoModules path))
 
+-- a key of a task, whose other keys call a module or have no effect, and one with what counts where it isn't written
 abbrev pub key : {A : Type 0} → List ℕ → (List ℕ → json.Data → Reading A LoadFault) → Part Modules LoadFault (Option A)
 key = field tells_of_task
 
@@ -117,6 +118,7 @@ said_beside middle called vars conditions =
 abbrev pub begun_task : Begun → List (List ℕ × Datum) → Module → List Tree → Task
 begun_task begun vars called conditions = task_of_head begun.head (said_beside begun.middle called vars conditions) begun.looped called
 
+-- what a task is repeated over, if it is, and the name of its loop's variable
 abbrev pub looping : Part Modules LoadFault (Option Loop)
 looping = do
   over ← key (codes "loop") over

@@ -35,6 +35,7 @@ abbrev pub in_part : List ℕ → Part → Bool
 in_part word (Plain s) = false
 in_part word (Code t) = in_tree word t
 
+-- a text that is no template names nothing
 abbrev pub in_text : List ℕ → List ℕ → Bool
 in_text word s = option_map_or (list_any (in_part word)) (template_of s) false
 

@@ -18,10 +18,12 @@ use Rattle.pb_mentions.specs.Mentions.{has_inside, mentions, items_mention, memb
 use Rattle.pb_reach.specs.Reached.{some_name_in, layers_lead}
 use Rattle.pb_reach.specs.ResultConditions.{until_of}
 
+-- whether the word stands somewhere in a command
 abbrev pub words_mention : List ℕ → CommandWords → Bool
 words_mention word (Line line) = has_inside word line
 words_mention word (Argv argv) = items_mention word (items_of argv)
 
+-- in what a module is given: somewhere in its texts, or as a name in its expressions
 abbrev pub module_mentions : List ℕ → Module → Bool
 module_mentions word (Assert that fail_msg success_msg) = in_trees word (trees_of that) || mentions word fail_msg || mentions word success_msg
 module_mentions word (Command words) = words_mention word words
@@ -33,9 +35,11 @@ module_mentions word (SetFact facts) = members_mention word (members_of facts)
 module_mentions word Setup = false
 module_mentions word (Shell cmd) = has_inside word cmd
 
+-- in what a task is repeated over; a task without a loop mentions nothing there
 abbrev pub loop_mentions : List ℕ → Option Loop → Bool
 loop_mentions word looped = option_map_or (λ (l : Loop). mentions word l.over) looped false
 
+-- as a name in one of these conditions; where there are none it is named nowhere
 abbrev pub conditions_name : List ℕ → Option (List Tree) → Bool
 conditions_name word conditions = option_map_or (λ (cs : List Tree). in_trees word (trees_of cs)) conditions false
 
@@ -47,6 +51,7 @@ result_names word task = conditions_name word task.changed_when || conditions_na
 abbrev pub task_mentions : List ℕ → Task → Bool
 task_mentions word task = module_mentions word task.module || loop_mentions word task.looped || result_names word task
 
+-- in the template of the name that a task is delegated to, if there is one
 abbrev pub delegate_mentions : List ℕ → Option (List ℕ) → Bool
 delegate_mentions word to = option_map_or (has_inside word) to false
 
@@ -63,6 +68,7 @@ layers_mention word layers = not (nat_eq (length layers) 11) || maps_mention wor
 abbrev pub own_texts_mention : List ℕ → Task → List Tree → Option (List ℕ) → Bool
 own_texts_mention word task conditions delegate_to = (task_mentions word task || in_trees word (trees_of conditions)) || delegate_mentions word delegate_to
 
+-- whether the name may be looked up as a task's items are read: with these conditions of its place, this delegate and these layers
 abbrev pub may_read : List ℕ → Task → List Tree → Option (List ℕ) → List Map → Bool
 may_read word task conditions delegate_to layers =
     (task_mentions word task || in_trees word (trees_of conditions)) || (delegate_mentions word delegate_to || layers_mention word layers)
@@ -71,6 +77,7 @@ may_read word task conditions delegate_to layers =
 abbrev pub conditions_reach : List Map → Option (List Tree) → Bool
 conditions_reach layers conditions = option_map_or (λ (cs : List Tree). some_name_in (layers_lead layers) (trees_of cs)) conditions false
 
+-- so with the conditions by which a task speaks of a result
 abbrev pub result_reaches : List Map → Task → Bool
 result_reaches layers task = conditions_reach layers task.changed_when || conditions_reach layers task.failed_when || conditions_reach layers (until_of task.retrying)
 
@@ -99,5 +106,6 @@ start_from task conditions delegate_to program layers magic =
 abbrev pub with_magic : StartOf → Map → StartOf
 with_magic start magic = record start { magic = magic }
 
+-- whether the name may be looked up as the items are read from this
 abbrev pub start_reads : List ℕ → StartOf → Bool
 start_reads word start = may_read word start.task start.conditions start.delegate_to start.layers

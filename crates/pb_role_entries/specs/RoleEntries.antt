@@ -21,10 +21,12 @@ one_name path None (Some role) = Ok role
 one_name path (Some name) (Some role) = wrong path
 one_name path None None = wrong path
 
+-- the conditions of an entry, which has none where it has no `when`
 abbrev pub conditions_in : Option Asked → List Tree
 conditions_in None = []
 conditions_in (Some asked) = asked.conditions
 
+-- what is written at `when`, if the entry has it
 abbrev pub written_in : Option Asked → Option Datum
 written_in None = None
 written_in (Some asked) = Some asked.as_written
@@ -56,6 +58,7 @@ rest_of_entry path name role = do
   named ← rule (one_name path name role)
   rule (Ok (entry_of named given.tags given.vars given.asked told.params))
 
+-- an entry that is an object: its role stands at `name` or at `role`
 abbrev pub entry_in : List ℕ → json.Data → Reading RoleEntry LoadFault
 entry_in path = object (record { params = [] }) (do
   name ← key (codes "name") text

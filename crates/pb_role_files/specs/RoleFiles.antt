@@ -16,10 +16,12 @@ use Rattle.pb_play_reading.specs.declared.handlers.Handler.{Handler}
 use Rattle.pb_role_files.specs.Meta.{role_meta}
 use Rattle.pb_role_files.specs.declared.meta.RoleMeta.{RoleMeta}
 
+-- what was read, or the fault as one of a file
 abbrev pub as_file : {A : Type 0} → Reading A LoadFault → Result A LoadFault
 as_file (Ok x) = Ok x
 as_file (Err e) = Err (as_load_fault e)
 
+-- what a file says whose JSON is read so; bytes that spell none are a fault
 abbrev pub of_json : {A : Type 0} → (List ℕ → json.Data → Reading A LoadFault) → Option json.Data → Result A LoadFault
 of_json reads None = Err NotJson
 of_json reads (Some d) = as_file (reads [] d)

@@ -99,6 +99,7 @@ placed_with names keys inherited is_caught handler task =
       handler = handler;
     }
 
+-- what stands at the place of a task inside this: its own keys are the inner ones
 abbrev pub placed : List HandlerNames → InheritedOf → Bool → Option ℕ → OneTask → PlaceOf
 placed names inherited is_caught handler task = placed_with names (inner inherited.keys (keys_of_task task)) inherited is_caught handler task
 
@@ -121,6 +122,7 @@ pub record Flushed : Type 0 where
   pub names : List HandlerNames
   pub handlers : List TaskIn
 
+-- all handlers of the play, in order, in a Flush in which failures are caught or not
 abbrev pub flush_places : Flushed → Bool → List PlaceOf
 flush_places flushed is_caught = flush_from flushed.names is_caught 0 flushed.handlers
 
@@ -147,10 +149,12 @@ nodes_then (Block block body rescue always more) rest =
     tree.Block (nodes_then body tree.Nothing) (nodes_then rescue tree.Nothing) (nodes_then always tree.Nothing) (nodes_then more rest)
 nodes_then (Flush more) rest = tree.Flush (nodes_then more rest)
 
+-- the same of the nodes of sections, one behind another
 abbrev pub sections_then : List Section → Nodes → Nodes
 sections_then [] rest = rest
 sections_then (section ∷ sections) rest = nodes_then section.nodes (sections_then sections rest)
 
+-- what stands at the places of sections, in their order; nothing round a section catches a failure
 abbrev pub section_places : Flushed → PlayKeys → List Section → List PlaceOf
 section_places flushed keys [] = []
 section_places flushed keys (section ∷ sections) =
@@ -160,6 +164,7 @@ section_places flushed keys (section ∷ sections) =
 abbrev pub nodes_of : Sections → Nodes
 nodes_of play = sections_then play.pre (tree.Flush (sections_then play.tasks (tree.Flush (sections_then play.post (tree.Flush tree.Nothing)))))
 
+-- the tree of a play: its nodes, how many handlers run in each Flush, and whether these run after a failure, too
 abbrev pub tree_of : Sections → TreeOf
 tree_of play = record { nodes = nodes_of play; handlers = length play.handlers; force_handlers = play.force_handlers }
 
@@ -170,6 +175,7 @@ flushed_in play = record { names = map names_of play.handlers; handlers = map (t
 abbrev pub part_places : Flushed → PlayKeys → List Section → List PlaceOf
 part_places flushed keys sections = section_places flushed keys sections ++ flush_places flushed false
 
+-- what stands at all places of a play, in the order of its tree
 abbrev pub all_places : Sections → List PlaceOf
 all_places play =
     part_places (flushed_in play) play.keys play.pre ++ part_places (flushed_in play) play.keys play.tasks

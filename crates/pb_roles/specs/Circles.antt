@@ -22,6 +22,7 @@ abbrev pub LeadsTo : (List ℕ → RoleRead) → List ℕ → List (List ℕ) �
 LeadsTo reads from [] to = DependsOn reads from to
 LeadsTo reads from (name ∷ names) to = DependsOn reads from name × LeadsTo reads name names to
 
+-- some role depends on itself, at once or by way of others
 pub record IsCircle (reads : List ℕ → RoleRead) : Type 0 where
   pub name : List ℕ
   pub between : List (List ℕ)

@@ -50,14 +50,16 @@ role_in left role outer entry came =
 unfoldable pub role_of : ℕ → (List ℕ → RoleRead) → List Tree → RoleEntry → List EntryKey → Result (Option OpenRole) RoleFault
 role_of left reads outer entry came = role_in left (reads entry.name) outer entry came
 
+-- the entry is one more that has come
 abbrev pub with_come : RoleEntry → Expansion → Expansion
 with_come entry met = record met { came = met.came ++ key_of entry ∷ [] }
 
--- what a role brings comes behind what its dependencies brought
+-- handlers, each with where it comes from
 abbrev pub handlers_in : OriginOf → List Handler → List HandlerIn
 handlers_in origin [] = []
 handlers_in origin (handler ∷ handlers) = record { handler = handler; origin = origin } ∷ handlers_in origin handlers
 
+-- an open role is done: what it brings comes behind what its dependencies brought
 abbrev pub closed : OpenRole → Expansion → Expansion
 closed role met =
     record {
@@ -93,6 +95,7 @@ meets (suc left) reads names outer entry met =
 abbrev pub nothing_met : Expansion
 nothing_met = record { came = []; sections = []; handlers = [] }
 
+-- one more than there are files: since each open role has a file, so many are never open
 abbrev pub most_open : RoleFiles → ℕ
 most_open files = suc (length files.files)
 
@@ -100,5 +103,6 @@ most_open files = suc (length files.files)
 abbrev pub roles_with : ℕ → (List ℕ → RoleRead) → List RoleEntry → Result Expansion RoleFault
 roles_with most reads entries = in_order (meets most reads [] []) entries nothing_met
 
+-- what the roles of a play bring, as these files say, or the first fault
 abbrev pub roles_of : RoleFiles → List RoleEntry → Result Expansion RoleFault
 roles_of files entries = roles_with (most_open files) (read_of files) entries

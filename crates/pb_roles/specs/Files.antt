@@ -12,9 +12,11 @@ use Rattle.pb_roles.specs.declared.fault.RoleFault.TheVariants.{Load}
 use Rattle.pb_roles.specs.declared.files.RoleFile.{RoleFile}
 use Rattle.pb_roles.specs.declared.files.RoleFiles.{RoleFiles}
 
+-- the path of a role's file: the role's name comes first, and then the file's kind, as `tasks`
 abbrev pub main_path : List ℕ → List ℕ → List ℕ
 main_path name kind = name ++ codes "/" ++ kind ++ codes "/main.json"
 
+-- the file with this path; of several the first counts
 abbrev pub file_at : List ℕ → List RoleFile → Option RoleFile
 file_at path [] = None
 file_at path (file ∷ files) = if bytes_eq file.path path then Some file else file_at path files
@@ -42,9 +44,11 @@ pub record RoleRead : Type 0 where
   pub nodes : Result Written RoleFault
   pub handlers : Result (List Handler) RoleFault
 
+-- whether there is no file of this kind, which comes first, for the role with this name, which comes last
 abbrev pub has_no : List ℕ → RoleFiles → List ℕ → Bool
 has_no kind files name = is_none (file_of kind files name)
 
+-- whether a role has none of its five files
 abbrev pub has_none : RoleFiles → List ℕ → Bool
 has_none files name =
     has_no (codes "meta") files name

@@ -44,17 +44,21 @@ abbrev pub entries_in : Result RoleMeta RoleFault → List RoleEntry
 entries_in (Ok meta) = meta.dependencies
 entries_in (Err fault) = []
 
+-- the entries that the role of this name depends on, as its file says; none where that has a fault
 abbrev pub dependencies_of : (List ℕ → RoleRead) → List ℕ → List RoleEntry
 dependencies_of reads name = entries_in (reads name).meta
 
+-- the costs of these entries together
 abbrev pub sum_over : (RoleEntry → ℕ) → List RoleEntry → ℕ
 sum_over costs [] = 0
 sum_over costs (entry ∷ entries) = costs entry + sum_over costs entries
 
+-- how much an entry costs where so many roles may be opened inside one another: to be met, to be closed, and what its dependencies cost
 abbrev pub cost_of : ℕ → (List ℕ → RoleRead) → RoleEntry → ℕ
 cost_of zero reads entry = 2
 cost_of (suc left) reads entry = 2 + sum_over (cost_of left reads) (dependencies_of reads entry.name)
 
+-- how much is left to do of open roles: the dependencies that each has left, and to close it
 abbrev pub cost_in : (List ℕ → RoleRead) → List OpenRole → ℕ
 cost_in reads [] = 0
 cost_in reads (role ∷ roles) = 1 + sum_over (cost_of role.left reads) role.dependencies + cost_in reads roles

@@ -73,9 +73,11 @@ with_tree head tree places =
       places = places;
     }
 
+-- a play with its tree, however large that is
 abbrev pub built : Head → Sections → Expanded
 built head play = with_tree head (tree_of play) (all_places play)
 
+-- the same, where it has no more places and isn't deeper than it may be; else it is too large
 abbrev pub within_limits : Head → Sections → Result Expanded RoleFault
 within_limits head play = if has_too_many_places play || is_too_deep play then Err TooLarge else Ok (built head play)
 
@@ -84,9 +86,11 @@ abbrev pub unless_unknown : Option (List ℕ) → Result Expanded RoleFault → 
 unless_unknown None r = r
 unless_unknown (Some name) r = Err (Unknown name)
 
+-- a play of these parts, or its fault
 abbrev pub checked : Head → Sections → Result Expanded RoleFault
 checked head play = unless_unknown (unknown_of play) (within_limits head play)
 
+-- a play with what its roles bring, or the first fault: that of a role comes first
 abbrev pub expanded : RoleFiles → Play → Result Expanded RoleFault
 expanded files play = and_then (roles_of files play.roles) (λ met. checked (head_of play met) (sections_of play met))
 

@@ -48,9 +48,11 @@ abbrev pub AreInOrder : List Taken → List Taken → Type 0
 AreInOrder before [] = ⊤
 AreInOrder before (it ∷ later) = MayFollow before it × AreInOrder (before ++ it ∷ []) later
 
+-- the nodes that a role brings, and where they come from
 abbrev pub section_of : Taken → Section
 section_of it = record { origin = it.role.origin; nodes = it.role.nodes }
 
+-- the handlers that these roles bring, role by role
 abbrev pub handlers_of : List Taken → List HandlerIn
 handlers_of [] = []
 handlers_of (it ∷ later) = handlers_in it.role.origin it.role.handlers ++ handlers_of later
@@ -60,6 +62,7 @@ abbrev pub dependencies_in : List Taken → List RoleEntry
 dependencies_in [] = []
 dependencies_in (it ∷ later) = it.meta.dependencies ++ dependencies_in later
 
+-- the entry is among these
 abbrev pub IsOneOf : RoleEntry → List RoleEntry → Type 0
 IsOneOf entry [] = ⊥
 IsOneOf entry (first ∷ entries) = (entry ≡ first) ⊎ IsOneOf entry entries
@@ -75,5 +78,6 @@ pub record AreTaken (reads : List ℕ → RoleRead) (entries : List RoleEntry) (
   pub sections : met.sections ≡ map section_of taken
   pub handlers : met.handlers ≡ handlers_of taken
 
+-- so it is with all roles of a play that are read without a fault
 abbrev pub RolesAreInOrder : Type 0
 RolesAreInOrder = (files : RoleFiles) (entries : List RoleEntry) (met : Expansion) → roles_of files entries ≡ Ok met → AreTaken (read_of files) entries met

@@ -24,10 +24,12 @@ abbrev pub is_host : ℕ → Option ℕ → Bool
 is_host host (Some h) = h == host
 is_host host None = false
 
+-- whether this is the name of the host that started the item; without a starter no name is
 abbrev pub is_own_name : InventoryOf → (starter : Option ℕ) → List ℕ → Bool
 is_own_name inventory (Some host) name = is_host host (host_named inventory name)
 is_own_name inventory None name = false
 
+-- an item that isn't delegated, or to the host that started it
 abbrev pub stays : InventoryOf → Option ℕ → Item → Bool
 stays inventory starter item = option_map_or (is_own_name inventory starter) item.delegate true
 

@@ -37,6 +37,7 @@ gifts_of inventory host gives (item ∷ items) = gift_then host gives (delegate_
 abbrev pub gives_away : PlaceOf → TaskResult → Bool
 gives_away place task = place.delegate_facts && has_run task && not task.unreachable
 
+-- what the task at this place gives to other hosts, once it ended so with these items on the host with this number
 abbrev pub gifts_from : InventoryOf → ℕ → TaskResult → List Item → PlaceOf → List DelegatedFacts
 gifts_from inventory host task items place = if gives_away place task then gifts_of inventory host (gives_of place.task.«module») items else []
 

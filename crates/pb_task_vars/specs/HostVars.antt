@@ -7,6 +7,7 @@ use Rattle.pb_places.specs.Place.{no_role}
 use Rattle.pb_plan.specs.Plan.{PlanOf}
 use Rattle.pb_task_vars.specs.declared.host_vars.HostVars.{HostVars}
 
+-- the variables that the host with this number has from its groups, and its name
 abbrev pub host_vars_of : PlanOf → ℕ → HostVars
 host_vars_of plan host =
     record { groups = from_groups plan.inventory host; name = text (host_name plan.inventory host); no_role = no_role; none = [] }

@@ -29,9 +29,11 @@ abbrev pub gives_if : Bool → Module → Gives
 gives_if true called = gives_of called
 gives_if false called = Nothing
 
+-- what a host knows once a task ended with this result: the facts of these items are among it where the task went well
 abbrev pub learns : Datum → Bool → List Item → FactsOf → Task → FactsOf
 learns result went_well items facts task = learnt (gives_if went_well task.«module») task.register result items facts
 
+-- the same of the task at a place, but for the facts of items that go to other hosts
 abbrev pub learns_at : InventoryOf → Option ℕ → Datum → Bool → List Item → FactsOf → PlaceOf → FactsOf
 learns_at inventory starter result went_well items facts place = learns result went_well (kept inventory starter place.delegate_facts items) facts place.task
 

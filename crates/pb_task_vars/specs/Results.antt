@@ -56,6 +56,7 @@ start_with has_facts_program place layers magic =
       magic = magic;
     }
 
+-- the same on the host with this number, which has learnt this, with the variables that the task sees there
 abbrev pub start_of : PlanOf → PlayOf → ℕ → FactsOf → PlaceOf → StartOf
 start_of plan play host facts place =
     start_with plan.has_facts_program place (layers_within plan play host facts place.role place.block_vars place.task.vars) (magic_of plan play host)
@@ -64,9 +65,11 @@ start_of plan play host facts place =
 abbrev pub nothing : ItemResult
 nothing = record { ending = Skipped; result = null }
 
+-- what stands at a place for a host, whose number comes first; none where one of the two is past the end
 abbrev pub place_for : PlanOf → PlayOf → ℕ → ℕ → Option PlaceOf
 place_for plan play host p = if nat_lt host (length plan.inventory.hosts) then slice_get play.places p else None
 
+-- the items of the task at this place as it starts on the host with this number, which has learnt this
 abbrev pub items_for : PlanOf → PlayOf → ℕ → FactsOf → PlaceOf → List Item
 items_for plan play host facts place = items_of (start_of plan play host facts place)
 
@@ -86,6 +89,7 @@ came_at plan play host facts p value attempt item = option_map_or (came_for plan
 abbrev pub variable_of : Task → List ℕ
 variable_of task = option_map_or (λ (looped : Loop). looped.variable) task.looped []
 
+-- the same of the task at a place; it is empty where the task has no loop, or there is no such place
 abbrev pub variable_at : PlayOf → ℕ → List ℕ
 variable_at play p = option_map_or (λ (place : PlaceOf). variable_of place.task) (slice_get play.places p) []
 

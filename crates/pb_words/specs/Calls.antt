@@ -11,6 +11,7 @@ use Rattle.pb_words.specs.declared.fault.CallFault.TheVariants.{UnclosedQuote, N
 use Rattle.pb_outcome.specs.declared.job.Call.{Call}
 use Rattle.pb_outcome.specs.declared.job.Call.TheVariants.{Command, Shell}
 
+-- what is said in an item's result of such a fault
 abbrev pub fault_message : CallFault → List ℕ
 fault_message UnclosedQuote = codes "unclosed quote"
 fault_message NoCommand = codes "no command given"
@@ -25,6 +26,7 @@ within_limit text = if nat_lt max_text (length text) then Err TooLarge else Ok t
 abbrev pub word_of : Datum → Result (List ℕ) CallFault
 word_of v = within_limit (text_of v)
 
+-- the texts of these values, in their order, or the first fault
 abbrev pub each_word : List Datum → Result (List (List ℕ)) CallFault
 each_word [] = Ok []
 each_word (v ∷ vs) = and_then (word_of v) (λ w. and_then (each_word vs) (λ ws. Ok (w ∷ ws)))

@@ -11,6 +11,7 @@ use Rattle.pb_words.specs.declared.words.Spot.TheVariants.{Between, Within, Quot
 abbrev pub joined : List (List ℕ) → List ℕ → Begun → List (List ℕ)
 joined before word w = before ++ (word ++ w.0) ∷ w.1
 
+-- the words of a text that was read up to this spot, with these words in front of it and these characters still behind
 abbrev pub resumed_at : Spot → List (List ℕ) → List ℕ → Result (List (List ℕ)) CallFault
 resumed_at Between before cs = map_ok (λ ws. before ++ ws) (between cs)
 resumed_at (Within word) before cs = map_ok (joined before word) (within cs)

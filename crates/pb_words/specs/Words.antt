@@ -12,6 +12,7 @@ use Rattle.pb_words.specs.declared.fault.CallFault.TheVariants.{UnclosedQuote, N
 abbrev pub is_space : ℕ → Bool
 is_space c = c == 32 || c == 9 || c == 10 || c == 13
 
+-- `'` and `"`
 abbrev pub is_quote : ℕ → Bool
 is_quote c = c == 39 || c == 34
 
@@ -19,12 +20,15 @@ is_quote c = c == 39 || c == 34
 abbrev pub Begun : Type 0
 Begun = List ℕ × List (List ℕ)
 
+-- a word that has begun, with one character more at its front
 abbrev pub longer : ℕ → Begun → Begun
 longer c w = (encode_utf8 c ++ w.0, w.1)
 
+-- the word ends here, and these words stand behind it
 abbrev pub ended : List (List ℕ) → Begun
 ended ws = ([], ws)
 
+-- the word that has begun, and then those behind it
 abbrev pub all_words : Begun → List (List ℕ)
 all_words w = w.0 ∷ w.1
 
