@@ -21,6 +21,7 @@ abbrev pub names_in : List Map → ℕ → Names
 names_in scope zero name = Err TooLarge
 names_in scope (suc levels) name = read_as (rendered (names_in scope levels)) name (found name scope)
 
+-- how many look-ups there may be inside one another
 abbrev pub max_look_ups : ℕ
 max_look_ups = 16
 

@@ -45,6 +45,7 @@ default_if (Err (Undefined name)) d f = d
 default_if (Err e) d f = Err e
 default_if (Ok a) d f = and_then f (λ b. if truthy b && not (truthy a) then d else Ok a)
 
+-- `default` of an operand, with its arguments; they have to be one or two
 abbrev pub defaulted : Value → List Value → Value
 defaulted r (d ∷ []) = or_default r d
 defaulted r (d ∷ f ∷ []) = default_if r d f
@@ -56,6 +57,7 @@ is_defined (Ok a) present = Ok (boolean present)
 is_defined (Err (Undefined name)) present = Ok (boolean (not present))
 is_defined (Err e) present = Err e
 
+-- the value of an expression, or its first fault
 abbrev mutual
   pub value : Names → Tree → Value
   value names (tree.Int z) = Ok (int z)

@@ -9,6 +9,7 @@ use Rattle.pb_expr_syntax.specs.declared.tree.Op.{Op}
 use Rattle.pb_expr_syntax.specs.declared.tree.Op.TheVariants as op
 use Rattle.pb_expr_syntax.specs.Tree.{Tree, Int, Text, Name, Truth, Null, ListOf, Member, Index, Not, Negate, Binary, Apply, IsDefined, Trees, no_trees, tree_and}
 
+-- the first half of a stored pair, and its second half; what is no pair has nothing in either
 abbrev head : Gv → Gv
 head gnil = gnil
 head (gnum n) = gnil
@@ -25,6 +26,7 @@ pick d [] n = d
 pick d (x ∷ xs) zero = x
 pick d (x ∷ xs) (suc n) = pick d xs n
 
+-- what stands in a tree besides trees, as it is stored (`_code`), and back (`_at`): what nothing is stored as is read as something too
 abbrev bool_code : Bool → ℕ
 bool_code false = 0
 bool_code true = 1
@@ -105,6 +107,7 @@ pub record Back : Type 0 where
   pub trees : Trees
   pub rest : Trees
 
+-- the first of a row of trees, `Null` where there is none, and those behind it
 abbrev first : Trees → Tree
 first no_trees = Null
 first (tree_and t ts) = t
@@ -113,15 +116,18 @@ abbrev others : Trees → Trees
 others no_trees = no_trees
 others (tree_and t ts) = ts
 
+-- the tree of the form with this number, from what it has besides trees (own) and from its trees; from 13 on it is `Null`
 abbrev pub by_tag : ℕ → Gv → Trees → Tree
 by_tag n own ts = pick Null (
     Int (int_at own) ∷ Text (text_at own) ∷ Name (text_at own) ∷ Truth (bool_at (num own)) ∷ Null ∷ ListOf ts ∷ Member (first ts) (text_at own)
     ∷ Index (first ts) (first (others ts)) ∷ Not (first ts) ∷ Negate (first ts) ∷ Binary (op_at (num own)) (first ts) (first (others ts))
     ∷ Apply (filter_at (num own)) (first ts) (others ts) ∷ IsDefined (first ts) (bool_at (num own)) ∷ []) n
 
+-- what is no pair is read as `Null`, and as no trees
 abbrev pub none : Back
 none = record { value = Null; trees = no_trees; rest = no_trees }
 
+-- what is stored, read in these ways; what no tree is stored as is read as some tree too
 abbrev pub back : Gv → Back
 back gnil = none
 back (gnum n) = none
@@ -131,6 +137,7 @@ back (gcons a b) = record {
   rest = (back b).trees;
 }
 
+-- what is read back is what was stored
 bool_back : (b : Bool) → bool_at (bool_code b) ≡ b
 bool_back true = refl
 bool_back false = refl
@@ -185,5 +192,6 @@ mutual
   trees_back no_trees = refl
   trees_back (tree_and t ts) = λ i. tree_and (code_back t i) (trees_back ts i)
 
+-- trees are stored by their codes, and different trees have different ones
 abbrev pub coded_tree : Coded Tree
 coded_tree = record { code = code; inj = λ x y p. sym (code_back x) ∙ ap (λ g. (back g).value) p ∙ code_back y }

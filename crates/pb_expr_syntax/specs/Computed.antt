@@ -20,6 +20,7 @@ use Rattle.pb_expr_syntax.specs.Machine.{State, head_of, went, took, built}
 use Rattle.pb_expr_syntax.specs.Tokens.{tokens_of}
 use Rattle.pb_expr_syntax.specs.Tree.{Tree}
 
+-- the state once the first of these tokens is taken; none where there is no token, it is of another kind, or can't be taken so
 abbrev pub taken_from : Kind → How → State → List Tok → Option State
 taken_from k how old [] = None
 taken_from k how old (t ∷ ts) = if is_kind t.kind k then option_map (took old) (taken how t old.parts) else None
@@ -39,6 +40,7 @@ sole _ _ = None
 abbrev pub behind : State → List Symbol → State
 behind s ss = record { next = s.next; symbols = ss; parts = s.parts }
 
+-- as go says, from a state that is there
 abbrev pub goes : (State → Option Tree) → Option State → Option Tree
 goes go None = None
 goes go (Some s) = go s
@@ -57,10 +59,12 @@ run (suc n) tokens s = first_with (run n tokens) tokens s s.symbols
 unfoldable pub tree_of_tokens : List Tok → Option Tree
 tree_of_tokens tokens = run (32 * length tokens + 32) tokens (record { next = 0; symbols = begin; parts = [] })
 
+-- the tree, if it has at most 64 levels
 abbrev pub not_deeper : Option Tree → Option Tree
 not_deeper None = None
 not_deeper (Some t) = if nat_le (depth t) 64 then Some t else None
 
+-- the tree that a text's tokens spell, if it has at most 64 levels; none where the text has a bad token
 abbrev pub tree_of_result : Result (List Tok) ExprFault → Option Tree
 tree_of_result (Err e) = None
 tree_of_result (Ok tokens) = not_deeper (tree_of_tokens tokens)
@@ -74,19 +78,23 @@ abbrev pub pointed : List Tok → Refusal
 pointed [] = End
 pointed (t ∷ ts) = Unexpected t.at
 
+-- at the name of the filter that the last parts are a call of; the end, where they are no call
 abbrev pub called : List Part → Refusal
 called (Many xs ∷ Called f at ∷ parts) = Unexpected at
 called _ = End
 
+-- the fault of this symbol, where it leads nowhere from this state
 abbrev pub stopped : List Tok → Symbol → State → Refusal
 stopped tokens (Go r) old = pointed (drop old.next tokens)
 stopped tokens (Take k how) old = pointed (drop old.next tokens)
 stopped tokens (Do m) old = called old.parts
 
+-- the fault once no symbol is left: at the next token, if there is one
 abbrev pub left_over : List Tok → Option Refusal
 left_over [] = None
 left_over (t ∷ ts) = Some (Unexpected t.at)
 
+-- as go says, from a state that is there; where there is none, this fault
 abbrev pub stops : (State → Option Refusal) → Refusal → Option State → Option Refusal
 stops go e None = Some e
 stops go e (Some s) = go s
@@ -104,14 +112,17 @@ run_to_fault (suc n) tokens s = stops_first (run_to_fault n tokens) tokens s s.s
 unfoldable pub fault_of_tokens : List Tok → Option Refusal
 fault_of_tokens tokens = run_to_fault (32 * length tokens + 32) tokens (record { next = 0; symbols = begin; parts = [] })
 
+-- the fault of a tree that has more than 64 levels; none of any other, nor where there is no tree
 abbrev pub deeper : Option Tree → Option ExprFault
 deeper None = None
 deeper (Some t) = if nat_le (depth t) 64 then None else Some fault.TooDeep
 
+-- the first fault of tokens, from the refusal of them and their tree, where there are such
 abbrev pub fault_of_both : Option Refusal → Option Tree → Option ExprFault
 fault_of_both (Some refused) o = Some (fault_of refused)
 fault_of_both None o = deeper o
 
+-- the first fault of a text that was cut into tokens, or the fault of its first bad one
 abbrev pub fault_of_result : Result (List Tok) ExprFault → Option ExprFault
 fault_of_result (Err e) = Some e
 fault_of_result (Ok tokens) = fault_of_both (fault_of_tokens tokens) (tree_of_tokens tokens)

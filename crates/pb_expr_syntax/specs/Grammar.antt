@@ -55,6 +55,7 @@ pub data Part : Type 0 where
   Many : List Tree → Part
   Called : Filter → ℕ → Part
 
+-- the filter of this name, if there is one
 abbrev pub filter_of : List ℕ → Option Filter
 filter_of name =
     if bytes_eq name (codes "default") then Some filter.Default else
@@ -75,6 +76,7 @@ takes filter.Int n = nat_eq n 0
 abbrev pub leaf : Tok → Tree
 leaf t = elim t.kind [ kind.Digits ↦ tree.Int t.number | kind.Text ↦ tree.Text t.text | kind.True ↦ tree.Truth true | kind.False ↦ tree.Truth false | kind.Null ↦ tree.Null | _ ↦ tree.Name t.text ]
 
+-- the parts with a filter as the last, whose name stands at this byte; none where the name is no filter's
 abbrev pub mapped : ℕ → List Part → Option Filter → Option (List Part)
 mapped at parts None = None
 mapped at parts (Some f) = Some (Called f at ∷ parts)
@@ -113,6 +115,7 @@ made_any make.Filtered (Many xs ∷ Called f at ∷ One x ∷ parts) = Some (One
 made_any make.Filtered _ = None
 made_any m parts = made m parts
 
+-- the same, but with any number of arguments only where the Bool is true
 abbrev pub makes : Bool → Make → List Part → Option (List Part)
 makes true m parts = made_any m parts
 makes false m parts = made m parts
@@ -128,6 +131,7 @@ pub data Reads (any : Bool) (Left : List Symbol → List Part → Type 0) : List
   do_make : {m : Make} {ss : List Symbol} {ts : List Tok} {vs ws : List Part} →
       makes any m vs ≡ Some ws → Reads any Left ss ts ws → Reads any Left (Do m ∷ ss) ts vs
 
+-- what is wanted at first: one whole expression
 abbrev pub begin : List Symbol
 begin = Go rule.Expr ∷ []
 

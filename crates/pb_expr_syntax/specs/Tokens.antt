@@ -39,6 +39,7 @@ standing_word word =
 abbrev pub word_kind : List ℕ → Kind
 word_kind word = unwrap_or (joining_word word) (standing_word word)
 
+-- a token of this kind, the byte at which it begins, its word or content, its number, and how many bytes it takes
 abbrev pub lexeme : Kind → ℕ → List ℕ → ℤ → ℕ → Lexeme
 lexeme k at text number size = record { token = record { kind = k; at = at; text = text; number = number }; size = size }
 
@@ -62,9 +63,11 @@ number_at at bs =
 abbrev pub escaped : ℕ → Option ℕ
 escaped b = if b == 92 || b == 39 || b == 34 then Some b else if b == 110 then Some 10 else if b == 116 then Some 9 else None
 
+-- the content of a text, and how many bytes it takes, with this in front of it, which takes one
 abbrev pub longer : List ℕ → List ℕ × ℕ → List ℕ × ℕ
 longer front c = (front ++ c.0, c.1 + 1)
 
+-- what an escape stands for; where it stands for nothing, the fault is at the byte at which the text begins
 abbrev pub escape_at : ℕ → Option ℕ → Result ℕ ExprFault
 escape_at at None = Err (Unexpected at)
 escape_at at (Some c) = Ok c
@@ -76,6 +79,7 @@ text_from at quote is_escape [] = Err End
 text_from at quote true (b ∷ bs) = and_then (escape_at at (escaped b)) (λ c. map_ok (longer (c ∷ [])) (text_from at quote false bs))
 text_from at quote false (b ∷ bs) = if b == quote then Ok ([], 1) else map_ok (longer (if b == 92 then [] else b ∷ [])) (text_from at quote (b == 92) bs)
 
+-- the token of a text that begins at this byte, from its content and how many bytes that takes with the closing quote
 abbrev pub quoted : ℕ → List ℕ × ℕ → Lexeme
 quoted at c = lexeme kind.Text at c.0 (pos 0) (c.1 + 1)
 
@@ -108,13 +112,16 @@ sign_of true (Some k) single = Some (k, 2)
 sign_of _ _ (Some k) = Some (k, 1)
 sign_of _ _ None = None
 
+-- the sign that this byte begins, and its length, where a `=` stands behind it or not
 abbrev pub sign : ℕ → Bool → Option (Kind × ℕ)
 sign b is_equal = sign_of is_equal (double_sign b) (single_sign b)
 
+-- `=` comes first; not where nothing comes
 abbrev pub begins_equal : List ℕ → Bool
 begins_equal [] = false
 begins_equal (b ∷ bs) = b == 61
 
+-- the token of a sign that begins at this byte; where there is no sign, the fault is at this byte
 abbrev pub sign_at : ℕ → Option (Kind × ℕ) → Result Lexeme ExprFault
 sign_at at None = Err (Unexpected at)
 sign_at at (Some s) = Ok (lexeme s.0 at [] (pos 0) s.1)
@@ -130,10 +137,12 @@ lexeme_by class.Number at b bs = number_at at (b ∷ bs)
 lexeme_by class.Quoted at b bs = map_ok (quoted at) (text_from at b false bs)
 lexeme_by class.Sign at b bs = sign_at at (sign b (begins_equal bs))
 
+-- the same of all bytes from there on; where there are none, the text ends too early
 abbrev pub lexeme_at : ℕ → List ℕ → Result Lexeme ExprFault
 lexeme_at at [] = Err End
 lexeme_at at (b ∷ bs) = lexeme_by (class_of b) at b bs
 
+-- a space comes first; not where nothing comes
 abbrev pub begins_space : List ℕ → Bool
 begins_space [] = false
 begins_space (b ∷ bs) = is_space b
@@ -148,5 +157,6 @@ tokens_from taken at [] = Ok []
 tokens_from (suc taken) at (b ∷ bs) = tokens_from taken (at + 1) bs
 tokens_from zero at (b ∷ bs) = and_then (front_at at (b ∷ bs)) (λ f. map_ok (λ ts. f.0 ++ ts) (tokens_from (f.1 - 1) (at + 1) bs))
 
+-- the tokens of a text, or the fault of its first bad token
 abbrev pub tokens_of : List ℕ → Result (List Token) ExprFault
 tokens_of text = tokens_from 0 0 text

@@ -22,10 +22,12 @@ abbrev pub parts_onto : List grammar.Part → List code.Part → List grammar.Pa
 parts_onto below [] = below
 parts_onto below (x ∷ xs) = parts_onto (part_of x ∷ below) xs
 
+-- the same of symbols
 abbrev pub symbols_onto : List Symbol → List Symbol → List Symbol
 symbols_onto below [] = below
 symbols_onto below (x ∷ xs) = symbols_onto (x ∷ below) xs
 
+-- the state of a parser, whose stacks have their last on top
 abbrev pub state_of : Machine → State
 state_of m = record { next = m.next; symbols = symbols_onto [] m.symbols.items; parts = parts_onto [] m.parts.items }
 
@@ -35,18 +37,22 @@ Faults (Unexpected at) P = P
 Faults End P = P
 Faults Memory P = Unit {0}
 
+-- the last part is no tree, or there is no part
 abbrev pub NotOne : List grammar.Part → Type 0
 NotOne (grammar.One x ∷ ps) = ⊥
 NotOne _ = Unit {0}
 
+-- the parts are not one tree alone
 abbrev pub NotSole : List grammar.Part → Type 0
 NotSole (grammar.One x ∷ []) = ⊥
 NotSole _ = Unit {0}
 
+-- the last part is not the trees of a list, or there is no part
 abbrev pub NotMany : List grammar.Part → Type 0
 NotMany (grammar.Many xs ∷ ps) = ⊥
 NotMany _ = Unit {0}
 
+-- the last part is no filter, or there is no part
 abbrev pub NotCalled : List grammar.Part → Type 0
 NotCalled (grammar.Called f at ∷ ps) = ⊥
 NotCalled _ = Unit {0}

@@ -15,6 +15,7 @@ pub record FactsOf : Type 0 where
   -- what `set_fact` set, and what was registered
   pub set : Map
 
+-- nothing was gathered, set or registered yet
 abbrev pub no_facts : FactsOf
 no_facts = record { gathered = None; set = [] }
 
@@ -57,6 +58,7 @@ abbrev pub dict_of : Datum → Option Map
 dict_of (dict ms) = Some (entries_of ms)
 dict_of other = None
 
+-- the entries of a value, if it is there and a dict
 abbrev pub facts_under : Option Datum → Option Map
 facts_under None = None
 facts_under (Some value) = dict_of value
@@ -65,6 +67,7 @@ abbrev pub facts_at : Option Map → Option Map
 facts_at None = None
 facts_at (Some known) = facts_under (value_at (codes "ansible_facts") known)
 
+-- what stands under `ansible_facts` in a result, if both are dicts
 abbrev pub facts_in : Datum → Option Map
 facts_in result = facts_at (dict_of result)
 

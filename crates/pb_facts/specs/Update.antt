@@ -25,6 +25,7 @@ abbrev pub LeadsTo : List (List ℕ × Option Datum) → Map → Map → Type 0
 LeadsTo [] was now = was ≡ now
 LeadsTo (before ∷ log) was now = (value : Datum) × StoodThere before.0 before.1 value was × LeadsTo log (put before.0 value was) now
 
+-- from what a host knows now, this leads back to what it knew
 abbrev pub IsUndo : FactsUndo → FactsOf → FactsOf → Type 0
 IsUndo NoUndo was now = was ≡ now
 IsUndo (Stood log) was now = (was.gathered ≡ now.gathered) × LeadsTo (named log.items) was.set now.set

@@ -47,6 +47,7 @@ pub record HasLists (allows : Job → Form → Type 0) (w : ℕ) (offers takes :
   pub collected : IsBeginning collects answers
   pub fits : AnsweredSoFar allows takes answers
 
+-- what holds of fork j: of its lists and its slot by its word, and of the words that the two seats saw last
 pub record IsMailbox (allows : Job → Form → Type 0) (j w : ℕ) (home : Home) (offers : List Job) (collects : List Report) (seen hand : ℕ) (p : ForkView) : Type 0 where
   pub lists : HasLists allows w offers p.takes p.answers collects
   pub parcel : Lies w (parcel_at home) offers p.answers

@@ -26,6 +26,7 @@ pub data Phase : Type 0 where
   answered : Report → Phase
   shut : Phase
 
+-- the word of a fork by where it is
 abbrev pub word_of : Phase → ℕ
 word_of idle = 0
 word_of (offered x) = 4 * x.ticket.0 + 1
@@ -33,6 +34,7 @@ word_of (taken before x) = 4 * x.ticket.0 + 2
 word_of (answered r) = 4 * r.ticket.0 + 3
 word_of shut = 4
 
+-- what a slot holds: a parcel, or nothing
 abbrev pub Slot : Type 0
 Slot = Option Parcel
 
@@ -44,6 +46,7 @@ Home = maybe.Option (maybe.Option Slot)
 abbrev pub Empty : Type 0 → Home → Type 0
 Empty IsOut home = (IsOut → home ≡ some none) × ((IsOut → ⊥) → home ≡ some (some None))
 
+-- the slot is at home, with this parcel in it
 abbrev pub Full : Parcel → Home → Type 0
 Full parcel home = home ≡ some (some (Some parcel))
 
@@ -96,5 +99,6 @@ pub record Ruled (Says : ForkRule) (k : ℕ) (s : State Slot View) : Type 0 wher
   pub stands : (j : ℕ) → j < k → Stands s.views owner j (part j) (slice_index_or main.parts j Away)
   pub each_seat : (id : ℕ) (v : View) → get_elem? s.views id ≡ some v → Knows k main_id main part owner id v
 
+-- the rule of a pool of k forks: each of them is as the rule says of one
 abbrev pub Kept : (Job → Form → Type 0) → ℕ → State Slot View → Type 0
 Kept allows = Ruled (ForkOk allows)

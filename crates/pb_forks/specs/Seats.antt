@@ -46,6 +46,7 @@ IsEachOnce k seats = IsPermutation (upto k) (map number seats)
 abbrev pub IsSameMain : MainSeat → MainSeat → Type 0
 IsSameMain old new = new.seat.table_id ≡ old.seat.table_id
 
+-- the same, and it is of the same fork
 abbrev pub IsSameFork : ForkSeat → ForkSeat → Type 0
 IsSameFork old new = (new.seat.table_id ≡ old.seat.table_id) × (new.fork ≡ old.fork)
 

@@ -28,6 +28,7 @@ Goes answer t w n = (w ≡ 4 * t + 2) × (n ≡ 4 * t + 3)
 Goes collect t w n = (w ≡ 4 * t + 3) × (n ≡ 0)
 Goes shut t w n = (w ≡ 0) × (n ≡ 4)
 
+-- what a seat knows, and the slots that it has out, each with what is in it
 abbrev pub Mine : Type 0
 Mine = Me Slot View
 
@@ -35,6 +36,7 @@ Mine = Me Slot View
 abbrev pub SeatStep : Type 1
 SeatStep = Step Slot → Mine → ℕ → Mine → Type 0
 
+-- the main seat looks at a fork's word
 abbrev pub MainLook : SeatStep
 MainLook st me r me' = (me'.0 ≡ Main (main_looked st.word r (main_of me.0))) × (me'.1 ≡ me.1) × MainSees (slice_index (main_of me.0).seen st.word) r
 
@@ -55,23 +57,29 @@ MainCollect allows st me r me' = (rep : Report)
     × (slice_index (main_of me.0).seen st.word ≡ 4 * rep.ticket.0 + 3) × FitsLast allows (offers_of st.word (main_of me.0).log) rep × Goes collect rep.ticket.0 r st.first
     × (me'.0 ≡ Main (main_did st.word 0 (st.word + 1) (Collected st.word rep) (main_of me.0))) × (me'.1 ≡ (st.word, Some (Done rep)) ∷ me.1)
 
+-- an idle fork is shut
 abbrev pub MainShut : SeatStep
 MainShut st me r me' = (me'.0 ≡ Main (main_shut st.word (main_of me.0))) × (me'.1 ≡ me.1) × Goes shut 0 r st.first
 
+-- a fork's seat looks at its word
 abbrev pub ForkLook : SeatStep
 ForkLook st me r me' = (me'.0 ≡ Fork st.word (fork_looked r (fork_of me.0))) × (me'.1 ≡ me.1) × ForkSees (fork_of me.0).seen r
 
+-- it takes the job that it saw offered, and has the slot out in which that lies
 abbrev pub ForkTake : SeatStep
 ForkTake st me r me' = (x : Job) × ((fork_of me.0).seen ≡ 4 * x.ticket.0 + 1) × (me'.0 ≡ Fork st.word (fork_took st.first x (fork_of me.0))) × (me'.1 ≡ (st.word, Some (Work x)) ∷ me.1) × Goes take x.ticket.0 r st.first
 
+-- it has its slot out from then on, or no longer
 abbrev pub ForkHold : Bool → SeatStep
 ForkHold b st me r me' = (me'.0 ≡ Fork st.word (fork_holds b (fork_of me.0)))
 
+-- it takes its empty slot, and lays it down
 abbrev pub ForkGrab : SeatStep
 ForkGrab st me r me' = ForkHold true st me r me' × (me'.1 ≡ (st.word, None) ∷ me.1)
 
 abbrev pub ForkLay : SeatStep
 ForkLay st me r me' = ForkHold false st me r me' × (me'.1 ≡ rest me.1)
 
+-- the report that lies in the slot is answered
 abbrev pub ForkAnswer : SeatStep
 ForkAnswer st me r me' = (rep : Report) → me.1 ≡ (st.word, Some (Done rep)) ∷ [] → (me'.0 ≡ Fork st.word (fork_answered st.first rep (fork_of me.0))) × (me'.1 ≡ []) × Goes answer rep.ticket.0 r st.first

@@ -17,14 +17,17 @@ use Rattle.pb_forks.specs.Logs.{FitsLast, offers_of}
 abbrev pub fresh : ForkView
 fresh = record { takes = []; answers = []; seen = 0; looks = 0; holds = false }
 
+-- the main seat of k forks, before any other seat is split off
 abbrev pub first_main : ℕ → MainView
 first_main k = record { log = []; seen = replicate k 0; looks = 0; hand = 0; parts = replicate k (Here fresh); next = 0 }
 
+-- what a main seat knows; any other seat counts as one of no forks
 abbrev pub main_of : View → MainView
 main_of (Main m) = m
 main_of (Fork j p) = first_main 0
 main_of Spent = first_main 0
 
+-- what a fork's seat knows; any other seat counts as one that has done nothing
 abbrev pub fork_of : View → ForkView
 fork_of (Fork j p) = p
 fork_of (Main m) = fresh
@@ -34,9 +37,11 @@ fork_of Spent = fresh
 abbrev pub main_looked : ℕ → ℕ → MainView → MainView
 main_looked j r m = record { log = m.log; seen = slice_set m.seen j r; looks = m.looks + 1; hand = m.hand; parts = m.parts; next = m.next }
 
+-- h is 0, or 1 more than the fork whose slot the seat then has out
 abbrev pub main_hand : ℕ → MainView → MainView
 main_hand h m = record { log = m.log; seen = m.seen; looks = m.looks; hand = h; parts = m.parts; next = m.next }
 
+-- the fork has the word r then, h is as above, and the entry stands behind the others
 abbrev pub main_did : ℕ → ℕ → ℕ → Entry → MainView → MainView
 main_did j r h e m = record { log = m.log ++ e ∷ []; seen = slice_set m.seen j r; looks = m.looks; hand = h; parts = m.parts; next = m.next }
 
@@ -83,6 +88,7 @@ ForkSees seen w = (seen % 4 ≡ 1 → w ≡ seen) × (seen % 4 ≡ 2 → w ≡ s
 abbrev pub ForkStays : ForkView → ForkView → Type 0
 ForkStays p q = (q.takes ≡ p.takes) × (q.answers ≡ p.answers) × (q.holds ≡ p.holds) × (p.looks ≤ q.looks) × ForkSees p.seen q.seen
 
+-- the same of the main seat: what it saw of each fork may have gone on
 abbrev pub MainStays : MainView → MainView → Type 0
 MainStays m n = (n.log ≡ m.log) × (n.parts ≡ m.parts) × (n.next ≡ m.next) × (n.hand ≡ m.hand) × (length n.seen ≡ length m.seen) × (m.looks ≤ n.looks)
     × ((j : ℕ) → MainSees (slice_index m.seen j) (slice_index n.seen j))
@@ -128,11 +134,13 @@ lodged Away = fresh
 abbrev pub main_dealt : MainView → MainView
 main_dealt m = record { log = m.log; seen = m.seen; looks = m.looks; hand = m.hand; parts = slice_set m.parts m.next Away; next = m.next + 1 }
 
+-- what a seat knows once another is split off: only the main seat has any to split off
 abbrev pub dealt : View → View
 dealt (Main m) = Main (main_dealt m)
 dealt (Fork j p) = Fork j p
 dealt Spent = Spent
 
+-- what the seat knows that is split off; one from a seat that isn't the main one knows nothing
 abbrev pub next_fork : View → View
 next_fork (Main m) = Fork m.next (lodged (slice_index_or m.parts m.next Away))
 next_fork (Fork j p) = Spent
@@ -142,6 +150,7 @@ next_fork Spent = Spent
 abbrev pub main_joined : ℕ → ForkView → MainView → MainView
 main_joined j p m = record { log = m.log; seen = m.seen; looks = m.looks; hand = m.hand; parts = slice_set m.parts j (Here p); next = m.next }
 
+-- what the first seat knows once the second is joined: only a fork's seat that the main seat joins adds anything
 abbrev pub joined : View → View → View
 joined (Main m) (Fork j p) = Main (main_joined j p m)
 joined (Main m) (Main n) = Main m
@@ -158,6 +167,7 @@ deals (suc n) m = main_dealt (deals n m)
 abbrev pub start : ℕ → MainView
 start k = record { log = []; seen = replicate k 0; looks = 0; hand = 0; parts = replicate k Away; next = k }
 
+-- the numbers below n, from 0 on
 abbrev pub upto : ℕ → List ℕ
 upto zero = []
 upto (suc n) = upto n ++ n ∷ []

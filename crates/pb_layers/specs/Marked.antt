@@ -5,6 +5,7 @@ use Rattle.pb_value.specs.Datum.{Datum}
 use Rattle.pb_template.specs.Plain.{is_plain}
 use Rattle.pb_layers.specs.Scope.{Map, scope, with_seen, found, value_of, has_templates}
 
+-- a value is plain, or there is none
 abbrev pub is_plain_if : Option Datum → Bool
 is_plain_if None = true
 is_plain_if (Some v) = is_plain v
@@ -17,6 +18,7 @@ has_plain maps name = is_plain_if (value_of name maps)
 abbrev pub is_mark : List Map → List ℕ → Bool
 is_mark maps name = (length name == 0) || has_plain maps name
 
+-- the name is the marked one; no name is where the mark is the empty text
 abbrev pub is_marked : (mark : List ℕ) → List ℕ → Bool
 is_marked mark name = nat_lt 0 (length mark) && bytes_eq mark name
 

@@ -44,6 +44,7 @@ abbrev pub truth_of : Option Bool → Value
 truth_of (Some b) = Ok (boolean b)
 truth_of None = Err WrongKind
 
+-- the second text begins with the first, as each does with an empty one
 abbrev pub begins_with : List ℕ → List ℕ → Bool
 begins_with [] bs = true
 begins_with (x ∷ xs) [] = false
@@ -114,6 +115,7 @@ length_of (list ds) = int_within (pos (length (list_of ds)))
 length_of (dict ms) = int_within (pos (length (entries_of ms)))
 length_of _ = Err WrongKind
 
+-- the words that `bool` takes for true
 abbrev pub is_true_word : List ℕ → Bool
 is_true_word s = str_eq_ignore_ascii_case s (codes "yes") || str_eq_ignore_ascii_case s (codes "on") || str_eq_ignore_ascii_case s (codes "1") || str_eq_ignore_ascii_case s (codes "true")
 
@@ -124,7 +126,7 @@ bool_of (int z) = int_eq z (pos 1)
 bool_of (text s) = is_true_word s
 bool_of _ = false
 
--- a text without the white space of ASCII at its ends
+-- a text without the white space of ASCII at its end, and without that at its front either
 abbrev pub trimmed_end : List ℕ → List ℕ
 trimmed_end s = take (length s - suffix_len is_ascii_whitespace s) s
 
@@ -156,6 +158,7 @@ int_of (boolean true) = pos 1
 int_of (text s) = or_zero (signed (trimmed s))
 int_of _ = pos 0
 
+-- the first text, and behind it the text of each value with the second text in front
 abbrev pub behind : List ℕ → List ℕ → List Datum → List ℕ
 behind front between [] = front
 behind front between (d ∷ ds) = behind (front ++ (between ++ text_of d)) between ds

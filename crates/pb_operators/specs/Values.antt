@@ -19,6 +19,7 @@ abbrev pub fits : ℤ → Bool
 fits (pos n) = nat_lt n (2 ^ 63)
 fits (negsuc n) = nat_lt n (2 ^ 63)
 
+-- a number that is made, or the fault that it is out of range
 abbrev pub int_within : ℤ → Value
 int_within z = if fits z then Ok (int z) else Err Overflow
 
@@ -30,6 +31,7 @@ text_within s = if nat_le (length s) max_text then Ok (text s) else Err TooLarge
 abbrev pub max_members : ℕ
 max_members = 1048576
 
+-- such a list, or the fault that it has more
 abbrev pub list_within : List Datum → Value
 list_within ds = if nat_le (length ds) max_members then Ok (list (items_of ds)) else Err TooLarge
 
@@ -38,6 +40,7 @@ abbrev pub is_final : Datum → Bool
 is_final (text s) = nat_le (length s) max_text
 is_final d = nat_le (depth d) max_depth
 
+-- a value that may be final, or the fault that it is too large
 abbrev pub finished : Datum → Value
 finished d = if is_final d then Ok d else Err TooLarge
 

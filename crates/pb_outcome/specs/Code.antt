@@ -10,12 +10,14 @@ use Rattle.pb_outcome.specs.declared.cause.Cause.TheVariants.{CannotStart, Kille
 use Rattle.pb_outcome.specs.declared.outcome.Form.{Form}
 use Rattle.pb_outcome.specs.declared.outcome.Form.TheVariants.{Ran, Module, Unreachable, NotStarted}
 
+-- the four forms by what is stored of each: a program's end, a value, words about a target, the number of a cause
 abbrev Cases : Type 0
 Cases = (ℤ × (List ℕ × List ℕ)) ⊎ (Datum ⊎ (List ℕ ⊎ ℕ))
 
 abbrev cases_code : Coded Cases
 cases_code = coded⊎ (coded× coded_ℤ (coded× (coded_list coded_ℕ) (coded_list coded_ℕ))) (coded⊎ coded_datum (coded⊎ (coded_list coded_ℕ) coded_ℕ))
 
+-- an outcome as one of these, and back: a number that is no cause's is read as the first cause
 abbrev cases : Form → Cases
 cases (Ran rc out err) = inl (rc, (out, err))
 cases (Module v) = inr (inl v)
@@ -28,6 +30,7 @@ from_cases (inr (inl v)) = Module v
 from_cases (inr (inr (inl msg))) = Unreachable msg
 from_cases (inr (inr (inr n))) = NotStarted (unwrap_or (cause_of n) CannotStart)
 
+-- a cause comes back from its number, and an outcome from what is stored of it
 cause_back : (cause : Cause) → unwrap_or (cause_of (number_of cause)) CannotStart ≡ cause
 cause_back CannotStart = refl
 cause_back KilledBySignal = refl
@@ -42,5 +45,6 @@ from_cases-cases (Module v) = refl
 from_cases-cases (Unreachable msg) = refl
 from_cases-cases (NotStarted cause) = λ i. NotStarted (cause_back cause i)
 
+-- different outcomes are stored as different codes
 abbrev pub coded_form : Coded Form
 coded_form = code_by Cases cases_code cases from_cases from_cases-cases

@@ -27,6 +27,7 @@ abbrev pub is_skipped : Ending → Bool
 is_skipped Skipped = true
 is_skipped ending = false
 
+-- only an item whose module ran may have changed something
 abbrev pub is_changed : Ending → Bool
 is_changed (Ran changed failed) = changed
 is_changed ending = false
@@ -34,9 +35,11 @@ is_changed ending = false
 abbrev pub some_unreachable : List ItemResult → Bool
 some_unreachable items = list_any (λ (item : ItemResult). is_unreachable item.ending) items
 
+-- some item is failed or faulty, or has no answer, and none found its host out of reach
 abbrev pub task_failed : List ItemResult → Bool
 task_failed items = not (some_unreachable items) && list_any (λ (item : ItemResult). is_failed item.ending) items
 
+-- the result of a task that ignores its errors or not, from those of its items
 abbrev pub gathered : Bool → List ItemResult → TaskResult
 gathered ignore_errors items =
     record {

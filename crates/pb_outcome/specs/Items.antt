@@ -9,6 +9,7 @@ use Rattle.pb_outcome.specs.declared.item.Item.{Item}
 use Rattle.pb_outcome.specs.declared.item.Planned.{Planned}
 use Rattle.pb_outcome.specs.declared.item.Planned.TheVariants.{Decided, Sends}
 
+-- an item that is sent as a job has no result yet
 abbrev pub is_waiting : Planned → Bool
 is_waiting (Decided result) = false
 is_waiting (Sends call) = true
@@ -75,6 +76,7 @@ abbrev pub under_variable : List ℕ → Option Datum → Datum → Datum
 under_variable variable (Some value) (dict ms) = dict (members_of (put variable value (entries_of ms)))
 under_variable variable value result = result
 
+-- the results that are there as a loop's result lists them, in order, with the name of the loop variable
 abbrev pub member_then : List ℕ → Item → Planned → List Datum → List Datum
 member_then variable item (Decided result) rest = under_variable variable item.value result.result ∷ rest
 member_then variable item (Sends call) rest = rest
@@ -83,6 +85,7 @@ abbrev pub members_in : List ℕ → List Item → List Datum
 members_in variable [] = []
 members_in variable (item ∷ items) = member_then variable item item.step (members_in variable items)
 
+-- each item is skipped; so it is where there is none
 abbrev pub all_skipped : List ItemResult → Bool
 all_skipped results = list_all (λ (result : ItemResult). is_skipped result.ending) results
 
@@ -92,14 +95,17 @@ some_failed results = list_any (λ (result : ItemResult). is_failed result.endin
 abbrev pub some_changed : List ItemResult → Bool
 some_changed results = list_any (λ (result : ItemResult). is_changed result.ending) results
 
+-- what the result of a loop says: that all items are skipped, else that some failed, else that all are done
 abbrev pub loop_message : List ItemResult → List ℕ
 loop_message results =
     if all_skipped results then codes "All items skipped"
     else (if some_failed results then codes "One or more items failed" else codes "All items completed")
 
+-- a loop's result has the key `skipped` only where all items are
 abbrev pub skipped_key : List ItemResult → List (List ℕ × Datum)
 skipped_key results = if all_skipped results then (codes "skipped", boolean true) ∷ [] else []
 
+-- the result of a loop, from the results of its items and from these as it lists them
 abbrev pub loop_result : List ItemResult → List Datum → Datum
 loop_result results shown =
     dict
@@ -112,6 +118,7 @@ abbrev pub result_from : List ℕ → Item → List Item → Datum
 result_from variable item items =
     if is_some item.value then loop_result (ended (item ∷ items)) (members_in variable (item ∷ items)) else shown_then item.step
 
+-- the result of a task none of whose items found its host out of reach, with the name of its loop variable
 abbrev pub plain_result : List ℕ → List Item → Datum
 plain_result variable [] = no_items_result
 plain_result variable (item ∷ items) = result_from variable item items
@@ -122,6 +129,7 @@ only_then None (Decided result) = Some result.result
 only_then None (Sends call) = None
 only_then (Some value) step = None
 
+-- the same of all items: none where they are none or several
 abbrev pub only_result : List Item → Option Datum
 only_result [] = None
 only_result (item ∷ []) = only_then item.value item.step

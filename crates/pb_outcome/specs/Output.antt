@@ -17,6 +17,7 @@ abbrev pub stripped : List ℕ → List ℕ
 stripped [] = []
 stripped (b ∷ bs) = kept b (stripped bs)
 
+-- LF alone
 abbrev pub is_newline : ℕ → Bool
 is_newline b = b == 10
 

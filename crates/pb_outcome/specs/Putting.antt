@@ -5,6 +5,7 @@ use Rattle.pb_outcome.specs.Items.{loop_message}
 use Rattle.pb_outcome.specs.Results.{rc_message, shown_lines}
 use Rattle.pb_outcome.specs.declared.gather.ItemResult.{ItemResult}
 
+-- the names of a result's members with their values
 abbrev pub Members : Type 0
 Members = List (List ℕ × Datum)
 

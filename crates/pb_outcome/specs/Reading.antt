@@ -57,6 +57,7 @@ unfoldable pub told_by_unknown : Telling FirstUnknown OutcomeFault
 told_by_unknown NoKey path k d = Ok (At path)
 told_by_unknown (At before) path k d = Ok (At before)
 
+-- no unknown key was met; else the fault is at the first one
 abbrev pub no_unknown : FirstUnknown → Reading Unit OutcomeFault
 no_unknown NoKey = Ok tt
 no_unknown (At path) = wrong path
@@ -73,10 +74,12 @@ and_form None before = before
 and_form (Some form) Nothing = One form
 and_form (Some form) before = Mixed
 
+-- the one form that was met; where none was, or too much, the object at this path has a wrong shape
 abbrev pub the_form : List ℕ → Met → Reading Form OutcomeFault
 the_form path (One form) = Ok form
 the_form path before = wrong path
 
+-- what is met in all known keys: the first three, `out`, `rc` and `unreachable`
 abbrev pub met_with : FirstKeys → Option (List ℕ) → Option ℤ → Option Form → Met
 met_with first out rc lost = and_form lost (and_form first.not_started (and_form first.facts (ran first.err out rc)))
 
@@ -84,6 +87,7 @@ met_with first out rc lost = and_form lost (and_form first.not_started (and_form
 unfoldable pub whole : List ℕ → FirstKeys → Option (List ℕ) → Option ℤ → Option Form → FirstUnknown → Reading Form OutcomeFault
 whole path first out rc lost unknown = and_then (no_unknown unknown) (λ _. the_form path (met_with first out rc lost))
 
+-- a known key, if it stands there; the first unknown one before it is kept
 abbrev pub key : {A : Type 0} → List ℕ → (List ℕ → json.Data → Reading A OutcomeFault) → Part FirstUnknown OutcomeFault (Option A)
 key = field told_by_unknown
 

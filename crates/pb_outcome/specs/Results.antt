@@ -19,9 +19,11 @@ is_nonzero (negsuc n) = true
 abbrev pub rc_message : ℤ → List ℕ
 rc_message rc = if is_nonzero rc then codes "non-zero return code" else []
 
+-- the lines of a text as a value
 abbrev pub shown_lines : List ℕ → Datum
 shown_lines s = list (items_of (line_values s))
 
+-- the members of a program's result: whether it changed something, its exit status, its output and its errors are given
 abbrev pub ran_members : Bool → ℤ → List ℕ → List ℕ → List (List ℕ × Datum)
 ran_members changed rc out err =
     (codes "changed", boolean changed) ∷
@@ -33,6 +35,7 @@ ran_members changed rc out err =
     (codes "stdout", text (stripped out)) ∷
     (codes "stdout_lines", shown_lines (stripped out)) ∷ []
 
+-- the result of a program that ran to its end, from the same four
 abbrev pub ran_result : Bool → ℤ → List ℕ → List ℕ → ItemResult
 ran_result changed rc out err =
     record { ending = Done changed (is_nonzero rc); result = dict (members_of (ran_members changed rc out err)) }
@@ -45,9 +48,11 @@ unanswered msg =
       result = dict (members_of ((codes "changed", boolean false) ∷ (codes "failed", boolean true) ∷ (codes "msg", text msg) ∷ []));
     }
 
+-- the outcome is none that the module can have, which counts as no answer
 abbrev pub does_not_fit : ItemResult
 does_not_fit = unanswered (codes "outcome does not fit the module")
 
+-- the target is out of reach; this is what the connector says of it
 abbrev pub lost : List ℕ → ItemResult
 lost msg =
     record {
@@ -55,6 +60,7 @@ lost msg =
       result = dict (members_of ((codes "changed", boolean false) ∷ (codes "failed", boolean false) ∷ (codes "msg", text msg) ∷ (codes "unreachable", boolean true) ∷ []));
     }
 
+-- an item that gives facts, and changed nothing
 abbrev pub facts_result : Datum → ItemResult
 facts_result v =
     record {

@@ -14,6 +14,7 @@ is_in set i = slice_index_or set i false
 abbrev pub IsNextFrom : List Bool → ℕ → ℕ → Type 0
 IsNextFrom set from at = (from ≤ at) × (is_in set at ≡ true) × ((i : ℕ) → from ≤ i → i < at → is_in set i ≡ false)
 
+-- no number in the set is at least `from`
 abbrev pub HasNoneFrom : List Bool → ℕ → Type 0
 HasNoneFrom set from = (i : ℕ) → from ≤ i → is_in set i ≡ false
 

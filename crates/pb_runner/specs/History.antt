@@ -8,10 +8,12 @@ abbrev pub with_more : {A : Type 0} → Option (List A) → List A → Option (L
 with_more None more = None
 with_more (Some known) more = Some (known ++ more)
 
+-- nothing more leaves what is known as it is
 pub none_more : {A : Type 0} (known : Option (List A)) → known ≡ with_more known []
 none_more None = refl
 none_more (Some known) = ap Some (sym (append-nil known))
 
+-- more, and then more behind it, is both at once
 pub more_more : {A : Type 0} (known : Option (List A)) (first more : List A) → with_more (with_more known first) more ≡ with_more known (first ++ more)
 more_more None first more = refl
 more_more (Some known) first more = ap Some (append_assoc known first more)

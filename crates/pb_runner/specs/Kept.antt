@@ -9,6 +9,7 @@ pub record Kept : Type 0 where
   pub over : Bool
   pub lost : Bool
 
+-- the bytes are kept behind those kept before, or memory was wanting, now or before
 abbrev pub KeepsBehind : Kept → List ℕ → Kept → Type 0
 KeepsBehind old more new = (new.lost ≡ true) ⊎ ((new.lost ≡ false) × (old.lost ≡ false) × (new.bytes ≡ old.bytes ++ more))
 

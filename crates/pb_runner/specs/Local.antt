@@ -46,6 +46,7 @@ abbrev pub in_front : List (List ℕ) → List ℕ → List (List ℕ)
 in_front [] target = []
 in_front (word ∷ words) target = (word ∷ words) ++ target ∷ []
 
+-- all words of a job: behind a connector, the connector's and the target's name; then those of its call, where this is the facts program
 abbrev pub words_of : Option (List ℕ) → Job → List (List ℕ)
 words_of facts job = in_front job.connector job.target ++ own_words facts job.call
 
@@ -59,6 +60,7 @@ abbrev pub facts_form : Result Datum ValFault → Form
 facts_form (Ok value) = Module value
 facts_form (Err e) = NotStarted FactsNotObject
 
+-- the same of what it wrote, as JSON: what is no object, or no JSON at all, is no facts
 abbrev pub facts_in : Option json.Data → Form
 facts_in (Some (json.object ms)) = facts_form (value_of (json.object ms))
 facts_in (Some (json.array ds)) = NotStarted FactsNotObject
@@ -79,10 +81,12 @@ own_answer (calls.Command words) rc out err = Ran rc out err
 own_answer (calls.Shell text) rc out err = Ran rc out err
 own_answer calls.Setup rc out err = if is_nonzero rc then Ran rc out err else facts_in (json_in out)
 
+-- the same behind a connector's words, where status 255 says that the target is out of reach; without words there is no connector
 abbrev pub answer_behind : List (List ℕ) → Call → ℤ → List ℕ → List ℕ → Form
 answer_behind [] call rc out err = own_answer call rc out err
 answer_behind (word ∷ words) call rc out err = if is_lost rc then Unreachable (stripped err) else own_answer call rc out err
 
+-- what came of a job whose program ended with this status, and wrote this output and these errors
 abbrev pub answer : Job → ℤ → List ℕ → List ℕ → Form
 answer job rc out err = answer_behind job.connector job.call rc out err
 

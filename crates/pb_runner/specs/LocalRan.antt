@@ -27,6 +27,7 @@ LocalRan facts before jobs facts_after after = (facts_after ≡ facts) × HasSta
 pub local_none : (facts : Option (List ℕ)) (known : Option (List Launch)) → LocalRan facts known [] facts known
 local_none facts known = (refl, record { launches = []; launched = none_more known; each = refl })
 
+-- what was started for some jobs, and behind it what was started for more, was started for all of them
 both_launched : (facts : Option (List ℕ)) (first more : List (Job × Form)) (launches behind : List Launch) → AreLaunched facts first launches → AreLaunched facts more behind
     → AreLaunched facts (first ++ more) (launches ++ behind)
 both_launched facts [] more launches behind a b = subst (λ l. AreLaunched facts more (l ++ behind)) (sym a) b

@@ -9,6 +9,7 @@ use Rattle.pb_forks.specs.declared.views.ForkView.{ForkView}
 abbrev pub job_run : Job × Form → Job
 job_run run = run.0
 
+-- the report of such a job
 abbrev pub report_of : Job × Form → Report
 report_of run = record { ticket = run.0.ticket; host = run.0.host; item = run.0.item; attempt = run.0.attempt; outcome = run.1 }
 

@@ -16,14 +16,17 @@ abbrev pub part_in : Piece → Option Part
 part_in (piece.Plain s) = Some (part.Plain s)
 part_in (piece.Code s) = option_map (λ t. part.Code t) (tree_of s)
 
+-- a part before others, where it and they are there
 abbrev pub some_with : Option Part → Option (List Part) → Option (List Part)
 some_with None ps = None
 some_with (Some p) ps = option_map (λ qs. p ∷ qs) ps
 
+-- the parts that pieces are, if each is one
 abbrev pub parts_in : List Piece → Option (List Part)
 parts_in [] = Some []
 parts_in (p ∷ ps) = some_with (part_in p) (parts_in ps)
 
+-- parts, where there is no fault
 abbrev pub unless_bad : Option ExprFault → Option (List Part) → Option (List Part)
 unless_bad None parts = parts
 unless_bad (Some e) parts = None
@@ -37,14 +40,17 @@ abbrev pub fault_without : Option Tree → Option ExprFault → Option ExprFault
 fault_without None e = e
 fault_without (Some t) e = None
 
+-- the fault of a piece that is no part; a plain piece has none
 abbrev pub fault_in : Piece → Option ExprFault
 fault_in (piece.Plain s) = None
 fault_in (piece.Code s) = fault_without (tree_of s) (first_fault_of s)
 
+-- the earlier of two faults, or the one that is there
 abbrev pub first_of : Option ExprFault → Option ExprFault → Option ExprFault
 first_of None later = later
 first_of (Some e) later = Some e
 
+-- the fault of the first piece that is no part
 abbrev pub first_among : List Piece → Option ExprFault
 first_among [] = None
 first_among (p ∷ ps) = first_of (fault_in p) (first_among ps)

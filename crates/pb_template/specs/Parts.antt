@@ -15,6 +15,7 @@ IsPart (piece.Plain s) (part.Plain t) = s ≡ t
 IsPart (piece.Code s) (part.Code t) = spells s t
 IsPart _ _ = ⊥
 
+-- each piece is the part at its place, and there are as many parts as pieces
 abbrev pub AreParts : List Piece → List Part → Type 0
 AreParts [] [] = Unit {0}
 AreParts (x ∷ xs) (y ∷ ys) = IsPart x y × AreParts xs ys

@@ -29,6 +29,7 @@ begins_open bs = begins_two 123 123 bs
 abbrev pub begins_refused : List ℕ → Bool
 begins_refused bs = begins_three 123 123 45 bs || begins_two 123 37 bs || begins_two 123 35 bs || begins_three 45 125 125 bs
 
+-- what ends a plain piece: the beginning of an expression, or what is refused
 abbrev pub begins_special : List ℕ → Bool
 begins_special bs = begins_open bs || begins_refused bs
 
@@ -53,13 +54,16 @@ abbrev pub code_size : State → List ℕ → Option ℕ
 code_size s [] = None
 code_size s (b ∷ bs) = if closes s (b ∷ bs) then Some 0 else option_map (λ n. n + 1) (code_size (moved s b) bs)
 
+-- the plain piece at the front, up to where an expression begins or something is refused, or to the end
 abbrev pub plain_front : List ℕ → Front
 plain_front bs = record { piece = Plain (take (plain_size bs) bs); size = plain_size bs }
 
+-- an expression of n bytes between its braces, which are 4 bytes more; where it has no end, the text ends too early
 abbrev pub code_with : List ℕ → Option ℕ → Result Front ExprFault
 code_with code None = Err End
 code_with code (Some n) = Ok (record { piece = Code (take n code); size = n + 4 })
 
+-- the expression at the front, whose braces come first
 abbrev pub code_front : List ℕ → Result Front ExprFault
 code_front bs = code_with (drop 2 bs) (code_size Outside (drop 2 bs))
 
@@ -75,6 +79,7 @@ Pieces = List Piece × Option ExprFault
 abbrev pub before : Piece → Pieces → Pieces
 before p rest = (p ∷ rest.0, rest.1)
 
+-- the piece at the front and those behind its size; where there is a fault, no piece and the fault
 abbrev pub pieces_by : Result Front ExprFault → (ℕ → Pieces) → Pieces
 pieces_by (Err e) behind = ([], Some e)
 pieces_by (Ok f) behind = before f.piece (behind f.size)
@@ -85,5 +90,6 @@ pieces_from taken at [] = ([], None)
 pieces_from (suc taken) at (b ∷ bs) = pieces_from taken (at + 1) bs
 pieces_from zero at (b ∷ bs) = pieces_by (front_at at (b ∷ bs)) (λ size. pieces_from (size - 1) (at + 1) bs)
 
+-- the pieces of a text
 abbrev pub pieces_of : List ℕ → Pieces
 pieces_of text = pieces_from 0 0 text

@@ -13,6 +13,7 @@ use Rattle.pb_value.specs.declared.val.Dict.TheShapes.{weighed-Store-Few-0}
 use Rattle.pb_value.specs.declared.val.Store.{Store}
 use Rattle.pb_value.specs.declared.val.Store.TheVariants.{Few, Many, Named}
 
+-- no value in a store is larger than the entries together, where each value that it has stands among these
 pub store_falls : (s : Store) → values_in s ≡ length (held s) → deep-Store s ≤ members_nodes (members_of (named (held s))) + 1
 store_falls (Few row) e =
     let row_falls : weighed-Store-Few-0.weight Datum (λ d. nodes d + 1) row ≤ members_nodes (members_of (named row.items)) + 1 = most-pairs row.items in

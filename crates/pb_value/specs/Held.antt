@@ -8,6 +8,7 @@ use Rattle.pb_value.specs.declared.val.Store.TheVariants.{Few, Many, Named}
 use Rattle.pb_value.specs.declared.text.Bytes.{Bytes}
 use Rattle.pb_value.specs.declared.text.Bytes.TheVariants.{Short, Long}
 
+-- the entries of a store; where names are kept for many, those with a value in this one
 abbrev pub held : Store → List (String Global × Datum)
 held (Few row) = row.items
 held (Many map) = map.entries

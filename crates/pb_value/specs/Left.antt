@@ -6,6 +6,7 @@ use Rattle.pb_value.specs.declared.entries.Left.{Left}
 use Rattle.pb_value.specs.declared.entries.Left.TheVariants.{Few, Many, Named}
 use Rattle.pb_value.specs.declared.entries.Shared.{Shared}
 
+-- of names that are kept for many, those that are left and have a value, with it
 abbrev pub shared_left : {K X : Type 0} → Shared K X → List (K × X)
 shared_left s = kept s.gone (iter_rest s.names) (iter_rest s.values)
 

@@ -2,10 +2,12 @@
 use Rattle.std.specs.Prelude.{◌^◌, ℤ, pos, negsuc, Bool, true, ◌&&◌, nat_lt}
 use Rattle.pb_value.specs.Datum.{Datum, null, boolean, int, text, list, dict, Items, no_items, item, Members, no_members, member}
 
+-- a number from -2 ^ 63 to 2 ^ 63 - 1
 abbrev pub fits_word : ℤ → Bool
 fits_word (pos n) = nat_lt n (2 ^ 63)
 fits_word (negsuc n) = nat_lt n (2 ^ 63)
 
+-- each whole number in a value fits, at any depth; so it is where there is none
 abbrev mutual
   pub are_words : Datum → Bool
   are_words null = true

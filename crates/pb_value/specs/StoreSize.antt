@@ -13,6 +13,7 @@ use Rattle.pb_value.specs.declared.val.Dict.TheShapes.{weighed-Store-Few-0}
 use Rattle.pb_value.specs.declared.val.Store.{Store}
 use Rattle.pb_value.specs.declared.val.Store.TheVariants.{Few, Many, Named}
 
+-- a store is at most 3 larger than twice its entries together, where each value that it has stands among these
 pub store_size : (s : Store) → values_in s ≡ length (held s) → size-Store s ≤ 2 * members_nodes (members_of (named (held s))) + 3
 store_size (Few row) e =
     let row_falls : weighed-Store-Few-0.weight Datum (λ d. nodes d + 1) row ≤ members_nodes (members_of (named row.items)) + 1 = most-pairs row.items in

@@ -24,6 +24,7 @@ is_on s = str_eq_ignore_ascii_case s (codes "yes") || str_eq_ignore_ascii_case s
 abbrev pub is_off : List ℕ → Bool
 is_off s = str_eq_ignore_ascii_case s (codes "no") || str_eq_ignore_ascii_case s (codes "false") || str_eq_ignore_ascii_case s (codes "off")
 
+-- the Boolean that such a word stands for; no other text stands for one
 abbrev pub switch_word : List ℕ → Option Bool
 switch_word s = if is_on s then Some true else if is_off s then Some false else None
 
