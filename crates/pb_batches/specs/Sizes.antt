@@ -3,13 +3,14 @@ use Rattle.std.specs.Prelude.{ℕ, zero, suc, pos, negsuc, ◌-◌, ◌*◌, ◌
 use Rattle.pb_batches.specs.declared.serial.Entry.{Entry}
 use Rattle.pb_batches.specs.declared.serial.Entry.TheVariants.{Number, Percent}
 
--- how many of a play's n hosts an entry asks for: all that are left where it is 0 or less
+-- how many of a play's n hosts an entry asks for: a number of 0 or less for all that are left, a percentage for one at least
 abbrev pub asked : ℕ → ℕ → Entry → ℕ
 asked n left (Number (pos zero)) = left
 asked n left (Number (pos (suc k))) = suc k
 asked n left (Number (negsuc k)) = left
 asked n left (Percent q) = max 1 (n * q / 100)
 
+-- how many hosts the next batch of a play of n hosts has: all that are left where there is no entry, and never more than these
 abbrev pub first_size : ℕ → ℕ → List Entry → ℕ
 first_size n left [] = left
 first_size n left (entry ∷ entries) = min left (asked n left entry)

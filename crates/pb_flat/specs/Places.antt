@@ -13,6 +13,7 @@ step_places (OneRun run) behind = run.place ∷ behind
 step_places (Enter before n) behind = behind
 step_places (Leave after) behind = behind
 
+-- the places of the runs among these steps, in their order
 abbrev pub run_places : List Step → List ℕ
 run_places [] = []
 run_places (step ∷ steps) = step_places step (run_places steps)
@@ -21,6 +22,7 @@ run_places (step ∷ steps) = step_places step (run_places steps)
 abbrev pub last_places : TreeOf → List ℕ
 last_places tree = range_with_len (size_of tree - tree.handlers) tree.handlers
 
+-- none where no handler is forced, or where the last node is no Flush
 abbrev pub copies : TreeOf → List ℕ
 copies tree = if tree.force_handlers && ends_in_flush tree.nodes then last_places tree ++ last_places tree else []
 

@@ -10,5 +10,6 @@ pub record GroupsOf : Type 0 where
   pub own : List OwnHost
   pub links : List ChildLink
 
+-- how many groups there may be
 abbrev pub max_groups : ℕ
 max_groups = 4096

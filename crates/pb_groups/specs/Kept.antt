@@ -8,6 +8,7 @@ use Rattle.pb_groups.specs.Depths.{AreDepths}
 use Rattle.pb_groups.specs.Members.{AreOwnBelow}
 use Rattle.pb_groups.specs.Planes.{AreFilled}
 
+-- 1 to 4096 groups, each with its depth and the set of its members; own hosts and links name only groups and hosts that are there
 abbrev pub IsKept : ℕ → List OwnHost → List ChildLink → List ℕ → List (List Bool) → Type 0
 IsKept hosts own links depths members =
     (0 < length depths)

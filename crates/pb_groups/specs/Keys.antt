@@ -7,6 +7,7 @@ use Rattle.pb_groups.specs.declared.merging.MergeKey.{MergeKey}
 use Rattle.pb_groups.specs.Members.{plane_at}
 use Rattle.pb_groups.specs.Merging.{key_cmp}
 
+-- what a group is ordered by, where these are the depths and priorities of the groups by number; where it has no priority, by 0
 abbrev pub key_at : List ℕ → List ℤ → ℕ → MergeKey
 key_at depths priorities group = record { depth = slice_index depths group; priority = slice_index_or priorities group (pos 0); group = group }
 

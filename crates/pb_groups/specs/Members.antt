@@ -5,15 +5,19 @@ use Rattle.pb_groups.specs.declared.links.OwnHost.{OwnHost}
 use Rattle.pb_groups.specs.Ways.{Way}
 use Rattle.pb_planes.specs.Set.{is_in}
 
+-- a group, and a host that is one of its own, by their numbers
 abbrev pub own_of : ℕ → ℕ → OwnHost
 own_of group host = record { group = record { 0 = group }; host = record { 0 = host } }
 
+-- the group of the own host at position k, from 0 on; group 0 past the end
 abbrev pub group_at : List OwnHost → ℕ → ℕ
 group_at own k = (slice_index_or own k (own_of 0 0)).group.0
 
+-- the host at position k among the own hosts of all groups, from 0 on; host 0 past the end
 abbrev pub host_at : List OwnHost → ℕ → ℕ
 host_at own k = (slice_index_or own k (own_of 0 0)).host.0
 
+-- the host is one of the group's own
 abbrev pub IsOwn : List OwnHost → ℕ → ℕ → Type 0
 IsOwn own group host = (k : ℕ) × (k < length own) × (group_at own k ≡ group) × (host_at own k ≡ host)
 
@@ -21,9 +25,11 @@ IsOwn own group host = (k : ℕ) × (k < length own) × (group_at own k ≡ grou
 abbrev pub IsMember : List ChildLink → List OwnHost → ℕ → ℕ → Type 0
 IsMember links own group host = (steps : ℕ) × (last : ℕ) × Way links steps group last × IsOwn own last host
 
+-- the groups of all own hosts are among so many groups, and the hosts among so many hosts
 abbrev pub AreOwnBelow : List OwnHost → ℕ → ℕ → Type 0
 AreOwnBelow own groups hosts = (k : ℕ) → k < length own → (group_at own k < groups) × (host_at own k < hosts)
 
+-- the set of a group; an empty one past the end
 abbrev pub plane_at : List (List Bool) → ℕ → List Bool
 plane_at planes group = slice_index_or planes group []
 

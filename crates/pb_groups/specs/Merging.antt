@@ -35,9 +35,11 @@ has_member groups group host = belongs groups.links groups.own groups.groups gro
 abbrev pub key_of : GroupsOf → List ℤ → ℕ → MergeKey
 key_of groups priorities group = record { depth = depth_of groups group; priority = slice_index_or priorities group (pos 0); group = group }
 
+-- by depth, then by priority, and then by number
 abbrev pub key_cmp : MergeKey → MergeKey → Ordering
 key_cmp a b = ordering_then (nat_cmp a.depth b.depth) (ordering_then (int_cmp a.priority b.priority) (nat_cmp a.group b.group))
 
+-- how two groups are ordered
 abbrev pub merge_cmp : GroupsOf → List ℤ → GroupNo → GroupNo → Ordering
 merge_cmp groups priorities a b = key_cmp (key_of groups priorities a.0) (key_of groups priorities b.0)
 
@@ -65,6 +67,7 @@ merge_order groups priorities host = with_host groups host (in_order groups prio
 abbrev pub IsInOrder : GroupsOf → List ℤ → List GroupNo → Type 0
 IsInOrder groups priorities order = IsStrictlySortedBy (merge_cmp groups priorities) order
 
+-- whether the group with this number is in the list
 abbrev pub is_among : List GroupNo → ℕ → Bool
 is_among order group = list_any (λ g. g.0 == group) order
 

@@ -21,6 +21,7 @@ AreFilledFrom links own depths hosts depth planes =
     × HaveOwn own (length own) planes
     × ((k : ℕ) → k < length links → depth ≤ slice_index depths (parent_at links k) → Holds planes (parent_at links k) (child_at links k))
 
+-- the set of each group holds members of it alone, all its own hosts, and the sets of its children
 abbrev pub AreFilled : List ChildLink → List OwnHost → ℕ → ℕ → List (List Bool) → Type 0
 AreFilled links own groups hosts planes =
     ArePlanes groups hosts planes

@@ -23,6 +23,7 @@ handlers_in handlers (Block body rescue always rest) =
     handlers_in handlers body ++ handlers_in handlers rescue ++ handlers_in handlers always ++ handlers_in handlers rest
 handlers_in handlers (Flush rest) = handlers_from 0 handlers ++ handlers_in handlers rest
 
+-- the handler at a place; none where a task stands there, and past the end
 abbrev pub handler_at : TreeOf → ℕ → Option ℕ
 handler_at tree place = slice_index_or (handlers_in tree.handlers tree.nodes) place None
 
@@ -44,6 +45,7 @@ happened_at handler_of (Done ending) a = []
 abbrev pub happened_by : TreeOf → List AnswerOf → AnswerOf → List Noted
 happened_by tree before a = if counts before a then happened_at (handler_at tree) (reach tree before) a else []
 
+-- what answers tell that follow others; the earlier ones come first
 abbrev pub happened_behind : TreeOf → List AnswerOf → List AnswerOf → List Noted
 happened_behind tree before [] = []
 happened_behind tree before (a ∷ answers) = happened_by tree before a ++ happened_behind tree (before ++ a ∷ []) answers

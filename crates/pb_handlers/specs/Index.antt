@@ -22,6 +22,7 @@ under word [] numbers = []
 under word (known ∷ words) [] = []
 under word (known ∷ words) (mine ∷ numbers) = if bytes_eq word known then mine else under word words numbers
 
+-- the numbers beside a word of an index; none where the word isn't in it
 abbrev pub numbers_under : List ℕ → WordsOf → List ℕ
 numbers_under word index = under word index.words index.numbers
 

@@ -15,6 +15,7 @@ pub record EndsWith (handler : ℕ) (tree : TreeOf) (place : ℕ) : Type 0 where
   pub above : List ℕ
   pub path : path_at tree place ≡ Some (above ++ handler ∷ [])
 
+-- so it is for each place of each tree where a handler stands
 abbrev pub HandlersEndPlaces : Type 0
 HandlersEndPlaces = (tree : TreeOf) (place handler : ℕ) → handler_at tree place ≡ Some handler → EndsWith handler tree place
 

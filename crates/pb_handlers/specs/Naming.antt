@@ -9,6 +9,7 @@ use Rattle.pb_handlers.specs.declared.naming.HandlerNames.{HandlerNames}
 abbrev pub is_named : List ℕ → HandlerNames → Bool
 is_named name handler = bytes_eq name handler.name
 
+-- of each handler whether it counts: no later one has its name
 abbrev pub counting : List HandlerNames → List Bool
 counting [] = []
 counting (handler ∷ later) = not (list_any (is_named handler.name) later) ∷ counting later
@@ -19,6 +20,7 @@ kept [] xs = []
 kept (mark ∷ marks) [] = []
 kept (mark ∷ marks) (x ∷ xs) = if mark then x ∷ kept marks xs else kept marks xs
 
+-- the handlers that count, in their order
 abbrev pub last_named : List HandlerNames → List HandlerNames
 last_named [] = []
 last_named (handler ∷ later) = if list_any (is_named handler.name) later then last_named later else handler ∷ last_named later
@@ -27,6 +29,7 @@ last_named (handler ∷ later) = if list_any (is_named handler.name) later then 
 abbrev pub answers_to : List ℕ → HandlerNames → Bool
 answers_to word handler = is_named word handler || list_any (bytes_eq word) handler.listens
 
+-- whether one of these words stands for the handler
 abbrev pub is_notified : List (List ℕ) → HandlerNames → Bool
 is_notified words handler = list_any (λ word. answers_to word handler) words
 

@@ -6,6 +6,7 @@ use Rattle.pb_handlers.specs.Pending.{Noted, marks_after}
 abbrev pub notes_after : ℕ → List (List Noted) → List (List Bool)
 notes_after handlers histories = map (marks_after handlers) histories
 
+-- what happened on a host; nothing where there is no such host
 abbrev pub history_at : List (List Noted) → ℕ → List Noted
 history_at histories host = slice_index_or histories host []
 

@@ -10,13 +10,16 @@ pub data Noted : Type 0 where
   -- a handler finished, or the host got the answer of another one for it
   Ran : ℕ → Noted
 
+-- whether a handler is one of these
 abbrev pub is_among : ℕ → List ℕ → Bool
 is_among handler handlers = list_any (nat_eq handler) handlers
 
+-- whether what happened is that the handler was notified
 abbrev pub notifies : ℕ → Noted → Bool
 notifies handler (Notified handlers) = is_among handler handlers
 notifies handler (Ran ran) = false
 
+-- whether what happened is that the handler ran
 abbrev pub runs : ℕ → Noted → Bool
 runs handler (Notified handlers) = false
 runs handler (Ran ran) = nat_eq handler ran

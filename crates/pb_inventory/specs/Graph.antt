@@ -9,6 +9,7 @@ use Rattle.pb_groups.specs.Members.{own_of as own}
 use Rattle.pb_inventory.specs.Names.{once, in_byte_order}
 use Rattle.pb_inventory.specs.declared.listed.Listed.{Listed}
 
+-- how many groups an inventory may have, `all` and `ungrouped` among them
 abbrev pub max_groups : ℕ
 max_groups = 4096
 
@@ -35,6 +36,7 @@ host_names listed = once (mentioned_hosts listed)
 abbrev pub group_names : List Listed → List (List ℕ)
 group_names listed = in_byte_order (all ∷ ungrouped ∷ mentioned_groups listed)
 
+-- a number in front of others, if there is one
 abbrev pub number_first : Option ℕ → List ℕ → List ℕ
 number_first (Some n) ns = n ∷ ns
 number_first None ns = ns
@@ -57,6 +59,7 @@ own_under (Some group) hosts = map (own group) hosts
 abbrev pub has_own_list : List ℕ → Bool
 has_own_list name = not (bytes_eq name all) && not (bytes_eq name ungrouped)
 
+-- the hosts that are listed under a group and count: none under `all` and `ungrouped`
 abbrev pub listed_hosts : Listed → List (List ℕ)
 listed_hosts listed = if has_own_list listed.name then listed.hosts else []
 
@@ -69,6 +72,7 @@ own_listed groups hosts (listed ∷ rest) = own_under (group_number groups liste
 abbrev pub missing : List ℕ → ℕ → List ℕ
 missing numbers limit = filter (λ n. not (list_any (λ m. m == n) numbers)) (range_with_len 0 limit)
 
+-- whether a number has no mark; one past the end has none
 abbrev pub is_unmarked : List Bool → ℕ → Bool
 is_unmarked marks n = not (slice_index_or marks n false)
 
@@ -77,6 +81,7 @@ abbrev pub own_with : List (List ℕ) → ℕ → List OwnHost → List OwnHost
 own_with groups hosts others =
     others ++ own_under (group_number groups all) (range_with_len 0 hosts) ++ own_under (group_number groups ungrouped) (missing (map (λ o. o.host.0) others) hosts)
 
+-- the own hosts of all groups, by the names of the groups, the names of the hosts, and what the file lists
 abbrev pub own_of : List (List ℕ) → List (List ℕ) → List Listed → List OwnHost
 own_of groups hosts listed = own_with groups (length hosts) (own_listed groups hosts listed)
 
@@ -93,6 +98,7 @@ links_listed groups (listed ∷ rest) = links_under (group_number groups listed.
 abbrev pub links_with : List (List ℕ) → List ChildLink → List ChildLink
 links_with groups listed = listed ++ links_under (group_number groups all) (missing (number_first (group_number groups all) (map (λ l. l.child.0) listed)) (length groups))
 
+-- which groups are children of which, by the names of the groups and what the file lists
 abbrev pub links_of : List (List ℕ) → List Listed → List ChildLink
 links_of groups listed = links_with groups (links_listed groups listed)
 

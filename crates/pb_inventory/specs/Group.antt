@@ -22,6 +22,7 @@ name path d = wrong path
 abbrev pub child : List ℕ → json.Data → Reading (List ℕ) InvFault
 child path d = and_then (name path d) (λ n. if bytes_eq n ungrouped then wrong path else Ok n)
 
+-- a child of `ungrouped`, which has none: whatever stands there is refused
 abbrev pub no_child : List ℕ → json.Data → Reading (List ℕ) InvFault
 no_child path d = wrong path
 
@@ -41,11 +42,13 @@ fields child_name path = object (record {}) (do
 abbrev pub hosts_alone : List (List ℕ) → GroupEntry
 hosts_alone names = record { children = []; hosts = names; vars = no_vars }
 
+-- what stands under the name of a group whose children are read so; anything but a list and an object is refused
 abbrev pub entry : (List ℕ → json.Data → Reading (List ℕ) InvFault) → List ℕ → json.Data → Reading GroupEntry InvFault
 entry child_name path (json.array ds) = map_ok hosts_alone (each name path 0 ds)
 entry child_name path (json.object ms) = fields child_name path (json.object ms)
 entry child_name path d = wrong path
 
+-- what stands under the name of this group, at this path: only `all` may have `ungrouped` as a child, and `ungrouped` has none
 abbrev pub entry_of : List ℕ → List ℕ → json.Data → Reading GroupEntry InvFault
 entry_of group path d =
     if bytes_eq group all then entry name path d

@@ -21,6 +21,7 @@ with_host known path k d =
     if bytes_eq k [] then wrong path
     else map_ok (λ vars. with_entry k vars known) (each_named_of variable_value path d)
 
+-- what stands under `hostvars`: an object, with the variables of a host under each name
 abbrev pub host_entries : List ℕ → json.Data → Reading MetaVars InvFault
 host_entries = object [] (others with_host)
 

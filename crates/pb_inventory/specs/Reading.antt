@@ -27,10 +27,12 @@ use Rattle.pb_inventory.specs.declared.fault.InvFault.TheVariants.{NotJson, Wron
 abbrev pub no_groups : FileGroups
 no_groups = record { listed = []; vars = [] }
 
+-- the groups with one more behind them, and its variables under its name
 abbrev pub with_group : List ℕ → GroupEntry → FileGroups → FileGroups
 with_group name entry known =
     record { listed = known.listed ++ record { name = name; hosts = entry.hosts; children = entry.children } ∷ []; vars = with_entry name entry.vars known.vars }
 
+-- the groups with the one that stands under this key of the file, at this path
 abbrev pub with_entry_of : FileGroups → List ℕ → List ℕ → json.Data → Reading FileGroups InvFault
 with_entry_of known path k d = if bytes_eq k [] then wrong path else map_ok (λ entry. with_group k entry known) (entry_of k path d)
 
@@ -47,9 +49,11 @@ of_reading (Ok file) = Ok file
 of_reading (Err (reading.WrongShape path)) = Err (WrongShape path)
 of_reading (Err (reading.Own e)) = Err e
 
+-- what the file's JSON says, or the first fault in it
 abbrev pub file_in : json.Data → Result FileEntries InvFault
 file_in d = of_reading (file [] d)
 
+-- how many hosts an inventory may have
 abbrev pub max_hosts : ℕ
 max_hosts = 1048576
 
@@ -63,6 +67,7 @@ graph_from groups hosts listed =
     else Err TooManyHosts)
     else Err TooManyGroups
 
+-- the hosts and groups that a file lists, or the fault that there are too many of them, or a cycle
 abbrev pub graph_in : List Listed → Result GraphOf InvFault
 graph_in listed = graph_from (group_names listed) (host_names listed) listed
 
@@ -70,9 +75,11 @@ abbrev pub with_vars : GraphOf → List (List ℕ × GroupVars) → List (List �
 with_vars graph group_vars host_vars =
     record { hosts = graph.hosts; groups = graph.groups; own = graph.own; links = graph.links; group_vars = group_vars; host_vars = host_vars }
 
+-- the inventory that a file's entries are, or that fault
 abbrev pub limited : FileEntries → Result InventoryOf InvFault
 limited file = map_ok (λ graph. with_vars graph file.group_vars file.host_vars) (graph_in file.groups)
 
+-- the inventory that a file spells, if it is JSON, or the first fault in it
 abbrev pub of_json : Option json.Data → Result InventoryOf InvFault
 of_json None = Err NotJson
 of_json (Some d) = and_then (file_in d) limited

@@ -24,8 +24,10 @@ variable_value path d = variable (value_of d)
 abbrev pub with_variable : List ℕ → Datum → GroupVars → GroupVars
 with_variable name v known = if is_priority name then record known { priority = priority_in v } else record known { vars = known.vars ++ record { name = name; value = v } ∷ [] }
 
+-- a group's variables with the one that stands under this key, at this path
 abbrev pub with_value : GroupVars → List ℕ → List ℕ → json.Data → Reading GroupVars InvFault
 with_value known path k d = map_ok (λ v. with_variable k v known) (variable_value path d)
 
+-- the variables of a group, and its priority, from the object at this path
 abbrev pub group_vars : List ℕ → json.Data → Reading GroupVars InvFault
 group_vars = object no_vars (others with_value)

@@ -18,13 +18,16 @@ use Rattle.pb_inventory.specs.Named.{under}
 abbrev pub usual : ℤ
 usual = pos 1
 
+-- the priority that a value gives
 abbrev pub priority_in : Datum → ℤ
 priority_in (int z) = z
 priority_in d = usual
 
+-- whether a group's priority stands under this name, and no variable
 abbrev pub is_priority : List ℕ → Bool
 is_priority name = bytes_eq name (codes "ansible_group_priority")
 
+-- what a group has whose variables the file doesn't give: none, and the usual priority
 abbrev pub no_vars : GroupVars
 no_vars = record { priority = usual; vars = [] }
 
@@ -32,12 +35,15 @@ no_vars = record { priority = usual; vars = [] }
 abbrev pub vars_under : List ℕ → List (List ℕ × GroupVars) → GroupVars
 vars_under name entries = unwrap_or (under name entries) no_vars
 
+-- the priorities of the groups of these names, in their order
 abbrev pub priorities_in : List (List ℕ × GroupVars) → List (List ℕ) → List ℤ
 priorities_in entries groups = map (λ name. (vars_under name entries).priority) groups
 
+-- the name of the host with this number; empty where there is no such host
 abbrev pub host_name : InventoryOf → ℕ → List ℕ
 host_name inventory host = slice_index_or inventory.hosts host []
 
+-- the name of the group with this number; empty where there is no such group
 abbrev pub group_name : InventoryOf → ℕ → List ℕ
 group_name inventory group = slice_index_or inventory.groups group []
 

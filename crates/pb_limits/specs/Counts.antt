@@ -3,13 +3,16 @@
 use Rattle.std.specs.Prelude.{ℕ, nat_eq, nat_lt, Bool, false, ◌||◌, List, Option, Some, None, is_some, map, count_by}
 use Rattle.std.specs.List.{range_with_len}
 
+-- whether what a host runs is the task at this place
 abbrev pub runs_at : ℕ → Option ℕ → Bool
 runs_at p (Some q) = nat_eq p q
 runs_at p None = false
 
+-- how many hosts run
 abbrev pub running : List (Option ℕ) → ℕ
 running runs = count_by is_some runs
 
+-- how many of them run the task at this place
 abbrev pub running_at : List (Option ℕ) → ℕ → ℕ
 running_at runs p = count_by (runs_at p) runs
 
@@ -18,6 +21,7 @@ pub record LimitsOf : Type 0 where
   pub running : ℕ
   pub at : List ℕ
 
+-- the counts for what the hosts run: in all, and of each place below so many
 abbrev pub limits_of : ℕ → List (Option ℕ) → LimitsOf
 limits_of places runs = record { running = running runs; at = map (running_at runs) (range_with_len 0 places) }
 

@@ -14,6 +14,7 @@ IsTaken source = (r : Regex) × IsRegexOf source r
 abbrev pub IsRefused : List ℕ → Type 0
 IsRefused source = (e : Error) × (e ≢ OutOfMemory) × IsDefaultFailure source e
 
+-- the regex crate builds a pattern for each of the expressions
 abbrev pub AreTaken : List (List ℕ) → Type 0
 AreTaken [] = Unit {0}
 AreTaken (source ∷ sources) = IsTaken source × AreTaken sources

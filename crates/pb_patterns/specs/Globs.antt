@@ -13,6 +13,7 @@ abbrev pub one_then : ℕ → (List ℕ → Bool) → List ℕ → Bool
 one_then p fits [] = false
 one_then p fits (c ∷ cs) = (p == 63 || p == c) && fits cs
 
+-- whether there are no characters
 abbrev pub is_none : List ℕ → Bool
 is_none [] = true
 is_none (c ∷ cs) = false
@@ -26,5 +27,6 @@ fits (p ∷ ps) cs = if p == 42 then some_end (fits ps) cs else one_then p (fits
 unfoldable pub glob : List ℕ → List ℕ → Bool
 glob term name = fits (chars term) (chars name)
 
+-- whether a `*` or `?` stands in a term
 abbrev pub is_wild : List ℕ → Bool
 is_wild term = list_any (λ b. b == 42 || b == 63) term

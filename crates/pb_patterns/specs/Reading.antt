@@ -18,6 +18,7 @@ abbrev pub mark_of : List ℕ → Mark
 mark_of [] = Unmarked
 mark_of (b ∷ bs) = if b == 38 then Met else (if b == 33 then Excluded else Unmarked)
 
+-- what stands behind the mark; all of the text where it has none
 abbrev pub behind_mark : List ℕ → List ℕ
 behind_mark [] = []
 behind_mark (b ∷ bs) = if b == 38 || b == 33 then bs else b ∷ bs
@@ -27,6 +28,7 @@ abbrev pub is_regex : List ℕ → Bool
 is_regex [] = false
 is_regex (b ∷ bs) = b == 126
 
+-- what a text means that has no mark in front, or the fault in it; an empty one is a fault
 abbrev pub what_of : List ℕ → Result What PatFault
 what_of text = if length text == 0 then Err Empty else (if is_regex text then Ok (Regex (drop 1 text)) else term_of text)
 
@@ -34,6 +36,7 @@ what_of text = if length text == 0 then Err Empty else (if is_regex text then Ok
 abbrev pub element_of : List ℕ → Result Element PatFault
 element_of text = map_ok (λ what. record { text = text; mark = mark_of text; what = what }) (what_of (behind_mark text))
 
+-- the elements that these texts spell, in order, or the first fault in them
 abbrev pub each_of : List (List ℕ) → Result (List Element) PatFault
 each_of [] = Ok []
 each_of (text ∷ texts) = and_then (element_of text) (λ e. and_then (each_of texts) (λ es. Ok (e ∷ es)))

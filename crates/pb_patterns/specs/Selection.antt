@@ -31,18 +31,22 @@ is_excluded Unmarked = false
 is_excluded Met = false
 is_excluded Excluded = true
 
+-- whether the host is in some element with a mark of this kind
 abbrev pub in_some : (Mark → Bool) → List Part → ℕ → Bool
 in_some marked parts host = list_any (λ p. marked p.mark && is_in p.set host) parts
 
+-- whether the host is in each element marked `&`
 abbrev pub in_each_met : List Part → ℕ → Bool
 in_each_met parts host = list_all (λ p. not (is_met p.mark) || is_in p.set host) parts
 
 abbrev pub has_unmarked : List Part → Bool
 has_unmarked parts = list_any (λ p. is_unmarked p.mark) parts
 
+-- whether all elements together choose the host
 abbrev pub is_chosen : List Part → ℕ → Bool
 is_chosen parts host = ((in_some is_unmarked parts host || not (has_unmarked parts)) && in_each_met parts host) && not (in_some is_excluded parts host)
 
+-- the texts of the elements that mean no host, in their order
 abbrev pub unmatched_of : List Part → List (List ℕ)
 unmatched_of parts = map (λ p. p.text) (filter (λ p. not (has_some p.set)) parts)
 
@@ -50,6 +54,7 @@ unmatched_of parts = map (λ p. p.text) (filter (λ p. not (has_some p.set)) par
 abbrev pub selection : ℕ → List Part → Selected
 selection hosts parts = record { hosts = each_host hosts (is_chosen parts); unmatched = unmatched_of parts }
 
+-- an element, with the hosts that it means in an inventory
 abbrev pub part_of : InventoryOf → Element → Part
 part_of inventory element = record { text = element.text; mark = element.mark; set = element_set inventory element.what }
 

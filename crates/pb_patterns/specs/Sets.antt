@@ -26,6 +26,7 @@ is_meant inventory test host =
     test (slice_index_or inventory.hosts host [])
     || list_any (λ g. test (slice_index_or inventory.groups g []) && is_in (members_in inventory g) host) (range_with_len 0 (length inventory.groups))
 
+-- of each host whether it is meant so
 abbrev pub meant : InventoryOf → (List ℕ → Bool) → List Bool
 meant inventory test = each_host (length inventory.hosts) (is_meant inventory test)
 
@@ -34,10 +35,12 @@ abbrev pub one_host : ℕ → Option ℕ → List Bool
 one_host hosts (Some h) = each_host hosts (λ k. k == h)
 one_host hosts None = each_host hosts (λ k. false)
 
+-- the members of this group; where there is none, the host of the name, and no host where none has the name
 abbrev pub group_else : InventoryOf → List ℕ → Option ℕ → List Bool
 group_else inventory name (Some g) = members_in inventory g
 group_else inventory name None = one_host (length inventory.hosts) (position (bytes_eq name) inventory.hosts)
 
+-- the hosts that a name means
 abbrev pub named : InventoryOf → List ℕ → List Bool
 named inventory name = group_else inventory name (position (bytes_eq name) inventory.groups)
 
@@ -49,13 +52,16 @@ term_set inventory term = if is_wild term then meant inventory (glob term) else 
 abbrev pub contains : List ℕ → ℕ → Bool
 contains hosts host = list_any (λ h. h == host) hosts
 
+-- each of these numbers once, where it stands first
 abbrev pub once : List ℕ → List ℕ
 once [] = []
 once (h ∷ hs) = h ∷ filter (λ other. not (other == h)) (once hs)
 
+-- the hosts of a list, each once, and behind them those of a set that aren't in the list, in their order
 abbrev pub in_order : List ℕ → List Bool → List ℕ
 in_order first set = once first ++ filter (λ h. is_in set h && not (contains first h)) (range_with_len 0 (length set))
 
+-- the hosts on a group's own list, in the order of the list
 abbrev pub own_hosts : List OwnHost → ℕ → List ℕ
 own_hosts own group = map (λ o. o.host.0) (filter (λ o. o.group.0 == group) own)
 
@@ -63,6 +69,7 @@ own_hosts own group = map (λ o. o.host.0) (filter (λ o. o.group.0 == group) ow
 abbrev pub listing : InventoryOf → List ℕ → Option ℕ
 listing inventory term = if is_wild term || (bytes_eq term (codes "all") || bytes_eq term (codes "ungrouped")) then None else position (bytes_eq term) inventory.groups
 
+-- the hosts on that group's own list; none where there is no such group
 abbrev pub listed : InventoryOf → Option ℕ → List ℕ
 listed inventory None = []
 listed inventory (Some group) = own_hosts inventory.own group
@@ -74,9 +81,11 @@ picked (FromEnd i) hosts = if nat_le 1 i && nat_le i (length hosts) then take 1 
 picked (Between i j) hosts = take (j + 1 - i) (drop i hosts)
 picked (From i) hosts = drop i hosts
 
+-- the hosts that a term means, in the order in which a subscript counts them
 abbrev pub ordered : InventoryOf → List ℕ → List ℕ
 ordered inventory term = in_order (listed inventory (listing inventory term)) (term_set inventory term)
 
+-- the hosts that a term means: all of them, or those that its subscript picks
 abbrev pub set_of : InventoryOf → List ℕ → Option Subscript → List Bool
 set_of inventory term None = term_set inventory term
 set_of inventory term (Some subscript) = each_host (length inventory.hosts) (contains (picked subscript (ordered inventory term)))
@@ -86,6 +95,7 @@ abbrev pub begins_at_first : Option Match → Bool
 begins_at_first None = false
 begins_at_first (Some m) = m.start == 0
 
+-- whether the first match of a pattern in a name begins at the name's first character
 abbrev pub starts : Re → List ℕ → Bool
 starts pattern name = begins_at_first (find_str pattern name 0)
 

@@ -6,9 +6,11 @@ use Rattle.std.specs.Prelude.{ℕ, ◌+◌, ◌-◌, Bool, ◌&&◌, ◌||◌, �
 abbrev pub depth_behind : ℕ → ℕ → ℕ
 depth_behind depth b = if b == 91 then depth + 1 else (if b == 93 then depth - 1 else depth)
 
+-- whether the pattern is cut at a byte, where so many brackets are open in front of it
 abbrev pub is_cut : ℕ → ℕ → Bool
 is_cut depth b = (depth == 0) && (b == 44 || b == 58)
 
+-- a byte in front of the first piece
 abbrev pub with_byte : ℕ → List (List ℕ) → List (List ℕ)
 with_byte b [] = (b ∷ []) ∷ []
 with_byte b (piece ∷ pieces) = (b ∷ piece) ∷ pieces
@@ -28,12 +30,15 @@ abbrev pub end_size : List ℕ → ℕ
 end_size [] = 0
 end_size (b ∷ bs) = if (b == 32) && (end_size bs == 0) then 0 else end_size bs + 1
 
+-- without the spaces at the end
 abbrev pub end_trimmed : List ℕ → List ℕ
 end_trimmed bs = take (end_size bs) bs
 
+-- without the spaces at both ends
 abbrev pub trimmed : List ℕ → List ℕ
 trimmed bs = end_trimmed (front_trimmed bs)
 
+-- whether a text isn't empty
 abbrev pub is_some_text : List ℕ → Bool
 is_some_text bs = not (length bs == 0)
 

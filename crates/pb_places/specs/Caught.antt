@@ -13,6 +13,7 @@ caught_in handlers is_caught (Block body rescue always rest) =
     ++ caught_in handlers is_caught rest
 caught_in handlers is_caught (Flush rest) = replicate handlers is_caught ++ caught_in handlers is_caught rest
 
+-- of each place of a tree whether a failure there is caught
 abbrev pub caught_places : TreeOf → List Bool
 caught_places t = caught_in t.handlers false t.nodes
 

@@ -6,6 +6,7 @@ use Rattle.pb_play.specs.declared.task.Task.{Task}
 use Rattle.pb_places.specs.declared.surroundings.Surroundings.{Surroundings}
 use Rattle.pb_places.specs.Place.{PlaceOf, no_role, place_of}
 
+-- the place of a task in surroundings; where these give no conditions, they are the task's own
 abbrev pub placed : Task → Surroundings → PlaceOf
 placed task given =
     record {

@@ -17,6 +17,7 @@ batch_text batch = if nat_eq batch 0 then [] else codes " (batch " ++ decimal (b
 unfoldable pub play_text : Play → List ℕ
 play_text play = starred (codes "\nPLAY [" ++ escaped play.name ++ codes "]" ++ batch_text play.batch)
 
+-- the front of a banner, up to the name: that of a handler, where it is one, else of a task
 abbrev pub task_head : Bool → List ℕ
 task_head is_handler = if is_handler then codes "\nRUNNING HANDLER [" else codes "\nTASK ["
 
@@ -30,5 +31,6 @@ notice_text notice = codes "notified: [" ++ escaped notice.host ++ codes "] => "
 abbrev pub started_text : Look → List ℕ → List ℕ
 started_text look host = if look.starts then codes "started: [" ++ escaped host ++ codes "]\n" else []
 
+-- so is, at the start of a run, how many plays it has
 abbrev pub begun_text : Look → ℕ → List ℕ
 begun_text look plays = if look.starts then codes "plays: " ++ decimal plays ++ 10 ∷ [] else []

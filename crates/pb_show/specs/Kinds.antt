@@ -5,6 +5,7 @@ use Rattle.pb_show.specs.declared.kind.How.TheVariants as how
 use Rattle.pb_show.specs.declared.kind.Kind.{Kind}
 use Rattle.pb_show.specs.declared.kind.Kind.TheVariants.{Begun, Play, Task, Handler, HostStart, Ended, Item, Notify, Totals}
 
+-- what an event of this word tells that is a start, a notice or the statistics; none for any other word
 abbrev pub start_named : List ℕ → Option Kind
 start_named word =
     if bytes_eq word (codes "playbook_on_start") then Some Begun
@@ -16,6 +17,7 @@ start_named word =
     else if bytes_eq word (codes "runner_on_start") then Some HostStart
     else None
 
+-- what an event of this word tells that is the end of a task, of an item or of an attempt; none for any other word
 abbrev pub ended_named : List ℕ → Option Kind
 ended_named word =
     if bytes_eq word (codes "runner_on_ok") then Some (Ended how.Ok)
@@ -28,6 +30,7 @@ ended_named word =
     else if bytes_eq word (codes "runner_retry") then Some (Item how.Again)
     else None
 
+-- the first, or where there is none the second
 abbrev pub or_else : {A : Type 0} → Option A → Option A → Option A
 or_else None other = other
 or_else (Some a) other = Some a

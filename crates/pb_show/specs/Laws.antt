@@ -20,6 +20,7 @@ use Rattle.pb_show.specs.declared.notices.Task.{Task}
 abbrev pub Stands : List ℕ → List ℕ → Type 0
 Stands part text = (front : List ℕ) × (back : List ℕ) × (text ≡ front ++ part ++ back)
 
+-- each of these texts stands, as it is escaped, in the other one
 abbrev pub EachStands : List (List ℕ) → List ℕ → Type 0
 EachStands [] text = ⊤
 EachStands (part ∷ parts) text = Stands (escaped part) text × EachStands parts text

@@ -21,6 +21,7 @@ is_failure Retried = false
 abbrev pub failed_word : Bool → List ℕ
 failed_word is_item = if is_item then codes "failed" else codes "fatal"
 
+-- the word that a line begins with, of an item or of a host's whole task
 abbrev pub word_of : Bool → Ending → List ℕ
 word_of is_item Well = codes "ok"
 word_of is_item Changed = codes "changed"
@@ -62,6 +63,7 @@ color_of Ignored = 27 ∷ codes "[31m"
 color_of Lost = 27 ∷ codes "[91m"
 color_of Retried = 27 ∷ codes "[35m"
 
+-- what turns a terminal to the colour of an ending; nothing where there are no colours
 abbrev pub paint : Look → Ending → List ℕ
 paint look ending = if look.color then color_of ending else []
 
@@ -79,14 +81,17 @@ counted_by Ignored = codes "item"
 counted_by Lost = codes "item"
 counted_by Retried = codes "attempt"
 
+-- which item or attempt it was, behind the word for what is counted; nothing where it was none
 abbrev pub item_text : List ℕ → Option ℕ → List ℕ
 item_text counted None = []
 item_text counted (Some n) = codes " => (" ++ counted ++ codes "=" ++ decimal n ++ codes ")"
 
+-- a message, behind what leads to it; nothing where the message is empty
 abbrev pub message_text : List ℕ → List ℕ → List ℕ
 message_text lead [] = []
 message_text lead (b ∷ bs) = lead ++ escaped (b ∷ bs)
 
+-- the status of the program; nothing where none is told
 abbrev pub code_text : Option ℤ → List ℕ
 code_text None = []
 code_text (Some z) = codes " (rc=" ++ signed_decimal z ++ codes ")"
@@ -98,6 +103,7 @@ abbrev pub error_lines : List (List ℕ) → List ℕ
 error_lines [] = []
 error_lines (error ∷ errors) = error_line error ++ error_lines errors
 
+-- the line which says that a failure is ignored; nothing for any other ending
 abbrev pub ignoring : Ending → List ℕ
 ignoring Well = []
 ignoring Changed = []

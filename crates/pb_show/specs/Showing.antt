@@ -52,9 +52,11 @@ banner_for s place = if bytes_eq s.place place then [] else task_text (task_for 
 abbrev pub is_first : Showing → Ended → Bool
 is_first s e = not (is_some s.first) && not (is_some e.item) && is_failure e.ending
 
+-- the host of a failure, and the name of its task
 abbrev pub failure_of : Showing → Ended → Failure
 failure_of s e = record { host = e.host; task = (task_for s.tasks e.place).name }
 
+-- what is kept, with this failure if it is the first that counts
 abbrev pub noted : Showing → Ended → Showing
 noted s e = if is_first s e then record s { first = Some (failure_of s e) } else s
 
@@ -74,15 +76,19 @@ progress_text s = if nat_eq s.hosts 0 then [] else codes "[" ++ decimal s.ended 
 abbrev pub after_play : Showing → Play → Showing
 after_play s play = going (record s { tasks = []; place = []; hosts = play.hosts; ended = 0 })
 
+-- behind the start of a task or a handler: its banner is the one that was shown last
 abbrev pub after_task : Showing → Task → Showing
 after_task s task = going (record s { tasks = s.tasks ++ task ∷ []; place = task.place; ended = 0 })
 
+-- behind a result: the banner of its task is the one that was shown last
 abbrev pub after_ended : Showing → Ended → Showing
 after_ended s e = going (record (noted s e) { place = e.place; ended = ended_after s e })
 
+-- behind the statistics: the run is over
 abbrev pub after_totals : Showing → Totals → Showing
 after_totals s totals = record s { phase = Over totals; is_torn = false }
 
+-- what the start of a run becomes, and then each other kind of event; none where the object lacks a key that it has to have
 abbrev pub begun_shown : Look → Showing → Data → Option Shown
 begun_shown look s d = option_map (λ plays. record { text = begun_text look plays; state = going s }) (whole_at (codes "plays") d)
 
@@ -95,6 +101,7 @@ task_shown is_handler s d = option_map (λ (task : Task). record { text = task_t
 abbrev pub started_shown : Look → Showing → Data → Option Shown
 started_shown look s d = option_map (λ host. record { text = started_text look host; state = going s }) (text_at (codes "host") d)
 
+-- a result stands under the banner of its task; the flag says whether it is that of an item or an attempt
 abbrev pub ended_shown : Look → How → Bool → Showing → Data → Option Shown
 ended_shown look how is_item s d =
     option_map (λ (e : Ended). record { text = banner_for s e.place ++ ended_text look e; state = after_ended s e }) (ended_in how is_item d)
@@ -106,6 +113,7 @@ notice_shown s d = option_map (λ (notice : Notice). record { text = notice_text
 abbrev pub totals_shown : Showing → Data → Option Shown
 totals_shown s d = option_map (λ (totals : Totals). record { text = 10 ∷ []; state = after_totals s totals }) (totals_in d)
 
+-- what an object becomes that is an event of this kind; none where it lacks a key that such an event has
 abbrev pub event_shown : Look → Showing → Data → Kind → Option Shown
 event_shown look s d kind.Begun = begun_shown look s d
 event_shown look s d kind.Play = play_shown s d
@@ -117,6 +125,7 @@ event_shown look s d (kind.Item how) = ended_shown look how true s d
 event_shown look s d kind.Notify = notice_shown s d
 event_shown look s d kind.Totals = totals_shown s d
 
+-- what an object becomes, if it is an event
 abbrev pub event_in : Look → Showing → Data → Option Shown
 event_in look s d = option_and_then (event_shown look s d) (kind_in d)
 
@@ -124,9 +133,11 @@ event_in look s d = option_and_then (event_shown look s d) (kind_in d)
 abbrev pub event_at : Look → Showing → List ℕ → Option Shown
 event_at look s line = option_and_then (event_in look s) (json_in line)
 
+-- the text of an event; none where it is no event
 abbrev pub text_of : Option Shown → Option (List ℕ)
 text_of shown = option_map (λ (x : Shown). x.text) shown
 
+-- what is kept behind an event; where it is none, what was kept before
 abbrev pub state_of : Option Shown → Showing → Showing
 state_of None s = s
 state_of (Some x) s = x.state
@@ -139,6 +150,7 @@ lacks_end line = option_map_or (λ b. not (b == 10)) (slice_get line (length lin
 abbrev pub passed : Showing → List ℕ → Shown
 passed s line = record { text = line; state = record s { is_torn = lacks_end line } }
 
+-- what an event becomes, or where there is none the line itself
 abbrev pub or_passed : Showing → List ℕ → Option Shown → Shown
 or_passed s line None = passed s line
 or_passed s line (Some x) = x

@@ -16,10 +16,12 @@ abbrev pub lines_in : List ℕ → List (List ℕ)
 lines_in [] = []
 lines_in (byte ∷ bytes) = if byte == 10 then (byte ∷ []) ∷ lines_in bytes else with_byte byte (lines_in bytes)
 
+-- all that these lines become, and how the run went behind them, where this was kept of the lines before
 abbrev pub shown_from : Look → Showing → List (List ℕ) → List ℕ
 shown_from look s [] = closing look s
 shown_from look s (line ∷ lines) = (shown look s line).text ++ shown_from look (shown look s line).state lines
 
+-- all that is shown of some bytes, where no line stands before them
 abbrev pub all_shown : Look → List ℕ → List ℕ
 all_shown look bytes = shown_from look start (lines_in bytes)
 

@@ -10,6 +10,7 @@ use Rattle.pb_show.specs.declared.words.Word.TheVariants as word
 use Rattle.pb_show.specs.declared.words.Asked.{Asked}
 use Rattle.pb_show.specs.declared.words.Asked.TheVariants.{Help, Show, Unknown}
 
+-- which of the program's words a text is, or that it is none of them
 abbrev pub word_named : List ℕ → Word
 word_named text =
     if bytes_eq text (codes "--color") then Color

@@ -6,6 +6,7 @@ use Rattle.pb_strategies.specs.declared.standings.Standing.{Standing}
 abbrev pub nowhere : Standing
 nowhere = record { next = None; runs = None; has_begun = false }
 
+-- whether both are places, and the same one
 abbrev pub same_place : Option ℕ → Option ℕ → Bool
 same_place (Some p) (Some q) = nat_eq p q
 same_place (Some p) None = false
@@ -26,9 +27,11 @@ is_unended host = is_some host.next
 abbrev pub is_somewhere : Standing → Bool
 is_somewhere host = (is_unended host || has_begun host) || is_running host
 
+-- whether this is the host's next place; where no place is given, it is no host's
 abbrev pub is_next_at : Option ℕ → Standing → Bool
 is_next_at place host = same_place host.next place
 
+-- a host that has a next place and doesn't run
 abbrev pub is_waiting : Standing → Bool
 is_waiting host = is_unended host && not (is_running host)
 

@@ -27,6 +27,7 @@ AreWide host sets = (place : ℕ) → IfSome (slice_index_or sets place None) (�
 abbrev pub put_into : ℕ → Bool → Option (List Bool) → Option (List Bool)
 put_into host is_in set = option_map (λ (hosts : List Bool). slice_set hosts host is_in) set
 
+-- the sets, once a host is in that of this place or isn't; the same sets where there is no place
 abbrev pub put_at : Option ℕ → ℕ → Bool → List (Option (List Bool)) → List (Option (List Bool))
 put_at None host is_in sets = sets
 put_at (Some place) host is_in sets = slice_set sets place (put_into host is_in (slice_index_or sets place None))

@@ -21,7 +21,7 @@ pub record ViewOf : Type 0 where
   pub run_once : List Bool
   pub hosts : List Standing
 
--- hosts that run are counted, and not jobs: there is room where they are fewer than the forks
+-- hosts that run are counted, and not jobs: there is room where they are fewer than the forks, unless the run is stopped
 abbrev pub has_room : ViewOf → Bool
 has_room view = not view.is_stopped && nat_lt (running (runs_in view.hosts)) view.forks
 
@@ -29,6 +29,7 @@ has_room view = not view.is_stopped && nat_lt (running (runs_in view.hosts)) vie
 abbrev pub has_room_at : ViewOf → ℕ → Bool
 has_room_at view p = has_room_for (running_at (runs_in view.hosts) p) (slice_index_or view.throttles p 0)
 
+-- whether the task at a place runs once
 abbrev pub runs_once : ViewOf → ℕ → Bool
 runs_once view p = slice_index_or view.run_once p false
 
@@ -40,6 +41,7 @@ is_first_at hosts p h = not (list_any (is_next_at (Some p)) (take h hosts))
 abbrev pub is_open_once : ViewOf → ℕ → Bool
 is_open_once view p = nat_eq (running_at (runs_in view.hosts) p) 0 && not view.is_run_once_done
 
+-- whether host h may run the task at place p, which runs once
 abbrev pub may_run_once : ViewOf → ℕ → ℕ → Bool
 may_run_once view h p = is_open_once view p && is_first_at view.hosts p h
 
@@ -53,12 +55,15 @@ suits Linear view h host p = same_place view.place (Some p) && (not (runs_once v
 suits Free view h host p = true
 suits HostPinned view h host p = host.has_begun || has_room_to_begin view
 
+-- whether host h, which stands so, may start at its next place p, as far as throttle and strategy go
 abbrev pub may_start_at : ViewOf → ℕ → Standing → ℕ → Bool
 may_start_at view h host p = has_room_at view p && suits view.strategy view h host p
 
+-- whether host h, which stands so, may start, as far as throttle and strategy go: not while it runs, and not without a next place
 abbrev pub may_start_from : ViewOf → ℕ → Standing → Bool
 may_start_from view h host = not (is_running host) && option_map_or (may_start_at view h host) host.next false
 
+-- whether host h may start its next task; where there is no such host, it may not
 abbrev pub may_start : ViewOf → ℕ → Bool
 may_start view h = has_room view && option_map_or (may_start_from view h) (slice_get view.hosts h) false
 

@@ -27,6 +27,7 @@ same_bits (suc k) m n = same_bits k m n && agrees (has_bit k n) (has_bit k m)
 abbrev pub number_of : Standing → ℕ
 number_of host = option_map_or (λ (p : ℕ). p) host.next 0
 
+-- whether bit k is set in the number of a host's next place; a host without one counts as at place 0
 abbrev pub numbered : ℕ → Standing → Bool
 numbered k host = has_bit k (number_of host)
 
@@ -38,6 +39,7 @@ AreBits hosts bits = (k : ℕ) → k < length bits → slice_index_or bits k [] 
 abbrev pub HaveNoMore : ℕ → List Standing → Type 0
 HaveNoMore k hosts = (h : ℕ) → behind_bits k (number_of (slice_index_or hosts h nowhere)) ≡ 0
 
+-- the sets are those of the bits; where these are said to fit, no next place has a further one
 pub record AreNumbered (hosts : List Standing) (bits : List (List Bool)) (fits : Bool) : Type 0 where
   pub are_bits : AreBits hosts bits
   pub no_more : fits ≡ true → HaveNoMore (length bits) hosts

@@ -11,9 +11,11 @@ use Rattle.pb_strategies.specs.MayStart.{ViewOf, has_room_at, has_room, runs_onc
 abbrev pub is_open_to : ViewOf → Standing → Bool
 is_open_to view host = option_map_or (has_room_at view) host.next true
 
+-- the same by the host's number; also true where there is no such host
 abbrev pub is_open : ViewOf → ℕ → Bool
 is_open view h = option_map_or (is_open_to view) (slice_get view.hosts h) true
 
+-- whether a host of the set is one that the throttle of its next place lets start
 abbrev pub stays_open : ViewOf → List Bool → ℕ → Bool
 stays_open view set h = is_in set h && is_open view h
 
@@ -30,6 +32,7 @@ is_shut_by view (Some p) host = is_next_at (Some p) host && not (has_room_at vie
 abbrev pub begins : ViewOf → Standing → Bool
 begins view host = is_waiting host && (has_begun host || has_room_to_begin view)
 
+-- whether this is a host's next place and the host doesn't run
 abbrev pub stands_at : ℕ → Standing → Bool
 stands_at p host = is_next_at (Some p) host && not (is_running host)
 

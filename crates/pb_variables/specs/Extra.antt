@@ -31,6 +31,7 @@ of_reading (Err (Own e)) = Err e
 abbrev pub variables_in : json.Data → Result (List (List ℕ × Datum)) ExtraFault
 variables_in d = of_reading (each_named_of variable [] d)
 
+-- the extra variables that a file spells, if it is JSON, or the first fault in it
 abbrev pub of_json : Option json.Data → Result (List (List ℕ × Datum)) ExtraFault
 of_json None = Err NotJson
 of_json (Some d) = variables_in d

@@ -17,6 +17,7 @@ abbrev pub first_groups : InventoryOf → ℕ → List (List ℕ × Datum)
 first_groups inventory zero = []
 first_groups inventory (suc n) = put (group_name inventory n) (texts (names_of_hosts inventory n)) (first_groups inventory n)
 
+-- of all groups the names of their hosts, under the names of the groups
 abbrev pub groups_map : InventoryOf → List (List ℕ × Datum)
 groups_map inventory = first_groups inventory (length inventory.groups)
 
@@ -30,6 +31,7 @@ abbrev pub first_hosts : InventoryOf → List (List ℕ × Datum) → List Facts
 first_hosts inventory extra learnt zero = []
 first_hosts inventory extra learnt (suc n) = put (host_name inventory n) (dict (members_of (variables_of inventory extra learnt n))) (first_hosts inventory extra learnt n)
 
+-- of all hosts their variables, under the names of the hosts
 abbrev pub hostvars_map : InventoryOf → List (List ℕ × Datum) → List FactsOf → List (List ℕ × Datum)
 hostvars_map inventory extra learnt = first_hosts inventory extra learnt (length inventory.hosts)
 

@@ -10,6 +10,7 @@ use Rattle.pb_variables.specs.declared.shared.OfGroups.{OfGroups}
 abbrev pub with_names : List (List ℕ × Datum) → List (List ℕ) → OfGroups
 with_names variables names = record { variables = variables; names = texts names }
 
+-- what a host has from its groups
 abbrev pub from_groups : InventoryOf → ℕ → OfGroups
 from_groups inventory host = with_names (vars_from_groups inventory host) (names_of_groups inventory host)
 
