@@ -28,12 +28,12 @@ took s parts = record { next = s.next + 1; symbols = s.symbols; parts = parts }
 abbrev pub built : State → List Part → State
 built s parts = record { next = s.next; symbols = s.symbols; parts = parts }
 
--- From old, the symbol leads to new.
+-- from old, the first of these tokens is taken, and that leads to new: it is of this kind, and can be taken so
 abbrev pub TakesTo : List Tok → Kind → How → State → State → Type 0
 TakesTo [] k how old new = ⊥
 TakesTo (t ∷ ts) k how old new = (t.kind ≡ k) × (parts : List Part) × (taken how t old.parts ≡ Some parts) × (new ≡ took old parts)
 
--- the same of each symbol; it is itself no longer wanted in old
+-- from old, the symbol leads to new; it is itself no longer wanted in old
 abbrev pub StepsTo : List Tok → Symbol → State → State → Type 0
 StepsTo tokens (Go r) old new = (a : List Symbol) × (nth (rules r) (choice r (head_of (drop old.next tokens))) ≡ Some a) × (new ≡ went a old)
 StepsTo tokens (Take k how) old new = TakesTo (drop old.next tokens) k how old new

@@ -32,7 +32,7 @@ Goes shut t w n = (w ≡ 0) × (n ≡ 4)
 abbrev pub Mine : Type 0
 Mine = Me Slot View
 
--- each step takes the seat as it was, the number found and the seat as it is
+-- what a step does: the step itself, the seat as it was, the number found and the seat as it is
 abbrev pub SeatStep : Type 1
 SeatStep = Step Slot → Mine → ℕ → Mine → Type 0
 

@@ -5,11 +5,11 @@ use Rattle.std.specs.List.{list_any}
 use Rattle.std.specs.Str.{bytes_eq}
 use Rattle.pb_handlers.specs.declared.naming.HandlerNames.{HandlerNames}
 
--- of handlers with one name the last counts, at its own position
+-- whether a handler has this name
 abbrev pub is_named : List ℕ → HandlerNames → Bool
 is_named name handler = bytes_eq name handler.name
 
--- of each handler whether it counts: no later one has its name
+-- of each handler whether it counts: no later one has its name. So of handlers with one name the last counts, at its own position
 abbrev pub counting : List HandlerNames → List Bool
 counting [] = []
 counting (handler ∷ later) = not (list_any (is_named handler.name) later) ∷ counting later
@@ -38,9 +38,10 @@ abbrev pub notified_from : List (List ℕ) → ℕ → List HandlerNames → Lis
 notified_from words n [] = []
 notified_from words n (handler ∷ handlers) = if is_notified words handler then n ∷ notified_from words (n + 1) handlers else notified_from words (n + 1) handlers
 
--- the first of these words that stands for no handler
+-- whether a word stands for none of these handlers
 abbrev pub is_unknown : List HandlerNames → List ℕ → Bool
 is_unknown handlers word = not (list_any (answers_to word) handlers)
 
+-- the first of these words that stands for no handler
 abbrev pub first_unknown : List HandlerNames → List (List ℕ) → Option (List ℕ)
 first_unknown handlers words = find (is_unknown handlers) words

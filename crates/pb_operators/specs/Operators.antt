@@ -39,7 +39,7 @@ negated _ = Err WrongKind
 abbrev pub tilde : Datum → Datum → Value
 tilde a b = text_within (text_of a ++ text_of b)
 
--- `<`, `<=`, `>` and `>=`: two numbers, or two texts by their bytes
+-- what a comparison gives: two values that have no order are of a wrong kind
 abbrev pub truth_of : Option Bool → Value
 truth_of (Some b) = Ok (boolean b)
 truth_of None = Err WrongKind

@@ -30,7 +30,7 @@ is_meant inventory test host =
 abbrev pub meant : InventoryOf → (List ℕ → Bool) → List Bool
 meant inventory test = each_host (length inventory.hosts) (is_meant inventory test)
 
--- a name is that of a group, else of a host
+-- the host with this number alone, of so many hosts; no host where there is no number
 abbrev pub one_host : ℕ → Option ℕ → List Bool
 one_host hosts (Some h) = each_host hosts (λ k. k == h)
 one_host hosts None = each_host hosts (λ k. false)

@@ -17,7 +17,7 @@ before x bs = take (position_or_len (λ b. b == x) bs) bs
 abbrev pub behind : ℕ → List ℕ → Option (List ℕ)
 behind x bs = option_map (λ at. drop (at + 1) bs) (position (λ b. b == x) bs)
 
--- a number of one to nine digits
+-- a number with one digit more behind it, which is given as its byte
 abbrev pub with_digit : ℕ → ℕ → ℕ
 with_digit n digit = n * 10 + (digit - 48)
 

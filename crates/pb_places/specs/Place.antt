@@ -31,7 +31,7 @@ pub record PlaceOf : Type 0 where
   -- in a Flush, the number of the handler whose place it is
   pub handler : Option ℕ
 
--- a task that comes from no role
+-- the role of a task that comes from none: it has no variables
 abbrev pub no_role : Role
 no_role = record { defaults = []; vars = []; params = [] }
 

@@ -62,7 +62,7 @@ message_in d = option_map_or message_of (get (codes "msg") d) []
 abbrev pub integer : json.Data → Option ℤ
 integer d = option_and_then as_i64 (as_number d)
 
--- the status of the program, of a failure
+-- the status of the program, of a failure and of an attempt behind which another one comes
 abbrev pub code_in : How → json.Data → Option ℤ
 code_in how.Ok d = None
 code_in how.Failed d = option_and_then integer (get (codes "rc") d)

@@ -1,4 +1,4 @@
--- A dict is as large as its store.
+-- How large the store of a dict is at most.
 use Rattle.std.specs.Prelude.{◌≡◌, ◌+◌, ◌*◌, ◌≤◌, List, length, String}
 use Rattle.std.specs.declared.alloc.Global.{Global}
 use Rattle.std.proofs.Common.{subst, arith}
