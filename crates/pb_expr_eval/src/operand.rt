@@ -85,7 +85,7 @@ impl<'a> Operand<'a> {
         ensures { IfOk result (λ v. v ≡ held self.entry) }
     {
         match self {
-            Operand::Lent(value) => Ok(value.try_clone(alloc)?),
+            Operand::Lent(value) => value.try_clone(alloc),
             Operand::Made(value) => Ok(value),
         }
     }

@@ -94,8 +94,7 @@ impl GatheredLayer {
     {
         let mut facts = self.facts_before(alloc)?;
         put_all(alloc, &mut facts, given)?;
-        let made = GatheredLayer::of(alloc, facts)?;
-        Ok(made)
+        GatheredLayer::of(alloc, facts)
     }
 
     /// The layer once facts came under these names, one after another, over those that were gathered; and what was gathered there.

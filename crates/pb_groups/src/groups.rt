@@ -190,7 +190,7 @@ impl Groups {
         requires host { host.0 < self.now.hosts }
         ensures { IfOk result (λ groups. groups.items ≡ with_host self.now host.0 order.now) }
     {
-        Ok(having(alloc, self.members.as_slice(), order, host)?)
+        having(alloc, self.members.as_slice(), order, host)
     }
 
     /// The groups that have the host among their members, in the order in which their variables
@@ -210,6 +210,6 @@ impl Groups {
         // (the invariant is known to the proof once a field is read)
         let _own = &self.own;
         let order = self.in_order(alloc, priorities)?;
-        Ok(self.with_host(alloc, order.as_slice(), host)?)
+        self.with_host(alloc, order.as_slice(), host)
     }
 }

@@ -255,8 +255,7 @@ impl Host {
         ensures between { IfOk result (λ past. IsBetween past self.old.facts self.new.facts) }
         ensures err { OnErr result (self.new ≡ self.old) }
     {
-        let past = self.facts.apply(alloc, update)?;
-        Ok(past)
+        self.facts.apply(alloc, update)
     }
 
     /// Puts back what was before the host learnt something. It takes no memory.

@@ -70,8 +70,7 @@ pub fn numbered(alloc: Global, items: &TaskItems) -> Result<Items<(u32, ItemResu
     ensures results { IfOk result (λ results. results ≡ numbered 0 items.now) }
     ensures most { length items.now ≤ 10000 }
 {
-    let results = numbered_in(alloc, items.as_slice())?;
-    Ok(results)
+    numbered_in(alloc, items.as_slice())
 }
 
 /// The result of an item with its number, if there is one, where its task has a loop.
@@ -103,8 +102,7 @@ pub fn item_results_in(
     match number {
         Some(number) => {
             let item = items.as_slice().get(number as usize);
-            let results = item_results_at(alloc, number, item)?;
-            Ok(results)
+            item_results_at(alloc, number, item)
         }
         None => Ok(Items::new(alloc)),
     }

@@ -150,6 +150,5 @@ pub(crate) fn apply_gifts(
     ensures err { OnErr result (rows.new.items ≡ rows.old.items) }
 {
     let all = gift_updates(alloc, gifts.as_slice())?;
-    let log = apply_each(alloc, rows, all)?;
-    Ok(log)
+    apply_each(alloc, rows, all)
 }

@@ -54,12 +54,10 @@ impl<'a> Copied<'a> {
             items: items.as_slice(),
         };
         if let Some(only) = only_result(items.as_slice()) {
-            let taught = ended.teaches(alloc, None, only, facts)?;
-            return Ok(taught);
+            return ended.teaches(alloc, None, only, facts);
         }
         let shown = registered(alloc, variable_at(self.play, self.place), items.as_slice())?;
-        let update = ended.teaches(alloc, None, &shown, facts)?;
-        Ok(update)
+        ended.teaches(alloc, None, &shown, facts)
     }
 
     /// What a host learns that gets what this other one did, where its next place is that of the task: what that one registered and learnt itself.

@@ -63,7 +63,7 @@ impl<T> Named<T> {
     pub fn names(&self, alloc: Global) -> Result<Items<Text>, AllocError>
         ensures { IfOk result (λ names. names ≡ keys_of self.now) }
     {
-        Ok(names_of(alloc, &self.names)?)
+        names_of(alloc, &self.names)
     }
 }
 

@@ -183,8 +183,7 @@ fn missing_of(alloc: Global, numbers: &[u32], limit: u32) -> Result<Vec<u32>, Al
             marks[*number as usize] = true;
         }
     }
-    let missing = unmarked(alloc, marks.as_slice())?;
-    Ok(missing)
+    unmarked(alloc, marks.as_slice())
 }
 
 fn unmarked(alloc: Global, marks: &[bool]) -> Result<Vec<u32>, AllocError>

@@ -42,7 +42,7 @@ impl Inventory {
         ensures value { IfOk result (λ vars. vars ≡ vars_from_groups self.now host.0) }
         ensures last { IfOk result (λ vars. (name : List ℕ) → value_at name vars ≡ last_given self.now name (groups_of_host self.now host.0)) }
     {
-        Ok(self.joined(alloc, host)?)
+        self.joined(alloc, host)
     }
 
     fn joined(&self, alloc: Global, host: HostNo) -> Result<Dict, AllocError>

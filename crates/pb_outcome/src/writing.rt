@@ -17,8 +17,7 @@ pub fn outcome_to_json(alloc: Global, outcome: &Outcome) -> Result<Value, AllocE
     ensures reads_back { IfOk result (λ j. (path : List ℕ) → outcome_of path (view j) ≡ Ok outcome.now) }
 {
     let form = outcome.form();
-    let json = form_json(alloc, form)?;
-    Ok(json)
+    form_json(alloc, form)
 }
 
 fn form_json(alloc: Global, form: &Form) -> Result<Value, AllocError>

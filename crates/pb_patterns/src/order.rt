@@ -156,6 +156,5 @@ pub fn subscripted(
     let counted = order.as_slice();
     let hosts = picked(counted, subscript);
     let width = inventory.hosts();
-    let chosen = set_of_hosts(alloc, hosts, width)?;
-    Ok(chosen)
+    set_of_hosts(alloc, hosts, width)
 }

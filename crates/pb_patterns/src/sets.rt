@@ -68,8 +68,7 @@ pub fn matched(alloc: Global, inventory: &Inventory, regex: &Regex) -> Result<Ho
     let groups = groups_that_match(alloc, inventory, regex)?;
     let host_hits = hosts.as_slice();
     let group_hits = groups.as_slice();
-    let set = meant(alloc, inventory, group_hits, host_hits)?;
-    Ok(set)
+    meant(alloc, inventory, group_hits, host_hits)
 }
 
 /// The hosts that a term means with these characters.
@@ -81,8 +80,7 @@ fn fitting(alloc: Global, inventory: &Inventory, signs: &[char]) -> Result<HostS
     let groups = groups_that_fit(alloc, inventory, signs)?;
     let host_hits = hosts.as_slice();
     let group_hits = groups.as_slice();
-    let set = meant(alloc, inventory, group_hits, host_hits)?;
-    Ok(set)
+    meant(alloc, inventory, group_hits, host_hits)
 }
 
 fn fitted(alloc: Global, inventory: &Inventory, term: &str) -> Result<HostSet, AllocError>

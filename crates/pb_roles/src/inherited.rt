@@ -435,7 +435,7 @@ fn copied(alloc: Global, outer: &Option<Arc<SearchedVars>>) -> Result<Dict, Allo
     ensures { IfOk result (λ known. known ≡ listed outer.now) }
 {
     match outer {
-        Some(outer) => Ok(outer.as_ref().vars().try_clone(alloc)?),
+        Some(outer) => outer.as_ref().vars().try_clone(alloc),
         None => Ok(Dict::new(alloc)),
     }
 }

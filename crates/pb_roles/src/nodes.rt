@@ -19,7 +19,7 @@ pub(crate) fn tree_of(alloc: Global, play: &Sections) -> Result<PlayTree, AllocE
 {
     let handlers = number_of(play.handlers.len())?;
     let nodes = nodes_of(alloc, play)?;
-    Ok(PlayTree::of(alloc, nodes, handlers, play.force_handlers)?)
+    PlayTree::of(alloc, nodes, handlers, play.force_handlers)
 }
 
 /// Its nodes: behind each of the three lists its handlers run.

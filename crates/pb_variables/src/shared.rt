@@ -311,7 +311,7 @@ impl GroupShares {
         ensures value { IfOk result (λ of. of ≡ from_groups inventory.now host.0) }
         ensures last { IfOk result (λ of. (name : List ℕ) → value_at name of.variables ≡ last_given inventory.now name (groups_of_host inventory.now host.0)) }
     {
-        Ok(self.lent(alloc, inventory, host)?)
+        self.lent(alloc, inventory, host)
     }
 
     #[tactic(auto, using(crate::proofs::Keeping::lent_right))]

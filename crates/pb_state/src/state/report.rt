@@ -137,8 +137,7 @@ impl EngineState {
         };
         let reads = site.reads_of_result(self.alloc)?;
         if reads {
-            let shown = whole(self.alloc, plan, self.rows.as_slice())?;
-            return Ok(shown);
+            return whole(self.alloc, plan, self.rows.as_slice());
         }
         Ok(none)
     }
