@@ -5,7 +5,7 @@ use Rattle.pb_expr_syntax.specs.declared.grammar.Kind.TheVariants as kind
 use Rattle.pb_expr_syntax.specs.declared.grammar.Rule.{Rule}
 use Rattle.pb_expr_syntax.specs.declared.grammar.Rule.TheVariants as rule
 
--- of a rule with several alternatives, the number of the one that a token of this kind, or the end (None), asks for
+-- of a rule with several alternatives, the number of the one that a token of this kind, or the end (None), asks for; 99 is none
 abbrev choice_Ors : Option Kind → ℕ
 choice_Ors (Some kind.Or) = 0
 choice_Ors _ = 1

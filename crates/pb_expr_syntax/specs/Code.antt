@@ -101,7 +101,7 @@ abbrev mutual
   trees_code no_trees = gnil
   trees_code (tree_and t ts) = gcons (code t) (trees_code ts)
 
--- what is stored read as a tree, as a row of trees, and its second half's second half as such a row
+-- what is stored read as a tree, as a row of trees, and its second half as such a row
 pub record Back : Type 0 where
   pub value : Tree
   pub trees : Trees
@@ -127,7 +127,7 @@ by_tag n own ts = pick Null (
 abbrev pub none : Back
 none = record { value = Null; trees = no_trees; rest = no_trees }
 
--- what is stored, read in these ways; what no tree is stored as is read as some tree too
+-- what is stored, read in the three ways of a `Back`; what no tree is stored as is read as some tree too
 abbrev pub back : Gv → Back
 back gnil = none
 back (gnum n) = none

@@ -40,7 +40,7 @@ sole _ _ = None
 abbrev pub behind : State → List Symbol → State
 behind s ss = record { next = s.next; symbols = ss; parts = s.parts }
 
--- as go says, from a state that is there
+-- as go says, from a state that is there; no tree where there is none
 abbrev pub goes : (State → Option Tree) → Option State → Option Tree
 goes go None = None
 goes go (Some s) = go s
@@ -78,7 +78,7 @@ abbrev pub pointed : List Tok → Refusal
 pointed [] = End
 pointed (t ∷ ts) = Unexpected t.at
 
--- at the name of the filter that the last parts are a call of; the end, where they are no call
+-- the fault at the name of the filter that the last parts are a call of, or at the end where they are no call
 abbrev pub called : List Part → Refusal
 called (Many xs ∷ Called f at ∷ parts) = Unexpected at
 called _ = End
@@ -117,7 +117,7 @@ abbrev pub deeper : Option Tree → Option ExprFault
 deeper None = None
 deeper (Some t) = if nat_le (depth t) 64 then None else Some fault.TooDeep
 
--- the first fault of tokens, from the refusal of them and their tree, where there are such
+-- the first fault of tokens: that of the refusal, if there is one, else that of their tree, if there is one and it is too deep
 abbrev pub fault_of_both : Option Refusal → Option Tree → Option ExprFault
 fault_of_both (Some refused) o = Some (fault_of refused)
 fault_of_both None o = deeper o

@@ -109,13 +109,13 @@ nth [] place = None
 nth (x ∷ xs) zero = Some x
 nth (x ∷ xs) (suc place) = nth xs place
 
--- the same with any number of arguments
+-- the parts once something is made of the last ones, where a filter may have any number of arguments
 abbrev pub made_any : Make → List Part → Option (List Part)
 made_any make.Filtered (Many xs ∷ Called f at ∷ One x ∷ parts) = Some (One (tree.Apply f x (trees_of xs)) ∷ parts)
 made_any make.Filtered _ = None
 made_any m parts = made m parts
 
--- the same, but with any number of arguments only where the Bool is true
+-- the same, but a filter may have any number of arguments only where the Bool is true, else as many as it takes
 abbrev pub makes : Bool → Make → List Part → Option (List Part)
 makes true m parts = made_any m parts
 makes false m parts = made m parts

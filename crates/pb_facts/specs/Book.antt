@@ -16,6 +16,6 @@ abbrev pub shared_value : List ℕ → Option Datum → FactsOf → FactsOf
 shared_value name None facts = facts
 shared_value name (Some value) facts = with_registered (Some name) value facts
 
--- what stands under a name of the first is registered for the second
+-- what was set or registered under a name for the first is registered for the second, if anything was; gathered facts are not
 abbrev pub shared : List ℕ → FactsOf → FactsOf → FactsOf
 shared name from to = shared_value name (value_at name from.set) to

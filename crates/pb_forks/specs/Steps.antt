@@ -80,6 +80,6 @@ ForkGrab st me r me' = ForkHold true st me r me' × (me'.1 ≡ (st.word, None) �
 abbrev pub ForkLay : SeatStep
 ForkLay st me r me' = ForkHold false st me r me' × (me'.1 ≡ rest me.1)
 
--- the report that lies in the slot is answered
+-- the report that lies in the slot is given as the answer
 abbrev pub ForkAnswer : SeatStep
 ForkAnswer st me r me' = (rep : Report) → me.1 ≡ (st.word, Some (Done rep)) ∷ [] → (me'.0 ≡ Fork st.word (fork_answered st.first rep (fork_of me.0))) × (me'.1 ≡ []) × Goes answer rep.ticket.0 r st.first

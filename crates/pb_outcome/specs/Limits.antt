@@ -8,7 +8,7 @@ use Rattle.pb_outcome.specs.declared.fault.OutcomeFault.TheVariants.{TooLarge}
 use Rattle.pb_outcome.specs.declared.outcome.Form.{Form}
 use Rattle.pb_outcome.specs.declared.outcome.Form.TheVariants.{Ran, Module, Unreachable, NotStarted}
 
--- each text has at most 1 MiB, and a value nests at most 64 levels
+-- output, errors and the words about a target have at most 1 MiB each; a value nests at most 64 levels, and texts in it have no limit here
 abbrev pub IsWithin : Form → Type 0
 IsWithin (Ran rc out err) = (length out ≤ max_text) × (length err ≤ max_text)
 IsWithin (Module v) = depth v ≤ max_depth

@@ -46,7 +46,7 @@ abbrev pub in_front : List (List ℕ) → List ℕ → List (List ℕ)
 in_front [] target = []
 in_front (word ∷ words) target = (word ∷ words) ++ target ∷ []
 
--- all words of a job: behind a connector, the connector's and the target's name; then those of its call, where this is the facts program
+-- all words of a job: if it has a connector, the connector's words and the target's name; then those of its call, with this facts program
 abbrev pub words_of : Option (List ℕ) → Job → List (List ℕ)
 words_of facts job = in_front job.connector job.target ++ own_words facts job.call
 

@@ -71,7 +71,7 @@ of_reading (Ok t) = Ok t
 of_reading (Err (WrongShape path)) = Err (table_fault.WrongShape path)
 of_reading (Err (Own f)) = Err f
 
--- the table that a JSON value is, or its first fault; where there is none, the bytes are not JSON
+-- the table that a JSON value is, or its first fault; where there is no value, the bytes are not JSON
 abbrev pub of_json : Option json.Data → Result Table TableFault
 of_json None = Err table_fault.NotJson
 of_json (Some d) = of_reading (table [] d)

@@ -90,6 +90,6 @@ pieces_from taken at [] = ([], None)
 pieces_from (suc taken) at (b ∷ bs) = pieces_from taken (at + 1) bs
 pieces_from zero at (b ∷ bs) = pieces_by (front_at at (b ∷ bs)) (λ size. pieces_from (size - 1) (at + 1) bs)
 
--- the pieces of a text
+-- all pieces of a text, or those before the first place at which no piece can begin, and the fault there
 abbrev pub pieces_of : List ℕ → Pieces
 pieces_of text = pieces_from 0 0 text

@@ -3,7 +3,7 @@ use Rattle.std.specs.Prelude.{◌≡◌, ℕ, ◌/◌, ◌%◌, ◌==◌, Bool, 
 use Rattle.std.proofs.Common.{ap, arith}
 use Rattle.pb_value.specs.Names.{with_first, kept}
 
--- so it is of a name, without a value (b) or with one, and of those behind it, if it is so of those behind it
+-- what `kept_all` says is true of a name, without a value (b) or with one, and of the names behind it, if it is true of the names behind it
 all_bit : {K X : Type 0} (b : Bool) (n : K) (more : List X → List (K × X)) (vs : List X) → ((ws : List X) → length ws ≡ length (more ws) → map (λ e. e.1) (more ws) ≡ ws)
     → length vs ≡ length (cond b (more vs) (with_first n vs more)) → map (λ e. e.1) (cond b (more vs) (with_first n vs more)) ≡ vs
 all_bit true n more vs h e = h vs e
