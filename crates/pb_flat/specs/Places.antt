@@ -22,7 +22,7 @@ run_places (step ∷ steps) = step_places step (run_places steps)
 abbrev pub last_places : TreeOf → List ℕ
 last_places tree = range_with_len (size_of tree - tree.handlers) tree.handlers
 
--- none where no handler is forced, or where the last node is no Flush
+-- the places of these two copies; none where no handler is forced, or where the last node is no Flush
 abbrev pub copies : TreeOf → List ℕ
 copies tree = if tree.force_handlers && ends_in_flush tree.nodes then last_places tree ++ last_places tree else []
 

@@ -45,7 +45,7 @@ happened_at handler_of (Done ending) a = []
 abbrev pub happened_by : TreeOf → List AnswerOf → AnswerOf → List Noted
 happened_by tree before a = if counts before a then happened_at (handler_at tree) (reach tree before) a else []
 
--- what answers tell that follow others; the earlier ones come first
+-- what answers tell, in order; the first list has those that were given before them
 abbrev pub happened_behind : TreeOf → List AnswerOf → List AnswerOf → List Noted
 happened_behind tree before [] = []
 happened_behind tree before (a ∷ answers) = happened_by tree before a ++ happened_behind tree (before ++ a ∷ []) answers

@@ -42,7 +42,7 @@ fields child_name path = object (record {}) (do
 abbrev pub hosts_alone : List (List ℕ) → GroupEntry
 hosts_alone names = record { children = []; hosts = names; vars = no_vars }
 
--- what stands under the name of a group whose children are read so; anything but a list and an object is refused
+-- what stands under the name of a group, where `child_name` reads its children; anything but a list and an object is refused
 abbrev pub entry : (List ℕ → json.Data → Reading (List ℕ) InvFault) → List ℕ → json.Data → Reading GroupEntry InvFault
 entry child_name path (json.array ds) = map_ok hosts_alone (each name path 0 ds)
 entry child_name path (json.object ms) = fields child_name path (json.object ms)

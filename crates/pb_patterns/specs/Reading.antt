@@ -28,7 +28,7 @@ abbrev pub is_regex : List ℕ → Bool
 is_regex [] = false
 is_regex (b ∷ bs) = b == 126
 
--- what a text means that has no mark in front, or the fault in it; an empty one is a fault
+-- what an element's text behind its mark means, or the fault in it; an empty text is a fault
 abbrev pub what_of : List ℕ → Result What PatFault
 what_of text = if length text == 0 then Err Empty else (if is_regex text then Ok (Regex (drop 1 text)) else term_of text)
 

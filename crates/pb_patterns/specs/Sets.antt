@@ -26,7 +26,7 @@ is_meant inventory test host =
     test (slice_index_or inventory.hosts host [])
     || list_any (λ g. test (slice_index_or inventory.groups g []) && is_in (members_in inventory g) host) (range_with_len 0 (length inventory.groups))
 
--- of each host whether it is meant so
+-- of each host whether its name passes a test, or that of a group with the host does
 abbrev pub meant : InventoryOf → (List ℕ → Bool) → List Bool
 meant inventory test = each_host (length inventory.hosts) (is_meant inventory test)
 

@@ -9,7 +9,7 @@ use Rattle.pb_patterns.specs.declared.element.What.TheVariants.{Term}
 use Rattle.pb_patterns.specs.declared.fault.PatFault.{PatFault}
 use Rattle.pb_patterns.specs.declared.fault.PatFault.TheVariants.{BadSubscript}
 
--- what stands before the first of a byte, and what stands behind it
+-- what stands before the first of a byte; all of the bytes where it isn't there
 abbrev pub before : ℕ → List ℕ → List ℕ
 before x bs = take (position_or_len (λ b. b == x) bs) bs
 

@@ -3,7 +3,7 @@ use Rattle.pb_mentions.specs.Hostvars.{IsFree}
 use Rattle.pb_places.specs.Place.{PlaceOf}
 use Rattle.pb_places.specs.declared.surroundings.Role.{Role}
 
--- it stands in none of the variables of the role
+-- `hostvars` stands in none of the variables of the role
 pub record IsFreeRole (role : Role) : Type 0 where
   pub defaults : IsFree role.defaults
   pub vars : IsFree role.vars

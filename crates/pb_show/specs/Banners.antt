@@ -31,6 +31,6 @@ notice_text notice = codes "notified: [" ++ escaped notice.host ++ codes "] => "
 abbrev pub started_text : Look → List ℕ → List ℕ
 started_text look host = if look.starts then codes "started: [" ++ escaped host ++ codes "]\n" else []
 
--- so is, at the start of a run, how many plays it has
+-- how many plays the run has, where starts are shown; else nothing
 abbrev pub begun_text : Look → ℕ → List ℕ
 begun_text look plays = if look.starts then codes "plays: " ++ decimal plays ++ 10 ∷ [] else []

@@ -11,7 +11,7 @@ use Rattle.pb_show.specs.declared.showing.Phase.TheVariants.{Nothing, Going, Ove
 use Rattle.pb_show.specs.declared.showing.Showing.{Showing}
 use Rattle.pb_show.specs.declared.notices.Totals.{Totals}
 
--- so many hosts, in words: one host, else hosts
+-- a number of hosts in decimal, with the word for them: `1 host`, and `hosts` behind any other number
 abbrev pub hosts_text : ℕ → List ℕ
 hosts_text n = decimal n ++ (if nat_eq n 1 then codes " host" else codes " hosts")
 
@@ -20,7 +20,7 @@ abbrev pub first_text : Option Failure → List ℕ
 first_text None = []
 first_text (Some f) = codes ", first failure: [" ++ escaped f.host ++ codes "] in [" ++ escaped f.task ++ codes "]"
 
--- how many hosts failed, and the first failure; nothing where none failed
+-- how many hosts failed, and the first failure, if there was one; nothing where no host failed
 abbrev pub failed_text : ℕ → Option Failure → List ℕ
 failed_text failed first = if nat_eq failed 0 then [] else hosts_text failed ++ codes " failed" ++ first_text first
 
@@ -28,7 +28,7 @@ failed_text failed first = if nat_eq failed 0 then [] else hosts_text failed ++ 
 abbrev pub lost_text : ℕ → List ℕ
 lost_text lost = if nat_eq lost 0 then [] else hosts_text lost ++ codes " out of reach"
 
--- what stands between the two, where some hosts failed and some were out of reach; else nothing
+-- what stands between the text of failed hosts and that of hosts out of reach, where there are both; else nothing
 abbrev pub between : Totals → List ℕ
 between t = if nat_lt 0 t.failed && nat_lt 0 t.unreachable then codes "; " else []
 
@@ -47,7 +47,7 @@ outcome_text Nothing first = []
 outcome_text Going first = stopped_text first
 outcome_text (Over t) first = over_text t first
 
--- the ending in whose colour that is shown: well where the statistics tell of no host that failed or was out of reach, else failed
+-- the ending in whose colour the outcome is shown: well where statistics tell of no host that failed or was out of reach, else failed
 abbrev pub ending_at : Phase → Ending
 ending_at Nothing = Failed
 ending_at Going = Failed

@@ -11,7 +11,7 @@ use Rattle.pb_show.specs.declared.words.Asked.TheVariants.{Help, Show, Unknown}
 abbrev pub stream_of : {S : Type 0} → Counted S → S
 stream_of c = c.stream
 
--- how many of its calls have failed
+-- how many calls of a stream have failed, as they are counted
 abbrev pub failures_of : {S : Type 0} → Counted S → ℕ
 failures_of c = c.failures
 

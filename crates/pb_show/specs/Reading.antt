@@ -126,11 +126,11 @@ abbrev pub where_of : Option (List ℕ) → Option (List ℕ) → Option (Option
 where_of (Some host) (Some place) (Some item) = Some (record { host = host; place = place; item = item })
 where_of host place item = None
 
--- the host, the place and the item of an event; none where the event lacks one of them
+-- the host and the place of an event, and where the flag is set the number at the key; none where the event lacks one of those
 abbrev pub where_in : Bool → List ℕ → json.Data → Option Where
 where_in is_item k d = where_of (text_at (codes "host") d) (text_at (codes "place") d) (item_in is_item k d)
 
--- how it ended at this spot, by its result
+-- how a task, or an item of it, ended at this spot, by its result
 abbrev pub ended_with : How → Where → Bool → json.Data → Ended
 ended_with how spot is_ignored d = record {
   ending = ending_of how (is_true_at (codes "changed") d) is_ignored;
@@ -160,7 +160,7 @@ abbrev pub play_of : Option (List ℕ) → Option ℕ → ℕ → Option Play
 play_of (Some name) (Some batch) hosts = Some (record { name = name; batch = batch; hosts = hosts })
 play_of name batch hosts = None
 
--- the batch of a play that starts; none where the event lacks the name or the number of the batch
+-- the batch of a play that starts; none where the event lacks the name, or a number of the batch below 2 ^ 32
 abbrev pub play_in : json.Data → Option Play
 play_in d = play_of (text_at (codes "name") d) (small_at (codes "batch") d) (len_at (codes "hosts") d)
 

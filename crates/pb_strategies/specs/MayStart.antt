@@ -55,11 +55,11 @@ suits Linear view h host p = same_place view.place (Some p) && (not (runs_once v
 suits Free view h host p = true
 suits HostPinned view h host p = host.has_begun || has_room_to_begin view
 
--- whether host h, which stands so, may start at its next place p, as far as throttle and strategy go
+-- whether host h with this standing may start at its next place p, as far as throttle and strategy go
 abbrev pub may_start_at : ViewOf → ℕ → Standing → ℕ → Bool
 may_start_at view h host p = has_room_at view p && suits view.strategy view h host p
 
--- whether host h, which stands so, may start, as far as throttle and strategy go: not while it runs, and not without a next place
+-- whether host h with this standing may start, as far as throttle and strategy go: not while it runs, and not without a next place
 abbrev pub may_start_from : ViewOf → ℕ → Standing → Bool
 may_start_from view h host = not (is_running host) && option_map_or (may_start_at view h host) host.next false
 

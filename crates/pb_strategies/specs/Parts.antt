@@ -15,7 +15,7 @@ is_open_to view host = option_map_or (has_room_at view) host.next true
 abbrev pub is_open : ViewOf → ℕ → Bool
 is_open view h = option_map_or (is_open_to view) (slice_get view.hosts h) true
 
--- whether a host of the set is one that the throttle of its next place lets start
+-- whether a host is in the set, and the throttle of its next place lets it start
 abbrev pub stays_open : ViewOf → List Bool → ℕ → Bool
 stays_open view set h = is_in set h && is_open view h
 

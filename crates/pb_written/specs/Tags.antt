@@ -18,12 +18,12 @@ abbrev pub never_from : Bool → List ℕ → Bool
 never_from begins [] = false
 never_from begins (b ∷ bs) = (begins && is_never (b ∷ bs)) || never_from (b == 44 || (begins && b == 32)) bs
 
--- whether the tag is in a value that is a text; any other value has no tags
+-- whether the tag `never` is in a value that is a text; false for any other value, a list too
 abbrev pub is_never_text : json.Data → Bool
 is_never_text (json.string s) = never_from true s
 is_never_text d = false
 
--- whether it is in one of these values
+-- whether the tag is in one of these values that is a text
 abbrev pub some_never : json.Items → Bool
 some_never json.no_items = false
 some_never (json.item d ds) = is_never_text d || some_never ds
